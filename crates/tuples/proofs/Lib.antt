@@ -1,0 +1,9 @@
+pub mod Same
+pub mod Ordered
+pub mod Sums
+pub mod Cuts
+pub mod Spelling
+pub mod Selecting
+pub mod Once
+pub mod Kept
+pub mod Named

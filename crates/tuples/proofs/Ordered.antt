@@ -1,0 +1,126 @@
+-- The order of tuples is strict and total, and ties only a tuple with itself.
+use Rattle.std.proofs.Common.{◌≡◌, ◌≢◌, ◌⊎◌, ℕ, Bool, true, false, List, refl, sym, ap, ◌∙◌, inl, inr, Decides}
+use Rattle.std.specs.Cmp.{IsTotalOrder}
+use Rattle.std.specs.Ordering.{ordering_reverse, is_eq, is_lt}
+use Rattle.std.specs.declared.cmp.Ordering.{Ordering}
+use Rattle.std.specs.declared.cmp.Ordering.TheVariants.{Less, Equal, Greater}
+use Rattle.std.proofs.lemmas.Cmp.{tied_itself, on_total, then_total, nat_list_cmp_total}
+use Rattle.tuples.specs.declared.object.Object.{Object}
+use Rattle.tuples.specs.declared.object.Userset.{Userset}
+use Rattle.tuples.specs.declared.user.User.{User}
+use Rattle.tuples.specs.declared.user.User.TheVariants.{Id, Set}
+use Rattle.tuples.specs.declared.tuple.Tuple.{Tuple}
+use Rattle.tuples.specs.Order.{name_cmp, object_cmp, userset_cmp, user_cmp, tuple_cmp, tuple_eq, tuple_lt}
+use Rattle.tuples.proofs.Same.{tuple_same}
+
+pub object_total : IsTotalOrder object_cmp
+object_total = then_total (on_total (λ (o : Object). o.namespace) nat_list_cmp_total) (on_total (λ (o : Object). o.id) nat_list_cmp_total)
+
+pub userset_total : IsTotalOrder userset_cmp
+userset_total = then_total (on_total (λ (s : Userset). s.object) object_total) (on_total (λ (s : Userset). s.relation) nat_list_cmp_total)
+
+user_antisymm : (a b : User) → user_cmp a b ≡ ordering_reverse (user_cmp b a)
+user_antisymm (Id a) (Id b) = nat_list_cmp_total.antisymm a b
+user_antisymm (Id a) (Set b) = refl
+user_antisymm (Set a) (Id b) = refl
+user_antisymm (Set a) (Set b) = userset_total.antisymm a b
+
+user_trans : (a b d : User) → user_cmp a b ≡ Less → user_cmp b d ≡ Less → user_cmp a d ≡ Less
+user_trans (Id a) (Id b) (Id d) h k = nat_list_cmp_total.trans a b d h k
+user_trans (Id a) (Id b) (Set d) h k = refl
+user_trans (Id a) (Set b) (Id d) h k = absurd cc
+user_trans (Id a) (Set b) (Set d) h k = refl
+user_trans (Set a) (Id b) (Id d) h k = absurd cc
+user_trans (Set a) (Id b) (Set d) h k = absurd cc
+user_trans (Set a) (Set b) (Id d) h k = absurd cc
+user_trans (Set a) (Set b) (Set d) h k = userset_total.trans a b d h k
+
+user_congr : (a b d : User) → user_cmp a b ≡ Equal → user_cmp a d ≡ user_cmp b d
+user_congr (Id a) (Id b) (Id d) h = nat_list_cmp_total.congr a b d h
+user_congr (Id a) (Id b) (Set d) h = refl
+user_congr (Id a) (Set b) d h = absurd cc
+user_congr (Set a) (Id b) d h = absurd cc
+user_congr (Set a) (Set b) (Id d) h = refl
+user_congr (Set a) (Set b) (Set d) h = userset_total.congr a b d h
+
+pub user_total : IsTotalOrder user_cmp
+user_total = record { antisymm = user_antisymm; trans = user_trans; congr = user_congr }
+
+pub tuple_total : IsTotalOrder tuple_cmp
+tuple_total = then_total (on_total (λ (t : Tuple). t.object) object_total) (then_total (on_total (λ (t : Tuple). t.relation) nat_list_cmp_total) (on_total (λ (t : Tuple). t.user) user_total))
+
+-- equality
+
+pub tuple_eq_refl : (a : Tuple) → tuple_eq a a ≡ true
+unfolding tuple_eq
+tuple_eq_refl a = ap is_eq (tied_itself tuple_total a)
+
+pub tuple_eq_from_same : (a b : Tuple) → a ≡ b → tuple_eq a b ≡ true
+tuple_eq_from_same a b e = ap (λ (t : Tuple). tuple_eq a t) (sym e) ∙ tuple_eq_refl a
+
+pub tuple_eq_decides : (a b : Tuple) → Decides (tuple_eq a b) (a ≡ b)
+tuple_eq_decides a b = (tuple_same a b, tuple_eq_from_same a b)
+
+same_tests : (x y : Bool) → (x ≡ true → y ≡ true) → (y ≡ true → x ≡ true) → x ≡ y
+same_tests true y f g = sym (f refl)
+same_tests false true f g = absurd (let h : false ≡ true = g refl in cc)
+same_tests false false f g = refl
+
+pub tuple_eq_symm : (a b : Tuple) → tuple_eq a b ≡ tuple_eq b a
+tuple_eq_symm a b = same_tests (tuple_eq a b) (tuple_eq b a) (λ h. tuple_eq_from_same b a (sym (tuple_same a b h))) (λ h. tuple_eq_from_same a b (sym (tuple_same b a h)))
+
+pub tuple_eq_trans : (a b d : Tuple) → tuple_eq a b ≡ true → tuple_eq b d ≡ true → tuple_eq a d ≡ true
+tuple_eq_trans a b d h k = tuple_eq_from_same a d (tuple_same a b h ∙ tuple_same b d k)
+
+pub tuple_apart : (a b : Tuple) → tuple_eq a b ≡ false → a ≢ b
+tuple_apart a b h e = let k = tuple_eq_from_same a b e in absurd cc
+
+pub name_tied : (a : List ℕ) → is_eq (name_cmp a a) ≡ true
+name_tied a = ap is_eq (tied_itself nat_list_cmp_total a)
+
+pub object_tied : (a : Object) → is_eq (object_cmp a a) ≡ true
+object_tied a = ap is_eq (tied_itself object_total a)
+
+pub user_tied : (a : User) → is_eq (user_cmp a a) ≡ true
+user_tied a = ap is_eq (tied_itself user_total a)
+
+-- the strict order
+
+pub tuple_lt_irrefl : (a : Tuple) → tuple_lt a a ≡ false
+unfolding tuple_lt
+tuple_lt_irrefl a = ap is_lt (tied_itself tuple_total a)
+
+less_from_lt : (o : Ordering) → is_lt o ≡ true → o ≡ Less
+less_from_lt Less h = refl
+less_from_lt Equal h = absurd cc
+less_from_lt Greater h = absurd cc
+
+pub tuple_lt_trans : (a b d : Tuple) → tuple_lt a b ≡ true → tuple_lt b d ≡ true → tuple_lt a d ≡ true
+unfolding tuple_lt
+tuple_lt_trans a b d h k = ap is_lt (tuple_total.trans a b d (less_from_lt (tuple_cmp a b) h) (less_from_lt (tuple_cmp b d) k))
+
+pub tuple_lt_asymm : (a b : Tuple) → tuple_lt a b ≡ true → tuple_lt b a ≡ false
+unfolding tuple_lt
+tuple_lt_asymm a b h = ap is_lt (tuple_total.antisymm b a ∙ ap ordering_reverse (less_from_lt (tuple_cmp a b) h))
+
+pub tuple_lt_apart : (a b : Tuple) → tuple_lt a b ≡ true → tuple_eq a b ≡ false
+unfolding tuple_lt tuple_eq
+tuple_lt_apart a b h = ap is_eq (less_from_lt (tuple_cmp a b) h)
+
+which : (o p : Ordering) → p ≡ ordering_reverse o → (is_lt o ≡ true) ⊎ ((is_eq o ≡ true) ⊎ (is_lt p ≡ true))
+which Less p e = inl refl
+which Equal p e = inr (inl refl)
+which Greater p e = inr (inr (ap is_lt e))
+
+which_tuple : (a b : Tuple) → (tuple_lt a b ≡ true) ⊎ ((tuple_eq a b ≡ true) ⊎ (tuple_lt b a ≡ true))
+unfolding tuple_lt tuple_eq
+which_tuple a b = which (tuple_cmp a b) (tuple_cmp b a) (tuple_total.antisymm b a)
+
+by_case : (a b : Tuple) → (tuple_lt a b ≡ true) ⊎ ((tuple_eq a b ≡ true) ⊎ (tuple_lt b a ≡ true)) → (tuple_lt a b ≡ true) ⊎ ((a ≡ b) ⊎ (tuple_lt b a ≡ true))
+by_case a b (inl h) = inl h
+by_case a b (inr (inl h)) = inr (inl (tuple_same a b h))
+by_case a b (inr (inr h)) = inr (inr h)
+
+-- of two tuples one stands first, or they are one
+pub tuple_lt_total : (a b : Tuple) → (tuple_lt a b ≡ true) ⊎ ((a ≡ b) ⊎ (tuple_lt b a ≡ true))
+tuple_lt_total a b = by_case a b (which_tuple a b)

@@ -1,0 +1,11 @@
+pub mod Names
+pub mod Refusals
+pub mod Order
+pub mod Texts
+pub mod Parsing
+pub mod Changes
+pub mod Writes
+pub mod Log
+pub mod Reads
+pub mod Parts
+pub mod Versions

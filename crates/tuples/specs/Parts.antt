@@ -1,0 +1,27 @@
+-- The shard of an object, and a shard's part of a write.
+use Rattle.std.specs.Prelude.{◌+◌, ◌%◌, ℕ, Bool, not, ◌||◌, ◌==◌, sum, length, filter, Option, Some, None, if◌then◌else◌}
+use Rattle.tuples.specs.declared.object.Object.{Object}
+use Rattle.tuples.specs.declared.change.Change.{Change}
+use Rattle.tuples.specs.declared.change.Condition.{Condition}
+use Rattle.tuples.specs.declared.entry.Entry.{Entry}
+use Rattle.tuples.specs.Changes.{tuple_of}
+
+-- the shard of an object, of so many: the sum of the bytes of namespace:id
+unfoldable pub shard_of : ℕ → Object → ℕ
+shard_of shards o = (sum o.namespace + 58 + sum o.id) % shards
+
+-- the changes and conditions of a write whose objects have the shard, in order
+unfoldable pub part : ℕ → ℕ → Entry → Entry
+part shards s w = record {
+  id = w.id;
+  changes = filter (λ (c : Change). shard_of shards (tuple_of c).object == s) w.changes;
+  conditions = filter (λ (c : Condition). shard_of shards c.tuple.object == s) w.conditions;
+}
+
+-- the shard takes part in the write
+unfoldable pub takes_part : ℕ → ℕ → Entry → Bool
+takes_part shards s w = not (length (part shards s w).changes == 0) || not (length (part shards s w).conditions == 0)
+
+-- what a shard has in doubt of a decided write that it has not learned: exactly its part, and nothing where it has none
+unfoldable pub expected : ℕ → ℕ → Entry → Option Entry
+expected shards s w = if takes_part shards s w then Some (part shards s w) else None

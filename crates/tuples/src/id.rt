@@ -1,0 +1,57 @@
+// The id of an object or of a user.
+ghost use Rattle.std.specs.Prelude.{◌≡◌, IfOk, IfErr};
+ghost use Rattle.tuples.specs.Names.{IsId};
+ghost use Rattle.tuples.specs.Parsing.{Parses, own_text};
+
+use crate::Refusal;
+use crate::grammar::is_id;
+use crate::name::Name;
+use std::alloc::Global;
+use std::marker::Model;
+
+/// The id of an object or of a user: 1 to 128 printable ASCII bytes other than `#`, `+`, `:` and `@`.
+#[derive(Clone, Drop, PartialEq, Eq, PartialOrd, Ord)]
+pub struct Id {
+    name: Name,
+}
+
+impl Model for Id {
+    ghost use Rattle.std.specs.Prelude.{List, ℕ};
+    ghost use Rattle.tuples.specs.Names.{IsId};
+
+    ghost Value = { List ℕ };
+
+    ghost view = { λ a. a.name };
+
+    ghost invariant = { λ a. IsId a.name };
+
+    ghost inverse = { λ n. record { name = n } };
+}
+
+impl Id {
+    /// An id of these bytes, which takes no memory; `BadTuple` where they are none.
+    pub fn from_vec(bytes: Vec<u8>) -> Result<Self, Refusal>
+        ensures ok { IfOk result (λ n. (n ≡ bytes.items) × IsId bytes.items) }
+        ensures err { IfErr result (λ e. (e ≡ Refusal.BadTuple) × (IsId bytes.items → ⊥)) }
+    {
+        if !is_id(&bytes) {
+            return Err(Refusal::BadTuple);
+        }
+        Ok(Self {
+            name: Name::from_vec(bytes),
+        })
+    }
+
+    pub(crate) fn parse(alloc: Global, bytes: &[u8]) -> Result<Self, Refusal>
+        ensures { Parses IsId own_text bytes.now result }
+    {
+        Self::from_vec(Vec::from_slice(alloc, bytes)?)
+    }
+
+    pub fn as_bytes(&self) -> &[u8]
+        ensures value { result.now ≡ self.now }
+        ensures grammar { IsId self.now }
+    {
+        self.name.as_bytes()
+    }
+}

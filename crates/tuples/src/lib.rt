@@ -1,0 +1,44 @@
+//! Relation tuples, and the writes that change them.
+//!
+//! Keeps: each name and id is in its grammar, and a `Write` names no tuple twice and is within its limits.
+//! Never: touches a device, or looks at more than the values that it is given.
+//! Callers rely on: `==` and `cmp` are those of the texts, and one refusal has one number and one name.
+//!
+//! Start at `specs/Texts.antt`, the one text of each value, and `specs/Log.antt`, what a list of writes means.
+#![tactic(auto)]
+
+mod change;
+mod entry;
+mod grammar;
+mod id;
+mod limits;
+mod name;
+mod namespace;
+mod object;
+mod refusal;
+mod relation;
+mod sharding;
+mod spell;
+mod split;
+#[cfg(test)]
+mod tests;
+mod tuple;
+mod tupleset;
+mod user;
+mod version;
+mod write;
+
+pub use change::{Change, Changes, Condition, Conditions, Want};
+pub use entry::{Entry, WriteId};
+pub use id::Id;
+pub use limits::{MAX_CHANGES, MAX_CONDITIONS, MAX_NUMBER, MAX_SHARDS};
+pub use namespace::Namespace;
+pub use object::{Object, Userset};
+pub use refusal::Refusal;
+pub use relation::Relation;
+pub use sharding::shard_of;
+pub use tuple::Tuple;
+pub use tupleset::Tupleset;
+pub use user::User;
+pub use version::Version;
+pub use write::Write;

@@ -1,0 +1,57 @@
+// The name of a namespace.
+ghost use Rattle.std.specs.Prelude.{◌≡◌, IfOk, IfErr};
+ghost use Rattle.tuples.specs.Names.{IsName};
+ghost use Rattle.tuples.specs.Parsing.{Parses, own_text};
+
+use crate::Refusal;
+use crate::grammar::is_name;
+use crate::name::Name;
+use std::alloc::Global;
+use std::marker::Model;
+
+/// The name of a namespace: 1 to 64 bytes of `a-z`, `0-9` and `_`.
+#[derive(Clone, Drop, PartialEq, Eq, PartialOrd, Ord)]
+pub struct Namespace {
+    name: Name,
+}
+
+impl Model for Namespace {
+    ghost use Rattle.std.specs.Prelude.{List, ℕ};
+    ghost use Rattle.tuples.specs.Names.{IsName};
+
+    ghost Value = { List ℕ };
+
+    ghost view = { λ a. a.name };
+
+    ghost invariant = { λ a. IsName a.name };
+
+    ghost inverse = { λ n. record { name = n } };
+}
+
+impl Namespace {
+    /// A namespace of these bytes, which takes no memory; `BadTuple` where they are none.
+    pub fn from_vec(bytes: Vec<u8>) -> Result<Self, Refusal>
+        ensures ok { IfOk result (λ n. (n ≡ bytes.items) × IsName bytes.items) }
+        ensures err { IfErr result (λ e. (e ≡ Refusal.BadTuple) × (IsName bytes.items → ⊥)) }
+    {
+        if !is_name(&bytes) {
+            return Err(Refusal::BadTuple);
+        }
+        Ok(Self {
+            name: Name::from_vec(bytes),
+        })
+    }
+
+    pub(crate) fn parse(alloc: Global, bytes: &[u8]) -> Result<Self, Refusal>
+        ensures { Parses IsName own_text bytes.now result }
+    {
+        Self::from_vec(Vec::from_slice(alloc, bytes)?)
+    }
+
+    pub fn as_bytes(&self) -> &[u8]
+        ensures value { result.now ≡ self.now }
+        ensures grammar { IsName self.now }
+    {
+        self.name.as_bytes()
+    }
+}
