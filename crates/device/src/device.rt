@@ -1,0 +1,99 @@
+// A device: bytes that are durable once they are synced.
+ghost use Rattle.std.specs.Prelude.{◌≡◌, ◌≤◌, ◌+◌, ◌<◌, ◌↔◌, List, ℕ, length, take, drop, false, true, OnOk, OnErr, IfOk, IsErr};
+ghost use Rattle.device.specs.Device.{State, left, Wrote, Tore, Synced, Keeps, Revived, Failed, Elapses};
+
+use crate::Tear;
+
+/// A call failed: the device counts it in `failures`, and each call fails until `revive`.
+#[derive(Clone, Copy, Debug, PartialEq, Eq)]
+pub struct Stopped;
+
+/// What stands for everything that is durable: bytes that a stop leaves as of the last sync, but for the ranges written since.
+///
+/// Between two syncs each written range, and the part past the old end, may hold any bytes after a stop, and the length may
+/// lie anywhere between the old and the new. After an error the device answers only errors until `revive`.
+pub trait Device: Drop {
+    /// What is stored, and what has failed.
+    ghost state: { Self → State };
+
+    /// It keeps what the clauses below promise of it. Where it does not, they say nothing.
+    ghost honest: { Self → Type 0 };
+
+    /// The moment, as a number that does not fall.
+    ghost moment: { Self → ℕ };
+
+    /// What a stop at some moment from that one on may leave, during a call or between two.
+    ghost left_since: { Self → ℕ → List ℕ → Type 0 };
+
+    /// How many bytes there are.
+    fn len(&mut self) -> Result<usize, Stopped>
+        ensures honest { honest self.old ↔ honest self.new }
+        ensures len { honest self.old → IfOk result (λ n. (n ≡ length (state self.old).seen) × ((state self.new).stopped ≡ false)) }
+        ensures keeps { honest self.old → Keeps (state self.old) (state self.new) }
+        ensures counts { (state self.old).failures ≤ (state self.new).failures }
+        ensures err { OnErr result (Failed (state self.old) (state self.new)) }
+        ensures down { (state self.old).stopped ≡ true → IsErr result × (honest self.old → Keeps (state self.old) (state self.new)) }
+        ensures time { honest self.old → Elapses (moment self.old) (moment self.new) (left_since self.old) (left_since self.new) (left (state self.new)) };
+
+    /// Fills the buffer with the bytes from a place on, all of which lie inside.
+    fn read_at(&mut self, at: usize, buf: &mut [u8]) -> Result<(), Stopped>
+        requires { honest self.old → (state self.old).stopped ≡ false → at + length buf.old ≤ length (state self.old).seen }
+        ensures honest { honest self.old ↔ honest self.new }
+        ensures bytes { honest self.old → OnOk result ((buf.new ≡ take (length buf.old) (drop at (state self.old).seen)) × ((state self.new).stopped ≡ false)) }
+        ensures keeps { honest self.old → Keeps (state self.old) (state self.new) }
+        ensures counts { (state self.old).failures ≤ (state self.new).failures }
+        ensures err { OnErr result (Failed (state self.old) (state self.new)) }
+        ensures down { (state self.old).stopped ≡ true → IsErr result × (honest self.old → Keeps (state self.old) (state self.new)) }
+        ensures time { honest self.old → Elapses (moment self.old) (moment self.new) (left_since self.old) (left_since self.new) (left (state self.new)) };
+
+    /// Writes over what is there, and past the end; the place is at most the length.
+    fn write_at(&mut self, at: usize, bytes: &[u8]) -> Result<(), Stopped>
+        requires { honest self.old → (state self.old).stopped ≡ false → at ≤ length (state self.old).seen }
+        ensures honest { honest self.old ↔ honest self.new }
+        ensures ok { honest self.old → OnOk result (Wrote (state self.old) at bytes.now (state self.new)) }
+        ensures torn { honest self.old → OnErr result (Tore (state self.old) at (length bytes.now) (state self.new)) }
+        ensures counts { (state self.old).failures ≤ (state self.new).failures }
+        ensures err { OnErr result (Failed (state self.old) (state self.new)) }
+        ensures down { (state self.old).stopped ≡ true → IsErr result × (honest self.old → Keeps (state self.old) (state self.new)) }
+        ensures time { honest self.old → Elapses (moment self.old) (moment self.new) (left_since self.old) (left_since self.new) (left (state self.new)) };
+
+    /// After it, a stop leaves what a read gives.
+    fn sync(&mut self) -> Result<(), Stopped>
+        ensures honest { honest self.old ↔ honest self.new }
+        ensures ok { honest self.old → OnOk result (Synced (state self.old) (state self.new)) }
+        ensures keeps { honest self.old → OnErr result (Keeps (state self.old) (state self.new)) }
+        ensures counts { (state self.old).failures ≤ (state self.new).failures }
+        ensures err { OnErr result (Failed (state self.old) (state self.new)) }
+        ensures down { (state self.old).stopped ≡ true → IsErr result × (honest self.old → Keeps (state self.old) (state self.new)) }
+        ensures time { honest self.old → Elapses (moment self.old) (moment self.new) (left_since self.old) (left_since self.new) (left (state self.new)) };
+
+    /// Ends the failure: what a stop may have left is found.
+    fn revive(&mut self) -> Result<(), Stopped>
+        ensures honest { honest self.old ↔ honest self.new }
+        ensures ok { honest self.old → OnOk result (Revived (state self.old) (state self.new)) }
+        ensures keeps { honest self.old → OnErr result (Keeps (state self.old) (state self.new)) }
+        ensures counts { (state self.old).failures ≤ (state self.new).failures }
+        ensures err { OnErr result (Failed (state self.old) (state self.new)) }
+        ensures time { honest self.old → Elapses (moment self.old) (moment self.new) (left_since self.old) (left_since self.new) (left (state self.new)) };
+
+    /// How many calls have failed so far; it stays at its greatest value.
+    fn failures(&self) -> u64
+        ensures { result ≡ (state self.now).failures };
+
+    /// Sets a script and changes nothing else: the n-th call from now (from 1) among `len`, `read_at`, `write_at` and `sync`
+    /// fails, and the `revive` after it leaves what the tear says. A device that has no scripts keeps none.
+    fn fail(&mut self, n: u64, tear: Tear)
+        ensures honest { honest self.old ↔ honest self.new }
+        ensures keeps { honest self.old → Keeps (state self.old) (state self.new) }
+        ensures same { ((state self.new).failures ≡ (state self.old).failures) × ((state self.new).stopped ≡ (state self.old).stopped) }
+        ensures time { honest self.old → Elapses (moment self.old) (moment self.new) (left_since self.old) (left_since self.new) (left (state self.new)) };
+
+    /// As it reads, an honest device is one of the contents that a stop may leave.
+    ghost reads_left: { (d : Self) → honest d → (state d).stopped ≡ false → left (state d) (state d).seen };
+
+    /// This moment is one of those since an earlier one.
+    ghost counts_now: { (d : Self) (t : ℕ) (c : List ℕ) → honest d → t ≤ moment d → left (state d) c → left_since d t c };
+
+    /// Since this moment there is no other.
+    ghost only_now: { (d : Self) (c : List ℕ) → honest d → left_since d (moment d) c → left (state d) c };
+}

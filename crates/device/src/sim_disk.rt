@@ -1,0 +1,107 @@
+// A disk in memory, which keeps the list of its calls.
+ghost use Rattle.std.specs.Prelude.{◌≡◌, ◌≤◌, ◌+◌, List, ℕ, length, take, drop, OnOk, OnErr, IfOk};
+ghost use Rattle.device.specs.Device.{patched, left};
+ghost use Rattle.device.specs.Sim.{replay, settled, overwritten, found, HasMade, CouldLeave};
+
+use crate::call::Call;
+use crate::content::{find, patch};
+use crate::faults::Faults;
+use crate::replay::durable;
+use std::alloc::{AllocError, Global};
+
+/// A disk in memory, of which a script says when it fails and what is found then.
+///
+/// It keeps each call that changed what a stop may leave, and makes them once more to find what was durable. Every one is honest.
+#[derive(Drop)]
+pub struct SimDisk {
+    alloc: Global,
+    // the durable content that it was made with
+    pub(crate) first: Vec<u8>,
+    // the calls that changed what a stop may leave, oldest first
+    pub(crate) history: Vec<Call>,
+    // as it reads now
+    pub(crate) seen: Vec<u8>,
+    pub(crate) faults: Faults,
+    ghost reads: { seen.items ≡ (replay first.items history.items).seen },
+    ghost readable: { CouldLeave first.items history.items seen.items },
+}
+
+impl SimDisk {
+    ghost use Rattle.device.specs.Disk.{state_of, calls_of, IsFresh};
+
+    /// A disk with this durable content, on which no call was made.
+    pub fn new(alloc: Global, content: Vec<u8>) -> Result<SimDisk, AllocError>
+        ensures fresh { IfOk result (λ d. IsFresh content.items (state_of d)) }
+        ensures only { IfOk result (λ d. (c : List ℕ) → left (state_of d) c → c ≡ content.items) }
+        ensures calls { IfOk result (λ d. calls_of d ≡ 0) }
+    {
+        Ok(SimDisk {
+            alloc,
+            first: content.to_vec(alloc)?,
+            history: Vec::new(alloc),
+            seen: content,
+            faults: Faults::none(),
+        })
+    }
+
+    /// How many calls of `len`, `read_at`, `write_at` and `sync` there were, those that failed too; it stays at its greatest value.
+    pub fn calls(&self) -> u64
+        ensures { result ≡ calls_of self.now }
+    {
+        self.faults.calls
+    }
+
+    // Writes, and keeps the write. Where memory runs out, nothing has changed.
+    pub(crate) fn store(&mut self, at: usize, bytes: &[u8]) -> Result<(), AllocError>
+        ensures first { self.new.first.items ≡ self.old.first.items }
+        ensures seen { OnOk result (self.new.seen.items ≡ patched self.old.seen.items at bytes.now) }
+        ensures made { OnOk result (HasMade self.old.history.items (overwritten at bytes.now) self.new.history.items) }
+        ensures err { OnErr result ((self.new.history.items ≡ self.old.history.items) × (self.new.seen.items ≡ self.old.seen.items)) }
+        ensures stopped { self.new.faults.stopped ≡ self.old.faults.stopped }
+        ensures failures { self.new.faults.failures ≡ self.old.faults.failures }
+    {
+        let kept = bytes.to_vec(self.alloc)?;
+        // After this the push can't fail, so the two changes come together.
+        self.history.reserve(1)?;
+        patch(&mut self.seen, at, bytes)?;
+        self.history.push(Call::Write { at, bytes: kept })?;
+        Ok(())
+    }
+
+    // From now on a stop leaves what reads.
+    pub(crate) fn settle(&mut self) -> Result<(), AllocError>
+        ensures first { self.new.first.items ≡ self.old.first.items }
+        ensures seen { self.new.seen.items ≡ self.old.seen.items }
+        ensures made { OnOk result (HasMade self.old.history.items (λ m. settled m.seen) self.new.history.items) }
+        ensures err { OnErr result (self.new.history.items ≡ self.old.history.items) }
+        ensures stopped { self.new.faults.stopped ≡ self.old.faults.stopped }
+        ensures failures { self.new.faults.failures ≡ self.old.faults.failures }
+    {
+        self.history.push(Call::Sync)?;
+        Ok(())
+    }
+
+    // What the tear says is found, and durable. Where memory runs out, nothing has changed.
+    pub(crate) fn restore(&mut self) -> Result<(), AllocError>
+        ensures first { self.new.first.items ≡ self.old.first.items }
+        ensures seen { OnOk result (self.new.seen.items ≡ found self.old.faults.tear (replay self.old.first.items self.old.history.items)) }
+        ensures made { OnOk result (HasMade self.old.history.items (λ m. settled (found self.old.faults.tear m)) self.new.history.items) }
+        ensures err { OnErr result ((self.new.history.items ≡ self.old.history.items) × (self.new.seen.items ≡ self.old.seen.items)) }
+        ensures stopped { self.new.faults.stopped ≡ self.old.faults.stopped }
+        ensures failures { self.new.faults.failures ≡ self.old.faults.failures }
+    {
+        let tear = self.faults.tear;
+        let (mut content, since) = durable(self.alloc, &self.first, &self.history)?;
+        find(self.alloc, &mut content, &self.history[since..], tear)?;
+        self.history.push(Call::Revive(tear))?;
+        self.seen = content;
+        Ok(())
+    }
+
+    pub(crate) fn part(&self, at: usize, len: usize) -> &[u8]
+        requires { at + len ≤ length self.now.seen.items }
+        ensures { result.now ≡ take len (drop at self.now.seen.items) }
+    {
+        &self.seen[at..at + len]
+    }
+}

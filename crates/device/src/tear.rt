@@ -1,0 +1,12 @@
+// What a failed device is found with.
+
+/// What `revive` leaves after a failure that a script set.
+#[derive(Clone, Copy, Debug, PartialEq, Eq)]
+pub enum Tear {
+    /// The content of the last sync.
+    Old,
+    /// With all writes since, that of the failing call included.
+    New,
+    /// As `New`, with this byte in every place of the ranges written since.
+    Fill(u8),
+}
