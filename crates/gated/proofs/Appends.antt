@@ -1,0 +1,105 @@
+-- The states of an append.
+use Rattle.std.proofs.Common.{◌≡◌, inl, ℕ, ◌+◌, ◌≤◌, ◌-◌, List, [], ◌∷◌, ◌++◌, length, take, drop, set, get_or, Some, sym, ◌∙◌, ap, subst, arith, append_assoc, length-append}
+use Rattle.std.specs.Int.{w32, to_be_bytes}
+use Rattle.device.specs.Device.{State, Leaves, patched}
+use Rattle.std.proofs.lemmas.List.{length-take-le, length-drop, drop_more, drop_all, take-append-drop, set_at}
+use Rattle.gated.specs.Gated.{body_of, gated, spelled, Fits, IsOldOrNew, IsReady, HasList}
+use Rattle.gated.proofs.Spelled.{gated_spelled, spelled-split, spelled-push, fit-push}
+use Rattle.gated.proofs.Crash.{behind_gate, written_behind, at_gate, written_gate, gated_opened}
+use Rattle.device.proofs.Moments.{leaves_itself, leaves_nothing_else}
+
+pub length-body : (buf : List ℕ) → 6 ≤ length buf → length (body_of buf) ≡ length buf - 5
+length-body buf some = length-take-le (length buf - 5) (drop 4 buf) (omega (arith, length-drop 4 buf))
+
+pub body_fits : (buf : List ℕ) → 6 ≤ length buf → length buf ≤ 1048581 → Fits (body_of buf)
+body_fits buf some fits = let len = length-body buf some in (omega (arith, len), omega (arith, len))
+
+-- a buffer with a length in front and a closed gate behind
+pub framed : (buf size : List ℕ) → length size ≡ 4 → 6 ≤ length buf → set (size ++ drop 4 buf) (4 + (length buf - 5)) 0 ≡ size ++ body_of buf ++ 0 ∷ []
+framed buf size four some =
+    let n = length buf - 5 in
+    let len = length-drop 4 buf in
+    let tail : drop n (drop 4 buf) ≡ get_or (drop 4 buf) n 0 ∷ [] = drop_more (drop 4 buf) n 0 (omega (arith, len)) ∙ ap (λ (l : List ℕ). get_or (drop 4 buf) n 0 ∷ l) (drop_all (n + 1) (drop 4 buf) (omega (arith, len))) in
+    let whole : size ++ drop 4 buf ≡ (size ++ body_of buf) ++ get_or (drop 4 buf) n 0 ∷ [] =
+    ap (λ (l : List ℕ). size ++ l) (sym (take-append-drop n (drop 4 buf)) ∙ ap (λ (l : List ℕ). take n (drop 4 buf) ++ l) tail) ∙ sym (append_assoc size (body_of buf) (get_or (drop 4 buf) n 0 ∷ [])) in
+    ap (λ (l : List ℕ). set l (4 + n) 0) whole
+    ∙ set_at (size ++ body_of buf) (get_or (drop 4 buf) n 0) [] 0 (4 + n) (omega (arith, four, length-body buf some, length-append size (body_of buf)))
+
+some_is : {X : Type 0} (x y : X) → Some x ≡ Some y → x ≡ y
+some_is x y is = cc
+
+module _ (s : State) (end : ℕ) (r : IsReady s end) where
+  durable_is : s.durable ≡ spelled r.bodies (r.gate ∷ r.rest)
+  durable_is = r.durable ∙ r.seen
+
+  pub room_first : end + 1 ≤ length s.seen
+  room_first =
+      let all = spelled-split r.bodies (r.gate ∷ r.rest) in
+      omega (arith, ap length (r.seen ∙ all), r.end_is, length-append (spelled r.bodies []) (r.gate ∷ r.rest))
+
+  -- the list is the one that each content has
+  pub same_list : (bodies : List (List ℕ)) → HasList s bodies → r.bodies ≡ bodies
+  same_list bodies has =
+      let here = has s.durable (subst (λ (w : List (ℕ × ℕ)). Leaves s.durable w s.durable) (sym r.written) (leaves_itself s.durable)) in
+      some_is r.bodies bodies (sym (gated_spelled r.bodies r.gate r.rest r.fit r.closed) ∙ ap gated (sym durable_is) ∙ here)
+
+  pub first_leaves : (bodies : List (List ℕ)) → HasList s bodies → (body : List ℕ) (n : ℕ) (c : List ℕ) → Leaves s.durable ((end + 1, n) ∷ []) c → IsOldOrNew bodies body c
+  first_leaves bodies has body n c leaves =
+      let leaves' = subst (λ (d : List ℕ). Leaves d ((end + 1, n) ∷ []) c) durable_is leaves in
+      inl (behind_gate r.bodies r.gate r.rest r.fit r.closed end r.end_is n c leaves' ∙ ap (λ (l : List (List ℕ)). Some l) (same_list bodies has))
+
+  module _ (mid : State) (body frame : List ℕ) (fits : Fits body) (frame_is : frame ≡ to_be_bytes w32 (length body) ++ body ++ 0 ∷ [])
+      (seen : mid.seen ≡ patched s.seen (end + 1) frame) (durable : mid.durable ≡ mid.seen) (written : mid.written ≡ []) where
+    abbrev after : List ℕ
+    after = drop (length frame) r.rest
+
+    pub mid_is : mid.seen ≡ spelled r.bodies (r.gate ∷ to_be_bytes w32 (length body) ++ body ++ 0 ∷ after)
+    mid_is =
+        seen ∙ ap (λ (l : List ℕ). patched l (end + 1) frame) r.seen ∙ written_behind r.bodies r.gate r.rest r.fit r.closed end r.end_is frame
+        ∙ ap (λ (f : List ℕ). spelled r.bodies (r.gate ∷ f ++ after)) frame_is
+        ∙ ap (λ (l : List ℕ). spelled r.bodies (r.gate ∷ l)) (append_assoc (to_be_bytes w32 (length body) ++ body) (0 ∷ []) after)
+
+    pub room : end ≤ length mid.seen
+    room =
+        let all = spelled-split r.bodies (r.gate ∷ to_be_bytes w32 (length body) ++ body ++ 0 ∷ after) in
+        omega (arith, ap length (mid_is ∙ all), r.end_is, length-append (spelled r.bodies []) (r.gate ∷ to_be_bytes w32 (length body) ++ body ++ 0 ∷ after))
+
+    pub second_leaves : (bodies : List (List ℕ)) → HasList s bodies → (c : List ℕ) → Leaves mid.durable ((end, 1) ∷ []) c → IsOldOrNew bodies body c
+    second_leaves bodies has c leaves =
+        subst (λ (l : List (List ℕ)). IsOldOrNew l body c) (same_list bodies has)
+        (at_gate r.bodies r.gate r.rest r.fit r.closed end r.end_is body after fits c (subst (λ (d : List ℕ). Leaves d ((end, 1) ∷ []) c) (durable ∙ mid_is) leaves))
+
+    module _ (new : State) (seen_new : new.seen ≡ patched mid.seen end (165 ∷ [])) (durable_new : new.durable ≡ new.seen) (written_new : new.written ≡ []) where
+      new_is : new.seen ≡ spelled (r.bodies ++ body ∷ []) (0 ∷ after)
+      new_is = seen_new ∙ ap (λ (l : List ℕ). patched l end (165 ∷ [])) mid_is ∙ written_gate r.bodies r.gate r.rest r.fit r.closed end r.end_is body after fits
+
+      pub ready : (n : ℕ) → n ≡ length frame → IsReady new (end + n)
+      ready n len = record {
+        bodies = r.bodies ++ body ∷ [];
+        gate = 0;
+        rest = after;
+        fit = fit-push r.bodies body r.fit fits;
+        closed = λ is. omega (arith, is);
+        seen = new_is;
+        end_is =
+            let pushed = spelled-push r.bodies body [] in
+            let all = spelled-split r.bodies (165 ∷ to_be_bytes w32 (length body) ++ body ++ []) in
+            omega (
+              arith,
+              len,
+              ap length frame_is,
+              r.end_is,
+              ap length (pushed ∙ all),
+              length-append (spelled r.bodies []) (165 ∷ to_be_bytes w32 (length body) ++ body ++ []),
+              length-append body [],
+              length-append body (0 ∷ []),
+            );
+        durable = durable_new;
+        written = written_new;
+      }
+
+      pub has_new : (bodies : List (List ℕ)) → HasList s bodies → HasList new (bodies ++ body ∷ [])
+      has_new bodies has c leaves =
+          let is : c ≡ new.durable = leaves_nothing_else new.durable c (subst (λ (w : List (ℕ × ℕ)). Leaves new.durable w c) written_new leaves) in
+          ap gated (is ∙ durable_new ∙ new_is) ∙ gated_opened r.bodies r.gate r.rest r.fit r.closed end r.end_is body after fits
+          ∙ ap (λ (l : List (List ℕ)). Some (l ++ body ∷ [])) (same_list bodies has)

@@ -1,0 +1,99 @@
+-- What the two writes of an append leave, whole or in part.
+use Rattle.std.proofs.Common.{◌≡◌, ◌≢◌, inl, inr, ⊎_elim, ℕ, ◌+◌, ◌<◌, ◌≤◌, List, [], ◌∷◌, ◌++◌, length, take, drop, get_or, Some, sym, ◌∙◌, ap, arith, append_assoc, length-append}
+use Rattle.std.proofs.lemmas.Bool.{cases_eq}
+use Rattle.std.proofs.lemmas.List.{take_at, drop_at, take-append-drop, get_or-take, get_or-drop, length-take-le, length-drop, drop-drop, ext_get_or, drop_more}
+use Rattle.std.specs.Int.{w32, to_be_bytes}
+use Rattle.device.specs.Device.{Leaves, patched}
+use Rattle.gated.specs.Gated.{gated, spelled, Fits, AllFit, IsOldOrNew}
+use Rattle.gated.proofs.Spelled.{gated_spelled, spelled-split, spelled-push, fit-push}
+
+front_same : (d : List ℕ) (at n k : ℕ) (c : List ℕ) → Leaves d ((at, n) ∷ []) c → k ≤ at → k ≤ length d → take k c ≡ take k d
+front_same d at n k c leaves below within =
+    let len_c : length (take k c) ≡ k = length-take-le k c (omega (arith, leaves.no_shorter)) in
+    let len_d : length (take k d) ≡ k = length-take-le k d within in
+    ext_get_or 0 (take k c) (take k d) (len_c ∙ sym len_d) (λ i lt.
+    let small : i < k = omega (arith, len_c) in
+    get_or-take k c i 0 small ∙ leaves.same i (omega arith) (inl (omega arith), tt) ∙ sym (get_or-take k d i 0 small))
+
+back_same : (d : List ℕ) (at n : ℕ) (c : List ℕ) → Leaves d ((at, n) ∷ []) c → length c ≡ length d → drop (at + n) c ≡ drop (at + n) d
+back_same d at n c leaves len =
+    let len_c = length-drop (at + n) c in
+    let len_d = length-drop (at + n) d in
+    ext_get_or 0 (drop (at + n) c) (drop (at + n) d) (omega (arith, len_c, len_d, len)) (λ i lt.
+    get_or-drop (at + n) c i 0 ∙ leaves.same (at + n + i) (omega (arith, len_c, len)) (inr (omega arith), tt) ∙ sym (get_or-drop (at + n) d i 0))
+
+module _ (bodies : List (List ℕ)) (gate : ℕ) (rest : List ℕ) (fit : AllFit bodies) (closed : gate ≢ 165) (end : ℕ) (end_is : end ≡ length (spelled bodies [])) where
+  abbrev records : List ℕ
+  records = spelled bodies []
+
+  split : (more : List ℕ) → spelled bodies more ≡ records ++ more
+  split more = spelled-split bodies more
+
+  front : (g : ℕ) (more : List ℕ) → take (end + 1) (spelled bodies (g ∷ more)) ≡ records ++ g ∷ []
+  front g more =
+      ap (take (end + 1)) (split (g ∷ more) ∙ sym (append_assoc records (g ∷ []) more))
+      ∙ take_at (records ++ g ∷ []) more (end + 1) (omega (arith, end_is, length-append records (g ∷ [])))
+
+  back : (g : ℕ) (more : List ℕ) → drop (end + 1) (spelled bodies (g ∷ more)) ≡ more
+  back g more =
+      ap (drop (end + 1)) (split (g ∷ more) ∙ sym (append_assoc records (g ∷ []) more))
+      ∙ drop_at (records ++ g ∷ []) more (end + 1) (omega (arith, end_is, length-append records (g ∷ [])))
+
+  records_front : (more : List ℕ) → take end (spelled bodies more) ≡ records
+  records_front more = ap (take end) (split more) ∙ take_at records more end (sym end_is)
+
+  length-whole : (g : ℕ) (more : List ℕ) → length (spelled bodies (g ∷ more)) ≡ end + 1 + length more
+  length-whole g more = ap length (split (g ∷ more)) ∙ omega (arith, end_is, length-append records (g ∷ more))
+
+  -- a write behind the closed gate leaves the list
+  pub behind_gate : (n : ℕ) (c : List ℕ) → Leaves (spelled bodies (gate ∷ rest)) ((end + 1, n) ∷ []) c → gated c ≡ Some bodies
+  behind_gate n c leaves =
+      let same = front_same _ (end + 1) n (end + 1) c leaves (omega arith) (omega (arith, length-whole gate rest)) ∙ front gate rest in
+      let whole : c ≡ spelled bodies (gate ∷ drop (end + 1) c) =
+      sym (take-append-drop (end + 1) c) ∙ ap (λ (l : List ℕ). l ++ drop (end + 1) c) same ∙ append_assoc records (gate ∷ []) (drop (end + 1) c) ∙ sym (split (gate ∷ drop (end + 1) c)) in
+      ap gated whole ∙ gated_spelled bodies gate (drop (end + 1) c) fit closed
+
+  pub written_behind : (frame : List ℕ) → patched (spelled bodies (gate ∷ rest)) (end + 1) frame ≡ spelled bodies (gate ∷ frame ++ drop (length frame) rest)
+  written_behind frame =
+      let tail : drop (end + 1 + length frame) (spelled bodies (gate ∷ rest)) ≡ drop (length frame) rest = sym (drop-drop (length frame) (end + 1) (spelled bodies (gate ∷ rest))) ∙ ap (drop (length frame)) (back gate rest) in
+      ap (λ (l : List ℕ). l ++ frame ++ drop (end + 1 + length frame) (spelled bodies (gate ∷ rest))) (front gate rest)
+      ∙ ap (λ (l : List ℕ). (records ++ gate ∷ []) ++ frame ++ l) tail
+      ∙ simp append_assoc (sym (split (gate ∷ frame ++ drop (length frame) rest)))
+
+  module _ (body after : List ℕ) (fits : Fits body) where
+    abbrev staged : List ℕ
+    staged = spelled bodies (gate ∷ to_be_bytes w32 (length body) ++ body ++ 0 ∷ after)
+
+    abbrev opened : List ℕ
+    opened = spelled (bodies ++ body ∷ []) (0 ∷ after)
+
+    opened_is : opened ≡ spelled bodies (165 ∷ to_be_bytes w32 (length body) ++ body ++ 0 ∷ after)
+    opened_is = spelled-push bodies body (0 ∷ after)
+
+    pub gated_opened : gated opened ≡ Some (bodies ++ body ∷ [])
+    gated_opened = gated_spelled (bodies ++ body ∷ []) 0 after (fit-push bodies body fit fits) (λ is. omega (arith, is))
+
+    -- a write of the gate leaves the list, or the longer one
+    pub at_gate : (c : List ℕ) → Leaves staged ((end, 1) ∷ []) c → IsOldOrNew bodies body c
+    at_gate c leaves =
+        let more = to_be_bytes w32 (length body) ++ body ++ 0 ∷ after in
+        let long = length-whole gate more in
+        let len : length c ≡ length staged = omega (arith, leaves.no_shorter, leaves.no_longer, long) in
+        let start = front_same staged end 1 end c leaves (omega arith) (omega (arith, long)) ∙ records_front (gate ∷ more) in
+        let tail = back_same staged end 1 c leaves len ∙ back gate more in
+        let x = get_or c end 0 in
+        let rest_is : drop end c ≡ x ∷ more = drop_more c end 0 (omega (arith, len, long)) ∙ ap (λ (l : List ℕ). x ∷ l) tail in
+        let whole : c ≡ spelled bodies (x ∷ more) = sym (take-append-drop end c) ∙ ap (λ (l : List ℕ). l ++ drop end c) start ∙ ap (λ (l : List ℕ). records ++ l) rest_is ∙ sym (split (x ∷ more)) in
+        ⊎_elim
+        (λ is. inr (ap gated (whole ∙ ap (λ g. spelled bodies (g ∷ more)) is ∙ sym opened_is) ∙ gated_opened))
+        (λ ne. inl (ap gated whole ∙ gated_spelled bodies x more fit ne))
+        (cases_eq x 165)
+
+    pub written_gate : patched staged end (165 ∷ []) ≡ opened
+    written_gate =
+        let more = to_be_bytes w32 (length body) ++ body ++ 0 ∷ after in
+        ap (λ (l : List ℕ). l ++ (165 ∷ []) ++ drop (end + 1) staged) (records_front (gate ∷ more))
+        ∙ ap (λ (l : List ℕ). records ++ (165 ∷ []) ++ l) (back gate more)
+        ∙ append_assoc records (165 ∷ []) more
+        ∙ sym (split (165 ∷ more))
+        ∙ sym opened_is

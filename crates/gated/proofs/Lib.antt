@@ -1,0 +1,5 @@
+pub mod Spelled
+pub mod Crash
+pub mod Appends
+pub mod Splitting
+pub mod Opens

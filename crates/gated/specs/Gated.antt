@@ -1,0 +1,85 @@
+-- The list of records that a content holds.
+use Rattle.std.specs.Prelude.{◌≡◌, ◌⊎◌, ◌≤◌, ◌+◌, ◌-◌, ◌≢◌, ℕ, zero, suc, Bool, false, not, ◌&&◌, ◌==◌, nat_le, nat_lt, List, [], ◌∷◌, ◌++◌, length, take, drop, get_or, Option, Some, None, if◌then◌else◌}
+use Rattle.std.specs.Int.{w32, to_be_bytes, from_be_bytes}
+use Rattle.device.specs.Device.{State, left}
+
+abbrev pub gate_is_open : List ℕ → Bool
+gate_is_open content = nat_lt 1 (length content) && (get_or content 0 0 == 165)
+
+abbrev pub body_length : List ℕ → ℕ
+body_length content = from_be_bytes w32 (take 4 (drop 1 content))
+
+abbrev pub behind : List ℕ → List ℕ
+behind content = drop (5 + body_length content) content
+
+abbrev pub is_whole : List ℕ → Bool
+is_whole content =
+    nat_le 1 (body_length content) && (nat_le (body_length content) 1048576
+    && (nat_lt (5 + body_length content) (length content) && not ((length (behind content) == 1) && (get_or (behind content) 0 0 == 165))))
+
+abbrev pub with_front : List ℕ → Option (List (List ℕ)) → Option (List (List ℕ))
+with_front body None = None
+with_front body (Some bodies) = Some (body ∷ bodies)
+
+-- with at most so many records
+abbrev pub gated_within : ℕ → List ℕ → Option (List (List ℕ))
+gated_within zero content = Some []
+gated_within (suc most) content =
+    if gate_is_open content
+    then if is_whole content then with_front (take (body_length content) (drop 5 content)) (gated_within most (behind content)) else None
+    else Some []
+
+-- The bodies behind open gates, up to the first gate that is closed. None where an open gate has no whole record behind it.
+unfoldable pub gated : List ℕ → Option (List (List ℕ))
+gated content = gated_within (length content) content
+
+-- every content that a stop may leave has this list
+abbrev pub HasList : State → List (List ℕ) → Type 0
+HasList s bodies = (c : List ℕ) → left s c → gated c ≡ Some bodies
+
+-- the list, or the longer one
+abbrev pub IsOldOrNew : List (List ℕ) → List ℕ → List ℕ → Type 0
+IsOldOrNew bodies body content = (gated content ≡ Some bodies) ⊎ (gated content ≡ Some (bodies ++ body ∷ []))
+
+-- records of these bodies, and then the rest
+abbrev pub spelled : List (List ℕ) → List ℕ → List ℕ
+spelled [] rest = rest
+spelled (b ∷ bs) rest = 165 ∷ to_be_bytes w32 (length b) ++ b ++ spelled bs rest
+
+abbrev pub Fits : List ℕ → Type 0
+Fits body = (1 ≤ length body) × (length body ≤ 1048576)
+
+abbrev pub AllFit : List (List ℕ) → Type 0
+AllFit [] = Unit {0}
+AllFit (b ∷ bs) = Fits b × AllFit bs
+
+-- all of it is durable, and a closed gate stands at the end of the records
+pub record IsReady (s : State) (end : ℕ) : Type 0 where
+  pub bodies : List (List ℕ)
+  pub gate : ℕ
+  pub rest : List ℕ
+  pub fit : AllFit bodies
+  pub closed : gate ≢ 165
+  pub seen : s.seen ≡ spelled bodies (gate ∷ rest)
+  pub end_is : end ≡ length (spelled bodies [])
+  pub durable : s.durable ≡ s.seen
+  pub written : s.written ≡ []
+
+-- records of these bodies stand in front of a closed gate
+pub record IsSpelled (content : List ℕ) (bodies : List (List ℕ)) (end : ℕ) : Type 0 where
+  pub gate : ℕ
+  pub rest : List ℕ
+  pub fit : AllFit bodies
+  pub closed : gate ≢ 165
+  pub content_is : content ≡ spelled bodies (gate ∷ rest)
+  pub end_is : end ≡ length (spelled bodies [])
+
+-- the body that a buffer of four bytes, the body and one byte holds
+abbrev pub body_of : List ℕ → List ℕ
+body_of buf = take (length buf - 5) (drop 4 buf)
+
+-- an opening answered this list: it is the one that the device held as it read, and from now on every stop leaves it
+pub record IsFoundList (old : State) (bodies : List (List ℕ)) (new : State) : Type 0 where
+  pub was : gated old.seen ≡ Some bodies
+  pub has : HasList new bodies
+  pub up : new.stopped ≡ false

@@ -1,0 +1,19 @@
+//! A log on one device: the list of the bodies that were appended.
+//!
+//! Keeps: after `Ok` every stop leaves the new list, and during a call the old list or the new.
+//! Never: reads a length behind a closed gate, looks into a body, or keeps bodies in memory.
+//! Callers rely on: the list gains the body on `Ok`; after `Full` nothing has changed, after `Down` open again.
+//!
+//! Start at `specs/Gated.antt`, what bytes stand for which list, and then `append`, its four calls.
+#![tactic(auto)]
+
+mod format;
+mod log;
+mod opening;
+mod settle;
+mod split;
+#[cfg(test)]
+mod tests;
+
+pub use format::{MAX_BODY, MAX_DEVICE};
+pub use log::GatedLog;

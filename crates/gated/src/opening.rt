@@ -1,0 +1,78 @@
+// The list that a device holds, found at its opening.
+ghost use Rattle.std.specs.Prelude.{◌≡◌, ◌≤◌, ◌⊎◌, ◌↔◌, [], None, true, false, length, map, OnOk, OnErr, IsErr, IfOk, IfErr, vec_len};
+ghost use Rattle.gated.specs.Gated.{gated, IsReady, IsFoundList};
+ghost use Rattle.device.specs.Device.{Synced, Keeps, LeavesOnly, Failed, HasFailed, left};
+
+use crate::format::CLOSED;
+use crate::settle::settle;
+use crate::split::split;
+use device::{Device, Stopped};
+use std::alloc::Global;
+use tuples::Refusal;
+
+/// How many bytes there are, now that all of them are durable.
+fn durable_len<D: Device>(device: &mut D) -> Result<usize, Stopped>
+    ensures honest { D.honest device.old ↔ D.honest device.new }
+    ensures len { D.honest device.old → IfOk result (λ n. n ≡ length (D.state device.old).seen) }
+    ensures ok { D.honest device.old → OnOk result (Synced (D.state device.old) (D.state device.new)) }
+    ensures err { OnErr result (Failed (D.state device.old) (D.state device.new)) }
+    ensures counts { (D.state device.old).failures ≤ (D.state device.new).failures }
+    ensures down { (D.state device.old).stopped ≡ true → IsErr result }
+    ensures any_moment { D.honest device.old → LeavesOnly D.moment D.left_since device.old device.new (λ c. left (D.state device.old) c ⊎ (c ≡ (D.state device.old).seen)) }
+{
+    let n = device.len()?;
+    // A gate may read open, and be closed after a stop: what reads has to be durable before a list is told.
+    device.sync()?;
+    Ok(n)
+}
+
+/// Reads all of the bytes, of which there are so many.
+fn read_whole<D: Device>(alloc: Global, device: &mut D, n: usize) -> Result<Vec<u8>, Refusal>
+    requires { D.honest device.old → (D.state device.old).stopped ≡ false → n ≡ length (D.state device.old).seen }
+    ensures honest { D.honest device.old ↔ D.honest device.new }
+    ensures ok { D.honest device.old → (D.state device.old).stopped ≡ false → IfOk result (λ v. v.items ≡ (D.state device.old).seen) }
+    ensures len { IfOk result (λ v. vec_len v ≡ n) }
+    ensures up { D.honest device.old → OnOk result ((D.state device.new).stopped ≡ false) }
+    ensures keeps { D.honest device.old → Keeps (D.state device.old) (D.state device.new) }
+    ensures down { IfErr result (λ e. e ≡ Refusal.Down → Failed (D.state device.old) (D.state device.new)) }
+    ensures err { IfErr result (λ e. (e ≡ Refusal.Down) ⊎ (e ≡ Refusal.NoMemory)) }
+    ensures counts { (D.state device.old).failures ≤ (D.state device.new).failures }
+    ensures any_moment { D.honest device.old → LeavesOnly D.moment D.left_since device.old device.new (left (D.state device.old)) }
+{
+    let Ok(mut content) = vec![in alloc; 0u8; n] else {
+        return Err(Refusal::NoMemory);
+    };
+    match device.read_at(0, &mut content) {
+        Ok(()) => Ok(content),
+        Err(Stopped) => Err(Refusal::Down),
+    }
+}
+
+/// Finds the bodies that a device holds, and where the closed gate stands that ends them.
+pub(crate) fn find_list<D: Device>(
+    alloc: Global,
+    device: &mut D,
+) -> Result<(Vec<Vec<u8>>, usize), Refusal>
+    ensures honest { D.honest device.old ↔ D.honest device.new }
+    ensures ready { D.honest device.old → IfOk result (λ r. IsReady (D.state device.new) r.1) }
+    ensures ok { D.honest device.old → IfOk result (λ r. IsFoundList (D.state device.old) (map (λ b. b.items) r.0.items) (D.state device.new)) }
+    ensures damaged { D.honest device.old → IfErr result (λ e. e ≡ Refusal.Damaged → gated (D.state device.old).seen ≡ None) }
+    ensures down { IfErr result (λ e. e ≡ Refusal.Down → HasFailed (D.state device.old) (D.state device.new)) }
+    ensures err { IfErr result (λ e. (e ≡ Refusal.Down) ⊎ ((e ≡ Refusal.NoMemory) ⊎ (e ≡ Refusal.Damaged))) }
+    ensures stopped { (D.state device.old).stopped ≡ true → IsErr result }
+    ensures counts { (D.state device.old).failures ≤ (D.state device.new).failures }
+    ensures any_moment { D.honest device.old → LeavesOnly D.moment D.left_since device.old device.new (λ c. left (D.state device.old) c ⊎ (gated c ≡ gated (D.state device.old).seen)) }
+{
+    let Ok(n) = durable_len(device) else {
+        return Err(Refusal::Down);
+    };
+    if n < 2 {
+        // Whatever a stop leaves of this write, at most one byte holds no body.
+        let Ok(()) = settle(device, 0, &[CLOSED]) else {
+            return Err(Refusal::Down);
+        };
+        return Ok((Vec::new(alloc), 0));
+    }
+    let content = read_whole(alloc, device, n)?;
+    split(alloc, &content)
+}
