@@ -1,0 +1,9 @@
+pub mod Fields
+pub mod Meanings
+pub mod Texts
+pub mod Lists
+pub mod Writes
+pub mod Records
+pub mod Spelled
+pub mod Loop
+pub mod Putting

@@ -1,0 +1,5 @@
+pub mod Format
+pub mod Reading
+pub mod Giving
+pub mod Putting
+pub mod Replays

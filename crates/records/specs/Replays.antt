@@ -1,0 +1,135 @@
+-- What the records of a shard stand for, and which lists of records a shard can have.
+use Rattle.std.specs.Prelude.{◌≡◌, ◌≤◌, ◌<◌, ◌+◌, ◌^◌, ℕ, Bool, true, false, List, [], ◌∷◌, ◌++◌, map, Option, Some, None, if◌then◌else◌, All}
+use Rattle.tuples.specs.declared.tuple.Tuple.{Tuple}
+use Rattle.tuples.specs.declared.entry.Entry.{Entry}
+use Rattle.tuples.specs.declared.entry.WriteId.{WriteId}
+use Rattle.tuples.specs.declared.version.Version.{Version}
+use Rattle.tuples.specs.Changes.{changed, conditioned, has_tuple}
+use Rattle.tuples.specs.Log.{same_id}
+use Rattle.tuples.specs.Parts.{shard_of}
+use Rattle.tuples.specs.Versions.{placed, collected}
+use Rattle.records.specs.declared.record.Part.{Part}
+use Rattle.records.specs.declared.record.Record.{Record}
+use Rattle.records.specs.declared.record.Record.TheVariants.{Prepare, Learned, Dropped, Epoch, Decision, Horizon}
+
+-- what a shard knows: the writes in doubt, in the order of their prepares; the place up to which decisions are applied;
+-- the horizon; its versions, in the order of the log; and how often it was opened
+pub record ShardState : Type 0 where
+  pub in_doubt : List Entry
+  pub learned : ℕ
+  pub horizon : ℕ
+  pub rows : List Version
+  pub epoch : ℕ
+
+abbrev pub find_in_doubt : WriteId → List Entry → Option Entry
+find_in_doubt id [] = None
+find_in_doubt id (w ∷ ws) = if same_id w.id id then Some w else find_in_doubt id ws
+
+abbrev pub without : WriteId → List Entry → List Entry
+without id [] = []
+without id (w ∷ ws) = if same_id w.id id then without id ws else w ∷ without id ws
+
+abbrev pub without_parts : List Part → List Entry → List Entry
+without_parts [] ws = ws
+without_parts (p ∷ parts) ws = without_parts parts (without p.id ws)
+
+abbrev pub changes_at : ℕ → Option Entry → List Version
+changes_at place None = []
+changes_at place (Some w) = placed place w.changes
+
+-- the versions that learning these parts adds
+abbrev pub learned_rows : List Part → List Entry → List Version
+learned_rows [] ws = []
+learned_rows (p ∷ parts) ws = changes_at p.place (find_in_doubt p.id ws) ++ learned_rows parts ws
+
+-- what one more record makes of it
+unfoldable pub shard_step : ShardState → Record → ShardState
+shard_step s (Prepare w) = record s { in_doubt = s.in_doubt ++ w ∷ [] }
+shard_step s (Learned to parts) = record s { learned = to; rows = s.rows ++ learned_rows parts s.in_doubt; in_doubt = without_parts parts s.in_doubt }
+shard_step s (Dropped id) = record s { in_doubt = without id s.in_doubt }
+shard_step s (Epoch epoch store shards node) = record s { epoch = epoch }
+shard_step s (Decision place w) = s
+shard_step s (Horizon place) = record s { horizon = place; rows = collected place s.rows }
+
+abbrev pub shard_from : ShardState → List Record → ShardState
+shard_from s [] = s
+shard_from s (r ∷ rs) = shard_from (shard_step s r) rs
+
+abbrev pub empty_shard : ShardState
+empty_shard = record { in_doubt = []; learned = 0; horizon = 0; rows = []; epoch = 0 }
+
+-- what the records of a shard stand for
+unfoldable pub shard_state : List Record → ShardState
+shard_state rs = shard_from empty_shard rs
+
+-- which shard of which store
+pub record Identity : Type 0 where
+  pub store : ℕ
+  pub shards : ℕ
+  pub node : ℕ
+
+-- the tuples that a write names, changed or conditioned
+abbrev pub named : Entry → List Tuple
+named w = changed w.changes ++ conditioned w.conditions
+
+-- a write in doubt names the tuple
+abbrev pub is_held : Tuple → List Entry → Bool
+is_held t [] = false
+is_held t (w ∷ ws) = if has_tuple t (named w) then true else is_held t ws
+
+abbrev pub greatest_number : ℕ
+greatest_number = 9223372036854775807
+
+-- a write may be prepared at this shard: its id is not in doubt, and its tuples are the shard's and free
+pub record MayPrepare (me : Identity) (s : ShardState) (w : Entry) : Type 0 where
+  pub opened : 1 ≤ s.epoch
+  pub new : find_in_doubt w.id s.in_doubt ≡ None
+  pub own : All (λ (t : Tuple). shard_of me.shards t.object ≡ me.node) (named w)
+  pub free : All (λ (t : Tuple). is_held t s.in_doubt ≡ false) (named w)
+  pub some_epoch : 1 ≤ w.id.epoch
+  pub epoch : w.id.epoch ≤ greatest_number
+  pub some_number : 1 ≤ w.id.number
+  pub number : w.id.number ≤ greatest_number
+
+-- each part names a write in doubt, another each time
+abbrev pub ArePrepared : List Part → List Entry → Type 0
+ArePrepared [] ws = Unit {0}
+ArePrepared (p ∷ parts) ws = ((w : Entry) × (find_in_doubt p.id ws ≡ Some w)) × ArePrepared parts (without p.id ws)
+
+-- decisions up to a place may be applied: that place is no lower than before, and each part lies above the place before
+pub record MayLearn (s : ShardState) (to : ℕ) (parts : List Part) : Type 0 where
+  pub opened : 1 ≤ s.epoch
+  pub on : s.learned ≤ to
+  pub place : to ≤ greatest_number
+  pub above : All (λ (p : Part). s.learned < p.place) parts
+  pub prepared : ArePrepared parts s.in_doubt
+
+-- the shard may be opened once more
+pub record MayOpen (me : Identity) (s : ShardState) (epoch store shards node : ℕ) : Type 0 where
+  pub next : epoch ≡ s.epoch + 1
+  pub greatest : epoch ≤ greatest_number
+  pub same_store : store ≡ me.store
+  pub same_shards : shards ≡ me.shards
+  pub same_node : node ≡ me.node
+
+pub record MayDrop (s : ShardState) (id : WriteId) : Type 0 where
+  pub opened : 1 ≤ s.epoch
+  pub prepared : (w : Entry) × (find_in_doubt id s.in_doubt ≡ Some w)
+
+pub record MayCollect (s : ShardState) (place : ℕ) : Type 0 where
+  pub opened : 1 ≤ s.epoch
+  pub on : s.horizon ≤ place
+  pub within : place ≤ s.learned
+
+-- the record may come next at this shard
+abbrev pub MayCome : Identity → ShardState → Record → Type 0
+MayCome me s (Prepare w) = MayPrepare me s w
+MayCome me s (Learned to parts) = MayLearn s to parts
+MayCome me s (Dropped id) = MayDrop s id
+MayCome me s (Epoch epoch store shards node) = MayOpen me s epoch store shards node
+MayCome me s (Decision place w) = ⊥
+MayCome me s (Horizon place) = MayCollect s place
+
+-- the records of this shard: each may come after those before it. The first is its first opening, since nothing else may come before one.
+abbrev pub IsShardImage : Identity → List Record → Type 0
+IsShardImage me rs = (before after : List Record) (r : Record) → rs ≡ before ++ r ∷ after → MayCome me (shard_state before) r

@@ -1,0 +1,101 @@
+// Records as bytes.
+ghost use Rattle.std.specs.Prelude.{◌≡◌, ◌≤◌, ◌<◌, ◌+◌, [], ◌∷◌, ◌++◌, false, length, vec_len, vec_capacity, OnOk, OnErr};
+ghost use Rattle.std.specs.Int.{w16, w64, to_be_bytes};
+ghost use Rattle.std.specs.List.{flat_map};
+ghost use Rattle.records.specs.Format.{IsRecord, entry_bytes, part_bytes, record_bytes};
+ghost use Rattle.records.specs.Putting.{Puts};
+
+use crate::format::{DECISION, DROPPED, EPOCH, HORIZON, LEARNED, PREPARE};
+use crate::put::{put_byte, put_bytes, put_u64};
+use crate::put_write::{put_entry, put_parts, put_write_id};
+use crate::{Parts, Record};
+use std::alloc::AllocError;
+use tuples::Entry;
+
+impl Record {
+    /// Appends the bytes of the record, in the version that is written. It takes no memory where the vector has room for them, and
+    /// where it has none and memory is refused, nothing is written.
+    pub fn encode(&self, out: &mut Vec<u8>) -> Result<(), AllocError>
+        requires { IsRecord self.now }
+        ensures ok { OnOk result (out.new.items ≡ out.old.items ++ record_bytes false self.now) }
+        ensures err { OnErr result ((out.new.items ≡ out.old.items) × (vec_capacity out.old < vec_len out.old + length (record_bytes false self.now))) }
+        ensures room { vec_capacity out.old ≤ vec_capacity out.new }
+    {
+        let len = out.len();
+        let put = put_record(out, self);
+        if put.is_err() {
+            // A part of the record may stand there.
+            out.truncate(len);
+        }
+        put
+    }
+}
+
+#[tactic(auto, unfolding(crate::specs::Format::record_bytes))]
+fn put_record(out: &mut Vec<u8>, item: &Record) -> Result<(), AllocError>
+    requires { IsRecord item.now }
+    ensures { Puts out.old out.new (record_bytes false item.now) result }
+{
+    match item {
+        Record::Prepare(entry) => put_prepare(out, entry),
+        Record::Learned { to, parts } => put_learned(out, *to, parts),
+        Record::Dropped(id) => {
+            put_byte(out, DROPPED)?;
+            put_write_id(out, id)
+        }
+        Record::Epoch {
+            epoch,
+            store,
+            shards,
+            node,
+        } => put_epoch(out, *epoch, *store, *shards, *node),
+        Record::Decision { place, entry } => put_decision(out, *place, entry),
+        Record::Horizon(place) => {
+            put_byte(out, HORIZON)?;
+            put_u64(out, *place)
+        }
+    }
+}
+
+fn put_prepare(out: &mut Vec<u8>, entry: &Entry) -> Result<(), AllocError>
+    requires few_changes { length entry.now.changes ≤ 64 }
+    requires few_conditions { length entry.now.conditions ≤ 16 }
+    ensures { Puts out.old out.new (1 ∷ entry_bytes false entry.now) result }
+{
+    put_byte(out, PREPARE)?;
+    put_entry(out, entry)
+}
+
+fn put_learned(out: &mut Vec<u8>, to: u64, parts: &Parts) -> Result<(), AllocError>
+    requires { length parts.now ≤ 256 }
+    ensures { Puts out.old out.new (2 ∷ to_be_bytes w64 to ++ to_be_bytes w16 (length parts.now) ++ flat_map part_bytes parts.now) result }
+{
+    put_byte(out, LEARNED)?;
+    put_u64(out, to)?;
+    put_parts(out, parts.as_slice())
+}
+
+fn put_epoch(
+    out: &mut Vec<u8>,
+    epoch: u64,
+    store: u64,
+    shards: u8,
+    node: u8,
+) -> Result<(), AllocError>
+    ensures { Puts out.old out.new (4 ∷ to_be_bytes w64 epoch ++ to_be_bytes w64 store ++ shards ∷ node ∷ []) result }
+{
+    put_byte(out, EPOCH)?;
+    put_u64(out, epoch)?;
+    put_u64(out, store)?;
+    put_bytes(out, &[shards, node])
+}
+
+fn put_decision(out: &mut Vec<u8>, place: u64, entry: &Entry) -> Result<(), AllocError>
+    requires few_changes { length entry.now.changes ≤ 64 }
+    requires few_conditions { length entry.now.conditions ≤ 16 }
+    ensures { Puts out.old out.new (5 ∷ to_be_bytes w64 place ++ entry_bytes false entry.now) result }
+{
+    put_byte(out, DECISION)?;
+    put_u64(out, place)?;
+    put_entry(out, entry)
+}

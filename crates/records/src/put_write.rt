@@ -1,0 +1,123 @@
+// Writes and their parts at the end of a vector.
+ghost use Rattle.std.specs.Prelude.{◌<◌, ◌≤◌, ◌∷◌, ◌++◌, false, length};
+ghost use Rattle.std.specs.List.{flat_map};
+ghost use Rattle.std.specs.Int.{w16, to_be_bytes};
+ghost use Rattle.records.specs.Format.{change_bytes, condition_bytes, entry_bytes, id_bytes, part_bytes, want_bytes};
+ghost use Rattle.records.specs.Putting.{Puts};
+
+use crate::Part;
+use crate::format::{ABSENT, DELETE, EXISTS, NOT_AFTER, TOUCH};
+use crate::put::{put_byte, put_u16, put_u64};
+use crate::put_tuple::put_tuple;
+use std::alloc::AllocError;
+use tuples::{Change, Condition, Entry, Want, WriteId};
+
+pub(crate) fn put_write_id(out: &mut Vec<u8>, id: &WriteId) -> Result<(), AllocError>
+    ensures { Puts out.old out.new (id_bytes id.now) result }
+{
+    put_u64(out, id.epoch)?;
+    put_u64(out, id.number)
+}
+
+fn put_change(out: &mut Vec<u8>, change: &Change) -> Result<(), AllocError>
+    ensures { Puts out.old out.new (change_bytes change.now) result }
+{
+    match change {
+        Change::Touch(tuple) => {
+            put_byte(out, TOUCH)?;
+            put_tuple(out, tuple)
+        }
+        Change::Delete(tuple) => {
+            put_byte(out, DELETE)?;
+            put_tuple(out, tuple)
+        }
+    }
+}
+
+fn put_want(out: &mut Vec<u8>, want: &Want) -> Result<(), AllocError>
+    ensures { Puts out.old out.new (want_bytes false want.now) result }
+{
+    match want {
+        Want::NotAfter(place) => {
+            put_byte(out, NOT_AFTER)?;
+            put_u64(out, *place)
+        }
+        Want::Exists => put_byte(out, EXISTS),
+        Want::Absent => put_byte(out, ABSENT),
+    }
+}
+
+fn put_condition(out: &mut Vec<u8>, condition: &Condition) -> Result<(), AllocError>
+    ensures { Puts out.old out.new (condition_bytes false condition.now) result }
+{
+    put_tuple(out, &condition.tuple)?;
+    put_want(out, &condition.want)
+}
+
+fn put_each_change(out: &mut Vec<u8>, changes: &[Change]) -> Result<(), AllocError>
+    ensures { Puts out.old out.new (flat_map change_bytes changes.now) result }
+{
+    for change in changes {
+        put_change(out, change)?;
+    }
+    Ok(())
+}
+
+fn put_each_condition(out: &mut Vec<u8>, conditions: &[Condition]) -> Result<(), AllocError>
+    ensures { Puts out.old out.new (flat_map (condition_bytes false) conditions.now) result }
+{
+    for condition in conditions {
+        put_condition(out, condition)?;
+    }
+    Ok(())
+}
+
+fn put_changes(out: &mut Vec<u8>, changes: &[Change]) -> Result<(), AllocError>
+    requires { length changes.now ≤ 64 }
+    ensures { Puts out.old out.new (length changes.now ∷ flat_map change_bytes changes.now) result }
+{
+    put_byte(out, changes.len() as u8)?;
+    put_each_change(out, changes)
+}
+
+fn put_conditions(out: &mut Vec<u8>, conditions: &[Condition]) -> Result<(), AllocError>
+    requires { length conditions.now ≤ 16 }
+    ensures { Puts out.old out.new (length conditions.now ∷ flat_map (condition_bytes false) conditions.now) result }
+{
+    put_byte(out, conditions.len() as u8)?;
+    put_each_condition(out, conditions)
+}
+
+pub(crate) fn put_entry(out: &mut Vec<u8>, entry: &Entry) -> Result<(), AllocError>
+    requires few_changes { length entry.now.changes ≤ 64 }
+    requires few_conditions { length entry.now.conditions ≤ 16 }
+    ensures { Puts out.old out.new (entry_bytes false entry.now) result }
+{
+    put_write_id(out, &entry.id)?;
+    put_changes(out, entry.changes.as_slice())?;
+    put_conditions(out, entry.conditions.as_slice())
+}
+
+fn put_part(out: &mut Vec<u8>, part: &Part) -> Result<(), AllocError>
+    ensures { Puts out.old out.new (part_bytes part.now) result }
+{
+    put_write_id(out, &part.id)?;
+    put_u64(out, part.place)
+}
+
+fn put_each_part(out: &mut Vec<u8>, parts: &[Part]) -> Result<(), AllocError>
+    ensures { Puts out.old out.new (flat_map part_bytes parts.now) result }
+{
+    for part in parts {
+        put_part(out, part)?;
+    }
+    Ok(())
+}
+
+pub(crate) fn put_parts(out: &mut Vec<u8>, parts: &[Part]) -> Result<(), AllocError>
+    requires { length parts.now ≤ 256 }
+    ensures { Puts out.old out.new (to_be_bytes w16 (length parts.now) ++ flat_map part_bytes parts.now) result }
+{
+    put_u16(out, parts.len() as u16)?;
+    put_each_part(out, parts)
+}

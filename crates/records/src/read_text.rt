@@ -1,0 +1,102 @@
+// Numbers and texts at the front of bytes, each with the bytes after it.
+ghost use Rattle.std.specs.Prelude.{◌≡◌, List, length};
+ghost use Rattle.std.specs.Int.{w16, w64};
+ghost use Rattle.records.specs.Giving.{Gives};
+ghost use Rattle.records.specs.Reading.{byte_at, id_at, name_at, number_at, positive_at, text_at};
+
+use crate::unread::Unread;
+use std::alloc::Global;
+use tuples::{Id, Namespace, Relation};
+
+pub(crate) fn byte_of(bytes: &[u8]) -> Result<(u8, &[u8]), Unread>
+    ensures { Gives (λ x. (x.0, x.1.now)) result (byte_at bytes.now) }
+{
+    match bytes {
+        [] => Err(Unread::Damaged),
+        [byte, rest @ ..] => Ok((*byte, rest)),
+    }
+}
+
+#[tactic(auto, unfolding(crate::specs::Reading::number_at))]
+pub(crate) fn u16_of(bytes: &[u8]) -> Result<(u16, &[u8]), Unread>
+    ensures { Gives (λ x. (x.0, x.1.now)) result (number_at w16 bytes.now) }
+{
+    if bytes.len() < 2 {
+        return Err(Unread::Damaged);
+    }
+    let (front, rest) = bytes.split_at(2);
+    let number = u16::from_be_bytes([front[0], front[1]]);
+    Ok((number, rest))
+}
+
+#[tactic(auto, unfolding(crate::specs::Reading::number_at))]
+pub(crate) fn u64_of(bytes: &[u8]) -> Result<(u64, &[u8]), Unread>
+    ensures { Gives (λ x. (x.0, x.1.now)) result (number_at w64 bytes.now) }
+{
+    if bytes.len() < 8 {
+        return Err(Unread::Damaged);
+    }
+    let (front, rest) = bytes.split_at(8);
+    let number = u64::from_be_bytes([
+        front[0], front[1], front[2], front[3], front[4], front[5], front[6], front[7],
+    ]);
+    Ok((number, rest))
+}
+
+/// A number from 1 on.
+#[tactic(auto, unfolding(crate::specs::Reading::positive_at))]
+pub(crate) fn positive_of(bytes: &[u8]) -> Result<(u64, &[u8]), Unread>
+    ensures { Gives (λ x. (x.0, x.1.now)) result (positive_at bytes.now) }
+{
+    let (number, rest) = u64_of(bytes)?;
+    if number < 1 {
+        return Err(Unread::Damaged);
+    }
+    Ok((number, rest))
+}
+
+#[tactic(auto, unfolding(crate::specs::Reading::text_at))]
+fn text_of(alloc: Global, bytes: &[u8]) -> Result<(Vec<u8>, &[u8]), Unread>
+    ensures { Gives (λ x. (x.0.items, x.1.now)) result (text_at bytes.now) }
+{
+    let (len, rest) = byte_of(bytes)?;
+    let len = usize::from(len);
+    if rest.len() < len {
+        return Err(Unread::Damaged);
+    }
+    let (text, rest) = rest.split_at(len);
+    Ok((Vec::from_slice(alloc, text)?, rest))
+}
+
+#[tactic(auto, unfolding(crate::specs::Reading::name_at))]
+pub(crate) fn namespace_of(alloc: Global, bytes: &[u8]) -> Result<(Namespace, &[u8]), Unread>
+    ensures { Gives (λ x. (x.0, x.1.now)) result (name_at bytes.now) }
+{
+    let (text, rest) = text_of(alloc, bytes)?;
+    match Namespace::from_vec(text) {
+        Ok(namespace) => Ok((namespace, rest)),
+        Err(_) => Err(Unread::Damaged),
+    }
+}
+
+#[tactic(auto, unfolding(crate::specs::Reading::name_at))]
+pub(crate) fn relation_of(alloc: Global, bytes: &[u8]) -> Result<(Relation, &[u8]), Unread>
+    ensures { Gives (λ x. (x.0, x.1.now)) result (name_at bytes.now) }
+{
+    let (text, rest) = text_of(alloc, bytes)?;
+    match Relation::from_vec(text) {
+        Ok(relation) => Ok((relation, rest)),
+        Err(_) => Err(Unread::Damaged),
+    }
+}
+
+#[tactic(auto, unfolding(crate::specs::Reading::id_at))]
+pub(crate) fn id_of(alloc: Global, bytes: &[u8]) -> Result<(Id, &[u8]), Unread>
+    ensures { Gives (λ x. (x.0, x.1.now)) result (id_at bytes.now) }
+{
+    let (text, rest) = text_of(alloc, bytes)?;
+    match Id::from_vec(text) {
+        Ok(id) => Ok((id, rest)),
+        Err(_) => Err(Unread::Damaged),
+    }
+}

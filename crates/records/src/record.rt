@@ -1,0 +1,70 @@
+// Records, and the lists in them.
+use std::marker::Model;
+use tuples::{Entry, WriteId};
+
+/// A write that a shard has learned: its id, and its place in the log, from 1 on.
+#[derive(Clone, Copy, Debug, PartialEq, Eq)]
+pub struct Part {
+    pub id: WriteId,
+    pub place: u64,
+}
+
+/// Parts in their order, which contracts see as their list.
+#[derive(Drop)]
+pub struct Parts {
+    items: Vec<Part>,
+}
+
+impl Model for Parts {
+    ghost use Rattle.std.specs.Prelude.{List};
+    ghost use Rattle.records.specs.declared.record.Part.{Part};
+
+    ghost Value = { List Part };
+
+    ghost view = { λ a. a.items.items };
+}
+
+impl Parts {
+    ghost use Rattle.std.specs.Prelude.{◌≡◌};
+
+    /// These parts, which takes no memory.
+    pub fn from_vec(items: Vec<Part>) -> Self
+        ensures { result ≡ items.items }
+    {
+        Parts { items }
+    }
+
+    pub fn as_slice(&self) -> &[Part]
+        ensures { result.now ≡ self.now }
+    {
+        &self.items
+    }
+}
+
+/// What a node writes down (presumed abort: Mohan, Lindsay, Obermarck 1986).
+#[derive(Drop)]
+pub enum Record {
+    /// A shard holds its part of a write, from its prepare until it is learned or dropped.
+    Prepare(Entry),
+    /// A shard has applied the decisions up to a place, with the places of the writes in which it takes part.
+    Learned {
+        to: u64,
+        parts: Parts,
+    },
+    /// A shard has given up a write that was not decided.
+    Dropped(WriteId),
+    /// A node was opened: how often so far, and which node of which store it is (`0xff` is the coordinator).
+    Epoch {
+        epoch: u64,
+        store: u64,
+        shards: u8,
+        node: u8,
+    },
+    /// The coordinator has decided a write at a place.
+    Decision {
+        place: u64,
+        entry: Entry,
+    },
+    /// What lies below this place may be forgotten.
+    Horizon(u64),
+}
