@@ -1,0 +1,159 @@
+// The records that are staged, as the bytes of their batch.
+ghost use Rattle.std.specs.Prelude.{◌≡◌, ◌≤◌, ◌<◌, ◌+◌, ◌^◌, ◌++◌, ◌∷◌, ◌↔◌, ◌⊎◌, [], List, ℕ, Some, true, false, length, take, drop, vec_capacity, IfOk, IfErr, OnOk, OnErr};
+ghost use Rattle.std.specs.Int.{w16, to_be_bytes};
+ghost use Rattle.device.specs.Device.{LeavesOnly, HasFailed};
+ghost use Rattle.gated.specs.Gated.{HasList, IsOldOrNew, body_of};
+ghost use Rattle.journal.specs.Records.{HasNoRoom, batch_size};
+ghost use Rattle.journal.specs.Staging.{staged_in, IsSpelled};
+ghost use Rattle.records.specs.Format.{IsRecord, batch_bytes, record_bytes};
+ghost use Rattle.records.specs.Reading.{batch};
+
+use device::Device;
+use gated::{GatedLog, MAX_BODY};
+use records::{MAX_RECORDS, Record, VERSION};
+use std::alloc::{AllocError, Global};
+use std::marker::Model;
+use tuples::Refusal;
+
+/// Before the records: four bytes that the log fills itself, the version, and two bytes of the number of records.
+const HEAD: usize = 7;
+
+/// The most bytes before the last one, which the log fills itself.
+const MAX_LEN: usize = MAX_BODY + 4;
+
+/// More bytes than any record has. With room for them the bytes of a record that turns out too long take no memory.
+const MORE_THAN_A_RECORD: usize = 1 << 16;
+
+/// Staged records, which contracts see as their list.
+#[derive(Drop)]
+pub(crate) struct Batch {
+    // the head, which is written last, and the records
+    bytes: Vec<u8>,
+    count: usize,
+}
+
+impl Model for Batch {
+    ghost use Rattle.std.specs.Prelude.{List, vec_capacity};
+    ghost use Rattle.records.specs.declared.record.Record.{Record as AnyRecord};
+    ghost use Rattle.journal.specs.Staging.{staged_in, IsSpelled};
+
+    ghost Value = { List AnyRecord };
+
+    ghost view = { λ b. staged_in b.count b.bytes.items };
+
+    ghost invariant = { λ b. IsSpelled b.bytes.items (vec_capacity b.bytes) b.count };
+}
+
+impl Batch {
+    /// No records, and the memory for as many as a batch may have.
+    pub(crate) fn new(alloc: Global) -> Result<Batch, AllocError>
+        ensures { IfOk result (λ b. b ≡ []) }
+    {
+        let mut bytes = Vec::with_capacity(alloc, MAX_LEN + MORE_THAN_A_RECORD)?;
+        bytes.extend_from_slice(&[0; HEAD])?;
+        Ok(Batch { bytes, count: 0 })
+    }
+
+    /// How many there are.
+    pub(crate) fn len(&self) -> usize
+        ensures { result ≡ length self.now }
+    {
+        self.count
+    }
+
+    /// Adds a record, or is `Full`.
+    pub(crate) fn push(&mut self, record: &Record) -> Result<(), Refusal>
+        requires { IsRecord «record».now }
+        ensures ok { OnOk result (self.new ≡ self.old ++ «record».now ∷ []) }
+        ensures room { OnOk result (HasNoRoom self.old «record».now → ⊥) }
+        ensures full { OnErr result (HasNoRoom self.old «record».now) }
+        ensures err { IfErr result (λ e. (e ≡ Refusal.Full) × (self.new ≡ self.old)) }
+    {
+        if self.count == MAX_RECORDS {
+            return Err(Refusal::Full);
+        }
+        spell(record, &mut self.bytes)?;
+        self.count += 1;
+        Ok(())
+    }
+
+    /// Whether one record more fits. It takes no memory.
+    pub(crate) fn has_room(&mut self, next: &Record) -> bool
+        requires { IsRecord next.now }
+        ensures same { self.new ≡ self.old }
+        ensures room { result ≡ true → HasNoRoom self.old next.now → ⊥ }
+        ensures full { result ≡ false → HasNoRoom self.old next.now }
+    {
+        let count = self.count;
+        if count == MAX_RECORDS {
+            return false;
+        }
+        let end = self.bytes.len();
+        match spell(next, &mut self.bytes) {
+            Ok(()) => {
+                self.bytes.truncate(end);
+                true
+            }
+            Err(_) => false,
+        }
+    }
+
+    /// Appends them to a log as one batch. Whatever comes of it, none are staged any more.
+    pub(crate) fn append_to<D: Device>(&mut self, log: &mut GatedLog<D>) -> Result<(), Refusal>
+        requires { 1 ≤ length self.old }
+        ensures empty { self.new ≡ [] }
+        ensures read { batch (batch_bytes false self.old) ≡ Some self.old }
+        ensures honest { D.honest log.old ↔ D.honest log.new }
+        ensures any_moment { (bodies : List (List ℕ)) → D.honest log.old → HasList (D.state log.old) bodies → LeavesOnly D.moment D.left_since log.old log.new (IsOldOrNew bodies (batch_bytes false self.old)) }
+        ensures ok { (bodies : List (List ℕ)) → D.honest log.old → HasList (D.state log.old) bodies → OnOk result (HasList (D.state log.new) (bodies ++ batch_bytes false self.old ∷ [])) }
+        ensures up { D.honest log.old → OnOk result ((D.state log.new).stopped ≡ false) }
+        ensures cause { OnErr result (HasFailed (D.state log.old) (D.state log.new) ⊎ (D.honest log.old → (D.state log.old).stopped ≡ false → 2 ^ 40 < length (D.state log.old).seen + batch_size self.old + 5)) }
+    {
+        complete(&mut self.bytes, self.count);
+        let result = log.append(&mut self.bytes);
+        self.bytes.truncate(HEAD);
+        self.count = 0;
+        result
+    }
+}
+
+// Adds the bytes of the record, if a batch may be so long.
+fn spell(record: &Record, bytes: &mut Vec<u8>) -> Result<(), Refusal>
+    requires spellable { IsRecord «record».now }
+    requires fits { length bytes.old.items ≤ 1048580 }
+    requires room { 1048581 ≤ vec_capacity bytes.old }
+    ensures ok { OnOk result ((bytes.new.items ≡ bytes.old.items ++ record_bytes false «record».now) × (length bytes.new.items ≤ 1048580)) }
+    ensures full { OnErr result (1048580 < length bytes.old.items + length (record_bytes false «record».now)) }
+    ensures err { IfErr result (λ e. (e ≡ Refusal.Full) × (bytes.new.items ≡ bytes.old.items)) }
+    ensures capacity { vec_capacity bytes.old ≤ vec_capacity bytes.new }
+{
+    let end = bytes.len();
+    let Ok(()) = record.encode(bytes) else {
+        return Err(Refusal::Full);
+    };
+    if bytes.len() > MAX_LEN {
+        bytes.truncate(end);
+        return Err(Refusal::Full);
+    }
+    Ok(())
+}
+
+// Makes of the bytes of so many records what a log appends.
+fn complete(bytes: &mut Vec<u8>, count: usize)
+    requires { IsSpelled bytes.old.items (vec_capacity bytes.old) count }
+    ensures body { body_of bytes.new.items ≡ batch_bytes false (staged_in count bytes.old.items) }
+    ensures len { length bytes.new.items ≡ length bytes.old.items + 1 }
+    ensures capacity { vec_capacity bytes.new ≡ vec_capacity bytes.old }
+{
+    write_head(bytes, count as u16);
+    bytes.push_reserved(0);
+}
+
+// Writes the version and the number of records before them.
+fn write_head(bytes: &mut [u8], count: u16)
+    requires { 7 ≤ length bytes.old }
+    ensures { bytes.new ≡ take 4 bytes.old ++ 2 ∷ to_be_bytes w16 count ++ drop 7 bytes.old }
+{
+    bytes[4] = VERSION;
+    bytes[5..HEAD].copy_from_slice(&count.to_be_bytes());
+}

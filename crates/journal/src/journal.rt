@@ -1,0 +1,230 @@
+// A journal: records are staged, and become durable by one append.
+ghost use Rattle.std.specs.Prelude.{◌≡◌, ◌⊎◌, ◌↔◌, ◌≤◌, ◌<◌, ◌+◌, ◌^◌, ◌++◌, ◌∷◌, [], List, ℕ, Some, None, OnOk, OnErr, IfOk, IfErr, IsErr, IsErrOf, MatchResult, map, length, true, false, min, ◌-◌};
+ghost use Rattle.device.specs.Device.{HasFailed, Keeps, LeavesOnly};
+ghost use Rattle.journal.specs.Records.{View, IsOpened, HasCause, HasNoRoom, HasRecords, HoldsOldOrNew, LeavesBoth, WasLeftOrFound, found, batch_size, batches};
+ghost use Rattle.journal.specs.Rest.{held, Holds, IsAtRest};
+ghost use Rattle.records.specs.declared.record.Record.{Record as AnyRecord};
+ghost use Rattle.records.specs.Format.{IsRecord};
+
+use crate::batch::Batch;
+use crate::batches::decode_batches;
+use crate::{Bank, Refused};
+use device::{Device, Tear};
+use gated::GatedLog;
+use records::Record;
+use std::alloc::Global;
+use std::marker::Model;
+use tuples::Refusal;
+
+/// The journal of a node over its two devices.
+#[derive(Drop)]
+pub struct Journal<D: Device> {
+    // bank a
+    log: GatedLog<D>,
+    // bank b
+    spare: D,
+    staged: Batch,
+    is_down: bool,
+}
+
+impl<D: Device> Model for Journal<D> {
+    ghost use Rattle.std.specs.Prelude.{◌≡◌, false};
+    ghost use Rattle.journal.specs.Records.{View, durable_of};
+    ghost use Rattle.journal.specs.Rest.{IsAtRest};
+
+    ghost Value = { View D };
+
+    ghost view = { λ j. record { a = j.log; b = j.spare; durable = durable_of (D.state j.log) (D.state j.spare); staged = j.staged; is_down = j.is_down } };
+
+    ghost invariant = { λ j. j.is_down ≡ false → D.honest j.log → IsAtRest (D.state j.log) };
+}
+
+// The records of the batches, and room for one batch more.
+fn read(alloc: Global, bodies: &[Vec<u8>]) -> Result<(Batch, Vec<Record>), Refusal>
+    ensures ok { IfOk result (λ r. batches (map (λ b. b.items) bodies.now) ≡ Some r.1.items) }
+    ensures fresh { IfOk result (λ r. r.0 ≡ []) }
+    ensures damaged { IsErrOf result Refusal.Damaged → batches (map (λ b. b.items) bodies.now) ≡ None }
+    ensures err { IfErr result (λ e. (e ≡ Refusal.NoMemory) ⊎ (e ≡ Refusal.Damaged)) }
+{
+    let records = decode_batches(alloc, bodies)?;
+    let Ok(staged) = Batch::new(alloc) else {
+        return Err(Refusal::NoMemory);
+    };
+    Ok((staged, records))
+}
+
+// Appends what is staged as one batch.
+fn append_batch<D: Device>(log: &mut GatedLog<D>, staged: &mut Batch) -> Result<(), Refusal>
+    requires some { 1 ≤ length staged.old }
+    requires rest { D.honest log.old → IsAtRest (D.state log.old) }
+    ensures honest { D.honest log.old ↔ D.honest log.new }
+    ensures empty { staged.new ≡ [] }
+    ensures rest { D.honest log.old → OnOk result (IsAtRest (D.state log.new)) }
+    ensures any_moment { (durable : List AnyRecord) → D.honest log.old → Holds (D.state log.old) durable
+        → LeavesOnly D.moment D.left_since log.old log.new (λ c. (held c ≡ Some durable) ⊎ (held c ≡ Some (durable ++ staged.old))) }
+    ensures ok { (durable : List AnyRecord) → D.honest log.old → Holds (D.state log.old) durable → OnOk result (Holds (D.state log.new) (durable ++ staged.old)) }
+    ensures cause { OnErr result (HasFailed (D.state log.old) (D.state log.new) ⊎ (D.honest log.old → (D.state log.old).stopped ≡ false → 2 ^ 40 < length (D.state log.old).seen + batch_size staged.old + 5)) }
+{
+    staged.append_to(log)?;
+    Ok(())
+}
+
+impl<D: Device> Journal<D> {
+    /// Opens the journal of two devices, with the records found, oldest first. It reserves the memory for a whole batch.
+    ///
+    /// Each refusal gives the devices back: `Down` where a call of a device failed, `NoMemory`, and `Damaged` where the devices
+    /// hold no list of batches. Bank a alone is read, and no call is made on bank b.
+    pub fn open(alloc: Global, a: D, b: D) -> Result<(Journal<D>, Vec<Record>), Refused<D>>
+        ensures honest { MatchResult result (λ r. (D.honest a ↔ D.honest r.0.a) × (D.honest b ↔ D.honest r.0.b)) (λ e. (D.honest a ↔ D.honest e.a) × (D.honest b ↔ D.honest e.b)) }
+
+        // Exactly the records that the devices hold.
+        ensures ok { D.honest a → D.honest b → IfOk result (λ r. IsOpened D.state a b r.1.items r.0) }
+        ensures fresh { IfOk result (λ r. (r.0.staged ≡ []) × (r.0.is_down ≡ false)) }
+        ensures damaged { D.honest a → D.honest b → IfErr result (λ e. e.refusal ≡ Refusal.Damaged → found (D.state a).seen (D.state b).seen ≡ None) }
+        ensures down { IfErr result (λ e. e.refusal ≡ Refusal.Down → HasFailed (D.state a) (D.state e.a) ⊎ HasFailed (D.state b) (D.state e.b)) }
+        ensures err { IfErr result (λ e. (e.refusal ≡ Refusal.Down) ⊎ ((e.refusal ≡ Refusal.NoMemory) ⊎ (e.refusal ≡ Refusal.Damaged))) }
+        ensures stopped { (D.state a).stopped ≡ true → IsErr result }
+
+        // At every moment of the call a stop leaves what it could leave before, or the records found.
+        ensures any_moment { D.honest a → D.honest b → (D.state a).stopped ≡ false → MatchResult result
+            (λ r. LeavesBoth D.moment D.left_since a b r.0.a r.0.b (WasLeftOrFound (D.state a) (D.state b)))
+            (λ e. LeavesBoth D.moment D.left_since a b e.a e.b (WasLeftOrFound (D.state a) (D.state b))) }
+    {
+        let (log, bodies) = match GatedLog::open(alloc, a) {
+            Ok(opened) => opened,
+            Err((refusal, a)) => return Err(Refused { refusal, a, b }),
+        };
+        match read(alloc, &bodies) {
+            Ok((staged, records)) => {
+                let journal = Journal {
+                    log,
+                    spare: b,
+                    staged,
+                    is_down: false,
+                };
+                Ok((journal, records))
+            }
+            Err(refusal) => Err(Refused {
+                refusal,
+                a: log.into_device(),
+                b,
+            }),
+        }
+    }
+
+    /// Adds a record to what is staged, which takes no memory. `Full`, and nothing changed, where the batch has 65,535 records
+    /// or would pass 1,048,576 bytes.
+    pub fn stage(&mut self, record: &Record) -> Result<(), Refusal>
+        requires { IsRecord «record».now }
+        ensures ok { OnOk result (self.new ≡ record self.old { staged = self.old.staged ++ «record».now ∷ [] }) }
+        ensures room { OnOk result (HasNoRoom self.old.staged «record».now → ⊥) }
+        ensures full { IsErrOf result Refusal.Full → HasNoRoom self.old.staged «record».now }
+        ensures err { IfErr result (λ e. (e ≡ Refusal.Full) × (self.new ≡ self.old)) }
+    {
+        self.staged.push(record)
+    }
+
+    /// Whether one record more fits into what is staged, which stays as it is. It takes no memory.
+    pub fn has_room(&mut self, next: &Record) -> bool
+        requires { IsRecord next.now }
+        ensures same { self.new ≡ self.old }
+        ensures room { result ≡ true → HasNoRoom self.old.staged next.now → ⊥ }
+        ensures full { result ≡ false → HasNoRoom self.old.staged next.now }
+    {
+        self.staged.has_room(next)
+    }
+
+    /// Makes durable what is staged, in one batch: four device calls, or none where nothing is staged. It takes no memory.
+    ///
+    /// `Down` where a device failed, or bank a would pass 2^40 bytes. Then the staged records may be durable or not, and the journal
+    /// has to be opened again.
+    pub fn flush(&mut self) -> Result<(), Refusal>
+        ensures honest { (D.honest self.old.a ↔ D.honest self.new.a) × (D.honest self.old.b ↔ D.honest self.new.b) }
+
+        // At every moment of the call a stop leaves the durable records, with all that is staged or without.
+        ensures any_moment { D.honest self.old.a → D.honest self.old.b → self.old.is_down ≡ false
+            → LeavesBoth D.moment D.left_since self.old.a self.old.b self.new.a self.new.b (HoldsOldOrNew self.old.durable self.old.staged) }
+
+        // From then on each stop leaves them with it.
+        ensures ok { D.honest self.old.a → D.honest self.old.b → OnOk result ((self.new.durable ≡ self.old.durable ++ self.old.staged) × HasRecords (D.state self.new.a) (D.state self.new.b) self.new.durable) }
+        ensures up { OnOk result ((self.old.is_down ≡ false) × (self.new.is_down ≡ false) × (self.new.staged ≡ [])) }
+        ensures err { IfErr result (λ e. (e ≡ Refusal.Down) × (self.new.is_down ≡ true)) }
+        ensures cause { OnErr result ((self.old.is_down ≡ true) ⊎ HasCause D.state D.honest self.old self.new) }
+
+        // Where a device failed before, or nothing is staged, no call is made.
+        ensures quiet { ((self.old.is_down ≡ true) ⊎ (self.old.staged ≡ [])) → self.new ≡ self.old }
+    {
+        if self.is_down {
+            return Err(Refusal::Down);
+        }
+        if self.staged.len() == 0 {
+            return Ok(());
+        }
+        match append_batch(&mut self.log, &mut self.staged) {
+            Ok(()) => Ok(()),
+            Err(_) => {
+                self.is_down = true;
+                Err(Refusal::Down)
+            }
+        }
+    }
+
+    /// How many records are staged.
+    pub fn staged_len(&self) -> usize
+        ensures { result ≡ length self.now.staged }
+    {
+        self.staged.len()
+    }
+
+    /// Whether a flush failed since the opening.
+    pub fn is_down(&self) -> bool
+        ensures { result ≡ self.now.is_down }
+    {
+        self.is_down
+    }
+
+    /// Sets the script of one device, and changes nothing else.
+    pub fn fail(&mut self, bank: Bank, n: u64, tear: Tear)
+        ensures honest { (D.honest self.old.a ↔ D.honest self.new.a) × (D.honest self.old.b ↔ D.honest self.new.b) }
+        ensures keeps_a { D.honest self.old.a → Keeps (D.state self.old.a) (D.state self.new.a) }
+        ensures keeps_b { D.honest self.old.b → Keeps (D.state self.old.b) (D.state self.new.b) }
+        ensures failures { ((D.state self.new.a).failures ≡ (D.state self.old.a).failures) × ((D.state self.new.b).failures ≡ (D.state self.old.b).failures) }
+        ensures staged { (self.new.staged ≡ self.old.staged) × (self.new.is_down ≡ self.old.is_down) }
+        ensures durable { D.honest self.old.a → D.honest self.old.b → self.new.durable ≡ self.old.durable }
+    {
+        match bank {
+            Bank::A => self.log.fail(n, tear),
+            Bank::B => self.spare.fail(n, tear),
+        }
+    }
+
+    /// How many calls of both devices have failed so far; it stays at its greatest value.
+    pub fn failures(&self) -> u64
+        ensures { result ≡ min (2 ^ 64 - 1) ((D.state self.now.a).failures + (D.state self.now.b).failures) }
+    {
+        self.log
+            .device()
+            .failures()
+            .saturating_add(self.spare.failures())
+    }
+
+    /// Its devices.
+    pub fn devices(&self) -> (&D, &D)
+        ensures { (result.0.now ≡ self.now.a) × (result.1.now ≡ self.now.b) }
+    {
+        (self.log.device(), &self.spare)
+    }
+
+    /// Gives the devices back.
+    pub fn into_devices(self) -> (D, D)
+        ensures { (result.0 ≡ self.a) × (result.1 ≡ self.b) }
+    {
+        let Journal {
+            log,
+            spare,
+            staged: _,
+            is_down: _,
+        } = self;
+        (log.into_device(), spare)
+    }
+}

@@ -1,0 +1,18 @@
+//! The records of a node, staged and durable, on two devices.
+//!
+//! Keeps: a flush leaves the durable records with all that was staged or without, at every moment, and with it after `Ok`.
+//! Never: knows what a record does to a node. The second device is untouched so far.
+//! Callers rely on: `stage` and `flush` take no memory; after `Down` the journal answers nothing more until it is opened again.
+//!
+//! Start at `specs/Records.antt`, which records two contents hold.
+#![tactic(auto)]
+
+mod batch;
+mod batches;
+mod journal;
+mod refused;
+#[cfg(test)]
+mod tests;
+
+pub use journal::Journal;
+pub use refused::{Bank, Refused};
