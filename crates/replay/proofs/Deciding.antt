@@ -1,0 +1,96 @@
+-- The tests decide the rules of what may come next.
+use Rattle.std.proofs.Common.{◌≡◌, ⊎_elim, ◌↔◌, Bool, true, false, not, ◌&&◌, List, [], ◌∷◌, Option, Some, None, is_some, refl, sym, ◌∙◌, ap, cond, All, subst}
+use Rattle.std.specs.List.{list_all}
+use Rattle.std.proofs.lemmas.Bool.{eqb-true, eq-eqb, cases_Bool, and_parts, and_from, not-true, not_from_false, both_ways}
+use Rattle.std.proofs.lemmas.List.Elements.{All-nil, All-cons, All-head, All-tail}
+use Rattle.tuples.specs.declared.tuple.Tuple.{Tuple}
+use Rattle.tuples.specs.declared.entry.Entry.{Entry}
+use Rattle.tuples.specs.declared.entry.WriteId.{WriteId}
+use Rattle.tuples.specs.Log.{same_id}
+use Rattle.tuples.specs.Parts.{shard_of}
+use Rattle.records.specs.declared.record.Part.{Part}
+use Rattle.records.specs.Replays.{ArePrepared, Identity, find_in_doubt, is_held, without}
+use Rattle.replay.specs.Rules.{are_prepared, has_part, is_free}
+use Rattle.replay.proofs.Doubts.{find_without_other, find_without_same, same_id_other, same_id_refl}
+
+abbrev pub AreOwn : Identity → List Tuple → Type 0
+AreOwn me = All (λ (t : Tuple). shard_of me.shards t.object ≡ me.node)
+
+abbrev pub AreFree : List Entry → List Tuple → Type 0
+AreFree ws = All (λ (t : Tuple). is_held t ws ≡ false)
+
+free_parts : (me : Identity) (ws : List Entry) (ts : List Tuple) → list_all (is_free me ws) ts ≡ true → AreOwn me ts × AreFree ws ts
+free_parts me ws [] is = (All-nil _, All-nil _)
+free_parts me ws (t ∷ ts) is =
+    let parts = and_parts (is_free me ws t) (list_all (is_free me ws) ts) is in
+    let here = and_parts _ _ parts.0 in
+    let rest = free_parts me ws ts parts.1 in
+    (All-cons (λ (t : Tuple). shard_of me.shards t.object ≡ me.node) t ts (eqb-true _ _ here.0) rest.0, All-cons (λ (t : Tuple). is_held t ws ≡ false) t ts (not-true _ here.1) rest.1)
+
+free_from : (me : Identity) (ws : List Entry) (ts : List Tuple) → AreOwn me ts → AreFree ws ts → list_all (is_free me ws) ts ≡ true
+free_from me ws [] own free = refl
+free_from me ws (t ∷ ts) own free =
+    let own_here = All-head (λ (t : Tuple). shard_of me.shards t.object ≡ me.node) t ts own in
+    let free_here = All-head (λ (t : Tuple). is_held t ws ≡ false) t ts free in
+    let own_rest = All-tail (λ (t : Tuple). shard_of me.shards t.object ≡ me.node) t ts own in
+    let free_rest = All-tail (λ (t : Tuple). is_held t ws ≡ false) t ts free in
+    and_from _ _ (and_from _ _ (eq-eqb _ _ own_here) (not_from_false _ free_here)) (free_from me ws ts own_rest free_rest)
+
+pub free_decides : (me : Identity) (ws : List Entry) (ts : List Tuple) → (list_all (is_free me ws) ts ≡ true) ↔ (AreOwn me ts × AreFree ws ts)
+free_decides me ws ts = (free_parts me ws ts, λ h. free_from me ws ts h.0 h.1)
+
+found_or : {X : Type 0} (o : Option X) → is_some o ≡ true → (x : X) × (o ≡ Some x)
+found_or None is = absurd cc
+found_or (Some x) is = (x, refl)
+
+is_found : {X : Type 0} (o : Option X) (x : X) → o ≡ Some x → is_some o ≡ true
+is_found o x is = ap (λ p. is_some p) is
+
+without_swap : (a b : WriteId) (ws : List Entry) → without a (without b ws) ≡ without b (without a ws)
+without_swap a b [] = refl
+without_swap a b (w ∷ ws) =
+    let rest = without_swap a b ws in
+    ⊎_elim
+    (λ out_a. ⊎_elim (λ out_b. rw out_a (rw out_b rest)) (λ in_b. rw in_b (rw out_a rest)) (cases_Bool (same_id w.id b)))
+    (λ in_a. ⊎_elim (λ out_b. rw in_a (rw out_b rest)) (λ in_b. rw in_a (rw in_b (rw in_a (ap (λ (l : List Entry). w ∷ l) rest)))) (cases_Bool (same_id w.id b)))
+    (cases_Bool (same_id w.id a))
+
+other_id : (a b : WriteId) → same_id a b ≡ false → a ≡ b → ⊥
+other_id a b apart is = both_ways _ apart (ap (λ (c : WriteId). same_id a c) (sym is) ∙ same_id_refl a)
+
+first_false : (a b : Bool) → cond a true b ≡ false → (a ≡ false) × (b ≡ false)
+first_false true b is = absurd cc
+first_false false b is = (refl, is)
+
+-- the parts of other writes are in doubt without this one too
+prepared_without : (id : WriteId) (parts : List Part) (ws : List Entry) → has_part id parts ≡ false → ArePrepared parts ws → ArePrepared parts (without id ws)
+prepared_without id [] ws none prepared = tt
+prepared_without id (p ∷ parts) ws none prepared =
+    let no = first_false (same_id p.id id) (has_part id parts) none in
+    let rest = prepared_without id parts (without p.id ws) no.1 prepared.1 in
+    ((prepared.0.0, find_without_other p.id id ws (other_id p.id id no.0) ∙ prepared.0.1), subst (λ (l : List Entry). ArePrepared parts l) (without_swap id p.id ws) rest)
+
+-- what is in doubt without a write are parts of others
+prepared_others : (id : WriteId) (parts : List Part) (ws : List Entry) → ArePrepared parts (without id ws) → (has_part id parts ≡ false) × ArePrepared parts ws
+prepared_others id [] ws prepared = (refl, tt)
+prepared_others id (p ∷ parts) ws prepared =
+    let w = prepared.0.0 in
+    let ne : p.id ≡ id → ⊥ = λ is. let gone : None ≡ Some w = sym (find_without_same id ws) ∙ ap (λ (i : WriteId). find_in_doubt i (without id ws)) (sym is) ∙ prepared.0.1 in absurd cc in
+    let rest = prepared_others id parts (without p.id ws) (subst (λ (l : List Entry). ArePrepared parts l) (without_swap p.id id ws) prepared.1) in
+    (rw (same_id_other p.id id ne) rest.0, ((w, sym (find_without_other p.id id ws ne) ∙ prepared.0.1), rest.1))
+
+prepared_parts : (parts : List Part) (ws : List Entry) → are_prepared parts ws ≡ true → ArePrepared parts ws
+prepared_parts [] ws is = tt
+prepared_parts (p ∷ parts) ws is =
+    let both = and_parts (is_some (find_in_doubt p.id ws) && not (has_part p.id parts)) (are_prepared parts ws) is in
+    let here = and_parts (is_some (find_in_doubt p.id ws)) (not (has_part p.id parts)) both.0 in
+    (found_or (find_in_doubt p.id ws) here.0, prepared_without p.id parts ws (not-true _ here.1) (prepared_parts parts ws both.1))
+
+prepared_from : (parts : List Part) (ws : List Entry) → ArePrepared parts ws → are_prepared parts ws ≡ true
+prepared_from [] ws prepared = refl
+prepared_from (p ∷ parts) ws prepared =
+    let others = prepared_others p.id parts ws prepared.1 in
+    and_from _ _ (and_from _ _ (is_found (find_in_doubt p.id ws) prepared.0.0 prepared.0.1) (not_from_false _ others.0)) (prepared_from parts ws others.1)
+
+pub prepared_decides : (parts : List Part) (ws : List Entry) → (are_prepared parts ws ≡ true) ↔ ArePrepared parts ws
+prepared_decides parts ws = (prepared_parts parts ws, prepared_from parts ws)

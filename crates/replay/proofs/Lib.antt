@@ -1,0 +1,3 @@
+pub mod States
+pub mod Doubts
+pub mod Deciding

@@ -1,0 +1,17 @@
+//! What a shard keeps in memory: the replay of its records.
+//!
+//! Keeps: the memory is exactly what the records that were applied stand for.
+//! Never: touches a device or a journal.
+//! Callers rely on: a refused growth leaves it as it was.
+//!
+//! Start at `records/specs/Replays.antt`, what each record does, and then `memory.rt`.
+#![tactic(auto)]
+
+mod in_doubt;
+mod learning;
+mod memory;
+mod rules;
+#[cfg(test)]
+mod tests;
+
+pub use memory::Memory;

@@ -1,0 +1,251 @@
+// What a shard knows, as the replay of its records.
+ghost use Rattle.std.specs.Prelude.{◌≡◌, ◌⊎◌, ◌≤◌, OnOk, OnErr, IfOk, IfErr, IsErrOf, Some, None, MatchOption};
+ghost use Rattle.records.specs.declared.record.Record.TheVariants.{Dropped as dropped_record, Epoch as epoch_record, Horizon as horizon_record, Learned as learned_record, Prepare as prepare_record};
+ghost use Rattle.records.specs.Replays.{MayCollect, MayCome, MayDrop, MayLearn, MayOpen, MayPrepare, empty_shard, find_in_doubt, is_held, shard_step};
+ghost use Rattle.tuples.specs.Log.{meets_want};
+ghost use Rattle.tuples.specs.Reads.{IsSelection};
+ghost use Rattle.tuples.specs.Versions.{last_version, there_at};
+
+use crate::in_doubt::{self, take_out, take_out_parts};
+use crate::learning::learned_versions;
+use crate::rules::{Home, may_collect, may_drop, may_learn, may_open, may_prepare};
+use records::{Part, Record};
+use std::alloc::{AllocError, Global};
+use std::marker::Model;
+use tuples::{Condition, Entry, Refusal, Tuple, Tupleset, Want, WriteId};
+use versions::Versions;
+
+/// What a shard knows, which contracts see as the state that its records stand for.
+#[derive(Drop)]
+pub struct Memory {
+    in_doubt: Vec<Entry>,
+    learned: u64,
+    horizon: u64,
+    versions: Versions,
+    epoch: u64,
+}
+
+impl Model for Memory {
+    ghost use Rattle.records.specs.Replays.{ShardState};
+
+    ghost Value = { ShardState };
+
+    ghost view = { λ m. record { in_doubt = m.in_doubt.items; learned = m.learned; horizon = m.horizon; rows = m.versions; epoch = m.epoch } };
+}
+
+impl Memory {
+    /// That of a shard that was never opened, which takes no memory.
+    pub fn new(alloc: Global) -> Memory
+        ensures { result ≡ empty_shard }
+    {
+        Memory {
+            in_doubt: Vec::new(alloc),
+            learned: 0,
+            horizon: 0,
+            versions: Versions::new(alloc),
+            epoch: 0,
+        }
+    }
+
+    /// Applies a record that was found, of the shard `node` of a store with so many shards. `Damaged` where it may not come next, `NoMemory`;
+    /// after a refusal the memory is of no use.
+    pub fn replay(
+        &mut self,
+        alloc: Global,
+        store: u64,
+        shards: u8,
+        node: u8,
+        found: Record,
+    ) -> Result<(), Refusal>
+        requires some { 1 ≤ shards }
+        requires few { shards ≤ 64 }
+        ensures ok { OnOk result (MayCome (record { store = store; shards = shards; node = node }) self.old found × (self.new ≡ shard_step self.old found)) }
+        ensures damaged { IsErrOf result Refusal.Damaged → MayCome (record { store = store; shards = shards; node = node }) self.old found → ⊥ }
+        ensures err { IfErr result (λ e. (e ≡ Refusal.Damaged) ⊎ (e ≡ Refusal.NoMemory)) }
+    {
+        let home = Home {
+            store,
+            shards,
+            node,
+        };
+        match found {
+            Record::Prepare(entry) => self.replay_prepare(&home, entry),
+            Record::Learned { to, parts } => self.replay_learned(alloc, to, parts.as_slice()),
+            Record::Dropped(id) => self.replay_dropped(id),
+            Record::Epoch {
+                epoch,
+                store,
+                shards,
+                node,
+            } => {
+                let at = Home {
+                    store,
+                    shards,
+                    node,
+                };
+                self.replay_epoch(&home, epoch, &at)
+            }
+            // A shard decides nothing.
+            Record::Decision { .. } => Err(Refusal::Damaged),
+            Record::Horizon(place) => self.replay_horizon(place),
+        }
+    }
+
+    fn replay_prepare(&mut self, home: &Home, entry: Entry) -> Result<(), Refusal>
+        requires some { 1 ≤ home.now.shards }
+        requires few { home.now.shards ≤ 64 }
+        ensures ok { OnOk result (MayPrepare home.now self.old entry × (self.new ≡ shard_step self.old (prepare_record entry))) }
+        ensures damaged { IsErrOf result Refusal.Damaged → MayPrepare home.now self.old entry → ⊥ }
+        ensures err { IfErr result (λ e. (e ≡ Refusal.Damaged) ⊎ (e ≡ Refusal.NoMemory)) }
+    {
+        if !may_prepare(home, self, &entry) {
+            return Err(Refusal::Damaged);
+        }
+        self.prepare(entry)?;
+        Ok(())
+    }
+
+    fn replay_learned(&mut self, alloc: Global, to: u64, parts: &[Part]) -> Result<(), Refusal>
+        ensures ok { OnOk result (MayLearn self.old to parts.now × (self.new ≡ shard_step self.old (learned_record to parts.now))) }
+        ensures damaged { IsErrOf result Refusal.Damaged → MayLearn self.old to parts.now → ⊥ }
+        ensures err { IfErr result (λ e. (e ≡ Refusal.Damaged) ⊎ (e ≡ Refusal.NoMemory)) }
+    {
+        if !may_learn(self, to, parts) {
+            return Err(Refusal::Damaged);
+        }
+        self.learn(alloc, to, parts)?;
+        Ok(())
+    }
+
+    #[tactic(auto, unfolding(records::specs::Replays::shard_step))]
+    fn replay_dropped(&mut self, id: WriteId) -> Result<(), Refusal>
+        ensures ok { OnOk result (MayDrop self.old id × (self.new ≡ shard_step self.old (dropped_record id))) }
+        ensures damaged { IsErrOf result Refusal.Damaged → MayDrop self.old id → ⊥ }
+        ensures err { IfErr result (λ e. e ≡ Refusal.Damaged) }
+    {
+        if !may_drop(self, id) {
+            return Err(Refusal::Damaged);
+        }
+        take_out(&mut self.in_doubt, id);
+        Ok(())
+    }
+
+    #[tactic(auto, unfolding(records::specs::Replays::shard_step))]
+    fn replay_epoch(&mut self, home: &Home, epoch: u64, at: &Home) -> Result<(), Refusal>
+        ensures ok { OnOk result (MayOpen home.now self.old epoch at.now.store at.now.shards at.now.node × (self.new ≡ shard_step self.old (epoch_record epoch at.now.store at.now.shards at.now.node))) }
+        ensures damaged { IsErrOf result Refusal.Damaged → MayOpen home.now self.old epoch at.now.store at.now.shards at.now.node → ⊥ }
+        ensures err { IfErr result (λ e. e ≡ Refusal.Damaged) }
+    {
+        if !may_open(home, self, epoch, at) {
+            return Err(Refusal::Damaged);
+        }
+        self.open_epoch(epoch);
+        Ok(())
+    }
+
+    #[tactic(auto, unfolding(records::specs::Replays::shard_step))]
+    fn replay_horizon(&mut self, place: u64) -> Result<(), Refusal>
+        ensures ok { OnOk result (MayCollect self.old place × (self.new ≡ shard_step self.old (horizon_record place))) }
+        ensures damaged { IsErrOf result Refusal.Damaged → MayCollect self.old place → ⊥ }
+        ensures err { IfErr result (λ e. e ≡ Refusal.Damaged) }
+    {
+        if !may_collect(self, place) {
+            return Err(Refusal::Damaged);
+        }
+        self.horizon = place;
+        self.versions.collect(place);
+        Ok(())
+    }
+
+    /// Counts one opening more.
+    pub fn open_epoch(&mut self, epoch: u64)
+        ensures { self.new ≡ record self.old { epoch = epoch } }
+    {
+        self.epoch = epoch;
+    }
+
+    /// Holds a write in doubt. Where memory is refused, nothing has changed.
+    #[tactic(auto, unfolding(records::specs::Replays::shard_step))]
+    pub fn prepare(&mut self, entry: Entry) -> Result<(), AllocError>
+        ensures ok { OnOk result (self.new ≡ shard_step self.old (prepare_record entry)) }
+        ensures err { OnErr result (self.new ≡ self.old) }
+    {
+        self.in_doubt.push(entry)?;
+        Ok(())
+    }
+
+    /// Applies decided writes up to a place. Where memory is refused, nothing has changed.
+    #[tactic(auto, unfolding(records::specs::Replays::shard_step))]
+    pub fn learn(&mut self, alloc: Global, to: u64, parts: &[Part]) -> Result<(), AllocError>
+        requires { MayLearn self.old to parts.now }
+        ensures ok { OnOk result (self.new ≡ shard_step self.old (learned_record to parts.now)) }
+        ensures err { OnErr result (self.new ≡ self.old) }
+    {
+        let rows = learned_versions(alloc, parts, &self.in_doubt)?;
+        self.versions.append(rows)?;
+        // Nothing is refused from here on.
+        self.learned = to;
+        take_out_parts(&mut self.in_doubt, parts);
+        Ok(())
+    }
+
+    /// The place up to which decisions are applied.
+    pub fn learned(&self) -> u64
+        ensures { result ≡ self.now.learned }
+    {
+        self.learned
+    }
+
+    /// The place below which nothing is read.
+    pub fn horizon(&self) -> u64
+        ensures { result ≡ self.now.horizon }
+    {
+        self.horizon
+    }
+
+    /// How often the shard was opened.
+    pub fn epoch(&self) -> u64
+        ensures { result ≡ self.now.epoch }
+    {
+        self.epoch
+    }
+
+    /// The write in doubt with this id.
+    pub fn find(&self, id: WriteId) -> Option<&Entry>
+        ensures { MatchOption result (find_in_doubt id self.now.in_doubt ≡ None) (λ w. find_in_doubt id self.now.in_doubt ≡ Some w.now) }
+    {
+        in_doubt::find(&self.in_doubt, id)
+    }
+
+    /// Whether a write in doubt names the tuple.
+    pub fn is_held(&self, tuple: &Tuple) -> bool
+        ensures { result ≡ is_held tuple.now self.now.in_doubt }
+    {
+        in_doubt::is_held(&self.in_doubt, tuple)
+    }
+
+    /// Whether the condition holds by the versions that the shard has learned.
+    pub fn holds(&self, condition: &Condition) -> bool
+        ensures { result ≡ meets_want condition.now.want (last_version self.now.rows condition.now.tuple) (there_at self.now.rows self.now.learned condition.now.tuple) }
+    {
+        match condition.want {
+            Want::NotAfter(place) => self.versions.last(&condition.tuple) <= place,
+            Want::Exists => self.versions.is_there(self.learned, &condition.tuple),
+            Want::Absent => !self.versions.is_there(self.learned, &condition.tuple),
+        }
+    }
+
+    /// The tuples that are there at a place and meet the tupleset, ascending.
+    pub fn at(&self, alloc: Global, place: u64, set: &Tupleset) -> Result<Vec<Tuple>, AllocError>
+        ensures { IfOk result (λ tuples. IsSelection (there_at self.now.rows place) set.now tuples.items) }
+    {
+        self.versions.at(alloc, place, set)
+    }
+
+    /// The writes in doubt, in the order of their prepares.
+    pub fn in_doubt(&self) -> &[Entry]
+        ensures { result.now ≡ self.now.in_doubt }
+    {
+        &self.in_doubt
+    }
+}
