@@ -1,0 +1,61 @@
+// Decisions on their way to a shard.
+ghost use Rattle.std.specs.Prelude.{◌≡◌, ◌≤◌, ◌+◌, length};
+ghost use Rattle.records.specs.Replays.{greatest_number};
+
+use std::marker::Model;
+use tuples::Entry;
+
+/// The most decisions of one batch.
+pub const MAX_BATCH: usize = 256;
+
+/// The decisions behind a place, in the order of their places.
+#[derive(Drop)]
+pub struct Batch {
+    from: u64,
+    writes: Vec<Entry>,
+}
+
+impl Model for Batch {
+    ghost use Rattle.std.specs.Prelude.{◌≤◌, ◌+◌, length};
+    ghost use Rattle.records.specs.Replays.{greatest_number};
+    ghost use Rattle.decisions.specs.Values.{BatchValue};
+
+    ghost Value = { BatchValue };
+
+    ghost view = { λ b. record { from = b.from; writes = b.writes.items } };
+
+    ghost invariant = { λ b. (length b.writes.items ≤ 256) × (b.from + length b.writes.items ≤ greatest_number) };
+}
+
+impl Batch {
+    /// The decisions at the places from `from` + 1 on.
+    pub fn new(from: u64, writes: Vec<Entry>) -> Batch
+        requires few { length writes.items ≤ 256 }
+        requires places { from + length writes.items ≤ greatest_number }
+        ensures { result ≡ record { from = from; writes = writes.items } }
+    {
+        Batch { from, writes }
+    }
+
+    /// The place before its first decision.
+    pub fn from(&self) -> u64
+        ensures { result ≡ self.now.from }
+    {
+        self.from
+    }
+
+    /// The place of its last decision.
+    pub fn to(&self) -> u64
+        ensures value { result ≡ self.now.from + length self.now.writes }
+        ensures greatest { result ≤ greatest_number }
+    {
+        self.from + self.writes.len() as u64
+    }
+
+    pub fn writes(&self) -> &[Entry]
+        ensures value { result.now ≡ self.now.writes }
+        ensures few { length self.now.writes ≤ 256 }
+    {
+        &self.writes
+    }
+}
