@@ -1,0 +1,76 @@
+-- What a shard keeps in memory is what its records stand for.
+use Rattle.std.proofs.Common.{◌≡◌, ◌≤◌, ◌++◌, ℕ, List, [], ◌∷◌, false, refl, sym, ap, ◌∙◌, subst, append_assoc}
+use Rattle.tuples.specs.declared.entry.Entry.{Entry}
+use Rattle.tuples.specs.declared.entry.WriteId.{WriteId}
+use Rattle.records.specs.declared.record.Part.{Part}
+use Rattle.records.specs.declared.record.Record.{Record}
+use Rattle.records.specs.declared.record.Record.TheVariants.{Prepare, Learned, Dropped, Epoch, Decision, Horizon}
+use Rattle.records.specs.Replays.{Identity, IsShardImage, MayCome, ShardState, shard_state, shard_step}
+use Rattle.replay.proofs.States.{image_push, shard_push}
+use Rattle.device.specs.Device.{State}
+use Rattle.journal.specs.Records.{View}
+use Rattle.shard.specs.Keeping.{IsBacked, IsKept, prepared_ids}
+use Rattle.shard.specs.Shards.{IsUp, ShardView, Stages, memory}
+
+prepared_append : (rs more : List Record) → prepared_ids (rs ++ more) ≡ prepared_ids rs ++ prepared_ids more
+prepared_append [] more = refl
+prepared_append (Prepare w ∷ rs) more = ap (λ (l : List WriteId). w.id ∷ l) (prepared_append rs more)
+prepared_append (Learned to parts ∷ rs) more = prepared_append rs more
+prepared_append (Dropped id ∷ rs) more = prepared_append rs more
+prepared_append (Epoch epoch store shards node ∷ rs) more = prepared_append rs more
+prepared_append (Decision place w ∷ rs) more = prepared_append rs more
+prepared_append (Horizon place ∷ rs) more = prepared_append rs more
+
+abbrev pub view_of : {D : Type 0} → View D → Identity → ShardView D
+view_of j me = record { a = j.a; b = j.b; durable = j.durable; staged = j.staged; is_down = j.is_down; me = me }
+
+pub memory_is : {D : Type 0} (state : D → State) (honest : D → Type 0) (j : View D) (me : Identity) (m : ShardState) (ids : List WriteId) → IsKept state honest j me m ids
+    → (v : ShardView D) → view_of j me ≡ v → IsUp state honest v → m ≡ memory v
+memory_is {D} state honest j me m ids kept v is up =
+    subst (λ (w : ShardView D). IsUp state honest w → m ≡ memory w) is (λ here. kept.replayed ∙ ap shard_state (kept.backed here.up here.honest_a here.honest_b).whole) up
+
+-- one record more is staged, and applied in memory
+pub kept_push : {D : Type 0} (state : D → State) (honest : D → Type 0) (j k : View D) (me : Identity) (m n : ShardState) (ids more : List WriteId) (r : Record) → IsKept state honest j me m ids
+    → MayCome me m r → k ≡ record j { staged = j.staged ++ r ∷ [] } → n ≡ shard_step m r → 1 ≤ n.epoch → more ≡ ids ++ prepared_ids (r ∷ []) → IsKept state honest k me n more
+kept_push {D} state honest j k me m n ids more r kept may staged stepped opened pushed = record {
+  rs = kept.rs ++ r ∷ [];
+  replayed = stepped ∙ ap (λ (s : ShardState). shard_step s r) kept.replayed ∙ sym (shard_push kept.rs r);
+  image = image_push me kept.rs r kept.image (subst (λ (s : ShardState). MayCome me s r) kept.replayed may);
+  opened = opened;
+  some = kept.some;
+  few = kept.few;
+  node = kept.node;
+  backed = subst (λ (i : View D). i.is_down ≡ false → honest i.a → honest i.b → IsBacked state i (kept.rs ++ r ∷ [])) (sym staged)
+      (λ up ha hb. let b = kept.backed up ha hb in record {
+        rest = b.rest;
+        whole = ap (λ (l : List Record). l ++ r ∷ []) b.whole ∙ append_assoc j.durable j.staged (r ∷ []);
+      });
+  unflushed_are = subst (λ (i : View D). i.is_down ≡ false → more ≡ prepared_ids i.staged) (sym staged)
+      (λ up. pushed ∙ ap (λ (l : List WriteId). l ++ prepared_ids (r ∷ [])) (kept.unflushed_are up) ∙ sym (prepared_append j.staged (r ∷ [])));
+}
+
+-- what is seen of the shard then
+pub stages : {D : Type 0} (j k : View D) (me : Identity) (r : Record) → k ≡ record j { staged = j.staged ++ r ∷ [] } → (v : ShardView D) → view_of j me ≡ v → Stages v r (view_of k me)
+stages {D} j k me r staged v is =
+    subst (λ (w : ShardView D). Stages w r (view_of k me)) is (ap (λ (i : View D). view_of i me) staged)
+
+pub still_up : {D : Type 0} (state : D → State) (honest : D → Type 0) (v w : ShardView D) (r : Record) → IsUp state honest v → MayCome v.me (memory v) r → Stages v r w → IsUp state honest w
+still_up {D} state honest v w r up may staged = subst (IsUp state honest) (sym staged) (record {
+  honest_a = up.honest_a;
+  honest_b = up.honest_b;
+  up = up.up;
+  rest = up.rest;
+  image = subst (IsShardImage v.me) (append_assoc v.durable v.staged (r ∷ [])) (image_push v.me (v.durable ++ v.staged) r up.image may);
+})
+
+pub prepare_same_epoch : (m : ShardState) (w : Entry) → (shard_step m (Prepare w)).epoch ≡ m.epoch
+unfolding shard_step
+prepare_same_epoch m w = refl
+
+pub prepare_epoch : (m : ShardState) (w : Entry) → 1 ≤ m.epoch → 1 ≤ (shard_step m (Prepare w)).epoch
+unfolding shard_step
+prepare_epoch m w opened = opened
+
+pub learned_epoch : (m : ShardState) (to : ℕ) (parts : List Part) → 1 ≤ m.epoch → 1 ≤ (shard_step m (Learned to parts)).epoch
+unfolding shard_step
+learned_epoch m to parts opened = opened

@@ -1,0 +1,40 @@
+-- What a shard keeps beside its journal: in memory the replay of its records, and the ids whose prepares are not flushed.
+use Rattle.std.specs.Prelude.{◌≡◌, ◌⊎◌, ◌≤◌, ◌<◌, ℕ, Bool, false, Some, List, [], ◌∷◌, ◌++◌}
+use Rattle.tuples.specs.declared.entry.WriteId.{WriteId}
+use Rattle.records.specs.declared.record.Record.{Record}
+use Rattle.records.specs.declared.record.Record.TheVariants.{Prepare, Learned, Dropped, Epoch, Decision, Horizon}
+use Rattle.records.specs.Replays.{Identity, IsShardImage, ShardState, shard_state}
+use Rattle.device.specs.Device.{State}
+use Rattle.journal.specs.Records.{HasRecords, View, found}
+use Rattle.shard.specs.Shards.{opening}
+
+-- the ids of the prepares among these records
+abbrev pub prepared_ids : List Record → List WriteId
+prepared_ids [] = []
+prepared_ids (Prepare w ∷ rs) = w.id ∷ prepared_ids rs
+prepared_ids (Learned to parts ∷ rs) = prepared_ids rs
+prepared_ids (Dropped id ∷ rs) = prepared_ids rs
+prepared_ids (Epoch epoch store shards node ∷ rs) = prepared_ids rs
+prepared_ids (Decision place w ∷ rs) = prepared_ids rs
+prepared_ids (Horizon place ∷ rs) = prepared_ids rs
+
+-- over honest devices the records are the durable and the staged ones, and every stop leaves the durable ones
+pub record IsBacked {D : Type 0} (state : D → State) (journal : View D) (rs : List Record) : Type 0 where
+  pub rest : HasRecords (state journal.a) (state journal.b) journal.durable
+  pub whole : rs ≡ journal.durable ++ journal.staged
+
+-- the memory is the replay of records of this shard, those of the journal where that is up
+pub record IsKept {D : Type 0} (state : D → State) (honest : D → Type 0) (journal : View D) (me : Identity) (memory : ShardState) (unflushed : List WriteId) : Type 0 where
+  pub rs : List Record
+  pub replayed : memory ≡ shard_state rs
+  pub image : IsShardImage me rs
+  pub opened : 1 ≤ memory.epoch
+  pub some : 1 ≤ me.shards
+  pub few : me.shards ≤ 64
+  pub node : me.node < me.shards
+  pub backed : journal.is_down ≡ false → honest journal.a → honest journal.b → IsBacked state journal rs
+  pub unflushed_are : journal.is_down ≡ false → unflushed ≡ prepared_ids journal.staged
+
+-- the contents hold the records that were found, or those of a shard with one opening more
+abbrev pub HeldOrOpened : Identity → List Record → List ℕ → List ℕ → Type 0
+HeldOrOpened me rs x y = (found x y ≡ Some rs) ⊎ (IsShardImage me (rs ++ opening me rs ∷ []) × (found x y ≡ Some (rs ++ opening me rs ∷ [])))

@@ -1,0 +1,105 @@
+-- What a shard is, as its callers see it.
+use Rattle.std.specs.Prelude.{◌≡◌, ◌⊎◌, ◌≤◌, ◌<◌, ◌+◌, ◌-◌, ℕ, Bool, true, false, List, [], ◌∷◌, ◌++◌, length, drop, map, Option, Some, None, if◌then◌else◌, All, Contains, slice_get}
+use Rattle.tuples.specs.declared.tuple.Tuple.{Tuple}
+use Rattle.tuples.specs.declared.change.Condition.{Condition}
+use Rattle.tuples.specs.declared.entry.Entry.{Entry}
+use Rattle.tuples.specs.declared.entry.WriteId.{WriteId}
+use Rattle.tuples.specs.Log.{meets_want}
+use Rattle.tuples.specs.Parts.{part, takes_part, expected}
+use Rattle.tuples.specs.Versions.{there_at, last_version}
+use Rattle.records.specs.declared.record.Part.{Part}
+use Rattle.records.specs.declared.record.Record.{Record}
+use Rattle.records.specs.declared.record.Record.TheVariants.{Prepare, Learned, Epoch}
+use Rattle.records.specs.Replays.{Identity, ShardState, IsShardImage, shard_state, find_in_doubt, is_held, named}
+use Rattle.device.specs.Device.{State, left}
+use Rattle.journal.specs.Records.{Finds, HasRecords, WasLeftOrFound, found}
+
+-- a shard over two devices: what is durable, what is staged, whether a device failed since the opening, and which shard it is
+pub record ShardView (D : Type 0) : Type 0 where
+  pub a : D
+  pub b : D
+  pub durable : List Record
+  pub staged : List Record
+  pub is_down : Bool
+  pub me : Identity
+
+-- what the shard knows: the replay of its durable and staged records
+abbrev pub memory : {D : Type 0} → ShardView D → ShardState
+memory v = shard_state (v.durable ++ v.staged)
+
+-- up, over honest devices, each stop leaving the durable records, which with the staged ones are those of this shard
+pub record IsUp {D : Type 0} (state : D → State) (honest : D → Type 0) (v : ShardView D) : Type 0 where
+  pub honest_a : honest v.a
+  pub honest_b : honest v.b
+  pub up : v.is_down ≡ false
+  pub rest : HasRecords (state v.a) (state v.b) v.durable
+  pub image : IsShardImage v.me (v.durable ++ v.staged)
+
+-- one record more is staged, and nothing else is changed
+abbrev pub Stages : {D : Type 0} → ShardView D → Record → ShardView D → Type 0
+Stages old r new = new ≡ record old { staged = old.staged ++ r ∷ [] }
+
+-- this shard's part of a write
+abbrev pub own_part : {D : Type 0} → ShardView D → Entry → Entry
+own_part v w = part v.me.shards v.me.node w
+
+-- no write in doubt has the id of this one, or holds a tuple that it names
+pub record AreFree (s : ShardState) (w : Entry) : Type 0 where
+  pub new : find_in_doubt w.id s.in_doubt ≡ None
+  pub tuples : All (λ (t : Tuple). is_held t s.in_doubt ≡ false) (named w)
+
+-- the conditions hold by the versions that the shard has learned
+abbrev pub HoldHere : ShardState → List Condition → Type 0
+HoldHere s = All (λ (c : Condition). meets_want c.want (last_version s.rows c.tuple) (there_at s.rows s.learned c.tuple) ≡ true)
+
+-- the record of an opening
+abbrev pub opening : Identity → List Record → Record
+opening me rs = Epoch ((shard_state rs).epoch + 1) me.store me.shards me.node
+
+-- a shard was opened over devices that held these records: they are a shard's, and one opening more is durable
+pub record IsOpenedShard {D : Type 0} (state : D → State) (honest : D → Type 0) (a b : D) (me : Identity) (new : ShardView D) : Type 0 where
+  pub rs : List Record
+  pub was : found (state a).seen (state b).seen ≡ Some rs
+  pub image : IsShardImage me rs
+  pub durable : new.durable ≡ rs ++ opening me rs ∷ []
+  pub up : IsUp state honest new
+
+-- at a moment of an opening the contents could be left before it, or hold what was found, or the records found with the opening's
+abbrev pub WasLeftOrOpened : Identity → State → State → List ℕ → List ℕ → Type 0
+WasLeftOrOpened me sa sb x y = WasLeftOrFound sa sb x y
+    ⊎ ((rs : List Record) × (found sa.seen sb.seen ≡ Some rs) × IsShardImage me (rs ++ opening me rs ∷ []) × (found x y ≡ Some (rs ++ opening me rs ∷ [])))
+
+-- the prepare lies in whatever a stop leaves, with exactly this part
+abbrev pub IsDurable : {D : Type 0} → (D → State) → ShardView D → WriteId → Entry → Type 0
+IsDurable state v id p = (rs : List Record) → Finds (left (state v.a)) (left (state v.b)) rs → find_in_doubt id (shard_state rs).in_doubt ≡ Some p
+
+-- the writes of a batch that the shard has not learned yet: from is the place before the first of them
+abbrev pub unlearned : ShardState → ℕ → List Entry → List Entry
+unlearned s from writes = drop (s.learned - from) writes
+
+-- the parts of these writes, the first of them at this place
+abbrev pub parts_from : ℕ → ℕ → ℕ → List Entry → List Part
+parts_from shards s place [] = []
+parts_from shards s place (w ∷ log) = if takes_part shards s w then record { id = w.id; place = place } ∷ parts_from shards s (place + 1) log else parts_from shards s (place + 1) log
+
+-- the record of learning them
+abbrev pub learning : Identity → ShardState → ℕ → List Entry → Record
+learning me s from writes = Learned (from + length writes) (parts_from me.shards me.node (s.learned + 1) (unlearned s from writes))
+
+-- each of these writes is in doubt at the shard with exactly its part, where it has one
+abbrev pub ArePreparedHere : Identity → ShardState → List Entry → Type 0
+ArePreparedHere me s writes = (j : ℕ) (w : Entry) → slice_get writes j ≡ Some w → takes_part me.shards me.node w ≡ true
+    → find_in_doubt w.id s.in_doubt ≡ Some (part me.shards me.node w)
+
+abbrev pub ids : List Entry → List WriteId
+ids = map (λ (w : Entry). w.id)
+
+-- no two of these writes have one id
+abbrev pub AreNewIds : List Entry → Type 0
+AreNewIds writes = (i j : ℕ) (v w : Entry) → slice_get writes i ≡ Some v → slice_get writes j ≡ Some w → v.id ≡ w.id → i ≡ j
+
+-- ids, each before the next
+abbrev pub AreAscendingIds : List WriteId → Type 0
+AreAscendingIds [] = Unit {0}
+AreAscendingIds (i ∷ []) = Unit {0}
+AreAscendingIds (i ∷ j ∷ more) = ((i.epoch < j.epoch) ⊎ ((i.epoch ≡ j.epoch) × (i.number < j.number))) × AreAscendingIds (j ∷ more)

@@ -1,0 +1,145 @@
+// A shard over two devices.
+ghost use Rattle.std.specs.Prelude.{◌≡◌, ◌≢◌, ◌⊎◌, ◌≤◌, ◌<◌, ◌+◌, ◌-◌, ◌^◌, ◌++◌, ◌∷◌, [], ℕ, List, Some, None, true, false, length, min, OnOk, OnErr, IfOk, IfErr, IsErr, IsErrOf, ◌↔◌, Contains, is_some};
+ghost use Rattle.records.specs.declared.record.Record.TheVariants.{Prepare as prepare_record};
+ghost use Rattle.records.specs.Replays.{find_in_doubt};
+ghost use Rattle.device.specs.Device.{Keeps};
+ghost use Rattle.journal.specs.Records.{HoldsOldOrNew, LeavesBoth};
+ghost use Rattle.tuples.specs.declared.entry.Entry.{Entry as AnyEntry};
+ghost use Rattle.shard.specs.declared.replies.VoteReply.TheVariants.{Yes, Later, No};
+ghost use Rattle.shard.specs.Shards.{IsDurable, IsUp, ShardView, memory};
+
+use crate::VoteReply;
+use decisions::{Ticket, Vote};
+use device::{Device, Tear};
+use journal::{Bank, Journal};
+use replay::Memory;
+use std::marker::Model;
+use tuples::{Refusal, WriteId};
+
+/// A shard over two devices.
+#[derive(Drop)]
+pub struct Shard<D: Device> {
+    pub(crate) journal: Journal<D>,
+    pub(crate) store: u64,
+    pub(crate) shards: u8,
+    pub(crate) node: u8,
+    pub(crate) memory: Memory,
+    // the ids whose prepares are staged
+    pub(crate) unflushed: Vec<WriteId>,
+}
+
+impl<D: Device> Model for Shard<D> {
+    ghost use Rattle.std.specs.Prelude.{◌≡◌, ◌≤◌, ◌<◌, false, ◌++◌};
+    ghost use Rattle.shard.specs.Shards.{ShardView};
+    ghost use Rattle.shard.specs.Keeping.{IsKept};
+
+    ghost Value = { ShardView D };
+
+    ghost view = { λ s. record { a = s.journal.a; b = s.journal.b; durable = s.journal.durable; staged = s.journal.staged; is_down = s.journal.is_down; me = record { store = s.store; shards = s.shards; node = s.node } } };
+
+    ghost invariant = { λ s. IsKept D.state D.honest s.journal (record { store = s.store; shards = s.shards; node = s.node }) s.memory s.unflushed.items };
+}
+
+impl<D: Device> Shard<D> {
+    /// The place up to which decisions are applied.
+    pub fn learned(&self) -> Result<u64, Refusal>
+        ensures ok { IsUp D.state D.honest self.now → IfOk result (λ n. n ≡ (memory self.now).learned) }
+        ensures down { IsErr result ↔ (self.now.is_down ≡ true) }
+        ensures err { IfErr result (λ e. e ≡ Refusal.Down) }
+    {
+        if self.journal.is_down() {
+            return Err(Refusal::Down);
+        }
+        Ok(self.memory.learned())
+    }
+
+    /// Makes durable what is staged. After `Down` it may be durable or not, and the shard has to be opened again.
+    pub fn flush(&mut self) -> Result<(), Refusal>
+        ensures honest { (D.honest self.old.a ↔ D.honest self.new.a) × (D.honest self.old.b ↔ D.honest self.new.b) }
+        ensures any_moment { IsUp D.state D.honest self.old → LeavesBoth D.moment D.left_since self.old.a self.old.b self.new.a self.new.b (HoldsOldOrNew self.old.durable self.old.staged) }
+        ensures ok { IsUp D.state D.honest self.old → OnOk result (IsUp D.state D.honest self.new × (self.new.durable ≡ self.old.durable ++ self.old.staged) × (self.new.staged ≡ [])) }
+        ensures me { self.new.me ≡ self.old.me }
+        ensures down { self.old.is_down ≡ true → IsErr result × (self.new ≡ self.old) }
+        ensures err { IfErr result (λ e. (e ≡ Refusal.Down) × (self.new.is_down ≡ true)) }
+    {
+        match self.journal.flush() {
+            Ok(()) => {
+                self.unflushed.clear();
+                Ok(())
+            }
+            Err(_) => Err(Refusal::Down),
+        }
+    }
+
+    /// What became of a prepare: `Yes` only where it lies in whatever a stop leaves.
+    pub fn vote(&self, ticket: Ticket) -> VoteReply
+        ensures yes { (v : _) → IsUp D.state D.honest self.now → result ≡ Yes v → (v.id ≡ ticket.id) × (v.shard ≡ self.now.me.node)
+            × ((p : AnyEntry) → find_in_doubt ticket.id (memory self.now).in_doubt ≡ Some p → IsDurable D.state self.now ticket.id p)
+            × (is_some (find_in_doubt ticket.id (memory self.now).in_doubt) ≡ true) }
+        ensures later { (t : _) → IsUp D.state D.honest self.now → result ≡ Later t → (t ≡ ticket)
+            × (is_some (find_in_doubt ticket.id (memory self.now).in_doubt) ≡ true) × ((w : AnyEntry) × (w.id ≡ ticket.id) × Contains self.now.staged (prepare_record w)) }
+        ensures no { (e : _) → result ≡ No e → ((e ≡ Refusal.Down) × (self.now.is_down ≡ true))
+            ⊎ ((e ≡ Refusal.Aborted) × (IsUp D.state D.honest self.now → find_in_doubt ticket.id (memory self.now).in_doubt ≡ None)) }
+        ensures down { self.now.is_down ≡ true → result ≡ No Refusal.Down }
+    {
+        let Ticket { id, epoch } = ticket;
+        if self.journal.is_down() {
+            return VoteReply::No(Refusal::Down);
+        }
+        if self.memory.find(id).is_none() {
+            return VoteReply::No(Refusal::Aborted);
+        }
+        if self.unflushed.contains(&id) {
+            return VoteReply::Later(Ticket { id, epoch });
+        }
+        VoteReply::Yes(Vote::new(&self.journal, id, self.node))
+    }
+
+    /// Whether a device failed since the opening.
+    pub fn is_down(&self) -> bool
+        ensures { result ≡ self.now.is_down }
+    {
+        self.journal.is_down()
+    }
+
+    /// Sets the script of one device, and changes nothing else.
+    pub fn fail(&mut self, bank: Bank, n: u64, tear: Tear)
+        ensures honest { (D.honest self.old.a ↔ D.honest self.new.a) × (D.honest self.old.b ↔ D.honest self.new.b) }
+        ensures keeps_a { D.honest self.old.a → Keeps (D.state self.old.a) (D.state self.new.a) }
+        ensures keeps_b { D.honest self.old.b → Keeps (D.state self.old.b) (D.state self.new.b) }
+        ensures failures { ((D.state self.new.a).failures ≡ (D.state self.old.a).failures) × ((D.state self.new.b).failures ≡ (D.state self.old.b).failures) }
+        ensures staged { (self.new.staged ≡ self.old.staged) × (self.new.is_down ≡ self.old.is_down) × (self.new.me ≡ self.old.me) }
+        ensures durable { D.honest self.old.a → D.honest self.old.b → self.new.durable ≡ self.old.durable }
+    {
+        self.journal.fail(bank, n, tear);
+    }
+
+    /// How many calls of both devices have failed so far; it stays at its greatest value.
+    pub fn failures(&self) -> u64
+        ensures { result ≡ min (2 ^ 64 - 1) ((D.state self.now.a).failures + (D.state self.now.b).failures) }
+    {
+        self.journal.failures()
+    }
+
+    /// Its devices.
+    pub fn devices(&self) -> (&D, &D)
+        ensures { (result.0.now ≡ self.now.a) × (result.1.now ≡ self.now.b) }
+    {
+        self.journal.devices()
+    }
+
+    /// Gives the devices back.
+    pub fn into_devices(self) -> (D, D)
+        ensures { (result.0 ≡ self.a) × (result.1 ≡ self.b) }
+    {
+        let Shard {
+            journal,
+            store: _,
+            shards: _,
+            node: _,
+            memory: _,
+            unflushed: _,
+        } = self;
+        journal.into_devices()
+    }
+}
