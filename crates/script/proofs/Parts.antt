@@ -1,0 +1,41 @@
+-- What the words of a list say of the values that they spell.
+use Rattle.std.proofs.Common.{◌≡◌, ℕ, suc, zero, ◌+◌, ◌<◌, List, [], ◌∷◌, ◌++◌, map, take, length, get_or, sym, ap, ◌∙◌, ◌⊎◌, inl, inr, Bor, arith}
+use Rattle.std.specs.List.{All}
+use Rattle.std.proofs.lemmas.List.{take_more, map-append}
+use Rattle.std.proofs.lemmas.List.Elements.{All-head, All-tail}
+use Rattle.tuples.specs.declared.tupleset.Tupleset.{Tupleset}
+use Rattle.tuples.specs.declared.refusal.Refusal.{Refusal}
+use Rattle.tuples.specs.declared.refusal.Refusal.TheVariants.{BadTuple, NoMemory}
+use Rattle.tuples.specs.Changes.{tuple_of}
+use Rattle.tuples.specs.Texts.{IsTuple, IsTupleset, tupleset_text}
+use Rattle.script.specs.Lines.{change_text}
+use Rattle.script.specs.Words.{IsRefused, AreChanges, AreSets}
+use Rattle.script.proofs.Texts.{each_change}
+
+-- the value that a word spells
+pub value_at : {A B C : Type 0} (f : A → C) (g : B → C) (P : B → Type 0) (xs : List A) (ys : List B) (i : ℕ) (d : A) → i < length xs → map f xs ≡ map g ys → All P ys → (y : B) × P y × (f (get_or xs i d) ≡ g y)
+value_at f g P [] ys i d h e each = absurd (omega arith)
+value_at f g P (x ∷ xs) [] i d h e each = absurd cc
+value_at f g P (x ∷ xs) (y ∷ ys) zero d h e each = (y, All-head P y ys each, cc)
+value_at f g P (x ∷ xs) (y ∷ ys) (suc i) d h e each =
+    let more : map f xs ≡ map g ys = cc in
+    value_at f g P xs ys i d (omega arith) more (All-tail P y ys each)
+
+-- one more word, and its value
+pub map_more : {A B C : Type 0} (f : A → C) (g : B → C) (xs : List A) (ys : List B) (i : ℕ) (d : A) (y : B) → i < length xs → map f (take i xs) ≡ map g ys → f (get_or xs i d) ≡ g y → map f (take (i + 1) xs) ≡ map g (ys ++ y ∷ [])
+map_more {A} {B} {C} f g xs ys i d y h e here =
+    ap (map f) (take_more xs i d h)
+    ∙ map-append f (take i xs) (get_or xs i d ∷ [])
+    ∙ ap (λ (t : List C). t ++ f (get_or xs i d) ∷ []) e
+    ∙ ap (λ (c : C). map g ys ++ c ∷ []) here
+    ∙ sym (map-append g ys (y ∷ []))
+
+-- a word that is no change
+pub changes_refused : (words : List (Bor (List ℕ))) (i : ℕ) (d : Bor (List ℕ)) (e : Refusal) → i < length words → IsRefused (λ c. IsTuple (tuple_of c) × ((get_or words i d).now ≡ change_text c)) e → IsRefused (AreChanges (map (λ w. w.now) words)) e
+changes_refused words i d e h (inl r) = inl (r.0, λ changes a. let v = value_at (λ w. w.now) change_text (λ c. IsTuple (tuple_of c)) words changes i d h a.0 (each_change IsTuple changes a.1) in r.1 v.0 (v.1, v.2))
+changes_refused words i d e h (inr r) = inr r
+
+-- a word that is no tupleset
+pub sets_refused : (words : List (Bor (List ℕ))) (i : ℕ) (d : Bor (List ℕ)) (e : Refusal) → i < length words → (e ≡ BadTuple) ⊎ (e ≡ NoMemory) → (e ≡ BadTuple → (q : Tupleset) → IsTupleset q → (get_or words i d).now ≡ tupleset_text q → ⊥) → IsRefused (AreSets (map (λ w. w.now) words)) e
+sets_refused words i d e h (inl was) bad = inl (inr (inl was), λ sets a. let v = value_at (λ w. w.now) tupleset_text IsTupleset words sets i d h a.0 a.1 in bad was v.0 v.1 v.2)
+sets_refused words i d e h (inr was) bad = inr was
