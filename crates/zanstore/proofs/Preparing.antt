@@ -1,0 +1,63 @@
+-- A running shard prepares a write, makes the prepare durable, and the write is listed.
+use Rattle.std.proofs.Common.{◌≡◌, ◌⊎◌, ℕ, Bool, true, false, Result, Ok, Err, OnOk, IfOk, IfErr, List, [], ◌∷◌, ◌++◌, Some, None, refl, sym, ◌∙◌, ap, subst}
+use Rattle.tuples.specs.declared.entry.Entry.{Entry}
+use Rattle.tuples.specs.declared.entry.WriteId.{WriteId}
+use Rattle.tuples.specs.declared.refusal.Refusal.{Refusal}
+use Rattle.tuples.specs.declared.refusal.Refusal.TheVariants.{Busy, Down, Full, NoMemory, Precondition}
+use Rattle.decisions.specs.declared.vote.Ticket.{Ticket}
+use Rattle.records.specs.declared.record.Record.TheVariants.{Prepare}
+use Rattle.records.specs.Replays.{ShardState, find_in_doubt}
+use Rattle.decisions.specs.Values.{IsIntent}
+use Rattle.device.specs.Device.{State}
+use Rattle.shard.specs.Shards.{ShardView, AreFree, IsDurable, IsUp, Stages, memory, own_part}
+use Rattle.cluster.proofs.Prepares.{prepared_means}
+use Rattle.zanstore.specs.Lines.{IsNew}
+use Rattle.zanstore.specs.Stores.{IsRunning}
+use Rattle.zanstore.proofs.Running.{memory_staged, staged_is_running, listed_is_running}
+use Rattle.zanstore.proofs.Writes.{own_is_whole, prepare_found, whole_expected}
+
+abbrev pub IsStageRefusal : Refusal → Type 0
+IsStageRefusal e = (e ≡ Down) ⊎ ((e ≡ Busy) ⊎ ((e ≡ Precondition) ⊎ ((e ≡ Full) ⊎ (e ≡ NoMemory))))
+
+module _ {D : Type 0} (state : D → State) (honest : D → Type 0) (store : ℕ) (log : List Entry) where
+  pub prepared : (old new : ShardView D) (w : Entry) → IsRunning state honest store log old → old.is_down ≡ false → IsNew w.id log
+      → Stages old (Prepare (own_part old w)) new → IsUp state honest new → AreFree (memory old) (own_part old w)
+      → IsRunning state honest store log new × (new.is_down ≡ false) × (find_in_doubt w.id (memory new).in_doubt ≡ Some w)
+  prepared old new w running up unlisted is up_new free =
+      let own : own_part old w ≡ w = own_is_whole store old.me w running.me in
+      let staged : Stages old (Prepare w) new = subst (λ (v : Entry). Stages old (Prepare v) new) own is in
+      let none : find_in_doubt w.id (memory old).in_doubt ≡ None = subst (λ (v : Entry). find_in_doubt v.id (memory old).in_doubt ≡ None) own free.new in
+      let means = prepared_means 1 0 log 0 0 (memory old) w.id unlisted (running.memory_means up) w refl in (
+        staged_is_running state honest store log old new (Prepare w) running up staged up_new means,
+        up_new.up,
+        ap (λ (s : ShardState). find_in_doubt w.id s.in_doubt) (memory_staged old new (Prepare w) staged) ∙ prepare_found (memory old) w none,
+      )
+
+  -- what the staging of a prepare leaves
+  pub stage_is_running : (r : Result Ticket Refusal) (old new : ShardView D) (w : Entry) (epoch : ℕ) → IsRunning state honest store log old → old.is_down ≡ false → IsNew w.id log
+      → IfOk r (λ t. Stages old (Prepare (own_part old w)) new × IsUp state honest new × (t.id ≡ w.id) × (t.epoch ≡ epoch))
+      → OnOk r (AreFree (memory old) (own_part old w)) → IfErr r (λ e. (new ≡ old) × IsStageRefusal e) → IsRunning state honest store log new
+  stage_is_running (Ok t) old new w epoch running up unlisted ok free err = let all = prepared old new w running up unlisted ok.0 ok.1 free in all.0
+  stage_is_running (Err e) old new w epoch running up unlisted ok free err =
+      let P : ShardView D → Type 0 = λ v. IsRunning state honest store log v in
+      subst P (sym err.0) running
+
+  pub stage_is_found : (r : Result Ticket Refusal) (old new : ShardView D) (w : Entry) (epoch : ℕ) → IsRunning state honest store log old → old.is_down ≡ false → IsNew w.id log
+      → IfOk r (λ t. Stages old (Prepare (own_part old w)) new × IsUp state honest new × (t.id ≡ w.id) × (t.epoch ≡ epoch))
+      → OnOk r (AreFree (memory old) (own_part old w))
+      → IfOk r (λ t. (new.is_down ≡ false) × (t.id ≡ w.id) × (find_in_doubt w.id (memory new).in_doubt ≡ Some w))
+  stage_is_found (Ok t) old new w epoch running up unlisted ok free = let all = prepared old new w running up unlisted ok.0 ok.1 free in (all.1, ok.2, all.2)
+  stage_is_found (Err e) old new w epoch running up unlisted ok free = tt
+
+  -- a vote for the prepare of a ticket: the write may be listed
+  pub committed : (old new : ShardView D) (w : Entry) (id : WriteId) → IsRunning state honest store log old → old.is_down ≡ false → id ≡ w.id
+      → find_in_doubt w.id (memory old).in_doubt ≡ Some w → IsIntent w → IsRunning state honest store log new
+      → (IsUp state honest old → (p : Entry) → find_in_doubt id (memory old).in_doubt ≡ Some p
+      → (new.is_down ≡ false) × (find_in_doubt id (memory new).in_doubt ≡ Some p) × IsDurable state new id p)
+      → IsRunning state honest store (log ++ w ∷ []) new
+  committed old new w id running up is found whole running_new voted =
+      let before : find_in_doubt id (memory old).in_doubt ≡ Some w = ap (λ (i : WriteId). find_in_doubt i (memory old).in_doubt) is ∙ found in
+      let r = voted (running.up up) w before in
+      let there : find_in_doubt w.id (memory new).in_doubt ≡ Some w = ap (λ (i : WriteId). find_in_doubt i (memory new).in_doubt) (sym is) ∙ r.1 in
+      let durable : IsDurable state new w.id w = subst (λ (i : WriteId). IsDurable state new i w) is r.2 in
+      listed_is_running state honest store log w new running_new r.0 (whole_expected w whole.whole.some) there durable

@@ -1,0 +1,4 @@
+pub mod Lines
+pub mod Stores
+pub mod Nodes
+pub mod Smalls

@@ -1,0 +1,8 @@
+-- A small store as its callers see it.
+use Rattle.std.specs.Prelude.{ℕ, List}
+use Rattle.tuples.specs.declared.entry.Entry.{Entry}
+
+-- its id, and the writes so far
+pub record SmallView : Type 0 where
+  pub store : ℕ
+  pub log : List Entry
