@@ -3,3 +3,4 @@ pub mod Reading
 pub mod Giving
 pub mod Putting
 pub mod Replays
+pub mod Coordinators

@@ -1,5 +1,5 @@
 -- What the records of a shard stand for, and which lists of records a shard can have.
-use Rattle.std.specs.Prelude.{◌≡◌, ◌≤◌, ◌<◌, ◌+◌, ◌^◌, ℕ, Bool, true, false, List, [], ◌∷◌, ◌++◌, map, Option, Some, None, if◌then◌else◌, All}
+use Rattle.std.specs.Prelude.{◌≡◌, ◌≤◌, ◌<◌, ◌+◌, ℕ, Bool, true, false, List, [], ◌∷◌, ◌++◌, Option, Some, None, if◌then◌else◌, All}
 use Rattle.tuples.specs.declared.tuple.Tuple.{Tuple}
 use Rattle.tuples.specs.declared.entry.Entry.{Entry}
 use Rattle.tuples.specs.declared.entry.WriteId.{WriteId}
