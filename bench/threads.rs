@@ -1,0 +1,142 @@
+// The measures of `crates/bench_threads` in plain Rust: a load of an `AtomicU64`, and a `VecDeque` under a `Mutex`.
+use std::collections::VecDeque;
+use std::hint::black_box;
+use std::sync::atomic::{AtomicU64, Ordering};
+use std::sync::Mutex;
+use std::thread;
+use std::time::Instant;
+
+const LOADS: u64 = 100_000_000;
+const PAIRS: u64 = 2_000_000;
+const PLACES: usize = 1024;
+
+// Looks again and again whether the word fell.
+fn load_inlined(word: &AtomicU64) -> u64 {
+    let mut last = 0u64;
+    for _ in 0..LOADS {
+        let place = word.load(Ordering::SeqCst);
+        if place < last {
+            break;
+        }
+        last = place;
+    }
+    last
+}
+
+// The same, by a call for each look.
+fn load_called(word: &AtomicU64) -> u64 {
+    let mut last = 0u64;
+    for _ in 0..LOADS {
+        let place = look(word);
+        if place < last {
+            break;
+        }
+        last = place;
+    }
+    last
+}
+
+#[inline(never)]
+fn look(word: &AtomicU64) -> u64 {
+    word.load(Ordering::SeqCst)
+}
+
+fn by_four(word: &AtomicU64, load: fn(&AtomicU64) -> u64) -> u64 {
+    thread::scope(|scope| {
+        let threads = [(); 4].map(|()| scope.spawn(|| load(word)));
+        threads
+            .into_iter()
+            .map(|thread| thread.join().unwrap())
+            .sum()
+    })
+}
+
+/// Connections that wait, with their numbers.
+struct Queue(Mutex<VecDeque<(u64, u64)>>);
+
+impl Queue {
+    fn new() -> Queue {
+        Queue(Mutex::new(VecDeque::with_capacity(PLACES)))
+    }
+
+    fn put(&self, last: &mut u64, connection: u64) -> Result<(), u64> {
+        let mut waiting = self.0.lock().unwrap();
+        if waiting.len() == PLACES {
+            return Err(connection);
+        }
+        *last += 1;
+        waiting.push_back((*last, connection));
+        Ok(())
+    }
+
+    fn take(&self) -> Option<(u64, u64)> {
+        self.0.lock().unwrap().pop_front()
+    }
+}
+
+fn put_and_take(queue: &Queue) -> u64 {
+    let mut last = 0;
+    let mut sum = 0u64;
+    for connection in 0..PAIRS {
+        if queue.put(&mut last, connection).is_err() {
+            break;
+        }
+        if let Some((number, _connection)) = queue.take() {
+            sum = sum.wrapping_add(number);
+        }
+    }
+    sum
+}
+
+fn put_all(queue: &Queue) {
+    let mut last = 0;
+    while last < PAIRS {
+        let connection = last;
+        if queue.put(&mut last, connection).is_err() {
+            thread::yield_now();
+        }
+    }
+}
+
+fn take_all(queue: &Queue) -> u64 {
+    let mut sum = 0u64;
+    loop {
+        match queue.take() {
+            Some((number, _connection)) => {
+                sum = sum.wrapping_add(number);
+                if number >= PAIRS {
+                    return sum;
+                }
+            }
+            None => thread::yield_now(),
+        }
+    }
+}
+
+fn hand_over(queue: &Queue) -> u64 {
+    thread::scope(|scope| {
+        scope.spawn(|| put_all(queue));
+        take_all(queue)
+    })
+}
+
+fn main() {
+    let measure = std::env::args().nth(1).unwrap_or_default();
+    let word = black_box(AtomicU64::new(0));
+    let queue = Queue::new();
+    let start = Instant::now();
+    let (calls, sum) = match measure.as_str() {
+        "latest-by-one" => (LOADS, load_inlined(&word)),
+        "latest-by-four" => (4 * LOADS, by_four(&word, load_inlined)),
+        "called-by-one" => (LOADS, load_called(&word)),
+        "called-by-four" => (4 * LOADS, by_four(&word, load_called)),
+        "pairs-by-one" => (PAIRS, put_and_take(&queue)),
+        "pairs-by-two" => (PAIRS, hand_over(&queue)),
+        _ => {
+            eprintln!("there is no such measure: {measure}");
+            std::process::exit(2);
+        }
+    };
+    let seconds = start.elapsed().as_secs_f64();
+    eprintln!("{measure} {calls} {seconds:.6} {}", black_box(sum));
+}

@@ -1,0 +1,24 @@
+//! Two words that threads share, the safe place and the horizon, and passes that stand for the list of writes that was seen.
+//!
+//! Keeps: there is one list, as long as the safe place says, and what each pass has seen is a beginning of it;
+//! both words only rise, and the horizon is at most the safe place.
+//! Never: locks, waits, takes memory after `new`, or keeps a write: the list exists in the proofs alone.
+//! Callers rely on: a pass that has seen a write sees it ever after, and so does each pass that it tells.
+//!
+//! A step is one of four kinds: a load, an advance, a raise, and a meet, by which a pass learns what another knows.
+//!
+//! Start at `specs/OneList.antt`, the rule of the two words, and then `Published`.
+#![tactic(auto)]
+
+mod pass;
+mod rule;
+mod steps;
+mod words;
+
+pub use pass::{LogPass, SessionPass};
+pub use rule::View;
+pub use steps::Adds;
+pub use words::Published;
+
+#[cfg(test)]
+mod tests;

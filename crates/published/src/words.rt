@@ -1,0 +1,186 @@
+// The two words, and the calls on them.
+ghost use Rattle.std.specs.Prelude.{◌≡◌, ◌≤◌, ◌+◌, ◌++◌, ◌^◌, ◌<◌, [], length, max, IfOk};
+ghost use mathlib.Core.List.{IsPrefix};
+
+use crate::pass::{LogPass, SessionPass};
+use crate::rule::{OneList, View};
+use crate::steps::{Adds, Advances, LoadsHorizon, LoadsPlace, Notes, Raises};
+use atomic_table::Table;
+use std::alloc::{AllocError, Global};
+use std::marker::Model;
+
+const SAFE_PLACE: usize = 0;
+
+const HORIZON: usize = 1;
+
+/// The safe place and the horizon. A pass belongs to the words that it came from, and contracts see which these are.
+#[derive(Drop)]
+pub struct Published<W> {
+    table: Table<(), View<W>, (), OneList, Global>,
+}
+
+impl<W> Model for Published<W> {
+    ghost use Rattle.std.specs.Prelude.{◌≡◌};
+    ghost use Rattle.atomic_table.specs.Seated.{TableId};
+
+    ghost Value = { TableId };
+
+    ghost view = { λ p. p.table.shared.table_id };
+
+    ghost invariant = { λ p. p.table.shared.table_id.words ≡ 2 };
+}
+
+impl<W> Published<W> {
+    /// Both words are 0, and nothing was seen.
+    pub fn new(alloc: Global) -> Result<(Published<W>, LogPass<W>), AllocError>
+        ensures { IfOk result (λ r. (r.1.table ≡ r.0) × (r.1.seen ≡ []) × (r.1.horizon ≡ 0)) }
+    {
+        let (table, seat) = Table::of_words(alloc, &[0, 0], &())?;
+        Ok((Published { table }, LogPass { seat }))
+    }
+
+    /// The safe place, by one load. The pass has then seen as many writes.
+    pub fn latest(&self, pass: SessionPass<W>) -> (u64, SessionPass<W>)
+        requires { pass.table ≡ self.now }
+        ensures same { (result.1.table ≡ pass.table) × (result.1.horizon ≡ pass.horizon) }
+        ensures later { IsPrefix pass.seen result.1.seen }
+        ensures length { length result.1.seen ≡ result.0 }
+        ensures rises { length pass.seen ≤ result.0 }
+        ensures below { result.1.horizon ≤ result.0 }
+    {
+        let SessionPass { mut seat } = pass;
+        let place = self.table.shared.load::<LoadsPlace>(&mut seat, SAFE_PLACE);
+        (place, SessionPass { seat })
+    }
+
+    /// The horizon, by one load. The pass has then seen at least that many writes.
+    pub fn horizon(&self, pass: SessionPass<W>) -> (u64, SessionPass<W>)
+        requires { pass.table ≡ self.now }
+        ensures same { result.1.table ≡ pass.table }
+        ensures later { IsPrefix pass.seen result.1.seen }
+        ensures below { result.0 ≤ length result.1.seen }
+        ensures rises { pass.horizon ≤ result.0 }
+        ensures known { result.1.horizon ≡ result.0 }
+    {
+        let SessionPass { mut seat } = pass;
+        let place = self.table.shared.load::<LoadsHorizon>(&mut seat, HORIZON);
+        (place, SessionPass { seat })
+    }
+
+    /// Adds writes to the list, and moves the safe place to its end, by one step.
+    pub fn advance<A: Adds<W>>(&self, log: &mut LogPass<W>, place: u64)
+        requires own { log.old.table ≡ self.now }
+        requires place { place ≡ length log.old.seen + length A.added }
+        ensures same { (log.new.table ≡ log.old.table) × (log.new.horizon ≡ log.old.horizon) }
+        ensures added { log.new.seen ≡ log.old.seen ++ A.added }
+    {
+        self.table
+            .shared
+            .fetch_max::<Advances<A>>(&mut log.seat, SAFE_PLACE, place);
+    }
+
+    /// Raises the horizon to this place, where it is below.
+    pub fn raise(&self, log: &mut LogPass<W>, place: u64)
+        requires own { log.old.table ≡ self.now }
+        requires place { place ≤ length log.old.seen }
+        ensures same { (log.new.table ≡ log.old.table) × (log.new.seen ≡ log.old.seen) }
+        ensures raised { log.new.horizon ≡ max log.old.horizon place }
+    {
+        self.table
+            .shared
+            .fetch_max::<Raises>(&mut log.seat, HORIZON, place);
+    }
+
+    /// How long the list is, by one load.
+    pub fn length(&self, log: &mut LogPass<W>) -> u64
+        requires { log.old.table ≡ self.now }
+        ensures same { log.new ≡ log.old }
+        ensures length { result ≡ length log.old.seen }
+        ensures below { log.old.horizon ≤ result }
+    {
+        self.table
+            .shared
+            .load::<LoadsPlace>(&mut log.seat, SAFE_PLACE)
+    }
+
+    /// A new pass, which has seen what the log's pass has.
+    pub fn session(&self, log: &mut LogPass<W>) -> SessionPass<W>
+        requires { log.old.table ≡ self.now }
+        ensures same { log.new ≡ log.old }
+        ensures session { result ≡ log.old }
+    {
+        let seat = self.table.shared.split_seat::<Notes>(&mut log.seat);
+        SessionPass { seat }
+    }
+
+    /// The pass learns what the log's pass has seen, which is all that there is.
+    pub fn meet(&self, log: &mut LogPass<W>, pass: &mut SessionPass<W>)
+        requires { (log.old.table ≡ self.now) × (pass.old.table ≡ self.now) }
+        ensures same { (log.new ≡ log.old) × (pass.new.table ≡ pass.old.table) }
+        ensures all { pass.new.seen ≡ log.old.seen }
+        ensures seen { IsPrefix pass.old.seen log.old.seen }
+        ensures horizon { (pass.new.horizon ≡ log.old.horizon) × (pass.old.horizon ≤ log.old.horizon) }
+        ensures below { log.old.horizon ≤ length log.old.seen }
+    {
+        let SessionPass { seat: note } = self.note(pass);
+        let table = &self.table.shared;
+        table.join_seat::<Notes>(&mut log.seat, note);
+        // Only a load makes known what the note says: what the session had seen is a beginning of the list.
+        table.load::<LoadsPlace>(&mut log.seat, SAFE_PLACE);
+        *pass = self.session(log);
+    }
+
+    /// Each pass learns what the other has seen.
+    pub fn tell(
+        &self,
+        mut one: SessionPass<W>,
+        mut other: SessionPass<W>,
+    ) -> (SessionPass<W>, SessionPass<W>)
+        requires { (one.table ≡ self.now) × (other.table ≡ self.now) }
+        ensures same { (result.0.table ≡ one.table) × (result.1.table ≡ other.table) }
+        ensures one { IsPrefix one.seen result.0.seen × IsPrefix other.seen result.0.seen }
+        ensures other { IsPrefix one.seen result.1.seen × IsPrefix other.seen result.1.seen }
+        ensures horizon { (result.0.horizon ≡ max one.horizon other.horizon) × (result.1.horizon ≡ max one.horizon other.horizon) }
+    {
+        self.share(&mut one, &mut other);
+        (one, other)
+    }
+
+    /// As `tell`, for passes that are lent, as one that lies under a lock.
+    pub fn share(&self, one: &mut SessionPass<W>, other: &mut SessionPass<W>)
+        requires { (one.old.table ≡ self.now) × (other.old.table ≡ self.now) }
+        ensures same { (one.new.table ≡ one.old.table) × (other.new.table ≡ other.old.table) }
+        ensures one { IsPrefix one.old.seen one.new.seen × IsPrefix other.old.seen one.new.seen }
+        ensures other { IsPrefix one.old.seen other.new.seen × IsPrefix other.old.seen other.new.seen }
+        ensures horizon { (one.new.horizon ≡ max one.old.horizon other.old.horizon) × (other.new.horizon ≡ max one.old.horizon other.old.horizon) }
+    {
+        let note = self.note(one);
+        let answer = self.note(other);
+        self.learn(one, answer);
+        self.learn(other, note);
+    }
+
+    // A new pass, which has seen what this pass has.
+    fn note(&self, pass: &mut SessionPass<W>) -> SessionPass<W>
+        requires { pass.old.table ≡ self.now }
+        ensures same { pass.new ≡ pass.old }
+        ensures note { result ≡ pass.old }
+    {
+        let seat = self.table.shared.split_seat::<Notes>(&mut pass.seat);
+        SessionPass { seat }
+    }
+
+    // The pass learns what the note has seen, by one load.
+    fn learn(&self, pass: &mut SessionPass<W>, note: SessionPass<W>)
+        requires { (pass.old.table ≡ self.now) × (note.table ≡ self.now) }
+        ensures same { pass.new.table ≡ pass.old.table }
+        ensures seen { IsPrefix pass.old.seen pass.new.seen }
+        ensures told { IsPrefix note.seen pass.new.seen }
+        ensures horizon { pass.new.horizon ≡ max pass.old.horizon note.horizon }
+    {
+        let SessionPass { seat: other } = note;
+        let table = &self.table.shared;
+        table.join_seat::<Notes>(&mut pass.seat, other);
+        table.load::<LoadsPlace>(&mut pass.seat, SAFE_PLACE);
+    }
+}
