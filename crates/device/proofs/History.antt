@@ -5,7 +5,7 @@ use Rattle.std.proofs.lemmas.List.{length-take, length-drop, length-replicate, t
 use Rattle.std.proofs.lemmas.Slice.{between_is, between_to_end}
 use Rattle.std.specs.List.{slice_range}
 use Rattle.device.specs.Device.{Leaves, Untouched, reach, patched, Elapses}
-use Rattle.device.specs.Sim.{Image, settled, overwritten, filled, found, after, run, replay, CouldLeave, LeftSince, HasMade}
+use Rattle.device.specs.Sim.{Image, settled, overwritten, filled, found, after, run, replay, CouldLeave, NoneLonger, LeftSince, HasMade}
 use Rattle.device.specs.Unsynced.{rewritten, ranges, unsynced, IsWrite, IsReplayed}
 use Rattle.device.specs.declared.tear.Tear.{Tear}
 use Rattle.device.specs.declared.tear.Tear.TheVariants.{Old, New, Fill}
@@ -28,6 +28,14 @@ made_image first was calls more step same made =
 reach_push : (w : List (ℕ × ℕ)) (at n d : ℕ) → (reach w d ≤ reach (w ++ (at, n) ∷ []) d) × (at + n ≤ reach (w ++ (at, n) ∷ []) d) × (d ≤ reach w d)
 reach_push [] at n d = (omega arith, omega arith, omega arith)
 reach_push (r ∷ w) at n d = let rest = reach_push w at n d in (omega arith, omega arith, omega arith)
+
+pub reach_push_most : (w : List (ℕ × ℕ)) (at n d : ℕ) → (reach (w ++ (at, n) ∷ []) d ≤ at + n) ⊎ (reach (w ++ (at, n) ∷ []) d ≤ reach w d)
+reach_push_most [] at n d = ⊎_elim (λ lt. inl (omega (arith, lt))) (λ le. inr (omega (arith, le))) (cases_lt d (at + n))
+reach_push_most (r ∷ w) at n d =
+    ⊎_elim
+    (λ up. ⊎_elim (λ lt. inl (omega (arith, up, lt))) (λ le. inr (omega (arith, up, le))) (cases_lt (r.0 + r.1) (at + n)))
+    (λ up. inr (omega (arith, up)))
+    (reach_push_most w at n d)
 
 untouched_push : (w : List (ℕ × ℕ)) (at n i : ℕ) → Untouched (w ++ (at, n) ∷ []) i → Untouched w i × ((i < at) ⊎ (at + n ≤ i))
 untouched_push [] at n i un = (tt, un.0)
@@ -208,3 +216,22 @@ replayed_found first first' content now calls calls' calls'' since tear same_fir
 -- what reads is one of the contents that a stop may leave
 pub reads_left_by : (first seen : List ℕ) (calls : List Call) → seen ≡ (replay first calls).seen → CouldLeave first calls seen
 reads_left_by first seen calls reads = subst (λ (s : List ℕ). CouldLeave first calls s) (sym reads) (replay_readable first calls)
+
+-- no content is longer after a call that was kept, or not for want of memory
+pub kept_longest : (first : List ℕ) (calls more : List Call) (call : Call) (seen : List ℕ) (ok : Bool) → more ≡ cond ok (calls ++ call ∷ []) calls
+    → (ok ≡ true → reach (after call (replay first calls)).written (length (after call (replay first calls)).durable) ≤ length seen) → (ok ≡ false → NoneLonger first calls seen) → NoneLonger first more seen
+kept_longest first calls more call seen true is new old =
+    subst (λ (m : Image). reach m.written (length m.durable) ≤ length seen) (sym (run_push (settled first) calls call) ∙ sym (ap (λ (l : List Call). replay first l) is)) (new refl)
+kept_longest first calls more call seen false is new old = subst (λ (l : List Call). NoneLonger first l seen) (sym is) (old refl)
+
+-- nor after a write that begins inside what reads
+pub write_longest : (first seen bytes : List ℕ) (calls : List Call) (at : ℕ) (call : Call) → at ≤ length seen → NoneLonger first calls seen → ((m : Image) → after call m ≡ overwritten at bytes m)
+    → reach (after call (replay first calls)).written (length (after call (replay first calls)).durable) ≤ length (patched seen at bytes)
+write_longest first seen bytes calls at call inside longest writes =
+    let was : Image = replay first calls in
+    let len = length-patched seen bytes at in
+    subst (λ (m : Image). reach m.written (length m.durable) ≤ length (patched seen at bytes)) (sym (writes was))
+    (⊎_elim
+    (λ up. omega (arith, up, len, inside))
+    (λ up. omega (arith, up, len, inside, longest))
+    (reach_push_most was.written at (length bytes) (length was.durable)))

@@ -1,6 +1,6 @@
 -- What a disk in memory holds after its calls.
 use Rattle.std.specs.Prelude.{◌≡◌, ◌≤◌, ℕ, List, [], ◌∷◌, ◌++◌, length, take, replicate}
-use Rattle.device.specs.Device.{Leaves, patched}
+use Rattle.device.specs.Device.{Leaves, reach, patched}
 use Rattle.device.specs.declared.tear.Tear.{Tear}
 use Rattle.device.specs.declared.tear.Tear.TheVariants.{Old, New, Fill}
 use Rattle.device.specs.declared.call.Call.{Call}
@@ -48,6 +48,10 @@ replay first calls = run (settled first) calls
 -- a stop after these calls may leave this content
 abbrev pub CouldLeave : List ℕ → List Call → List ℕ → Type 0
 CouldLeave first calls c = Leaves (replay first calls).durable (replay first calls).written c
+
+-- no content that a stop after these calls may leave is longer
+abbrev pub NoneLonger : List ℕ → List Call → List ℕ → Type 0
+NoneLonger first calls c = reach (replay first calls).written (length (replay first calls).durable) ≤ length c
 
 -- a stop after the first k calls may have left this content, for a k that is at least t
 abbrev pub LeftSince : List ℕ → List Call → ℕ → List ℕ → Type 0

@@ -1,6 +1,6 @@
 // A device: bytes that are durable once they are synced.
 ghost use Rattle.std.specs.Prelude.{◌≡◌, ◌≤◌, ◌+◌, ◌<◌, ◌↔◌, List, ℕ, length, take, drop, false, true, OnOk, OnErr, IfOk, IsErr};
-ghost use Rattle.device.specs.Device.{State, left, Wrote, Tore, Synced, Keeps, Revived, Failed, Elapses};
+ghost use Rattle.device.specs.Device.{State, left, reach, Wrote, Tore, Synced, Keeps, Revived, Failed, Elapses};
 
 use crate::Tear;
 
@@ -90,6 +90,9 @@ pub trait Device: Drop {
 
     /// As it reads, an honest device is one of the contents that a stop may leave.
     ghost reads_left: { (d : Self) → honest d → (state d).stopped ≡ false → left (state d) (state d).seen };
+
+    /// Of the contents that a stop may leave, none is longer than what an honest device reads as.
+    ghost reads_longest: { (d : Self) → honest d → (state d).stopped ≡ false → reach (state d).written (length (state d).durable) ≤ length (state d).seen };
 
     /// This moment is one of those since an earlier one.
     ghost counts_now: { (d : Self) (t : ℕ) (c : List ℕ) → honest d → t ≤ moment d → left (state d) c → left_since d t c };

@@ -19,6 +19,8 @@ impl Device for SimDisk {
 
     ghost reads_left = { λ d hon up. d.readable };
 
+    ghost reads_longest = { λ d hon up. d.longest };
+
     ghost counts_now = { λ d t c hon le now. (length d.history.items, le, Prim.omega arith, subst (λ (calls : List Call). CouldLeave d.first.items calls c) (sym (take_all (length d.history.items) d.history.items (Prim.omega arith))) now) };
 
     ghost only_now = { λ d c hon since. subst (λ (calls : List Call). CouldLeave d.first.items calls c) (take_all since.0 d.history.items since.1) since.3 };

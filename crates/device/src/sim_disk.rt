@@ -1,7 +1,7 @@
 // A disk in memory, which keeps the list of its calls.
 ghost use Rattle.std.specs.Prelude.{◌≡◌, ◌≤◌, ◌+◌, List, ℕ, length, take, drop, OnOk, OnErr, IfOk};
 ghost use Rattle.device.specs.Device.{patched, left};
-ghost use Rattle.device.specs.Sim.{replay, settled, overwritten, found, HasMade, CouldLeave};
+ghost use Rattle.device.specs.Sim.{replay, settled, overwritten, found, HasMade, CouldLeave, NoneLonger};
 
 use crate::call::Call;
 use crate::content::{find, patch};
@@ -24,6 +24,7 @@ pub struct SimDisk {
     pub(crate) faults: Faults,
     ghost reads: { seen.items ≡ (replay first.items history.items).seen },
     ghost readable: { CouldLeave first.items history.items seen.items },
+    ghost longest: { NoneLonger first.items history.items seen.items },
 }
 
 impl SimDisk {
@@ -53,6 +54,7 @@ impl SimDisk {
 
     // Writes, and keeps the write. Where memory runs out, nothing has changed.
     pub(crate) fn store(&mut self, at: usize, bytes: &[u8]) -> Result<(), AllocError>
+        requires { at ≤ length self.old.seen.items }
         ensures first { self.new.first.items ≡ self.old.first.items }
         ensures seen { OnOk result (self.new.seen.items ≡ patched self.old.seen.items at bytes.now) }
         ensures made { OnOk result (HasMade self.old.history.items (overwritten at bytes.now) self.new.history.items) }

@@ -1,9 +1,10 @@
 -- The states of an opening.
-use Rattle.std.proofs.Common.{◌≡◌, ◌⊎◌, inl, inr, ⊎_elim, ℕ, ◌<◌, List, [], ◌∷◌, length, Some, false, refl, sym, ◌∙◌, ap, subst, arith}
+use Rattle.std.proofs.Common.{◌≡◌, ◌⊎◌, inl, inr, ℕ, ◌≤◌, List, [], ◌∷◌, length, Some, false, refl, sym, ◌∙◌, ap, subst, arith}
 use Rattle.std.proofs.lemmas.List.{drop_all}
-use Rattle.device.specs.Device.{State, Leaves, Synced, Keeps, LeavesOnly, patched, left}
+use Rattle.device.specs.Device.{State, Leaves, Synced, Keeps, Elapses, LeavesOnly, patched, left}
 use Rattle.device.proofs.Moments.{leaves_map, leaves_then, leaves_nothing_else}
 use Rattle.gated.specs.Gated.{gated, HasList, IsReady, IsSpelled, IsFoundList}
+use Rattle.gated.proofs.Settles.{one_call, still}
 use Rattle.gated.proofs.Splitting.{short_list, spelled_list}
 
 -- all that a stop may leave is what reads
@@ -12,40 +13,48 @@ has_list s bodies durable written list c leaves =
     let is : c ≡ s.durable = leaves_nothing_else s.durable c (subst (λ (w : List (ℕ × ℕ)). Leaves s.durable w c) written leaves) in
     ap gated (is ∙ durable) ∙ list
 
--- what an opening may leave before it writes
-as_read : (s : State) (c : List ℕ) → left s c ⊎ (c ≡ s.seen) → left s c ⊎ (gated c ≡ gated s.seen)
-as_read s c leaves = ⊎_elim (λ was. inl was) (λ is. inr (ap gated is)) leaves
+module _ (s : State) (short : length s.seen ≤ 1) where
+  -- at most one byte holds no list but the empty one
+  pub short_leaves : (c : List ℕ) → length c ≤ 1 → gated c ≡ gated s.seen
+  short_leaves c le = short_list c le ∙ sym (short_list s.seen short)
 
-module _ (s mid : State) (short : length s.seen < 2) (synced : Synced s mid) where
-  -- the write of the first gate leaves no list but the empty one
-  made_leaves : (c : List ℕ) → Leaves mid.durable ((0, 1) ∷ []) c → left s c ⊎ (gated c ≡ gated s.seen)
-  made_leaves c leaves = inr (short_list c (omega (arith, leaves.no_longer, ap length synced.durable)) ∙ sym (short_list s.seen (omega arith)))
-
-  module _ (new : State) (seen : new.seen ≡ patched mid.seen 0 (0 ∷ [])) (durable : new.durable ≡ new.seen) (written : new.written ≡ []) where
+  module _ (new : State) (seen : new.seen ≡ patched s.seen 0 (0 ∷ [])) (durable : new.durable ≡ new.seen) (written : new.written ≡ []) where
     made_is : new.seen ≡ 0 ∷ []
-    made_is = seen ∙ ap (λ (l : List ℕ). 0 ∷ l) (drop_all 1 mid.seen (omega (arith, ap length synced.seen)))
+    made_is = seen ∙ ap (λ (l : List ℕ). 0 ∷ l) (drop_all 1 s.seen short)
 
     pub made_ready : IsReady new 0
     made_ready = record { bodies = []; gate = 0; rest = []; fit = tt; closed = λ is. omega (arith, is); seen = made_is; end_is = refl; durable = durable; written = written }
 
     pub made_list : new.stopped ≡ false → IsFoundList s [] new
     made_list up = record {
-      was = short_list s.seen (omega arith);
+      was = short_list s.seen short;
       has = has_list new [] durable written (short_list new.seen (omega (arith, ap length made_is)));
       up = up;
     }
 
--- the sync, and then the write of the first gate
+-- a length, a sync, and what reads
 module _ {D : Type 0} (moment : D → ℕ) (left_since : D → ℕ → List ℕ → Type 0) (state : D → State) where
-  pub made_moments : (old mid new : D) → length (state old).seen < 2 → Synced (state old) (state mid)
-      → LeavesOnly moment left_since old mid (λ c. left (state old) c ⊎ (c ≡ (state old).seen))
-      → LeavesOnly moment left_since mid new (λ c. Leaves (state mid).durable ((0, 1) ∷ []) c)
+  pub read_moments : (old one mid new : D) → Keeps (state old) (state one) → Synced (state one) (state mid)
+      → ((c : List ℕ) → left_since old (moment old) c → left (state old) c) → ((c : List ℕ) → left_since one (moment one) c → left (state one) c)
+      → Elapses (moment old) (moment one) (left_since old) (left_since one) (left (state one))
+      → Elapses (moment one) (moment mid) (left_since one) (left_since mid) (left (state mid))
+      → LeavesOnly moment left_since mid new (left (state mid))
       → LeavesOnly moment left_since old new (λ c. left (state old) c ⊎ (gated c ≡ gated (state old).seen))
-  made_moments old mid new short synced first second =
-      let P : List ℕ → Type 0 = λ c. left (state old) c ⊎ (gated c ≡ gated (state old).seen) in
-      leaves_then moment left_since old mid new P
-      (leaves_map moment left_since old mid _ P (as_read (state old)) first)
-      (leaves_map moment left_since mid new _ P (made_leaves (state old) (state mid) short synced) second)
+  read_moments old one mid new keeps synced only_old only_one first second third =
+      let s = state old in
+      let P : List ℕ → Type 0 = λ c. left s c ⊎ (gated c ≡ gated s.seen) in
+      let same : (c : List ℕ) → left (state one) c → P c = λ c l. inl (still s (state one) keeps.durable keeps.written c l) in
+      let seen : (c : List ℕ) → left (state mid) c → P c
+      = λ c l. inr (ap gated (leaves_nothing_else (state mid).durable c (subst (λ (w : List (ℕ × ℕ)). Leaves (state mid).durable w c) synced.written l) ∙ synced.durable ∙ keeps.seen)) in
+      leaves_then moment left_since old one new P
+      (one_call moment left_since state old one P only_old first (λ c l. inl l) same)
+      (leaves_then moment left_since one mid new P
+      (one_call moment left_since state one mid P only_one second same seen)
+      (leaves_map moment left_since mid new (left (state mid)) P seen third))
+
+-- the same states after a call that keeps all
+pub synced_since : (s one mid : State) → Keeps s one → Synced one mid → Synced s mid
+synced_since s one mid keeps synced = record { seen = synced.seen ∙ keeps.seen; durable = synced.durable ∙ keeps.seen; written = synced.written; stopped = synced.stopped }
 
 module _ (s mid new : State) (synced : Synced s mid) (keeps : Keeps mid new) (content : List ℕ) (content_is : content ≡ mid.seen) (bodies : List (List ℕ)) (end : ℕ) (spelled : IsSpelled content bodies end) where
   seen_is : new.seen ≡ content

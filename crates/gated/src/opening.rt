@@ -10,20 +10,19 @@ use device::{Device, Stopped};
 use std::alloc::Global;
 use tuples::Refusal;
 
-/// How many bytes there are, now that all of them are durable.
-fn durable_len<D: Device>(device: &mut D) -> Result<usize, Stopped>
+/// Makes a device of at most one byte anew, as the empty list.
+fn make<D: Device>(device: &mut D) -> Result<(), Stopped>
+    requires { D.honest device.old → ((D.state device.old).stopped ≡ false) × (length (D.state device.old).seen ≤ 1) }
     ensures honest { D.honest device.old ↔ D.honest device.new }
-    ensures len { D.honest device.old → IfOk result (λ n. n ≡ length (D.state device.old).seen) }
-    ensures ok { D.honest device.old → OnOk result (Synced (D.state device.old) (D.state device.new)) }
+    ensures ready { D.honest device.old → OnOk result (IsReady (D.state device.new) 0) }
+    ensures ok { D.honest device.old → OnOk result (IsFoundList (D.state device.old) [] (D.state device.new)) }
     ensures err { OnErr result (Failed (D.state device.old) (D.state device.new)) }
     ensures counts { (D.state device.old).failures ≤ (D.state device.new).failures }
-    ensures down { (D.state device.old).stopped ≡ true → IsErr result }
-    ensures any_moment { D.honest device.old → LeavesOnly D.moment D.left_since device.old device.new (λ c. left (D.state device.old) c ⊎ (c ≡ (D.state device.old).seen)) }
+    ensures any_moment { D.honest device.old → LeavesOnly D.moment D.left_since device.old device.new (λ c. gated c ≡ gated (D.state device.old).seen) }
 {
-    let n = device.len()?;
-    // A gate may read open, and be closed after a stop: what reads has to be durable before a list is told.
-    device.sync()?;
-    Ok(n)
+    // Whatever a stop leaves of this write, or of one before it, at most one byte holds no body.
+    settle(device, 0, &[CLOSED])?;
+    Ok(())
 }
 
 /// Reads all of the bytes, of which there are so many.
@@ -63,16 +62,19 @@ pub(crate) fn find_list<D: Device>(
     ensures counts { (D.state device.old).failures ≤ (D.state device.new).failures }
     ensures any_moment { D.honest device.old → LeavesOnly D.moment D.left_since device.old device.new (λ c. left (D.state device.old) c ⊎ (gated c ≡ gated (D.state device.old).seen)) }
 {
-    let Ok(n) = durable_len(device) else {
+    let Ok(n) = device.len() else {
         return Err(Refusal::Down);
     };
     if n < 2 {
-        // Whatever a stop leaves of this write, at most one byte holds no body.
-        let Ok(()) = settle(device, 0, &[CLOSED]) else {
+        let Ok(()) = make(device) else {
             return Err(Refusal::Down);
         };
         return Ok((Vec::new(alloc), 0));
     }
+    // A gate may read open, and be closed after a stop: what reads has to be durable before a list is told.
+    let Ok(()) = device.sync() else {
+        return Err(Refusal::Down);
+    };
     let content = read_whole(alloc, device, n)?;
     split(alloc, &content)
 }

@@ -2,7 +2,7 @@
 ghost use Rattle.std.specs.Prelude.{◌≡◌, ◌≤◌, ◌+◌, ◌^◌, ◌↔◌, [], ◌∷◌, ◌++◌, true, false, length, OnOk, OnErr, IsErr, List, ℕ, ◌<◌};
 ghost use Rattle.std.specs.Int.{w32, to_be_bytes};
 ghost use Rattle.gated.specs.Gated.{body_of, IsReady, HasList, IsOldOrNew};
-ghost use Rattle.device.specs.Device.{State, Leaves, LeavesOnly, patched, Failed, left};
+ghost use Rattle.device.specs.Device.{State, Leaves, reach, LeavesOnly, patched, Failed, left};
 
 use crate::format::{CLOSED, HEAD, OPEN, SIZE};
 use device::{Device, Stopped};
@@ -19,6 +19,8 @@ pub(crate) fn settle<D: Device>(device: &mut D, at: usize, bytes: &[u8]) -> Resu
     ensures counts { (D.state device.old).failures ≤ (D.state device.new).failures }
     ensures down { (D.state device.old).stopped ≡ true → IsErr result }
     ensures down_same { (D.state device.old).stopped ≡ true → D.honest device.old → LeavesOnly D.moment D.left_since device.old device.new (left (D.state device.old)) }
+    ensures no_longer { (most : ℕ) → D.honest device.old → reach (D.state device.old).written (length (D.state device.old).durable) ≤ most → length (D.state device.old).seen ≤ most → at + length bytes.now ≤ most
+        → LeavesOnly D.moment D.left_since device.old device.new (λ c. length c ≤ most) }
     ensures any_moment { D.honest device.old → (D.state device.old).written ≡ [] → LeavesOnly D.moment D.left_since device.old device.new (λ c. Leaves (D.state device.old).durable ((at, length bytes.now) ∷ []) c) }
 {
     device.write_at(at, bytes)?;

@@ -10,6 +10,12 @@ const BATCH: [u8; 28] = [
     0xa5, 0, 0, 0, 0x16, 1, 0, 1, 4, 0, 0, 0, 0, 0, 0, 0, 1, 0, 0, 0, 0, 0, 0, 0, 1, 2, 1, 0,
 ];
 
+// A batch of one prepare, in 40 bytes: write 1.1 touches `doc:a#viewer@u1`.
+const PREPARE: [u8; 40] = [
+    1, 0, 1, 1, 0, 0, 0, 0, 0, 0, 0, 1, 0, 0, 0, 0, 0, 0, 0, 1, 1, 1, 3, 0x64, 0x6f, 0x63, 1, 0x61,
+    6, 0x76, 0x69, 0x65, 0x77, 0x65, 0x72, 1, 2, 0x75, 0x31, 0,
+];
+
 fn disk_of(alloc: Global, content: &[u8]) -> Result<SimDisk, AllocError> {
     SimDisk::new(alloc, content.to_vec(alloc)?)
 }
@@ -34,6 +40,24 @@ fn a_device_of_at_most_one_byte_is_made(rt: HostRuntime) -> Result<(), Fail> {
         let made = content_of(alloc, &mut log.into_device())?;
         assert_eq!(rt; made.as_slice(), [0].as_slice(), "{content:?}");
     }
+    Ok(())
+}
+
+// How many calls an opening makes on a device that holds these bytes.
+fn calls_over(alloc: Global, content: &[u8]) -> Result<u64, Fail> {
+    let (log, _) = opened(alloc, disk_of(alloc, content)?)?;
+    Ok(log.device().calls())
+}
+
+#[test]
+fn an_opening_makes_three_calls(rt: HostRuntime) -> Result<(), Fail> {
+    let alloc = rt.alloc();
+    // The length, and then the write of the first gate and its sync.
+    assert_eq!(rt; calls_over(alloc, &[])?, 3);
+    assert_eq!(rt; calls_over(alloc, &[0xa5])?, 3);
+    // The length, and then a sync and the read.
+    assert_eq!(rt; calls_over(alloc, &[0, 0])?, 3);
+    assert_eq!(rt; calls_over(alloc, &BATCH)?, 3);
     Ok(())
 }
 
@@ -67,20 +91,46 @@ fn an_open_gate_without_a_whole_record_is_damage(rt: HostRuntime) -> Result<(), 
     Ok(())
 }
 
+// The bytes that an append is given: four, the prepare, and one.
+fn framed() -> [u8; 45] {
+    let mut buf = [7; 45];
+    buf[4..44].copy_from_slice(&PREPARE);
+    buf
+}
+
+// The batch, and behind it the prepare behind this gate.
+fn with_prepare(alloc: Global, gate: u8) -> Result<Vec<u8>, AllocError> {
+    let mut content = BATCH[..27].to_vec(alloc)?;
+    content.extend_from_slice(&[gate, 0, 0, 0, 0x28])?;
+    content.extend_from_slice(&PREPARE)?;
+    content.push(0)?;
+    Ok(content)
+}
+
 #[test]
 fn an_append_writes_the_record_behind_the_gate(rt: HostRuntime) -> Result<(), Fail> {
     let alloc = rt.alloc();
     let (mut log, _) = opened(alloc, disk_of(alloc, &BATCH)?)?;
     let before = log.device().calls();
-    log.append(&mut [7; 45])?;
+    log.append(&mut framed())?;
     assert_eq!(rt; log.device().calls().checked_sub(before), Some(4));
 
-    let mut wanted = BATCH[..27].to_vec(alloc)?;
-    wanted.extend_from_slice(&[0xa5, 0, 0, 0, 0x28])?;
-    wanted.extend_from_slice(&[7; 40])?;
-    wanted.push(0)?;
-    assert_eq!(rt; wanted.len(), 73);
-    assert_eq!(rt; content_of(alloc, &mut log.into_device())?, wanted);
+    let content = content_of(alloc, &mut log.into_device())?;
+    assert_eq!(rt; content.len(), 73);
+    assert_eq!(rt; content, with_prepare(alloc, 0xa5)?);
+    Ok(())
+}
+
+#[test]
+fn the_gate_is_opened_by_a_write_of_its_own(rt: HostRuntime) -> Result<(), Fail> {
+    let alloc = rt.alloc();
+    let (mut log, _) = opened(alloc, disk_of(alloc, &BATCH)?)?;
+    log.fail(3, Tear::Old);
+    assert!(rt; log.append(&mut framed()).is_err());
+    let mut disk = log.into_device();
+    disk.revive()?;
+    // What the first write and its sync left.
+    assert_eq!(rt; content_of(alloc, &mut disk)?, with_prepare(alloc, 0)?);
     Ok(())
 }
 
@@ -148,6 +198,6 @@ fn an_opening_after_one_that_failed_is_whole(rt: HostRuntime) -> Result<(), Fail
         assert_eq!(rt; found_after(rt.alloc(), &BATCH, n)?, 1, "{n}");
         assert_eq!(rt; found_after(rt.alloc(), &[0xa5], n)?, 0, "{n}");
     }
-    assert_eq!(rt; found_after(rt.alloc(), &[], 4)?, 0);
+    assert_eq!(rt; found_after(rt.alloc(), &[], 3)?, 0);
     Ok(())
 }

@@ -62,17 +62,17 @@ impl Batch {
     }
 
     /// Adds a record, or is `Full`.
-    pub(crate) fn push(&mut self, record: &Record) -> Result<(), Refusal>
-        requires { IsRecord «record».now }
-        ensures ok { OnOk result (self.new ≡ self.old ++ «record».now ∷ []) }
-        ensures room { OnOk result (HasNoRoom self.old «record».now → ⊥) }
-        ensures full { OnErr result (HasNoRoom self.old «record».now) }
+    pub(crate) fn push(&mut self, next: &Record) -> Result<(), Refusal>
+        requires { IsRecord next.now }
+        ensures ok { OnOk result (self.new ≡ self.old ++ next.now ∷ []) }
+        ensures room { OnOk result (HasNoRoom self.old next.now → ⊥) }
+        ensures full { OnErr result (HasNoRoom self.old next.now) }
         ensures err { IfErr result (λ e. (e ≡ Refusal.Full) × (self.new ≡ self.old)) }
     {
         if self.count == MAX_RECORDS {
             return Err(Refusal::Full);
         }
-        spell(record, &mut self.bytes)?;
+        spell(next, &mut self.bytes)?;
         self.count += 1;
         Ok(())
     }
@@ -118,17 +118,17 @@ impl Batch {
 }
 
 // Adds the bytes of the record, if a batch may be so long.
-fn spell(record: &Record, bytes: &mut Vec<u8>) -> Result<(), Refusal>
-    requires spellable { IsRecord «record».now }
+fn spell(next: &Record, bytes: &mut Vec<u8>) -> Result<(), Refusal>
+    requires spellable { IsRecord next.now }
     requires fits { length bytes.old.items ≤ 1048580 }
     requires room { 1048581 ≤ vec_capacity bytes.old }
-    ensures ok { OnOk result ((bytes.new.items ≡ bytes.old.items ++ record_bytes false «record».now) × (length bytes.new.items ≤ 1048580)) }
-    ensures full { OnErr result (1048580 < length bytes.old.items + length (record_bytes false «record».now)) }
+    ensures ok { OnOk result ((bytes.new.items ≡ bytes.old.items ++ record_bytes false next.now) × (length bytes.new.items ≤ 1048580)) }
+    ensures full { OnErr result (1048580 < length bytes.old.items + length (record_bytes false next.now)) }
     ensures err { IfErr result (λ e. (e ≡ Refusal.Full) × (bytes.new.items ≡ bytes.old.items)) }
     ensures capacity { vec_capacity bytes.old ≤ vec_capacity bytes.new }
 {
     let end = bytes.len();
-    let Ok(()) = record.encode(bytes) else {
+    let Ok(()) = next.encode(bytes) else {
         return Err(Refusal::Full);
     };
     if bytes.len() > MAX_LEN {

@@ -114,14 +114,14 @@ impl<D: Device> Journal<D> {
 
     /// Adds a record to what is staged, which takes no memory. `Full`, and nothing changed, where the batch has 65,535 records
     /// or would pass 1,048,576 bytes.
-    pub fn stage(&mut self, record: &Record) -> Result<(), Refusal>
-        requires { IsRecord «record».now }
-        ensures ok { OnOk result (self.new ≡ record self.old { staged = self.old.staged ++ «record».now ∷ [] }) }
-        ensures room { OnOk result (HasNoRoom self.old.staged «record».now → ⊥) }
-        ensures full { IsErrOf result Refusal.Full → HasNoRoom self.old.staged «record».now }
+    pub fn stage(&mut self, next: &Record) -> Result<(), Refusal>
+        requires { IsRecord next.now }
+        ensures ok { OnOk result (self.new ≡ record self.old { staged = self.old.staged ++ next.now ∷ [] }) }
+        ensures room { OnOk result (HasNoRoom self.old.staged next.now → ⊥) }
+        ensures full { IsErrOf result Refusal.Full → HasNoRoom self.old.staged next.now }
         ensures err { IfErr result (λ e. (e ≡ Refusal.Full) × (self.new ≡ self.old)) }
     {
-        self.staged.push(record)
+        self.staged.push(next)
     }
 
     /// Whether one record more fits into what is staged, which stays as it is. It takes no memory.

@@ -1,4 +1,7 @@
 // What a journal over two disks in memory holds, also after a call of a disk failed.
+mod bytes;
+mod images;
+
 use crate::{Bank, Journal};
 use device::{Device, SimDisk, Tear};
 use records::Record;
@@ -83,39 +86,10 @@ fn what_is_staged_is_durable_after_four_calls(rt: HostRuntime) -> Result<(), Fai
     Ok(())
 }
 
-#[test]
-fn the_first_opening_of_a_shard_has_28_bytes(rt: HostRuntime) -> Result<(), Fail> {
-    let alloc = rt.alloc();
-    let mut journal = new_journal(alloc)?;
-    let epoch = Record::Epoch {
-        epoch: 1,
-        store: 1,
-        shards: 2,
-        node: 1,
-    };
-    assert!(rt; journal.stage(&epoch).is_ok());
-    flush(&mut journal)?;
-    let (mut a, _) = journal.into_devices();
-    let mut bytes = vec![in alloc; 0; a.len()?]?;
-    a.read_at(0, &mut bytes)?;
-    let wanted = [
-        0xa5, 0, 0, 0, 0x16, 2, 0, 1, 4, 0, 0, 0, 0, 0, 0, 0, 1, 0, 0, 0, 0, 0, 0, 0, 1, 2, 1, 0,
-    ];
-    assert_eq!(rt; bytes.as_slice(), wanted.as_slice());
-    Ok(())
-}
-
-#[test]
-fn a_body_that_is_no_batch_is_damage(rt: HostRuntime) -> Result<(), Fail> {
-    let alloc = rt.alloc();
-    let a = SimDisk::new(alloc, vec![in alloc; 0xa5, 0, 0, 0, 1, 9, 0]?)?;
-    match Journal::open(alloc, a, empty_disk(alloc)?) {
-        Ok(_) => Err("it was opened".into()),
-        Err(refused) => {
-            assert!(rt; refused.refusal == Refusal::Damaged);
-            Ok(())
-        }
-    }
+fn content_of(alloc: Global, disk: &mut SimDisk) -> Result<Vec<u8>, Fail> {
+    let mut content = vec![in alloc; 0; disk.len()?]?;
+    disk.read_at(0, &mut content)?;
+    Ok(content)
 }
 
 #[test]
@@ -128,7 +102,13 @@ fn a_batch_has_at_most_65535_records(rt: HostRuntime) -> Result<(), Fail> {
     assert!(rt; journal.stage(&Record::Horizon(7)) == Err(Refusal::Full));
     assert_eq!(rt; journal.staged_len(), 65_535);
     flush(&mut journal)?;
-    assert_eq!(rt; found_again(alloc, journal)?.len(), 65_535);
+    let (mut a, b) = journal.into_devices();
+    // 589,818 bytes of the batch between a gate with its length and a gate.
+    assert_eq!(rt; a.len()?, 5 + 589_818 + 1);
+    let (_, records) = opened(alloc, a, b)?;
+    let places = places(alloc, &records)?;
+    assert_eq!(rt; places.len(), 65_535);
+    assert!(rt; places.iter().copied().eq(0..65_535));
     Ok(())
 }
 

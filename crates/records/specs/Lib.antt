@@ -1,6 +1,7 @@
 pub mod Format
-pub mod Reading
 pub mod Giving
+pub mod Laws
 pub mod Putting
+pub mod Reading
 pub mod Replays
 pub mod Coordinators

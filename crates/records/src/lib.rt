@@ -12,6 +12,7 @@ mod decode;
 mod distinct;
 mod encode;
 mod format;
+mod laws;
 mod put;
 mod put_tuple;
 mod put_write;
@@ -23,6 +24,7 @@ mod unread;
 
 pub use decode::decode_batch;
 pub use format::{MAX_PARTS, MAX_RECORDS, VERSION};
+pub use laws::no_record_begins_another;
 pub use record::{Part, Parts, Record};
 
 #[cfg(test)]

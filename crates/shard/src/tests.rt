@@ -1,6 +1,9 @@
 // A shard over disks in memory, and over the bytes of a first opening.
 ghost use Rattle.std.specs.Prelude.{◌≤◌, ◌<◌};
 
+mod images;
+mod votes;
+
 use crate::{Shard, VoteReply};
 use decisions::{Intent, Ticket};
 use device::{Device, SimDisk, Stopped, Tear};

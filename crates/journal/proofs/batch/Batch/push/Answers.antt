@@ -11,21 +11,21 @@ on_err (Err e) p = p
 
 pub returns-then-self-eq-MAX_RECORDS-clause-full : goal.returns-then-self-eq-MAX_RECORDS-clause-full
 returns-then-self-eq-MAX_RECORDS-clause-full c =
-    subst (λ (v : List Record). HasNoRoom v c.args.record.now) c.self.view_is (no_room_few _ _ _ c.self.invariant c.args.record.now c.if-self-eq-MAX_RECORDS.true)
+    subst (λ (v : List Record). HasNoRoom v c.args.next.now) c.self.view_is (no_room_few _ _ _ c.self.invariant c.args.next.now c.if-self-eq-MAX_RECORDS.true)
 
 pub returns-in_err-spell-clause-full : goal.returns-in_err-spell-clause-full
 returns-in_err-spell-clause-full c =
-    on_err c.from_residual.result (subst (λ (v : List Record). HasNoRoom v c.args.record.now) c.self.view_is (no_room_long _ _ _ c.self.invariant c.args.record.now c.in_err-spell.ensures.full))
+    on_err c.from_residual.result (subst (λ (v : List Record). HasNoRoom v c.args.next.now) c.self.view_is (no_room_long _ _ _ c.self.invariant c.args.next.now c.in_err-spell.ensures.full))
 
 pub invariant_of-self-2 : goal.invariant_of-self-2
-invariant_of-self-2 c = pushed _ _ _ c.self.invariant c.args.record.now c.requires _ _ c.in_ok-spell.ensures.ok.0 c.in_ok-spell.ensures.ok.1 c.if-self-eq-MAX_RECORDS.false c.in_ok-spell.ensures.capacity
+invariant_of-self-2 c = pushed _ _ _ c.self.invariant c.args.next.now c.requires _ _ c.in_ok-spell.ensures.ok.0 c.in_ok-spell.ensures.ok.1 c.if-self-eq-MAX_RECORDS.false c.in_ok-spell.ensures.capacity
 
 pub returns-clause-ok : goal.returns-clause-ok
 returns-clause-ok c =
-    pushed_view _ _ _ c.self.invariant c.args.record.now c.requires _ _ c.in_ok-spell.ensures.ok.0 c.in_ok-spell.ensures.ok.1 c.if-self-eq-MAX_RECORDS.false c.in_ok-spell.ensures.capacity
-    ∙ ap (λ (v : List Record). v ++ c.args.record.now ∷ []) c.self.view_is
+    pushed_view _ _ _ c.self.invariant c.args.next.now c.requires _ _ c.in_ok-spell.ensures.ok.0 c.in_ok-spell.ensures.ok.1 c.if-self-eq-MAX_RECORDS.false c.in_ok-spell.ensures.capacity
+    ∙ ap (λ (v : List Record). v ++ c.args.next.now ∷ []) c.self.view_is
 
 pub returns-clause-room : goal.returns-clause-room
 returns-clause-room c =
-    subst (λ (v : List Record). HasNoRoom v c.args.record.now → ⊥) c.self.view_is
-    (has_room _ _ _ c.self.invariant c.args.record.now c.requires _ _ c.in_ok-spell.ensures.ok.0 c.in_ok-spell.ensures.ok.1 c.if-self-eq-MAX_RECORDS.false c.in_ok-spell.ensures.capacity)
+    subst (λ (v : List Record). HasNoRoom v c.args.next.now → ⊥) c.self.view_is
+    (has_room _ _ _ c.self.invariant c.args.next.now c.requires _ _ c.in_ok-spell.ensures.ok.0 c.in_ok-spell.ensures.ok.1 c.if-self-eq-MAX_RECORDS.false c.in_ok-spell.ensures.capacity)
