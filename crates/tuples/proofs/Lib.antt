@@ -7,3 +7,5 @@ pub mod Selecting
 pub mod Once
 pub mod Kept
 pub mod Named
+pub mod BitsOf
+pub mod Sets

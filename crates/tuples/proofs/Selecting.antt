@@ -12,7 +12,7 @@ use Rattle.tuples.proofs.Cuts.{cut_once, cut_nowhere}
 use Rattle.tuples.proofs.Spelling.{name_lacks, object_lacks, tuple_has_cut, tuple_parts, userset_has_colon, front_of}
 
 -- the text before a relation has no `#`, so it ends at one place
-relation_once : (a c : List ℕ) (r s : Option (List ℕ)) → Lacks 35 a → Lacks 35 c → a ++ relation_text r ≡ c ++ relation_text s → (a ≡ c) × (r ≡ s)
+pub relation_once : (a c : List ℕ) (r s : Option (List ℕ)) → Lacks 35 a → Lacks 35 c → a ++ relation_text r ≡ c ++ relation_text s → (a ≡ c) × (r ≡ s)
 relation_once a c None None ha hc e = (sym (append-nil a) ∙ e ∙ append-nil c, refl)
 relation_once a c None (Some s) ha hc e = absurd (cut_nowhere 35 c s (subst (Lacks 35) (sym (append-nil a) ∙ e) ha))
 relation_once a c (Some r) None ha hc e = absurd (cut_nowhere 35 a r (subst (Lacks 35) (sym (append-nil c) ∙ sym e) hc))
@@ -26,11 +26,11 @@ lacks_append : (mark : ℕ) (a b : List ℕ) → Lacks mark a → Lacks mark b �
 lacks_append mark a b ha hb = let whole = list_any-append (λ x. eqb x mark) a b in grind (arith, nat_tests)
 
 -- no tupleset of an object has an `@`
-of_object_lacks : (o : Object) (r : Option (List ℕ)) → IsObject o → IsRelation r → Lacks 64 (object_text o ++ relation_text r)
+pub of_object_lacks : (o : Object) (r : Option (List ℕ)) → IsObject o → IsRelation r → Lacks 64 (object_text o ++ relation_text r)
 of_object_lacks o r vo vr = lacks_append 64 (object_text o) (relation_text r) (object_lacks 64 refl refl refl o vo) (relation_lacks 64 refl refl r vr)
 
 -- no `:` or `@` stands before the `@` in a tupleset of a user
-front_lacks : (mark : ℕ) → is_name_byte mark ≡ false → eqb 35 mark ≡ false → (n : List ℕ) (r : Option (List ℕ)) → IsName n → IsRelation r → Lacks mark (n ++ relation_text r)
+pub front_lacks : (mark : ℕ) → is_name_byte mark ≡ false → eqb 35 mark ≡ false → (n : List ℕ) (r : Option (List ℕ)) → IsName n → IsRelation r → Lacks mark (n ++ relation_text r)
 front_lacks mark out apart n r vn vr = lacks_append mark n (relation_text r) (name_lacks mark out n vn) (relation_lacks mark out apart r vr)
 
 -- tuplesets of an object

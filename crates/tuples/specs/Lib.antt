@@ -3,9 +3,11 @@ pub mod Refusals
 pub mod Order
 pub mod Texts
 pub mod Parsing
+pub mod Laws
 pub mod Changes
 pub mod Writes
 pub mod Log
 pub mod Reads
 pub mod Parts
+pub mod Bits
 pub mod Versions

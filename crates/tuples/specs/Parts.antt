@@ -4,7 +4,9 @@ use Rattle.tuples.specs.declared.object.Object.{Object}
 use Rattle.tuples.specs.declared.change.Change.{Change}
 use Rattle.tuples.specs.declared.change.Condition.{Condition}
 use Rattle.tuples.specs.declared.entry.Entry.{Entry}
+use Rattle.tuples.specs.declared.entry.WriteId.{WriteId}
 use Rattle.tuples.specs.Changes.{tuple_of}
+use Rattle.tuples.specs.Writes.{WriteValue}
 
 -- the shard of an object, of so many: the sum of the bytes of namespace:id
 unfoldable pub shard_of : ℕ → Object → ℕ
@@ -25,3 +27,7 @@ takes_part shards s w = not (length (part shards s w).changes == 0) || not (leng
 -- what a shard has in doubt of a decided write that it has not learned: exactly its part, and nothing where it has none
 unfoldable pub expected : ℕ → ℕ → Entry → Option Entry
 expected shards s w = if takes_part shards s w then Some (part shards s w) else None
+
+-- the write under an id
+abbrev pub with_id : WriteId → WriteValue → Entry
+with_id id w = record { id = id; changes = w.changes; conditions = w.conditions }

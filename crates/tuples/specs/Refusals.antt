@@ -1,5 +1,6 @@
 -- The numbers and names of the refusals.
-use Rattle.std.specs.Prelude.{ℕ, List, codes}
+use Rattle.std.specs.Prelude.{ℕ, List, ◌∷◌, ◌++◌, codes}
+use Rattle.std.specs.Fmt.{decimal}
 use Rattle.tuples.specs.declared.refusal.Refusal.{Refusal}
 use Rattle.tuples.specs.declared.refusal.Refusal.TheVariants.{BadRequest, BadTuple, TooLarge, Repeated, BadZookie, WrongStore, Future, Collected, Precondition, Busy, Aborted, Unsure, Down, NoMemory, Full, Damaged}
 
@@ -40,3 +41,7 @@ name_of Down = codes "Down"
 name_of NoMemory = codes "NoMemory"
 name_of Full = codes "Full"
 name_of Damaged = codes "Damaged"
+
+-- the number, a space and the name
+abbrev pub refusal_text : Refusal → List ℕ
+refusal_text r = decimal (number_of r) ++ 32 ∷ name_of r

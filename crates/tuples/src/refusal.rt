@@ -1,6 +1,6 @@
 // Why a call was refused.
-ghost use Rattle.std.specs.Prelude.{◌≡◌};
-ghost use Rattle.tuples.specs.Refusals.{name_of, number_of};
+ghost use Rattle.std.specs.Prelude.{◌≡◌, Some};
+ghost use Rattle.tuples.specs.Refusals.{name_of, number_of, refusal_text};
 ghost use Rattle.tuples.specs.declared.refusal.Refusal.TheVariants.{NoMemory};
 
 use std::alloc::AllocError;
@@ -96,6 +96,8 @@ impl Refusal {
 
 /// The number and the name, as `13 Down`.
 impl fmt::Display for Refusal {
+    ghost output = { λ r. Some (refusal_text r) };
+
     fn fmt<W: fmt::Write>(&self, f: &mut fmt::Formatter<W>) -> fmt::Result {
         let number = self.number();
         let name = self.name();

@@ -1,1 +1,2 @@
 pub mod Zookies
+pub mod Bytes

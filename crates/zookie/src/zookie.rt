@@ -1,8 +1,10 @@
 // A token for a place (Zanzibar, USENIX ATC 2019, section 2.2).
-ghost use Rattle.std.specs.Prelude.{◌≡◌};
-ghost use Rattle.zookie.specs.Zookies.{zookie_bytes, zookie_text};
+ghost use Rattle.std.specs.Prelude.{◌≡◌, ◌⊎◌, ◌↔◌, IfOk, IfErr, IsErrOf, MatchOption};
+ghost use Rattle.zookie.specs.Zookies.{ArePair, IsNoZookie, IsOfAnotherStore, zookie_text};
 
-use base64::engine::general_purpose::STANDARD;
+use crate::bytes::{bytes_of, zookie_of};
+use crate::text::{bytes_of_text, text_of_bytes};
+use tuples::Refusal;
 
 /// A place of the log of a store.
 #[derive(Clone, Copy, Debug, PartialEq, Eq)]
@@ -16,38 +18,33 @@ impl Zookie {
     pub fn encode(&self) -> [u8; 24]
         ensures { result ≡ zookie_text self.now.store self.now.place }
     {
-        let bytes = self.bytes();
-        let mut text = [0u8; 24];
-        match STANDARD.encode_slice(&bytes, &mut text) {
-            Ok(_) => text,
-            Err(_) => unreachable!(),
-        }
+        text_of_bytes(&bytes_of(self))
     }
 
-    // version, reserved, store, place
-    fn bytes(&self) -> [u8; 18]
-        ensures { result ≡ zookie_bytes self.now.store self.now.place }
+    /// The place of this store that has the text. It is refused with `BadZookie` where the text is that of no token,
+    /// and else with `WrongStore` where it is another store's.
+    pub fn decode(text: &[u8], store: u64) -> Result<Zookie, Refusal>
+        ensures ok { IfOk result (λ z. (z.store ≡ store) × (text.now ≡ zookie_text z.store z.place)) }
+        ensures bad { IsErrOf result Refusal.BadZookie ↔ IsNoZookie text.now }
+        ensures other { IsErrOf result Refusal.WrongStore ↔ IsOfAnotherStore store text.now }
+        ensures err { IfErr result (λ e. (e ≡ Refusal.BadZookie) ⊎ (e ≡ Refusal.WrongStore)) }
     {
-        let mut bytes = [0u8; 18];
-        bytes[0] = 1;
-        let store = self.store.to_be_bytes();
-        let place = self.place.to_be_bytes();
-        bytes[2..10].copy_from_slice(&store);
-        bytes[10..].copy_from_slice(&place);
-        bytes
+        let Some(zookie) = Zookie::read(text) else {
+            return Err(Refusal::BadZookie);
+        };
+        if zookie.store != store {
+            return Err(Refusal::WrongStore);
+        }
+        Ok(zookie)
     }
-}
 
-#[cfg(test)]
-mod tests {
-    use super::*;
-
-    #[test]
-    fn the_text_of_store_1_at_place_3(rt: HostRuntime) {
-        let zookie = Zookie { store: 1, place: 3 };
-        assert_eq!(rt;
-            zookie.encode().as_slice(),
-            b"AQAAAAAAAAAAAQAAAAAAAAAD".as_slice()
-        );
+    // The token that has the text.
+    fn read(text: &[u8]) -> Option<Zookie>
+        ensures { MatchOption result (IsNoZookie text.now) (λ z. ArePair z.store z.place × (text.now ≡ zookie_text z.store z.place)) }
+    {
+        let Some(bytes) = bytes_of_text(text) else {
+            return None;
+        };
+        zookie_of(&bytes)
     }
 }

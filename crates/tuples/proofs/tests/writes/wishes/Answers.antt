@@ -1,7 +1,7 @@
 use Rattle.tuples.specs.declared.change.Condition.{Condition}
 use Rattle.tuples.specs.declared.change.Want.TheVariants.{Absent}
 use Rattle.tuples.proofs.Kept.{of_condition, valid_pushed}
-use Rattle.tuples.proofs.tests.wishes.Goals as goal
+use Rattle.tuples.proofs.tests.writes.wishes.Goals as goal
 
 pub loop-number-preserved : goal.loop-number-preserved
 loop-number-preserved c =

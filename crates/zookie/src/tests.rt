@@ -1,0 +1,4 @@
+// Texts and tokens by examples.
+mod alphabet;
+mod decoding;
+mod encoding;
