@@ -1,13 +1,14 @@
 -- Values that pass between the coordinator and the shards, as contracts see them.
-use Rattle.std.specs.Prelude.{◌≡◌, ◌≤◌, ℕ, List, true, is_some}
+use Rattle.std.specs.Prelude.{◌≡◌, ◌≤◌, ◌++◌, ℕ, List, true, is_some}
 use Rattle.tuples.specs.declared.entry.Entry.{Entry}
 use Rattle.tuples.specs.declared.entry.WriteId.{WriteId}
 use Rattle.tuples.specs.Changes.{IsWrite}
 use Rattle.records.specs.declared.record.Record.{Record}
 use Rattle.records.specs.Format.{IsWriteId}
+use Rattle.records.specs.Coordinators.{IsNotAbove, coordinator_state, end_of}
 use Rattle.records.specs.Replays.{shard_state, find_in_doubt, greatest_number}
 use Rattle.device.specs.Device.{State, left}
-use Rattle.journal.specs.Records.{Finds}
+use Rattle.journal.specs.Records.{Finds, HasRecords, View}
 
 -- an intent: the write with its id, and the kept place when it was begun
 pub record IntentValue : Type 0 where
@@ -34,3 +35,60 @@ pub record BatchValue : Type 0 where
 abbrev pub IsPreparedIn : {D : Type 0} → (D → State) → (D → Type 0) → D → D → WriteId → Type 0
 IsPreparedIn state honest a b id =
     honest a → honest b → (rs : List Record) → Finds (left (state a)) (left (state b)) rs → is_some (find_in_doubt id (shard_state rs).in_doubt) ≡ true
+
+-- a ticket: the write, and how often its shard was opened
+pub record TicketValue : Type 0 where
+  pub id : WriteId
+  pub epoch : ℕ
+
+-- the write is in doubt by what is durable and staged
+abbrev pub IsHeldBy : {D : Type 0} → (D → Type 0) → View D → WriteId → Type 0
+IsHeldBy honest j id = honest j.a → honest j.b → is_some (find_in_doubt id (shard_state (j.durable ++ j.staged)).in_doubt) ≡ true
+
+-- a shard with these records, durable and staged, was opened so often
+abbrev pub HasEpoch : {D : Type 0} → (D → Type 0) → View D → ℕ → Type 0
+HasEpoch honest j epoch = honest j.a → honest j.b → epoch ≡ (shard_state (j.durable ++ j.staged)).epoch
+
+-- a vote: the write, and the shard where its prepare lies
+pub record VoteValue : Type 0 where
+  pub id : WriteId
+  pub shard : ℕ
+
+-- a shard, and the place that it has learned for good
+pub record SettledValue : Type 0 where
+  pub shard : ℕ
+  pub place : ℕ
+
+-- whatever a stop leaves of the two devices has learned at least to the place
+abbrev pub HasLearnedIn : {D : Type 0} → (D → State) → (D → Type 0) → D → D → ℕ → Type 0
+HasLearnedIn state honest a b place = honest a → honest b → (rs : List Record) → Finds (left (state a)) (left (state b)) rs → place ≤ (shard_state rs).learned
+
+-- a verdict: the write that was aborted
+pub record VerdictValue : Type 0 where
+  pub id : WriteId
+
+-- no decision above the horizon has the id, in whatever a stop leaves of a coordinator, nor by what is durable and staged there
+pub record IsNowhereAbove {D : Type 0} (state : D → State) (j : View D) (id : WriteId) : Type 0 where
+  pub anywhere : (rs : List Record) → Finds (left (state j.a)) (left (state j.b)) rs → IsNotAbove id (coordinator_state rs)
+  pub now : IsNotAbove id (coordinator_state (j.durable ++ j.staged))
+
+-- over honest devices the write is not decided
+abbrev pub IsAbortedBy : {D : Type 0} → (D → State) → (D → Type 0) → View D → WriteId → Type 0
+IsAbortedBy state honest j id = honest j.a → honest j.b → IsNowhereAbove state j id
+
+-- the numbers of a coordinator: of its decisions, of those that every stop leaves, and its durable horizon
+pub record HeadsValue : Type 0 where
+  pub length : ℕ
+  pub kept : ℕ
+  pub horizon : ℕ
+
+-- every stop leaves the durable records, and the numbers are those of the records
+pub record CountsRecords {D : Type 0} (state : D → State) (j : View D) (h : HeadsValue) : Type 0 where
+  pub rest : HasRecords (state j.a) (state j.b) j.durable
+  pub length : h.length ≡ end_of (coordinator_state (j.durable ++ j.staged))
+  pub kept : h.kept ≡ end_of (coordinator_state j.durable)
+  pub horizon : h.horizon ≡ (coordinator_state j.durable).horizon
+
+-- over honest devices these are the numbers of a coordinator
+abbrev pub AreHeadsOf : {D : Type 0} → (D → State) → (D → Type 0) → View D → HeadsValue → Type 0
+AreHeadsOf state honest j h = honest j.a → honest j.b → CountsRecords state j h

@@ -2,15 +2,27 @@
 //!
 //! Keeps: an `Intent` has a whole write, a `Vote` a prepare that every stop leaves, and each of them is spent once.
 //! Never: touches a device.
-//! Callers rely on: only who shows the durable fact can make a `Vote`.
+//! Callers rely on: only who shows it by a journal can make a `Ticket`, `Vote`, `Settled`, `Verdict` or `Heads`.
 //!
 //! Start at `specs/Values.antt`, what each value is.
 #![tactic(auto)]
 
 mod batch;
+mod heads;
+mod held;
 mod intent;
+mod settled;
+#[cfg(test)]
+mod tests;
+mod ticket;
+mod verdict;
 mod vote;
 
 pub use batch::{Batch, MAX_BATCH};
+pub use heads::Heads;
+pub use held::Held;
 pub use intent::Intent;
-pub use vote::{Ticket, Vote};
+pub use settled::Settled;
+pub use ticket::Ticket;
+pub use verdict::Verdict;
+pub use vote::Vote;

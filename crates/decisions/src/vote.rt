@@ -1,35 +1,27 @@
-// What a shard promises of a write: first a ticket, and once its prepare is durable a vote.
+// A vote: a prepare is durable.
 ghost use Rattle.std.specs.Prelude.{◌≡◌};
 ghost use Rattle.decisions.specs.Values.{IsPreparedIn};
 
 use device::Device;
 use journal::Journal;
+use std::marker::Model;
 use tuples::WriteId;
-
-/// A prepare was staged at a shard in this epoch of it. It has no `Drop`, so it has to go back to that shard or be left.
-#[must_use]
-#[derive(Debug)]
-pub struct Ticket {
-    pub id: WriteId,
-    pub epoch: u64,
-}
-
-impl Ticket {
-    /// Only spends it: the write stays in doubt at its shard.
-    pub fn leave(self) {
-        let Ticket { id: _, epoch: _ } = self;
-    }
-}
 
 /// The prepare of the write lies at the shard in whatever a stop leaves there. It has no `Drop`, so it has to be handed to the
 /// decision or left.
 #[must_use]
 #[derive(Debug)]
 pub struct Vote {
-    pub id: WriteId,
-    pub shard: u8,
-    // made only by `new`
-    shown: (),
+    id: WriteId,
+    shard: u8,
+}
+
+impl Model for Vote {
+    ghost use Rattle.decisions.specs.Values.{VoteValue};
+
+    ghost Value = { VoteValue };
+
+    ghost view = { λ v. record { id = v.id; shard = v.shard } };
 }
 
 impl Vote {
@@ -40,19 +32,25 @@ impl Vote {
         ensures shard { result.shard ≡ shard }
     {
         let _journal = journal;
-        Vote {
-            id,
-            shard,
-            shown: (),
-        }
+        Vote { id, shard }
+    }
+
+    /// The id of the write.
+    pub fn id(&self) -> WriteId
+        ensures { result ≡ self.now.id }
+    {
+        self.id
+    }
+
+    /// The shard where the prepare lies.
+    pub fn shard(&self) -> u8
+        ensures { result ≡ self.now.shard }
+    {
+        self.shard
     }
 
     /// Only spends it: the write stays in doubt at its shard.
     pub fn leave(self) {
-        let Vote {
-            id: _,
-            shard: _,
-            shown: _,
-        } = self;
+        let Vote { id: _, shard: _ } = self;
     }
 }

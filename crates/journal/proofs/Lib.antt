@@ -1,3 +1,4 @@
 pub mod Joined
 pub mod Staged
 pub mod Flushes
+mod Fitting

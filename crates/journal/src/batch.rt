@@ -19,7 +19,7 @@ use tuples::Refusal;
 const HEAD: usize = 7;
 
 /// The most bytes before the last one, which the log fills itself.
-const MAX_LEN: usize = MAX_BODY + 4;
+pub(crate) const MAX_LEN: usize = MAX_BODY + 4;
 
 /// More bytes than any record has. With room for them the bytes of a record that turns out too long take no memory.
 const MORE_THAN_A_RECORD: usize = 1 << 16;
@@ -28,8 +28,8 @@ const MORE_THAN_A_RECORD: usize = 1 << 16;
 #[derive(Drop)]
 pub(crate) struct Batch {
     // the head, which is written last, and the records
-    bytes: Vec<u8>,
-    count: usize,
+    pub(crate) bytes: Vec<u8>,
+    pub(crate) count: usize,
 }
 
 impl Model for Batch {

@@ -23,7 +23,7 @@ pub struct Journal<D: Device> {
     log: GatedLog<D>,
     // bank b
     spare: D,
-    staged: Batch,
+    pub(crate) staged: Batch,
     is_down: bool,
 }
 

@@ -11,6 +11,7 @@ mod batch;
 mod batches;
 mod journal;
 mod refused;
+mod room;
 #[cfg(test)]
 mod tests;
 

@@ -13,6 +13,7 @@ mod distinct;
 mod encode;
 mod format;
 mod laws;
+mod measure;
 mod put;
 mod put_tuple;
 mod put_write;
@@ -25,6 +26,7 @@ mod unread;
 pub use decode::decode_batch;
 pub use format::{MAX_PARTS, MAX_RECORDS, VERSION};
 pub use laws::no_record_begins_another;
+pub use measure::prepare_len;
 pub use record::{Part, Parts, Record};
 
 #[cfg(test)]

@@ -9,35 +9,26 @@ use Rattle.tuples.specs.declared.entry.WriteId.{WriteId}
 use Rattle.tuples.specs.Log.{same_id}
 use Rattle.tuples.specs.Parts.{shard_of}
 use Rattle.records.specs.declared.record.Part.{Part}
-use Rattle.records.specs.Replays.{ArePrepared, Identity, find_in_doubt, is_held, without}
-use Rattle.replay.specs.Rules.{are_prepared, has_part, is_free}
-use Rattle.replay.proofs.Doubts.{find_without_other, find_without_same, same_id_other, same_id_refl}
+use Rattle.records.specs.Replays.{ArePrepared, Identity, find_in_doubt, without}
+use Rattle.replay.specs.Rules.{are_prepared, has_part, is_own}
+use Rattle.holds.proofs.Doubts.{find_without_other, find_without_same, same_id_other, same_id_refl}
 
 abbrev pub AreOwn : Identity → List Tuple → Type 0
 AreOwn me = All (λ (t : Tuple). shard_of me.shards t.object ≡ me.node)
 
-abbrev pub AreFree : List Entry → List Tuple → Type 0
-AreFree ws = All (λ (t : Tuple). is_held t ws ≡ false)
+own_parts : (me : Identity) (ts : List Tuple) → list_all (is_own me) ts ≡ true → AreOwn me ts
+own_parts me [] is = All-nil _
+own_parts me (t ∷ ts) is =
+    let parts = and_parts (is_own me t) (list_all (is_own me) ts) is in
+    All-cons (λ (t : Tuple). shard_of me.shards t.object ≡ me.node) t ts (eqb-true _ _ parts.0) (own_parts me ts parts.1)
 
-free_parts : (me : Identity) (ws : List Entry) (ts : List Tuple) → list_all (is_free me ws) ts ≡ true → AreOwn me ts × AreFree ws ts
-free_parts me ws [] is = (All-nil _, All-nil _)
-free_parts me ws (t ∷ ts) is =
-    let parts = and_parts (is_free me ws t) (list_all (is_free me ws) ts) is in
-    let here = and_parts _ _ parts.0 in
-    let rest = free_parts me ws ts parts.1 in
-    (All-cons (λ (t : Tuple). shard_of me.shards t.object ≡ me.node) t ts (eqb-true _ _ here.0) rest.0, All-cons (λ (t : Tuple). is_held t ws ≡ false) t ts (not-true _ here.1) rest.1)
+own_from : (me : Identity) (ts : List Tuple) → AreOwn me ts → list_all (is_own me) ts ≡ true
+own_from me [] own = refl
+own_from me (t ∷ ts) own =
+    and_from _ _ (eq-eqb _ _ (All-head (λ (t : Tuple). shard_of me.shards t.object ≡ me.node) t ts own)) (own_from me ts (All-tail (λ (t : Tuple). shard_of me.shards t.object ≡ me.node) t ts own))
 
-free_from : (me : Identity) (ws : List Entry) (ts : List Tuple) → AreOwn me ts → AreFree ws ts → list_all (is_free me ws) ts ≡ true
-free_from me ws [] own free = refl
-free_from me ws (t ∷ ts) own free =
-    let own_here = All-head (λ (t : Tuple). shard_of me.shards t.object ≡ me.node) t ts own in
-    let free_here = All-head (λ (t : Tuple). is_held t ws ≡ false) t ts free in
-    let own_rest = All-tail (λ (t : Tuple). shard_of me.shards t.object ≡ me.node) t ts own in
-    let free_rest = All-tail (λ (t : Tuple). is_held t ws ≡ false) t ts free in
-    and_from _ _ (and_from _ _ (eq-eqb _ _ own_here) (not_from_false _ free_here)) (free_from me ws ts own_rest free_rest)
-
-pub free_decides : (me : Identity) (ws : List Entry) (ts : List Tuple) → (list_all (is_free me ws) ts ≡ true) ↔ (AreOwn me ts × AreFree ws ts)
-free_decides me ws ts = (free_parts me ws ts, λ h. free_from me ws ts h.0 h.1)
+pub own_decides : (me : Identity) (ts : List Tuple) → (list_all (is_own me) ts ≡ true) ↔ AreOwn me ts
+own_decides me ts = (own_parts me ts, own_from me ts)
 
 found_or : {X : Type 0} (o : Option X) → is_some o ≡ true → (x : X) × (o ≡ Some x)
 found_or None is = absurd cc

@@ -6,11 +6,11 @@ use Rattle.tuples.specs.declared.entry.WriteId.{WriteId}
 use Rattle.tuples.specs.Log.{same_id}
 use Rattle.tuples.specs.Parts.{shard_of}
 use Rattle.records.specs.declared.record.Part.{Part}
-use Rattle.records.specs.Replays.{Identity, find_in_doubt, is_held}
+use Rattle.records.specs.Replays.{Identity, find_in_doubt}
 
--- the tuple is this shard's, and no write in doubt names it
-abbrev pub is_free : Identity → List Entry → Tuple → Bool
-is_free me ws t = (shard_of me.shards t.object == me.node) && not (is_held t ws)
+-- the tuple is this shard's
+abbrev pub is_own : Identity → Tuple → Bool
+is_own me t = shard_of me.shards t.object == me.node
 
 -- one of the parts is of this write
 abbrev pub has_part : WriteId → List Part → Bool

@@ -1,24 +1,27 @@
 // What a shard knows, as the replay of its records.
-ghost use Rattle.std.specs.Prelude.{◌≡◌, ◌⊎◌, ◌≤◌, OnOk, OnErr, IfOk, IfErr, IsErrOf, Some, None, MatchOption};
+ghost use Rattle.std.specs.Prelude.{◌≡◌, ◌⊎◌, ◌↔◌, ◌≤◌, Contains, OnOk, OnErr, IfOk, IfErr, IsErrOf, IsTrue, Some, None, MatchOption};
+ghost use Rattle.holds.specs.Holds.{AreApart, AreAscendingIds, IsFree, ids};
 ghost use Rattle.records.specs.declared.record.Record.TheVariants.{Dropped as dropped_record, Epoch as epoch_record, Horizon as horizon_record, Learned as learned_record, Prepare as prepare_record};
 ghost use Rattle.records.specs.Replays.{MayCollect, MayCome, MayDrop, MayLearn, MayOpen, MayPrepare, empty_shard, find_in_doubt, is_held, shard_step};
 ghost use Rattle.tuples.specs.Log.{meets_want};
 ghost use Rattle.tuples.specs.Reads.{IsSelection};
 ghost use Rattle.tuples.specs.Versions.{last_version, there_at};
+ghost use Rattle.versions.specs.Rows.{AreRows};
+ghost use Rattle.replay.specs.Alike.{IsAlike};
 
-use crate::in_doubt::{self, take_out, take_out_parts};
 use crate::learning::learned_versions;
 use crate::rules::{Home, may_collect, may_drop, may_learn, may_open, may_prepare};
+use holds::Holds;
 use records::{Part, Record};
 use std::alloc::{AllocError, Global};
 use std::marker::Model;
-use tuples::{Condition, Entry, Refusal, Tuple, Tupleset, Want, WriteId};
+use tuples::{Condition, Entry, Refusal, Tuple, Tupleset, Version, Want, WriteId};
 use versions::Versions;
 
 /// What a shard knows, which contracts see as the state that its records stand for.
 #[derive(Drop)]
 pub struct Memory {
-    in_doubt: Vec<Entry>,
+    in_doubt: Holds,
     learned: u64,
     horizon: u64,
     versions: Versions,
@@ -30,7 +33,7 @@ impl Model for Memory {
 
     ghost Value = { ShardState };
 
-    ghost view = { λ m. record { in_doubt = m.in_doubt.items; learned = m.learned; horizon = m.horizon; rows = m.versions; epoch = m.epoch } };
+    ghost view = { λ m. record { in_doubt = m.in_doubt; learned = m.learned; horizon = m.horizon; rows = m.versions; epoch = m.epoch } };
 }
 
 impl Memory {
@@ -39,7 +42,7 @@ impl Memory {
         ensures { result ≡ empty_shard }
     {
         Memory {
-            in_doubt: Vec::new(alloc),
+            in_doubt: Holds::new(alloc),
             learned: 0,
             horizon: 0,
             versions: Versions::new(alloc),
@@ -59,7 +62,7 @@ impl Memory {
     ) -> Result<(), Refusal>
         requires some { 1 ≤ shards }
         requires few { shards ≤ 64 }
-        ensures ok { OnOk result (MayCome (record { store = store; shards = shards; node = node }) self.old found × (self.new ≡ shard_step self.old found)) }
+        ensures ok { OnOk result (MayCome (record { store = store; shards = shards; node = node }) self.old found × IsAlike self.new (shard_step self.old found)) }
         ensures damaged { IsErrOf result Refusal.Damaged → MayCome (record { store = store; shards = shards; node = node }) self.old found → ⊥ }
         ensures err { IfErr result (λ e. (e ≡ Refusal.Damaged) ⊎ (e ≡ Refusal.NoMemory)) }
     {
@@ -94,7 +97,7 @@ impl Memory {
     fn replay_prepare(&mut self, home: &Home, entry: Entry) -> Result<(), Refusal>
         requires some { 1 ≤ home.now.shards }
         requires few { home.now.shards ≤ 64 }
-        ensures ok { OnOk result (MayPrepare home.now self.old entry × (self.new ≡ shard_step self.old (prepare_record entry))) }
+        ensures ok { OnOk result (MayPrepare home.now self.old entry × IsAlike self.new (shard_step self.old (prepare_record entry))) }
         ensures damaged { IsErrOf result Refusal.Damaged → MayPrepare home.now self.old entry → ⊥ }
         ensures err { IfErr result (λ e. (e ≡ Refusal.Damaged) ⊎ (e ≡ Refusal.NoMemory)) }
     {
@@ -106,7 +109,7 @@ impl Memory {
     }
 
     fn replay_learned(&mut self, alloc: Global, to: u64, parts: &[Part]) -> Result<(), Refusal>
-        ensures ok { OnOk result (MayLearn self.old to parts.now × (self.new ≡ shard_step self.old (learned_record to parts.now))) }
+        ensures ok { OnOk result (MayLearn self.old to parts.now × IsAlike self.new (shard_step self.old (learned_record to parts.now))) }
         ensures damaged { IsErrOf result Refusal.Damaged → MayLearn self.old to parts.now → ⊥ }
         ensures err { IfErr result (λ e. (e ≡ Refusal.Damaged) ⊎ (e ≡ Refusal.NoMemory)) }
     {
@@ -119,20 +122,20 @@ impl Memory {
 
     #[tactic(auto, unfolding(records::specs::Replays::shard_step))]
     fn replay_dropped(&mut self, id: WriteId) -> Result<(), Refusal>
-        ensures ok { OnOk result (MayDrop self.old id × (self.new ≡ shard_step self.old (dropped_record id))) }
+        ensures ok { OnOk result (MayDrop self.old id × IsAlike self.new (shard_step self.old (dropped_record id))) }
         ensures damaged { IsErrOf result Refusal.Damaged → MayDrop self.old id → ⊥ }
         ensures err { IfErr result (λ e. e ≡ Refusal.Damaged) }
     {
         if !may_drop(self, id) {
             return Err(Refusal::Damaged);
         }
-        take_out(&mut self.in_doubt, id);
+        self.drop_write(id);
         Ok(())
     }
 
     #[tactic(auto, unfolding(records::specs::Replays::shard_step))]
     fn replay_epoch(&mut self, home: &Home, epoch: u64, at: &Home) -> Result<(), Refusal>
-        ensures ok { OnOk result (MayOpen home.now self.old epoch at.now.store at.now.shards at.now.node × (self.new ≡ shard_step self.old (epoch_record epoch at.now.store at.now.shards at.now.node))) }
+        ensures ok { OnOk result (MayOpen home.now self.old epoch at.now.store at.now.shards at.now.node × IsAlike self.new (shard_step self.old (epoch_record epoch at.now.store at.now.shards at.now.node))) }
         ensures damaged { IsErrOf result Refusal.Damaged → MayOpen home.now self.old epoch at.now.store at.now.shards at.now.node → ⊥ }
         ensures err { IfErr result (λ e. e ≡ Refusal.Damaged) }
     {
@@ -145,15 +148,14 @@ impl Memory {
 
     #[tactic(auto, unfolding(records::specs::Replays::shard_step))]
     fn replay_horizon(&mut self, place: u64) -> Result<(), Refusal>
-        ensures ok { OnOk result (MayCollect self.old place × (self.new ≡ shard_step self.old (horizon_record place))) }
+        ensures ok { OnOk result (MayCollect self.old place × IsAlike self.new (shard_step self.old (horizon_record place))) }
         ensures damaged { IsErrOf result Refusal.Damaged → MayCollect self.old place → ⊥ }
         ensures err { IfErr result (λ e. e ≡ Refusal.Damaged) }
     {
         if !may_collect(self, place) {
             return Err(Refusal::Damaged);
         }
-        self.horizon = place;
-        self.versions.collect(place);
+        self.collect(place);
         Ok(())
     }
 
@@ -164,13 +166,15 @@ impl Memory {
         self.epoch = epoch;
     }
 
-    /// Holds a write in doubt. Where memory is refused, nothing has changed.
+    /// Holds a write in doubt: `Busy` where it is not free, `NoMemory`. After a refusal nothing has changed.
     #[tactic(auto, unfolding(records::specs::Replays::shard_step))]
-    pub fn prepare(&mut self, entry: Entry) -> Result<(), AllocError>
+    pub fn prepare(&mut self, entry: Entry) -> Result<(), Refusal>
         ensures ok { OnOk result (self.new ≡ shard_step self.old (prepare_record entry)) }
-        ensures err { OnErr result (self.new ≡ self.old) }
+        ensures busy { IsErrOf result Refusal.Busy ↔ (IsFree self.old.in_doubt entry → ⊥) }
+        ensures err { IfErr result (λ e. (e ≡ Refusal.Busy) ⊎ (e ≡ Refusal.NoMemory)) }
+        ensures same { OnErr result (self.new ≡ self.old) }
     {
-        self.in_doubt.push(entry)?;
+        self.in_doubt.take(entry)?;
         Ok(())
     }
 
@@ -178,15 +182,32 @@ impl Memory {
     #[tactic(auto, unfolding(records::specs::Replays::shard_step))]
     pub fn learn(&mut self, alloc: Global, to: u64, parts: &[Part]) -> Result<(), AllocError>
         requires { MayLearn self.old to parts.now }
-        ensures ok { OnOk result (self.new ≡ shard_step self.old (learned_record to parts.now)) }
+        ensures ok { OnOk result (IsAlike self.new (shard_step self.old (learned_record to parts.now))) }
         ensures err { OnErr result (self.new ≡ self.old) }
     {
         let rows = learned_versions(alloc, parts, &self.in_doubt)?;
         self.versions.append(rows)?;
         // Nothing is refused from here on.
         self.learned = to;
-        take_out_parts(&mut self.in_doubt, parts);
+        self.in_doubt.release_parts(parts);
         Ok(())
+    }
+
+    /// Holds a write no longer, which takes no memory.
+    #[tactic(auto, unfolding(records::specs::Replays::shard_step))]
+    pub fn drop_write(&mut self, id: WriteId)
+        ensures { self.new ≡ shard_step self.old (dropped_record id) }
+    {
+        self.in_doubt.release(id);
+    }
+
+    /// Sets the horizon and forgets the versions under it, which takes no memory.
+    #[tactic(auto, unfolding(records::specs::Replays::shard_step))]
+    pub fn collect(&mut self, place: u64)
+        ensures { IsAlike self.new (shard_step self.old (horizon_record place)) }
+    {
+        self.horizon = place;
+        self.versions.collect(place);
     }
 
     /// The place up to which decisions are applied.
@@ -214,14 +235,21 @@ impl Memory {
     pub fn find(&self, id: WriteId) -> Option<&Entry>
         ensures { MatchOption result (find_in_doubt id self.now.in_doubt ≡ None) (λ w. find_in_doubt id self.now.in_doubt ≡ Some w.now) }
     {
-        in_doubt::find(&self.in_doubt, id)
+        self.in_doubt.find(id)
     }
 
     /// Whether a write in doubt names the tuple.
     pub fn is_held(&self, tuple: &Tuple) -> bool
         ensures { result ≡ is_held tuple.now self.now.in_doubt }
     {
-        in_doubt::is_held(&self.in_doubt, tuple)
+        self.in_doubt.is_held(tuple)
+    }
+
+    /// Whether no write in doubt has the id of this one, or names one of its tuples.
+    pub fn is_free(&self, entry: &Entry) -> bool
+        ensures { IsTrue result ↔ IsFree self.now.in_doubt entry.now }
+    {
+        self.in_doubt.is_free(entry)
     }
 
     /// Whether the condition holds by the versions that the shard has learned.
@@ -242,8 +270,30 @@ impl Memory {
         self.versions.at(alloc, place, set)
     }
 
+    /// Copies of the versions, by tuple and then by place.
+    pub fn rows(&self, alloc: Global) -> Result<Vec<Version>, AllocError>
+        ensures { IfOk result (λ v. AreRows self.now.rows v.items) }
+    {
+        self.versions.rows(alloc)
+    }
+
     /// The writes in doubt, in the order of their prepares.
     pub fn in_doubt(&self) -> &[Entry]
+        ensures same { result.now ≡ self.now.in_doubt }
+        ensures apart { AreApart self.now.in_doubt }
+    {
+        self.in_doubt.writes()
+    }
+
+    /// The ids of the writes in doubt, ascending.
+    pub fn ids_in_doubt(&self, alloc: Global) -> Result<Vec<WriteId>, AllocError>
+        ensures ascending { IfOk result (λ v. AreAscendingIds v.items) }
+        ensures exact { IfOk result (λ v. (id : _) → Contains v.items id ↔ Contains (ids self.now.in_doubt) id) }
+    {
+        self.in_doubt.in_doubt(alloc)
+    }
+
+    pub(crate) fn held(&self) -> &Holds
         ensures { result.now ≡ self.now.in_doubt }
     {
         &self.in_doubt

@@ -4,10 +4,10 @@ ghost use Rattle.std.specs.List.{list_all};
 ghost use Rattle.records.specs.declared.record.Part.{Part as AnyPart};
 ghost use Rattle.records.specs.Replays.{MayCollect, MayDrop, MayLearn, MayOpen, MayPrepare, greatest_number, named};
 ghost use Rattle.tuples.specs.Changes.{changed, conditioned};
-ghost use Rattle.replay.specs.Rules.{are_prepared as are_parts_prepared, has_part as is_part_there, is_free as is_tuple_free};
+ghost use Rattle.replay.specs.Rules.{are_prepared as are_parts_prepared, has_part as is_part_there, is_own as is_own_tuple};
 
 use crate::Memory;
-use crate::in_doubt::{find, is_held, is_same};
+use holds::{Holds, is_same};
 use records::Part;
 use std::marker::Model;
 use tuples::{Change, Condition, Entry, MAX_NUMBER, Tuple, WriteId, shard_of};
@@ -41,10 +41,10 @@ pub fn may_prepare(home: &Home, memory: &Memory, entry: &Entry) -> bool
     if !is_number(entry.id.epoch) || !is_number(entry.id.number) {
         return false;
     }
-    if memory.find(entry.id).is_some() {
+    if !memory.is_free(entry) {
         return false;
     }
-    are_tuples_free(home, memory.in_doubt(), entry)
+    are_tuples_own(home, entry)
 }
 
 /// Places only rise, and each part is of another write in doubt.
@@ -60,7 +60,7 @@ pub fn may_learn(memory: &Memory, to: u64, parts: &[Part]) -> bool
     if !are_above(memory.learned(), parts) {
         return false;
     }
-    are_prepared(parts, memory.in_doubt())
+    are_prepared(parts, memory.held())
 }
 
 /// The write is in doubt.
@@ -98,47 +98,47 @@ fn is_number(number: u64) -> bool
     number >= 1 && number <= MAX_NUMBER
 }
 
-fn are_tuples_free(home: &Home, entries: &[Entry], entry: &Entry) -> bool
+fn are_tuples_own(home: &Home, entry: &Entry) -> bool
     requires some { 1 ≤ home.now.shards }
     requires few { home.now.shards ≤ 64 }
-    ensures { result ≡ list_all (is_tuple_free home.now entries.now) (named entry.now) }
+    ensures { result ≡ list_all (is_own_tuple home.now) (named entry.now) }
 {
-    are_changes_free(home, entries, entry.changes.as_slice())
-        && are_conditions_free(home, entries, entry.conditions.as_slice())
+    are_changes_own(home, entry.changes.as_slice())
+        && are_conditions_own(home, entry.conditions.as_slice())
 }
 
-fn are_changes_free(home: &Home, entries: &[Entry], changes: &[Change]) -> bool
+fn are_changes_own(home: &Home, changes: &[Change]) -> bool
     requires some { 1 ≤ home.now.shards }
     requires few { home.now.shards ≤ 64 }
-    ensures { result ≡ list_all (is_tuple_free home.now entries.now) (changed changes.now) }
+    ensures { result ≡ list_all (is_own_tuple home.now) (changed changes.now) }
 {
     for change in changes {
-        if !is_free(home, entries, change.tuple()) {
+        if !is_own(home, change.tuple()) {
             return false;
         }
     }
     true
 }
 
-fn are_conditions_free(home: &Home, entries: &[Entry], conditions: &[Condition]) -> bool
+fn are_conditions_own(home: &Home, conditions: &[Condition]) -> bool
     requires some { 1 ≤ home.now.shards }
     requires few { home.now.shards ≤ 64 }
-    ensures { result ≡ list_all (is_tuple_free home.now entries.now) (conditioned conditions.now) }
+    ensures { result ≡ list_all (is_own_tuple home.now) (conditioned conditions.now) }
 {
     for condition in conditions {
-        if !is_free(home, entries, &condition.tuple) {
+        if !is_own(home, &condition.tuple) {
             return false;
         }
     }
     true
 }
 
-fn is_free(home: &Home, entries: &[Entry], tuple: &Tuple) -> bool
+fn is_own(home: &Home, tuple: &Tuple) -> bool
     requires some { 1 ≤ home.now.shards }
     requires few { home.now.shards ≤ 64 }
-    ensures { result ≡ is_tuple_free home.now entries.now tuple.now }
+    ensures { result ≡ is_own_tuple home.now tuple.now }
 {
-    shard_of(&tuple.object, home.shards) == home.node && !is_held(entries, tuple)
+    shard_of(&tuple.object, home.shards) == home.node
 }
 
 fn are_above(place: u64, parts: &[Part]) -> bool
@@ -147,11 +147,11 @@ fn are_above(place: u64, parts: &[Part]) -> bool
     parts.iter().all(|part| part.place > place)
 }
 
-fn are_prepared(parts: &[Part], entries: &[Entry]) -> bool
-    ensures { result ≡ are_parts_prepared parts.now entries.now }
+fn are_prepared(parts: &[Part], holds: &Holds) -> bool
+    ensures { result ≡ are_parts_prepared parts.now holds.now }
 {
     for (i, part) in parts.iter().enumerate() {
-        if find(entries, part.id).is_none() || has_part(part.id, &parts[i + 1..]) {
+        if holds.find(part.id).is_none() || has_part(part.id, &parts[i + 1..]) {
             return false;
         }
     }

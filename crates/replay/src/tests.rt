@@ -264,3 +264,39 @@ fn a_decision_or_a_record_before_the_first_opening_is_damage(rt: HostRuntime) ->
     assert!(rt; matches!(first, Err(Refusal::Damaged)));
     Ok(())
 }
+
+#[test]
+fn a_write_is_dropped_and_a_horizon_set_without_a_test(rt: HostRuntime) -> Result<(), Fail> {
+    let alloc = rt.alloc();
+    let mut memory = with_a_write_in_doubt(alloc)?;
+    let part = Part {
+        id: id(1),
+        place: 3,
+    };
+    memory.drop_write(id(2));
+    assert!(rt; memory.find(id(1)).is_some());
+    replay(&mut memory, alloc, learned(alloc, 5, &[part])?)?;
+    memory.collect(4);
+    assert_eq!(rt; memory.horizon(), 4);
+    let rows = memory.rows(alloc)?;
+    assert_eq!(rt; rows.len(), 1);
+    assert_eq!(rt; rows[0].place, 3);
+    memory.prepare(write(alloc, id(2), "doc:a#viewer@u1", "doc:a#viewer@u1")?)?;
+    memory.drop_write(id(2));
+    assert!(rt; memory.in_doubt().is_empty());
+    Ok(())
+}
+
+#[test]
+fn a_write_in_doubt_is_listed_and_keeps_others_out(rt: HostRuntime) -> Result<(), Fail> {
+    let alloc = rt.alloc();
+    let mut memory = with_a_write_in_doubt(alloc)?;
+    let ids = memory.ids_in_doubt(alloc)?;
+    assert_eq!(rt; ids.len(), 1);
+    assert!(rt; ids[0] == id(1));
+    let other = write(alloc, id(2), "doc:a#viewer@u1", "doc:a#viewer@u2")?;
+    assert!(rt; !memory.is_free(&other));
+    assert!(rt; matches!(memory.prepare(other), Err(Refusal::Busy)));
+    assert_eq!(rt; memory.in_doubt().len(), 1);
+    Ok(())
+}

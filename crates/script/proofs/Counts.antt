@@ -1,12 +1,13 @@
 -- A number has one text.
-use Rattle.std.proofs.Common.{◌≡◌, ◌≢◌, ℕ, suc, zero, ◌<◌, ◌≤◌, ◌^◌, List, length, get_or, Result, Ok, Err, refl, sym, ap, ◌∙◌, subst, arith}
+use Rattle.std.proofs.Common.{◌≡◌, ◌≢◌, ℕ, suc, zero, ◌<◌, ◌≤◌, ◌^◌, List, length, get_or, codes, Option, Some, None, Result, Ok, Err, refl, sym, ap, ◌∙◌, subst, arith}
 use Rattle.std.specs.Fmt.{decimal}
 use Rattle.std.specs.Str.{IsUtf8}
 use Rattle.std.specs.Str.Parse.{IsNumeral, AllDigits, digits_value, without_leading_plus}
 use Rattle.std.proofs.lemmas.Fmt.{decimal_is_IsNumeral, decimal-digits_value, first_decimal, IsAscii-decimal, parse-decimal, decimal_nonempty, decimal_digit, decimal_injective}
 use Rattle.std.proofs.lemmas.Str.{IsUtf8-from_ascii}
 use Rattle.std.proofs.lemmas.Str.Parse.{IsNumeralModel, numerals_by_value, tells_digits, without_leading_plus_none, digit_at}
-use Rattle.script.specs.Words.{IsCount}
+use Rattle.tuples.specs.Parsing.{SpellsNone}
+use Rattle.script.specs.Words.{IsCount, IsPlace, ReadsText}
 
 own : IsNumeralModel (AllDigits 10) (digits_value 10)
 own = numerals_by_value (AllDigits 10) tells_digits
@@ -50,3 +51,18 @@ pub count_same : (bs : List ℕ) (m n : ℕ) → 49 ≤ get_or bs 0 0 → IsNume
 count_same bs m n first numeral small e text h =
     let low : m < 2 ^ 64 = subst (λ (x : ℕ). x < 2 ^ 64) (sym e) small in
     decimal_injective m n low (omega (arith, h.1)) (sym (count_text bs m first numeral small e) ∙ text)
+
+zero_is : codes "0" ≡ decimal 0
+zero_is = sym (decimal_digit 0 (omega arith))
+
+pub zero_text : (bs : List ℕ) → bs ≡ codes "0" → bs ≡ decimal 0
+zero_text bs e = e ∙ zero_is
+
+-- a place is zero or a count
+pub place_read : (bs : List ℕ) (r : Option ℕ) → bs ≢ codes "0" → ReadsText IsCount decimal bs r → ReadsText IsPlace decimal bs r
+place_read bs None other h = λ n small e. none_of bs n other h small e
+  where
+    none_of : (bs : List ℕ) (n : ℕ) → bs ≢ codes "0" → SpellsNone IsCount decimal bs → IsPlace n → bs ≡ decimal n → ⊥
+    none_of bs zero other h small e = other (e ∙ sym zero_is)
+    none_of bs (suc n) other h small e = h (suc n) (omega arith, small) e
+place_read bs (Some n) other h = (h.0.1, h.1)

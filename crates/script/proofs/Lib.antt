@@ -4,5 +4,7 @@ pub mod Texts
 pub mod Whole
 pub mod Counts
 pub mod Parts
+pub mod Asking
+pub mod Marks
 pub mod Writing
 pub mod Reading

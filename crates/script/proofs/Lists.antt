@@ -21,11 +21,11 @@ same_text s t u r e tu was = (slice_eq-Decides Decides-eqb s t r e).0 was ∙ tu
 pub other_text : (s t u : List ℕ) (r : Bool) → r ≡ pointwise eqb s t → t ≡ u → r ≡ false → s ≢ u
 other_text s t u r e tu was = λ same. not_both r ((slice_eq-Decides Decides-eqb s t r e).1 (same ∙ sym tu)) was
 
-not_true : (b r : Bool) → r ≡ not b → r ≡ true → b ≡ false
+pub not_true : (b r : Bool) → r ≡ not b → r ≡ true → b ≡ false
 not_true true r e was = absurd (not_both r was e)
 not_true false r e was = refl
 
-not_false : (b r : Bool) → r ≡ not b → r ≡ false → b ≡ true
+pub not_false : (b r : Bool) → r ≡ not b → r ≡ false → b ≡ true
 not_false true r e was = refl
 not_false false r e was = absurd (not_both r e was)
 

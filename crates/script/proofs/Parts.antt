@@ -1,16 +1,19 @@
 -- What the words of a list say of the values that they spell.
-use Rattle.std.proofs.Common.{◌≡◌, ℕ, suc, zero, ◌+◌, ◌<◌, List, [], ◌∷◌, ◌++◌, map, take, length, get_or, sym, ap, ◌∙◌, ◌⊎◌, inl, inr, Bor, arith}
+use Rattle.std.proofs.Common.{◌≡◌, ℕ, suc, zero, ◌+◌, ◌<◌, List, [], ◌∷◌, ◌++◌, map, take, length, get_or, Option, Some, None, MatchOption, is_some, false, sym, ap, ◌∙◌, ◌⊎◌, inl, inr, Bor, arith}
 use Rattle.std.specs.List.{All}
+use Rattle.std.proofs.lemmas.Bool.{false≢true}
 use Rattle.std.proofs.lemmas.List.{take_more, map-append}
 use Rattle.std.proofs.lemmas.List.Elements.{All-head, All-tail}
+use Rattle.tuples.specs.declared.change.Condition.{Condition}
+use Rattle.tuples.specs.declared.change.Want.{Want}
 use Rattle.tuples.specs.declared.tupleset.Tupleset.{Tupleset}
 use Rattle.tuples.specs.declared.refusal.Refusal.{Refusal}
 use Rattle.tuples.specs.declared.refusal.Refusal.TheVariants.{BadTuple, NoMemory}
 use Rattle.tuples.specs.Changes.{tuple_of}
 use Rattle.tuples.specs.Texts.{IsTuple, IsTupleset, tupleset_text}
-use Rattle.script.specs.Lines.{change_text}
-use Rattle.script.specs.Words.{IsRefused, AreChanges, AreSets}
-use Rattle.script.proofs.Texts.{each_change}
+use Rattle.script.specs.Lines.{IsWanted, change_text, condition_text}
+use Rattle.script.specs.Words.{IsRefused, AreChanges, AreConditions, AreSets, AsksNothing, IsAskedOf}
+use Rattle.script.proofs.Texts.{each_change, each_condition}
 
 -- the value that a word spells
 pub value_at : {A B C : Type 0} (f : A → C) (g : B → C) (P : B → Type 0) (xs : List A) (ys : List B) (i : ℕ) (d : A) → i < length xs → map f xs ≡ map g ys → All P ys → (y : B) × P y × (f (get_or xs i d) ≡ g y)
@@ -34,6 +37,26 @@ map_more {A} {B} {C} f g xs ys i d y h e here =
 pub changes_refused : (words : List (Bor (List ℕ))) (i : ℕ) (d : Bor (List ℕ)) (e : Refusal) → i < length words → IsRefused (λ c. IsTuple (tuple_of c) × ((get_or words i d).now ≡ change_text c)) e → IsRefused (AreChanges (map (λ w. w.now) words)) e
 changes_refused words i d e h (inl r) = inl (r.0, λ changes a. let v = value_at (λ w. w.now) change_text (λ c. IsTuple (tuple_of c)) words changes i d h a.0 (each_change IsTuple changes a.1) in r.1 v.0 (v.1, v.2))
 changes_refused words i d e h (inr r) = inr r
+
+abbrev IsAsked : Condition → Type 0
+IsAsked c = IsTuple c.tuple × IsWanted c.want
+
+condition_at : (words : List (Bor (List ℕ))) (cs : List Condition) (i : ℕ) (d : Bor (List ℕ)) → i < length words → AreConditions (map (λ w. w.now) words) cs
+    → (c : Condition) × IsAsked c × ((get_or words i d).now ≡ condition_text c)
+condition_at words cs i d h a = value_at (λ w. w.now) condition_text IsAsked words cs i d h a.0 (each_condition cs a.1 a.2)
+
+-- a word that is no condition
+pub conditions_refused : (words : List (Bor (List ℕ))) (i : ℕ) (d : Bor (List ℕ)) (e : Refusal) → i < length words
+    → IsRefused (λ c. IsTuple c.tuple × IsWanted c.want × ((get_or words i d).now ≡ condition_text c)) e → IsRefused (AreConditions (map (λ w. w.now) words)) e
+conditions_refused words i d e h (inl r) = inl (r.0, λ cs a. let v = condition_at words cs i d h a in r.1 v.0 (v.1.0, v.1.1, v.2))
+conditions_refused words i d e h (inr r) = inr r
+
+pub not_asked : (words : List (Bor (List ℕ))) (i : ℕ) (d : Bor (List ℕ)) → i < length words → AsksNothing (get_or words i d).now → (cs : List Condition) → AreConditions (map (λ w. w.now) words) cs → ⊥
+not_asked words i d h none cs a = let v = condition_at words cs i d h a in none v.0 v.1.0 v.1.1 v.2
+
+pub asked_none : (word : List ℕ) (r : Option (Bor (List ℕ) × Want)) → MatchOption r (AsksNothing word) (λ parts. IsAskedOf word parts.0.now parts.1) → is_some r ≡ false → AsksNothing word
+asked_none word None h none = h
+asked_none word (Some parts) h none = absurd (false≢true (sym none))
 
 -- a word that is no tupleset
 pub sets_refused : (words : List (Bor (List ℕ))) (i : ℕ) (d : Bor (List ℕ)) (e : Refusal) → i < length words → (e ≡ BadTuple) ⊎ (e ≡ NoMemory) → (e ≡ BadTuple → (q : Tupleset) → IsTupleset q → (get_or words i d).now ≡ tupleset_text q → ⊥) → IsRefused (AreSets (map (λ w. w.now) words)) e

@@ -11,7 +11,7 @@ use Rattle.tuples.specs.declared.tupleset.Tupleset.{Tupleset}
 use Rattle.tuples.specs.declared.tupleset.Tupleset.TheVariants.{Key, OfObject, OfUser}
 use Rattle.tuples.specs.declared.refusal.Refusal.{Refusal}
 use Rattle.tuples.specs.Texts.{IsObject, IsTupleset, object_text, relation_text, tupleset_text, user_text}
-use Rattle.script.specs.declared.command.Command.TheVariants.{Pass, WriteAll, ReadLatest, Restart, Fail}
+use Rattle.script.specs.declared.command.Command.TheVariants.{Pass, WriteAll, ReadLatest, Rows, Restart, Fail}
 use Rattle.script.specs.Words.{SpellsWords, SpellNothing, IsRefused, AreSets}
 use Rattle.script.proofs.Lists.{heads, tails, not_both}
 
@@ -20,6 +20,9 @@ not_write e = false≢true (sym (ap (λ (x : List ℕ). eqb (get_or x 0 0) 114) 
 
 not_restart : codes "read" ≡ codes "restart" → ⊥
 not_restart e = false≢true (sym (ap (λ (x : List ℕ). eqb (get_or x 2 0) 97) e))
+
+not_rows : codes "read" ≡ codes "rows" → ⊥
+not_rows e = false≢true (sym (ap (λ (x : List ℕ). eqb (get_or x 1 0) 101) e))
 
 not_fail : codes "read" ≡ codes "fail" → ⊥
 not_fail e = false≢true (sym (ap (λ (x : List ℕ). eqb (get_or x 0 0) 114) e))
@@ -30,6 +33,7 @@ read_only ws none Pass h = h
 read_only ws none (WriteAll w) h = not_write (heads _ _ _ _ h.0)
 read_only ws none (ReadLatest sets) h = none sets h
 read_only ws none Restart h = not_restart (heads _ _ _ _ h)
+read_only ws none Rows h = not_rows (heads _ _ _ _ h)
 read_only ws none (Fail bank n tear) h = not_fail (heads _ _ _ _ h.0)
 
 first_of : (f : List ℕ) (ws vs : List (List ℕ)) → codes "read" ∷ f ∷ ws ≡ codes "read" ∷ codes "latest" ∷ vs → f ≡ codes "latest"

@@ -24,10 +24,12 @@ pub const MAX_SETS: usize = 16;
 pub enum Command {
     /// Nothing: the line is empty, or begins with `;`.
     Pass,
-    /// `write +doc:a#viewer@ann -doc:a#viewer@bob`
+    /// `write +doc:a#viewer@ann -doc:a#viewer@bob if doc:a#lock@lock=3 ?doc:b#viewer@ann !doc:c#viewer@ann`
     WriteAll(Write),
     /// `read latest doc:a doc#viewer@ann`
     ReadLatest(Vec<Tupleset>),
+    /// `rows 0`
+    Rows,
     /// `restart 0`
     Restart,
     /// `fail 0a 4 a5`
@@ -36,8 +38,8 @@ pub enum Command {
 
 impl Command {
     /// The command that the line spells. In this order: `TooLarge` for a line past the limit, `BadRequest` where its words are in no
-    /// command's shape, `TooLarge` for more changes or tuplesets than the limits, `BadTuple` where a text is none, `Repeated` where two
-    /// changes name one tuple; `NoMemory`.
+    /// command's shape, `TooLarge` for more changes, conditions or tuplesets than the limits, `BadTuple` where a text is none, `Repeated`
+    /// where two changes or two conditions name one tuple; `NoMemory`.
     pub fn parse(alloc: Global, line: &[u8]) -> Result<Command, Refusal>
         ensures ok { IfOk result (Spells line.now) }
         ensures none { IfErr result (λ e. (e ≡ Refusal.BadRequest) ⊎ ((e ≡ Refusal.BadTuple) ⊎ (e ≡ Refusal.Repeated)) → (c : AnyCommand) → Spells line.now c → ⊥) }
@@ -74,6 +76,8 @@ fn parse_words(alloc: Global, words: &[&[u8]]) -> Result<Command, Refusal>
         parse_write(alloc, words)
     } else if *name == b"read".as_slice() {
         parse_read(alloc, words)
+    } else if *name == b"rows".as_slice() {
+        parse_rows(words).ok_or(Refusal::BadRequest)
     } else if *name == b"restart".as_slice() {
         parse_restart(words).ok_or(Refusal::BadRequest)
     } else if *name == b"fail".as_slice() {
@@ -84,6 +88,19 @@ fn parse_words(alloc: Global, words: &[&[u8]]) -> Result<Command, Refusal>
 }
 
 // The store has one shard, with the number 0.
+fn parse_rows(words: &[&[u8]]) -> Option<Command>
+    ensures { MatchOption result (SpellNothing (codes "rows" ∷ map (λ w. w.now) words.now)) (SpellsWords (codes "rows" ∷ map (λ w. w.now) words.now)) }
+{
+    let [shard] = words else {
+        return None;
+    };
+    if *shard == b"0".as_slice() {
+        Some(Command::Rows)
+    } else {
+        None
+    }
+}
+
 fn parse_restart(words: &[&[u8]]) -> Option<Command>
     ensures { MatchOption result (SpellNothing (codes "restart" ∷ map (λ w. w.now) words.now)) (SpellsWords (codes "restart" ∷ map (λ w. w.now) words.now)) }
 {

@@ -8,6 +8,7 @@
 #![tactic(auto)]
 
 mod command;
+mod conditions;
 mod fail;
 mod numbers;
 mod read;

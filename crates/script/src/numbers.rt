@@ -3,9 +3,20 @@ ghost use Rattle.std.specs.Prelude.{◌≡◌, ◌<◌, ◌≤◌, ◌^◌, ◌�
 ghost use Rattle.std.specs.Str.Parse.{IsNumeral, digits_value, without_leading_plus};
 ghost use Rattle.std.specs.Fmt.{decimal};
 ghost use Rattle.script.specs.Lines.{hex_digit};
-ghost use Rattle.script.specs.Words.{IsCount, IsHex, ReadsText};
+ghost use Rattle.script.specs.Words.{IsCount, IsHex, IsPlace, ReadsText};
 
 use tuples::MAX_NUMBER;
+
+/// A number from 0 to 2^63 - 1 in decimal, without a sign or leading zeros.
+pub(crate) fn parse_place(text: &[u8]) -> Option<u64>
+    ensures { ReadsText IsPlace decimal text.now result }
+{
+    if text == b"0".as_slice() {
+        Some(0)
+    } else {
+        parse_count(text)
+    }
+}
 
 /// A number from 1 to 2^63 - 1 in decimal, without a sign or leading zeros.
 pub(crate) fn parse_count(text: &[u8]) -> Option<u64>

@@ -4,7 +4,7 @@ use device::Tear;
 use journal::Bank;
 use std::alloc::Global;
 use std::test::Fail;
-use tuples::{Change, Refusal, Tuple, Tupleset};
+use tuples::{Change, Refusal, Tuple, Tupleset, Want};
 
 #[test]
 fn an_empty_line_and_a_comment_are_passed(rt: HostRuntime) -> Result<(), Fail> {
@@ -33,6 +33,43 @@ fn a_write_has_its_changes_in_their_order(rt: HostRuntime) -> Result<(), Fail> {
 }
 
 #[test]
+fn a_write_has_its_conditions_in_their_order(rt: HostRuntime) -> Result<(), Fail> {
+    let alloc = rt.alloc();
+    let line =
+        b"write +doc:a#v@u1 if doc:a#lock@lock=3 ?doc:b#v@u=2 !doc:c#v@u1 doc:d=7#v@u=8=0 ?doc:e#v@u=";
+    let Command::WriteAll(write) = Command::parse(alloc, line)? else {
+        return Err("no write")?;
+    };
+    assert_eq!(rt; write.changes().len(), 1);
+    let wanted: [(&[u8], Want); 5] = [
+        (b"doc:a#lock@lock", Want::NotAfter(3)),
+        (b"doc:b#v@u=2", Want::Exists),
+        (b"doc:c#v@u1", Want::Absent),
+        (b"doc:d=7#v@u=8", Want::NotAfter(0)),
+        (b"doc:e#v@u=", Want::Exists),
+    ];
+    assert_eq!(rt; write.conditions().len(), wanted.len());
+    for (condition, (tuple, want)) in write.conditions().iter().zip(wanted) {
+        assert!(rt; condition.tuple.is(&Tuple::parse(alloc, tuple)?));
+        assert_eq!(rt; condition.want, want);
+    }
+    Ok(())
+}
+
+#[test]
+fn a_place_ends_at_the_greatest_number(rt: HostRuntime) -> Result<(), Fail> {
+    let line = b"write -doc:a#v@u1 if doc:a#v@u1=9223372036854775807";
+    let Command::WriteAll(write) = Command::parse(rt.alloc(), line)? else {
+        return Err("no write")?;
+    };
+    let [condition] = write.conditions() else {
+        return Err("other conditions")?;
+    };
+    assert_eq!(rt; condition.want, Want::NotAfter(9_223_372_036_854_775_807));
+    Ok(())
+}
+
+#[test]
 fn a_read_has_its_tuplesets_in_their_order(rt: HostRuntime) -> Result<(), Fail> {
     let alloc = rt.alloc();
     let Command::ReadLatest(sets) = Command::parse(alloc, b"read latest doc:a doc#viewer@u1")?
@@ -49,6 +86,14 @@ fn a_read_has_its_tuplesets_in_their_order(rt: HostRuntime) -> Result<(), Fail> 
 fn a_restart_is_of_the_first_shard(rt: HostRuntime) -> Result<(), Fail> {
     let Command::Restart = Command::parse(rt.alloc(), b"restart 0")? else {
         return Err("no restart")?;
+    };
+    Ok(())
+}
+
+#[test]
+fn rows_are_of_the_first_shard(rt: HostRuntime) -> Result<(), Fail> {
+    let Command::Rows = Command::parse(rt.alloc(), b"rows 0")? else {
+        return Err("no rows")?;
     };
     Ok(())
 }
@@ -88,13 +133,37 @@ fn a_line_that_is_no_command_is_refused(rt: HostRuntime) {
         "write  +doc:a#viewer@u1",
         "write +doc:a#viewer@u1 ",
         "write doc:a#viewer@u1",
-        "write +doc:a#viewer@u1 if doc:a#viewer@u1=0",
+        "write if doc:a#viewer@u1=0",
+        "write if ?doc:a#viewer@",
+        "write +doc:a#viewer@u1 if",
+        "write +doc:a#viewer@u1 if ",
+        "write +doc:a#viewer@u1 if  ?doc:a#viewer@u1",
+        "write +doc:a#viewer@u1 if if ?doc:a#viewer@u1",
+        "write +doc:a#viewer@u1 when ?doc:a#viewer@u1",
+        "write +doc:a#viewer@u1 if doc:a#viewer@u1",
+        "write +doc:a#viewer@u1 if doc:a#viewer@u1=",
+        "write +doc:a#viewer@u1 if doc:a#viewer@u1=00",
+        "write +doc:a#viewer@u1 if doc:a#viewer@u1=01",
+        "write +doc:a#viewer@u1 if doc:a#viewer@u1=+1",
+        "write +doc:a#viewer@u1 if doc:a#viewer@u1=-1",
+        "write +doc:a#viewer@u1 if doc:a#viewer@u1=1x",
+        "write +doc:a#viewer@u1 if doc:a#viewer@u1=9223372036854775808",
+        "write +doc:a#viewer@u1 if doc:a#viewer@u1=18446744073709551616",
+        "write +doc:a#viewer@u1 if doc:a#viewer@u=1x",
+        "write +doc:a#viewer@u1 if +doc:a#viewer@u1",
         "write + doc:a",
         "read",
         "read latest",
         "read latest ",
         "read latest  doc:a",
         "read =x doc:a",
+        "rows",
+        "rows ",
+        "rows 1",
+        "rows 00",
+        "rows c",
+        "rows 0 ",
+        "rows 0 0",
         "restart",
         "restart 1",
         "restart c",
@@ -125,6 +194,28 @@ fn the_first_thing_wrong_is_told(rt: HostRuntime) {
         ("write +doc:a#viewer@", Refusal::BadTuple),
         ("write + -", Refusal::BadTuple),
         ("write +doc:a#viewer@ if", Refusal::BadRequest),
+        ("write +doc:a#viewer@ if doc:a", Refusal::BadRequest),
+        ("write +doc:a#v@u1 if doc:a=1", Refusal::BadTuple),
+        ("write +doc:a#v@u1 if =1", Refusal::BadTuple),
+        ("write +doc:a#v@u1 if ?", Refusal::BadTuple),
+        ("write +doc:a#v@u1 if !doc:a#v@u1 !x", Refusal::BadTuple),
+        ("write +doc:a#v@u1 if ??doc:a#v@u1", Refusal::BadTuple),
+        (
+            "write +doc:a#v@u1 if !doc:a#v@u1 ?doc:a#v@u1",
+            Refusal::Repeated,
+        ),
+        (
+            "write +doc:a#v@u1 if doc:a#v@u1=0 doc:a#v@u1=1",
+            Refusal::Repeated,
+        ),
+        (
+            "write +doc:a#v@u1 if doc:a#v@u1=1 ?doc:a#v@u1",
+            Refusal::Repeated,
+        ),
+        (
+            "write +doc:a#v@u1 -doc:a#v@u1 if doc:a=1",
+            Refusal::BadTuple,
+        ),
         ("read latest doc:a:b", Refusal::BadTuple),
         ("read latest doc:a doc:b:c", Refusal::BadTuple),
         ("read latest doc:a:b ", Refusal::BadRequest),
@@ -153,6 +244,10 @@ fn a_line_is_within_its_limits(rt: HostRuntime) -> Result<(), Fail> {
         ("write", " +x", 64, Refusal::BadTuple),
         ("write", " +x", 65, Refusal::TooLarge),
         ("write x", " +x", 65, Refusal::BadRequest),
+        ("write +x if", " ?x", 16, Refusal::BadTuple),
+        ("write +x if", " ?x", 17, Refusal::TooLarge),
+        ("write +x if x", " ?x", 17, Refusal::BadRequest),
+        ("write if", " ?x", 17, Refusal::BadRequest),
         ("read latest", " :", 16, Refusal::BadTuple),
         ("read latest", " :", 17, Refusal::TooLarge),
     ];

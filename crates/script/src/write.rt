@@ -1,33 +1,72 @@
-// Writes, as `write +doc:a#viewer@ann -doc:a#viewer@bob`.
-ghost use Rattle.std.specs.Prelude.{◌≡◌, ◌∷◌, MatchResult, codes, map};
-ghost use Rattle.std.specs.List.{list_all};
+// Writes, as `write +doc:a#viewer@ann -doc:a#viewer@bob if doc:a#lock@lock=3`.
+ghost use Rattle.std.specs.Prelude.{◌≡◌, ◌∷◌, ◌++◌, List, ℕ, MatchOption, MatchResult, codes, map, not, true};
+ghost use Rattle.std.specs.List.{list_all, position};
 ghost use Rattle.tuples.specs.Changes.{tuple_of};
 ghost use Rattle.tuples.specs.Texts.{IsTuple};
 ghost use Rattle.script.specs.Lines.{change_text};
-ghost use Rattle.script.specs.Words.{AreChanges, IsRefused, Reads, SpellsWords, is_marked};
+ghost use Rattle.script.specs.Words.{AreBehind, AreChanges, IsRefused, IsWriteOf, Reads, SpellsWords, if_words, is_marked};
 
 use crate::Command;
+use crate::conditions::{are_asked, parse_conditions};
 use std::alloc::Global;
-use tuples::{Change, MAX_CHANGES, Refusal, Tuple, Write};
+use tuples::{Change, MAX_CHANGES, MAX_CONDITIONS, Refusal, Tuple, Write};
 
 /// The write of these words, which stand behind `write`.
 pub(crate) fn parse_write(alloc: Global, words: &[&[u8]]) -> Result<Command, Refusal>
     ensures { Reads (SpellsWords (codes "write" ∷ map (λ w. w.now) words.now)) result }
 {
-    if !are_marked(words) {
+    let (changes, rest) = split_changes(words);
+    let Some(conditions) = words_behind_if(rest) else {
         return Err(Refusal::BadRequest);
-    }
-    if words.len() > MAX_CHANGES {
-        return Err(Refusal::TooLarge);
-    }
-    let changes = parse_changes(alloc, words)?;
-    Ok(Command::WriteAll(Write::new(changes, Vec::new(alloc))?))
+    };
+    Ok(Command::WriteAll(parse_parts(alloc, changes, conditions)?))
 }
 
-fn are_marked(words: &[&[u8]]) -> bool
-    ensures { result ≡ list_all (λ w. is_marked w.now) words.now }
+// The words in front that have the mark of a change, and the others.
+fn split_changes<'a>(words: &'a [&'a [u8]]) -> (&'a [&'a [u8]], &'a [&'a [u8]])
+    ensures whole { map (λ w. w.now) words.now ≡ map (λ w. w.now) result.0.now ++ map (λ w. w.now) result.1.now }
+    ensures marked { list_all is_marked (map (λ w. w.now) result.0.now) ≡ true }
+    ensures behind { AreBehind (map (λ w. w.now) result.1.now) }
 {
-    words.iter().all(|word| is_marked(word))
+    match first_unmarked(words) {
+        None => (words, &[]),
+        Some(at) => (&words[..at], &words[at..]),
+    }
+}
+
+fn first_unmarked(words: &[&[u8]]) -> Option<usize>
+    ensures { result ≡ position (λ w. not (is_marked w.now)) words.now }
+{
+    words.iter().position(|word| !is_marked(word))
+}
+
+// The conditions of these words, which stand behind the changes: one at least behind `if`, and none where there are no words.
+fn words_behind_if<'a>(words: &'a [&'a [u8]]) -> Option<&'a [&'a [u8]]>
+    ensures { MatchOption result ((conditions : List (List ℕ)) → map (λ w. w.now) words.now ≡ if_words conditions → ⊥) (λ conditions. map (λ w. w.now) words.now ≡ if_words (map (λ w. w.now) conditions.now)) }
+{
+    let Some((name, conditions)) = words.split_first() else {
+        return Some(&[]);
+    };
+    if *name == b"if".as_slice() && !conditions.is_empty() {
+        Some(conditions)
+    } else {
+        None
+    }
+}
+
+fn parse_parts(alloc: Global, changes: &[&[u8]], conditions: &[&[u8]]) -> Result<Write, Refusal>
+    ensures { Reads (IsWriteOf (map (λ w. w.now) changes.now) (map (λ w. w.now) conditions.now)) result }
+{
+    if changes.is_empty() || !are_asked(conditions) {
+        return Err(Refusal::BadRequest);
+    }
+    if changes.len() > MAX_CHANGES || conditions.len() > MAX_CONDITIONS {
+        return Err(Refusal::TooLarge);
+    }
+    let changes = parse_changes(alloc, changes)?;
+    let conditions = parse_conditions(alloc, conditions)?;
+    let write = Write::new(changes, conditions)?;
+    Ok(write)
 }
 
 fn is_marked(word: &[u8]) -> bool

@@ -1,14 +1,16 @@
 -- Opening a shard once more.
-use Rattle.std.proofs.Common.{◌≡◌, ◌⊎◌, inl, inr, ⊎_elim, ◌≤◌, ◌<◌, ◌+◌, ◌++◌, ℕ, List, [], ◌∷◌, Some, length, take, drop, get_or, refl, sym, ap, ◌∙◌, subst, arith, append_assoc, length-append, false}
-use Rattle.std.proofs.lemmas.List.{at_drop_more, take-append-drop, take_all, take_more, append-nil}
+use Rattle.std.proofs.Common.{◌≡◌, inl, inr, ⊎_elim, ◌≤◌, ◌<◌, ◌+◌, ◌++◌, ℕ, List, [], ◌∷◌, Some, length, take, drop, get_or, refl, sym, ap, ◌∙◌, subst, arith, append_assoc, length-append, false}
+use Rattle.std.proofs.lemmas.List.{at_drop_more, take-append-drop, take_more, append-nil}
 use Rattle.tuples.specs.declared.entry.WriteId.{WriteId}
 use Rattle.records.specs.declared.record.Record.{Record}
 use Rattle.records.specs.declared.record.Record.TheVariants.{Prepare, Learned, Dropped, Epoch, Decision, Horizon}
 use Rattle.records.specs.Format.{batch_bytes, record_bytes}
 use Rattle.records.specs.Replays.{Identity, IsShardImage, MayCome, MayOpen, ShardState, empty_shard, greatest_number, shard_state, shard_step}
+use Rattle.replay.specs.Alike.{IsAlike}
+use Rattle.replay.proofs.Alike.{alike_step, alike_trans, may_come_alike}
 use Rattle.replay.proofs.States.{image_push, shard_push}
 use Rattle.device.specs.Device.{State, left}
-use Rattle.journal.specs.Records.{HasNoRoom, HasRecords, HoldsOldOrNew, LeavesBoth, View, WasLeftOrFound, found}
+use Rattle.journal.specs.Records.{HasNoRoom, HasRecords, HoldsOldOrNew, LeavesBoth, View, found}
 use Rattle.shard.specs.Keeping.{HeldOrOpened, IsKept, prepared_ids}
 use Rattle.shard.specs.Shards.{IsUp, WasLeftOrOpened, opening}
 use Rattle.shard.proofs.Kept.{view_of}
@@ -38,12 +40,12 @@ module _ (me : Identity) (records yielded : List Record) (x : Record) (lt : leng
       let len : length (yielded ++ x ∷ []) ≡ length yielded + 1 = omega (arith, length-append yielded (x ∷ [])) in
       ap (λ (n : ℕ). take n records) len ∙ take_more records (length yielded) x lt ∙ ap (λ (y : Record). take (length yielded) records ++ y ∷ []) (sym at)
 
-  module _ (m n : ShardState) (is : m ≡ shard_state (take (length yielded) records)) where
-    pub replayed_more : n ≡ shard_step m x → n ≡ shard_state (take (length (yielded ++ x ∷ [])) records)
-    replayed_more stepped = stepped ∙ ap (λ (s : ShardState). shard_step s x) is ∙ sym (shard_push (take (length yielded) records) x) ∙ ap shard_state (sym next_front)
+  module _ (m n : ShardState) (is : IsAlike m (shard_state (take (length yielded) records))) where
+    pub replayed_more : IsAlike n (shard_step m x) → IsAlike n (shard_state (take (length (yielded ++ x ∷ [])) records))
+    replayed_more stepped = alike_trans stepped (subst (IsAlike (shard_step m x)) (sym (shard_push (take (length yielded) records) x) ∙ ap shard_state (sym next_front)) (alike_step is x))
 
     pub image_more : IsShardImage me (take (length yielded) records) → MayCome me m x → IsShardImage me (take (length (yielded ++ x ∷ [])) records)
-    image_more image may = subst (IsShardImage me) (sym next_front) (image_push me (take (length yielded) records) x image (subst (λ (s : ShardState). MayCome me s x) is may))
+    image_more image may = subst (IsShardImage me) (sym next_front) (image_push me (take (length yielded) records) x image (may_come_alike is me x may))
 
 step_epoch : (me : Identity) (s : ShardState) (r : Record) → s.epoch ≤ greatest_number → MayCome me s r → (shard_step s r).epoch ≤ greatest_number
 unfolding shard_step
@@ -145,13 +147,14 @@ module _ (me : Identity) (records : List Record) (image : IsShardImage me record
       image = subst (IsShardImage me) (opened_whole ha hb) (opened_image me records image below);
     }
 
-    module _ (m n : ShardState) (ids : List WriteId) (replayed : m ≡ shard_state records) (stepped : n ≡ record m { epoch = e }) (none : ids ≡ []) where
-      all_replayed : n ≡ shard_state (records ++ opening me records ∷ [])
+    module _ (m n : ShardState) (ids : List WriteId) (settled : ℕ) (replayed : IsAlike m (shard_state records)) (stepped : n ≡ record m { epoch = e }) (none : ids ≡ []) (place : settled ≡ n.learned) where
+      all_replayed : IsAlike n (shard_state (records ++ opening me records ∷ []))
       unfolding shard_step
       all_replayed =
-          stepped ∙ ap (λ (s : ShardState). record s { epoch = e }) replayed ∙ ap (λ (x : ℕ). record (shard_state records) { epoch = x }) is ∙ sym (shard_push records (opening me records))
+          let now : IsAlike (record m { epoch = e }) (shard_step (shard_state records) (opening me records)) = record { in_doubt = replayed.in_doubt; learned = replayed.learned; horizon = replayed.horizon; epoch = is; rows = replayed.rows } in
+          subst (λ (s : ShardState). IsAlike s (shard_state (records ++ opening me records ∷ []))) (sym stepped) (subst (IsAlike (record m { epoch = e })) (sym (shard_push records (opening me records))) now)
 
-      pub opened_kept : 1 ≤ me.shards → me.shards ≤ 64 → me.node < me.shards → (honest k.a → honest j.a) → (honest k.b → honest j.b) → IsKept state honest k me n ids
+      pub opened_kept : 1 ≤ me.shards → me.shards ≤ 64 → me.node < me.shards → (honest k.a → honest j.a) → (honest k.b → honest j.b) → IsKept state honest k me n ids settled
       opened_kept some few node back_a back_b = record {
         rs = records ++ opening me records ∷ [];
         replayed = all_replayed;
@@ -162,4 +165,5 @@ module _ (me : Identity) (records : List Record) (image : IsShardImage me record
         node = node;
         backed = λ up ka kb. record { rest = (now (back_a ka) (back_b kb)).1; whole = opened_whole (back_a ka) (back_b kb) };
         unflushed_are = λ up. none ∙ ap prepared_ids (sym fresh);
+        settled_is = λ up ka kb. place ∙ all_replayed.learned ∙ ap (λ (l : List Record). (shard_state l).learned) (sym (opened_durable (back_a ka) (back_b kb)));
       }

@@ -1,7 +1,7 @@
 -- The parts of decided writes, and their places.
-use Rattle.std.proofs.Common.{◌≡◌, ◌≤◌, ◌<◌, ◌+◌, ◌-◌, ◌++◌, inl, inr, ⊎_elim, ℕ, zero, suc, Bool, true, false, ◌||◌, List, [], ◌∷◌, length, take, get_or, Some, All, refl, sym, ap, ◌∙◌, subst, arith, length-drop, length-take}
-use Rattle.std.specs.List.{list_any, slice_get}
-use Rattle.std.proofs.lemmas.Bool.{cases_Bool, or_cases, or_parts, both_ways}
+use Rattle.std.proofs.Common.{◌≡◌, ◌≤◌, ◌<◌, ◌+◌, ◌-◌, ◌++◌, inl, inr, ⊎_elim, ℕ, zero, suc, true, false, ◌||◌, List, [], ◌∷◌, length, take, get_or, Some, All, refl, sym, ap, ◌∙◌, subst, arith, length-drop, length-take, ◌==◌}
+use Rattle.std.specs.List.{slice_get}
+use Rattle.std.proofs.lemmas.Bool.{cases_Bool, or_cases, or_parts, both_ways, eq-eqb, eqb-true}
 use Rattle.std.proofs.lemmas.List.{append-nil, take_more}
 use Rattle.std.proofs.lemmas.List.Elements.{All-cons, All-nil}
 use Rattle.tuples.specs.declared.entry.Entry.{Entry}
@@ -12,7 +12,7 @@ use Rattle.records.specs.Format.{AreRisingTo, IsLearned}
 use Rattle.records.specs.declared.record.Part.{Part}
 use Rattle.records.specs.Replays.{ArePrepared, MayLearn, ShardState, find_in_doubt, greatest_number, without, without_parts}
 use Rattle.replay.proofs.Doubts.{HasPart, find_not_learned, same_id_refl, same_id_true}
-use Rattle.shard.specs.Own.{AreHere, has_part}
+use Rattle.shard.specs.Own.{has_part, AreHere, AreHereTo}
 use Rattle.shard.specs.Shards.{AreNewIds, parts_from, unlearned}
 use Rattle.shard.proofs.Given.{AllGiven, given_parts}
 
@@ -89,6 +89,23 @@ not_among id (p ∷ parts) none (inr there) = not_among id parts (or_parts (same
 -- one part more is in doubt, with an id of its own
 pub prepared_more : (parts : List Part) (p : Part) (ws : List Entry) (w : Entry) → ArePrepared parts ws → has_part p.id parts ≡ false → find_in_doubt p.id ws ≡ Some w → ArePrepared (parts ++ p ∷ []) ws
 prepared_more parts p ws w prepared none is = prepared_push parts p ws prepared (w, find_not_learned p.id parts ws (not_among p.id parts none) ∙ is)
+
+-- one write more is in doubt with its part, where it has one
+pub here_more : (shards s : ℕ) (ws writes : List Entry) (n : ℕ) (w : Entry) → AreHereTo shards s n ws writes → slice_get writes n ≡ Some w → (takes_part shards s w ≡ true → find_in_doubt w.id ws ≡ Some (part shards s w)) → AreHereTo shards s (n + 1) ws writes
+here_more shards s ws writes n w here at this j v lt is takes = ⊎_elim
+    (λ (last : (j == n) ≡ true).
+    let same : v ≡ w = (let e : Some v ≡ Some w = sym is ∙ ap (slice_get writes) (eqb-true j n last) ∙ at in cc) in
+    subst (λ (x : Entry). takes_part shards s x ≡ true → find_in_doubt x.id ws ≡ Some (part shards s x)) (sym same) this takes)
+    (λ (earlier : (j == n) ≡ false). here j v (let ne : j ≡ n → ⊥ = λ e. both_ways (j == n) earlier (eq-eqb j n e) in omega (arith, lt, ne)) is takes)
+    (cases_Bool (j == n))
+
+get_within : (writes : List Entry) (j : ℕ) (v : Entry) → slice_get writes j ≡ Some v → j < length writes
+get_within [] j v is = absurd cc
+get_within (w ∷ writes) zero v is = omega arith
+get_within (w ∷ writes) (suc j) v is = let lt = get_within writes j v is in omega (arith, lt)
+
+pub all_here : (shards s : ℕ) (ws writes : List Entry) (n : ℕ) → AreHereTo shards s n ws writes → length writes ≤ n → AreHere shards s ws writes
+all_here shards s ws writes n here le j v is takes = here j v (omega (arith, le, get_within writes j v is)) is takes
 
 -- places
 

@@ -1,10 +1,9 @@
 -- What a shard tests of its part of a write.
-use Rattle.std.proofs.Common.{◌≡◌, ◌≤◌, ◌+◌, ◌++◌, ◌||◌, ◌&&◌, ◌==◌, ℕ, Bool, true, false, not, cond, List, [], ◌∷◌, length, map, filter, None, Some, All, refl, sym, ap, ◌∙◌, arith}
+use Rattle.std.proofs.Common.{◌≡◌, ◌≤◌, ◌+◌, ◌++◌, ◌||◌, ◌&&◌, ◌==◌, ℕ, Bool, true, false, not, List, [], ◌∷◌, length, map, filter, None, Some, All, refl, sym, ap, ◌∙◌, arith}
 use Rattle.std.specs.List.{list_any}
-use Rattle.std.proofs.lemmas.Bool.{and_cases, and_from, both_ways, cases_Bool, eqb-true, ne_eqb, not-true, not-false, not_from_false, not_from_true, or_cases, or_parts}
-use Rattle.std.proofs.lemmas.Bool.Decides.{nat_tests}
+use Rattle.std.proofs.lemmas.Bool.{both_ways, cases_Bool, eqb-true, ne_eqb, not-false, not_from_true, or_cases, or_parts}
 use Rattle.std.proofs.lemmas.List.Elements.{All-append, All-cons, All-head, All-map, All-nil, All-tail, All-weaker}
-use Rattle.std.proofs.Common.{◌⊎◌, inl, inr, ⊎_elim, Bor, Option, MatchOption}
+use Rattle.std.proofs.Common.{⊎_elim, Bor, Option, MatchOption}
 use Rattle.std.specs.Option.{is_some}
 use Rattle.tuples.specs.declared.entry.WriteId.{WriteId}
 use Rattle.tuples.specs.declared.tuple.Tuple.{Tuple}
@@ -121,7 +120,7 @@ module _ (shards s : ℕ) (m : ShardState) (w : Entry) where
       one_passes (λ (c : Condition). is_own shards s c.tuple) (λ (c : Condition). not (meets c)) w.conditions some
       (All-weaker (λ (c : Condition). meets c ≡ true) (λ (c : Condition). not (meets c) ≡ false) (λ c is. not_from_true (meets c) is) (own_conditions shards s w.conditions) hold)
 
-same_part_id : (shards s : ℕ) (w : Entry) → (part shards s w).id ≡ w.id
+pub same_part_id : (shards s : ℕ) (w : Entry) → (part shards s w).id ≡ w.id
 unfolding part
 same_part_id shards s w = refl
 

@@ -1,8 +1,8 @@
 -- Prepares that are staged, and those that are durable.
-use Rattle.std.proofs.Common.{◌≡◌, ◌⊎◌, inl, inr, ⊎_elim, ℕ, ◌<◌, ◌+◌, Bool, true, false, not, ◌||◌, List, [], ◌∷◌, ◌++◌, Option, Some, None, MatchOption, Contains, length, refl, sym, ◌∙◌, ap, subst, arith, Bor}
+use Rattle.std.proofs.Common.{◌≡◌, ⊎_elim, Bool, true, false, not, List, [], ◌∷◌, ◌++◌, Option, Some, None, MatchOption, Contains, refl, sym, ◌∙◌, ap, arith, Bor}
 use Rattle.std.specs.Option.{is_some}
 use Rattle.std.specs.List.{list_any}
-use Rattle.std.proofs.lemmas.Bool.{or_parts, or_cases, cases_Bool, both_ways}
+use Rattle.std.proofs.lemmas.Bool.{or_parts, or_cases, both_ways}
 use Rattle.std.proofs.lemmas.List.Elements.{Contains-append_right}
 use Rattle.tuples.specs.declared.entry.Entry.{Entry}
 use Rattle.tuples.specs.declared.entry.WriteId.{WriteId}
@@ -14,7 +14,7 @@ use Rattle.records.specs.Replays.{ShardState, empty_shard, find_in_doubt, shard_
 use Rattle.replay.proofs.Doubts.{cases_id, find_push, find_without_other, find_without_same, same_id_refl, same_id_true}
 use Rattle.replay.proofs.States.{shard_from-append}
 use Rattle.device.specs.Device.{State, left}
-use Rattle.journal.specs.Records.{Finds, HasRecords, found}
+use Rattle.journal.specs.Records.{Finds, HasRecords}
 use Rattle.shard.specs.Keeping.{prepared_ids}
 use Rattle.shard.specs.Shards.{IsDurable, IsUp, ShardView, memory}
 

@@ -1,9 +1,10 @@
 -- What a shard keeps beside its journal: in memory the replay of its records, and the ids whose prepares are not flushed.
-use Rattle.std.specs.Prelude.{◌≡◌, ◌⊎◌, ◌≤◌, ◌<◌, ℕ, Bool, false, Some, List, [], ◌∷◌, ◌++◌}
+use Rattle.std.specs.Prelude.{◌≡◌, ◌⊎◌, ◌≤◌, ◌<◌, ℕ, false, Some, List, [], ◌∷◌, ◌++◌}
 use Rattle.tuples.specs.declared.entry.WriteId.{WriteId}
 use Rattle.records.specs.declared.record.Record.{Record}
 use Rattle.records.specs.declared.record.Record.TheVariants.{Prepare, Learned, Dropped, Epoch, Decision, Horizon}
 use Rattle.records.specs.Replays.{Identity, IsShardImage, ShardState, shard_state}
+use Rattle.replay.specs.Alike.{IsAlike}
 use Rattle.device.specs.Device.{State}
 use Rattle.journal.specs.Records.{HasRecords, View, found}
 use Rattle.shard.specs.Shards.{opening}
@@ -23,10 +24,11 @@ pub record IsBacked {D : Type 0} (state : D → State) (journal : View D) (rs : 
   pub rest : HasRecords (state journal.a) (state journal.b) journal.durable
   pub whole : rs ≡ journal.durable ++ journal.staged
 
--- the memory is the replay of records of this shard, those of the journal where that is up
-pub record IsKept {D : Type 0} (state : D → State) (honest : D → Type 0) (journal : View D) (me : Identity) (memory : ShardState) (unflushed : List WriteId) : Type 0 where
+-- the memory is alike to the replay of records of this shard, those of the journal where that is up; beside it the ids whose prepares are staged, and the
+-- place that the durable records have learned
+pub record IsKept {D : Type 0} (state : D → State) (honest : D → Type 0) (journal : View D) (me : Identity) (memory : ShardState) (unflushed : List WriteId) (settled : ℕ) : Type 0 where
   pub rs : List Record
-  pub replayed : memory ≡ shard_state rs
+  pub replayed : IsAlike memory (shard_state rs)
   pub image : IsShardImage me rs
   pub opened : 1 ≤ memory.epoch
   pub some : 1 ≤ me.shards
@@ -34,6 +36,7 @@ pub record IsKept {D : Type 0} (state : D → State) (honest : D → Type 0) (jo
   pub node : me.node < me.shards
   pub backed : journal.is_down ≡ false → honest journal.a → honest journal.b → IsBacked state journal rs
   pub unflushed_are : journal.is_down ≡ false → unflushed ≡ prepared_ids journal.staged
+  pub settled_is : journal.is_down ≡ false → honest journal.a → honest journal.b → settled ≡ (shard_state journal.durable).learned
 
 -- the contents hold the records that were found, or those of a shard with one opening more
 abbrev pub HeldOrOpened : Identity → List Record → List ℕ → List ℕ → Type 0

@@ -1,18 +1,21 @@
 -- What a shard is, as its callers see it.
-use Rattle.std.specs.Prelude.{◌≡◌, ◌⊎◌, ◌≤◌, ◌<◌, ◌+◌, ◌-◌, ℕ, Bool, true, false, List, [], ◌∷◌, ◌++◌, length, drop, map, Option, Some, None, if◌then◌else◌, All, Contains, slice_get}
+use Rattle.std.specs.Prelude.{◌≡◌, ◌⊎◌, ◌<◌, ◌+◌, ◌-◌, ℕ, Bool, true, false, List, [], ◌∷◌, ◌++◌, length, drop, Some, None, if◌then◌else◌, All, Contains, slice_get, map}
 use Rattle.tuples.specs.declared.tuple.Tuple.{Tuple}
 use Rattle.tuples.specs.declared.change.Condition.{Condition}
+use Rattle.tuples.specs.declared.change.Want.{Want}
+use Rattle.tuples.specs.declared.change.Want.TheVariants.{NotAfter, Exists, Absent}
 use Rattle.tuples.specs.declared.entry.Entry.{Entry}
 use Rattle.tuples.specs.declared.entry.WriteId.{WriteId}
 use Rattle.tuples.specs.Log.{meets_want}
-use Rattle.tuples.specs.Parts.{part, takes_part, expected}
+use Rattle.tuples.specs.Parts.{part, takes_part}
 use Rattle.tuples.specs.Versions.{there_at, last_version}
 use Rattle.records.specs.declared.record.Part.{Part}
 use Rattle.records.specs.declared.record.Record.{Record}
-use Rattle.records.specs.declared.record.Record.TheVariants.{Prepare, Learned, Epoch}
+use Rattle.records.specs.declared.record.Record.TheVariants.{Learned, Epoch}
 use Rattle.records.specs.Replays.{Identity, ShardState, IsShardImage, shard_state, find_in_doubt, is_held, named}
+pub use Rattle.holds.specs.Holds.{AreAscendingIds, ids}
 use Rattle.device.specs.Device.{State, left}
-use Rattle.journal.specs.Records.{Finds, HasRecords, WasLeftOrFound, found}
+use Rattle.journal.specs.Records.{Finds, HasRecords, View, WasLeftOrFound, found}
 
 -- a shard over two devices: what is durable, what is staged, whether a device failed since the opening, and which shard it is
 pub record ShardView (D : Type 0) : Type 0 where
@@ -26,6 +29,10 @@ pub record ShardView (D : Type 0) : Type 0 where
 -- what the shard knows: the replay of its durable and staged records
 abbrev pub memory : {D : Type 0} → ShardView D → ShardState
 memory v = shard_state (v.durable ++ v.staged)
+
+-- the shard's journal
+abbrev pub journal_of : {D : Type 0} → ShardView D → View D
+journal_of v = record { a = v.a; b = v.b; durable = v.durable; staged = v.staged; is_down = v.is_down }
 
 -- up, over honest devices, each stop leaving the durable records, which with the staged ones are those of this shard
 pub record IsUp {D : Type 0} (state : D → State) (honest : D → Type 0) (v : ShardView D) : Type 0 where
@@ -51,6 +58,35 @@ pub record AreFree (s : ShardState) (w : Entry) : Type 0 where
 -- the conditions hold by the versions that the shard has learned
 abbrev pub HoldHere : ShardState → List Condition → Type 0
 HoldHere s = All (λ (c : Condition). meets_want c.want (last_version s.rows c.tuple) (there_at s.rows s.learned c.tuple) ≡ true)
+
+-- the condition names a place below the horizon
+abbrev pub IsBelow : ℕ → Want → Type 0
+IsBelow h (NotAfter place) = place < h
+IsBelow h Exists = ⊥
+IsBelow h Absent = ⊥
+
+-- one of these conditions names a place below the horizon
+pub record AskBelow (h : ℕ) (cs : List Condition) : Type 0 where
+  pub condition : Condition
+  pub there : Contains cs condition
+  pub below : IsBelow h condition.want
+
+-- no condition is below the horizon, and a write in doubt has the id of this one or holds a tuple that it names
+pub record IsBusy (s : ShardState) (w : Entry) : Type 0 where
+  pub above : AskBelow s.horizon w.conditions → ⊥
+  pub taken : AreFree s w → ⊥
+
+-- no condition is below the horizon, no write in doubt is in the way, and a condition does not hold
+pub record IsBroken (s : ShardState) (w : Entry) : Type 0 where
+  pub above : AskBelow s.horizon w.conditions → ⊥
+  pub free : AreFree s w
+  pub broken : HoldHere s w.conditions → ⊥
+
+-- nothing that the shard knows forbids to prepare the write
+pub record IsPreparable (s : ShardState) (w : Entry) : Type 0 where
+  pub above : AskBelow s.horizon w.conditions → ⊥
+  pub free : AreFree s w
+  pub hold : HoldHere s w.conditions
 
 -- the record of an opening
 abbrev pub opening : Identity → List Record → Record
@@ -91,15 +127,6 @@ abbrev pub ArePreparedHere : Identity → ShardState → List Entry → Type 0
 ArePreparedHere me s writes = (j : ℕ) (w : Entry) → slice_get writes j ≡ Some w → takes_part me.shards me.node w ≡ true
     → find_in_doubt w.id s.in_doubt ≡ Some (part me.shards me.node w)
 
-abbrev pub ids : List Entry → List WriteId
-ids = map (λ (w : Entry). w.id)
-
 -- no two of these writes have one id
 abbrev pub AreNewIds : List Entry → Type 0
 AreNewIds writes = (i j : ℕ) (v w : Entry) → slice_get writes i ≡ Some v → slice_get writes j ≡ Some w → v.id ≡ w.id → i ≡ j
-
--- ids, each before the next
-abbrev pub AreAscendingIds : List WriteId → Type 0
-AreAscendingIds [] = Unit {0}
-AreAscendingIds (i ∷ []) = Unit {0}
-AreAscendingIds (i ∷ j ∷ more) = ((i.epoch < j.epoch) ⊎ ((i.epoch ≡ j.epoch) × (i.number < j.number))) × AreAscendingIds (j ∷ more)

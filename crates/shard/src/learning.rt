@@ -7,6 +7,7 @@ ghost use Rattle.records.specs.Replays.{ArePrepared, MayLearn, find_in_doubt, gr
 ghost use Rattle.records.specs.declared.record.Record.TheVariants.{Learned as learned_record};
 ghost use Rattle.tuples.specs.Changes.{tuple_of};
 ghost use Rattle.tuples.specs.Parts.{part as part_of, takes_part as takes_part_of};
+ghost use Rattle.replay.specs.Alike.{IsAlike};
 ghost use Rattle.shard.specs.Own.{AreHere, has_part as has_part_of, is_own as is_own_tuple, own_changes, own_conditions};
 ghost use Rattle.shard.specs.Shards.{AreNewIds, ArePreparedHere, IsUp, Stages, learning, memory as memory_of, parts_from, unlearned};
 
@@ -153,6 +154,7 @@ fn parts_of(
     requires places { learned + length writes.now ≤ greatest_number }
     ensures parts { IfOk result (λ v. v.items ≡ parts_from shards node (learned + 1) writes.now) }
     ensures prepared { IfOk result (λ v. ArePrepared v.items memory.now.in_doubt) }
+    ensures here { OnOk result (AreHere shards node memory.now.in_doubt writes.now) }
     ensures damaged { IsErrOf result Refusal.Damaged → AreNewIds writes.now → AreHere shards node memory.now.in_doubt writes.now → ⊥ }
     ensures err { IfErr result (λ e. (e ≡ Refusal.NoMemory) ⊎ (e ≡ Refusal.Damaged)) }
 {
@@ -185,7 +187,7 @@ fn apply<D: Device>(
     requires spelled { IsLearned to parts.items }
     requires may { MayLearn memory.old to parts.items }
     ensures staged { OnOk result (journal.new ≡ record journal.old { staged = journal.old.staged ++ learned_record to parts.items ∷ [] }) }
-    ensures applied { OnOk result (memory.new ≡ shard_step memory.old (learned_record to parts.items)) }
+    ensures applied { OnOk result (IsAlike memory.new (shard_step memory.old (learned_record to parts.items))) }
     ensures full { IsErrOf result Refusal.Full → HasNoRoom journal.old.staged (learned_record to parts.items) }
     ensures err { IfErr result (λ e. ((e ≡ Refusal.Full) ⊎ (e ≡ Refusal.NoMemory)) × (journal.new ≡ journal.old) × (memory.new ≡ memory.old)) }
 {
@@ -218,6 +220,8 @@ impl<D: Device> Shard<D> {
         ensures ahead { IsUp D.state D.honest self.old → (memory_of self.old).learned < batch.now.from → IfOk result (λ b. (b ≡ false) × (self.new ≡ self.old)) × (IsErr result → ⊥) }
         ensures ok { IsUp D.state D.honest self.old → batch.now.from ≤ (memory_of self.old).learned → (memory_of self.old).learned < batch.now.from + length batch.now.writes
             → IfOk result (λ b. (b ≡ true) × Stages self.old (learning self.old.me (memory_of self.old) batch.now.from batch.now.writes) self.new × IsUp D.state D.honest self.new) }
+        ensures prepared { IsUp D.state D.honest self.old → batch.now.from ≤ (memory_of self.old).learned → (memory_of self.old).learned < batch.now.from + length batch.now.writes
+            → OnOk result (ArePreparedHere self.old.me (memory_of self.old) (unlearned (memory_of self.old) batch.now.from batch.now.writes)) }
         ensures damaged { IsUp D.state D.honest self.old → IsErrOf result Refusal.Damaged → AreNewIds (unlearned (memory_of self.old) batch.now.from batch.now.writes)
             → ArePreparedHere self.old.me (memory_of self.old) (unlearned (memory_of self.old) batch.now.from batch.now.writes) → ⊥ }
         ensures full { IsUp D.state D.honest self.old → IsErrOf result Refusal.Full → HasNoRoom self.old.staged (learning self.old.me (memory_of self.old) batch.now.from batch.now.writes) }

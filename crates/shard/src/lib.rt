@@ -7,12 +7,15 @@
 //! Start at `specs/Shards.antt`, what a shard is, and `records/specs/Replays.antt`, what its records stand for.
 #![tactic(auto)]
 
+mod collecting;
+mod dropping;
 mod learning;
 mod opening;
 mod own;
 mod preparing;
 mod reading;
 mod replies;
+mod settling;
 mod shard;
 #[cfg(test)]
 mod tests;

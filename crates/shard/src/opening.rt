@@ -5,6 +5,7 @@ ghost use Rattle.journal.specs.Records.{HasRecords, HoldsOldOrNew, LeavesBoth, f
 ghost use Rattle.records.specs.declared.record.Record.{Record as AnyRecord};
 ghost use Rattle.records.specs.declared.record.Record.TheVariants.{Epoch as epoch_record};
 ghost use Rattle.records.specs.Replays.{IsShardImage, greatest_number, shard_state};
+ghost use Rattle.replay.specs.Alike.{IsAlike};
 ghost use Rattle.shard.specs.Keeping.{HeldOrOpened};
 ghost use Rattle.shard.specs.Shards.{IsOpenedShard, IsUp, WasLeftOrOpened, opening};
 
@@ -27,7 +28,7 @@ fn replayed(
 ) -> Result<Memory, Refusal>
     requires some { 1 ≤ shards }
     requires few { shards ≤ 64 }
-    ensures memory { IfOk result (λ m. m ≡ shard_state records.items) }
+    ensures memory { IfOk result (λ m. IsAlike m (shard_state records.items)) }
     ensures image { OnOk result (IsShardImage (record { store = store; shards = shards; node = node }) records.items) }
     ensures damaged { IsErrOf result Refusal.Damaged → IsShardImage (record { store = store; shards = shards; node = node }) records.items → ⊥ }
     ensures err { IfErr result (λ e. (e ≡ Refusal.Damaged) ⊎ (e ≡ Refusal.NoMemory)) }
@@ -49,7 +50,7 @@ fn restored(
 ) -> Result<Memory, Refusal>
     requires some { 1 ≤ shards }
     requires few { shards ≤ 64 }
-    ensures memory { IfOk result (λ m. (m ≡ shard_state records.items) × (m.epoch < greatest_number)) }
+    ensures memory { IfOk result (λ m. IsAlike m (shard_state records.items) × (m.epoch < greatest_number)) }
     ensures image { OnOk result (IsShardImage (record { store = store; shards = shards; node = node }) records.items) }
     ensures damaged { IsErrOf result Refusal.Damaged → IsShardImage (record { store = store; shards = shards; node = node }) records.items → ⊥ }
     ensures full { IsErrOf result Refusal.Full → (shard_state records.items).epoch ≡ greatest_number }
@@ -135,6 +136,7 @@ fn start<D: Device>(
     match begin(&mut journal, epoch, store, shards, node) {
         Ok(()) => {
             memory.open_epoch(epoch);
+            let settled = memory.learned();
             Ok(Shard {
                 journal,
                 store,
@@ -142,6 +144,7 @@ fn start<D: Device>(
                 node,
                 memory,
                 unflushed: Vec::new(alloc),
+                settled,
             })
         }
         Err(refusal) => Err(refused(refusal, journal)),

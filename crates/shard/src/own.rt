@@ -1,15 +1,15 @@
 // A shard's part of a write.
-ghost use Rattle.std.specs.Prelude.{◌≡◌, ◌≤◌, ◌↔◌, ◌||◌, IfOk, IsTrue};
+ghost use Rattle.std.specs.Prelude.{◌≡◌, ◌⊎◌, ◌≤◌, ◌↔◌, ◌||◌, IfOk, OnOk, IfErr, IsErrOf, IsTrue};
 ghost use Rattle.std.specs.List.{list_any};
 ghost use Rattle.records.specs.Format.{ConditionsFit, WantFits};
 ghost use Rattle.tuples.specs.Changes.{tuple_of};
 ghost use Rattle.tuples.specs.Parts.{part};
-ghost use Rattle.shard.specs.Shards.{AreFree, HoldHere};
-ghost use Rattle.shard.specs.Own.{is_broken, is_busy, is_own as is_own_tuple, own_changes as changes_of, own_conditions as conditions_of};
+ghost use Rattle.shard.specs.Shards.{AreFree, AskBelow, HoldHere, IsBroken, IsBusy, IsPreparable};
+ghost use Rattle.shard.specs.Own.{asks_below, is_below as is_want_below, is_broken, is_busy, is_own as is_own_tuple, own_changes as changes_of, own_conditions as conditions_of};
 
 use replay::Memory;
 use std::alloc::{AllocError, Global};
-use tuples::{Change, Changes, Condition, Conditions, Entry, Tuple, Want, shard_of};
+use tuples::{Change, Changes, Condition, Conditions, Entry, Refusal, Tuple, Want, shard_of};
 
 pub(crate) fn is_own(tuple: &Tuple, shards: u8, node: u8) -> bool
     requires some { 1 ≤ shards }
@@ -161,8 +161,40 @@ fn is_broken(memory: &Memory, conditions: &[Condition], shards: u8, node: u8) ->
     false
 }
 
-/// Whether no write in doubt has its id, or names a tuple of this shard's part.
-pub(crate) fn is_free(memory: &Memory, write: &Entry, shards: u8, node: u8) -> bool
+fn is_below(condition: &Condition, horizon: u64) -> bool
+    ensures { result ≡ is_want_below horizon condition.now.want }
+{
+    match condition.want {
+        Want::NotAfter(place) => place < horizon,
+        Want::Exists | Want::Absent => false,
+    }
+}
+
+// Whether a condition of this shard's part names a place below the horizon.
+fn ask_below(conditions: &[Condition], horizon: u64, shards: u8, node: u8) -> bool
+    requires some { 1 ≤ shards }
+    requires few { shards ≤ 64 }
+    ensures { result ≡ list_any (asks_below shards node horizon) conditions.now }
+{
+    for condition in conditions {
+        if is_own(&condition.tuple, shards, node) && is_below(condition, horizon) {
+            return true;
+        }
+    }
+    false
+}
+
+// Whether a condition of this shard's part names a place that is collected.
+fn is_collected(memory: &Memory, write: &Entry, shards: u8, node: u8) -> bool
+    requires some { 1 ≤ shards }
+    requires few { shards ≤ 64 }
+    ensures { IsTrue result ↔ AskBelow memory.now.horizon (part shards node write.now).conditions }
+{
+    ask_below(write.conditions.as_slice(), memory.horizon(), shards, node)
+}
+
+// Whether no write in doubt has its id, or names a tuple of this shard's part.
+fn is_free(memory: &Memory, write: &Entry, shards: u8, node: u8) -> bool
     requires some { 1 ≤ shards }
     requires few { shards ≤ 64 }
     ensures { IsTrue result ↔ AreFree memory.now (part shards node write.now) }
@@ -173,11 +205,33 @@ pub(crate) fn is_free(memory: &Memory, write: &Entry, shards: u8, node: u8) -> b
     !is_held(memory, write, shards, node)
 }
 
-/// Whether the conditions of this shard's part hold here.
-pub(crate) fn holds(memory: &Memory, write: &Entry, shards: u8, node: u8) -> bool
+// Whether the conditions of this shard's part hold here.
+fn holds(memory: &Memory, write: &Entry, shards: u8, node: u8) -> bool
     requires some { 1 ≤ shards }
     requires few { shards ≤ 64 }
     ensures { IsTrue result ↔ HoldHere memory.now (part shards node write.now).conditions }
 {
     !is_broken(memory, write.conditions.as_slice(), shards, node)
+}
+
+/// Tests this shard's part of a write, all of it by each cause before the next: `Collected`, `Busy`, `Precondition`.
+pub(crate) fn test(memory: &Memory, write: &Entry, shards: u8, node: u8) -> Result<(), Refusal>
+    requires some { 1 ≤ shards }
+    requires few { shards ≤ 64 }
+    ensures ok { OnOk result (IsPreparable memory.now (part shards node write.now)) }
+    ensures collected { IsErrOf result Refusal.Collected ↔ AskBelow memory.now.horizon (part shards node write.now).conditions }
+    ensures busy { IsErrOf result Refusal.Busy ↔ IsBusy memory.now (part shards node write.now) }
+    ensures broken { IsErrOf result Refusal.Precondition ↔ IsBroken memory.now (part shards node write.now) }
+    ensures err { IfErr result (λ e. (e ≡ Refusal.Collected) ⊎ ((e ≡ Refusal.Busy) ⊎ (e ≡ Refusal.Precondition))) }
+{
+    if is_collected(memory, write, shards, node) {
+        return Err(Refusal::Collected);
+    }
+    if !is_free(memory, write, shards, node) {
+        return Err(Refusal::Busy);
+    }
+    if !holds(memory, write, shards, node) {
+        return Err(Refusal::Precondition);
+    }
+    Ok(())
 }

@@ -1,18 +1,20 @@
 // Preparing a write: its part is tested, staged and held in doubt.
-ghost use Rattle.std.specs.Prelude.{◌≡◌, ◌⊎◌, ◌↔◌, ◌++◌, ◌∷◌, [], true, false, OnOk, IfOk, IfErr, IsErrOf};
+ghost use Rattle.std.specs.Prelude.{◌≡◌, ◌⊎◌, ◌≤◌, ◌↔◌, ◌++◌, ◌∷◌, [], true, OnOk, OnErr, IfOk, IfErr, IsErrOf};
+ghost use Rattle.decisions.specs.Values.{IsIntent};
+ghost use Rattle.holds.specs.Holds.{IsFree};
 ghost use Rattle.journal.specs.Records.{HasNoRoom};
 ghost use Rattle.records.specs.Format.{IsPrepared, IsRecord};
 ghost use Rattle.records.specs.Replays.{shard_step};
 ghost use Rattle.records.specs.declared.record.Record.TheVariants.{Prepare as prepare_record};
-ghost use Rattle.tuples.specs.Parts.{takes_part};
-ghost use Rattle.shard.specs.Shards.{AreFree, HoldHere, IsUp, Stages, memory as memory_of, own_part as own_part_of};
+ghost use Rattle.tuples.specs.Parts.{part, takes_part};
+ghost use Rattle.shard.specs.Shards.{AreFree, AskBelow, HoldHere, IsBroken, IsBusy, IsPreparable, IsUp, Stages, memory as memory_of, own_part as own_part_of};
 
 use crate::Shard;
-use crate::own::{holds, is_free, own_part};
+use crate::own::{own_part, test};
 use decisions::{Intent, Ticket};
 use device::Device;
 use journal::Journal;
-use records::Record;
+use records::{Record, prepare_len};
 use replay::Memory;
 use std::alloc::Global;
 use tuples::{Entry, Refusal, WriteId};
@@ -29,70 +31,101 @@ pub(crate) fn stage_fitting<D: Device>(journal: &mut Journal<D>, next: &Record)
     }
 }
 
-// Stages the prepare of a part, and holds it in doubt: all of it or nothing.
+// Stages the prepare of a part that has room, and holds it in doubt: all of it or nothing.
 fn hold<D: Device>(
     journal: &mut Journal<D>,
     memory: &mut Memory,
     unflushed: &mut Vec<WriteId>,
     part: Entry,
 ) -> Result<(), Refusal>
-    requires { IsPrepared part }
+    requires spelled { IsPrepared part }
+    requires free { IsFree memory.old.in_doubt part }
+    requires room { HasNoRoom journal.old.staged (prepare_record part) → ⊥ }
     ensures staged { OnOk result (journal.new ≡ record journal.old { staged = journal.old.staged ++ prepare_record part ∷ [] }) }
     ensures held { OnOk result (memory.new ≡ shard_step memory.old (prepare_record part)) }
     ensures waits { OnOk result (unflushed.new.items ≡ unflushed.old.items ++ part.id ∷ []) }
-    ensures full { IsErrOf result Refusal.Full → HasNoRoom journal.old.staged (prepare_record part) }
-    ensures err { IfErr result (λ e. ((e ≡ Refusal.Full) ⊎ (e ≡ Refusal.NoMemory)) × (journal.new ≡ journal.old) × (memory.new ≡ memory.old) × (unflushed.new.items ≡ unflushed.old.items)) }
+    ensures err { IfErr result (λ e. (e ≡ Refusal.NoMemory) × (journal.new ≡ journal.old) × (memory.new ≡ memory.old) × (unflushed.new.items ≡ unflushed.old.items)) }
 {
     let id = part.id;
     let kept = part.clone()?;
-    let next = Record::Prepare(part);
-    if !journal.has_room(&next) {
-        return Err(Refusal::Full);
-    }
     unflushed.reserve(1)?;
     memory.prepare(kept)?;
     unflushed.push_reserved(id);
-    stage_fitting(journal, &next);
+    stage_fitting(journal, &Record::Prepare(part));
+    Ok(())
+}
+
+// Stages the prepare of the shard's part of a write that it takes part in, and holds it in doubt: all of it or nothing.
+fn prepare<D: Device>(
+    journal: &mut Journal<D>,
+    memory: &mut Memory,
+    unflushed: &mut Vec<WriteId>,
+    alloc: Global,
+    write: &Entry,
+    shards: u8,
+    node: u8,
+) -> Result<(), Refusal>
+    requires some { 1 ≤ shards }
+    requires few { shards ≤ 64 }
+    requires whole { IsIntent write.now }
+    requires part { takes_part shards node write.now ≡ true }
+    ensures staged { OnOk result (journal.new ≡ record journal.old { staged = journal.old.staged ++ prepare_record (part shards node write.now) ∷ [] }) }
+    ensures held { OnOk result (memory.new ≡ shard_step memory.old (prepare_record (part shards node write.now))) }
+    ensures waits { OnOk result (unflushed.new.items ≡ unflushed.old.items ++ write.now.id ∷ []) }
+    ensures ok { OnOk result (IsPreparable memory.old (part shards node write.now)) }
+    ensures collected { IsErrOf result Refusal.Collected ↔ AskBelow memory.old.horizon (part shards node write.now).conditions }
+    ensures busy { IsErrOf result Refusal.Busy ↔ IsBusy memory.old (part shards node write.now) }
+    ensures broken { IsErrOf result Refusal.Precondition ↔ IsBroken memory.old (part shards node write.now) }
+    ensures full { IsErrOf result Refusal.Full ↔ (IsPreparable memory.old (part shards node write.now) × HasNoRoom journal.old.staged (prepare_record (part shards node write.now))) }
+    ensures memory { IsErrOf result Refusal.NoMemory → IsPreparable memory.old (part shards node write.now) × (HasNoRoom journal.old.staged (prepare_record (part shards node write.now)) → ⊥) }
+    ensures err { IfErr result (λ e. ((e ≡ Refusal.Collected) ⊎ ((e ≡ Refusal.Busy) ⊎ ((e ≡ Refusal.Precondition) ⊎ ((e ≡ Refusal.Full) ⊎ (e ≡ Refusal.NoMemory))))) × (journal.new ≡ journal.old) × (memory.new ≡ memory.old) × (unflushed.new.items ≡ unflushed.old.items)) }
+{
+    test(memory, write, shards, node)?;
+    let bytes = prepare_len(write, shards, node);
+    if !journal.has_room_for(bytes) {
+        return Err(Refusal::Full);
+    }
+    let part = own_part(alloc, write, shards, node)?;
+    hold(journal, memory, unflushed, part)?;
     Ok(())
 }
 
 impl<D: Device> Shard<D> {
-    /// Stages the prepare of this shard's part of a write. Nothing has changed after a refusal: in this order `Down`, `Busy` where a
-    /// write in doubt has the id or holds a tuple of the part, `Precondition` where a condition is broken, and last `Full` or `NoMemory`.
+    /// Stages the prepare of this shard's part of a write. Nothing has changed after a refusal; each is tested for the whole part before
+    /// the next: `Down`, `Collected` where a condition names a place below the horizon, `Busy` where a write in doubt has the id or holds
+    /// a tuple of the part, `Precondition` where a condition is broken, `Full`, `NoMemory`.
     pub fn stage_prepare(&mut self, alloc: Global, intent: &Intent) -> Result<Ticket, Refusal>
         requires part { takes_part self.old.me.shards self.old.me.node intent.now.write ≡ true }
         ensures ok { IsUp D.state D.honest self.old → IfOk result (λ t. Stages self.old (prepare_record (own_part_of self.old intent.now.write)) self.new
             × IsUp D.state D.honest self.new × (t.id ≡ intent.now.write.id) × (t.epoch ≡ (memory_of self.old).epoch)) }
+        ensures above { IsUp D.state D.honest self.old → OnOk result (AskBelow (memory_of self.old).horizon (own_part_of self.old intent.now.write).conditions → ⊥) }
         ensures free { IsUp D.state D.honest self.old → OnOk result (AreFree (memory_of self.old) (own_part_of self.old intent.now.write)) }
         ensures conditions { IsUp D.state D.honest self.old → OnOk result (HoldHere (memory_of self.old) (own_part_of self.old intent.now.write).conditions) }
-        ensures busy { IsUp D.state D.honest self.old → IsErrOf result Refusal.Busy → AreFree (memory_of self.old) (own_part_of self.old intent.now.write) → ⊥ }
-        ensures broken { IsUp D.state D.honest self.old → IsErrOf result Refusal.Precondition → AreFree (memory_of self.old) (own_part_of self.old intent.now.write)
-            × (HoldHere (memory_of self.old) (own_part_of self.old intent.now.write).conditions → ⊥) }
-        ensures full { IsErrOf result Refusal.Full → HasNoRoom self.old.staged (prepare_record (own_part_of self.old intent.now.write)) }
+
+        // Each refusal exactly where its cause is the first.
         ensures down { IsErrOf result Refusal.Down ↔ (self.old.is_down ≡ true) }
-        ensures err { IfErr result (λ e. (self.new ≡ self.old) × ((e ≡ Refusal.Down) ⊎ ((e ≡ Refusal.Busy) ⊎ ((e ≡ Refusal.Precondition) ⊎ ((e ≡ Refusal.Full) ⊎ (e ≡ Refusal.NoMemory)))))) }
+        ensures collected { IsUp D.state D.honest self.old → IsErrOf result Refusal.Collected ↔ AskBelow (memory_of self.old).horizon (own_part_of self.old intent.now.write).conditions }
+        ensures busy { IsUp D.state D.honest self.old → IsErrOf result Refusal.Busy ↔ IsBusy (memory_of self.old) (own_part_of self.old intent.now.write) }
+        ensures broken { IsUp D.state D.honest self.old → IsErrOf result Refusal.Precondition ↔ IsBroken (memory_of self.old) (own_part_of self.old intent.now.write) }
+        ensures full { IsUp D.state D.honest self.old → IsErrOf result Refusal.Full
+            ↔ (IsPreparable (memory_of self.old) (own_part_of self.old intent.now.write) × HasNoRoom self.old.staged (prepare_record (own_part_of self.old intent.now.write))) }
+        ensures memory { IsUp D.state D.honest self.old → IsErrOf result Refusal.NoMemory
+            → IsPreparable (memory_of self.old) (own_part_of self.old intent.now.write) × (HasNoRoom self.old.staged (prepare_record (own_part_of self.old intent.now.write)) → ⊥) }
+        ensures err { IfErr result (λ e. (self.new ≡ self.old) × ((e ≡ Refusal.Down) ⊎ ((e ≡ Refusal.Collected) ⊎ ((e ≡ Refusal.Busy) ⊎ ((e ≡ Refusal.Precondition) ⊎ ((e ≡ Refusal.Full) ⊎ (e ≡ Refusal.NoMemory))))))) }
     {
         if self.journal.is_down() {
             return Err(Refusal::Down);
         }
-        let (shards, node) = (self.shards, self.node);
         let write = intent.entry();
-        if !is_free(&self.memory, write, shards, node) {
-            return Err(Refusal::Busy);
-        }
-        if !holds(&self.memory, write, shards, node) {
-            return Err(Refusal::Precondition);
-        }
-        let part = own_part(alloc, write, shards, node)?;
-        hold(
+        prepare(
             &mut self.journal,
             &mut self.memory,
             &mut self.unflushed,
-            part,
+            alloc,
+            write,
+            self.shards,
+            self.node,
         )?;
-        Ok(Ticket {
-            id: write.id,
-            epoch: self.memory.epoch(),
-        })
+        Ok(Ticket::new(&self.journal, write.id, self.memory.epoch()))
     }
 }

@@ -1,14 +1,15 @@
 // What a shard tells of what it knows.
-ghost use Rattle.std.specs.Prelude.{◌≡◌, ◌⊎◌, ◌≤◌, ◌<◌, true, IfOk, IfErr, IsErrOf, ◌↔◌, Contains};
+ghost use Rattle.std.specs.Prelude.{◌≡◌, ◌⊎◌, ◌≤◌, ◌<◌, true, IfOk, IfErr, IsErr, IsErrOf, ◌↔◌, Contains};
 ghost use Rattle.tuples.specs.Reads.{IsSelection};
 ghost use Rattle.tuples.specs.Versions.{there_at};
 ghost use Rattle.shard.specs.declared.replies.ReadReply.TheVariants.{Rows, Behind};
+ghost use Rattle.versions.specs.Rows.{AreRows};
 ghost use Rattle.shard.specs.Shards.{AreAscendingIds, IsUp, ids, memory};
 
 use crate::{ReadReply, Shard};
 use device::Device;
-use std::alloc::{AllocError, Global};
-use tuples::{Entry, Refusal, Tupleset, WriteId};
+use std::alloc::Global;
+use tuples::{Refusal, Tupleset, Version, WriteId};
 
 impl<D: Device> Shard<D> {
     /// The ids of the writes that are prepared and neither learned nor dropped, ascending.
@@ -20,8 +21,23 @@ impl<D: Device> Shard<D> {
         if self.journal.is_down() {
             return Err(Refusal::Down);
         }
-        match sorted_ids(alloc, self.memory.in_doubt()) {
+        match self.memory.ids_in_doubt(alloc) {
             Ok(ids) => Ok(ids),
+            Err(_) => Err(Refusal::NoMemory),
+        }
+    }
+
+    /// Its versions, by tuple and then by place.
+    pub fn rows(&self, alloc: Global) -> Result<Vec<Version>, Refusal>
+        ensures ok { IsUp D.state D.honest self.now → IfOk result (λ v. AreRows (memory self.now).rows v.items) }
+        ensures down { IsErrOf result Refusal.Down ↔ (self.now.is_down ≡ true) }
+        ensures err { IfErr result (λ e. (e ≡ Refusal.Down) ⊎ (e ≡ Refusal.NoMemory)) }
+    {
+        if self.journal.is_down() {
+            return Err(Refusal::Down);
+        }
+        match self.memory.rows(alloc) {
+            Ok(rows) => Ok(rows),
             Err(_) => Err(Refusal::NoMemory),
         }
     }
@@ -32,6 +48,7 @@ impl<D: Device> Shard<D> {
         ensures rows { (ts : _) → IsUp D.state D.honest self.now → IfOk result (λ r. r ≡ Rows ts → (place ≤ (memory self.now).learned) × ((memory self.now).horizon ≤ place)
             × IsSelection (there_at (memory self.now).rows place) set.now ts.items) }
         ensures behind { IsUp D.state D.honest self.now → IfOk result (λ r. r ≡ Behind → (memory self.now).learned < place) }
+        ensures ahead { IsUp D.state D.honest self.now → (memory self.now).horizon ≤ place → (memory self.now).learned < place → IfOk result (λ r. r ≡ Behind) × (IsErr result → ⊥) }
         ensures collected { IsUp D.state D.honest self.now → IsErrOf result Refusal.Collected ↔ (place < (memory self.now).horizon) }
         ensures down { IsErrOf result Refusal.Down ↔ (self.now.is_down ≡ true) }
         ensures err { IfErr result (λ e. (e ≡ Refusal.Down) ⊎ ((e ≡ Refusal.Collected) ⊎ (e ≡ Refusal.NoMemory))) }
@@ -50,21 +67,4 @@ impl<D: Device> Shard<D> {
             Err(_) => Err(Refusal::NoMemory),
         }
     }
-}
-
-fn ids_of(alloc: Global, entries: &[Entry]) -> Result<Vec<WriteId>, AllocError>
-    ensures { IfOk result (λ v. v.items ≡ ids entries.now) }
-{
-    entries.iter().map(|entry| entry.id).collect(alloc)
-}
-
-// Their ids, ascending.
-fn sorted_ids(alloc: Global, entries: &[Entry]) -> Result<Vec<WriteId>, AllocError>
-    ensures ascending { IfOk result (λ v. AreAscendingIds v.items) }
-    ensures same { IfOk result (λ v. (id : _) → Contains v.items id ↔ Contains (ids entries.now) id) }
-{
-    let mut ids = ids_of(alloc, entries)?;
-    ids.sort()?;
-    ids.dedup();
-    Ok(ids)
 }

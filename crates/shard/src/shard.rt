@@ -3,10 +3,10 @@ ghost use Rattle.std.specs.Prelude.{◌≡◌, ◌≢◌, ◌⊎◌, ◌≤◌, 
 ghost use Rattle.records.specs.declared.record.Record.TheVariants.{Prepare as prepare_record};
 ghost use Rattle.records.specs.Replays.{find_in_doubt};
 ghost use Rattle.device.specs.Device.{Keeps};
-ghost use Rattle.journal.specs.Records.{HoldsOldOrNew, LeavesBoth};
+ghost use Rattle.journal.specs.Records.{HasCause, HoldsOldOrNew, LeavesBoth};
 ghost use Rattle.tuples.specs.declared.entry.Entry.{Entry as AnyEntry};
 ghost use Rattle.shard.specs.declared.replies.VoteReply.TheVariants.{Yes, Later, No};
-ghost use Rattle.shard.specs.Shards.{IsDurable, IsUp, ShardView, memory};
+ghost use Rattle.shard.specs.Shards.{IsDurable, IsUp, ShardView, journal_of, memory};
 
 use crate::VoteReply;
 use decisions::{Ticket, Vote};
@@ -26,6 +26,8 @@ pub struct Shard<D: Device> {
     pub(crate) memory: Memory,
     // the ids whose prepares are staged
     pub(crate) unflushed: Vec<WriteId>,
+    // the place that the durable records have learned
+    pub(crate) settled: u64,
 }
 
 impl<D: Device> Model for Shard<D> {
@@ -37,7 +39,7 @@ impl<D: Device> Model for Shard<D> {
 
     ghost view = { λ s. record { a = s.journal.a; b = s.journal.b; durable = s.journal.durable; staged = s.journal.staged; is_down = s.journal.is_down; me = record { store = s.store; shards = s.shards; node = s.node } } };
 
-    ghost invariant = { λ s. IsKept D.state D.honest s.journal (record { store = s.store; shards = s.shards; node = s.node }) s.memory s.unflushed.items };
+    ghost invariant = { λ s. IsKept D.state D.honest s.journal (record { store = s.store; shards = s.shards; node = s.node }) s.memory s.unflushed.items s.settled };
 }
 
 impl<D: Device> Shard<D> {
@@ -60,11 +62,13 @@ impl<D: Device> Shard<D> {
         ensures ok { IsUp D.state D.honest self.old → OnOk result (IsUp D.state D.honest self.new × (self.new.durable ≡ self.old.durable ++ self.old.staged) × (self.new.staged ≡ [])) }
         ensures me { self.new.me ≡ self.old.me }
         ensures down { self.old.is_down ≡ true → IsErr result × (self.new ≡ self.old) }
+        ensures cause { OnErr result ((self.old.is_down ≡ true) ⊎ HasCause D.state D.honest (journal_of self.old) (journal_of self.new)) }
         ensures err { IfErr result (λ e. (e ≡ Refusal.Down) × (self.new.is_down ≡ true)) }
     {
         match self.journal.flush() {
             Ok(()) => {
                 self.unflushed.clear();
+                self.settled = self.memory.learned();
                 Ok(())
             }
             Err(_) => Err(Refusal::Down),
@@ -82,16 +86,19 @@ impl<D: Device> Shard<D> {
             ⊎ ((e ≡ Refusal.Aborted) × (IsUp D.state D.honest self.now → find_in_doubt ticket.id (memory self.now).in_doubt ≡ None)) }
         ensures down { self.now.is_down ≡ true → result ≡ No Refusal.Down }
     {
-        let Ticket { id, epoch } = ticket;
+        let id = ticket.id();
         if self.journal.is_down() {
+            ticket.leave();
             return VoteReply::No(Refusal::Down);
         }
         if self.memory.find(id).is_none() {
+            ticket.leave();
             return VoteReply::No(Refusal::Aborted);
         }
         if self.unflushed.contains(&id) {
-            return VoteReply::Later(Ticket { id, epoch });
+            return VoteReply::Later(ticket);
         }
+        ticket.leave();
         VoteReply::Yes(Vote::new(&self.journal, id, self.node))
     }
 
@@ -139,6 +146,7 @@ impl<D: Device> Shard<D> {
             node: _,
             memory: _,
             unflushed: _,
+            settled: _,
         } = self;
         journal.into_devices()
     }

@@ -3,6 +3,10 @@ ghost use Rattle.std.specs.Prelude.{◌≤◌, ◌<◌};
 
 mod images;
 mod votes;
+mod coordinator;
+mod preparing;
+mod upkeep;
+mod writes;
 
 use crate::{Shard, VoteReply};
 use decisions::{Intent, Ticket};

@@ -145,3 +145,41 @@ fn what_lies_under_a_horizon_is_forgotten(rt: HostRuntime) -> Result<(), Fail> {
     }
     Ok(())
 }
+
+#[test]
+fn rows_are_listed_by_tuple_and_then_by_place(rt: HostRuntime) -> Result<(), Fail> {
+    let alloc = rt.alloc();
+    let mut versions = Versions::new(alloc);
+    versions.apply(1, &[touch(alloc, "doc:b#viewer@u1")?])?;
+    versions.apply(2, &[touch(alloc, "doc:a#viewer@u1")?])?;
+    versions.apply(3, &[delete(alloc, "doc:a#viewer@u1")?])?;
+    assert_eq!(rt;
+        listed_places(alloc, &versions)?.as_slice(),
+        [2, 3, 1].as_slice()
+    );
+    Ok(())
+}
+
+/// The place of each version, as they are listed.
+fn listed_places(alloc: Global, versions: &Versions) -> Result<Vec<u64>, Fail> {
+    let rows = versions.rows(alloc)?;
+    let mut places = Vec::new(alloc);
+    for row in &rows {
+        places.push(row.place)?;
+    }
+    Ok(places)
+}
+
+#[test]
+fn a_horizon_leaves_what_a_read_at_it_needs(rt: HostRuntime) -> Result<(), Fail> {
+    let alloc = rt.alloc();
+    let mut versions = touched_deleted_and_touched(alloc, "doc:a#viewer@u1")?;
+    versions.collect(1);
+    assert_eq!(rt;
+        listed_places(alloc, &versions)?.as_slice(),
+        [1, 2, 3].as_slice()
+    );
+    versions.collect(2);
+    assert_eq!(rt; listed_places(alloc, &versions)?.as_slice(), [3].as_slice());
+    Ok(())
+}

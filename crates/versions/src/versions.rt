@@ -1,16 +1,19 @@
-// The versions of tuples, as a list in the order of the log.
+// The versions of tuples, as a list.
 ghost use Rattle.std.specs.Prelude.{◌≡◌, ◌∷◌, ◌++◌, [], take, length, OnOk, OnErr, IfOk};
 ghost use Rattle.tuples.specs.Versions.{collected, last_version, placed, there_at};
 ghost use Rattle.tuples.specs.Log.{there_after};
 ghost use Rattle.tuples.specs.Reads.{IsSelection};
+ghost use Rattle.versions.specs.Alike.{AlikeReadsAlike, AreAlike};
+ghost use Rattle.versions.specs.Rows.{AreRows};
 
 use crate::collecting::{forget_deletions, forget_followed};
 use crate::kept::{copied, kept_at};
+use crate::listing::listed;
 use std::alloc::{AllocError, Global};
 use std::marker::Model;
 use tuples::{Change, Tuple, Tupleset, Version};
 
-/// The versions of tuples, which contracts see as their list in the order of the log.
+/// The versions of tuples, which contracts see as a list. Of it only the order within one tuple is promised.
 #[derive(Drop)]
 pub struct Versions {
     rows: Vec<Version>,
@@ -37,7 +40,7 @@ impl Versions {
 
     /// Adds the changes of a write at its place. Where memory is refused, nothing has changed.
     pub fn apply(&mut self, place: u64, changes: &[Change]) -> Result<(), AllocError>
-        ensures ok { OnOk result (self.new ≡ self.old ++ placed place changes.now) }
+        ensures ok { OnOk result (AreAlike self.new (self.old ++ placed place changes.now)) }
         ensures err { OnErr result (self.new ≡ self.old) }
     {
         let rows = self.rows.len();
@@ -74,9 +77,9 @@ impl Versions {
         last
     }
 
-    /// Adds these versions at the end. Where memory is refused, nothing has changed.
+    /// Adds these versions after its own. Where memory is refused, nothing has changed.
     pub fn append(&mut self, more: Versions) -> Result<(), AllocError>
-        ensures ok { OnOk result (self.new ≡ self.old ++ more) }
+        ensures ok { OnOk result (AreAlike self.new (self.old ++ more)) }
         ensures err { OnErr result (self.new ≡ self.old) }
     {
         let mut rows = more.rows;
@@ -85,7 +88,7 @@ impl Versions {
 
     /// Forgets what lies under the horizon: versions at or below it that another such version of their tuple follows, and deletions.
     pub fn collect(&mut self, horizon: u64)
-        ensures { self.new ≡ collected horizon self.old }
+        ensures { AreAlike self.new (collected horizon self.old) }
     {
         forget_followed(&mut self.rows, horizon);
         forget_deletions(&mut self.rows, horizon);
@@ -112,7 +115,19 @@ impl Versions {
         let kept = kept_at(alloc, &self.rows, place, set)?;
         copied(alloc, &kept)
     }
+
+    /// Copies of all versions, by tuple and then by place.
+    pub fn rows(&self, alloc: Global) -> Result<Vec<Version>, AllocError>
+        ensures { IfOk result (λ v. AreRows self.now v.items) }
+    {
+        listed(alloc, &self.rows)
+    }
 }
+
+/// Versions of different tuples may stand in any order: what is read of them is the same.
+pub fn read_alike()
+    ensures { AlikeReadsAlike }
+{}
 
 // a copy of the change with its place
 fn version(place: u64, change: &Change) -> Result<Version, AllocError>

@@ -1,12 +1,12 @@
 -- A running shard applies the batch behind its learned place.
-use Rattle.std.proofs.Common.{◌≡◌, ◌≢◌, ℕ, Bool, true, false, ◌+◌, ◌<◌, ◌≤◌, List, length, sym, ◌∙◌, ap, subst, arith}
+use Rattle.std.proofs.Common.{◌≡◌, ◌≢◌, ℕ, Bool, true, false, ◌+◌, ◌<◌, ◌≤◌, List, length, ◌∙◌, ap, arith}
 use Rattle.tuples.specs.declared.entry.Entry.{Entry}
 use Rattle.tuples.specs.declared.refusal.Refusal.{Refusal}
 use Rattle.tuples.specs.declared.refusal.Refusal.TheVariants.{Damaged}
 use Rattle.records.specs.Replays.{ShardState}
 use Rattle.device.specs.Device.{State}
 use Rattle.shard.specs.Shards.{ShardView, IsUp, Stages, AreNewIds, ArePreparedHere, learning, memory, unlearned}
-use Rattle.zanstore.specs.Stores.{IsLog, IsRunning, only}
+use Rattle.zanstore.specs.Stores.{IsLog, IsRunning}
 use Rattle.zanstore.proofs.Learning.{behind, batch_means, batch_learns, batch_is_some, batch_is_new, batch_is_prepared}
 use Rattle.zanstore.proofs.Running.{memory_staged, staged_is_running}
 

@@ -1,5 +1,5 @@
 -- What the devices of a small store keep through calls, failures and openings.
-use Rattle.std.proofs.Common.{◌≡◌, ◌≢◌, ◌⊎◌, inl, inr, ⊎_elim, ℕ, Bool, true, false, ◌+◌, ◌<◌, ◌≤◌, max, List, [], ◌∷◌, ◌++◌, length, Some, None, refl, sym, ◌∙◌, ap, subst, arith}
+use Rattle.std.proofs.Common.{◌≡◌, ◌≢◌, ⊎_elim, ℕ, false, ◌+◌, ◌≤◌, List, [], ◌∷◌, ◌++◌, length, Some, refl, sym, ◌∙◌, ap, subst, arith}
 use Rattle.std.proofs.lemmas.List.{append-nil}
 use Rattle.tuples.specs.declared.entry.Entry.{Entry}
 use Rattle.tuples.specs.declared.refusal.Refusal.{Refusal}
@@ -10,7 +10,7 @@ use Rattle.records.specs.Replays.{Identity, ShardState, IsShardImage, shard_step
 use Rattle.device.specs.Device.{State, Leaves, Keeps, Revived, left, reach}
 use Rattle.device.proofs.Moments.{leaves_nothing_else}
 use Rattle.journal.specs.Records.{HasRecords, LeavesBoth, found}
-use Rattle.shard.specs.Shards.{ShardView, IsUp, IsOpenedShard, WasLeftOrOpened, memory, opening}
+use Rattle.shard.specs.Shards.{ShardView, IsOpenedShard, WasLeftOrOpened, opening}
 use Rattle.cluster.specs.Shards.{ShardMeans}
 use Rattle.replay.proofs.States.{shard_push}
 use Rattle.zanstore.specs.Stores.{AreKept, IsMeant, IsRunning, only}

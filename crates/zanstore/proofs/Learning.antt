@@ -1,6 +1,6 @@
 -- The only shard learns the decisions behind its learned place.
-use Rattle.std.proofs.Common.{◌≡◌, ◌≢◌, ◌⊎◌, inl, inr, ⊎_elim, ℕ, zero, suc, Bool, true, false, ◌+◌, ◌-◌, ◌<◌, ◌≤◌, min, List, [], ◌∷◌, ◌++◌, length, take, drop, Some, None, slice_get, refl, sym, ◌∙◌, ap, subst, arith, cond}
-use Rattle.std.proofs.lemmas.Bool.{cases_Bool, cases_lt}
+use Rattle.std.proofs.Common.{◌≡◌, ⊎_elim, ℕ, zero, suc, true, ◌+◌, ◌-◌, ◌<◌, ◌≤◌, min, List, [], ◌∷◌, length, take, drop, Some, slice_get, refl, sym, ◌∙◌, ap, subst, arith}
+use Rattle.std.proofs.lemmas.Bool.{cases_lt}
 use Rattle.std.proofs.lemmas.List.{length-take, length-drop, take_all}
 use Rattle.std.proofs.lemmas.Option.{slice_get_within}
 use Rattle.tuples.specs.declared.entry.Entry.{Entry}
@@ -8,7 +8,7 @@ use Rattle.tuples.specs.Log.{AreNew}
 use Rattle.tuples.specs.Parts.{part, takes_part, expected}
 use Rattle.records.specs.declared.record.Record.{Record}
 use Rattle.records.specs.declared.record.Record.TheVariants.{Learned}
-use Rattle.records.specs.Replays.{Identity, ShardState, shard_step, find_in_doubt}
+use Rattle.records.specs.Replays.{Identity, ShardState, shard_step}
 use Rattle.shard.specs.Shards.{AreNewIds, ArePreparedHere, learning, parts_from, unlearned}
 use Rattle.cluster.specs.Shards.{ShardMeans}
 use Rattle.cluster.proofs.Learns.{learned_means}

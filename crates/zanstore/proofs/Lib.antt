@@ -6,3 +6,5 @@ mod Selections
 mod Beginnings
 mod Applying
 mod Preparing
+mod Conditions
+mod Causes

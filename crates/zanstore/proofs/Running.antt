@@ -1,5 +1,5 @@
 -- How a shard that is up goes on: a record staged, a flush, a write listed.
-use Rattle.std.proofs.Common.{◌≡◌, ◌≢◌, ◌⊎◌, inl, inr, ⊎_elim, ℕ, Bool, true, false, ◌+◌, ◌<◌, ◌≤◌, List, [], ◌∷◌, ◌++◌, length, Some, None, Result, Ok, Err, OnOk, IfErr, refl, sym, ◌∙◌, ap, subst, arith, append_assoc}
+use Rattle.std.proofs.Common.{◌≡◌, ⊎_elim, ℕ, Bool, true, false, ◌≤◌, List, [], ◌∷◌, ◌++◌, Some, Result, Ok, Err, OnOk, IfErr, refl, sym, ◌∙◌, ap, subst, append_assoc}
 use Rattle.std.specs.Result.{IsErrOf}
 use Rattle.std.proofs.lemmas.List.{append-nil}
 use Rattle.tuples.specs.declared.entry.Entry.{Entry}
@@ -9,13 +9,13 @@ use Rattle.tuples.specs.Parts.{expected}
 use Rattle.records.specs.declared.record.Record.{Record}
 use Rattle.records.specs.Replays.{Identity, ShardState, IsShardImage, shard_step, shard_state, find_in_doubt}
 use Rattle.device.specs.Device.{State, Keeps, left}
-use Rattle.journal.specs.Records.{HasRecords, HoldsOldOrNew, LeavesBoth, found}
+use Rattle.journal.specs.Records.{HoldsOldOrNew, LeavesBoth}
 use Rattle.shard.specs.Shards.{ShardView, IsUp, IsDurable, Stages, memory}
 use Rattle.cluster.specs.Shards.{ShardMeans}
 use Rattle.replay.proofs.States.{shard_push}
 use Rattle.cluster.proofs.Decides.{listed_means}
-use Rattle.zanstore.specs.Stores.{AreKept, IsMeant, IsRunning, only}
-use Rattle.zanstore.proofs.Keeping.{kept_where, kept_after, left_of_kept, left_itself, some_is}
+use Rattle.zanstore.specs.Stores.{AreKept, IsMeant, IsRunning}
+use Rattle.zanstore.proofs.Keeping.{kept_where, kept_after, left_of_kept, left_itself}
 
 pub false_true : (b : Bool) → b ≡ false → b ≡ true → ⊥
 false_true b is_false is_true = cc

@@ -1,5 +1,5 @@
 -- A write at the only shard, which has all of it.
-use Rattle.std.proofs.Common.{◌≡◌, ◌≢◌, ◌⊎◌, inl, inr, ⊎_elim, ℕ, zero, suc, Bool, true, false, not, ◌||◌, ◌==◌, ◌+◌, ◌<◌, ◌≤◌, List, [], ◌∷◌, ◌++◌, filter, length, Some, None, slice_get, if◌then◌else◌, refl, sym, ◌∙◌, ap, subst, arith, cond}
+use Rattle.std.proofs.Common.{◌≡◌, ◌⊎◌, inl, inr, ⊎_elim, ℕ, Bool, true, false, ◌==◌, ◌+◌, ◌<◌, ◌≤◌, List, [], ◌∷◌, ◌++◌, filter, length, Some, None, slice_get, if◌then◌else◌, refl, sym, ◌∙◌, ap, subst, arith}
 use Rattle.std.proofs.lemmas.Bool.{cases_Bool, eq-eqb, ne_eqb}
 use Rattle.std.proofs.lemmas.List.{length_push}
 use Rattle.tuples.specs.declared.tuple.Tuple.{Tuple}
@@ -8,15 +8,16 @@ use Rattle.tuples.specs.declared.change.Condition.{Condition}
 use Rattle.tuples.specs.declared.entry.Entry.{Entry}
 use Rattle.tuples.specs.declared.entry.WriteId.{WriteId}
 use Rattle.tuples.specs.Changes.{tuple_of}
-use Rattle.tuples.specs.Log.{same_id}
+use Rattle.tuples.specs.Log.{HoldAfter, same_id}
 use Rattle.tuples.specs.Parts.{shard_of, part, takes_part, expected}
 use Rattle.records.specs.declared.record.Record.TheVariants.{Prepare}
 use Rattle.records.specs.Replays.{Identity, ShardState, shard_step, find_in_doubt, greatest_number}
-use Rattle.decisions.specs.Values.{IsIntent, IsGiven}
+use Rattle.decisions.specs.Values.{IsIntent}
 use Rattle.replay.proofs.Doubts.{same_id_refl}
 use Rattle.cluster.proofs.Lists.{slice_get_push}
 use Rattle.zanstore.specs.Stores.{IsNumbered, only}
 use Rattle.zanstore.specs.Lines.{IsNew}
+use Rattle.zanstore.proofs.Conditions.{legal_push}
 
 filter_all : {X : Type 0} (p : X → Bool) (xs : List X) → ((x : X) → p x ≡ true) → filter p xs ≡ xs
 filter_all p [] all = refl
@@ -73,6 +74,7 @@ prepare_found s p none = find_pushed s.in_doubt p none
 pub numbered_on : (log : List Entry) (given : ℕ) → IsNumbered log given → given < greatest_number → IsNumbered log (given + 1)
 numbered_on log given n lt = record {
   new = n.new;
+  legal = n.legal;
   few = omega (arith, n.few);
   greatest = omega arith;
   epochs = n.epochs;
@@ -94,9 +96,10 @@ new_push log w i j u v new (inr is_u) (inr is_v) old same = is_u.0 ∙ sym is_v.
 
 -- the log with one write more, under an id that was given out
 pub numbered_push : (log : List Entry) (given : ℕ) (w : Entry) → IsNumbered log given → given < greatest_number → IsNew w.id log → w.id.epoch ≡ 1 → w.id.number ≡ given + 1 → IsIntent w
-    → IsNumbered (log ++ w ∷ []) (given + 1)
-numbered_push log given w n lt new epoch number whole = record {
+    → HoldAfter log w.conditions → IsNumbered (log ++ w ∷ []) (given + 1)
+numbered_push log given w n lt new epoch number whole hold = record {
   new = λ i j u v at_u at_v same. new_push log w i j u v new (slice_get_push log w u i at_u) (slice_get_push log w v j at_v) (λ old_u old_v. n.new i j u v old_u old_v same) same;
+  legal = legal_push log w n.legal hold;
   few = omega (arith, n.few, length_push log w);
   greatest = omega arith;
   epochs = λ j v at. ⊎_elim (λ old. n.epochs j v old) (λ is. subst (λ (e : Entry). e.id.epoch ≡ 1) is.1 epoch) (slice_get_push log w v j at);
@@ -109,9 +112,10 @@ numbered_push log given w n lt new epoch number whole = record {
 
 -- the write was listed, or there was no memory for it
 pub numbered_after : (pushed : Bool) (log more : List Entry) (given : ℕ) (w : Entry) → more ≡ (if pushed then log ++ w ∷ [] else log)
-    → IsNumbered log given → given < greatest_number → IsNew w.id log → w.id.epoch ≡ 1 → w.id.number ≡ given + 1 → IsIntent w → IsNumbered more (given + 1)
-numbered_after true log more given w is n lt new epoch number whole = subst (λ (l : List Entry). IsNumbered l (given + 1)) (sym is) (numbered_push log given w n lt new epoch number whole)
-numbered_after false log more given w is n lt new epoch number whole = subst (λ (l : List Entry). IsNumbered l (given + 1)) (sym is) (numbered_on log given n lt)
+    → IsNumbered log given → given < greatest_number → IsNew w.id log → w.id.epoch ≡ 1 → w.id.number ≡ given + 1 → IsIntent w
+    → HoldAfter log w.conditions → IsNumbered more (given + 1)
+numbered_after true log more given w is n lt new epoch number whole hold = subst (λ (l : List Entry). IsNumbered l (given + 1)) (sym is) (numbered_push log given w n lt new epoch number whole hold)
+numbered_after false log more given w is n lt new epoch number whole hold = subst (λ (l : List Entry). IsNumbered l (given + 1)) (sym is) (numbered_on log given n lt)
 
 -- the log has this write more, under a new id
 abbrev pub IsDecided : List Entry → List Change → List Condition → List Entry → Type 0

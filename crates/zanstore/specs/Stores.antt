@@ -1,7 +1,7 @@
 -- What a store of one shard keeps.
-use Rattle.std.specs.Prelude.{◌≡◌, ◌≤◌, ◌<◌, ◌++◌, ℕ, Bool, true, false, List, [], length, Some, slice_get}
+use Rattle.std.specs.Prelude.{◌≡◌, ◌≤◌, ℕ, false, List, length, Some, slice_get}
 use Rattle.tuples.specs.declared.entry.Entry.{Entry}
-use Rattle.tuples.specs.Log.{AreNew}
+use Rattle.tuples.specs.Log.{AreNew, IsLegal}
 use Rattle.records.specs.declared.record.Record.{Record}
 use Rattle.records.specs.Replays.{Identity, IsShardImage, shard_state, greatest_number}
 use Rattle.device.specs.Device.{State, left}
@@ -14,9 +14,10 @@ use Rattle.cluster.specs.Shards.{ShardMeans}
 abbrev pub only : ℕ → Identity
 only store = record { store = store; shards = 1; node = 0 }
 
--- the writes so far: ids of epoch 1 that were given out, none twice
+-- the writes so far: ids of epoch 1 that were given out, none twice, and each write's conditions held after the writes before it
 pub record IsNumbered (log : List Entry) (given : ℕ) : Type 0 where
   pub new : AreNew log
+  pub legal : IsLegal log
   pub few : length log ≤ given
   pub greatest : given ≤ greatest_number
   pub epochs : (j : ℕ) (w : Entry) → slice_get log j ≡ Some w → w.id.epoch ≡ 1

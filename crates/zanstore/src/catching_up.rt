@@ -1,7 +1,8 @@
 // A shard learns the decisions that it does not have yet.
-ghost use Rattle.std.specs.Prelude.{◌≡◌, ◌≢◌, ◌≤◌, ◌<◌, ◌+◌, ◌-◌, OnOk, IfOk, IfErr, length, take, drop, min, false};
+ghost use Rattle.std.specs.Prelude.{◌≡◌, ◌≤◌, ◌<◌, ◌+◌, ◌-◌, OnOk, IfOk, IfErr, length, take, drop, min, false};
 ghost use Rattle.records.specs.Replays.{greatest_number};
 ghost use Rattle.shard.specs.Shards.{memory};
+ghost use Rattle.zanstore.specs.Causes.{IsLack};
 ghost use Rattle.zanstore.specs.Stores.{IsLog, IsRunning};
 
 use crate::flushing::flush;
@@ -41,7 +42,7 @@ fn apply<D: Device>(
     requires more { batch.now.from < length log.now }
     ensures running { IsRunning D.state D.honest store log.now shard.new }
     ensures ok { OnOk result ((shard.new.is_down ≡ false) × (batch.now.from < (memory shard.new).learned)) }
-    ensures err { IfErr result (λ e. (e ≢ Refusal.Damaged) × (shard.new ≡ shard.old)) }
+    ensures err { IfErr result (λ e. IsLack e × (shard.new ≡ shard.old)) }
 {
     match shard.learn(alloc, batch) {
         Ok(_) => Ok(()),
@@ -64,7 +65,7 @@ fn learn_more<D: Device>(
     requires more { from < length log.now }
     ensures running { IsRunning D.state D.honest store log.now shard.new }
     ensures ok { OnOk result ((shard.new.is_down ≡ false) × (from < (memory shard.new).learned)) }
-    ensures err { IfErr result (λ e. e ≢ Refusal.Damaged) }
+    ensures err { IfErr result IsLack }
 {
     let batch = match batch_from(alloc, from as usize, log) {
         Ok(batch) => batch,
@@ -92,7 +93,7 @@ pub(crate) fn catch_up<D: Device>(
     requires running { IsRunning D.state D.honest store log.now shard.old }
     ensures running { IsRunning D.state D.honest store log.now shard.new }
     ensures ok { OnOk result ((shard.new.is_down ≡ false) × ((memory shard.new).learned ≡ length log.now)) }
-    ensures err { IfErr result (λ e. e ≢ Refusal.Damaged) }
+    ensures err { IfErr result IsLack }
 {
     let mut learned = shard.learned()?;
     while learned < log.len() as u64 {

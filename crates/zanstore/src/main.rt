@@ -9,7 +9,9 @@
 
 mod catching_up;
 mod flushing;
+mod future;
 mod input;
+mod listing;
 mod node;
 mod opening;
 mod printing;

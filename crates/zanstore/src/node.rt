@@ -1,5 +1,5 @@
 // The one node of a small store: a shard that was opened, or the refusal of its opening.
-ghost use Rattle.std.specs.Prelude.{◌≡◌, ◌≢◌, ◌↔◌, List, IfSome};
+ghost use Rattle.std.specs.Prelude.{◌≡◌, ◌↔◌, List, IfSome};
 ghost use Rattle.tuples.specs.declared.entry.Entry.{Entry as AnyEntry};
 
 use device::{Device, Tear};
@@ -17,11 +17,12 @@ pub enum Node<D: Device> {
 }
 
 impl<D: Device> Node<D> {
+    ghost use Rattle.zanstore.specs.Causes.{IsLack};
     ghost use Rattle.zanstore.specs.Nodes.{IsWell};
 
     /// The refusal of its opening, where that was refused.
     pub(crate) fn refusal(&self) -> Option<Refusal>
-        ensures { (log : List AnyEntry) (store : _) → IsWell D.state D.honest store log self.now → IfSome result (λ e. e ≢ Refusal.Damaged) }
+        ensures { (log : List AnyEntry) (store : _) → IsWell D.state D.honest store log self.now → IfSome result IsLack }
     {
         match self {
             Node::Up(_) => None,

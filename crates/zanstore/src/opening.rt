@@ -1,5 +1,5 @@
 // A node is opened, again and again, over what its devices are found with.
-ghost use Rattle.std.specs.Prelude.{◌≡◌, ◌≢◌, List, MatchResult, false};
+ghost use Rattle.std.specs.Prelude.{◌≡◌, List, MatchResult, false};
 ghost use Rattle.tuples.specs.declared.entry.Entry.{Entry as AnyEntry};
 ghost use Rattle.zanstore.specs.Stores.{AreKept};
 ghost use Rattle.zanstore.specs.Nodes.{IsWell};
@@ -25,7 +25,7 @@ pub(crate) fn open<D: Device>(alloc: Global, store: u64, a: D, b: D) -> Node<D>
 fn revive<D: Device>(a: D, b: D) -> Result<(D, D), Refused<D>>
     ensures { (log : List AnyEntry) (store : _) → AreKept D.state D.honest store log a b → MatchResult result
         (λ r. AreKept D.state D.honest store log r.0 r.1 × ((D.state r.0).stopped ≡ false) × ((D.state r.1).stopped ≡ false))
-        (λ e. AreKept D.state D.honest store log e.a e.b × (e.refusal ≢ Refusal.Damaged)) }
+        (λ e. AreKept D.state D.honest store log e.a e.b × (e.refusal ≡ Refusal.Down)) }
 {
     let mut a = a;
     let mut b = b;

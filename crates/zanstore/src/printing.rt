@@ -1,10 +1,11 @@
 // The texts that a script prints.
 ghost use Rattle.std.specs.Prelude.{◌≡◌, ◌++◌, ◌∷◌, [], OnOk};
 ghost use Rattle.std.specs.Fmt.{decimal};
-ghost use Rattle.zanstore.specs.Lines.{at_line, ok_line, refusal_line, row_line};
+ghost use Rattle.tuples.specs.Texts.{tuple_text};
+ghost use Rattle.zanstore.specs.Lines.{at_line, ok_line, refusal_line, row_line, version_line};
 
 use std::alloc::AllocError;
-use tuples::{Refusal, Tuple};
+use tuples::{Change, Refusal, Tuple, Version};
 use zookie::Zookie;
 
 /// Prints `refused`, and its number and name.
@@ -47,6 +48,28 @@ pub(crate) fn print_row(out: &mut Vec<u8>, number: u64, tuple: &Tuple) -> Result
     out.push(b' ')?;
     tuple.write_to(out)?;
     out.push(b'\n')?;
+    Ok(())
+}
+
+/// Prints the place of a version, and what it makes of its tuple.
+pub(crate) fn print_version(out: &mut Vec<u8>, version: &Version) -> Result<(), AllocError>
+    ensures { OnOk result (out.new.items ≡ out.old.items ++ version_line version.now) }
+{
+    print_number(out, version.place)?;
+    out.push(b' ')?;
+    match &version.change {
+        Change::Touch(tuple) => print_change(out, b'+', tuple)?,
+        Change::Delete(tuple) => print_change(out, b'-', tuple)?,
+    }
+    out.push(b'\n')?;
+    Ok(())
+}
+
+fn print_change(out: &mut Vec<u8>, mark: u8, tuple: &Tuple) -> Result<(), AllocError>
+    ensures { OnOk result (out.new.items ≡ out.old.items ++ mark ∷ tuple_text tuple.now) }
+{
+    out.push(mark)?;
+    tuple.write_to(out)?;
     Ok(())
 }
 

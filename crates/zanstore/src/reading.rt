@@ -1,11 +1,12 @@
 // A read of the latest snapshot.
-ghost use Rattle.std.specs.Prelude.{◌≡◌, ◌≢◌, ◌≤◌, ◌++◌, List, OnOk, IfOk, IfErr, length};
+ghost use Rattle.std.specs.Prelude.{◌≡◌, ◌≤◌, ◌++◌, List, OnOk, IfOk, IfErr, length};
 ghost use Rattle.std.specs.List.{flat_map};
 ghost use Rattle.tuples.specs.declared.tuple.Tuple.{Tuple as AnyTuple};
 ghost use Rattle.tuples.specs.Log.{is_at};
 ghost use Rattle.tuples.specs.Reads.{IsSelection};
+ghost use Rattle.zanstore.specs.Causes.{IsLack};
 ghost use Rattle.zanstore.specs.Lines.{AreSelections, row_line, row_lines};
-ghost use Rattle.zanstore.specs.Nodes.{IsWell};
+ghost use Rattle.zanstore.specs.Nodes.{IsWell, learned_of};
 ghost use Rattle.zanstore.specs.Stores.{HasLearned, IsLog};
 
 use crate::catching_up::catch_up;
@@ -25,7 +26,7 @@ fn select<D: Device>(
 ) -> Result<Vec<Tuple>, Refusal>
     requires learned { HasLearned D.state D.honest log.now shard.now }
     ensures ok { IfOk result (λ rows. IsSelection (is_at log.now (length log.now)) set.now rows.items) }
-    ensures err { IfErr result (λ e. e ≢ Refusal.Damaged) }
+    ensures err { IfErr result IsLack }
 {
     match shard.read(alloc, log.len() as u64, set)? {
         ReadReply::Rows(rows) => Ok(rows),
@@ -53,7 +54,7 @@ fn print_sets<D: Device>(
     requires learned { HasLearned D.state D.honest log.now shard.now }
     requires few { length sets.now ≤ 16 }
     ensures ok { OnOk result ((rows : List (List AnyTuple)) × AreSelections (is_at log.now (length log.now)) sets.now rows × (out.new.items ≡ out.old.items ++ row_lines 1 rows)) }
-    ensures err { IfErr result (λ e. e ≢ Refusal.Damaged) }
+    ensures err { IfErr result IsLack }
 {
     let mut number = 1;
     for set in sets {
@@ -80,8 +81,9 @@ pub(crate) fn print_latest<D: Device>(
     requires well { IsWell D.state D.honest store log.now node.old }
     requires few { length sets.now ≤ 16 }
     ensures well { IsWell D.state D.honest store log.now node.new }
+    ensures learned { OnOk result (learned_of node.new ≡ length log.now) }
     ensures ok { OnOk result ((rows : List (List AnyTuple)) × AreSelections (is_at log.now (length log.now)) sets.now rows × (out.new.items ≡ out.old.items ++ row_lines 1 rows)) }
-    ensures err { IfErr result (λ e. e ≢ Refusal.Damaged) }
+    ensures err { IfErr result IsLack }
 {
     let shard = match node {
         Node::Up(shard) => shard,

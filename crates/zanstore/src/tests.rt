@@ -39,7 +39,7 @@ fn is_short_of_memory(printed: &[u8], wanted: &[u8]) -> bool {
 }
 
 // A script, and what it prints.
-const ROWS: [(&[u8], &[u8]); 10] = [
+const ROWS: [(&[u8], &[u8]); 18] = [
     (
         b"write +doc:a#viewer@u1\nrestart 0\nread latest doc:a\n",
         b"ok AQAAAAAAAAAAAQAAAAAAAAAB\nup\nat AQAAAAAAAAAAAQAAAAAAAAAB\n1 doc:a#viewer@u1\n",
@@ -77,7 +77,39 @@ const ROWS: [(&[u8], &[u8]); 10] = [
         b"set\nrefused 13 Down\nup\nat AQAAAAAAAAAAAQAAAAAAAAAA\n",
     ),
     (
-        b"; why\n\nwrite\nwrite +doc:a#viewer@\nwrite +doc:a#v@u1 -doc:a#v@u1\nrows 0\nread latest doc:a:b\nrestart 1\n",
+        b"write +doc:a#lock@lock if doc:a#lock@lock=0\nwrite +doc:a#lock@lock if doc:a#lock@lock=0\n",
+        b"ok AQAAAAAAAAAAAQAAAAAAAAAB\nrefused 9 Precondition\n",
+    ),
+    (
+        b"write +doc:a#v@u1 if doc:a#v@u1=1\n",
+        b"refused 7 Future\n",
+    ),
+    (
+        b"write +doc:a#viewer@u1 if !doc:a#viewer@u1\nwrite +doc:a#viewer@u1 if !doc:a#viewer@u1\nwrite -doc:a#viewer@u1 if ?doc:a#viewer@u1\nwrite -doc:a#viewer@u1 if ?doc:a#viewer@u1\nwrite +doc:b#viewer@u1 if ?doc:a#viewer@u1\nwrite +doc:b#viewer@u1 if !doc:a#viewer@u1\n",
+        b"ok AQAAAAAAAAAAAQAAAAAAAAAB\nrefused 9 Precondition\nok AQAAAAAAAAAAAQAAAAAAAAAC\nrefused 9 Precondition\nrefused 9 Precondition\nok AQAAAAAAAAAAAQAAAAAAAAAD\n",
+    ),
+    (
+        b"write +doc:a#v@u1\nrestart 0\nwrite -doc:a#v@u1 if ?doc:a#v@u1 doc:a#w@u1=1\nwrite +doc:a#v@u1 if doc:a#v@u1=1\nwrite +doc:a#v@u1 if doc:a#v@u1=2\n",
+        b"ok AQAAAAAAAAAAAQAAAAAAAAAB\nup\nok AQAAAAAAAAAAAQAAAAAAAAAC\nrefused 9 Precondition\nok AQAAAAAAAAAAAQAAAAAAAAAD\n",
+    ),
+    (
+        b"write +doc:a#v@u1 if doc:a#v@u1=0 doc:b#v@u1=1\nwrite +doc:a#v@u1 if\nwrite +doc:a#v@u1 if doc:a#v@u1\nwrite +doc:a#v@u1 if doc:a=0\nwrite +doc:a#v@u1 if !doc:a#v@u1 ?doc:a#v@u1\nread latest doc:a\n",
+        b"refused 7 Future\nrefused 1 BadRequest\nrefused 1 BadRequest\nrefused 2 BadTuple\nrefused 4 Repeated\nat AQAAAAAAAAAAAQAAAAAAAAAA\n",
+    ),
+    (
+        b"write +doc:a#v@u1\nwrite -doc:a#v@u1\nread latest doc:a\nrows 0\n",
+        b"ok AQAAAAAAAAAAAQAAAAAAAAAB\nok AQAAAAAAAAAAAQAAAAAAAAAC\nat AQAAAAAAAAAAAQAAAAAAAAAC\n1 +doc:a#v@u1\n2 -doc:a#v@u1\n",
+    ),
+    (
+        b"write +doc:b#v@u1 +doc:a#v@u1\nwrite -doc:b#v@u1 +doc:a#v@g:h#m\nread latest doc:a doc:b\nrows 0\n",
+        b"ok AQAAAAAAAAAAAQAAAAAAAAAB\nok AQAAAAAAAAAAAQAAAAAAAAAC\nat AQAAAAAAAAAAAQAAAAAAAAAC\n1 doc:a#v@u1\n1 doc:a#v@g:h#m\n1 +doc:a#v@u1\n2 +doc:a#v@g:h#m\n1 +doc:b#v@u1\n2 -doc:b#v@u1\n",
+    ),
+    (
+        b"rows 0\nwrite +doc:a#v@u1\nrows 0\nwrite +doc:a#v@u2\nrows 0\nfail 0a 1 a5\nwrite +doc:a#v@u3\nrows 0\n",
+        b"ok AQAAAAAAAAAAAQAAAAAAAAAB\nok AQAAAAAAAAAAAQAAAAAAAAAC\n1 +doc:a#v@u1\nset\nrefused 13 Down\nrefused 13 Down\n",
+    ),
+    (
+        b"; why\n\nwrite\nwrite +doc:a#viewer@\nwrite +doc:a#v@u1 -doc:a#v@u1\nrows 1\nread latest doc:a:b\nrestart 1\n",
         b"refused 1 BadRequest\nrefused 2 BadTuple\nrefused 4 Repeated\nrefused 1 BadRequest\nrefused 2 BadTuple\nrefused 1 BadRequest\n",
     ),
 ];

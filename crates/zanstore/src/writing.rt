@@ -1,9 +1,11 @@
 // One write on its way through the shard: prepared, flushed, voted for.
-ghost use Rattle.std.specs.Prelude.{◌≡◌, ◌≢◌, ◌++◌, ◌∷◌, [], List, OnOk, IfOk, IfErr, Some, false};
+ghost use Rattle.std.specs.Prelude.{◌≡◌, ◌++◌, ◌∷◌, [], List, length, OnOk, IfOk, IfErr, Some, false};
 ghost use Rattle.records.specs.Replays.{find_in_doubt};
 ghost use Rattle.decisions.specs.Values.{IsIntent};
 ghost use Rattle.shard.specs.Shards.{IsDurable, IsUp, memory};
 ghost use Rattle.tuples.specs.declared.entry.WriteId.{WriteId as AnyId};
+ghost use Rattle.tuples.specs.Log.{HoldAfter};
+ghost use Rattle.zanstore.specs.Causes.{IsPrepareCause};
 ghost use Rattle.zanstore.specs.Lines.{IsNew};
 ghost use Rattle.zanstore.specs.Nodes.{IsWell};
 ghost use Rattle.zanstore.specs.Stores.{IsLog, IsNumbered, IsRunning};
@@ -30,10 +32,12 @@ fn stage<D: Device>(
     requires up { shard.old.is_down ≡ false }
     requires new { IsNew intent.now.write.id log.now }
     requires whole { IsIntent intent.now.write }
+    requires learned { (memory shard.old).learned ≡ length log.now }
     ensures running { IsRunning D.state D.honest store log.now shard.new }
     ensures ok { IfOk result (λ t. (shard.new.is_down ≡ false) × (t.id ≡ intent.now.write.id)
         × (find_in_doubt intent.now.write.id (memory shard.new).in_doubt ≡ Some intent.now.write)) }
-    ensures err { IfErr result (λ e. (e ≢ Refusal.Damaged) × (shard.new ≡ shard.old)) }
+    ensures hold { OnOk result (HoldAfter log.now intent.now.write.conditions) }
+    ensures err { IfErr result (λ e. IsPrepareCause log.now intent.now.write.conditions e × (shard.new ≡ shard.old)) }
 {
     shard.stage_prepare(alloc, intent)
 }
@@ -50,10 +54,12 @@ fn prepare<D: Device>(
     requires up { shard.old.is_down ≡ false }
     requires new { IsNew intent.now.write.id log.now }
     requires whole { IsIntent intent.now.write }
+    requires learned { (memory shard.old).learned ≡ length log.now }
     ensures running { IsRunning D.state D.honest store log.now shard.new }
     ensures ok { IfOk result (λ t. (shard.new.is_down ≡ false) × (t.id ≡ intent.now.write.id)
         × (find_in_doubt intent.now.write.id (memory shard.new).in_doubt ≡ Some intent.now.write)) }
-    ensures err { IfErr result (λ e. e ≢ Refusal.Damaged) }
+    ensures hold { OnOk result (HoldAfter log.now intent.now.write.conditions) }
+    ensures err { IfErr result (IsPrepareCause log.now intent.now.write.conditions) }
 {
     match stage(alloc, store, log, shard, intent) {
         Ok(ticket) => Ok(ticket),
@@ -70,7 +76,7 @@ fn vote<D: Device>(shard: &mut Shard<D>, ticket: Ticket) -> Result<Vote, Refusal
     ensures running { (log : List AnyEntry) (store : _) → IsRunning D.state D.honest store log shard.old → shard.old.is_down ≡ false → IsRunning D.state D.honest store log shard.new }
     ensures ok { IsUp D.state D.honest shard.old → (p : AnyEntry) → find_in_doubt ticket.id (memory shard.old).in_doubt ≡ Some p
         → OnOk result ((shard.new.is_down ≡ false) × (find_in_doubt ticket.id (memory shard.new).in_doubt ≡ Some p) × IsDurable D.state shard.new ticket.id p) }
-    ensures err { IfErr result (λ e. e ≢ Refusal.Damaged) }
+    ensures err { IsUp D.state D.honest shard.old → (p : AnyEntry) → find_in_doubt ticket.id (memory shard.old).in_doubt ≡ Some p → IfErr result (λ e. e ≡ Refusal.Down) }
 {
     match shard.vote(ticket) {
         VoteReply::Yes(vote) => Ok(vote),
@@ -84,7 +90,7 @@ fn vote_after_flush<D: Device>(shard: &mut Shard<D>, ticket: Ticket) -> Result<V
     ensures running { (log : List AnyEntry) (store : _) → IsRunning D.state D.honest store log shard.old → shard.old.is_down ≡ false → IsRunning D.state D.honest store log shard.new }
     ensures ok { IsUp D.state D.honest shard.old → (p : AnyEntry) → find_in_doubt ticket.id (memory shard.old).in_doubt ≡ Some p
         → OnOk result ((shard.new.is_down ≡ false) × (find_in_doubt ticket.id (memory shard.new).in_doubt ≡ Some p) × IsDurable D.state shard.new ticket.id p) }
-    ensures err { IfErr result (λ e. e ≢ Refusal.Damaged) }
+    ensures err { IsUp D.state D.honest shard.old → (p : AnyEntry) → find_in_doubt ticket.id (memory shard.old).in_doubt ≡ Some p → IfErr result (λ e. e ≡ Refusal.Down) }
 {
     match flush(shard) {
         Ok(()) => {}
@@ -115,10 +121,12 @@ fn commit<D: Device>(
     requires up { shard.old.is_down ≡ false }
     requires new { IsNew intent.now.write.id log.now }
     requires whole { IsIntent intent.now.write }
+    requires learned { (memory shard.old).learned ≡ length log.now }
     ensures running { IsRunning D.state D.honest store log.now shard.new }
+    ensures hold { OnOk result (HoldAfter log.now intent.now.write.conditions) }
     // The write may be listed from now on.
     ensures ok { OnOk result (IsRunning D.state D.honest store (log.now ++ intent.now.write ∷ []) shard.new) }
-    ensures err { IfErr result (λ e. e ≢ Refusal.Damaged) }
+    ensures err { IfErr result (IsPrepareCause log.now intent.now.write.conditions) }
 {
     let ticket = prepare(alloc, store, log, shard, intent)?;
     let vote = vote(shard, ticket)?;
@@ -141,7 +149,8 @@ pub(crate) fn decide<D: Device>(
     ensures numbered { IsNumbered log.new.items given.new }
     ensures well { IsWell D.state D.honest store log.new.items node.new }
     ensures ok { OnOk result ((id : AnyId) × IsNew id log.old.items × (log.new.items ≡ log.old.items ++ record { id = id; changes = write.changes; conditions = write.conditions } ∷ [])) }
-    ensures err { IfErr result (λ e. (e ≢ Refusal.Damaged) × (log.new.items ≡ log.old.items)) }
+    ensures hold { OnOk result (HoldAfter log.old.items write.conditions) }
+    ensures err { IfErr result (λ e. IsPrepareCause log.old.items write.conditions e × (log.new.items ≡ log.old.items)) }
 {
     let shard = match node {
         Node::Up(shard) => shard,
@@ -183,8 +192,9 @@ fn settle<D: Device>(
     requires running { IsRunning D.state D.honest store log.now shard.old }
     requires new { IsNew intent.now.write.id log.now }
     ensures running { IsRunning D.state D.honest store log.now shard.new }
+    ensures hold { OnOk result (HoldAfter log.now intent.now.write.conditions) }
     ensures ok { OnOk result (IsRunning D.state D.honest store (log.now ++ intent.now.write ∷ []) shard.new) }
-    ensures err { IfErr result (λ e. e ≢ Refusal.Damaged) }
+    ensures err { IfErr result (IsPrepareCause log.now intent.now.write.conditions) }
 {
     // An intent has a whole write, and the only shard takes part in it.
     let _whole = intent.entry();

@@ -9,7 +9,7 @@ pub returns : goal.returns
 returns c =
     let tests = prepared_decides c.args.parts.now c.args.memory.now.in_doubt in
     let same : c.are_prepared.result ≡ are_prepared c.args.parts.now c.args.memory.now.in_doubt =
-    c.are_prepared.ensures ∙ ap (λ (ws : List Entry). are_prepared c.args.parts.now ws) c.in_doubt.ensures
+    c.are_prepared.ensures ∙ ap (λ (ws : List Entry). are_prepared c.args.parts.now ws) c.held.ensures
     in (
       λ is. record {
         opened = omega arith;

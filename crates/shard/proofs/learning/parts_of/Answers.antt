@@ -1,11 +1,11 @@
-use Rattle.std.proofs.Common.{◌≡◌, ◌<◌, ◌+◌, true, false, length, Some, refl, sym, ap, ◌∙◌, subst, arith, List, ◌++◌, ◌∷◌, []}
+use Rattle.std.proofs.Common.{◌≡◌, ◌<◌, ◌+◌, true, false, length, sym, ap, ◌∙◌, subst, arith, List, ◌++◌, ◌∷◌, []}
 use Rattle.std.proofs.lemmas.Bool.{both_ways}
-use Rattle.tuples.specs.Parts.{part}
+use Rattle.tuples.specs.Parts.{part, takes_part}
 use Rattle.records.specs.declared.record.Part.{Part}
 use Rattle.records.specs.Replays.{ArePrepared}
 use Rattle.shard.specs.Own.{has_part}
 use Rattle.shard.specs.Shards.{parts_from}
-use Rattle.shard.proofs.Parts.{get_at, named_twice, part_pushed, part_skipped, prepared_more}
+use Rattle.shard.proofs.Parts.{all_here, get_at, here_more, named_twice, part_pushed, part_skipped, prepared_more}
 use Rattle.shard.proofs.learning.parts_of.Goals.{then-has_part-via-then-has_part, then-has_part-via-else-has_part+then-not-is_prepared, then-takes_part+else-has_part+else-not-is_prepared+in-Ok, else-takes_part}
 use Rattle.shard.proofs.learning.parts_of.Goals as goal
 
@@ -41,6 +41,7 @@ loop-i-preserved c =
           record {
             parts = items ∙ ap (λ (l : List Part). l ++ next ∷ []) v.parts ∙ sym (part_pushed c.args.shards c.args.node (c.args.learned + 1) c.args.writes.now i w lt c.index-writes-i.is takes);
             prepared = subst (λ (l : List Part). ArePrepared l ws) (sym items) (prepared_more before next ws (part c.args.shards c.args.node w) v.prepared none (u.is_prepared.ensures.0 u.if-not-is_prepared.false));
+            here = here_more c.args.shards c.args.node ws c.args.writes.now i w v.here (get_at c.args.writes.now i w lt c.index-writes-i.is) (λ takes_it. u.is_prepared.ensures.0 u.if-not-is_prepared.false);
           }
       | else-takes_part u ↦
           let out = sym c.takes_part.ensures ∙ u.if-takes_part.false in
@@ -48,5 +49,9 @@ loop-i-preserved c =
           record {
             parts = items ∙ v.parts ∙ sym (part_skipped c.args.shards c.args.node (c.args.learned + 1) c.args.writes.now i w lt c.index-writes-i.is out);
             prepared = subst (λ (l : List Part). ArePrepared l ws) (sym items) v.prepared;
+            here = here_more c.args.shards c.args.node ws c.args.writes.now i w v.here (get_at c.args.writes.now i w lt c.index-writes-i.is) (λ takes_it. absurd (both_ways (takes_part c.args.shards c.args.node w) out takes_it));
           }
     ]
+
+pub returns-clause-here : goal.returns-clause-here
+returns-clause-here c = all_here c.args.shards c.args.node c.args.memory.now.in_doubt c.args.writes.now c.loop-i.i c.loop-i.invariant.here (omega arith)

@@ -1,4 +1,4 @@
-use Rattle.std.proofs.Common.{◌≡◌, true, false, sym, ap, ◌∙◌}
+use Rattle.std.proofs.Common.{sym, ◌∙◌}
 use Rattle.shard.proofs.Tested.{takes_by_change, takes_by_condition}
 use Rattle.shard.proofs.learning.takes_part.Goals as goal
 

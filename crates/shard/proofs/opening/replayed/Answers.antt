@@ -1,19 +1,18 @@
-use Rattle.std.proofs.Common.{Err, ◌≡◌, ◌<◌, ◌∙◌, ℕ, List, length, take, get_or, sym, ap, subst, arith, rules}
-use Rattle.std.proofs.lemmas.List.{take_all}
+use Rattle.std.proofs.Common.{Err, ◌≡◌, ◌∙◌, ap, sym, subst}
 use Rattle.std.proofs.lemmas.Iterator.Adapters.{YieldsList-from_vec}
-use Rattle.std.proofs.lemmas.Iterator.Consumers.{YieldsList-end, YieldsList-turn}
+use Rattle.std.proofs.lemmas.Iterator.Consumers.{YieldsList-turn}
 use Rattle.std.proofs.lemmas.Result.{err_from_is_err_and}
 use Rattle.tuples.specs.declared.refusal.Refusal.{Refusal}
 use Rattle.tuples.specs.declared.refusal.Refusal.TheVariants.{Damaged}
-use Rattle.records.specs.Replays.{Identity, IsShardImage, MayCome, ShardState, shard_state}
-use Rattle.records.specs.declared.record.Record.{Record}
+use Rattle.records.specs.Replays.{Identity, MayCome, ShardState}
+use Rattle.replay.proofs.Alike.{alike_same, alike_sym, may_come_alike}
 use Rattle.replay.proofs.States.{image_empty}
 use Rattle.shard.proofs.Openings.{image_more, may_follow, nothing_replayed, replayed_more}
 use Rattle.shard.proofs.opening.replayed.Goals as goal
 
 pub loop-record-init : goal.loop-record-init
 loop-record-init c = record {
-  memory = c.new-memory.ensures ∙ nothing_replayed;
+  memory = alike_same _ _ (c.new-memory.ensures ∙ nothing_replayed);
   image = image_empty (record { store = c.args.store; shards = c.args.shards; node = c.args.node });
 }
 
@@ -38,5 +37,5 @@ returns-in_err-replay-clause-damaged c = λ is image.
     let t = YieldsList-turn (YieldsList-from_vec records (cc) (cc)) c.loop-record.yielded c.loop-record.record-iterator c.loop-record.yielded_by c.next.result c.next.new.self x c.in-Some.is c.next.ensures.steps in
     let p = err_from_is_err_and c.from_residual.result c.from_residual.ensures.1 in
     let same : c.in_err-replay.field-0.0 ≡ Damaged = (let e = rw (p.1, p.2) at is in cc) in
-    let may : MayCome me c.loop-record.memory x = subst (λ (s : ShardState). MayCome me s x) (sym c.loop-record.invariant.memory) (may_follow me records c.loop-record.yielded x t.0 t.1 image) in
+    let may : MayCome me c.loop-record.memory x = may_come_alike (alike_sym c.loop-record.invariant.memory) me x (may_follow me records c.loop-record.yielded x t.0 t.1 image) in
     c.in_err-replay.ensures.damaged (ap (λ (e : Refusal). Err e) same) may

@@ -1,9 +1,10 @@
-use Rattle.std.proofs.Common.{◌≡◌, length, take}
+use Rattle.std.proofs.Common.{length, take}
 use Rattle.records.specs.Replays.{IsShardImage, shard_state}
+use Rattle.replay.specs.Alike.{IsAlike}
 use Rattle.shard.proofs.opening.replayed.Given as goal
 
 abbrev pub invariant-loop-record : goal.invariant-loop-record
 invariant-loop-record l = record {
-  memory : l.memory ≡ shard_state (take (length l.yielded) l.fn.records.items);
+  memory : IsAlike l.memory (shard_state (take (length l.yielded) l.fn.records.items));
   image : IsShardImage (record { store = l.store; shards = l.shards; node = l.node }) (take (length l.yielded) l.fn.records.items);
 }

@@ -1,5 +1,5 @@
-use Rattle.std.proofs.Common.{◌≡◌, ◌≤◌, ◌<◌, ◌+◌, [], sym, ◌∙◌, ap, arith}
-use Rattle.records.specs.Replays.{Identity, ShardState, greatest_number, shard_state}
+use Rattle.std.proofs.Common.{◌≡◌, ◌<◌, ◌+◌, arith, ap}
+use Rattle.records.specs.Replays.{Identity, greatest_number, shard_state, ShardState}
 use Rattle.shard.proofs.Openings.{held_or_opened, leaves_weaker, opened_durable, opened_kept, opened_up}
 use Rattle.shard.proofs.opening.start.Goals as goal
 
@@ -8,11 +8,11 @@ invariant_of-result g c =
     let me : Identity = record { store = c.args.store; shards = c.args.shards; node = c.args.node } in
     let m = c.in-Ok.memory in
     let records = c.args.records.items in
-    let epochs : m.epoch ≡ (shard_state records).epoch = ap (λ (s : ShardState). s.epoch) c.in-Ok.ensures.memory.0 in
+    let epochs : m.epoch ≡ (shard_state records).epoch = c.in-Ok.ensures.memory.0.epoch in
     let below : (shard_state records).epoch < greatest_number = omega (arith, c.in-Ok.ensures.memory.1, epochs) in
     let next : c.epoch-epoch.result + 1 ≡ (shard_state records).epoch + 1 = omega (arith, c.epoch-epoch.ensures, epochs) in
     opened_kept me records c.in-Ok.ensures.image (c.epoch-epoch.result + 1) below next g.D.Device.state g.D.Device.honest c.args.journal c.begin.new.journal (λ ha hb. (c.requires.found ha hb).0)
-    c.in-Ok-begin.ensures.ok c.in-Ok-begin.ensures.fresh.0 m c.open_epoch.new.self c.new.result.items c.in-Ok.ensures.memory.0 c.open_epoch.ensures c.new.ensures.items
+    c.in-Ok-begin.ensures.ok c.in-Ok-begin.ensures.fresh.0 m c.open_epoch.new.self c.new.result.items c.learned-settled.result c.in-Ok.ensures.memory.0 c.open_epoch.ensures c.new.ensures.items c.learned-settled.ensures
     c.requires.some c.requires.few c.requires.node c.begin.ensures.honest.0.1 c.begin.ensures.honest.1.1
 
 pub returns-in-Ok-begin-clause-ok : goal.returns-in-Ok-begin-clause-ok
@@ -20,7 +20,7 @@ returns-in-Ok-begin-clause-ok g c = λ ha hb.
     let me : Identity = record { store = c.args.store; shards = c.args.shards; node = c.args.node } in
     let m = c.in-Ok.memory in
     let records = c.args.records.items in
-    let epochs : m.epoch ≡ (shard_state records).epoch = ap (λ (s : ShardState). s.epoch) c.in-Ok.ensures.memory.0 in
+    let epochs : m.epoch ≡ (shard_state records).epoch = c.in-Ok.ensures.memory.0.epoch in
     let below : (shard_state records).epoch < greatest_number = omega (arith, c.in-Ok.ensures.memory.1, epochs) in
     let next : c.epoch-epoch.result + 1 ≡ (shard_state records).epoch + 1 = omega (arith, c.epoch-epoch.ensures, epochs) in (
       c.in-Ok.ensures.image,
@@ -34,7 +34,7 @@ returns-in-Ok-begin-clause-any_moment g c = λ ha hb.
     let me : Identity = record { store = c.args.store; shards = c.args.shards; node = c.args.node } in
     let m = c.in-Ok.memory in
     let records = c.args.records.items in
-    let epochs : m.epoch ≡ (shard_state records).epoch = ap (λ (s : ShardState). s.epoch) c.in-Ok.ensures.memory.0 in
+    let epochs : m.epoch ≡ (shard_state records).epoch = c.in-Ok.ensures.memory.0.epoch in
     let below : (shard_state records).epoch < greatest_number = omega (arith, c.in-Ok.ensures.memory.1, epochs) in
     let next : c.epoch-epoch.result + 1 ≡ (shard_state records).epoch + 1 = omega (arith, c.epoch-epoch.ensures, epochs) in
     leaves_weaker g.D.Device.moment g.D.Device.left_since c.args.journal.a c.args.journal.b c.begin.new.journal.a c.begin.new.journal.b _ _ (c.begin.ensures.any_moment ha hb)
@@ -45,7 +45,7 @@ returns-in-Err-begin-clause-any_moment g c = λ ha hb.
     let me : Identity = record { store = c.args.store; shards = c.args.shards; node = c.args.node } in
     let m = c.in-Ok.memory in
     let records = c.args.records.items in
-    let epochs : m.epoch ≡ (shard_state records).epoch = ap (λ (s : ShardState). s.epoch) c.in-Ok.ensures.memory.0 in
+    let epochs : m.epoch ≡ (shard_state records).epoch = c.in-Ok.ensures.memory.0.epoch in
     let below : (shard_state records).epoch < greatest_number = omega (arith, c.in-Ok.ensures.memory.1, epochs) in
     let next : c.epoch-epoch.result + 1 ≡ (shard_state records).epoch + 1 = omega (arith, c.epoch-epoch.ensures, epochs) in
     let a = c.refused-in-Err-begin.ensures.devices.0 in

@@ -1,4 +1,4 @@
-use Rattle.std.proofs.Common.{◌≡◌, true, false, refl, sym, ◌∙◌}
+use Rattle.std.proofs.Common.{false, refl, sym, ◌∙◌}
 use Rattle.std.proofs.lemmas.Bool.{both_ways, false_from_ne_true, not-true, not_from_false}
 use Rattle.shard.proofs.Tested.{busy_tuple, free_part, none_looked_up, some_looked_up, taken_id}
 use Rattle.shard.proofs.own.is_free.Goals as goal

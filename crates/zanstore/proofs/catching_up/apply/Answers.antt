@@ -1,7 +1,8 @@
-use Rattle.std.proofs.Common.{◌≡◌, Err, ap, sym, subst}
+use Rattle.std.proofs.Common.{Err, ap, sym, subst}
 use Rattle.tuples.specs.declared.refusal.Refusal.{Refusal}
 use Rattle.shard.specs.Shards.{ShardView}
 use Rattle.zanstore.specs.Stores.{IsRunning}
+use Rattle.zanstore.proofs.Causes.{lack_of}
 use Rattle.zanstore.proofs.Applying.{applied, not_damaged}
 use Rattle.zanstore.proofs.catching_up.apply.Goals as goal
 
@@ -30,7 +31,7 @@ pub returns-in-Err-clause-err : goal.returns-in-Err-clause-err
 returns-in-Err-clause-err g c =
     let r = c.requires in
     let b = c.args.batch.now in (
-      not_damaged g.D.Device.state g.D.Device.honest c.args.store c.args.log.now c.args.shard.now b.from b.writes c.in-Err.refusal
-          r.log r.running r.up r.from r.writes (λ up is. c.in-Err.ensures.damaged up (ap (λ (e : Refusal). Err e) is)),
+      lack_of c.in-Err.refusal c.in-Err.ensures.err.1 (not_damaged g.D.Device.state g.D.Device.honest c.args.store c.args.log.now c.args.shard.now b.from b.writes c.in-Err.refusal
+          r.log r.running r.up r.from r.writes (λ up is. c.in-Err.ensures.damaged up (ap (λ (e : Refusal). Err e) is))),
       c.in-Err.ensures.err.0,
     )

@@ -1,4 +1,4 @@
-use Rattle.std.proofs.Common.{◌≡◌, ◌+◌, ◌∙◌, List, ap, length, min, arith}
+use Rattle.std.proofs.Common.{◌≡◌, ◌+◌, ◌∙◌, ap, length, min, arith}
 use Rattle.decisions.specs.Values.{BatchValue}
 use Rattle.zanstore.proofs.Learning.{batch_is}
 use Rattle.zanstore.proofs.catching_up.batch_from.Goals as goal

@@ -1,4 +1,4 @@
-use Rattle.std.proofs.Common.{◌≡◌, ◌∙◌, ap}
+use Rattle.std.proofs.Common.{◌∙◌, ap}
 use Rattle.shard.specs.Shards.{ShardView}
 use Rattle.zanstore.proofs.catching_up.learn_more.Goals as goal
 

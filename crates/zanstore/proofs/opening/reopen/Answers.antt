@@ -1,4 +1,4 @@
-use Rattle.std.proofs.Common.{◌≡◌, sym, subst}
+use Rattle.std.proofs.Common.{sym, subst}
 use Rattle.zanstore.specs.Nodes.{IsWell}
 use Rattle.zanstore.specs.Stores.{AreKept}
 use Rattle.zanstore.specs.declared.node.Node.{Node}

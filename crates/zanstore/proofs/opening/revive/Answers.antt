@@ -1,3 +1,4 @@
+use Rattle.std.proofs.Common.{refl}
 use Rattle.zanstore.proofs.Keeping.{kept_where, left_of_kept, left_of_revived}
 use Rattle.zanstore.proofs.opening.revive.Goals as goal
 
@@ -23,5 +24,5 @@ returns-in-Err-revive g c = λ log store kept.
           (c.in-Ok.ensures.honest.0 kept.honest_a) (c.in-Err-revive.ensures.honest.0 kept.honest_b)
           (λ x. left_of_revived (state c.args.a) (state c.revive.new.self) x one)
           (λ y. left_of_kept (state c.args.b) (state c.revive-2.new.self) y two),
-      λ is. cc,
+      refl,
     )

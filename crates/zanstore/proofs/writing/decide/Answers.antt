@@ -1,7 +1,8 @@
-use Rattle.std.proofs.Common.{◌≡◌, ◌+◌, ◌<◌, ◌∙◌, ◌++◌, ◌∷◌, [], ℕ, Result, OnOk, ap, sym, subst, arith}
+use Rattle.std.proofs.Common.{◌+◌, ◌<◌, ◌∙◌, ◌++◌, ◌∷◌, [], List, Result, OnOk, ap, sym, subst, arith}
 use Rattle.std.specs.Result.{is_ok}
 use Rattle.tuples.specs.declared.entry.Entry.{Entry}
 use Rattle.tuples.specs.declared.refusal.Refusal.{Refusal}
+use Rattle.tuples.specs.Log.{HoldAfter}
 use Rattle.decisions.specs.Values.{IsIntent}
 use Rattle.records.specs.Replays.{greatest_number}
 use Rattle.zanstore.proofs.Writes.{IsDecided, given_id, next_is_new, numbered_after, under_own_id}
@@ -17,8 +18,9 @@ returns-after-push-clause-numbered g c =
     let id = given_id w 1 (given + 1) c.args.write.changes c.args.write.conditions is in
     let lt : given < greatest_number = omega arith in
     let whole = subst (λ (e : Entry). IsIntent e) (sym c.into_entry.ensures.value) c.into_entry.ensures.whole in
+    let hold = subst (λ (l : List Entry). HoldAfter l c.new-intent.result.write.conditions) c.deref.ensures.value c.in-Ok.ensures.hold in
     numbered_after (is_ok c.push.result) log c.push.new.self.items given w c.push.ensures.items c.requires.numbered lt
-    (next_is_new log given w.id c.requires.numbered id.1) id.0 id.1 whole
+    (next_is_new log given w.id c.requires.numbered id.1) id.0 id.1 whole (subst (λ (e : Entry). HoldAfter log e.conditions) (sym c.into_entry.ensures.value) hold)
 
 pub returns-after-push-clause-ok : goal.returns-after-push-clause-ok
 returns-after-push-clause-ok g c =

@@ -1,4 +1,4 @@
-use Rattle.std.proofs.Common.{◌≡◌, refl, sym, subst}
+use Rattle.std.proofs.Common.{refl, sym, subst}
 use Rattle.zanstore.specs.Nodes.{IsWell}
 use Rattle.zanstore.specs.declared.node.Node.{Node}
 use Rattle.zanstore.proofs.small.Small.restart.Goals as goal

@@ -1,0 +1,3 @@
+pub mod Doubts
+pub mod Apart
+pub mod Ids

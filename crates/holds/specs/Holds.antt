@@ -1,0 +1,28 @@
+-- Writes that hold their tuples.
+use Rattle.std.specs.Prelude.{◌≡◌, ◌⊎◌, ◌<◌, ℕ, true, false, List, [], ◌∷◌, map, None, Some, All, slice_get}
+use Rattle.tuples.specs.declared.tuple.Tuple.{Tuple}
+use Rattle.tuples.specs.declared.entry.Entry.{Entry}
+use Rattle.tuples.specs.declared.entry.WriteId.{WriteId}
+use Rattle.tuples.specs.Changes.{has_tuple}
+use Rattle.tuples.specs.Log.{AreNew}
+use Rattle.records.specs.Replays.{find_in_doubt, is_held, named}
+
+-- no two of these writes name one tuple, changed or conditioned, and no two have one id
+pub record AreApart (ws : List Entry) : Type 0 where
+  pub tuples : (i j : ℕ) (v w : Entry) → slice_get ws i ≡ Some v → slice_get ws j ≡ Some w → (t : Tuple) → has_tuple t (named v) ≡ true → has_tuple t (named w) ≡ true → i ≡ j
+  pub ids : AreNew ws
+
+-- no write that is held has the id of this one, or names one of its tuples
+pub record IsFree (ws : List Entry) (w : Entry) : Type 0 where
+  pub new : find_in_doubt w.id ws ≡ None
+  pub tuples : All (λ (t : Tuple). is_held t ws ≡ false) (named w)
+
+-- the ids of these writes
+abbrev pub ids : List Entry → List WriteId
+ids = map (λ (w : Entry). w.id)
+
+-- ids, each before the next
+abbrev pub AreAscendingIds : List WriteId → Type 0
+AreAscendingIds [] = Unit {0}
+AreAscendingIds (i ∷ []) = Unit {0}
+AreAscendingIds (i ∷ j ∷ more) = ((i.epoch < j.epoch) ⊎ ((i.epoch ≡ j.epoch) × (i.number < j.number))) × AreAscendingIds (j ∷ more)

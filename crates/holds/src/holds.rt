@@ -1,0 +1,123 @@
+// The writes that hold their tuples.
+ghost use Rattle.std.specs.Prelude.{◌≡◌, ◌≢◌, ◌↔◌, ◌⊎◌, ◌∷◌, ◌++◌, [], None, Some, Contains, OnOk, OnErr, IfOk, IfErr, IsErrOf, IsTrue, MatchOption};
+ghost use Rattle.records.specs.Replays.{find_in_doubt, is_held, without, without_parts};
+ghost use Rattle.holds.specs.Holds.{AreApart, AreAscendingIds, IsFree, ids};
+ghost use Rattle.tuples.specs.declared.entry.WriteId.{WriteId as AnyId};
+
+use crate::ascending::sorted_ids;
+use crate::entries::{self, hold_change, hold_condition, take_out, take_out_parts};
+use records::Part;
+use std::alloc::{AllocError, Global};
+use std::marker::Model;
+use tuples::{Entry, Refusal, Tuple, WriteId};
+
+/// Writes in doubt, each of which holds the tuples of its changes and conditions. Contracts see them as their list, in the
+/// order in which they were taken.
+#[derive(Drop)]
+pub struct Holds {
+    writes: Vec<Entry>,
+}
+
+impl Model for Holds {
+    ghost use Rattle.std.specs.Prelude.{List};
+    ghost use Rattle.tuples.specs.declared.entry.Entry.{Entry};
+    ghost use Rattle.holds.specs.Holds.{AreApart};
+
+    ghost Value = { List Entry };
+
+    ghost view = { λ h. h.writes.items };
+
+    ghost invariant = { λ h. AreApart h.writes.items };
+}
+
+impl Holds {
+    /// No writes, which takes no memory.
+    pub fn new(alloc: Global) -> Self
+        ensures { result ≡ [] }
+    {
+        Holds {
+            writes: Vec::new(alloc),
+        }
+    }
+
+    /// Whether no write that is held has the id of this one, or names one of its tuples.
+    pub fn is_free(&self, write: &Entry) -> bool
+        ensures { IsTrue result ↔ IsFree self.now write.now }
+    {
+        is_free(&self.writes, write)
+    }
+
+    /// Holds all tuples of a write, or none of them: `Busy` where it is not free, `NoMemory`.
+    pub fn take(&mut self, write: Entry) -> Result<(), Refusal>
+        ensures ok { OnOk result (self.new ≡ self.old ++ write ∷ []) }
+        ensures free { OnOk result (IsFree self.old write) }
+        ensures busy { IsErrOf result Refusal.Busy ↔ (IsFree self.old write → ⊥) }
+        ensures err { IfErr result (λ e. (e ≡ Refusal.Busy) ⊎ (e ≡ Refusal.NoMemory)) }
+        ensures same { OnErr result (self.new ≡ self.old) }
+    {
+        if !is_free(&self.writes, &write) {
+            return Err(Refusal::Busy);
+        }
+        self.writes.reserve(1)?;
+        self.writes.push_reserved(write);
+        Ok(())
+    }
+
+    /// Holds the write with this id no longer, which takes no memory.
+    pub fn release(&mut self, id: WriteId)
+        ensures left { self.new ≡ without id self.old }
+        ensures gone { find_in_doubt id self.new ≡ None }
+        ensures others { (j : AnyId) → j ≢ id → find_in_doubt j self.new ≡ find_in_doubt j self.old }
+    {
+        take_out(&mut self.writes, id);
+    }
+
+    /// Holds the writes of these parts no longer, which takes no memory.
+    pub fn release_parts(&mut self, parts: &[Part])
+        ensures { self.new ≡ without_parts parts.now self.old }
+    {
+        take_out_parts(&mut self.writes, parts);
+    }
+
+    /// The write with this id.
+    pub fn find(&self, id: WriteId) -> Option<&Entry>
+        ensures { MatchOption result (find_in_doubt id self.now ≡ None) (λ w. find_in_doubt id self.now ≡ Some w.now) }
+    {
+        entries::find(&self.writes, id)
+    }
+
+    /// Whether one of the writes names the tuple, changed or conditioned.
+    pub fn is_held(&self, tuple: &Tuple) -> bool
+        ensures { result ≡ is_held tuple.now self.now }
+    {
+        entries::is_held(&self.writes, tuple)
+    }
+
+    /// The writes, in the order in which they were taken.
+    pub fn writes(&self) -> &[Entry]
+        ensures same { result.now ≡ self.now }
+        ensures apart { AreApart self.now }
+    {
+        &self.writes
+    }
+
+    /// The ids of the writes, ascending.
+    pub fn in_doubt(&self, alloc: Global) -> Result<Vec<WriteId>, AllocError>
+        ensures ascending { IfOk result (λ v. AreAscendingIds v.items) }
+        ensures exact { IfOk result (λ v. (id : _) → Contains v.items id ↔ Contains (ids self.now) id) }
+    {
+        sorted_ids(alloc, &self.writes)
+    }
+}
+
+fn is_free(writes: &[Entry], write: &Entry) -> bool
+    ensures { IsTrue result ↔ IsFree writes.now write.now }
+{
+    if entries::find(writes, write.id).is_some() {
+        return false;
+    }
+    if hold_change(writes, write.changes.as_slice()) {
+        return false;
+    }
+    !hold_condition(writes, write.conditions.as_slice())
+}

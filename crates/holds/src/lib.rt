@@ -1,0 +1,17 @@
+//! The tuples that writes in doubt hold at a shard.
+//!
+//! Keeps: the writes that were taken and not released, in the order in which they were taken.
+//! Never: holds two writes that name one tuple, changed or conditioned, or that have one id.
+//! Callers rely on: a refusal leaves everything as it was, and a release frees all that its write held.
+//!
+//! Start at `specs/Holds.antt` and `holds.rt`.
+#![tactic(auto)]
+
+mod ascending;
+mod entries;
+mod holds;
+#[cfg(test)]
+mod tests;
+
+pub use entries::is_same;
+pub use holds::Holds;
