@@ -1,11 +1,11 @@
 // A shard over disks in memory, and over the bytes of a first opening.
 ghost use Rattle.std.specs.Prelude.{◌≤◌, ◌<◌};
 
-mod images;
-mod votes;
 mod coordinator;
+mod images;
 mod preparing;
 mod upkeep;
+mod votes;
 mod writes;
 
 use crate::{Shard, VoteReply};
