@@ -19,7 +19,7 @@ use Rattle.records.specs.declared.record.Record.TheVariants.{Learned}
 use Rattle.replay.proofs.Doubts.{HasPart, none_stays, find_learned, find_not_learned}
 use Rattle.cluster.proofs.Rows.{collected-append, changes_from-append, above_changes, rows_of_segment}
 
-slice_get_drop : {X : Type 0} (p : ℕ) (xs : List X) (j : ℕ) → slice_get (drop p xs) j ≡ slice_get xs (p + j)
+pub slice_get_drop : {X : Type 0} (p : ℕ) (xs : List X) (j : ℕ) → slice_get (drop p xs) j ≡ slice_get xs (p + j)
 slice_get_drop zero xs j = ap (slice_get xs) (omega arith)
 slice_get_drop (suc p) [] j = refl
 slice_get_drop (suc p) (x ∷ xs) j = slice_get_drop p xs j ∙ ap (slice_get (x ∷ xs)) (let e : suc (p + j) ≡ suc p + j = omega arith in e)
@@ -40,7 +40,7 @@ has_part shards s place (v ∷ seg) (suc j) w is takes =
     let there = has_part shards s (place + 1) seg j w is takes in
     ⊎_elim (λ yes. rw yes (inr there)) (λ none. rw none there) (cases_Bool (takes_part shards s v))
 
-part_is_from : (shards s place : ℕ) (seg : List Entry) (id : WriteId) → HasPart id (parts_from shards s place seg) → (j : ℕ) × (w : Entry) × (slice_get seg j ≡ Some w) × (w.id ≡ id)
+pub part_is_from : (shards s place : ℕ) (seg : List Entry) (id : WriteId) → HasPart id (parts_from shards s place seg) → (j : ℕ) × (w : Entry) × (slice_get seg j ≡ Some w) × (w.id ≡ id)
 part_is_from shards s place [] id has = absurd has
 part_is_from shards s place (v ∷ seg) id has = ⊎_elim
     (λ yes. ⊎_elim

@@ -1,6 +1,41 @@
 pub mod Lists
 pub mod Prepares
 pub mod Rows
+pub mod Collects
 pub mod Learns
+pub mod Logs
+pub mod CoordinatorStates
+pub mod CoordinatorSteps
+pub mod Fewer
+pub mod Locks
+pub mod Conditions
+pub mod Staging
+pub mod StagingFlows
+pub mod StagingStands
+pub mod StagingSteps
+pub mod Empty
+pub mod ShardSteps
 pub mod Decides
 pub mod Snapshots
+pub mod Lessening
+pub mod Flushing
+pub mod Keeping
+pub mod Reopening
+pub mod Raising
+pub mod DecidingNodes
+pub mod DecidingFlows
+pub mod Deciding
+pub mod Preparable
+pub mod Watches
+pub mod Moving
+pub mod Selections
+pub mod Kept
+mod Images
+pub mod Examples
+pub mod Opened
+pub mod Running
+mod Meanings
+pub mod Begun
+pub mod Ended
+mod WrongRuns
+pub mod Beginning

@@ -76,7 +76,7 @@ own_map : (shards s place : ℕ) (changes : List Change) → of_shard shards s (
 own_map shards s place [] = refl
 own_map shards s place (c ∷ changes) = chosen place c (shard_of shards (tuple_of c).object == s) _ _ (own_map shards s place changes)
 
-empty_of_length : {X : Type 0} (xs : List X) → not (length xs == 0) ≡ false → xs ≡ []
+pub empty_of_length : {X : Type 0} (xs : List X) → not (length xs == 0) ≡ false → xs ≡ []
 empty_of_length [] h = refl
 empty_of_length (x ∷ xs) h = absurd (omega (arith, eqb-true _ _ (not-false _ h)))
 

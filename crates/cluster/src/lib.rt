@@ -1,6 +1,55 @@
 //! What the records of all nodes mean beside one log of whole writes: definitions and laws.
 #![tactic(auto)]
 
+mod contents;
+mod coordinator_laws;
+mod deciding_laws;
+mod flow_laws;
+mod flush_laws;
 mod laws;
+mod lock_laws;
+mod opening_laws;
+mod raising_laws;
+mod shard_laws;
+mod staging_laws;
+mod stop_laws;
+#[cfg(test)]
+mod tests;
 
-pub use laws::prepared_records_mean_the_same;
+pub use contents::{Contents, Leavings};
+pub use coordinator_laws::{
+    decisions_leave_all_at_rest, flushes_of_the_coordinator_keep_all, horizons_leave_all_at_rest,
+    openings_of_the_coordinator_leave_all_at_rest, restarts_of_the_coordinator_cut_the_log,
+};
+pub use deciding_laws::{
+    deciders_hold_what_is_right, decisions_leave_the_store_standing, votes_prepare,
+};
+pub use flow_laws::{
+    flows_that_begin_leave_the_store_standing, flows_that_end_leave_the_store_standing,
+    new_stores_stand, writes_that_begin_leave_the_store_standing,
+};
+pub use flush_laws::{
+    flushes_of_shards_leave_the_store_standing, flushes_of_the_coordinator_leave_the_store_standing,
+};
+pub use laws::{
+    events_stay, kept_writes_stay, later_horizons_collect, prepared_records_mean_the_same,
+    selections_are_one, selections_ascend, snapshots_stay, versions_give_snapshots, watches_join,
+};
+pub use lock_laws::{
+    conditions_hold_as_known, conditions_hold_by_parts, decisions_leave_conditions,
+    preparable_conditions_hold, writes_in_doubt_are_apart,
+};
+pub use opening_laws::openings_of_shards_leave_the_store_standing;
+pub use raising_laws::horizons_leave_the_store_standing;
+pub use shard_laws::{
+    collected_rows_leave_all_at_rest, drops_leave_all_at_rest, learned_writes_leave_all_at_rest,
+    openings_of_shards_leave_all_at_rest, prepares_leave_all_at_rest,
+};
+pub use staging_laws::{
+    collected_rows_leave_the_store_standing, drops_leave_the_store_standing,
+    learned_writes_leave_the_store_standing, prepares_leave_the_store_standing,
+};
+pub use stop_laws::{
+    an_empty_store_rests, flushes_leave_less, less_leaves_all_at_rest, the_horizon_may_rise,
+    the_whole_log_rests,
+};

@@ -9,3 +9,5 @@ pub mod Kept
 pub mod Named
 pub mod BitsOf
 pub mod Sets
+pub mod Examples
+mod Members

@@ -11,3 +11,5 @@ pub mod Reads
 pub mod Parts
 pub mod Bits
 pub mod Versions
+pub mod Watching
+pub mod Checking

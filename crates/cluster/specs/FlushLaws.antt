@@ -1,0 +1,51 @@
+-- Laws of a flush. Whatever a shard's flush answers, the store goes on to stand for the same machine; the coordinator's keeps the whole log.
+use Rattle.std.specs.Prelude.{◌≡◌, ◌≢◌, ◌⊎◌, ◌↔◌, ℕ, List, [], ◌++◌, length}
+use Rattle.records.specs.declared.record.Record.{Record}
+use Rattle.records.specs.Coordinators.{IsCoordinatorImage, coordinator_state}
+use Rattle.records.specs.Replays.{IsShardImage}
+use Rattle.cluster.specs.Worlds.{coordinator_node, shard_node}
+use Rattle.cluster.specs.Machines.{Machine}
+use Rattle.cluster.specs.Nodes.{NodeName, Nodes, SameBut, coordinator, down, shard, up}
+use Rattle.cluster.specs.Moments.{Moment}
+use Rattle.cluster.specs.StagingLaws.{with_nodes}
+use Rattle.cluster.specs.Stands.{Stands}
+
+-- A flush of a shard that is up: from then on a stop leaves its durable records, or those with what was staged. Where it answered Ok, the shard
+-- is up and a stop leaves the latter alone; else it is down.
+pub record FlushesShard (s : ℕ) (left after : NodeName → List Record → Type 0) (old new : Nodes) : Type 0 where
+  pub durable : List Record
+  pub staged : List Record
+  pub was : old.at (shard s) ≡ up durable staged
+  pub others : SameBut (shard s) old new
+  pub same : (n : NodeName) (found : List Record) → n ≢ shard s → after n found ↔ left n found
+  pub here : (found : List Record) → after (shard s) found → (found ≡ durable) ⊎ (found ≡ durable ++ staged)
+  pub ended : (new.at (shard s) ≡ down)
+      ⊎ ((new.at (shard s) ≡ up (durable ++ staged) []) × ((found : List Record) → after (shard s) found ↔ (found ≡ durable ++ staged)))
+
+-- a flush of a shard leaves what the store stands for
+abbrev pub ShardFlushesStand : ℕ → ℕ → (NodeName → List Record → Type 0) → (NodeName → List Record → Type 0) → Type 0
+ShardFlushesStand store shards left after = (now : Moment) (next : Nodes) (s : ℕ) → Stands store shards left now
+    → (flush : FlushesShard s left after now.nodes next) → IsShardImage (shard_node store shards s) (flush.durable ++ flush.staged)
+    → Stands store shards after (with_nodes now next)
+
+-- A flush of the coordinator that answered Ok: it is up, and a stop leaves its durable records with what was staged, and no others.
+pub record FlushesCoordinator (left after : NodeName → List Record → Type 0) (old new : Nodes) : Type 0 where
+  pub durable : List Record
+  pub staged : List Record
+  pub was : old.at coordinator ≡ up durable staged
+  pub now : new.at coordinator ≡ up (durable ++ staged) []
+  pub shards : (s : ℕ) → new.at (shard s) ≡ old.at (shard s)
+  pub open_writes : new.open_writes ≡ old.open_writes
+  pub given : new.given ≡ old.given
+  pub same : (s : ℕ) (found : List Record) → after (shard s) found ↔ left (shard s) found
+  pub here : (found : List Record) → after coordinator found ↔ (found ≡ durable ++ staged)
+
+-- then the whole log is kept, and the horizon is the one that the coordinator knows
+abbrev pub all_kept : Machine → List Record → Machine
+all_kept m records = record m { kept = length m.log; horizon = (coordinator_state records).horizon }
+
+-- and the store stands for that
+abbrev pub CoordinatorFlushesStand : ℕ → ℕ → (NodeName → List Record → Type 0) → (NodeName → List Record → Type 0) → Type 0
+CoordinatorFlushesStand store shards left after = (now : Moment) (next : Nodes) → Stands store shards left now
+    → (flush : FlushesCoordinator left after now.nodes next) → IsCoordinatorImage (coordinator_node store shards) (flush.durable ++ flush.staged)
+    → Stands store shards after (record now { nodes = next; machine = all_kept now.machine (flush.durable ++ flush.staged) })

@@ -1,0 +1,26 @@
+// Laws of a store that was just made, and of flows that begin and end and writes that begin, each the clause of a function with an empty body.
+ghost use Rattle.std.specs.Prelude.{ℕ};
+ghost use Rattle.cluster.specs.FlowLaws.{FlowsBegin, FlowsEnd, WritesBegin};
+ghost use Rattle.cluster.specs.NewStores.{NewStoresStand};
+
+use crate::contents::Leavings;
+
+/// A store that was just made stands for the empty log.
+pub fn new_stores_stand()
+    ensures { NewStoresStand }
+{}
+
+/// A flow that begins leaves what the store stands for.
+pub fn flows_that_begin_leave_the_store_standing<W: Leavings>()
+    ensures { (store shards : ℕ) → FlowsBegin store shards W.left }
+{}
+
+/// So does one that ends.
+pub fn flows_that_end_leave_the_store_standing<W: Leavings>()
+    ensures { (store shards : ℕ) → FlowsEnd store shards W.left }
+{}
+
+/// So does the coordinator that gives a flow's write its id.
+pub fn writes_that_begin_leave_the_store_standing<W: Leavings>()
+    ensures { (store shards : ℕ) → WritesBegin store shards W.left }
+{}

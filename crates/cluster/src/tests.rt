@@ -1,0 +1,34 @@
+//! The laws at one type: a store whose devices are unmade, before a step and after it.
+ghost use Rattle.std.specs.Prelude.{◌≡◌, ℕ, List, []};
+ghost use Rattle.records.specs.declared.record.Record.{Record};
+ghost use Rattle.cluster.specs.Nodes.{NodeName};
+
+use crate::{
+    Contents, Leavings, an_empty_store_rests, decisions_leave_the_store_standing,
+    flushes_of_the_coordinator_leave_the_store_standing,
+};
+
+struct Unmade;
+
+impl Contents for Unmade {
+    ghost coordinator = { λ rs. rs ≡ [] };
+
+    ghost coordinator_after = { λ rs. rs ≡ [] };
+
+    ghost shard = { λ s rs. rs ≡ [] };
+
+    ghost shard_after = { λ s rs. rs ≡ [] };
+}
+
+impl Leavings for Unmade {
+    ghost left = { λ n rs. rs ≡ [] };
+
+    ghost left_after = { λ n rs. rs ≡ [] };
+}
+
+#[test]
+fn the_laws_speak_of_a_store() {
+    an_empty_store_rests::<Unmade>();
+    decisions_leave_the_store_standing::<Unmade>();
+    flushes_of_the_coordinator_leave_the_store_standing::<Unmade>();
+}
