@@ -1,5 +1,5 @@
-// What crates/bench_journal measures, in plain Rust: the same records, the same bytes, a disk in memory that keeps its calls.
-// It is built alone, by `rustc -O`, and run beside the proved program by the script `bench/journal`.
+// The measures of crates/bench/src/codec.rt and flush.rt in plain Rust: the same records, the same bytes, and a disk in memory
+// that keeps its calls.
 #![allow(dead_code)] // some fields are only written, as they would be by a node
 
 use std::env;
@@ -497,18 +497,19 @@ fn batch_of(count: u16) -> Vec<u8> {
     bytes
 }
 
-fn codec(rounds: u16) -> Option<()> {
+fn codec(rounds: u32) -> Option<()> {
     let bytes = batch_of(1_000);
     let records = decode_batch(&bytes)?;
     let mut out = Vec::with_capacity(bytes.len());
 
     let start = Instant::now();
+    let mut size = 0;
     for _ in 0..rounds {
         out.clear();
         for record in black_box(&records) {
             record.encode(&mut out);
         }
-        black_box(&out);
+        size += black_box(&out).len();
     }
     let encoding = start.elapsed();
 
@@ -522,8 +523,9 @@ fn codec(rounds: u16) -> Option<()> {
     if rounds > 0 && out != bytes[3..] {
         return None;
     }
-    eprintln!("encode {count} {}", encoding.as_nanos());
-    eprintln!("decode {count} {}", decoding.as_nanos());
+    let amount = u64::from(rounds) * 1_000;
+    eprintln!("encode {amount} {} {size}", encoding.as_nanos());
+    eprintln!("decode {amount} {} {count}", decoding.as_nanos());
     Some(())
 }
 
@@ -548,16 +550,16 @@ fn flush(count: u16) -> Option<()> {
     let calls = (journal.disk.calls - before) / u64::from(rounds).max(1);
     let size = u64::from(rounds) * bytes.len() as u64;
     black_box(&journal.disk.history);
-    eprintln!("flush-{count}-calls-{calls} {size} {}", took.as_nanos());
+    eprintln!("flush {size} {} {calls}", took.as_nanos());
     Some(())
 }
 
 fn main() -> ExitCode {
     let words: Vec<String> = env::args().collect();
-    let number = words.get(2).and_then(|word| word.parse().ok());
+    let number = words.get(2).and_then(|word| word.parse::<u32>().ok());
     let done = match (words.get(1).map(String::as_str), number) {
         (Some("codec"), Some(rounds)) => codec(rounds),
-        (Some("flush"), Some(count)) => flush(count),
+        (Some("flush"), Some(count)) => u16::try_from(count).ok().and_then(flush),
         _ => None,
     };
     if done.is_some() {

@@ -142,8 +142,12 @@ fn write_all(tuples: &[Tuple], out: &mut Vec<u8>) {
 }
 
 fn main() {
-    let count = std::env::args().nth(1).and_then(|word| word.parse::<u64>().ok());
-    let count = count.expect("a count is wanted");
+    let words: Vec<String> = std::env::args().collect();
+    let count = match words.as_slice() {
+        [_, name, count] if name == "texts" => count.parse::<u64>().ok(),
+        _ => None,
+    };
+    let count = count.expect("texts and a count are wanted");
     let passes = count / TEXTS;
     let all = count - count % TEXTS;
     let texts = texts();

@@ -1,4 +1,4 @@
-// The measures of `crates/bench_threads` in plain Rust: a load of an `AtomicU64`, and a `VecDeque` under a `Mutex`.
+// The measures of crates/bench/src/latest.rt and pairs.rt in plain Rust: a load of an `AtomicU64`, and a `VecDeque` under a `Mutex`.
 use std::collections::VecDeque;
 use std::hint::black_box;
 use std::sync::atomic::{AtomicU64, Ordering};
@@ -7,7 +7,6 @@ use std::thread;
 use std::time::Instant;
 
 const LOADS: u64 = 100_000_000;
-const PAIRS: u64 = 2_000_000;
 const PLACES: usize = 1024;
 
 // Looks again and again whether the word fell.
@@ -74,10 +73,10 @@ impl Queue {
     }
 }
 
-fn put_and_take(queue: &Queue) -> u64 {
+fn put_and_take(queue: &Queue, count: u64) -> u64 {
     let mut last = 0;
     let mut sum = 0u64;
-    for connection in 0..PAIRS {
+    for connection in 0..count {
         if queue.put(&mut last, connection).is_err() {
             break;
         }
@@ -88,9 +87,9 @@ fn put_and_take(queue: &Queue) -> u64 {
     sum
 }
 
-fn put_all(queue: &Queue) {
+fn put_all(queue: &Queue, count: u64) {
     let mut last = 0;
-    while last < PAIRS {
+    while last < count {
         let connection = last;
         if queue.put(&mut last, connection).is_err() {
             thread::yield_now();
@@ -98,13 +97,13 @@ fn put_all(queue: &Queue) {
     }
 }
 
-fn take_all(queue: &Queue) -> u64 {
+fn take_all(queue: &Queue, count: u64) -> u64 {
     let mut sum = 0u64;
     loop {
         match queue.take() {
             Some((number, _connection)) => {
                 sum = sum.wrapping_add(number);
-                if number >= PAIRS {
+                if number >= count {
                     return sum;
                 }
             }
@@ -113,30 +112,32 @@ fn take_all(queue: &Queue) -> u64 {
     }
 }
 
-fn hand_over(queue: &Queue) -> u64 {
+fn hand_over(queue: &Queue, count: u64) -> u64 {
     thread::scope(|scope| {
-        scope.spawn(|| put_all(queue));
-        take_all(queue)
+        scope.spawn(|| put_all(queue, count));
+        take_all(queue, count)
     })
 }
 
 fn main() {
-    let measure = std::env::args().nth(1).unwrap_or_default();
+    let words: Vec<String> = std::env::args().collect();
+    let measure = words.get(1).map_or("", String::as_str);
+    let count = words.get(2).map(|word| word.parse::<u32>().expect("a count is a number"));
     let word = black_box(AtomicU64::new(0));
     let queue = Queue::new();
     let start = Instant::now();
-    let (calls, sum) = match measure.as_str() {
-        "latest-by-one" => (LOADS, load_inlined(&word)),
-        "latest-by-four" => (4 * LOADS, by_four(&word, load_inlined)),
-        "called-by-one" => (LOADS, load_called(&word)),
-        "called-by-four" => (4 * LOADS, by_four(&word, load_called)),
-        "pairs-by-one" => (PAIRS, put_and_take(&queue)),
-        "pairs-by-two" => (PAIRS, hand_over(&queue)),
+    let (name, amount, answer) = match (measure, count.map(u64::from)) {
+        ("latest-by-one", None) => ("latest", LOADS, load_inlined(&word)),
+        ("latest-by-four", None) => ("latest", 4 * LOADS, by_four(&word, load_inlined)),
+        ("called-by-one", None) => ("latest", LOADS, load_called(&word)),
+        ("called-by-four", None) => ("latest", 4 * LOADS, by_four(&word, load_called)),
+        ("pairs-by-one", Some(count)) => ("pairs", count, put_and_take(&queue, count)),
+        ("pairs-by-two", Some(count)) => ("pairs", count, hand_over(&queue, count)),
         _ => {
-            eprintln!("there is no such measure: {measure}");
+            eprintln!("a measure is wanted, with its count where it takes one");
             std::process::exit(2);
         }
     };
-    let seconds = start.elapsed().as_secs_f64();
-    eprintln!("{measure} {calls} {seconds:.6} {}", black_box(sum));
+    let elapsed = start.elapsed();
+    eprintln!("{name} {amount} {} {}", elapsed.as_nanos(), black_box(answer));
 }

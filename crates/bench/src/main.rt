@@ -1,18 +1,31 @@
-//! Measures of the store's parts, which `bench/` at the top sets beside the same in plain Rust.
+//! Measures of the store's parts, which `bench/run` at the top sets beside the same in plain Rust.
 //!
 //! Keeps: what a measure runs is what the other crates prove.
 //! Never: measures anything without arguments, where it says which measures there are and ends.
-//! Callers rely on: the times, in nanoseconds, on standard error.
+//! Callers rely on: each line on standard error is a name, how much was done, the nanoseconds, and what it answered.
 //!
-//! Start at `texts.rt`.
+//! Start at `measure.rt`, what can be asked for. Each measure has a file; `sample.rt` has the records of two.
 #![tactic(auto)]
 
+mod codec;
+mod flush;
+mod latest;
+mod measure;
+mod pairs;
+mod rows;
+mod sample;
+#[cfg(test)]
+mod tests;
 mod texts;
+mod timing;
 
+use measure::Measure;
 use std::alloc::Global;
 use std::env;
 use std::process::ExitCode;
 use std::rt::Runtime;
+use std::sync::Wait;
+use std::thread::Threads;
 
 // The status where the words name no measure, or a measure failed.
 const FAILED: u8 = 1;
@@ -35,17 +48,19 @@ fn main(rt: HostRuntime) -> ExitCode {
 }
 
 // The words of the command line, the program's own first.
-fn run<R: Runtime>(rt: &R, alloc: Global, words: &[String]) -> anyhow::Result<()> {
+fn run<R: Runtime + Threads + Wait + Sync>(
+    rt: &R,
+    alloc: Global,
+    words: &[String],
+) -> anyhow::Result<()> {
     if words.len() <= 1 {
-        println!(rt; "measures: texts COUNT")?;
+        println!(rt;
+            "measures: texts COUNT, codec ROUNDS, flush RECORDS, versions ROWS, pairs-by-one COUNT, pairs-by-two COUNT, latest-by-one, latest-by-four, called-by-one, called-by-four"
+        )?;
         return Ok(());
     }
-    if words.len() != 3 {
-        anyhow::bail!("a measure and a count are wanted");
-    }
-    let count = words[2].parse::<u64>()?;
-    match words[1].as_str() {
-        "texts" => texts::measure(rt, alloc, count),
-        _ => anyhow::bail!("no such measure"),
+    match Measure::read(words) {
+        Some(measure) => measure.run(rt, alloc),
+        None => anyhow::bail!("a measure is wanted, with its count where it takes one"),
     }
 }

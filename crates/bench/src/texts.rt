@@ -3,34 +3,43 @@ ghost use Rattle.std.specs.Prelude.{◌≡◌, OnOk, OnErr, map, IfOk, length};
 ghost use Rattle.std.specs.List.{flat_map};
 ghost use Rattle.tuples.specs.Texts.{tuple_text};
 
+use crate::timing::Timing;
 use std::alloc::{AllocError, Global};
-use std::rt::Runtime;
+use std::rt::Clock;
 use std::time::Instant;
 use tuples::{Refusal, Tuple};
 
 // How many texts there are; a longer measure goes over them again.
-const TEXTS: u64 = 1000;
+const TEXTS: u32 = 1000;
 
-/// Tells how long so many tuples take, to the next thousand below: `parse` or `write`, their number, the nanoseconds,
-/// and how many tuples or bytes the last pass made.
-pub(crate) fn measure<R: Runtime>(rt: &R, alloc: Global, count: u64) -> anyhow::Result<()> {
+/// Reads so many tuples, to the next thousand below, from their texts (`parse`) and writes them (`write`), and prints how long
+/// each took. What it answers is how many tuples or bytes the last pass made.
+pub(crate) fn measure(rt: &(impl Clock + Eprint), alloc: Global, count: u32) -> anyhow::Result<()> {
     let passes = count / TEXTS;
-    let all = count - count % TEXTS;
+    let amount = u64::from(count - count % TEXTS);
     let texts = texts(alloc)?;
     let mut tuples = Vec::new(alloc);
     let start = Instant::now(rt)?;
     for _ in 0..passes {
         parse_all(alloc, &texts, &mut tuples)?;
     }
-    let parsed = start.elapsed(rt)?;
+    let parsed = Timing {
+        amount,
+        elapsed: start.elapsed(rt)?,
+        answer: tuples.len() as u64,
+    };
     let mut out = Vec::new(alloc);
     let start = Instant::now(rt)?;
     for _ in 0..passes {
         write_all(&tuples, &mut out)?;
     }
-    let written = start.elapsed(rt)?;
-    eprintln!(rt; "parse {all} {} {}", parsed.as_nanos(), tuples.len())?;
-    eprintln!(rt; "write {all} {} {}", written.as_nanos(), out.len())?;
+    let written = Timing {
+        amount,
+        elapsed: start.elapsed(rt)?,
+        answer: out.len() as u64,
+    };
+    parsed.print(rt, "parse")?;
+    written.print(rt, "write")?;
     Ok(())
 }
 

@@ -2,6 +2,7 @@
 ghost use Rattle.records.specs.Format.{AreRecords};
 
 use crate::sample::{batch_of, records_of};
+use crate::timing::Timing;
 use device::SimDisk;
 use journal::Journal;
 use records::Record;
@@ -42,7 +43,7 @@ fn calls_of_a(journal: &Journal<SimDisk>) -> u64 {
     a.calls()
 }
 
-/// Flushes batches of so many records, and prints the records, the bytes and the device calls of each batch, and the time of all.
+/// Flushes batches of so many records, and prints the bytes and how long they took. What it answers is the device calls of a flush.
 pub(crate) fn measure(rt: &(impl Clock + Eprint), alloc: Global, count: u16) -> io::Result<()> {
     let bytes = batch_of(alloc, count)?;
     let records = records_of(alloc, &bytes)?;
@@ -54,10 +55,12 @@ pub(crate) fn measure(rt: &(impl Clock + Eprint), alloc: Global, count: u16) -> 
     for _ in 0..rounds {
         stage_and_flush(&mut journal, &records).map_err(refused)?;
     }
-    let took = start.elapsed(rt)?;
+    let elapsed = start.elapsed(rt)?;
 
-    let calls = calls_of_a(&journal).saturating_sub(before) / u64::from(rounds).max(1);
-    let size = u64::from(rounds).saturating_mul(bytes.len() as u64);
-    eprintln!(rt; "flush-{count}-calls-{calls} {size} {}", took.as_nanos())?;
-    Ok(())
+    let flushed = Timing {
+        amount: u64::from(rounds).saturating_mul(bytes.len() as u64),
+        elapsed,
+        answer: calls_of_a(&journal).saturating_sub(before) / u64::from(rounds).max(1),
+    };
+    flushed.print(rt, "flush")
 }

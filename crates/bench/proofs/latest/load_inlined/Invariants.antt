@@ -1,5 +1,5 @@
 use Rattle.std.proofs.Common.{◌≡◌}
-use Rattle.bench_threads.proofs.loading.load_called.Given as goal
+use Rattle.bench.proofs.latest.load_inlined.Given as goal
 
 abbrev pub invariant-loop : goal.invariant-loop
 invariant-loop l = record { own : l.pass.table ≡ l.words }

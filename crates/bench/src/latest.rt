@@ -8,11 +8,12 @@ use std::io;
 use std::thread::{Threads, join};
 use std::time::{Clock, Instant};
 
+// A constant, so that a compiler may unroll the loop as far as it can.
 const LOADS: u64 = 100_000_000;
 
 /// Whether the load stands in the loop, or in a function that the loop calls.
-#[derive(Clone, Copy)]
-pub enum Way {
+#[derive(Clone, Copy, Debug, PartialEq, Eq)]
+pub(crate) enum Way {
     Inlined,
     Called,
 }
@@ -68,17 +69,18 @@ fn look(words: &Published<u64>, pass: SessionPass<u64>) -> (u64, SessionPass<u64
     words.latest(pass)
 }
 
-/// Loads by one thread.
-pub fn by_one<R: Clock>(rt: &R, alloc: Global, way: Way) -> io::Result<Timing> {
+/// Loads by one thread; prints how long they took.
+pub(crate) fn by_one<R: Clock + Eprint>(rt: &R, alloc: Global, way: Way) -> io::Result<()> {
     let (words, mut log) = Published::new(alloc)?;
     let pass = words.session(&mut log);
     let start = Instant::now(rt)?;
-    let sum = load(&words, pass, way);
-    Ok(Timing {
-        calls: LOADS,
+    let answer = load(&words, pass, way);
+    let timing = Timing {
+        amount: LOADS,
         elapsed: start.elapsed(rt)?,
-        sum,
-    })
+        answer,
+    };
+    timing.print(rt, "latest")
 }
 
 // Loads by two threads at once.
@@ -103,8 +105,12 @@ fn load_by_two<R: Threads + Sync>(
     one.wrapping_add(other)
 }
 
-/// Loads by four threads at once.
-pub fn by_four<R: Clock + Threads + Sync>(rt: &R, alloc: Global, way: Way) -> io::Result<Timing> {
+/// Loads by four threads at once; prints how long they took.
+pub(crate) fn by_four<R: Clock + Eprint + Threads + Sync>(
+    rt: &R,
+    alloc: Global,
+    way: Way,
+) -> io::Result<()> {
     let (words, mut log) = Published::new(alloc)?;
     let one = (words.session(&mut log), words.session(&mut log));
     let other = (words.session(&mut log), words.session(&mut log));
@@ -119,9 +125,10 @@ pub fn by_four<R: Clock + Threads + Sync>(rt: &R, alloc: Global, way: Way) -> io
             requires { (other.0.table ≡ words.now) × (other.1.table ≡ words.now) }
         { load_by_two(rt, words, other, way) },
     );
-    Ok(Timing {
-        calls: 4 * LOADS,
+    let timing = Timing {
+        amount: 4 * LOADS,
         elapsed: start.elapsed(rt)?,
-        sum: one.wrapping_add(other),
-    })
+        answer: one.wrapping_add(other),
+    };
+    timing.print(rt, "latest")
 }

@@ -9,21 +9,20 @@ use std::thread::{Threads, join};
 use std::time::{Clock, Instant};
 use std::{io, thread};
 
-const PAIRS: u64 = 2_000_000;
-
 // Puts connections and takes each at once, and adds up their numbers.
 fn put_and_take<R: Wait>(
     rt: &R,
     queue: &Connections<u64>,
     acceptor: &mut AcceptorPass<u64>,
     worker: WorkerPass<u64>,
+    count: u32,
 ) -> u64
     requires acceptor { (acceptor.old.queue ≡ queue.now) × (acceptor.old.put ≡ 0) }
     requires worker { worker.queue ≡ queue.now }
 {
     let mut worker = worker;
     let mut sum = 0u64;
-    for connection in 0..PAIRS {
+    for connection in 0..u64::from(count) {
         if queue.put(rt, acceptor, connection).is_err() {
             break;
         }
@@ -34,29 +33,34 @@ fn put_and_take<R: Wait>(
     sum
 }
 
-/// Pairs of a put and a take by one thread.
-pub fn by_one<R: Clock + Wait>(rt: &R, alloc: Global) -> io::Result<Timing> {
+/// So many pairs of a put and a take by one thread; prints how long they took.
+pub(crate) fn by_one<R: Clock + Eprint + Wait>(
+    rt: &R,
+    alloc: Global,
+    count: u32,
+) -> io::Result<()> {
     let (queue, mut acceptor, mut workers) = Connections::new(alloc, 1)?;
     let Some(worker) = workers.pop() else {
         return Err(io::Error::from(io::ErrorKind::OutOfMemory));
     };
     let start = Instant::now(rt)?;
-    let sum = put_and_take(rt, &queue, &mut acceptor, worker);
-    Ok(Timing {
-        calls: PAIRS,
+    let answer = put_and_take(rt, &queue, &mut acceptor, worker, count);
+    let timing = Timing {
+        amount: u64::from(count),
         elapsed: start.elapsed(rt)?,
-        sum,
-    })
+        answer,
+    };
+    timing.print(rt, "pairs")
 }
 
 // Puts all connections. One that comes back is put again.
-fn put_all<R: Wait>(rt: &R, queue: &Connections<u64>, acceptor: AcceptorPass<u64>)
+fn put_all<R: Wait>(rt: &R, queue: &Connections<u64>, acceptor: AcceptorPass<u64>, count: u32)
     requires { (acceptor.queue ≡ queue.now) × (acceptor.put ≡ 0) }
 {
     let mut acceptor = acceptor;
     for _ in rt.forever() {
         let number = acceptor.count();
-        if number >= PAIRS {
+        if number >= u64::from(count) {
             break;
         }
         if queue.put(rt, &mut acceptor, number).is_err() {
@@ -66,7 +70,7 @@ fn put_all<R: Wait>(rt: &R, queue: &Connections<u64>, acceptor: AcceptorPass<u64
 }
 
 // Takes until the last connection, and adds up their numbers.
-fn take_all<R: Wait>(rt: &R, queue: &Connections<u64>, worker: WorkerPass<u64>) -> u64
+fn take_all<R: Wait>(rt: &R, queue: &Connections<u64>, worker: WorkerPass<u64>, count: u32) -> u64
     requires { worker.queue ≡ queue.now }
 {
     let mut worker = worker;
@@ -75,7 +79,7 @@ fn take_all<R: Wait>(rt: &R, queue: &Connections<u64>, worker: WorkerPass<u64>) 
         match queue.take(rt, &mut worker) {
             Some((number, _connection)) => {
                 sum = sum.wrapping_add(number);
-                if number >= PAIRS {
+                if number >= u64::from(count) {
                     break;
                 }
             }
@@ -91,6 +95,7 @@ fn hand_over<R: Threads + Wait + Sync>(
     queue: &Connections<u64>,
     acceptor: AcceptorPass<u64>,
     worker: WorkerPass<u64>,
+    count: u32,
 ) -> u64
     requires acceptor { (acceptor.queue ≡ queue.now) × (acceptor.put ≡ 0) }
     requires worker { worker.queue ≡ queue.now }
@@ -99,25 +104,30 @@ fn hand_over<R: Threads + Wait + Sync>(
         rt,
         move ||
             requires { (acceptor.queue ≡ queue.now) × (acceptor.put ≡ 0) }
-        { put_all(rt, queue, acceptor) },
+        { put_all(rt, queue, acceptor, count) },
         move ||
             requires { worker.queue ≡ queue.now }
-        { take_all(rt, queue, worker) },
+        { take_all(rt, queue, worker, count) },
     );
     sum
 }
 
-/// Pairs of a put by one thread and a take by another.
-pub fn by_two<R: Clock + Threads + Wait + Sync>(rt: &R, alloc: Global) -> io::Result<Timing> {
+/// So many pairs of a put by one thread and a take by another; prints how long they took.
+pub(crate) fn by_two<R: Clock + Eprint + Threads + Wait + Sync>(
+    rt: &R,
+    alloc: Global,
+    count: u32,
+) -> io::Result<()> {
     let (queue, acceptor, mut workers) = Connections::new(alloc, 1)?;
     let Some(worker) = workers.pop() else {
         return Err(io::Error::from(io::ErrorKind::OutOfMemory));
     };
     let start = Instant::now(rt)?;
-    let sum = hand_over(rt, &queue, acceptor, worker);
-    Ok(Timing {
-        calls: PAIRS,
+    let answer = hand_over(rt, &queue, acceptor, worker, count);
+    let timing = Timing {
+        amount: u64::from(count),
         elapsed: start.elapsed(rt)?,
-        sum,
-    })
+        answer,
+    };
+    timing.print(rt, "pairs")
 }

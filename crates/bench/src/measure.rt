@@ -1,0 +1,83 @@
+// What can be measured.
+use crate::latest::Way;
+use crate::{codec, flush, latest, pairs, rows, texts};
+use std::alloc::Global;
+use std::rt::Clock;
+use std::sync::Wait;
+use std::thread::Threads;
+
+/// What was asked for, and how much of it.
+#[derive(Clone, Copy, Debug, PartialEq, Eq)]
+pub(crate) enum Measure {
+    /// So many tuples, to the next thousand below, read from their texts and written.
+    Texts(u32),
+    /// So many rounds of a batch of 1,000 records, written and read.
+    Codec(u32),
+    /// Batches of so many records, staged and flushed.
+    Flush(u16),
+    /// So many versions of tuples, applied and then read.
+    Versions(u32),
+    /// Looks at the safe place.
+    LatestByOne(Way),
+    /// Looks by four threads at once.
+    LatestByFour(Way),
+    /// So many connections, put and taken by one thread.
+    PairsByOne(u32),
+    /// So many connections, put by one thread and taken by another.
+    PairsByTwo(u32),
+}
+
+impl Measure {
+    /// What the words after the program's name ask for: a name, and a count where the measure takes one.
+    pub(crate) fn read(words: &[String]) -> Option<Measure> {
+        match words {
+            [_, name] => Measure::named(name.as_str()),
+            [_, name, count] => {
+                let count = count.as_str().parse::<u32>().ok()?;
+                Measure::counted(name.as_str(), count)
+            }
+            _ => None,
+        }
+    }
+
+    fn named(name: &str) -> Option<Measure> {
+        match name {
+            "latest-by-one" => Some(Measure::LatestByOne(Way::Inlined)),
+            "latest-by-four" => Some(Measure::LatestByFour(Way::Inlined)),
+            "called-by-one" => Some(Measure::LatestByOne(Way::Called)),
+            "called-by-four" => Some(Measure::LatestByFour(Way::Called)),
+            _ => None,
+        }
+    }
+
+    fn counted(name: &str, count: u32) -> Option<Measure> {
+        match name {
+            "texts" => Some(Measure::Texts(count)),
+            "codec" => Some(Measure::Codec(count)),
+            "flush" => Some(Measure::Flush(u16::try_from(count).ok()?)),
+            "versions" => Some(Measure::Versions(count)),
+            "pairs-by-one" => Some(Measure::PairsByOne(count)),
+            "pairs-by-two" => Some(Measure::PairsByTwo(count)),
+            _ => None,
+        }
+    }
+
+    /// Measures, and prints what it found.
+    pub(crate) fn run<R: Clock + Eprint + Threads + Wait + Sync>(
+        self,
+        rt: &R,
+        alloc: Global,
+    ) -> anyhow::Result<()> {
+        match self {
+            Measure::Texts(count) => texts::measure(rt, alloc, count)?,
+            Measure::Codec(rounds) => codec::measure(rt, alloc, rounds)?,
+            Measure::Flush(count) => flush::measure(rt, alloc, count)?,
+            Measure::Versions(rows) => rows::measure(rt, alloc, rows)?,
+            Measure::LatestByOne(way) => latest::by_one(rt, alloc, way)?,
+            Measure::LatestByFour(way) => latest::by_four(rt, alloc, way)?,
+            Measure::PairsByOne(count) => pairs::by_one(rt, alloc, count)?,
+            Measure::PairsByTwo(count) => pairs::by_two(rt, alloc, count)?,
+        }
+        Ok(())
+    }
+}

@@ -1,0 +1,91 @@
+// How long versions take to be applied and to be read.
+ghost use Rattle.std.specs.Prelude.{◌≡◌, IfOk, length};
+ghost use Rattle.bench.specs.Reads.{Found};
+
+use crate::timing::Timing;
+use std::alloc::{AllocError, Global};
+use std::rt::Clock;
+use std::time::Instant;
+use tuples::{Change, Refusal, Tuple, Tupleset};
+use versions::Versions;
+
+// How many tuples an object has.
+const USERS: u32 = 10;
+
+// How often each read is done.
+const READS: u64 = 100;
+
+/// Applies so many rows, a write of one change each (`apply`), and reads a key (`key`) and an object (`object`) of them, and prints
+/// how long each took. What a read answers is how many tuples it found.
+pub(crate) fn measure(rt: &(impl Clock + Eprint), alloc: Global, rows: u32) -> anyhow::Result<()> {
+    let changes = changes(alloc, rows)?;
+    let mut versions = Versions::new(alloc);
+    let start = Instant::now(rt)?;
+    apply_all(&mut versions, &changes)?;
+    let applied = Timing {
+        amount: u64::from(rows),
+        elapsed: start.elapsed(rt)?,
+        answer: changes.len() as u64,
+    };
+    applied.print(rt, "apply")?;
+    let place = u64::from(rows);
+    let key = read(rt, alloc, &versions, place, "doc:d5#viewer@u3")?;
+    key.print(rt, "key")?;
+    let object = read(rt, alloc, &versions, place, "doc:d5")?;
+    object.print(rt, "object")?;
+    Ok(())
+}
+
+fn read(
+    rt: &impl Clock,
+    alloc: Global,
+    versions: &Versions,
+    place: u64,
+    text: &str,
+) -> anyhow::Result<Timing> {
+    let set = Tupleset::parse(alloc, text.as_bytes())?;
+    let mut tuples = 0;
+    let start = Instant::now(rt)?;
+    for _ in 0..READS {
+        tuples = found(alloc, versions, place, &set)?;
+    }
+    Ok(Timing {
+        amount: READS,
+        elapsed: start.elapsed(rt)?,
+        answer: tuples as u64,
+    })
+}
+
+// How many tuples a read finds.
+fn found(
+    alloc: Global,
+    versions: &Versions,
+    place: u64,
+    set: &Tupleset,
+) -> Result<usize, AllocError>
+    ensures { IfOk result (λ n. Found versions.now place set.now n) }
+{
+    let tuples = versions.at(alloc, place, set)?;
+    Ok(tuples.len())
+}
+
+// Touches of the tuples of `doc:d0`, then of those of `doc:d1`, and so on.
+fn changes(alloc: Global, rows: u32) -> Result<Vec<Change>, Refusal> {
+    let mut changes = Vec::new(alloc);
+    for row in 0..rows {
+        let text = format!(in alloc; "doc:d{}#viewer@u{}", row / USERS, row % USERS)?;
+        let change = Change::Touch(Tuple::parse(alloc, text.as_bytes())?);
+        if let Err(error) = changes.push(change) {
+            return Err(AllocError::from(error).into());
+        }
+    }
+    Ok(changes)
+}
+
+// Each at a place of its own.
+fn apply_all(versions: &mut Versions, changes: &[Change]) -> Result<(), AllocError> {
+    for i in 0..changes.len() {
+        versions.apply(i as u64 + 1, &changes[i..i + 1])?;
+    }
+    Ok(())
+}
