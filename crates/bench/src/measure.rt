@@ -28,12 +28,15 @@ pub(crate) enum Measure {
 }
 
 impl Measure {
-    /// What the words after the program's name ask for: a name, and a count where the measure takes one.
+    /// What the words after the program's name ask for: a name, and a count from 1 on where the measure takes one.
     pub(crate) fn read(words: &[String]) -> Option<Measure> {
         match words {
             [_, name] => Measure::named(name.as_str()),
             [_, name, count] => {
                 let count = count.as_str().parse::<u32>().ok()?;
+                if count == 0 {
+                    return None;
+                }
                 Measure::counted(name.as_str(), count)
             }
             _ => None,

@@ -29,6 +29,7 @@ fn a_name_and_a_count_ask_for_a_measure(rt: HostRuntime) -> Result<(), Fail> {
     assert_eq!(rt; asked(alloc, &["flush", "x"])?, None);
     assert_eq!(rt; asked(alloc, &["flush", "65536"])?, None);
     assert_eq!(rt; asked(alloc, &["other", "7"])?, None);
+    assert_eq!(rt; asked(alloc, &["pairs-by-two", "0"])?, None);
     Ok(())
 }
 
