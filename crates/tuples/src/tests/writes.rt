@@ -91,16 +91,29 @@ fn a_write_is_within_its_limits(rt: HostRuntime) -> Result<(), Fail> {
     Ok(())
 }
 
+fn small_write(alloc: Global) -> Result<Write, Fail> {
+    Ok(Write::new(touches(alloc, 2)?, wishes(alloc, 1)?)?)
+}
+
 #[test]
-fn a_write_keeps_its_changes_and_conditions(rt: HostRuntime) -> Result<(), Fail> {
-    let alloc = rt.alloc();
-    let write = Write::new(touches(alloc, 2)?, wishes(alloc, 1)?)?;
+fn a_write_shows_its_changes_and_conditions(rt: HostRuntime) -> Result<(), Fail> {
+    let write = small_write(rt.alloc())?;
     assert_eq!(rt; write.changes().len(), 2);
     assert_eq!(rt; write.conditions().len(), 1);
-    let (changes, conditions) = write.into_parts();
-    let copies = changes.clone()?;
-    assert_eq!(rt; copies.as_slice().len(), 2);
+    Ok(())
+}
+
+#[test]
+fn a_write_is_taken_apart_and_copied(rt: HostRuntime) -> Result<(), Fail> {
+    let (changes, conditions) = small_write(rt.alloc())?.into_parts();
+    assert_eq!(rt; changes.clone()?.as_slice().len(), 2);
     assert_eq!(rt; conditions.clone()?.into_vec().len(), 1);
+    Ok(())
+}
+
+#[test]
+fn the_changes_of_a_write_are_those_that_were_given(rt: HostRuntime) -> Result<(), Fail> {
+    let (changes, _conditions) = small_write(rt.alloc())?.into_parts();
     for change in changes.into_vec() {
         assert_eq!(rt; change.tuple().relation.as_bytes(), b"viewer".as_slice());
     }
