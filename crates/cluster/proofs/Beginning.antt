@@ -100,6 +100,7 @@ module _ (store shards : ℕ) (left : NodeName → List Record → Type 0) (now 
           votes = λ j d lt. vote_on v given (slice_index_or h.votes j d) (k.votes j d lt);
           decision = λ d is. decision_on v d (k.decision d is);
           verdict = λ id is. let right = k.verdict id is in (right.0, verdict_on id right.1);
+          not_reopened = λ i is not_since. Contains-append_right (w ∷ []) now.nodes.open_writes v (k.not_reopened i is not_since);
         }
 
     write_on : (changes : List Change) (conditions : List Condition) (h : WriteHolds) → IsRightWrite shards left now r changes conditions h → IsRightWrite shards left next r changes conditions h
@@ -199,7 +200,7 @@ replaced_is later (q ∷ rs) j x is = by_slot (q.slot == later.slot) refl j is (
     by_slot false same zero here rest = inl here
     by_slot false same (suc i) there rest = rest i x there
 
-same_length : (later : Running) (rs : List Running) → length (replaced later rs) ≡ length rs
+pub same_length : (later : Running) (rs : List Running) → length (replaced later rs) ≡ length rs
 same_length later [] = refl
 same_length later (q ∷ rs) = by_slot (q.slot == later.slot) (same_length later rs)
   where
@@ -219,7 +220,7 @@ staged_part down = []
 staged_part (refused e) = []
 
 -- what a coordinator knows is one thing
-one_memory : (all : Nodes) (k m k' m' : CoordinatorState) → CoordinatorKnows all k m → CoordinatorKnows all k' m' → m ≡ m'
+pub one_memory : (all : Nodes) (k m k' m' : CoordinatorState) → CoordinatorKnows all k m → CoordinatorKnows all k' m' → m ≡ m'
 unfolding durable_part staged_part
 one_memory all k m k' m' one two =
     let same : up one.durable one.staged ≡ up two.durable two.staged = sym one.is_up ∙ two.is_up in
@@ -320,6 +321,7 @@ module _ (store shards : ℕ) (left : NodeName → List Record → Type 0) (now 
         votes = subst (All (IsRightVote shards left after w)) (sym nothing.votes) (All-nil (IsRightVote shards left after w));
         decision = λ d is. absurd (no_value (sym nothing.decided ∙ is));
         verdict = λ id is. absurd (no_value (sym nothing.verdict ∙ is));
+        not_reopened = λ i is not_since. alone w now.nodes.open_writes;
       }
 
   later_right : IsRight shards left after later later.asked later.holds
@@ -380,8 +382,8 @@ module _ (store shards : ℕ) (left : NodeName → List Record → Type 0) (now 
   -- an open write has another id
   other_open : (v : Entry) → Contains now.nodes.open_writes v → v.id ≢ w.id
   other_open v has same =
-      let is = st.ids.of_now v has in
-      omega (arith, is.4, ap (λ (i : WriteId). i.number) same, b.number)
+      let is = st.ids.of_now v has b.kept b.memory b.knows in
+      omega (arith, is.1, ap (λ (i : WriteId). i.number) same, b.number)
 
   distinct : AreNew (w ∷ now.nodes.open_writes)
   distinct zero zero u v is_u is_v same = refl
@@ -410,10 +412,12 @@ module _ (store shards : ℕ) (left : NodeName → List Record → Type 0) (now 
       distinct = distinct;
       few = omega (arith, b.room);
       unlisted = λ v has. ⊎_elim (λ new. subst (λ (x : Entry). IsUnlisted x.id now.machine.log) new unlisted) (λ old. st.ids.unlisted v old) (among w v now.nodes.open_writes has);
-      of_now = λ v has. ⊎_elim
-          (λ new. subst (λ (x : Entry). (k : CoordinatorState) × (m : CoordinatorState) × CoordinatorKnows (with_open store shards left now.nodes w) k m × (x.id.epoch ≡ m.epoch) × (x.id.number ≤ now.nodes.given + 1)) new
-          (b.kept, b.memory, knows_on b.kept b.memory b.knows, b.epoch, omega (arith, b.number)))
-          (λ old. let is = st.ids.of_now v old in (is.0, is.1, knows_on is.0 is.1 is.2, is.3, omega (arith, is.4)))
+      of_now = λ v has k m knows.
+          let known = knew store shards left now w flows fresh k m knows in
+          ⊎_elim
+          (λ new. subst (λ (x : Entry). (x.id.epoch ≡ m.epoch) × (x.id.number ≤ now.nodes.given + 1)) new
+          (b.epoch ∙ ap (λ (c : CoordinatorState). c.epoch) (one_memory now.nodes b.kept b.memory k m b.knows known), omega (arith, b.number)))
+          (λ old. let is = st.ids.of_now v old k m known in (is.0, omega (arith, is.1)))
           (among w v now.nodes.open_writes has);
       log_given = λ v has. given_on store shards left now w flows fresh v.id (st.ids.log_given v has);
       prepares_given = λ s found v lt here has. given_on store shards left now w flows fresh v.id (st.ids.prepares_given s found v lt here has);

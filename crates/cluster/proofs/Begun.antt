@@ -53,6 +53,7 @@ module _ (shards : ℕ) (left : NodeName → List Record → Type 0) (now : Mome
       votes = λ j d lt. same_vote w (slice_index_or h.votes j d) (k.votes j d lt);
       decision = λ d is. same_decision w d (k.decision d is);
       verdict = λ id is. let right = k.verdict id is in (right.0, same_verdict id right.1);
+      not_reopened = k.not_reopened;
     }
 
     same_write : (changes : List Change) (conditions : List Condition) (h : WriteHolds) → IsRightWrite shards left now r changes conditions h → IsRightWrite shards left next r changes conditions h

@@ -72,7 +72,7 @@ decisions_rest old new shard store shards log kept h records place w step whole 
     means = decided_means store shards log h records place w shard step.image may whole
 
 -- an opening changes no decision
-opened_means : (store shards : ℕ) (log : List Entry) (h : ℕ) (records : List Record) (epoch : ℕ) (shard : ℕ → List Record → Type 0)
+pub opened_means : (store shards : ℕ) (log : List Entry) (h : ℕ) (records : List Record) (epoch : ℕ) (shard : ℕ → List Record → Type 0)
     → IsCoordinatorImage (coordinator_node store shards) (records ++ Epoch epoch store shards 255 ∷ [])
     → Means store shards log h records shard → Means store shards log h (records ++ Epoch epoch store shards 255 ∷ []) shard
 unfolding coordinator_step

@@ -123,14 +123,14 @@ module _ (store shards : ℕ) (left : NodeName → List Record → Type 0) (now 
       ∙ epoch_stays (coordinator_from empty_coordinator st.step.durable) st.step.staged (λ a b c d has. st.stands.nodes.no_opening coordinator st.step.durable st.step.staged a b c d st.step.was has)
 
   own_epoch : w.id.epoch ≡ (coordinator_state (st.step.durable ++ st.step.staged)).epoch
-  own_epoch = let was = st.stands.ids.of_now w st.is_open in was.3 ∙ ap (λ (c : CoordinatorState). c.epoch) (knew_only was.0 was.1 was.2)
+  own_epoch = (st.stands.ids.of_now w st.is_open _ _ knew).0
 
   pub own_given : WasGiven shards left now.nodes w.id
   own_given = record {
     epoch = λ found is.
         let only : found ≡ st.step.durable = (st.stands.nodes.durable coordinator st.step.durable st.step.staged found st.step.was).0 is in
         subst (λ (l : List Record). w.id.epoch ≤ (coordinator_state l).epoch) (sym only) (let a = own_epoch in let b = durable_epoch in omega (arith, a, b));
-    now = λ kept m k. inr (own_epoch ∙ ap (λ (c : CoordinatorState). c.epoch) (sym (knew_only kept m k)), (st.stands.ids.of_now w st.is_open).4);
+    now = λ kept m k. inr (own_epoch ∙ ap (λ (c : CoordinatorState). c.epoch) (sym (knew_only kept m k)), (st.stands.ids.of_now w st.is_open _ _ knew).1);
   }
 
   -- both parts of the law of decisions, over the shards as they are now
@@ -205,14 +205,9 @@ module _ (store shards : ℕ) (left : NodeName → List Record → Type 0) (now 
     distinct = subst AreNew (sym st.step.open_writes) (new_without w.id now.nodes.open_writes st.stands.ids.distinct);
     few = subst (λ (l : List Entry). length l ≤ 1024) (sym st.step.open_writes) (few_still w.id now.nodes.open_writes 1024 st.stands.ids.few);
     unlisted = λ v is. let was = was_open v is in unlisted_longer v.id was.1 (st.stands.ids.unlisted v was.0);
-    of_now = λ v is.
-        let was = st.stands.ids.of_now v (was_open v is).0 in (
-          coordinator_state st.step.durable,
-          coordinator_state ((st.step.durable ++ st.step.staged) ++ Decision place w ∷ []),
-          record { durable = st.step.durable; staged = st.step.staged ++ Decision place w ∷ []; is_up = st.step.now; durable_state = refl; replayed = ap coordinator_state (append_assoc st.step.durable st.step.staged (Decision place w ∷ [])) },
-          was.3 ∙ ap (λ (c : CoordinatorState). c.epoch) (knew_only was.0 was.1 was.2) ∙ ap (λ (c : CoordinatorState). c.epoch) (sym after),
-          subst (λ (n : ℕ). v.id.number ≤ n) (sym st.step.given) was.4,
-        );
+    of_now = λ v is kept m knows.
+        let was = st.stands.ids.of_now v (was_open v is).0 _ _ knew in
+        (was.0 ∙ sym (same_epoch kept m knows), subst (λ (n : ℕ). v.id.number ≤ n) (sym st.step.given) was.1);
     log_given = λ v has. given_kept v.id (⊎_elim
         (λ old. st.stands.ids.log_given v old)
         (λ new. subst (λ (e : Entry). WasGiven shards left now.nodes e.id) new own_given)

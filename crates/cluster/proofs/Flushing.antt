@@ -18,7 +18,7 @@ use Rattle.cluster.proofs.Locks.{same_or_not}
 use Rattle.cluster.proofs.Staging.{durable_in, is_shard, shard_number}
 
 -- records without an opening leave the epoch as it is
-epoch_stays : (s : ShardState) (rs : List Record) → ((a b c d : ℕ) → Contains rs (Epoch a b c d) → ⊥) → (shard_from s rs).epoch ≡ s.epoch
+pub epoch_stays : (s : ShardState) (rs : List Record) → ((a b c d : ℕ) → Contains rs (Epoch a b c d) → ⊥) → (shard_from s rs).epoch ≡ s.epoch
 unfolding shard_step
 epoch_stays s [] none = refl
 epoch_stays s (Prepare v ∷ rs) none = epoch_stays (shard_step s (Prepare v)) rs (λ a b c d has. none a b c d (Contains-append_right (Prepare v ∷ []) rs (Epoch a b c d) has))
@@ -145,8 +145,8 @@ module _ (store shards : ℕ) (left after : NodeName → List Record → Type 0)
     whole = λ c is. both_less.1 c;
     in_doubt = λ t found is. (found, less (shard t) found is, refl);
     shard_knew = λ t m k. inl (shard_knew t m k);
-    same_coordinator = flush.others.others coordinator not_here;
-    coordinator_less = λ found is. (flush.same coordinator found not_here).0 is;
+    coordinator_was = inl (flush.others.others coordinator not_here);
+    given_out = λ id old found is. old found ((flush.same coordinator found not_here).0 is);
     open_writes = flush.others.open_writes nor_here;
     given = flush.others.given nor_here;
     epochs = epochs;

@@ -183,6 +183,7 @@ module _ (store shards : ℕ) (left after : NodeName → List Record → Type 0)
       there = λ kept m known same. old.there _ _ knew (ap (λ (c : CoordinatorState). c.epoch) (sym (knows kept m known).1) ∙ same);
     };
     verdict = λ id is. ((k.verdict id is).0, verdict_kept id (k.verdict id is).1);
+    not_reopened = λ i is not_since. subst (λ (l : List Entry). Contains l w) (sym flush.open_writes) (k.not_reopened i is not_since);
   }
 
   kept_write : (f : Running) (changes : List Change) (conditions : List Condition) (h : WriteHolds) → IsRightWrite shards left now f changes conditions h → IsRightWrite shards after later f changes conditions h
@@ -285,14 +286,9 @@ module _ (store shards : ℕ) (left after : NodeName → List Record → Type 0)
       distinct = subst AreNew (sym flush.open_writes) stands.ids.distinct;
       few = subst (λ (l : List Entry). length l ≤ 1024) (sym flush.open_writes) stands.ids.few;
       unlisted = λ v is. stands.ids.unlisted v (was_open v is);
-      of_now = λ v is.
-          let was = stands.ids.of_now v (was_open v is) in (
-            coordinator_state (flush.durable ++ flush.staged),
-            coordinator_state (flush.durable ++ flush.staged),
-            record { durable = flush.durable ++ flush.staged; staged = []; is_up = flush.now; durable_state = refl; replayed = ap coordinator_state (sym (append-nil (flush.durable ++ flush.staged))) },
-            was.3 ∙ ap (λ (c : CoordinatorState). c.epoch) (knew_only was.0 was.1 was.2),
-            subst (λ (n : ℕ). v.id.number ≤ n) (sym flush.given) was.4,
-          );
+      of_now = λ v is kept m known.
+          let was = stands.ids.of_now v (was_open v is) _ _ knew in
+          (was.0 ∙ ap (λ (c : CoordinatorState). c.epoch) (sym (knows kept m known).1), subst (λ (n : ℕ). v.id.number ≤ n) (sym flush.given) was.1);
       log_given = λ v has. given_kept v.id (stands.ids.log_given v has);
       prepares_given = λ t found v lt is has. given_kept v.id (stands.ids.prepares_given t found v lt (shard_less t found is) has);
     };

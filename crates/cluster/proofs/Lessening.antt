@@ -8,17 +8,17 @@ use Rattle.tuples.specs.Log.{AreNew}
 use Rattle.records.specs.declared.record.Record.{Record}
 use Rattle.records.specs.Coordinators.{CoordinatorState}
 use Rattle.records.specs.Replays.{ShardState, find_in_doubt, shard_state}
-use Rattle.decisions.specs.Standing.{IsSettled, IsShardEpoch}
+use Rattle.decisions.specs.Standing.{IsGivenOut, IsSettled, IsShardEpoch}
 use Rattle.cluster.specs.Worlds.{Means, Rests}
 use Rattle.cluster.specs.Flows.{Asked, HeldTicket, HeldVote, Holds, RaiseHolds, Resolved, ResolveHolds, WriteHolds, aborted, checking, collecting, committed, flushing, learning, raising, reading, resolving, to_check, to_collect, to_flush, to_learn, to_raise, to_read, to_resolve, to_watch, to_write, undecided, watching, writing}
 use Rattle.cluster.specs.Held.{IsOpen, IsRight, IsRightOwn, IsRightRaise, IsRightResolve, IsRightResolved, IsRightTicket, IsRightVerdict, IsRightVote, IsRightWrite, WasGiven, own_write}
 use Rattle.cluster.specs.Moments.{Moment, Running}
-use Rattle.cluster.specs.Nodes.{CoordinatorKnows, NodeName, Nodes, ShardKnows, coordinator, leaves, shard, up, staged_of, NodeState}
+use Rattle.cluster.specs.Nodes.{CoordinatorKnows, NodeName, Nodes, ShardKnows, coordinator, down, leaves, shard, up, staged_of, NodeState}
 use Rattle.cluster.specs.StagingLaws.{with_nodes}
 use Rattle.cluster.specs.Stands.{NodesStand, Stands, at_shards, AreApart}
 
 -- All nodes go on to rest; what a stop leaves of a shard has in doubt what it could leave before; a shard knows what it knew, or is of a later
--- epoch; the coordinator is as it was; and what a stop leaves of a shard has no lower epoch, and has learned no less.
+-- epoch; the coordinator is as it was, or down; and what a stop leaves of a node has no lower epoch, and of a shard has learned no less.
 pub record GoesOn (store shards : ℕ) (left after : NodeName → List Record → Type 0) (now : Moment) (next : Nodes) : Type 0 where
   pub stands : Stands store shards left now
   pub rests : Rests store shards now.machine.log now.machine.kept now.machine.horizon (leaves after next coordinator) (at_shards (leaves after next))
@@ -27,19 +27,19 @@ pub record GoesOn (store shards : ℕ) (left after : NodeName → List Record �
   pub in_doubt : (t : ℕ) (found : List Record) → leaves after next (shard t) found
       → (old : List Record) × leaves left now.nodes (shard t) old × ((shard_state old).in_doubt ≡ (shard_state found).in_doubt)
   pub shard_knew : (t : ℕ) (m : ShardState) → ShardKnows next t m → ShardKnows now.nodes t m ⊎ ((epoch : ℕ) → IsShardEpoch (left (shard t)) epoch → epoch < m.epoch)
-  pub same_coordinator : next.at coordinator ≡ now.nodes.at coordinator
-  pub coordinator_less : (found : List Record) → after coordinator found → left coordinator found
+  pub coordinator_was : (next.at coordinator ≡ now.nodes.at coordinator) ⊎ (next.at coordinator ≡ down)
+  pub given_out : (id : WriteId) → IsGivenOut (left coordinator) id → IsGivenOut (after coordinator) id
   pub open_writes : next.open_writes ≡ now.nodes.open_writes
   pub given : next.given ≡ now.nodes.given
   pub epochs : (t epoch : ℕ) → IsShardEpoch (left (shard t)) epoch → IsShardEpoch (after (shard t)) epoch
   pub settled : (t place : ℕ) → IsSettled (left (shard t)) place → IsSettled (after (shard t)) place
 
 module _ (store shards : ℕ) (left after : NodeName → List Record → Type 0) (now : Moment) (next : Nodes) (on : GoesOn store shards left after now next) where
-  coordinator_knew : (kept m : CoordinatorState) → CoordinatorKnows next kept m → CoordinatorKnows now.nodes kept m
-  coordinator_knew kept m k = record { durable = k.durable; staged = k.staged; is_up = sym on.same_coordinator ∙ k.is_up; durable_state = k.durable_state; replayed = k.replayed }
+  up_before : (d g : List Record) → next.at coordinator ≡ up d g → now.nodes.at coordinator ≡ up d g
+  up_before d g is = ⊎_elim (λ same. sym same ∙ is) (λ gone. let both : down ≡ up d g = sym gone ∙ is in absurd cc) on.coordinator_was
 
-  coordinator_knows : (kept m : CoordinatorState) → CoordinatorKnows now.nodes kept m → CoordinatorKnows next kept m
-  coordinator_knows kept m k = record { durable = k.durable; staged = k.staged; is_up = on.same_coordinator ∙ k.is_up; durable_state = k.durable_state; replayed = k.replayed }
+  coordinator_knew : (kept m : CoordinatorState) → CoordinatorKnows next kept m → CoordinatorKnows now.nodes kept m
+  coordinator_knew kept m k = record { durable = k.durable; staged = k.staged; is_up = up_before k.durable k.staged k.is_up; durable_state = k.durable_state; replayed = k.replayed }
 
   was_open : (v : Entry) → IsOpen next v → IsOpen now.nodes v
   was_open v = subst (λ (l : List Entry). Contains l v) on.open_writes
@@ -49,7 +49,7 @@ module _ (store shards : ℕ) (left after : NodeName → List Record → Type 0)
 
   given_kept : (id : WriteId) → WasGiven shards left now.nodes id → WasGiven shards after next id
   given_kept id g = record {
-    epoch = λ found is. g.epoch found (on.coordinator_less found is);
+    epoch = on.given_out id g.epoch;
     now = λ kept m k. ⊎_elim (λ earlier. inl earlier) (λ of_now. inr (of_now.0, subst (λ (n : ℕ). id.number ≤ n) (sym on.given) of_now.1)) (g.now kept m (coordinator_knew kept m k));
   }
 
@@ -101,6 +101,7 @@ module _ (store shards : ℕ) (left after : NodeName → List Record → Type 0)
       there = λ kept m knows. old.there kept m (coordinator_knew kept m knows);
     };
     verdict = λ id is. ((k.verdict id is).0, verdict_kept id (k.verdict id is).1);
+    not_reopened = λ i is not_since. is_open w (k.not_reopened i is not_since);
   }
 
   kept_write : (f : Running) (changes : List Change) (conditions : List Condition) (h : WriteHolds) → IsRightWrite shards left now f changes conditions h → IsRightWrite shards after (with_nodes now next) f changes conditions h
@@ -131,8 +132,11 @@ module _ (store shards : ℕ) (left after : NodeName → List Record → Type 0)
     raised = λ is not_since. ⊎_elim
         (λ low. inl low)
         (λ rest. ⊎_elim
-        (λ staged. inr (inl (record { durable = staged.durable; staged = staged.staged; is_up = on.same_coordinator ∙ staged.is_up; place = staged.place; has = staged.has; enough = staged.enough })))
-        (λ gone. inr (inr (on.same_coordinator ∙ gone)))
+        (λ staged. ⊎_elim
+        (λ same. inr (inl (record { durable = staged.durable; staged = staged.staged; is_up = same ∙ staged.is_up; place = staged.place; has = staged.has; enough = staged.enough })))
+        (λ gone. inr (inr gone))
+        on.coordinator_was)
+        (λ gone. ⊎_elim (λ same. inr (inr (same ∙ gone))) (λ now_gone. inr (inr now_gone)) on.coordinator_was)
         rest)
         (k.raised is not_since);
   }
@@ -159,7 +163,7 @@ module _ (store shards : ℕ) (left after : NodeName → List Record → Type 0)
       kept = λ kept m k. on.stands.heads.kept kept m (coordinator_knew kept m k);
       horizon = λ kept m k. on.stands.heads.horizon kept m (coordinator_knew kept m k);
       whole = λ d g is.
-          let was : now.nodes.at coordinator ≡ up d g = sym on.same_coordinator ∙ is in
+          let was : now.nodes.at coordinator ≡ up d g = up_before d g is in
           let here : leaves left now.nodes coordinator (d ++ g) = (d, (on.stands.nodes.durable coordinator d g d was).1 refl, inr (ap (λ (n : NodeState). d ++ staged_of n) (sym was))) in
           on.whole (d ++ g) here (on.stands.heads.whole d g was);
     };
@@ -168,7 +172,7 @@ module _ (store shards : ℕ) (left after : NodeName → List Record → Type 0)
       distinct = subst AreNew (sym on.open_writes) on.stands.ids.distinct;
       few = subst (λ (l : List Entry). length l ≤ 1024) (sym on.open_writes) on.stands.ids.few;
       unlisted = λ v is. on.stands.ids.unlisted v (was_open v is);
-      of_now = λ v is. let was = on.stands.ids.of_now v (was_open v is) in (was.0, was.1, coordinator_knows was.0 was.1 was.2, was.3, subst (λ (n : ℕ). v.id.number ≤ n) (sym on.given) was.4);
+      of_now = λ v is kept m knows. let was = on.stands.ids.of_now v (was_open v is) kept m (coordinator_knew kept m knows) in (was.0, subst (λ (n : ℕ). v.id.number ≤ n) (sym on.given) was.1);
       log_given = λ v has. given_kept v.id (on.stands.ids.log_given v has);
       prepares_given = λ t found v lt is has. let old = on.in_doubt t found is in given_kept v.id (on.stands.ids.prepares_given t old.0 v lt old.1 (subst (λ (ws : List Entry). Contains ws v) (sym old.2) has));
     };

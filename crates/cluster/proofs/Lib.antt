@@ -21,6 +21,18 @@ pub mod Lessening
 pub mod Flushing
 pub mod Keeping
 pub mod Reopening
+pub mod Renewing
+pub mod Stopping
+pub mod Falling
+pub mod Restarting
+pub mod Refusing
+pub mod Turning
+pub mod Decided
+pub mod Closing
+pub mod Answering
+pub mod Reading
+pub mod CutOff
+pub mod Closed
 pub mod Raising
 pub mod DecidingNodes
 pub mod DecidingFlows
@@ -34,6 +46,7 @@ mod Images
 pub mod Examples
 pub mod Opened
 pub mod Running
+pub mod Widening
 mod Meanings
 pub mod Begun
 pub mod Ended

@@ -100,7 +100,7 @@ not_held t (w ∷ ws) j v free is = ⊎_elim
     here zero other at rest = let same : w ≡ v = cc in ap (λ (u : Entry). has_tuple t (named u)) (sym same) ∙ other
     here (suc k) other at rest = rest k at
 
-not_found : (id : WriteId) (ws : List Entry) (j : ℕ) (v : Entry) → find_in_doubt id ws ≡ None → slice_get ws j ≡ Some v → v.id ≡ id → ⊥
+pub not_found : (id : WriteId) (ws : List Entry) (j : ℕ) (v : Entry) → find_in_doubt id ws ≡ None → slice_get ws j ≡ Some v → v.id ≡ id → ⊥
 not_found id [] j v none is same = absurd cc
 not_found id (w ∷ ws) j v none is same = ⊎_elim
     (λ yes. let some : Some w ≡ None = ap (λ b. cond b (Some w) (find_in_doubt id ws)) (sym yes) ∙ none in absurd cc)

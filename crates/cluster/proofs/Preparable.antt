@@ -61,7 +61,7 @@ module _ (t : Tuple) (log : List Entry) (p : ℕ) (none : ChangeNone t (drop p l
       ∙ there_none t (there_after t false (of_log (take p log))) (drop p log) none
 
 -- a change of another tuple tells nothing
-skip : (t : Tuple) (b : Bool) (c : Change) (changes : List Change) → tuple_eq t (tuple_of c) ≡ false → there_after t b (c ∷ changes) ≡ there_after t b changes
+pub skip : (t : Tuple) (b : Bool) (c : Change) (changes : List Change) → tuple_eq t (tuple_of c) ≡ false → there_after t b (c ∷ changes) ≡ there_after t b changes
 skip t b (Touch u) changes other = rw other refl
 skip t b (Delete u) changes other = rw other refl
 
@@ -70,7 +70,7 @@ same_step t (Touch u) xs ys same b = same (cond (tuple_eq t u) true b)
 same_step t (Delete u) xs ys same b = same (cond (tuple_eq t u) false b)
 
 -- the rows of a shard tell of its own tuples what all rows tell
-there_own : (shards s place : ℕ) (t : Tuple) → (shard_of shards t.object == s) ≡ true → (rows : List Version) (b : Bool)
+pub there_own : (shards s place : ℕ) (t : Tuple) → (shard_of shards t.object == s) ≡ true → (rows : List Version) (b : Bool)
     → there_after t b (map (λ (v : Version). v.change) (filter (λ (v : Version). nat_le v.place place) (of_shard shards s rows))) ≡ there_after t b (map (λ (v : Version). v.change) (filter (λ (v : Version). nat_le v.place place) rows))
 there_own shards s place t own [] b = refl
 there_own shards s place t own (v ∷ rows) b = ⊎_elim

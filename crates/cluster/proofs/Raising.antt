@@ -125,6 +125,7 @@ module _ (store shards : ℕ) (left : NodeName → List Record → Type 0) (now 
     votes = λ j d lt. kept_vote w _ (k.votes j d lt);
     decision = λ d is. let old = k.decision d is in record { counted = old.counted; epoch = old.epoch; given = given_kept w.id old.given; there = λ kept m known same. old.there _ _ knew (sym (same_epoch kept m known) ∙ same) };
     verdict = λ id is. ((k.verdict id is).0, verdict_kept id (k.verdict id is).1);
+    not_reopened = λ i is not_since. subst (λ (l : List Entry). Contains l w) (sym step.open_writes) (k.not_reopened i is not_since);
   }
 
   kept_write : (f : Running) (changes : List Change) (conditions : List Condition) (h : WriteHolds) → IsRightWrite shards left now f changes conditions h → IsRightWrite shards left (with_nodes now next) f changes conditions h
@@ -230,14 +231,9 @@ module _ (store shards : ℕ) (left : NodeName → List Record → Type 0) (now 
       distinct = subst AreNew (sym step.open_writes) stands.ids.distinct;
       few = subst (λ (l : List Entry). length l ≤ 1024) (sym step.open_writes) stands.ids.few;
       unlisted = λ v is. stands.ids.unlisted v (was_open v is);
-      of_now = λ v is.
-          let was = stands.ids.of_now v (was_open v is) in (
-            coordinator_state step.durable,
-            coordinator_state ((step.durable ++ step.staged) ++ Horizon place ∷ []),
-            record { durable = step.durable; staged = step.staged ++ Horizon place ∷ []; is_up = step.now; durable_state = refl; replayed = ap coordinator_state (append_assoc step.durable step.staged (Horizon place ∷ [])) },
-            was.3 ∙ ap (λ (c : CoordinatorState). c.epoch) (knew_only was.0 was.1 was.2) ∙ sym epoch_after,
-            subst (λ (n : ℕ). v.id.number ≤ n) (sym step.given) was.4,
-          );
+      of_now = λ v is kept m known.
+          let was = stands.ids.of_now v (was_open v is) _ _ knew in
+          (was.0 ∙ sym (same_epoch kept m known), subst (λ (n : ℕ). v.id.number ≤ n) (sym step.given) was.1);
       log_given = λ v has. given_kept v.id (stands.ids.log_given v has);
       prepares_given = λ t found v lt is has. given_kept v.id (stands.ids.prepares_given t found v lt (shard_less t found is) has);
     };

@@ -117,8 +117,8 @@ module _ (store shards : ℕ) (left after : NodeName → List Record → Type 0)
         (λ fresh. (opens.found, subst (λ (k : ℕ). leaves left now.nodes (shard k) opens.found) (sym fresh.0) found_left, same_doubts ∙ ap (λ (l : List Record). (shard_state l).in_doubt) (sym fresh.1)))
         (shard_left t rs is);
     shard_knew = shard_knew;
-    same_coordinator = opens.others.others coordinator not_here;
-    coordinator_less = λ rs is. (opens.same coordinator rs not_here).0 is;
+    coordinator_was = inl (opens.others.others coordinator not_here);
+    given_out = λ id old rs is. old rs ((opens.same coordinator rs not_here).0 is);
     open_writes = opens.others.open_writes (λ same. not_here (sym same));
     given = opens.others.given (λ same. not_here (sym same));
     epochs = epochs;

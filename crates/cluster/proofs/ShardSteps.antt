@@ -112,6 +112,14 @@ shard_openings_rest coordinator old new store shards log kept h s records epoch 
     (record { learned = m.means.learned; horizon = m.means.horizon; rows = m.means.rows; settled = m.means.settled; in_doubt = record { above = m.means.in_doubt.above; below = m.means.in_doubt.below } })
     m.given)
 
+-- one list of records with an opening behind it means what it meant
+pub opened_meaning : (store shards s : ℕ) (log : List Entry) (h : ℕ) (c : CoordinatorState) (records : List Record) (epoch : ℕ) → IsShardImage (shard_node store shards s) (records ++ Epoch epoch store shards s ∷ [])
+    → IsMeaning store shards s log h c records → IsMeaning store shards s log h c (records ++ Epoch epoch store shards s ∷ [])
+unfolding shard_step
+opened_meaning store shards s log h c records epoch image m = pushed store shards s log h c records (Epoch epoch store shards s) image
+    (record { learned = m.means.learned; horizon = m.means.horizon; rows = m.means.rows; settled = m.means.settled; in_doubt = record { above = m.means.in_doubt.above; below = m.means.in_doubt.below } })
+    m.given
+
 pub collects_rest : (coordinator : List Record → Type 0) (old new : ℕ → List Record → Type 0) → CollectsRest coordinator old new
 unfolding shard_step versions
 collects_rest coordinator old new store shards log kept h s records place step low =

@@ -111,6 +111,7 @@ module _ (store shards : ℕ) (left : NodeName → List Record → Type 0) (now 
       votes = λ j d lt. kept_vote _ (k.votes j d lt);
       decision = λ d is. kept_decision d (k.decision d is);
       verdict = λ id is. ((k.verdict id is).0, verdict_kept store shards left now next s r st id (k.verdict id is).1);
+      not_reopened = λ i is not_since. is_open store shards left now next s r st w (k.not_reopened i is not_since);
     }
 
   kept_resolved : (x : Resolved) → IsRightResolved shards left now x → IsRightResolved shards left (with_nodes now next) x

@@ -20,7 +20,7 @@ use Rattle.cluster.specs.StagingLaws.{IsStaging, with_nodes}
 use Rattle.cluster.specs.Stands.{AreApart, FlowsStand, HeadsStand, IdsStand, LocksStand, NodesStand, Stands, at_shards}
 use Rattle.cluster.proofs.Fewer.{less_rests, whole_rests}
 use Rattle.cluster.proofs.Locks.{doubts_apart, same_or_not}
-use Rattle.cluster.proofs.Staging.{coordinator_knew, coordinator_knows, coordinator_left, durable_in, given_kept, left_now, longer, memory, memory_left, was_open, same_coordinator, same_given, same_open, shard_number, verdict_kept}
+use Rattle.cluster.proofs.Staging.{coordinator_knew, coordinator_left, durable_in, given_kept, left_now, longer, memory, memory_left, was_open, same_coordinator, same_given, same_open, shard_number, verdict_kept}
 use Rattle.cluster.proofs.StagingFlows.{KeepsDoubts, kept_flow}
 
 pub contained_at : {X : Type 0} (xs : List X) (x : X) → Contains xs x → (i : ℕ) × (slice_get xs i ≡ Some x)
@@ -118,9 +118,9 @@ module _ (store shards : ℕ) (left : NodeName → List Record → Type 0) (now 
       distinct = subst AreNew (sym (same_open store shards left now next s r st)) st.stands.ids.distinct;
       few = subst (λ (l : List Entry). length l ≤ 1024) (sym (same_open store shards left now next s r st)) st.stands.ids.few;
       unlisted = λ w here. st.stands.ids.unlisted w (was_open store shards left now next s r st w here);
-      of_now = λ w here.
-          let was = st.stands.ids.of_now w (was_open store shards left now next s r st w here) in
-          (was.0, was.1, coordinator_knows store shards left now next s r st was.0 was.1 was.2, was.3, subst (λ (n : ℕ). w.id.number ≤ n) (sym (same_given store shards left now next s r st)) was.4);
+      of_now = λ w here kept m knows.
+          let was = st.stands.ids.of_now w (was_open store shards left now next s r st w here) kept m (coordinator_knew store shards left now next s r st kept m knows) in
+          (was.0, subst (λ (n : ℕ). w.id.number ≤ n) (sym (same_given store shards left now next s r st)) was.1);
       log_given = λ w here. given_kept store shards left now next s r st w.id (st.stands.ids.log_given w here);
       prepares_given = λ t found w lt is has. ⊎_elim
           (λ before. given_kept store shards left now next s r st w.id (st.stands.ids.prepares_given t found w lt before has))

@@ -15,10 +15,11 @@ use Rattle.cluster.specs.CoordinatorLaws.{IsPreparedInAll}
 use Rattle.cluster.specs.Worlds.{Rests, coordinator_node}
 use Rattle.cluster.specs.Machines.{Machine}
 use Rattle.cluster.specs.Nodes.{NodeName, Nodes, coordinator, leaves, shard, up}
-use Rattle.cluster.specs.Flows.{HeldVote, WriteHolds, id_of, onward}
+use Rattle.cluster.specs.Flows.{HeldVote, WriteHolds, id_of, onward, to_write, writing}
 use Rattle.cluster.specs.Held.{IsOpen, IsRight, IsRightIntent, IsRightVerdict, IsRightVote, IsRightWrite, IsUndecided}
-use Rattle.cluster.specs.Moments.{Moment, Running}
-use Rattle.cluster.specs.Stands.{HeadsStand, IdsStand, LocksStand, NodesStand, Stands, at_shards}
+use Rattle.cluster.specs.Moments.{Moment, Running, replaced}
+use Rattle.cluster.specs.Runs.{Turns, goes_on}
+use Rattle.cluster.specs.Stands.{HeadsStand, IdsStand, IsHorizonIn, LocksStand, NodesStand, Stands, at_shards}
 
 -- the coordinator stages a decision, and the write is open no longer
 pub record StagesDecision (place : ℕ) (w : Entry) (old new : Nodes) : Type 0 where
@@ -85,3 +86,24 @@ module _ (store shards : ℕ) (left : NodeName → List Record → Type 0) where
       → IsRightWrite shards left now f w.changes w.conditions h → h.id ≡ Some w.id → h.way ≡ onward → place ≡ length now.machine.log + 1
       → let d : DecidedValue = record { place = place; epoch = w.id.epoch } in
       IsRightWrite shards left (with_decision now next w) (record f { decided = Some d }) w.changes w.conditions (with_place h d)
+
+  -- a running flow of this write, on its way to the decision
+  pub record IsDecider (now : Moment) (r : Running) (h : WriteHolds) (w : Entry) : Type 0 where
+    pub running : Contains now.running r
+    pub asked : r.asked ≡ to_write w.changes w.conditions
+    pub holds : r.holds ≡ writing h
+    pub id : h.id ≡ Some w.id
+    pub onward_still : h.way ≡ onward
+
+  -- the flow behind its decision
+  abbrev pub with_decided : Moment → Running → WriteHolds → Entry → Running
+  with_decided now r h w =
+      let d : DecidedValue = record { place = length now.machine.log + 1; epoch = w.id.epoch } in
+      record r { holds = writing (with_place h d); decided = Some d; seen = r.seen ++ with_write now.machine w ∷ [] }
+
+  -- with it in its slot the store stands, and the step is a turn of a run in which the flow decides
+  abbrev pub DecidersTurn : Type 0
+  DecidersTurn = (now : Moment) (next : Nodes) (place : ℕ) (w : Entry) (r : Running) (h : WriteHolds) → IsDeciding now next place w
+      → IsDecider now r h w
+      → let after = record (with_decision now next w) { running = replaced (with_decided now r h w) now.running } in
+      Stands store shards left after × Turns shards (IsHorizonIn store shards left now.nodes) now r (goes_on ∷ []) after

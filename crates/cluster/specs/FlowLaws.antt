@@ -4,7 +4,8 @@ use Rattle.tuples.specs.declared.entry.Entry.{Entry}
 use Rattle.records.specs.declared.record.Record.{Record}
 use Rattle.records.specs.Coordinators.{CoordinatorState}
 use Rattle.cluster.specs.Nodes.{NodeName, Nodes, CoordinatorKnows}
-use Rattle.cluster.specs.Flows.{Asked, WriteHolds, to_write, writing}
+use Rattle.cluster.specs.Flows.{Asked, WriteHolds, id_of, to_write, writing}
+use Rattle.cluster.specs.Held.{IsRight}
 use Rattle.cluster.specs.Moments.{Moment, Running, begun, ended, flow_at, replaced}
 use Rattle.cluster.specs.Runs.{named_by}
 use Rattle.cluster.specs.Stands.{Stands}
@@ -57,3 +58,8 @@ module _ (store shards : ℕ) (left : NodeName → List Record → Type 0) where
   abbrev pub WritesBegin : Type 0
   WritesBegin = (now : Moment) (r : Running) (h : WriteHolds) (w : Entry) → IsBegin now r h w → Stands store shards left now
       → Stands store shards left (record now { nodes = with_open now.nodes w; running = replaced (with_intent now r h w) now.running })
+
+  -- A flow goes on over the same machine and nodes: in its slot, with the write that it had, and holding what is right.
+  abbrev pub FlowsGoOn : Type 0
+  FlowsGoOn = (now : Moment) (r later : Running) → Stands store shards left now → Contains now.running r → later.slot ≡ r.slot → id_of later.holds ≡ id_of r.holds
+      → IsRight shards left now later later.asked later.holds → Stands store shards left (record now { running = replaced later now.running })

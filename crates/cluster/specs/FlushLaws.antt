@@ -49,3 +49,21 @@ abbrev pub CoordinatorFlushesStand : ℕ → ℕ → (NodeName → List Record �
 CoordinatorFlushesStand store shards left after = (now : Moment) (next : Nodes) → Stands store shards left now
     → (flush : FlushesCoordinator left after now.nodes next) → IsCoordinatorImage (coordinator_node store shards) (flush.durable ++ flush.staged)
     → Stands store shards after (record now { nodes = next; machine = all_kept now.machine (flush.durable ++ flush.staged) })
+
+-- A flush of the coordinator that failed: it is down, and a stop leaves its durable records, or those with what was staged. The writes that were
+-- open are so until it is opened again.
+pub record FailsFlush (left after : NodeName → List Record → Type 0) (old new : Nodes) : Type 0 where
+  pub durable : List Record
+  pub staged : List Record
+  pub was : old.at coordinator ≡ up durable staged
+  pub now : new.at coordinator ≡ down
+  pub unchanged : (s : ℕ) → new.at (shard s) ≡ old.at (shard s)
+  pub open_writes : new.open_writes ≡ old.open_writes
+  pub given : new.given ≡ old.given
+  pub same : (s : ℕ) (found : List Record) → after (shard s) found ↔ left (shard s) found
+  pub here : (found : List Record) → after coordinator found → (found ≡ durable) ⊎ (found ≡ durable ++ staged)
+
+-- the store goes on to stand for the same machine
+abbrev pub FailedFlushesStand : ℕ → ℕ → (NodeName → List Record → Type 0) → (NodeName → List Record → Type 0) → Type 0
+FailedFlushesStand store shards left after = (now : Moment) (next : Nodes) → Stands store shards left now
+    → FailsFlush left after now.nodes next → Stands store shards after (with_nodes now next)

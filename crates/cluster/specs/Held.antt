@@ -109,7 +109,8 @@ module _ (shards : ℕ) (left : NodeName → List Record → Type 0) where
     pub there : (kept memory : CoordinatorState) → CoordinatorKnows now.nodes kept memory → memory.epoch ≡ d.epoch
         → slice_get now.machine.log (d.place - 1) ≡ Some w
 
-  -- What a write flow holds under its id: of its own write, all of it.
+  -- What a write flow holds under its id: of its own write, all of it. A write whose intent is not spent is open, unless the coordinator was
+  -- opened since the flow began.
   pub record IsRightOwn (now : Moment) (r : Running) (w : Entry) (h : WriteHolds) : Type 0 where
     pub undecided : r.decided ≡ None → IsUndecided now w
     pub intent : IfHeld h.intent (λ intent. (r.decided ≡ None) × IsRightIntent now w intent)
@@ -117,6 +118,7 @@ module _ (shards : ℕ) (left : NodeName → List Record → Type 0) where
     pub votes : All (IsRightVote now w) h.votes
     pub decision : IfHeld h.decided (IsRightDecision now w)
     pub verdict : IfHeld h.verdict (λ id. (id ≡ w.id) × IsRightVerdict now id)
+    pub not_reopened : IfHeld h.intent (λ intent. r.is_reopened ≡ false → IsOpen now.nodes w)
 
   -- a write flow that was not begun holds nothing yet
   pub record HoldsNothing (h : WriteHolds) : Type 0 where

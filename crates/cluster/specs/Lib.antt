@@ -23,4 +23,9 @@ pub mod FlowLaws
 pub mod NewStores
 pub mod FlushLaws
 pub mod OpeningLaws
+pub mod RestartLaws
+pub mod ReopenLaws
 pub mod RaisingLaws
+pub mod AbortLaws
+pub mod HeadsLaws
+pub mod ReadingLaws

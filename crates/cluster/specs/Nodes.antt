@@ -24,7 +24,8 @@ pub data NodeState : Type 0 where
   down : NodeState
   refused : Refusal → NodeState
 
--- all nodes; of the coordinator also what lies in its memory alone: the writes that are open, and the last number that it gave in its epoch
+-- all nodes; of the coordinator also what lies in its memory alone, until it is opened again: the writes that are open, and the last number that
+-- it gave in its epoch
 pub record Nodes : Type 0 where
   pub at : NodeName → NodeState
   pub open_writes : List Entry

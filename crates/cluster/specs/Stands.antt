@@ -44,14 +44,14 @@ module _ (store shards : ℕ) (left : NodeName → List Record → Type 0) where
   abbrev pub LocksStand : Nodes → Type 0
   LocksStand nodes = (s : ℕ) (found : List Record) → s < shards → leaves left nodes (shard s) found → AreApart (shard_state found).in_doubt
 
-  -- Ids: an open write is of the epoch of a coordinator that is up, is not listed, and has an id of its own. All ids that stand anywhere were
-  -- given out.
+  -- Ids: an open write is of the epoch of the coordinator, if that is up, is not listed, and has an id of its own. All ids that stand anywhere
+  -- were given out.
   pub record IdsStand (nodes : Nodes) (m : Machine) : Type 0 where
     pub distinct : AreNew nodes.open_writes
     pub few : length nodes.open_writes ≤ 1024
     pub unlisted : (w : Entry) → Contains nodes.open_writes w → IsUnlisted w.id m.log
-    pub of_now : (w : Entry) → Contains nodes.open_writes w
-        → (kept memory : CoordinatorState) × CoordinatorKnows nodes kept memory × (w.id.epoch ≡ memory.epoch) × (w.id.number ≤ nodes.given)
+    pub of_now : (w : Entry) → Contains nodes.open_writes w → (kept memory : CoordinatorState) → CoordinatorKnows nodes kept memory
+        → (w.id.epoch ≡ memory.epoch) × (w.id.number ≤ nodes.given)
     pub log_given : (w : Entry) → Contains m.log w → WasGiven shards left nodes w.id
     pub prepares_given : (s : ℕ) (found : List Record) (w : Entry) → s < shards → leaves left nodes (shard s) found
         → Contains (shard_state found).in_doubt w → WasGiven shards left nodes w.id

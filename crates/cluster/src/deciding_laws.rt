@@ -1,6 +1,6 @@
 // Laws of a decision, each the clause of a function with an empty body.
 ghost use Rattle.std.specs.Prelude.{ℕ};
-ghost use Rattle.cluster.specs.DecidingLaws.{DecidersStand, DecisionsStand, VotesPrepare};
+ghost use Rattle.cluster.specs.DecidingLaws.{DecidersStand, DecidersTurn, DecisionsStand, VotesPrepare};
 
 use crate::contents::Leavings;
 
@@ -17,4 +17,9 @@ pub fn votes_prepare<W: Leavings>()
 /// What the flow that decides holds after it is right as well: its write stands at the decision's place.
 pub fn deciders_hold_what_is_right<W: Leavings>()
     ensures { (store shards : ℕ) → DecidersStand store shards W.left }
+{}
+
+/// With that flow in its slot the whole store stands, and the step is a turn of a run in which the flow decides.
+pub fn deciders_take_their_turn<W: Leavings>()
+    ensures { (store shards : ℕ) → DecidersTurn store shards W.left }
 {}

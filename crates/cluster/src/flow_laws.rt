@@ -1,6 +1,6 @@
-// Laws of a store that was just made, and of flows that begin and end and writes that begin, each the clause of a function with an empty body.
+// Laws of a store that was just made, of flows that begin, go on and end, and of writes that begin, each the clause of a function with an empty body.
 ghost use Rattle.std.specs.Prelude.{ℕ};
-ghost use Rattle.cluster.specs.FlowLaws.{FlowsBegin, FlowsEnd, WritesBegin};
+ghost use Rattle.cluster.specs.FlowLaws.{FlowsBegin, FlowsEnd, FlowsGoOn, WritesBegin};
 ghost use Rattle.cluster.specs.NewStores.{NewStoresStand};
 
 use crate::contents::Leavings;
@@ -23,4 +23,9 @@ pub fn flows_that_end_leave_the_store_standing<W: Leavings>()
 /// So does the coordinator that gives a flow's write its id.
 pub fn writes_that_begin_leave_the_store_standing<W: Leavings>()
     ensures { (store shards : ℕ) → WritesBegin store shards W.left }
+{}
+
+/// So does a flow that goes on over the same machine and nodes, and holds what is right.
+pub fn flows_that_go_on_leave_the_store_standing<W: Leavings>()
+    ensures { (store shards : ℕ) → FlowsGoOn store shards W.left }
 {}

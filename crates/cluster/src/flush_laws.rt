@@ -1,6 +1,6 @@
 // Laws of a flush, each the clause of a function with an empty body.
 ghost use Rattle.std.specs.Prelude.{ℕ};
-ghost use Rattle.cluster.specs.FlushLaws.{CoordinatorFlushesStand, ShardFlushesStand};
+ghost use Rattle.cluster.specs.FlushLaws.{CoordinatorFlushesStand, FailedFlushesStand, ShardFlushesStand};
 
 use crate::contents::Leavings;
 
@@ -12,4 +12,9 @@ pub fn flushes_of_shards_leave_the_store_standing<W: Leavings>()
 /// A flush of the coordinator that answered Ok leaves the store standing with the whole log kept, and the horizon that the coordinator knows.
 pub fn flushes_of_the_coordinator_leave_the_store_standing<W: Leavings>()
     ensures { (store shards : ℕ) → CoordinatorFlushesStand store shards W.left W.left_after }
+{}
+
+/// A flush of the coordinator that failed leaves the store standing for the same machine, with the coordinator down.
+pub fn failed_flushes_leave_the_store_standing<W: Leavings>()
+    ensures { (store shards : ℕ) → FailedFlushesStand store shards W.left W.left_after }
 {}
