@@ -52,3 +52,4 @@ pub mod Begun
 pub mod Ended
 mod WrongRuns
 pub mod Beginning
+pub mod Closes

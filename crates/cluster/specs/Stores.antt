@@ -1,10 +1,12 @@
 -- A store over devices: what it stands for, what its run promises, and what is found when it is opened again.
 use Rattle.std.specs.Prelude.{◌≡◌, ◌⊎◌, ℕ, List, [], ◌∷◌, length, Option, Some, None, Contains, All}
+use Rattle.tuples.specs.declared.entry.Entry.{Entry}
 use Rattle.records.specs.declared.record.Record.{Record}
 use Rattle.records.specs.declared.record.Record.TheVariants.{Horizon}
 use Rattle.records.specs.Coordinators.{CoordinatorState}
 use Rattle.device.specs.Device.{State, left}
 use Rattle.journal.specs.Records.{Finds, found}
+use Rattle.decisions.specs.Standing.{IsGivenOut}
 use Rattle.cluster.specs.Worlds.{Rests}
 use Rattle.cluster.specs.Machines.{Machine, Move, Moves}
 use Rattle.cluster.specs.Nodes.{NodeName, coordinator, Nodes, IsThere, CoordinatorKnows}
@@ -38,10 +40,12 @@ module _ {D : Type 0} (state : D → State) (honest : D → Type 0) (store shard
     pub readable : (n : NodeName) (a b : List ℕ) → IsThere shards n → left (state (devices n).0) a → left (state (devices n).1) b
         → (rs : List Record) × (found a b ≡ Some rs)
 
-  -- devices of a store that is closed: whatever a stop leaves of them means a beginning of the log that holds what is kept
+  -- devices of a store that is closed: whatever a stop leaves of them means a beginning of the log that holds what is kept; and each id of
+  -- the log, those of writes that a stop may take from it among them, was given in an epoch that every stop leaves
   pub record RestsOver (devices : NodeName → D × D) (m : Machine) : Type 0 where
     pub sound : AreSound devices
     pub rests : Rests store shards m.log m.kept m.horizon (stops devices coordinator) (at_shards (stops devices))
+    pub given : (w : Entry) → Contains m.log w → IsGivenOut (stops devices coordinator) w.id
 
   -- a store stands for what this moment says: its nodes and flows are those of the moment
   pub record StandsOver (s : Store D) (now : Moment) : Type 0 where
@@ -101,3 +105,7 @@ module _ {D : Type 0} (state : D → State) (honest : D → Type 0) (store shard
   abbrev pub Reopens : (D → ℕ) → (D → ℕ → List ℕ → Type 0) → (NodeName → D × D) → Store D → Type 0
   Reopens moment left_since old new = (m : Machine) → RestsOver old m
       → (reopened : Reopened old m new) × StopsBetween moment left_since old new.devices m reopened.after.machine
+
+  -- a store that stands rests once it is closed, at the machine for which it stands
+  abbrev pub ClosedStoresRest : Type 0
+  ClosedStoresRest = (s : Store D) (now : Moment) → StandsOver s now → RestsOver s.devices now.machine

@@ -59,7 +59,7 @@ pub use reading_laws::{
     replies_select, shard_rows_show_snapshots,
 };
 pub use restart_laws::{
-    closed_stores_stand, openings_of_shards_are_steps,
+    closed_stores_rest, closed_stores_stand, openings_of_shards_are_steps,
     openings_of_the_coordinator_leave_the_store_standing,
     refused_openings_of_shards_leave_the_store_standing,
     refused_openings_of_the_coordinator_leave_the_store_standing,

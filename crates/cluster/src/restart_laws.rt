@@ -1,9 +1,11 @@
 // Laws of openings of the coordinator, of openings that are refused, and of stops within a step, each the clause of a function with an empty body.
 ghost use Rattle.std.specs.Prelude.{ℕ};
 ghost use Rattle.cluster.specs.ReopenLaws.{ClosedStoresStand};
+ghost use Rattle.cluster.specs.Stores.{ClosedStoresRest};
 ghost use Rattle.cluster.specs.RestartLaws.{CoordinatorOpeningsStand, RefusedCoordinatorsStand, RefusedShardsStand, ShardOpeningsRestart, StopsWithinSteps};
 
 use crate::contents::Leavings;
+use device::Device;
 
 /// An opening of the coordinator leaves the store standing for the machine cut to what was found, and is a step of a run.
 pub fn openings_of_the_coordinator_leave_the_store_standing<W: Leavings>()
@@ -33,4 +35,9 @@ pub fn closed_stores_stand<W: Leavings>()
 /// An opening of a shard is a step of a run.
 pub fn openings_of_shards_are_steps<W: Leavings>()
     ensures { (store shards : ℕ) → ShardOpeningsRestart store shards W.left W.left_after }
+{}
+
+/// A store that stands rests over its devices once it is closed.
+pub fn closed_stores_rest<D: Device>()
+    ensures { (store shards : ℕ) → ClosedStoresRest D.state D.honest store shards }
 {}

@@ -4,12 +4,13 @@ ghost use Rattle.records.specs.declared.record.Record.{Record};
 ghost use Rattle.cluster.specs.Nodes.{NodeName};
 
 use crate::{
-    Contents, Leavings, aborts_leave_the_store_standing, an_empty_store_rests, closed_stores_stand,
-    deciders_take_their_turn, decisions_leave_the_store_standing,
+    Contents, Leavings, aborts_leave_the_store_standing, an_empty_store_rests, closed_stores_rest,
+    closed_stores_stand, deciders_take_their_turn, decisions_leave_the_store_standing,
     failed_flushes_leave_the_store_standing, flushes_of_the_coordinator_leave_the_store_standing,
     openings_of_the_coordinator_leave_the_store_standing, replies_select,
     stops_within_a_step_leave_all_at_rest, tickets_are_refused_with_cause,
 };
+use device::SimDisk;
 
 struct Unmade;
 
@@ -38,6 +39,7 @@ fn the_laws_speak_of_a_store() {
     openings_of_the_coordinator_leave_the_store_standing::<Unmade>();
     stops_within_a_step_leave_all_at_rest::<Unmade>();
     closed_stores_stand::<Unmade>();
+    closed_stores_rest::<SimDisk>();
     deciders_take_their_turn::<Unmade>();
     aborts_leave_the_store_standing::<Unmade>();
     tickets_are_refused_with_cause::<Unmade>();
