@@ -1,5 +1,7 @@
 -- Whether a list has a tuple, and which shards there are.
-use Rattle.std.proofs.Common.{◌≡◌, ◌≤◌, ◌<◌, ℕ, true, List, sym, subst, get_or, arith, Decides, Contains}
+use Rattle.std.proofs.Common.{◌≡◌, ◌≤◌, ◌<◌, ◌+◌, ℕ, true, List, length, map, drop, sym, subst, get_or, arith, All, Decides, Contains}
+use Rattle.std.proofs.lemmas.List.{drop_more}
+use Rattle.std.proofs.lemmas.List.Elements.{All-cons}
 use Rattle.std.specs.Cmp.{IsEquivalence}
 use Rattle.std.proofs.lemmas.Cmp.{eq_by_cmp_equiv}
 use Rattle.std.proofs.lemmas.List.Folds.{Any-from_list_any}
@@ -29,3 +31,8 @@ has_tuple_decides t ts = (contained_from_has t ts, list_any-from_Contains tuple_
 pub shard_below : (shards : ℕ) (o : Object) → 1 ≤ shards → shard_of shards o < shards
 unfolding shard_of
 shard_below shards o some = omega arith
+
+-- what holds of an item and of all behind it holds of all from it on
+pub all_from_here : {A : Type 0} (P : Tuple → Type 0) (tuple_in : A → Tuple) (items : List A) (i : ℕ) (x : A) → i < length items → P (tuple_in (get_or items i x)) → All P (map tuple_in (drop (i + 1) items)) → All P (map tuple_in (drop i items))
+all_from_here P tuple_in items i x within here rest =
+    subst (λ l. All P (map tuple_in l)) (sym (drop_more items i x within)) (All-cons P (tuple_in (get_or items i x)) (map tuple_in (drop (i + 1) items)) here rest)

@@ -7,8 +7,8 @@ use Rattle.tuples.specs.Names.{IsName, IsId, is_name_byte, is_id_byte}
 use Rattle.tuples.specs.Parsing.{has_byte, Lacks, IsCut, SpellsNone, Refuses, own_text}
 use Rattle.tuples.specs.Texts.{IsObject, IsUserset, IsUser, IsTuple, object_text, userset_text, user_text, tuple_text}
 use Rattle.tuples.specs.declared.tuple.Tuple.{Tuple}
-use Rattle.tuples.specs.declared.refusal.Refusal.{Refusal}
-use Rattle.tuples.specs.declared.refusal.Refusal.TheVariants.{BadTuple}
+use Rattle.refusal.specs.declared.refusal.Refusal.{Refusal}
+use Rattle.refusal.specs.declared.refusal.Refusal.TheVariants.{BadTuple}
 use Rattle.tuples.specs.declared.object.Object.{Object}
 use Rattle.tuples.specs.declared.object.Userset.{Userset}
 use Rattle.tuples.specs.declared.user.User.TheVariants.{Id, Set}

@@ -5,6 +5,7 @@ use Rattle.tuples.specs.declared.tuple.Tuple.{Tuple}
 use Rattle.tuples.specs.declared.change.Change.{Change}
 use Rattle.tuples.specs.declared.change.Change.TheVariants.{Touch, Delete}
 use Rattle.tuples.specs.declared.change.Condition.{Condition}
+use Rattle.tuples.specs.Limits.{max_changes, max_conditions}
 use Rattle.tuples.specs.Order.{tuple_eq}
 use Rattle.tuples.specs.Texts.{IsTuple}
 
@@ -30,8 +31,8 @@ AreDistinct (t ∷ ts) = (has_tuple t ts ≡ false) × AreDistinct ts
 
 -- the changes and conditions of a write, or of one shard's part of it: none twice, within the limits, each tuple in its grammar
 pub record IsPart (changes : List Change) (conditions : List Condition) : Type 0 where
-  pub few_changes : length changes ≤ 64
-  pub few_conditions : length conditions ≤ 16
+  pub few_changes : length changes ≤ max_changes
+  pub few_conditions : length conditions ≤ max_conditions
   pub distinct_changes : AreDistinct (changed changes)
   pub distinct_conditions : AreDistinct (conditioned conditions)
   pub changes_spelled : All IsTuple (changed changes)

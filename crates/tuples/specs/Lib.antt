@@ -1,5 +1,5 @@
+pub mod Limits
 pub mod Names
-pub mod Refusals
 pub mod Order
 pub mod Texts
 pub mod Parsing

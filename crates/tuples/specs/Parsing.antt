@@ -1,8 +1,8 @@
 -- Texts that are cut at a mark, and what a parser answers.
 use Rattle.std.specs.Prelude.{◌≡◌, ◌⊎◌, ℕ, Bool, false, ◌==◌, List, ◌∷◌, ◌++◌, Result, Ok, Err}
 use Rattle.std.specs.List.{list_any}
-use Rattle.tuples.specs.declared.refusal.Refusal.{Refusal}
-use Rattle.tuples.specs.declared.refusal.Refusal.TheVariants.{BadTuple, NoMemory}
+use Rattle.refusal.specs.declared.refusal.Refusal.{Refusal}
+use Rattle.refusal.specs.declared.refusal.Refusal.TheVariants.{BadTuple, NoMemory}
 
 abbrev pub has_byte : ℕ → List ℕ → Bool
 has_byte mark = list_any (λ b. b == mark)

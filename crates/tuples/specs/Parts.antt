@@ -1,6 +1,7 @@
 -- The shard of an object, and a shard's part of a write.
-use Rattle.std.specs.Prelude.{◌+◌, ◌%◌, ℕ, Bool, not, ◌||◌, ◌==◌, sum, length, filter, Option, Some, None, if◌then◌else◌}
+use Rattle.std.specs.Prelude.{◌+◌, ◌%◌, ℕ, Bool, List, not, ◌||◌, ◌==◌, sum, length, filter, Option, Some, None, if◌then◌else◌}
 use Rattle.tuples.specs.declared.object.Object.{Object}
+use Rattle.tuples.specs.declared.tuple.Tuple.{Tuple}
 use Rattle.tuples.specs.declared.change.Change.{Change}
 use Rattle.tuples.specs.declared.change.Condition.{Condition}
 use Rattle.tuples.specs.declared.entry.Entry.{Entry}
@@ -12,12 +13,24 @@ use Rattle.tuples.specs.Writes.{WriteValue}
 unfoldable pub shard_of : ℕ → Object → ℕ
 shard_of shards o = (sum o.namespace + 58 + sum o.id) % shards
 
+-- the tuple's object has the shard
+abbrev pub is_of : ℕ → ℕ → Tuple → Bool
+is_of shards s t = shard_of shards t.object == s
+
+-- the changes whose objects have the shard, in order
+abbrev pub own_changes : ℕ → ℕ → List Change → List Change
+own_changes shards s = filter (λ (c : Change). is_of shards s (tuple_of c))
+
+-- the conditions whose objects have the shard, in order
+abbrev pub own_conditions : ℕ → ℕ → List Condition → List Condition
+own_conditions shards s = filter (λ (c : Condition). is_of shards s c.tuple)
+
 -- the changes and conditions of a write whose objects have the shard, in order
 unfoldable pub part : ℕ → ℕ → Entry → Entry
 part shards s w = record {
   id = w.id;
-  changes = filter (λ (c : Change). shard_of shards (tuple_of c).object == s) w.changes;
-  conditions = filter (λ (c : Condition). shard_of shards c.tuple.object == s) w.conditions;
+  changes = own_changes shards s w.changes;
+  conditions = own_conditions shards s w.conditions;
 }
 
 -- the shard takes part in the write

@@ -2,7 +2,7 @@
 //!
 //! Keeps: each name and id is in its grammar, and a `Write` names no tuple twice and is within its limits.
 //! Never: touches a device, or looks at more than the values that it is given.
-//! Callers rely on: `==` and `cmp` are those of the texts, and one refusal has one number and one name.
+//! Callers rely on: `==` and `cmp` are those of the texts.
 //!
 //! Start at `specs/Texts.antt`, the one text of each value, and `specs/Log.antt`, what a list of writes means.
 #![tactic(auto)]
@@ -16,8 +16,8 @@ mod limits;
 mod name;
 mod namespace;
 mod object;
+mod part;
 mod participants;
-mod refusal;
 mod relation;
 mod sharding;
 mod spell;
@@ -37,6 +37,7 @@ pub use laws::{a_text_is_of_one_tuple, a_text_is_of_one_tupleset, a_tuple_has_on
 pub use limits::{MAX_CHANGES, MAX_CONDITIONS, MAX_NUMBER, MAX_SHARDS};
 pub use namespace::Namespace;
 pub use object::{Object, Userset};
+pub use part::{PartChanges, PartConditions, ShardPart};
 pub use refusal::Refusal;
 pub use relation::Relation;
 pub use sharding::shard_of;

@@ -16,6 +16,14 @@ pub struct Object {
 }
 
 impl Object {
+    // Its parts are in their grammar, since their types keep that. It does nothing.
+    pub(crate) fn keeps_grammar(&self)
+        ensures { IsObject self.now }
+    {
+        let _namespace = self.namespace.as_bytes();
+        let _id = self.id.as_bytes();
+    }
+
     pub(crate) fn parse(alloc: Global, text: &[u8]) -> Result<Object, Refusal>
         ensures { Parses IsObject object_text text.now result }
     {
@@ -54,6 +62,14 @@ pub struct Userset {
 }
 
 impl Userset {
+    // Its parts are in their grammar, since their types keep that. It does nothing.
+    pub(crate) fn keeps_grammar(&self)
+        ensures { IsUserset self.now }
+    {
+        self.object.keeps_grammar();
+        let _relation = self.relation.as_bytes();
+    }
+
     pub(crate) fn parse(alloc: Global, text: &[u8]) -> Result<Userset, Refusal>
         ensures { Parses IsUserset userset_text text.now result }
     {

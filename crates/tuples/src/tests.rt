@@ -1,22 +1,12 @@
-// Texts, shards, the order, writes and refusals by examples.
-mod limits;
-mod marks;
+// Texts, the order and shards by tables.
 mod order;
-mod refusals;
-mod repeats;
 mod shards;
-mod tuple_texts;
-mod tupleset_texts;
-mod writes;
+mod texts;
 
-use crate::Tuple;
-use std::alloc::{AllocError, Global};
+use crate::{Refusal, Tuple};
+use std::alloc::Global;
 
-// 64 bytes
-const NAME: &str = "a23456789_b23456789_c23456789_d23456789_e23456789_f23456789_g234";
-
-fn spelled(alloc: Global, tuple: &Tuple) -> Result<Vec<u8>, AllocError> {
-    let mut text = Vec::new(alloc);
-    tuple.write_to(&mut text)?;
-    Ok(text)
+// Nothing is known of the tuple, so that the tests which use it are proved fast.
+fn parsed(alloc: Global, text: &str) -> Result<Tuple, Refusal> {
+    Tuple::parse(alloc, text.as_bytes())
 }

@@ -1,5 +1,5 @@
 // Relation tuples (Zanzibar, USENIX ATC 2019, section 2.1).
-ghost use Rattle.std.specs.Prelude.{◌≡◌, ◌⊎◌, ◌++◌, IfOk, IfErr, IsErrOf, OnOk, OnErr, length};
+ghost use Rattle.std.specs.Prelude.{◌≡◌, ◌⊎◌, ◌<◌, ◌+◌, ◌++◌, IfOk, IfErr, IsErrOf, OnOk, OnErr, length, vec_capacity, vec_len};
 ghost use Rattle.tuples.specs.declared.tuple.Tuple.{Tuple as AnyTuple};
 ghost use Rattle.tuples.specs.Order.{tuple_eq, tuple_lt};
 ghost use Rattle.tuples.specs.Texts.{IsTuple, tuple_text};
@@ -36,6 +36,15 @@ impl Tuple {
         self.cmp(other).is_lt()
     }
 
+    /// Each part of the tuple is in its grammar, since its type keeps that. It does nothing.
+    pub fn keeps_grammar(&self)
+        ensures { IsTuple self.now }
+    {
+        self.object.keeps_grammar();
+        let _relation = self.relation.as_bytes();
+        self.user.keeps_grammar();
+    }
+
     /// The tuple that the text spells; `BadTuple` where it spells none.
     pub fn parse(alloc: Global, text: &[u8]) -> Result<Tuple, Refusal>
         ensures ok { IfOk result (λ t. IsTuple t × (text.now ≡ tuple_text t)) }
@@ -55,10 +64,11 @@ impl Tuple {
         })
     }
 
-    /// Appends the text. Where memory is refused, nothing is written.
+    /// Appends the text. It is refused only where the vector had no room for all of it, and then nothing is written.
     pub fn write_to(&self, out: &mut Vec<u8>) -> Result<(), AllocError>
         ensures ok { OnOk result (out.new.items ≡ out.old.items ++ tuple_text self.now) }
         ensures err { OnErr result (out.new.items ≡ out.old.items) }
+        ensures memory { OnErr result (vec_capacity out.old < vec_len out.old + length (tuple_text self.now)) }
     {
         // With all the room there is before the first byte, a refusal leaves no part of the text.
         out.reserve(self.text_len())?;

@@ -15,6 +15,18 @@ pub enum User {
 }
 
 impl User {
+    // Its parts are in their grammar, since their types keep that. It does nothing.
+    pub(crate) fn keeps_grammar(&self)
+        ensures { IsUser self.now }
+    {
+        match self {
+            User::Id(id) => {
+                let _id = id.as_bytes();
+            }
+            User::Set(userset) => userset.keeps_grammar(),
+        }
+    }
+
     // A `:` stands in the text of each userset, and in no id.
     pub(crate) fn parse(alloc: Global, text: &[u8]) -> Result<User, Refusal>
         ensures { Parses IsUser user_text text.now result }

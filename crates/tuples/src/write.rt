@@ -1,6 +1,7 @@
 // Whole writes.
 ghost use Rattle.std.specs.Prelude.{◌≡◌, ◌≢◌, ◌≤◌, ◌<◌, ◌⊎◌, ◌↔◌, [], All, length, IfOk, IfErr, IsErrOf, IsTrue, ◌&&◌, drop};
 ghost use Rattle.tuples.specs.Changes.{AreDistinct, IsWrite, changed, conditioned, has_tuple};
+ghost use Rattle.tuples.specs.Limits.{max_changes, max_conditions};
 ghost use Rattle.tuples.specs.Texts.{IsTuple};
 
 use crate::{Change, Changes, Condition, Conditions, MAX_CHANGES, MAX_CONDITIONS, Refusal, Tuple};
@@ -28,11 +29,9 @@ impl Write {
     /// A write of these, which takes no memory. It is refused with `BadRequest` where there is no change, with `TooLarge`
     /// past a limit, and with `Repeated` where two changes or two conditions name one tuple, in this order.
     pub fn new(changes: Vec<Change>, conditions: Vec<Condition>) -> Result<Write, Refusal>
-        requires changes_spelled { All IsTuple (changed changes.items) }
-        requires conditions_spelled { All IsTuple (conditioned conditions.items) }
         ensures ok { IfOk result (λ w. (w.changes ≡ changes.items) × (w.conditions ≡ conditions.items)) }
         ensures none { IsErrOf result Refusal.BadRequest ↔ (changes.items ≡ []) }
-        ensures large { IsErrOf result Refusal.TooLarge ↔ ((changes.items ≢ []) × ((64 < length changes.items) ⊎ (16 < length conditions.items))) }
+        ensures large { IsErrOf result Refusal.TooLarge ↔ ((changes.items ≢ []) × ((max_changes < length changes.items) ⊎ (max_conditions < length conditions.items))) }
         ensures repeated { IsErrOf result Refusal.Repeated → (AreDistinct (changed changes.items) × AreDistinct (conditioned conditions.items)) → ⊥ }
         ensures err { IfErr result (λ e. (e ≡ Refusal.BadRequest) ⊎ ((e ≡ Refusal.TooLarge) ⊎ (e ≡ Refusal.Repeated))) }
     {
@@ -45,6 +44,8 @@ impl Write {
         if !are_changes_distinct(&changes) || !are_conditions_distinct(&conditions) {
             return Err(Refusal::Repeated);
         }
+        keep_changes_grammar(&changes);
+        keep_conditions_grammar(&conditions);
         Ok(Write {
             changes: Changes::from_vec(changes),
             conditions: Conditions::from_vec(conditions),
@@ -89,6 +90,23 @@ impl Change {
             Change::Touch(tuple) => tuple,
             Change::Delete(tuple) => tuple,
         }
+    }
+}
+
+// Each tuple is in its grammar, since its type keeps that. It does nothing.
+fn keep_changes_grammar(changes: &[Change])
+    ensures { All IsTuple (changed changes.now) }
+{
+    for change in changes {
+        change.tuple().keeps_grammar();
+    }
+}
+
+fn keep_conditions_grammar(conditions: &[Condition])
+    ensures { All IsTuple (conditioned conditions.now) }
+{
+    for condition in conditions {
+        condition.tuple.keeps_grammar();
     }
 }
 

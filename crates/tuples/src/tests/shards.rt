@@ -1,8 +1,20 @@
-// Shards of objects, and the shards that take part in a write.
-use crate::tests::writes::{changes_of, conditions_of};
-use crate::{Object, Write, shard_of};
+// The shards of objects.
+ghost use Rattle.std.specs.Prelude.{◌≤◌};
+ghost use Rattle.tuples.specs.Limits.{max_shards};
+
+use crate::{Object, Refusal, shard_of};
+use std::alloc::Global;
 use std::test::Fail;
 
+fn shard_of_text(alloc: Global, text: &str, shards: u8) -> Result<u8, Refusal>
+    requires some { 1 ≤ shards }
+    requires few { shards ≤ max_shards }
+{
+    let object = Object::parse(alloc, text.as_bytes())?;
+    Ok(shard_of(&object, shards))
+}
+
+// The sums of the bytes: `doc:O` 447, `doc:a` 465, `doc:b` 466, `group:g` 718, `group:h` 719.
 #[test]
 fn the_shard_is_the_sum_of_the_bytes_modulo_the_shards(rt: HostRuntime) -> Result<(), Fail> {
     let rows = [
@@ -13,43 +25,12 @@ fn the_shard_is_the_sum_of_the_bytes_modulo_the_shards(rt: HostRuntime) -> Resul
         ("doc:a", 3, 0),
         ("doc:a", 1, 0),
         ("doc:a", 64, 17),
+        ("doc:O", 64, 63),
     ];
     for (text, shards, want) in rows {
-        let object = Object::parse(rt.alloc(), text.as_bytes())?;
         prove!(shards >= 1 && shards <= 64);
-        assert_eq!(rt; shard_of(&object, shards), want, "{text} of {shards}");
-    }
-    Ok(())
-}
-
-// The sums of the bytes: `doc:O` 447, `doc:a` 465, `doc:b` 466, `group:g` 718, `group:h` 719.
-#[test]
-fn a_shard_takes_part_by_a_change_or_a_condition(rt: HostRuntime) -> Result<(), Fail> {
-    let alloc = rt.alloc();
-    let rows = [
-        ("+doc:a#v@u", "", 1, 0b1),
-        ("+doc:a#v@u", "", 2, 0b10),
-        ("-doc:b#v@u", "", 2, 0b01),
-        ("+doc:a#v@u -doc:b#v@u", "", 2, 0b11),
-        ("+doc:a#v@u +doc:a#w@u", "", 2, 0b10),
-        ("+doc:a#v@u", "doc:b#v@u", 2, 0b11),
-        ("+doc:a#v@u", "doc:a#v@u group:h#v@u", 2, 0b10),
-        ("+doc:a#v@u", "group:g#v@u", 3, 0b011),
-        ("+doc:a#v@u", "group:h#v@u", 3, 0b101),
-        ("+doc:a#v@u", "doc:b#v@u", 64, 0b11 << 17),
-        ("+doc:O#v@u", "", 64, 1 << 63),
-    ];
-    for (changes, conditions, shards, want) in rows {
-        let write = Write::new(
-            changes_of(alloc, changes)?,
-            conditions_of(alloc, conditions)?,
-        )?;
-        prove!(shards >= 1 && shards <= 64);
-        assert_eq!(rt;
-            write.participants(shards),
-            want,
-            "{changes} {conditions} {shards}"
-        );
+        let shard = shard_of_text(rt.alloc(), text, shards)?;
+        assert!(rt; shard == want, "{text} of {shards}");
     }
     Ok(())
 }

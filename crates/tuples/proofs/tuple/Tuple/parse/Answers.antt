@@ -1,7 +1,7 @@
 use Rattle.std.proofs.Common.{◌≡◌, sym, ◌∙◌}
 use Rattle.std.proofs.lemmas.Result.{err_from_is_err_and}
 use Rattle.tuples.specs.Texts.{IsUserset, IsUser, userset_text, user_text}
-use Rattle.tuples.specs.declared.refusal.Refusal.TheVariants.{BadTuple}
+use Rattle.refusal.specs.declared.refusal.Refusal.TheVariants.{BadTuple}
 use Rattle.tuples.proofs.Spelling.{spells_none, tuple_by_front, tuple_by_user}
 use Rattle.tuples.proofs.tuple.Tuple.parse.Goals as goal
 

@@ -2,8 +2,8 @@ use Rattle.std.proofs.Common.{◌≡◌, sym, ◌∙◌, ap, Err}
 use Rattle.std.proofs.lemmas.Result.{err_from_is_err_and}
 use Rattle.tuples.specs.Parsing.{has_byte}
 use Rattle.std.proofs.Common.{true}
-use Rattle.tuples.specs.declared.refusal.Refusal.{Refusal}
-use Rattle.tuples.specs.declared.refusal.Refusal.TheVariants.{BadTuple}
+use Rattle.refusal.specs.declared.refusal.Refusal.{Refusal}
+use Rattle.refusal.specs.declared.refusal.Refusal.TheVariants.{BadTuple}
 use Rattle.tuples.proofs.Selecting.{key_by_tuple}
 use Rattle.tuples.proofs.tupleset.Tupleset.parse.Goals as goal
 

@@ -1,0 +1,6 @@
+use Rattle.std.proofs.Common.{◌≡◌, ◌↔◌}
+use Rattle.tuples.proofs.part.are_conditions.Given as goal
+
+-- they are the same if what is left of them is
+abbrev pub invariant-loop-own : goal.invariant-loop-own
+invariant-loop-own l = (l.fn.conditions ≡ l.fn.part) ↔ (l.rest ≡ l.own-iterator)
