@@ -5,7 +5,7 @@ use Rattle.std.proofs.lemmas.List.{length-take, length-drop, length-replicate, t
 use Rattle.std.proofs.lemmas.Slice.{between_is, between_to_end}
 use Rattle.std.specs.List.{slice_range}
 use Rattle.device.specs.Device.{Leaves, Untouched, reach, patched, Elapses}
-use Rattle.device.specs.Sim.{Image, settled, overwritten, filled, found, after, run, replay, CouldLeave, NoneLonger, LeftSince, HasMade}
+use Rattle.device.specs.Sim.{Image, all_durable, overwritten, filled, found, after, run, replay, CouldLeave, NoneLonger, LeftSince, HasMade}
 use Rattle.device.specs.Unsynced.{rewritten, ranges, unsynced, IsWrite, IsReplayed}
 use Rattle.device.specs.declared.tear.Tear.{Tear}
 use Rattle.device.specs.declared.tear.Tear.TheVariants.{Old, New, Fill}
@@ -21,7 +21,7 @@ run_push m (c ∷ calls) call = run_push (after c m) calls call
 pub made_image : (first was : List ℕ) (calls more : List Call) (step : Image → Image) → first ≡ was → HasMade calls step more → replay first more ≡ step (replay was calls)
 made_image first was calls more step same made =
     ap (λ (l : List Call). replay first l) made.2
-    ∙ run_push (settled first) calls made.0
+    ∙ run_push (all_durable first) calls made.0
     ∙ made.1 (replay first calls)
     ∙ ap (λ (f : List ℕ). step (replay f calls)) same
 
@@ -105,7 +105,7 @@ run_readable m (call ∷ calls) leaves = run_readable (after call m) calls (afte
 
 -- what reads is one of the contents that a stop may leave
 pub replay_readable : (first : List ℕ) (calls : List Call) → CouldLeave first calls (replay first calls).seen
-replay_readable first calls = run_readable (settled first) calls (leaves_itself first)
+replay_readable first calls = run_readable (all_durable first) calls (leaves_itself first)
 
 elapses_push : (first : List ℕ) (calls : List Call) (call : Call)
     → Elapses (length calls) (length (calls ++ call ∷ [])) (LeftSince first calls) (LeftSince first (calls ++ call ∷ [])) (CouldLeave first (calls ++ call ∷ []))
@@ -134,7 +134,7 @@ made_elapses first was calls more step same made =
 -- what reads after a call that was kept, or not for want of memory
 pub kept_reads : (first : List ℕ) (calls more : List Call) (call : Call) (seen : List ℕ) (ok : Bool) → more ≡ cond ok (calls ++ call ∷ []) calls
     → (ok ≡ true → seen ≡ (after call (replay first calls)).seen) → (ok ≡ false → seen ≡ (replay first calls).seen) → seen ≡ (replay first more).seen
-kept_reads first calls more call seen true is new old = new refl ∙ sym (ap (λ (l : List Call). (replay first l).seen) is ∙ ap (λ (m : Image). m.seen) (run_push (settled first) calls call))
+kept_reads first calls more call seen true is new old = new refl ∙ sym (ap (λ (l : List Call). (replay first l).seen) is ∙ ap (λ (m : Image). m.seen) (run_push (all_durable first) calls call))
 kept_reads first calls more call seen false is new old = old refl ∙ sym (ap (λ (l : List Call). (replay first l).seen) is)
 
 -- what reads after a write that was kept
@@ -172,7 +172,7 @@ replayed_write first content calls since i call lt is writes replayed = record {
   within = omega (arith, replayed.within);
   image =
       ap (λ (l : List Call). replay first l) next
-      ∙ run_push (settled first) (take i calls) call
+      ∙ run_push (all_durable first) (take i calls) call
       ∙ ap (λ (m : Image). after call m) replayed.image
       ∙ unsynced_push content (drop since (take i calls)) call writes
       ∙ ap (λ (l : List Call). unsynced content l) (sym (drop-append-le since (take i calls) (call ∷ []) (omega (arith, length-take i calls, replayed.within))))
@@ -182,18 +182,18 @@ replayed_write first content calls since i call lt is writes replayed = record {
     next : take (i + 1) calls ≡ take i calls ++ call ∷ []
     next = take_more calls i call lt ∙ ap (λ (c : Call). take i calls ++ c ∷ []) (sym is)
 
--- and at one that settles
-pub replayed_settled : (first content now : List ℕ) (calls : List Call) (since i : ℕ) (call : Call) (tear : Tear) → i < length calls → call ≡ get_or calls i call → ((m : Image) → after call m ≡ settled (found tear m))
+-- and at one that makes all durable
+pub replayed_durable : (first content now : List ℕ) (calls : List Call) (since i : ℕ) (call : Call) (tear : Tear) → i < length calls → call ≡ get_or calls i call → ((m : Image) → after call m ≡ all_durable (found tear m))
     → now ≡ found tear (unsynced content (slice_range calls since i)) → IsReplayed first calls content since i → IsReplayed first calls now (i + 1) (i + 1)
-replayed_settled first content now calls since i call tear lt is settles finds replayed = record {
+replayed_durable first content now calls since i call tear lt is makes finds replayed = record {
   within = omega arith;
   image =
       ap (λ (l : List Call). replay first l) next
-      ∙ run_push (settled first) (take i calls) call
+      ∙ run_push (all_durable first) (take i calls) call
       ∙ ap (λ (m : Image). after call m) replayed.image
-      ∙ settles (unsynced content (drop since (take i calls)))
-      ∙ ap (λ (l : List Call). settled (found tear (unsynced content l))) (sym (between_is calls since i))
-      ∙ ap (λ (s : List ℕ). settled s) (sym finds)
+      ∙ makes (unsynced content (drop since (take i calls)))
+      ∙ ap (λ (l : List Call). all_durable (found tear (unsynced content l))) (sym (between_is calls since i))
+      ∙ ap (λ (s : List ℕ). all_durable s) (sym finds)
       ∙ ap (λ (l : List Call). unsynced now l) (sym (drop_all (i + 1) (take (i + 1) calls) (omega (arith, length-take (i + 1) calls))));
 }
   where
@@ -221,7 +221,7 @@ reads_left_by first seen calls reads = subst (λ (s : List ℕ). CouldLeave firs
 pub kept_longest : (first : List ℕ) (calls more : List Call) (call : Call) (seen : List ℕ) (ok : Bool) → more ≡ cond ok (calls ++ call ∷ []) calls
     → (ok ≡ true → reach (after call (replay first calls)).written (length (after call (replay first calls)).durable) ≤ length seen) → (ok ≡ false → NoneLonger first calls seen) → NoneLonger first more seen
 kept_longest first calls more call seen true is new old =
-    subst (λ (m : Image). reach m.written (length m.durable) ≤ length seen) (sym (run_push (settled first) calls call) ∙ sym (ap (λ (l : List Call). replay first l) is)) (new refl)
+    subst (λ (m : Image). reach m.written (length m.durable) ≤ length seen) (sym (run_push (all_durable first) calls call) ∙ sym (ap (λ (l : List Call). replay first l) is)) (new refl)
 kept_longest first calls more call seen false is new old = subst (λ (l : List Call). NoneLonger first l seen) (sym is) (old refl)
 
 -- nor after a write that begins inside what reads

@@ -1,4 +1,4 @@
--- What a disk in memory holds after its calls.
+-- What a disk in memory has after its calls.
 use Rattle.std.specs.Prelude.{◌≡◌, ◌≤◌, ℕ, List, [], ◌∷◌, ◌++◌, length, take, replicate}
 use Rattle.device.specs.Device.{Leaves, reach, patched}
 use Rattle.device.specs.declared.tear.Tear.{Tear}
@@ -13,8 +13,8 @@ pub record Image : Type 0 where
   pub written : List (ℕ × ℕ)
 
 -- all that is there is durable
-abbrev pub settled : List ℕ → Image
-settled content = record { seen = content; durable = content; written = [] }
+abbrev pub all_durable : List ℕ → Image
+all_durable content = record { seen = content; durable = content; written = [] }
 
 -- one write more
 abbrev pub overwritten : ℕ → List ℕ → Image → Image
@@ -33,8 +33,8 @@ found (Fill byte) m = filled byte m.written m.seen
 
 abbrev pub after : Call → Image → Image
 after (Write at bytes) m = overwritten at bytes.items m
-after Sync m = settled m.seen
-after (Revive tear) m = settled (found tear m)
+after Sync m = all_durable m.seen
+after (Revive tear) m = all_durable (found tear m)
 
 -- the calls one after another
 abbrev pub run : Image → List Call → Image
@@ -43,7 +43,7 @@ run m (call ∷ calls) = run (after call m) calls
 
 -- what there is after these calls on a disk with this durable content
 abbrev pub replay : List ℕ → List Call → Image
-replay first calls = run (settled first) calls
+replay first calls = run (all_durable first) calls
 
 -- a stop after these calls may leave this content
 abbrev pub CouldLeave : List ℕ → List Call → List ℕ → Type 0

@@ -1,4 +1,4 @@
--- What a loop over the calls of a disk in memory holds: the durable content, and what was written since.
+-- What a loop over the calls of a disk in memory has: the durable content, and what was written since.
 use Rattle.std.specs.Prelude.{◌≡◌, ◌≤◌, ℕ, List, [], ◌∷◌, length, take, drop}
 use Rattle.device.specs.Device.{patched}
 use Rattle.device.specs.Sim.{Image, replay}

@@ -1,5 +1,6 @@
 // A device: bytes that are durable once they are synced.
 ghost use Rattle.std.specs.Prelude.{◌≡◌, ◌≤◌, ◌+◌, ◌<◌, ◌↔◌, List, ℕ, length, take, drop, false, true, OnOk, OnErr, IfOk, IsErr};
+ghost use Rattle.device.specs.declared.tear.Tear.{Tear as AnyTear};
 ghost use Rattle.device.specs.Device.{State, left, reach, Wrote, Tore, Synced, Keeps, Revived, Failed, Elapses};
 
 use crate::Tear;
@@ -10,7 +11,7 @@ pub struct Stopped;
 
 /// What stands for everything that is durable: bytes that a stop leaves as of the last sync, but for the ranges written since.
 ///
-/// Between two syncs each written range, and the part past the old end, may hold any bytes after a stop, and the length may
+/// Between two syncs each written range, and the part past the old end, may have any bytes after a stop, and the length may
 /// lie anywhere between the old and the new. After an error the device answers only errors until `revive`.
 pub trait Device: Drop {
     /// What is stored, and what has failed.
@@ -25,12 +26,17 @@ pub trait Device: Drop {
     /// What a stop at some moment from that one on may leave, during a call or between two.
     ghost left_since: { Self → ℕ → List ℕ → Type 0 };
 
+    /// It is set to fail at the n-th call from now on (from 1) among `len`, `read_at`, `write_at` and `sync`, and what the
+    /// tear says is found then. A device that has no scripts, as a file, takes it as always true.
+    ghost set_to_fail: { Self → ℕ → AnyTear → Type 0 };
+
     /// How many bytes there are.
     fn len(&mut self) -> Result<usize, Stopped>
         ensures honest { honest self.old ↔ honest self.new }
         ensures len { honest self.old → IfOk result (λ n. (n ≡ length (state self.old).seen) × ((state self.new).stopped ≡ false)) }
         ensures keeps { honest self.old → Keeps (state self.old) (state self.new) }
         ensures counts { (state self.old).failures ≤ (state self.new).failures }
+        ensures none { OnOk result ((state self.new).failures ≡ (state self.old).failures) }
         ensures err { OnErr result (Failed (state self.old) (state self.new)) }
         ensures down { (state self.old).stopped ≡ true → IsErr result × (honest self.old → Keeps (state self.old) (state self.new)) }
         ensures time { honest self.old → Elapses (moment self.old) (moment self.new) (left_since self.old) (left_since self.new) (left (state self.new)) };
@@ -42,6 +48,7 @@ pub trait Device: Drop {
         ensures bytes { honest self.old → OnOk result ((buf.new ≡ take (length buf.old) (drop at (state self.old).seen)) × ((state self.new).stopped ≡ false)) }
         ensures keeps { honest self.old → Keeps (state self.old) (state self.new) }
         ensures counts { (state self.old).failures ≤ (state self.new).failures }
+        ensures none { OnOk result ((state self.new).failures ≡ (state self.old).failures) }
         ensures err { OnErr result (Failed (state self.old) (state self.new)) }
         ensures down { (state self.old).stopped ≡ true → IsErr result × (honest self.old → Keeps (state self.old) (state self.new)) }
         ensures time { honest self.old → Elapses (moment self.old) (moment self.new) (left_since self.old) (left_since self.new) (left (state self.new)) };
@@ -53,6 +60,7 @@ pub trait Device: Drop {
         ensures ok { honest self.old → OnOk result (Wrote (state self.old) at bytes.now (state self.new)) }
         ensures torn { honest self.old → OnErr result (Tore (state self.old) at (length bytes.now) (state self.new)) }
         ensures counts { (state self.old).failures ≤ (state self.new).failures }
+        ensures none { OnOk result ((state self.new).failures ≡ (state self.old).failures) }
         ensures err { OnErr result (Failed (state self.old) (state self.new)) }
         ensures down { (state self.old).stopped ≡ true → IsErr result × (honest self.old → Keeps (state self.old) (state self.new)) }
         ensures time { honest self.old → Elapses (moment self.old) (moment self.new) (left_since self.old) (left_since self.new) (left (state self.new)) };
@@ -63,6 +71,7 @@ pub trait Device: Drop {
         ensures ok { honest self.old → OnOk result (Synced (state self.old) (state self.new)) }
         ensures keeps { honest self.old → OnErr result (Keeps (state self.old) (state self.new)) }
         ensures counts { (state self.old).failures ≤ (state self.new).failures }
+        ensures none { OnOk result ((state self.new).failures ≡ (state self.old).failures) }
         ensures err { OnErr result (Failed (state self.old) (state self.new)) }
         ensures down { (state self.old).stopped ≡ true → IsErr result × (honest self.old → Keeps (state self.old) (state self.new)) }
         ensures time { honest self.old → Elapses (moment self.old) (moment self.new) (left_since self.old) (left_since self.new) (left (state self.new)) };
@@ -73,6 +82,7 @@ pub trait Device: Drop {
         ensures ok { honest self.old → OnOk result (Revived (state self.old) (state self.new)) }
         ensures keeps { honest self.old → OnErr result (Keeps (state self.old) (state self.new)) }
         ensures counts { (state self.old).failures ≤ (state self.new).failures }
+        ensures none { OnOk result ((state self.new).failures ≡ (state self.old).failures) }
         ensures err { OnErr result (Failed (state self.old) (state self.new)) }
         ensures time { honest self.old → Elapses (moment self.old) (moment self.new) (left_since self.old) (left_since self.new) (left (state self.new)) };
 
@@ -80,9 +90,9 @@ pub trait Device: Drop {
     fn failures(&self) -> u64
         ensures { result ≡ (state self.now).failures };
 
-    /// Sets a script and changes nothing else: the n-th call from now (from 1) among `len`, `read_at`, `write_at` and `sync`
-    /// fails, and the `revive` after it leaves what the tear says. A device that has no scripts keeps none.
+    /// Sets a script in place of the one that there was, and changes nothing else.
     fn fail(&mut self, n: u64, tear: Tear)
+        ensures set { set_to_fail self.new n tear }
         ensures honest { honest self.old ↔ honest self.new }
         ensures keeps { honest self.old → Keeps (state self.old) (state self.new) }
         ensures same { ((state self.new).failures ≡ (state self.old).failures) × ((state self.new).stopped ≡ (state self.old).stopped) }

@@ -11,8 +11,8 @@
 mod call;
 mod content;
 mod device;
+mod durable;
 mod faults;
-mod replay;
 mod sim_device;
 mod sim_disk;
 mod tear;

@@ -1,12 +1,14 @@
 // A disk in memory, which keeps the list of its calls.
-ghost use Rattle.std.specs.Prelude.{◌≡◌, ◌≤◌, ◌+◌, List, ℕ, length, take, drop, OnOk, OnErr, IfOk};
+ghost use Rattle.std.specs.Prelude.{◌≡◌, ◌≤◌, ◌+◌, List, ℕ, length, take, drop, OnOk, OnErr, IfOk, None};
 ghost use Rattle.device.specs.Device.{patched, left};
-ghost use Rattle.device.specs.Sim.{replay, settled, overwritten, found, HasMade, CouldLeave, NoneLonger};
+ghost use Rattle.device.specs.Faults.{or_old};
+ghost use Rattle.device.specs.Sim.{replay, all_durable, overwritten, found, HasMade, CouldLeave, NoneLonger};
 
+use crate::Tear;
 use crate::call::Call;
 use crate::content::{find, patch};
+use crate::durable::durable_after;
 use crate::faults::Faults;
-use crate::replay::durable;
 use std::alloc::{AllocError, Global};
 
 /// A disk in memory, of which a script says when it fails and what is found then.
@@ -28,13 +30,14 @@ pub struct SimDisk {
 }
 
 impl SimDisk {
-    ghost use Rattle.device.specs.Disk.{state_of, calls_of, IsFresh};
+    ghost use Rattle.device.specs.Disk.{state_of, calls_of, script_of, tear_of, IsFresh};
 
     /// A disk with this durable content, on which no call was made.
     pub fn new(alloc: Global, content: Vec<u8>) -> Result<SimDisk, AllocError>
         ensures fresh { IfOk result (λ d. IsFresh content.items (state_of d)) }
         ensures only { IfOk result (λ d. (c : List ℕ) → left (state_of d) c → c ≡ content.items) }
         ensures calls { IfOk result (λ d. calls_of d ≡ 0) }
+        ensures script { IfOk result (λ d. (script_of d ≡ None) × (tear_of d ≡ None)) }
     {
         Ok(SimDisk {
             alloc,
@@ -59,8 +62,7 @@ impl SimDisk {
         ensures seen { OnOk result (self.new.seen.items ≡ patched self.old.seen.items at bytes.now) }
         ensures made { OnOk result (HasMade self.old.history.items (overwritten at bytes.now) self.new.history.items) }
         ensures err { OnErr result ((self.new.history.items ≡ self.old.history.items) × (self.new.seen.items ≡ self.old.seen.items)) }
-        ensures stopped { self.new.faults.stopped ≡ self.old.faults.stopped }
-        ensures failures { self.new.faults.failures ≡ self.old.faults.failures }
+        ensures faults { self.new.faults ≡ self.old.faults }
     {
         let kept = bytes.to_vec(self.alloc)?;
         // After this the push can't fail, so the two changes come together.
@@ -71,13 +73,12 @@ impl SimDisk {
     }
 
     // From now on a stop leaves what reads.
-    pub(crate) fn settle(&mut self) -> Result<(), AllocError>
+    pub(crate) fn keep_sync(&mut self) -> Result<(), AllocError>
         ensures first { self.new.first.items ≡ self.old.first.items }
         ensures seen { self.new.seen.items ≡ self.old.seen.items }
-        ensures made { OnOk result (HasMade self.old.history.items (λ m. settled m.seen) self.new.history.items) }
+        ensures made { OnOk result (HasMade self.old.history.items (λ m. all_durable m.seen) self.new.history.items) }
         ensures err { OnErr result (self.new.history.items ≡ self.old.history.items) }
-        ensures stopped { self.new.faults.stopped ≡ self.old.faults.stopped }
-        ensures failures { self.new.faults.failures ≡ self.old.faults.failures }
+        ensures faults { self.new.faults ≡ self.old.faults }
     {
         self.history.push(Call::Sync)?;
         Ok(())
@@ -86,14 +87,13 @@ impl SimDisk {
     // What the tear says is found, and durable. Where memory runs out, nothing has changed.
     pub(crate) fn restore(&mut self) -> Result<(), AllocError>
         ensures first { self.new.first.items ≡ self.old.first.items }
-        ensures seen { OnOk result (self.new.seen.items ≡ found self.old.faults.tear (replay self.old.first.items self.old.history.items)) }
-        ensures made { OnOk result (HasMade self.old.history.items (λ m. settled (found self.old.faults.tear m)) self.new.history.items) }
+        ensures seen { OnOk result (self.new.seen.items ≡ found (or_old self.old.faults.tear) (replay self.old.first.items self.old.history.items)) }
+        ensures made { OnOk result (HasMade self.old.history.items (λ m. all_durable (found (or_old self.old.faults.tear) m)) self.new.history.items) }
         ensures err { OnErr result ((self.new.history.items ≡ self.old.history.items) × (self.new.seen.items ≡ self.old.seen.items)) }
-        ensures stopped { self.new.faults.stopped ≡ self.old.faults.stopped }
-        ensures failures { self.new.faults.failures ≡ self.old.faults.failures }
+        ensures faults { self.new.faults ≡ self.old.faults }
     {
-        let tear = self.faults.tear;
-        let (mut content, since) = durable(self.alloc, &self.first, &self.history)?;
+        let tear = self.faults.tear.unwrap_or(Tear::Old);
+        let (mut content, since) = durable_after(self.alloc, &self.first, &self.history)?;
         find(self.alloc, &mut content, &self.history[since..], tear)?;
         self.history.push(Call::Revive(tear))?;
         self.seen = content;

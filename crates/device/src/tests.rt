@@ -3,14 +3,13 @@ use crate::{Device, SimDisk, Stopped, Tear};
 use std::alloc::Global;
 use std::test::Fail;
 
-fn four_bytes(alloc: Global) -> Result<SimDisk, Fail> {
-    Ok(SimDisk::new(alloc, vec![in alloc; 1, 2, 3, 4]?)?)
-}
-
-fn content(alloc: Global, disk: &mut SimDisk) -> Result<Vec<u8>, Fail> {
-    let mut bytes = vec![in alloc; 0; disk.len()?]?;
-    disk.read_at(0, &mut bytes)?;
-    Ok(bytes)
+/// What is done to a disk of the bytes 1, 2, 3 and 4.
+#[derive(Drop)]
+enum Step {
+    Write(usize, [u8; 2]),
+    Sync,
+    Revive,
+    Fail(u64, Tear),
 }
 
 fn write(disk: &mut SimDisk, at: usize, bytes: &[u8]) -> Result<(), Stopped> {
@@ -20,127 +19,80 @@ fn write(disk: &mut SimDisk, at: usize, bytes: &[u8]) -> Result<(), Stopped> {
     disk.write_at(at, bytes)
 }
 
-/// What is found after a write past the end whose sync failed.
-fn found_after_a_failed_sync(alloc: Global, tear: Tear) -> Result<Vec<u8>, Fail> {
-    let mut disk = four_bytes(alloc)?;
-    write(&mut disk, 2, &[9, 9, 9])?;
-    disk.fail(1, tear);
-    if disk.sync().is_ok() {
-        return Err("the script failed no call".into());
+/// What it reads as after these steps, how many calls it has counted, and how many failed.
+fn after(alloc: Global, steps: &[Step]) -> Result<(Vec<u8>, u64, u64), Fail> {
+    let mut disk = SimDisk::new(alloc, vec![in alloc; 1, 2, 3, 4]?)?;
+    for step in steps {
+        // Whether it failed is told by what is counted.
+        let _ = match step {
+            Step::Write(at, bytes) => write(&mut disk, *at, bytes),
+            Step::Sync => disk.sync(),
+            Step::Revive => disk.revive(),
+            Step::Fail(n, tear) => {
+                disk.fail(*n, *tear);
+                Ok(())
+            }
+        };
     }
-    disk.revive()?;
-    content(alloc, &mut disk)
+    let (calls, failures) = (disk.calls(), disk.failures());
+    let mut bytes = vec![in alloc; 0; disk.len()?]?;
+    disk.read_at(0, &mut bytes)?;
+    Ok((bytes, calls, failures))
+}
+
+/// Two writes, of which the second is struck, or the sync after them.
+fn struck(n: u64, tear: Tear) -> [Step; 5] {
+    [
+        Step::Fail(n, tear),
+        Step::Write(0, [5, 5]),
+        Step::Write(3, [6, 6]),
+        Step::Sync,
+        Step::Revive,
+    ]
 }
 
 #[test]
-fn a_write_is_lost_or_kept_or_filled_after_a_failed_sync(rt: HostRuntime) -> Result<(), Fail> {
-    let alloc = rt.alloc();
-    assert_eq!(rt;
-        found_after_a_failed_sync(alloc, Tear::Old)?.as_slice(),
-        [1, 2, 3, 4].as_slice()
-    );
-    assert_eq!(rt;
-        found_after_a_failed_sync(alloc, Tear::New)?.as_slice(),
-        [1, 2, 9, 9, 9].as_slice()
-    );
-    assert_eq!(rt;
-        found_after_a_failed_sync(alloc, Tear::Fill(7))?.as_slice(),
-        [1, 2, 7, 7, 7].as_slice()
-    );
-    Ok(())
-}
-
-/// What is found after two writes, of which the second failed.
-fn found_after_a_failed_write(alloc: Global, tear: Tear) -> Result<Vec<u8>, Fail> {
-    let mut disk = four_bytes(alloc)?;
-    disk.fail(2, tear);
-    write(&mut disk, 0, &[5])?;
-    if write(&mut disk, 3, &[6, 6]).is_ok() {
-        return Err("the script failed no call".into());
+fn a_struck_call_leaves_what_its_script_says(rt: HostRuntime) -> Result<(), Fail> {
+    for (n, tear, found, failures) in [
+        (2, Tear::Old, [1, 2, 3, 4].as_slice(), 2),
+        (2, Tear::New, [5, 5, 3, 6, 6].as_slice(), 2),
+        (2, Tear::Fill(7), [7, 7, 3, 7, 7].as_slice(), 2),
+        (3, Tear::Old, [1, 2, 3, 4].as_slice(), 1),
+        (3, Tear::New, [5, 5, 3, 6, 6].as_slice(), 1),
+        (3, Tear::Fill(7), [7, 7, 3, 7, 7].as_slice(), 1),
+        // What was synced is neither lost nor filled.
+        (6, Tear::Fill(7), [5, 5, 3, 6, 6].as_slice(), 0),
+    ] {
+        let (bytes, calls, failed) = after(rt.alloc(), &struck(n, tear))?;
+        assert_eq!(rt;
+            (bytes.as_slice(), calls, failed),
+            (found, 3, failures),
+            "{n} {tear:?}"
+        );
     }
-    disk.revive()?;
-    content(alloc, &mut disk)
-}
-
-#[test]
-fn the_write_that_failed_is_kept_and_filled_like_the_others(rt: HostRuntime) -> Result<(), Fail> {
-    let alloc = rt.alloc();
-    assert_eq!(rt;
-        found_after_a_failed_write(alloc, Tear::Old)?.as_slice(),
-        [1, 2, 3, 4].as_slice()
-    );
-    assert_eq!(rt;
-        found_after_a_failed_write(alloc, Tear::New)?.as_slice(),
-        [5, 2, 3, 6, 6].as_slice()
-    );
-    assert_eq!(rt;
-        found_after_a_failed_write(alloc, Tear::Fill(7))?.as_slice(),
-        [7, 2, 3, 7, 7].as_slice()
-    );
     Ok(())
 }
 
 #[test]
-fn what_was_synced_or_revived_is_neither_lost_nor_filled(rt: HostRuntime) -> Result<(), Fail> {
-    let alloc = rt.alloc();
-    let mut disk = four_bytes(alloc)?;
-    write(&mut disk, 0, &[9])?;
-    disk.sync()?;
-    write(&mut disk, 1, &[8])?;
-    disk.fail(1, Tear::Fill(7));
-    assert!(rt; disk.sync().is_err());
-    disk.revive()?;
+fn a_script_waits_while_the_device_is_stopped(rt: HostRuntime) -> Result<(), Fail> {
+    let steps = [
+        Step::Fail(1, Tear::Old),
+        Step::Sync,
+        Step::Fail(2, Tear::New),
+        Step::Sync,
+        Step::Revive,
+        Step::Sync,
+        Step::Revive,
+        Step::Write(0, [9, 9]),
+        Step::Revive,
+        // Without a failure, what was not synced is lost.
+        Step::Write(2, [8, 8]),
+        Step::Revive,
+    ];
+    let (bytes, calls, failures) = after(rt.alloc(), &steps)?;
     assert_eq!(rt;
-        content(alloc, &mut disk)?.as_slice(),
-        [9, 7, 3, 4].as_slice()
-    );
-    write(&mut disk, 2, &[6])?;
-    disk.revive()?;
-    assert_eq!(rt;
-        content(alloc, &mut disk)?.as_slice(),
-        [9, 7, 3, 4].as_slice()
-    );
-    Ok(())
-}
-
-#[test]
-fn calls_counts_those_that_fail_too_and_no_revive(rt: HostRuntime) -> Result<(), Fail> {
-    let mut disk = four_bytes(rt.alloc())?;
-    assert_eq!(rt; disk.calls(), 0);
-    assert_eq!(rt; disk.len()?, 4);
-    disk.write_at(0, &[9])?;
-    disk.sync()?;
-    assert_eq!(rt; disk.calls(), 3);
-    assert_eq!(rt; disk.failures(), 0);
-    disk.fail(1, Tear::Old);
-    assert!(rt; disk.sync().is_err());
-    assert!(rt; disk.len().is_err());
-    assert_eq!(rt; disk.calls(), 5);
-    assert_eq!(rt; disk.failures(), 2);
-    disk.revive()?;
-    assert_eq!(rt; disk.calls(), 5);
-    assert_eq!(rt; disk.failures(), 2);
-    Ok(())
-}
-
-#[test]
-fn a_script_stays_over_revive_until_its_call_has_failed(rt: HostRuntime) -> Result<(), Fail> {
-    let alloc = rt.alloc();
-    let mut disk = four_bytes(alloc)?;
-    disk.fail(1, Tear::Old);
-    assert!(rt; disk.sync().is_err());
-    disk.fail(2, Tear::New);
-    // A device that has stopped doesn't come nearer to the call of its script.
-    assert!(rt; disk.len().is_err());
-    assert!(rt; disk.sync().is_err());
-    disk.revive()?;
-    disk.sync()?;
-    disk.revive()?;
-    assert!(rt; disk.write_at(0, &[9]).is_err());
-    disk.revive()?;
-    assert_eq!(rt;
-        content(alloc, &mut disk)?.as_slice(),
-        [9, 2, 3, 4].as_slice()
+        (bytes.as_slice(), calls, failures),
+        ([9, 9, 3, 4].as_slice(), 5, 3)
     );
     Ok(())
 }

@@ -1,23 +1,25 @@
 -- The states of an append.
-use Rattle.std.proofs.Common.{◌≡◌, inl, ℕ, ◌+◌, ◌≤◌, ◌-◌, List, [], ◌∷◌, ◌++◌, length, take, drop, set, get_or, Some, sym, ◌∙◌, ap, subst, arith, append_assoc, length-append}
+use Rattle.std.proofs.Common.{◌≡◌, inl, ℕ, ◌+◌, ◌≤◌, ◌-◌, List, Result, [], ◌∷◌, ◌++◌, length, take, drop, set, get_or, Some, sym, ◌∙◌, ap, subst, arith, append_assoc, length-append}
 use Rattle.std.specs.Int.{w32, to_be_bytes}
-use Rattle.device.specs.Device.{State, Leaves, patched}
+use Rattle.device.specs.Device.{State, Leaves, Wrote, Tore, Synced, Keeps, Elapses, LeavesOnly, patched, left}
 use Rattle.std.proofs.lemmas.List.{length-take-le, length-drop, drop_more, drop_all, take-append-drop, set_at}
-use Rattle.gated.specs.Gated.{body_of, gated, spelled, Fits, IsOldOrNew, IsReady, HasList}
+use Rattle.gated.specs.Gated.{body_of, gated, max_body, open_gate, record_head, spelled, Fits, IsOldOrNew, IsReady, HasList}
+use Rattle.std.specs.Result.{OnOk, OnErr}
 use Rattle.gated.proofs.Spelled.{gated_spelled, spelled-split, spelled-push, fit-push}
 use Rattle.gated.proofs.Crash.{behind_gate, written_behind, at_gate, written_gate, gated_opened}
-use Rattle.device.proofs.Moments.{leaves_itself, leaves_nothing_else}
+use Rattle.device.proofs.Moments.{leaves_itself, leaves_nothing_else, leaves_then}
+use Rattle.gated.proofs.Calls.{WasPut, after_write, tore_of, write_moments, sync_moments}
 
-pub length-body : (buf : List ℕ) → 6 ≤ length buf → length (body_of buf) ≡ length buf - 5
-length-body buf some = length-take-le (length buf - 5) (drop 4 buf) (omega (arith, length-drop 4 buf))
+pub length-body : (buf : List ℕ) → record_head + 1 ≤ length buf → length (body_of buf) ≡ length buf - record_head
+length-body buf some = length-take-le (length buf - record_head) (drop 4 buf) (omega (arith, length-drop 4 buf))
 
-pub body_fits : (buf : List ℕ) → 6 ≤ length buf → length buf ≤ 1048581 → Fits (body_of buf)
+pub body_fits : (buf : List ℕ) → record_head + 1 ≤ length buf → length buf ≤ max_body + record_head → Fits (body_of buf)
 body_fits buf some fits = let len = length-body buf some in (omega (arith, len), omega (arith, len))
 
 -- a buffer with a length in front and a closed gate behind
-pub framed : (buf size : List ℕ) → length size ≡ 4 → 6 ≤ length buf → set (size ++ drop 4 buf) (4 + (length buf - 5)) 0 ≡ size ++ body_of buf ++ 0 ∷ []
+pub framed : (buf size : List ℕ) → length size ≡ 4 → record_head + 1 ≤ length buf → set (size ++ drop 4 buf) (4 + (length buf - record_head)) 0 ≡ size ++ body_of buf ++ 0 ∷ []
 framed buf size four some =
-    let n = length buf - 5 in
+    let n = length buf - record_head in
     let len = length-drop 4 buf in
     let tail : drop n (drop 4 buf) ≡ get_or (drop 4 buf) n 0 ∷ [] = drop_more (drop 4 buf) n 0 (omega (arith, len)) ∙ ap (λ (l : List ℕ). get_or (drop 4 buf) n 0 ∷ l) (drop_all (n + 1) (drop 4 buf) (omega (arith, len))) in
     let whole : size ++ drop 4 buf ≡ (size ++ body_of buf) ++ get_or (drop 4 buf) n 0 ∷ [] =
@@ -48,14 +50,13 @@ module _ (s : State) (end : ℕ) (r : IsReady s end) where
       let leaves' = subst (λ (d : List ℕ). Leaves d ((end + 1, n) ∷ []) c) durable_is leaves in
       inl (behind_gate r.bodies r.gate r.rest r.fit r.closed end r.end_is n c leaves' ∙ ap (λ (l : List (List ℕ)). Some l) (same_list bodies has))
 
-  module _ (mid : State) (body frame : List ℕ) (fits : Fits body) (frame_is : frame ≡ to_be_bytes w32 (length body) ++ body ++ 0 ∷ [])
-      (seen : mid.seen ≡ patched s.seen (end + 1) frame) (durable : mid.durable ≡ mid.seen) (written : mid.written ≡ []) where
+  module _ (mid : State) (body frame : List ℕ) (fits : Fits body) (frame_is : frame ≡ to_be_bytes w32 (length body) ++ body ++ 0 ∷ []) (put : WasPut s (end + 1) frame mid) where
     abbrev after : List ℕ
     after = drop (length frame) r.rest
 
     pub mid_is : mid.seen ≡ spelled r.bodies (r.gate ∷ to_be_bytes w32 (length body) ++ body ++ 0 ∷ after)
     mid_is =
-        seen ∙ ap (λ (l : List ℕ). patched l (end + 1) frame) r.seen ∙ written_behind r.bodies r.gate r.rest r.fit r.closed end r.end_is frame
+        put.seen ∙ ap (λ (l : List ℕ). patched l (end + 1) frame) r.seen ∙ written_behind r.bodies r.gate r.rest r.fit r.closed end r.end_is frame
         ∙ ap (λ (f : List ℕ). spelled r.bodies (r.gate ∷ f ++ after)) frame_is
         ∙ ap (λ (l : List ℕ). spelled r.bodies (r.gate ∷ l)) (append_assoc (to_be_bytes w32 (length body) ++ body) (0 ∷ []) after)
 
@@ -67,11 +68,11 @@ module _ (s : State) (end : ℕ) (r : IsReady s end) where
     pub second_leaves : (bodies : List (List ℕ)) → HasList s bodies → (c : List ℕ) → Leaves mid.durable ((end, 1) ∷ []) c → IsOldOrNew bodies body c
     second_leaves bodies has c leaves =
         subst (λ (l : List (List ℕ)). IsOldOrNew l body c) (same_list bodies has)
-        (at_gate r.bodies r.gate r.rest r.fit r.closed end r.end_is body after fits c (subst (λ (d : List ℕ). Leaves d ((end, 1) ∷ []) c) (durable ∙ mid_is) leaves))
+        (at_gate r.bodies r.gate r.rest r.fit r.closed end r.end_is body after fits c (subst (λ (d : List ℕ). Leaves d ((end, 1) ∷ []) c) (put.durable ∙ mid_is) leaves))
 
-    module _ (new : State) (seen_new : new.seen ≡ patched mid.seen end (165 ∷ [])) (durable_new : new.durable ≡ new.seen) (written_new : new.written ≡ []) where
+    module _ (new : State) (opened : WasPut mid end (open_gate ∷ []) new) where
       new_is : new.seen ≡ spelled (r.bodies ++ body ∷ []) (0 ∷ after)
-      new_is = seen_new ∙ ap (λ (l : List ℕ). patched l end (165 ∷ [])) mid_is ∙ written_gate r.bodies r.gate r.rest r.fit r.closed end r.end_is body after fits
+      new_is = opened.seen ∙ ap (λ (l : List ℕ). patched l end (open_gate ∷ [])) mid_is ∙ written_gate r.bodies r.gate r.rest r.fit r.closed end r.end_is body after fits
 
       pub ready : (n : ℕ) → n ≡ length frame → IsReady new (end + n)
       ready n len = record {
@@ -83,23 +84,60 @@ module _ (s : State) (end : ℕ) (r : IsReady s end) where
         seen = new_is;
         end_is =
             let pushed = spelled-push r.bodies body [] in
-            let all = spelled-split r.bodies (165 ∷ to_be_bytes w32 (length body) ++ body ++ []) in
+            let all = spelled-split r.bodies (open_gate ∷ to_be_bytes w32 (length body) ++ body ++ []) in
             omega (
               arith,
               len,
               ap length frame_is,
               r.end_is,
               ap length (pushed ∙ all),
-              length-append (spelled r.bodies []) (165 ∷ to_be_bytes w32 (length body) ++ body ++ []),
+              length-append (spelled r.bodies []) (open_gate ∷ to_be_bytes w32 (length body) ++ body ++ []),
               length-append body [],
               length-append body (0 ∷ []),
             );
-        durable = durable_new;
-        written = written_new;
+        durable = opened.durable;
+        written = opened.written;
       }
 
       pub has_new : (bodies : List (List ℕ)) → HasList s bodies → HasList new (bodies ++ body ∷ [])
       has_new bodies has c leaves =
-          let is : c ≡ new.durable = leaves_nothing_else new.durable c (subst (λ (w : List (ℕ × ℕ)). Leaves new.durable w c) written_new leaves) in
-          ap gated (is ∙ durable_new ∙ new_is) ∙ gated_opened r.bodies r.gate r.rest r.fit r.closed end r.end_is body after fits
+          let is : c ≡ new.durable = leaves_nothing_else new.durable c (subst (λ (w : List (ℕ × ℕ)). Leaves new.durable w c) opened.written leaves) in
+          ap gated (is ∙ opened.durable ∙ new_is) ∙ gated_opened r.bodies r.gate r.rest r.fit r.closed end r.end_is body after fits
           ∙ ap (λ (l : List (List ℕ)). Some (l ++ body ∷ [])) (same_list bodies has)
+
+-- what may be left at each of the four calls
+module _ {D : Type 0} (moment : D → ℕ) (left_since : D → ℕ → List ℕ → Type 0) (state : D → State)
+    (old : D) (only : (c : List ℕ) → left_since old (moment old) c → left (state old) c) (end : ℕ) (r : IsReady (state old) end) (bodies : List (List ℕ)) (has : HasList (state old) bodies) (body frame : List ℕ) (fits : Fits body)
+    (frame_is : frame ≡ to_be_bytes w32 (length body) ++ body ++ 0 ∷ []) where
+  abbrev Either : List ℕ → Type 0
+  Either = IsOldOrNew bodies body
+
+  abbrev Later : D → D → Type 0
+  Later one two = Elapses (moment one) (moment two) (left_since one) (left_since two) (left (state two))
+
+  first : (c : List ℕ) → Leaves (state old).durable ((end + 1, length frame) ∷ []) c → Either c
+  first = first_leaves (state old) end r bodies has body (length frame)
+
+  pub at_record : (one : D) → Later old one → Tore (state old) (end + 1) (length frame) (state one) → LeavesOnly moment left_since old one Either
+  at_record one time tore = write_moments moment left_since state old one Either only time (end + 1) (length frame) r.written tore first
+
+  pub at_first_sync : {T E : Type 0} (one two : D) (x : Result T E) → ((c : List ℕ) → left_since one (moment one) c → left (state one) c) → Later old one → Wrote (state old) (end + 1) frame (state one) → left (state one) (state one).seen
+      → Later one two → OnOk x (Synced (state one) (state two)) → OnErr x (Keeps (state one) (state two)) → LeavesOnly moment left_since old two Either
+  at_first_sync one two x only_one time wrote here next ok err =
+      let tore = tore_of (state old) (end + 1) frame (state one) wrote in
+      leaves_then moment left_since old one two Either (at_record one time tore)
+      (sync_moments moment left_since state one two Either only_one next x here ok err (λ c l. first c (after_write (state old) (end + 1) (length frame) (state one) r.written tore c l)))
+
+  module _ (two : D) (only_two : (c : List ℕ) → left_since two (moment two) c → left (state two) c) (before : LeavesOnly moment left_since old two Either) (put : WasPut (state old) (end + 1) frame (state two)) where
+    second : (c : List ℕ) → Leaves (state two).durable ((end, 1) ∷ []) c → Either c
+    second = second_leaves (state old) end r (state two) body frame fits frame_is put bodies has
+
+    pub at_gate_write : (three : D) → Later two three → Tore (state two) end 1 (state three) → LeavesOnly moment left_since old three Either
+    at_gate_write three time tore = leaves_then moment left_since old two three Either before (write_moments moment left_since state two three Either only_two time end 1 put.written tore second)
+
+    pub at_last_sync : {T E : Type 0} (three four : D) (x : Result T E) → ((c : List ℕ) → left_since three (moment three) c → left (state three) c) → Later two three → Wrote (state two) end (open_gate ∷ []) (state three) → left (state three) (state three).seen
+        → Later three four → OnOk x (Synced (state three) (state four)) → OnErr x (Keeps (state three) (state four)) → LeavesOnly moment left_since old four Either
+    at_last_sync three four x only_three time wrote here next ok err =
+        let tore = tore_of (state two) end (open_gate ∷ []) (state three) wrote in
+        leaves_then moment left_since old three four Either (at_gate_write three time tore)
+        (sync_moments moment left_since state three four Either only_three next x here ok err (λ c l. second c (after_write (state two) end 1 (state three) put.written tore c l)))

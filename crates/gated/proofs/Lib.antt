@@ -3,4 +3,4 @@ pub mod Crash
 pub mod Appends
 pub mod Splitting
 pub mod Opens
-mod Settles
+mod Calls

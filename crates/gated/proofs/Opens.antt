@@ -1,10 +1,10 @@
 -- The states of an opening.
 use Rattle.std.proofs.Common.{◌≡◌, ◌⊎◌, inl, inr, ℕ, ◌≤◌, List, [], ◌∷◌, length, Some, false, refl, sym, ◌∙◌, ap, subst, arith}
 use Rattle.std.proofs.lemmas.List.{drop_all}
-use Rattle.device.specs.Device.{State, Leaves, Synced, Keeps, Elapses, LeavesOnly, patched, left}
+use Rattle.device.specs.Device.{State, Leaves, Synced, Keeps, Elapses, LeavesOnly, left}
 use Rattle.device.proofs.Moments.{leaves_map, leaves_then, leaves_nothing_else}
-use Rattle.gated.specs.Gated.{gated, HasList, IsReady, IsSpelled, IsFoundList}
-use Rattle.gated.proofs.Settles.{one_call, still}
+use Rattle.gated.specs.Gated.{closed_gate, gated, HasList, IsReady, IsSpelled, IsFoundList}
+use Rattle.gated.proofs.Calls.{WasPut, one_call, still}
 use Rattle.gated.proofs.Splitting.{short_list, spelled_list}
 
 -- all that a stop may leave is what reads
@@ -14,21 +14,21 @@ has_list s bodies durable written list c leaves =
     ap gated (is ∙ durable) ∙ list
 
 module _ (s : State) (short : length s.seen ≤ 1) where
-  -- at most one byte holds no list but the empty one
+  -- at most one byte has no list but the empty one
   pub short_leaves : (c : List ℕ) → length c ≤ 1 → gated c ≡ gated s.seen
   short_leaves c le = short_list c le ∙ sym (short_list s.seen short)
 
-  module _ (new : State) (seen : new.seen ≡ patched s.seen 0 (0 ∷ [])) (durable : new.durable ≡ new.seen) (written : new.written ≡ []) where
+  module _ (new : State) (put : WasPut s 0 (closed_gate ∷ []) new) where
     made_is : new.seen ≡ 0 ∷ []
-    made_is = seen ∙ ap (λ (l : List ℕ). 0 ∷ l) (drop_all 1 s.seen short)
+    made_is = put.seen ∙ ap (λ (l : List ℕ). 0 ∷ l) (drop_all 1 s.seen short)
 
     pub made_ready : IsReady new 0
-    made_ready = record { bodies = []; gate = 0; rest = []; fit = tt; closed = λ is. omega (arith, is); seen = made_is; end_is = refl; durable = durable; written = written }
+    made_ready = record { bodies = []; gate = 0; rest = []; fit = tt; closed = λ is. omega (arith, is); seen = made_is; end_is = refl; durable = put.durable; written = put.written }
 
     pub made_list : new.stopped ≡ false → IsFoundList s [] new
     made_list up = record {
       was = short_list s.seen short;
-      has = has_list new [] durable written (short_list new.seen (omega (arith, ap length made_is)));
+      has = has_list new [] put.durable put.written (short_list new.seen (omega (arith, ap length made_is)));
       up = up;
     }
 

@@ -1,21 +1,41 @@
--- The list of records that a content holds.
-use Rattle.std.specs.Prelude.{◌≡◌, ◌⊎◌, ◌≤◌, ◌+◌, ◌-◌, ◌≢◌, ℕ, zero, suc, Bool, false, not, ◌&&◌, ◌==◌, nat_le, nat_lt, List, [], ◌∷◌, ◌++◌, length, take, drop, get_or, Option, Some, None, if◌then◌else◌}
+-- The list of records that a content has.
+use Rattle.std.specs.Prelude.{◌≡◌, ◌⊎◌, ◌≤◌, ◌+◌, ◌-◌, ◌^◌, ◌≢◌, ℕ, zero, suc, Bool, false, not, ◌&&◌, ◌==◌, nat_le, nat_lt, List, [], ◌∷◌, ◌++◌, length, take, drop, get_or, Option, Some, None, if◌then◌else◌}
 use Rattle.std.specs.Int.{w32, to_be_bytes, from_be_bytes}
 use Rattle.device.specs.Device.{State, left}
 
+-- a gate with this byte is open
+abbrev pub open_gate : ℕ
+open_gate = 165
+
+-- the byte of a gate that is made closed
+abbrev pub closed_gate : ℕ
+closed_gate = 0
+
+-- the bytes of a record in front of its body: the gate and the length
+abbrev pub record_head : ℕ
+record_head = 5
+
+-- the most bytes of one body
+abbrev pub max_body : ℕ
+max_body = 1048576
+
+-- the most bytes of a device
+abbrev pub max_device : ℕ
+max_device = 2 ^ 40
+
 abbrev pub gate_is_open : List ℕ → Bool
-gate_is_open content = nat_lt 1 (length content) && (get_or content 0 0 == 165)
+gate_is_open content = nat_lt 1 (length content) && (get_or content 0 0 == open_gate)
 
 abbrev pub body_length : List ℕ → ℕ
 body_length content = from_be_bytes w32 (take 4 (drop 1 content))
 
 abbrev pub behind : List ℕ → List ℕ
-behind content = drop (5 + body_length content) content
+behind content = drop (record_head + body_length content) content
 
 abbrev pub is_whole : List ℕ → Bool
 is_whole content =
-    nat_le 1 (body_length content) && (nat_le (body_length content) 1048576
-    && (nat_lt (5 + body_length content) (length content) && not ((length (behind content) == 1) && (get_or (behind content) 0 0 == 165))))
+    nat_le 1 (body_length content) && (nat_le (body_length content) max_body
+    && (nat_lt (record_head + body_length content) (length content) && not ((length (behind content) == 1) && (get_or (behind content) 0 0 == open_gate))))
 
 abbrev pub with_front : List ℕ → Option (List (List ℕ)) → Option (List (List ℕ))
 with_front body None = None
@@ -26,7 +46,7 @@ abbrev pub gated_within : ℕ → List ℕ → Option (List (List ℕ))
 gated_within zero content = Some []
 gated_within (suc most) content =
     if gate_is_open content
-    then if is_whole content then with_front (take (body_length content) (drop 5 content)) (gated_within most (behind content)) else None
+    then if is_whole content then with_front (take (body_length content) (drop record_head content)) (gated_within most (behind content)) else None
     else Some []
 
 -- The bodies behind open gates, up to the first gate that is closed. None where an open gate has no whole record behind it.
@@ -37,6 +57,11 @@ gated content = gated_within (length content) content
 abbrev pub HasList : State → List (List ℕ) → Type 0
 HasList s bodies = (c : List ℕ) → left s c → gated c ≡ Some bodies
 
+-- a log as its callers see it: its device, and the place of the gate that ends the list
+pub record LogView (D : Type 0) : Type 0 where
+  pub device : D
+  pub end : ℕ
+
 -- the list, or the longer one
 abbrev pub IsOldOrNew : List (List ℕ) → List ℕ → List ℕ → Type 0
 IsOldOrNew bodies body content = (gated content ≡ Some bodies) ⊎ (gated content ≡ Some (bodies ++ body ∷ []))
@@ -44,10 +69,10 @@ IsOldOrNew bodies body content = (gated content ≡ Some bodies) ⊎ (gated cont
 -- records of these bodies, and then the rest
 abbrev pub spelled : List (List ℕ) → List ℕ → List ℕ
 spelled [] rest = rest
-spelled (b ∷ bs) rest = 165 ∷ to_be_bytes w32 (length b) ++ b ++ spelled bs rest
+spelled (b ∷ bs) rest = open_gate ∷ to_be_bytes w32 (length b) ++ b ++ spelled bs rest
 
 abbrev pub Fits : List ℕ → Type 0
-Fits body = (1 ≤ length body) × (length body ≤ 1048576)
+Fits body = (1 ≤ length body) × (length body ≤ max_body)
 
 abbrev pub AllFit : List (List ℕ) → Type 0
 AllFit [] = Unit {0}
@@ -59,7 +84,7 @@ pub record IsReady (s : State) (end : ℕ) : Type 0 where
   pub gate : ℕ
   pub rest : List ℕ
   pub fit : AllFit bodies
-  pub closed : gate ≢ 165
+  pub closed : gate ≢ open_gate
   pub seen : s.seen ≡ spelled bodies (gate ∷ rest)
   pub end_is : end ≡ length (spelled bodies [])
   pub durable : s.durable ≡ s.seen
@@ -70,15 +95,15 @@ pub record IsSpelled (content : List ℕ) (bodies : List (List ℕ)) (end : ℕ)
   pub gate : ℕ
   pub rest : List ℕ
   pub fit : AllFit bodies
-  pub closed : gate ≢ 165
+  pub closed : gate ≢ open_gate
   pub content_is : content ≡ spelled bodies (gate ∷ rest)
   pub end_is : end ≡ length (spelled bodies [])
 
--- the body that a buffer of four bytes, the body and one byte holds
+-- the body that a buffer of four bytes, the body and one byte has
 abbrev pub body_of : List ℕ → List ℕ
-body_of buf = take (length buf - 5) (drop 4 buf)
+body_of buf = take (length buf - record_head) (drop 4 buf)
 
--- an opening answered this list: it is the one that the device held as it read, and from now on every stop leaves it
+-- an opening answered this list: it is the one that the device had as it read, and from now on every stop leaves it
 pub record IsFoundList (old : State) (bodies : List (List ℕ)) (new : State) : Type 0 where
   pub was : gated old.seen ≡ Some bodies
   pub has : HasList new bodies

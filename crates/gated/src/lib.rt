@@ -7,10 +7,10 @@
 //! Start at `specs/Gated.antt`, what bytes stand for which list, and then `append`, its four calls.
 #![tactic(auto)]
 
+mod append;
 mod format;
 mod log;
 mod opening;
-mod settle;
 mod split;
 #[cfg(test)]
 mod tests;

@@ -1,17 +1,17 @@
 // A log of bodies behind gates: a body counts once its gate is open.
 ghost use Rattle.std.specs.Prelude.{◌≡◌, ◌≤◌, ◌<◌, ◌+◌, ◌^◌, ◌↔◌, ◌⊎◌, ◌∷◌, [], ◌++◌, Some, None, false, true, length, map, List, ℕ, OnOk, IsErr, IfOk, IfErr, MatchResult, IsErrOf};
 ghost use Rattle.device.specs.Device.{LeavesOnly, Failed, HasFailed, Keeps, Elapses, left};
-ghost use Rattle.gated.specs.Gated.{HasList, IsOldOrNew, body_of, gated, IsFoundList};
+ghost use Rattle.gated.specs.Gated.{HasList, IsOldOrNew, body_of, gated, max_body, max_device, record_head, IsFoundList};
 
+use crate::append::append_at;
 use crate::format::MAX_DEVICE;
 use crate::opening::find_list;
-use crate::settle::append_at;
 use device::{Device, Stopped, Tear};
+use refusal::Refusal;
 use std::alloc::Global;
 use std::marker::Model;
-use tuples::Refusal;
 
-/// A log over one device, which contracts see as that device.
+/// A log over one device, which contracts see as that device and the place of the gate that ends the list.
 #[derive(Drop)]
 pub struct GatedLog<D: Device> {
     device: D,
@@ -21,11 +21,11 @@ pub struct GatedLog<D: Device> {
 
 impl<D: Device> Model for GatedLog<D> {
     ghost use Rattle.std.specs.Prelude.{◌≡◌, false};
-    ghost use Rattle.gated.specs.Gated.{IsReady};
+    ghost use Rattle.gated.specs.Gated.{IsReady, LogView};
 
-    ghost Value = { D };
+    ghost Value = { LogView D };
 
-    ghost view = { λ l. l.device };
+    ghost view = { λ l. record { device = l.device; end = l.end } };
 
     ghost invariant = { λ l. D.honest l.device → (D.state l.device).stopped ≡ false → IsReady (D.state l.device) l.end };
 }
@@ -36,19 +36,23 @@ impl<D: Device> GatedLog<D> {
     /// Each refusal gives the device back: `Down` where a call of it failed, `NoMemory`, and `Damaged` where an open gate has no
     /// whole record behind it.
     pub fn open(alloc: Global, mut device: D) -> Result<(GatedLog<D>, Vec<Vec<u8>>), (Refusal, D)>
-        ensures honest { MatchResult result (λ r. D.honest device ↔ D.honest r.0) (λ e. D.honest device ↔ D.honest e.1) }
+        ensures honest { MatchResult result (λ r. D.honest device ↔ D.honest r.0.device) (λ e. D.honest device ↔ D.honest e.1) }
 
-        // Exactly the list that the device holds.
-        ensures ok { D.honest device → IfOk result (λ r. IsFoundList (D.state device) (map (λ b. b.items) r.1.items) (D.state r.0)) }
+        // Exactly the list that the device has.
+        ensures ok { D.honest device → IfOk result (λ r. IsFoundList (D.state device) (map (λ b. b.items) r.1.items) (D.state r.0.device)) }
         ensures damaged { D.honest device → IfErr result (λ e. e.0 ≡ Refusal.Damaged → gated (D.state device).seen ≡ None) }
         ensures down { IfErr result (λ e. e.0 ≡ Refusal.Down → HasFailed (D.state device) (D.state e.1)) }
         ensures err { IfErr result (λ e. (e.0 ≡ Refusal.Down) ⊎ ((e.0 ≡ Refusal.NoMemory) ⊎ (e.0 ≡ Refusal.Damaged))) }
         ensures stopped { (D.state device).stopped ≡ true → IsErr result }
-        ensures counts { MatchResult result (λ r. (D.state device).failures ≤ (D.state r.0).failures) (λ e. (D.state device).failures ≤ (D.state e.1).failures) }
+        ensures counts { MatchResult result (λ r. (D.state device).failures ≤ (D.state r.0.device).failures) (λ e. (D.state device).failures ≤ (D.state e.1).failures) }
 
-        // At every moment of the call a stop leaves what it could leave before, or a content with the list that the device held.
-        ensures any_moment { D.honest device → (D.state device).stopped ≡ false → MatchResult result
-            (λ r. LeavesOnly D.moment D.left_since device r.0 (λ c. left (D.state device) c ⊎ (gated c ≡ gated (D.state device).seen)))
+        ensures none { MatchResult result (λ r. (D.state r.0.device).failures ≡ (D.state device).failures)
+            (λ e. (e.0 ≡ Refusal.Down) ⊎ ((D.state e.1).failures ≡ (D.state device).failures)) }
+        ensures end { D.honest device → IfOk result (λ r. r.0.end < length (D.state r.0.device).seen) }
+
+        // At every moment of the call a stop leaves what it could leave before, or a content with the list that the device had.
+        ensures any_moment { D.honest device → MatchResult result
+            (λ r. LeavesOnly D.moment D.left_since device r.0.device (λ c. left (D.state device) c ⊎ (gated c ≡ gated (D.state device).seen)))
             (λ e. LeavesOnly D.moment D.left_since device e.1 (λ c. left (D.state device) c ⊎ (gated c ≡ gated (D.state device).seen))) }
     {
         match find_list(alloc, &mut device) {
@@ -59,23 +63,27 @@ impl<D: Device> GatedLog<D> {
 
     /// Appends the body that stands in the buffer between four bytes and one, which it fills itself; exactly four device calls.
     ///
-    /// `Full` where the device would pass 2^40 bytes: nothing has changed. `Down`: the list is the old one or the new one, and the
-    /// log has to be opened again, after the device was revived.
+    /// `Full` where the list would end past 2^40 bytes: nothing has changed. `Down`: the list is the old one or the new one, and
+    /// the log has to be opened again, after the device was revived.
     pub fn append(&mut self, buf: &mut [u8]) -> Result<(), Refusal>
-        requires some { 6 ≤ length buf.old }
-        requires fits { length buf.old ≤ 1048581 }
-        ensures honest { D.honest self.old ↔ D.honest self.new }
+        requires some { record_head + 1 ≤ length buf.old }
+        requires fits { length buf.old ≤ max_body + record_head }
+        ensures honest { D.honest self.old.device ↔ D.honest self.new.device }
 
         // At every moment of the call a stop leaves the old list or the new one.
-        ensures any_moment { (bodies : List (List ℕ)) → D.honest self.old → HasList (D.state self.old) bodies → LeavesOnly D.moment D.left_since self.old self.new (IsOldOrNew bodies (body_of buf.old)) }
+        ensures any_moment { (bodies : List (List ℕ)) → D.honest self.old.device → HasList (D.state self.old.device) bodies → LeavesOnly D.moment D.left_since self.old.device self.new.device (IsOldOrNew bodies (body_of buf.old)) }
 
         // From then on each stop leaves the new one.
-        ensures ok { (bodies : List (List ℕ)) → D.honest self.old → HasList (D.state self.old) bodies → OnOk result (HasList (D.state self.new) (bodies ++ body_of buf.old ∷ [])) }
-        ensures up { D.honest self.old → OnOk result ((D.state self.new).stopped ≡ false) }
-        ensures failed { IsErrOf result Refusal.Down → Failed (D.state self.old) (D.state self.new) }
-        ensures full { IsErrOf result Refusal.Full → (self.new ≡ self.old) × (D.honest self.old → (D.state self.old).stopped ≡ false → 2 ^ 40 < length (D.state self.old).seen + length buf.old) }
+        ensures ok { (bodies : List (List ℕ)) → D.honest self.old.device → HasList (D.state self.old.device) bodies → OnOk result (HasList (D.state self.new.device) (bodies ++ body_of buf.old ∷ [])) }
+        ensures up { D.honest self.old.device → OnOk result ((D.state self.new.device).stopped ≡ false) }
+        ensures failed { IsErrOf result Refusal.Down → Failed (D.state self.old.device) (D.state self.new.device) }
+        ensures full { IsErrOf result Refusal.Full → (self.new ≡ self.old) × (max_device ≤ self.old.end + length buf.old)
+            × (D.honest self.old.device → (D.state self.old.device).stopped ≡ false → self.old.end < length (D.state self.old.device).seen) }
         ensures err { IfErr result (λ e. (e ≡ Refusal.Down) ⊎ (e ≡ Refusal.Full)) }
-        ensures counts { (D.state self.old).failures ≤ (D.state self.new).failures }
+        ensures counts { (D.state self.old.device).failures ≤ (D.state self.new.device).failures }
+        ensures none { OnOk result ((D.state self.new.device).failures ≡ (D.state self.old.device).failures) }
+        ensures end { OnOk result ((self.new.end ≡ self.old.end + length buf.old) × (self.new.end < max_device)) }
+        ensures stopped { (D.state self.old.device).stopped ≡ true → IsErr result × (D.honest self.old.device → Keeps (D.state self.old.device) (D.state self.new.device)) }
     {
         if self.end >= MAX_DEVICE - buf.len() {
             return Err(Refusal::Full);
@@ -91,24 +99,26 @@ impl<D: Device> GatedLog<D> {
 
     /// Sets the script of the device, and changes nothing else.
     pub fn fail(&mut self, n: u64, tear: Tear)
-        ensures honest { D.honest self.old ↔ D.honest self.new }
-        ensures keeps { D.honest self.old → Keeps (D.state self.old) (D.state self.new) }
-        ensures same { ((D.state self.new).failures ≡ (D.state self.old).failures) × ((D.state self.new).stopped ≡ (D.state self.old).stopped) }
-        ensures time { D.honest self.old → Elapses (D.moment self.old) (D.moment self.new) (D.left_since self.old) (D.left_since self.new) (left (D.state self.new)) }
+        ensures set { D.set_to_fail self.new.device n tear }
+        ensures end { self.new.end ≡ self.old.end }
+        ensures honest { D.honest self.old.device ↔ D.honest self.new.device }
+        ensures keeps { D.honest self.old.device → Keeps (D.state self.old.device) (D.state self.new.device) }
+        ensures same { ((D.state self.new.device).failures ≡ (D.state self.old.device).failures) × ((D.state self.new.device).stopped ≡ (D.state self.old.device).stopped) }
+        ensures time { D.honest self.old.device → Elapses (D.moment self.old.device) (D.moment self.new.device) (D.left_since self.old.device) (D.left_since self.new.device) (left (D.state self.new.device)) }
     {
         self.device.fail(n, tear);
     }
 
     /// Its device.
     pub fn device(&self) -> &D
-        ensures { result.now ≡ self.now }
+        ensures { result.now ≡ self.now.device }
     {
         &self.device
     }
 
     /// Gives the device back.
     pub fn into_device(self) -> D
-        ensures { result ≡ self }
+        ensures { result ≡ self.device }
     {
         let GatedLog { device, end: _ } = self;
         device

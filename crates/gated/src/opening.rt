@@ -1,14 +1,13 @@
-// The list that a device holds, found at its opening.
-ghost use Rattle.std.specs.Prelude.{◌≡◌, ◌≤◌, ◌⊎◌, ◌↔◌, [], None, true, false, length, map, OnOk, OnErr, IsErr, IfOk, IfErr, vec_len};
+// The list of a device, found at its opening.
+ghost use Rattle.std.specs.Prelude.{◌≡◌, ◌≤◌, ◌⊎◌, ◌↔◌, [], None, true, false, length, map, OnOk, OnErr, IsErr, IsErrOf, IfOk, IfErr, vec_len};
 ghost use Rattle.gated.specs.Gated.{gated, IsReady, IsFoundList};
 ghost use Rattle.device.specs.Device.{Synced, Keeps, LeavesOnly, Failed, HasFailed, left};
 
 use crate::format::CLOSED;
-use crate::settle::settle;
 use crate::split::split;
 use device::{Device, Stopped};
+use refusal::Refusal;
 use std::alloc::Global;
-use tuples::Refusal;
 
 /// Makes a device of at most one byte anew, as the empty list.
 fn make<D: Device>(device: &mut D) -> Result<(), Stopped>
@@ -18,11 +17,13 @@ fn make<D: Device>(device: &mut D) -> Result<(), Stopped>
     ensures ok { D.honest device.old → OnOk result (IsFoundList (D.state device.old) [] (D.state device.new)) }
     ensures err { OnErr result (Failed (D.state device.old) (D.state device.new)) }
     ensures counts { (D.state device.old).failures ≤ (D.state device.new).failures }
+    ensures none { OnOk result ((D.state device.new).failures ≡ (D.state device.old).failures) }
     ensures any_moment { D.honest device.old → LeavesOnly D.moment D.left_since device.old device.new (λ c. gated c ≡ gated (D.state device.old).seen) }
 {
-    // Whatever a stop leaves of this write, or of one before it, at most one byte holds no body.
-    settle(device, 0, &[CLOSED])?;
-    Ok(())
+    // Whatever a stop leaves of this write, or of one before it, at most one byte has no body.
+    device.write_at(0, &[CLOSED])?;
+    // Until it is durable, it may be lost, and an opening makes it once more.
+    device.sync()
 }
 
 /// Reads all of the bytes, of which there are so many.
@@ -36,6 +37,7 @@ fn read_whole<D: Device>(alloc: Global, device: &mut D, n: usize) -> Result<Vec<
     ensures down { IfErr result (λ e. e ≡ Refusal.Down → Failed (D.state device.old) (D.state device.new)) }
     ensures err { IfErr result (λ e. (e ≡ Refusal.Down) ⊎ (e ≡ Refusal.NoMemory)) }
     ensures counts { (D.state device.old).failures ≤ (D.state device.new).failures }
+    ensures none { IsErrOf result Refusal.Down ⊎ ((D.state device.new).failures ≡ (D.state device.old).failures) }
     ensures any_moment { D.honest device.old → LeavesOnly D.moment D.left_since device.old device.new (left (D.state device.old)) }
 {
     let Ok(mut content) = vec![in alloc; 0u8; n] else {
@@ -47,7 +49,7 @@ fn read_whole<D: Device>(alloc: Global, device: &mut D, n: usize) -> Result<Vec<
     }
 }
 
-/// Finds the bodies that a device holds, and where the closed gate stands that ends them.
+/// Finds the bodies that a device has, and where the closed gate stands that ends them.
 pub(crate) fn find_list<D: Device>(
     alloc: Global,
     device: &mut D,
@@ -60,6 +62,7 @@ pub(crate) fn find_list<D: Device>(
     ensures err { IfErr result (λ e. (e ≡ Refusal.Down) ⊎ ((e ≡ Refusal.NoMemory) ⊎ (e ≡ Refusal.Damaged))) }
     ensures stopped { (D.state device.old).stopped ≡ true → IsErr result }
     ensures counts { (D.state device.old).failures ≤ (D.state device.new).failures }
+    ensures none { IsErrOf result Refusal.Down ⊎ ((D.state device.new).failures ≡ (D.state device.old).failures) }
     ensures any_moment { D.honest device.old → LeavesOnly D.moment D.left_since device.old device.new (λ c. left (D.state device.old) c ⊎ (gated c ≡ gated (D.state device.old).seen)) }
 {
     let Ok(n) = device.len() else {

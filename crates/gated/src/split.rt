@@ -3,8 +3,8 @@ ghost use Rattle.std.specs.Prelude.{◌≡◌, ◌≤◌, ◌<◌, ◌⊎◌, �
 ghost use Rattle.gated.specs.Gated.{gated, is_whole, body_length, IsSpelled};
 
 use crate::format::{HEAD, MAX_BODY, OPEN};
+use refusal::Refusal;
 use std::alloc::{AllocError, Global};
-use tuples::Refusal;
 
 /// The body behind the gate at the front, where its record is whole and the next gate is inside.
 fn whole_body(content: &[u8]) -> Option<&[u8]>

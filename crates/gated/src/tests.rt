@@ -1,9 +1,9 @@
-// A gated log over a disk in memory.
+// A gated log over a disk in memory: its bytes, and what is found after a failure.
 use crate::GatedLog;
-use device::{Device, SimDisk, Stopped, Tear};
+use device::{Device, SimDisk, Tear};
+use refusal::Refusal;
 use std::alloc::{AllocError, Global};
 use std::test::Fail;
-use tuples::Refusal;
 
 // One batch, in 22 bytes, behind an open gate, and then a closed gate.
 const BATCH: [u8; 28] = [
@@ -31,74 +31,74 @@ fn content_of(alloc: Global, disk: &mut SimDisk) -> Result<Vec<u8>, Fail> {
     Ok(content)
 }
 
-#[test]
-fn a_device_of_at_most_one_byte_is_made(rt: HostRuntime) -> Result<(), Fail> {
-    let alloc = rt.alloc();
-    for content in [[].as_slice(), [0xa5].as_slice(), [7].as_slice()] {
-        let (log, bodies) = opened(alloc, disk_of(alloc, content)?)?;
-        assert!(rt; bodies.is_empty(), "{content:?}");
-        let made = content_of(alloc, &mut log.into_device())?;
-        assert_eq!(rt; made.as_slice(), [0].as_slice(), "{content:?}");
-    }
-    Ok(())
-}
-
-// How many calls an opening makes on a device that holds these bytes.
-fn calls_over(alloc: Global, content: &[u8]) -> Result<u64, Fail> {
-    let (log, _) = opened(alloc, disk_of(alloc, content)?)?;
-    Ok(log.device().calls())
-}
-
-#[test]
-fn an_opening_makes_three_calls(rt: HostRuntime) -> Result<(), Fail> {
-    let alloc = rt.alloc();
-    // The length, and then the write of the first gate and its sync.
-    assert_eq!(rt; calls_over(alloc, &[])?, 3);
-    assert_eq!(rt; calls_over(alloc, &[0xa5])?, 3);
-    // The length, and then a sync and the read.
-    assert_eq!(rt; calls_over(alloc, &[0, 0])?, 3);
-    assert_eq!(rt; calls_over(alloc, &BATCH)?, 3);
-    Ok(())
-}
-
-#[test]
-fn an_open_gate_has_its_body(rt: HostRuntime) -> Result<(), Fail> {
-    let (_, bodies) = opened(rt.alloc(), disk_of(rt.alloc(), &BATCH)?)?;
-    assert_eq!(rt; bodies.len(), 1);
-    assert_eq!(rt; bodies[0].as_slice(), &BATCH[5..27]);
-    Ok(())
-}
-
-#[test]
-fn a_closed_gate_ends_the_list(rt: HostRuntime) -> Result<(), Fail> {
+/// The bytes of one batch with one of them changed.
+fn changed(place: usize, byte: u8) -> [u8; 28] {
     let mut content = BATCH;
-    content[0] = 0;
-    let (_, bodies) = opened(rt.alloc(), disk_of(rt.alloc(), &content)?)?;
-    assert!(rt; bodies.is_empty());
-    Ok(())
+    if place < content.len() {
+        content[place] = byte;
+    }
+    content
+}
+
+/// How many bodies a device of these bytes is opened with, how many calls that takes, and its bytes then. None where it is damaged.
+fn opening_of(alloc: Global, content: &[u8]) -> Result<Option<(usize, u64, Vec<u8>)>, Fail> {
+    match opened(alloc, disk_of(alloc, content)?) {
+        Ok((log, bodies)) => {
+            let calls = log.device().calls();
+            let after = content_of(alloc, &mut log.into_device())?;
+            Ok(Some((bodies.len(), calls, after)))
+        }
+        Err(Refusal::Damaged) => Ok(None),
+        Err(_) => Err("a device failed, or memory ran out".into()),
+    }
 }
 
 #[test]
-fn an_open_gate_without_a_whole_record_is_damage(rt: HostRuntime) -> Result<(), Fail> {
-    let mut empty = BATCH;
-    empty[4] = 0;
-    let mut too_long = BATCH;
-    too_long[4] = 0x17;
-    for content in [&empty[..], &too_long[..], &BATCH[..27], &BATCH[..4]] {
-        let refused = opened(rt.alloc(), disk_of(rt.alloc(), content)?);
-        assert!(rt; matches!(refused, Err(Refusal::Damaged)), "{content:?}");
+fn an_opening_finds_the_bodies_or_damage(rt: HostRuntime) -> Result<(), Fail> {
+    let alloc = rt.alloc();
+    for (content, bodies, bytes) in [
+        // A device of at most one byte is made anew.
+        ([].as_slice(), 0, [0].as_slice()),
+        (&[0xa5], 0, &[0]),
+        (&[7], 0, &[0]),
+        (&BATCH, 1, &BATCH),
+        // A closed gate ends the list.
+        (&changed(0, 0), 0, &changed(0, 0)),
+    ] {
+        let found = opening_of(alloc, content)?;
+        assert_eq!(rt;
+            found,
+            Some((bodies, 3, bytes.to_vec(alloc)?)),
+            "{content:?}"
+        );
+    }
+    // No body, a body that is too long, and two records that were cut off.
+    for content in [
+        &changed(4, 0)[..],
+        &changed(4, 0x17)[..],
+        &BATCH[..27],
+        &BATCH[..4],
+    ] {
+        assert_eq!(rt; opening_of(alloc, content)?, None, "{content:?}");
     }
     Ok(())
 }
 
-// The bytes that an append is given: four, the prepare, and one.
-fn framed() -> [u8; 45] {
+/// What is found of an append behind the batch whose n-th call failed, or of a whole one, which makes four.
+fn left_by(alloc: Global, n: u64, tear: Tear) -> Result<Vec<u8>, Fail> {
+    let (mut log, _) = opened(alloc, disk_of(alloc, &BATCH)?)?;
+    log.fail(n, tear);
     let mut buf = [7; 45];
     buf[4..44].copy_from_slice(&PREPARE);
-    buf
+    if log.append(&mut buf).is_ok() != (n > 4) {
+        return Err("the script failed another call".into());
+    }
+    let mut disk = log.into_device();
+    disk.revive()?;
+    content_of(alloc, &mut disk)
 }
 
-// The batch, and behind it the prepare behind this gate.
+/// The batch, and behind it the prepare behind this gate.
 fn with_prepare(alloc: Global, gate: u8) -> Result<Vec<u8>, AllocError> {
     let mut content = BATCH[..27].to_vec(alloc)?;
     content.extend_from_slice(&[gate, 0, 0, 0, 0x28])?;
@@ -108,96 +108,26 @@ fn with_prepare(alloc: Global, gate: u8) -> Result<Vec<u8>, AllocError> {
 }
 
 #[test]
-fn an_append_writes_the_record_behind_the_gate(rt: HostRuntime) -> Result<(), Fail> {
+fn an_append_writes_the_record_and_then_its_gate(rt: HostRuntime) -> Result<(), Fail> {
     let alloc = rt.alloc();
-    let (mut log, _) = opened(alloc, disk_of(alloc, &BATCH)?)?;
-    let before = log.device().calls();
-    log.append(&mut framed())?;
-    assert_eq!(rt; log.device().calls().checked_sub(before), Some(4));
-
-    let content = content_of(alloc, &mut log.into_device())?;
-    assert_eq!(rt; content.len(), 73);
-    assert_eq!(rt; content, with_prepare(alloc, 0xa5)?);
-    Ok(())
-}
-
-#[test]
-fn the_gate_is_opened_by_a_write_of_its_own(rt: HostRuntime) -> Result<(), Fail> {
-    let alloc = rt.alloc();
-    let (mut log, _) = opened(alloc, disk_of(alloc, &BATCH)?)?;
-    log.fail(3, Tear::Old);
-    assert!(rt; log.append(&mut framed()).is_err());
-    let mut disk = log.into_device();
-    disk.revive()?;
-    // What the first write and its sync left.
-    assert_eq!(rt; content_of(alloc, &mut disk)?, with_prepare(alloc, 0)?);
-    Ok(())
-}
-
-#[test]
-fn an_appended_body_is_found_again(rt: HostRuntime) -> Result<(), Fail> {
-    let alloc = rt.alloc();
-    let (mut log, _) = opened(alloc, disk_of(alloc, &BATCH)?)?;
-    log.append(&mut [7; 45])?;
-    let (_, bodies) = opened(alloc, log.into_device())?;
-    assert_eq!(rt; bodies.len(), 2);
-    assert_eq!(rt; bodies[0].as_slice(), &BATCH[5..27]);
-    assert_eq!(rt; bodies[1].as_slice(), [7; 40].as_slice());
-    Ok(())
-}
-
-// How many bodies are found after the n-th call of an append to one body has failed.
-fn left_by(alloc: Global, n: u64, tear: Tear) -> Result<usize, Fail> {
-    let (mut log, _) = opened(alloc, disk_of(alloc, &BATCH)?)?;
-    log.fail(n, tear);
-    match log.append(&mut [7; 45]) {
-        Err(Refusal::Down) => {}
-        _ => return Err(Fail::from("the append is told of the failure")),
+    for n in [1, 2] {
+        assert_eq!(rt; left_by(alloc, n, Tear::Old)?.as_slice(), &BATCH[..], "{n}");
     }
-    let mut disk = log.into_device();
-    let Err(Stopped) = disk.len() else {
-        return Err(Fail::from("it fails until it is revived"));
-    };
-    disk.revive()?;
-    let (_, bodies) = opened(alloc, disk)?;
-    Ok(bodies.len())
-}
-
-#[test]
-fn a_failure_at_any_call_leaves_the_old_list_or_the_new(rt: HostRuntime) -> Result<(), Fail> {
-    let alloc = rt.alloc();
-    for tear in [Tear::Old, Tear::New, Tear::Fill(0xa5), Tear::Fill(0)] {
-        // Behind the closed gate no byte counts.
-        assert_eq!(rt; left_by(alloc, 1, tear)?, 1, "{tear:?}");
-        assert_eq!(rt; left_by(alloc, 2, tear)?, 1, "{tear:?}");
+    for (n, tear, gate) in [
+        (1, Tear::New, 0),
+        (2, Tear::New, 0),
+        (3, Tear::Old, 0),
+        (3, Tear::New, 0xa5),
+        (3, Tear::Fill(7), 7),
+        (4, Tear::Old, 0),
+        (4, Tear::New, 0xa5),
+        (9, Tear::Old, 0xa5),
+    ] {
+        assert_eq!(rt;
+            left_by(alloc, n, tear)?,
+            with_prepare(alloc, gate)?,
+            "{n} {tear:?}"
+        );
     }
-    for n in [3, 4] {
-        assert_eq!(rt; left_by(alloc, n, Tear::Old)?, 1, "{n}");
-        assert_eq!(rt; left_by(alloc, n, Tear::New)?, 2, "{n}");
-        assert_eq!(rt; left_by(alloc, n, Tear::Fill(0xa5))?, 2, "{n}");
-        assert_eq!(rt; left_by(alloc, n, Tear::Fill(0))?, 1, "{n}");
-    }
-    Ok(())
-}
-
-// How many bodies are found at the opening after one whose n-th call failed.
-fn found_after(alloc: Global, content: &[u8], n: u64) -> Result<usize, Fail> {
-    let mut disk = disk_of(alloc, content)?;
-    disk.fail(n, Tear::Old);
-    let Err((Refusal::Down, mut disk)) = GatedLog::open(alloc, disk) else {
-        return Err(Fail::from("the opening is told of the failure"));
-    };
-    disk.revive()?;
-    let (_, bodies) = opened(alloc, disk)?;
-    Ok(bodies.len())
-}
-
-#[test]
-fn an_opening_after_one_that_failed_is_whole(rt: HostRuntime) -> Result<(), Fail> {
-    for n in [1, 2, 3] {
-        assert_eq!(rt; found_after(rt.alloc(), &BATCH, n)?, 1, "{n}");
-        assert_eq!(rt; found_after(rt.alloc(), &[0xa5], n)?, 0, "{n}");
-    }
-    assert_eq!(rt; found_after(rt.alloc(), &[], 3)?, 0);
     Ok(())
 }

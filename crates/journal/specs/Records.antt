@@ -1,10 +1,13 @@
--- The records that two contents hold, and a journal as its callers see it.
-use Rattle.std.specs.Prelude.{◌≡◌, ◌⊎◌, ◌≤◌, ◌<◌, ◌+◌, ◌^◌, ℕ, Bool, false, List, [], ◌∷◌, ◌++◌, length, Option, Some, None}
+-- The records that two contents have, and a journal as its callers see it.
+use Rattle.std.specs.Prelude.{◌≡◌, ◌⊎◌, ◌≤◌, ◌<◌, ◌+◌, ℕ, Bool, false, List, [], ◌∷◌, ◌++◌, length, Option, Some, None}
 use Rattle.records.specs.declared.record.Record.{Record}
 use Rattle.records.specs.Format.{batch_bytes}
 use Rattle.records.specs.Reading.{batch}
 use Rattle.device.specs.Device.{State, left, HasFailed}
-use Rattle.gated.specs.Gated.{gated}
+use Rattle.device.specs.declared.tear.Tear.{Tear}
+use Rattle.gated.specs.Gated.{gated, max_body, max_device, record_head}
+use Rattle.journal.specs.declared.refused.Bank.{Bank}
+use Rattle.journal.specs.declared.refused.Bank.TheVariants.{A, B}
 
 abbrev pub both : Option (List Record) → Option (List Record) → Option (List Record)
 both None rs = None
@@ -20,7 +23,7 @@ abbrev pub then_batches : Option (List (List ℕ)) → Option (List Record)
 then_batches None = None
 then_batches (Some bodies) = batches bodies
 
--- the records that the contents of banks a and b hold, those of bank a so far; none where a batch is no batch or there is no list
+-- the records that the contents of banks a and b have, those of bank a so far; none where a batch is no batch or there is no list
 unfoldable pub found : List ℕ → List ℕ → Option (List Record)
 found a b = then_batches (gated a)
 
@@ -28,7 +31,7 @@ found a b = then_batches (gated a)
 abbrev pub Finds : (List ℕ → Type 0) → (List ℕ → Type 0) → List Record → Type 0
 Finds in_a in_b rs = (a b : List ℕ) × in_a a × in_b b × (found a b ≡ Some rs)
 
--- every choice of contents that a stop may leave holds these records
+-- every choice of contents that a stop may leave has these records
 abbrev pub HasRecords : State → State → List Record → Type 0
 HasRecords sa sb rs = (a b : List ℕ) → left sa a → left sb b → found a b ≡ Some rs
 
@@ -40,10 +43,11 @@ or_none (Some rs) = rs
 abbrev pub durable_of : State → State → List Record
 durable_of sa sb = or_none (found sa.durable sb.durable)
 
--- a journal as callers see it
+-- a journal as callers see it; its end is the place of the gate that ends the list of bank a
 pub record View (D : Type 0) : Type 0 where
   pub a : D
   pub b : D
+  pub end : ℕ
   pub durable : List Record
   pub staged : List Record
   pub is_down : Bool
@@ -52,9 +56,13 @@ pub record View (D : Type 0) : Type 0 where
 abbrev pub batch_size : List Record → ℕ
 batch_size rs = length (batch_bytes false rs)
 
+-- the most records of one batch
+abbrev pub max_records : ℕ
+max_records = 65535
+
 -- one record more would make the staged batch too large
 abbrev pub HasNoRoom : List Record → Record → Type 0
-HasNoRoom staged r = (65535 ≤ length staged) ⊎ (1048576 < batch_size (staged ++ r ∷ []))
+HasNoRoom staged r = (max_records ≤ length staged) ⊎ (max_body < batch_size (staged ++ r ∷ []))
 
 -- an opening found these records: they are those of the devices as they read, and every stop leaves them
 pub record IsOpened {D : Type 0} (state : D → State) (a b : D) (rs : List Record) (new : View D) : Type 0 where
@@ -62,10 +70,24 @@ pub record IsOpened {D : Type 0} (state : D → State) (a b : D) (rs : List Reco
   pub durable : new.durable ≡ rs
   pub has : HasRecords (state new.a) (state new.b) rs
 
--- a flush goes wrong only where a device failed or has no room
+-- with the staged batch the list of a bank would end past the most bytes of a device
+pub record LacksRoom {D : Type 0} (state : D → State) (honest : D → Type 0) (bank : D) (end : ℕ) (staged : List Record) : Type 0 where
+  pub past : max_device ≤ end + batch_size staged + record_head
+  -- and it is no longer than what the bank reads as
+  pub within : honest bank → (state bank).stopped ≡ false → end < length (state bank).seen
+
+-- a flush goes wrong only where a device failed, or bank a has no room
 abbrev pub HasCause : {D : Type 0} → (D → State) → (D → Type 0) → View D → View D → Type 0
-HasCause state honest old new = HasFailed (state old.a) (state new.a) ⊎ (HasFailed (state old.b) (state new.b)
-    ⊎ (honest old.a → (state old.a).stopped ≡ false → 2 ^ 40 < length (state old.a).seen + batch_size old.staged + 5))
+HasCause state honest old new = HasFailed (state old.a) (state new.a) ⊎ (HasFailed (state old.b) (state new.b) ⊎ LacksRoom state honest old.a old.end old.staged)
+
+-- the batch that was staged stands at the end of the list
+abbrev pub after_batch : {D : Type 0} → View D → ℕ
+after_batch v = v.end + batch_size v.staged + record_head
+
+-- a script is set on the device of this bank, and the other device is as it was
+abbrev pub IsSetOn : {D : Type 0} → (D → ℕ → Tear → Type 0) → Bank → ℕ → Tear → D → D → D → D → Type 0
+IsSetOn set A n tear old_a old_b new_a new_b = set new_a n tear × (new_b ≡ old_b)
+IsSetOn set B n tear old_a old_b new_a new_b = set new_b n tear × (new_a ≡ old_a)
 
 -- What a stop at any moment of a call leaves of two devices has P. For a run that began earlier, a choice is one of
 -- those from before the call, or it has P.
@@ -76,10 +98,10 @@ pub record LeavesBoth {D : Type 0} (moment : D → ℕ) (left_since : D → ℕ 
   pub before : (t u : ℕ) (x y : List ℕ) → t ≤ moment old_a → u ≤ moment old_b → left_since new_a t x → left_since new_b u y
       → (left_since old_a t x × left_since old_b u y) ⊎ P x y
 
--- the contents hold the old records, or the longer list
-abbrev pub HoldsOldOrNew : List Record → List Record → List ℕ → List ℕ → Type 0
-HoldsOldOrNew durable staged a b = (found a b ≡ Some durable) ⊎ (found a b ≡ Some (durable ++ staged))
+-- the contents have the old records, or the longer list
+abbrev pub HasOldOrNew : List Record → List Record → List ℕ → List ℕ → Type 0
+HasOldOrNew durable staged a b = (found a b ≡ Some durable) ⊎ (found a b ≡ Some (durable ++ staged))
 
--- the contents could be left before an opening, or hold the records that it found
+-- the contents could be left before an opening, or have the records that it found
 abbrev pub WasLeftOrFound : State → State → List ℕ → List ℕ → Type 0
 WasLeftOrFound sa sb a b = (left sa a × left sb b) ⊎ (found a b ≡ found sa.seen sb.seen)

@@ -1,11 +1,16 @@
 -- The bytes of the records that are staged.
-use Rattle.std.specs.Prelude.{◌≡◌, ◌≤◌, ◌==◌, ℕ, false, if◌then◌else◌, List, [], ◌∷◌, ◌++◌, length, drop}
+use Rattle.std.specs.Prelude.{◌≡◌, ◌≤◌, ◌+◌, ◌==◌, ℕ, false, if◌then◌else◌, List, [], ◌∷◌, ◌++◌, length, drop}
 use Rattle.std.specs.List.{flat_map}
 use Rattle.std.specs.Int.{w16, to_be_bytes}
 use Rattle.records.specs.declared.record.Record.{Record}
 use Rattle.records.specs.Format.{AreRecords, record_bytes}
 use Rattle.records.specs.Reading.{batch}
-use Rattle.journal.specs.Records.{or_none}
+use Rattle.gated.specs.Gated.{max_body}
+use Rattle.journal.specs.Records.{max_records, or_none}
+
+-- the most bytes before the last one: four that the log fills, and a body
+abbrev pub max_len : ℕ
+max_len = max_body + 4
 
 -- the records of so many, whose bytes stand behind seven others
 unfoldable pub staged_in : ℕ → List ℕ → List Record
@@ -16,8 +21,8 @@ pub record IsSpelled (bytes : List ℕ) (capacity count : ℕ) : Type 0 where
   pub rs : List Record
   pub are_records : AreRecords rs
   pub number : length rs ≡ count
-  pub few : count ≤ 65535
+  pub few : count ≤ max_records
   pub front : 7 ≤ length bytes
   pub spelled : drop 7 bytes ≡ flat_map (record_bytes false) rs
-  pub fits : length bytes ≤ 1048580
-  pub room : 1048581 ≤ capacity
+  pub fits : length bytes ≤ max_len
+  pub room : max_len + 1 ≤ capacity

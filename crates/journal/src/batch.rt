@@ -2,9 +2,9 @@
 ghost use Rattle.std.specs.Prelude.{◌≡◌, ◌≤◌, ◌<◌, ◌+◌, ◌^◌, ◌++◌, ◌∷◌, ◌↔◌, ◌⊎◌, [], List, ℕ, Some, true, false, length, take, drop, vec_capacity, IfOk, IfErr, OnOk, OnErr};
 ghost use Rattle.std.specs.Int.{w16, to_be_bytes};
 ghost use Rattle.device.specs.Device.{LeavesOnly, HasFailed};
-ghost use Rattle.gated.specs.Gated.{HasList, IsOldOrNew, body_of};
-ghost use Rattle.journal.specs.Records.{HasNoRoom, batch_size};
-ghost use Rattle.journal.specs.Staging.{staged_in, IsSpelled};
+ghost use Rattle.gated.specs.Gated.{HasList, IsOldOrNew, body_of, record_head};
+ghost use Rattle.journal.specs.Records.{HasNoRoom, LacksRoom, batch_size};
+ghost use Rattle.journal.specs.Staging.{max_len, staged_in, IsSpelled};
 ghost use Rattle.records.specs.Format.{IsRecord, batch_bytes, record_bytes};
 ghost use Rattle.records.specs.Reading.{batch};
 
@@ -103,11 +103,14 @@ impl Batch {
         requires { 1 ≤ length self.old }
         ensures empty { self.new ≡ [] }
         ensures read { batch (batch_bytes false self.old) ≡ Some self.old }
-        ensures honest { D.honest log.old ↔ D.honest log.new }
-        ensures any_moment { (bodies : List (List ℕ)) → D.honest log.old → HasList (D.state log.old) bodies → LeavesOnly D.moment D.left_since log.old log.new (IsOldOrNew bodies (batch_bytes false self.old)) }
-        ensures ok { (bodies : List (List ℕ)) → D.honest log.old → HasList (D.state log.old) bodies → OnOk result (HasList (D.state log.new) (bodies ++ batch_bytes false self.old ∷ [])) }
-        ensures up { D.honest log.old → OnOk result ((D.state log.new).stopped ≡ false) }
-        ensures cause { OnErr result (HasFailed (D.state log.old) (D.state log.new) ⊎ (D.honest log.old → (D.state log.old).stopped ≡ false → 2 ^ 40 < length (D.state log.old).seen + batch_size self.old + 5)) }
+        ensures honest { D.honest log.old.device ↔ D.honest log.new.device }
+        ensures any_moment { (bodies : List (List ℕ)) → D.honest log.old.device → HasList (D.state log.old.device) bodies → LeavesOnly D.moment D.left_since log.old.device log.new.device (IsOldOrNew bodies (batch_bytes false self.old)) }
+        ensures ok { (bodies : List (List ℕ)) → D.honest log.old.device → HasList (D.state log.old.device) bodies → OnOk result (HasList (D.state log.new.device) (bodies ++ batch_bytes false self.old ∷ [])) }
+        ensures up { D.honest log.old.device → OnOk result ((D.state log.new.device).stopped ≡ false) }
+        ensures counts { (D.state log.old.device).failures ≤ (D.state log.new.device).failures }
+        ensures none { OnOk result ((D.state log.new.device).failures ≡ (D.state log.old.device).failures) }
+        ensures end { OnOk result (log.new.end ≡ log.old.end + batch_size self.old + record_head) }
+        ensures cause { OnErr result (HasFailed (D.state log.old.device) (D.state log.new.device) ⊎ LacksRoom D.state D.honest log.old.device log.old.end self.old) }
     {
         complete(&mut self.bytes, self.count);
         let result = log.append(&mut self.bytes);
@@ -120,10 +123,10 @@ impl Batch {
 // Adds the bytes of the record, if a batch may be so long.
 fn spell(next: &Record, bytes: &mut Vec<u8>) -> Result<(), Refusal>
     requires spellable { IsRecord next.now }
-    requires fits { length bytes.old.items ≤ 1048580 }
-    requires room { 1048581 ≤ vec_capacity bytes.old }
-    ensures ok { OnOk result ((bytes.new.items ≡ bytes.old.items ++ record_bytes false next.now) × (length bytes.new.items ≤ 1048580)) }
-    ensures full { OnErr result (1048580 < length bytes.old.items + length (record_bytes false next.now)) }
+    requires fits { length bytes.old.items ≤ max_len }
+    requires room { max_len + 1 ≤ vec_capacity bytes.old }
+    ensures ok { OnOk result ((bytes.new.items ≡ bytes.old.items ++ record_bytes false next.now) × (length bytes.new.items ≤ max_len)) }
+    ensures full { OnErr result (max_len < length bytes.old.items + length (record_bytes false next.now)) }
     ensures err { IfErr result (λ e. (e ≡ Refusal.Full) × (bytes.new.items ≡ bytes.old.items)) }
     ensures capacity { vec_capacity bytes.old ≤ vec_capacity bytes.new }
 {

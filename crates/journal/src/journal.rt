@@ -1,8 +1,9 @@
 // A journal: records are staged, and become durable by one append.
 ghost use Rattle.std.specs.Prelude.{◌≡◌, ◌⊎◌, ◌↔◌, ◌≤◌, ◌<◌, ◌+◌, ◌^◌, ◌++◌, ◌∷◌, [], List, ℕ, Some, None, OnOk, OnErr, IfOk, IfErr, IsErr, IsErrOf, MatchResult, map, length, true, false, min, ◌-◌};
-ghost use Rattle.device.specs.Device.{HasFailed, Keeps, LeavesOnly};
-ghost use Rattle.journal.specs.Records.{View, IsOpened, HasCause, HasNoRoom, HasRecords, HoldsOldOrNew, LeavesBoth, WasLeftOrFound, found, batch_size, batches};
-ghost use Rattle.journal.specs.Rest.{held, Holds, IsAtRest};
+ghost use Rattle.device.specs.Device.{Elapses, HasFailed, Keeps, LeavesOnly, left};
+ghost use Rattle.gated.specs.Gated.{record_head};
+ghost use Rattle.journal.specs.Records.{View, IsOpened, IsSetOn, after_batch, HasCause, HasNoRoom, HasRecords, LacksRoom, HasOldOrNew, LeavesBoth, WasLeftOrFound, found, batch_size, batches};
+ghost use Rattle.journal.specs.Rest.{bank_records, BankHas, IsAtRest};
 ghost use Rattle.records.specs.declared.record.Record.{Record as AnyRecord};
 ghost use Rattle.records.specs.Format.{IsRecord};
 
@@ -34,9 +35,9 @@ impl<D: Device> Model for Journal<D> {
 
     ghost Value = { View D };
 
-    ghost view = { λ j. record { a = j.log; b = j.spare; durable = durable_of (D.state j.log) (D.state j.spare); staged = j.staged; is_down = j.is_down } };
+    ghost view = { λ j. record { a = j.log.device; b = j.spare; end = j.log.end; durable = durable_of (D.state j.log.device) (D.state j.spare); staged = j.staged; is_down = j.is_down } };
 
-    ghost invariant = { λ j. j.is_down ≡ false → D.honest j.log → IsAtRest (D.state j.log) };
+    ghost invariant = { λ j. j.is_down ≡ false → D.honest j.log.device → IsAtRest (D.state j.log.device) };
 }
 
 // The records of the batches, and room for one batch more.
@@ -56,14 +57,17 @@ fn read(alloc: Global, bodies: &[Vec<u8>]) -> Result<(Batch, Vec<Record>), Refus
 // Appends what is staged as one batch.
 fn append_batch<D: Device>(log: &mut GatedLog<D>, staged: &mut Batch) -> Result<(), Refusal>
     requires some { 1 ≤ length staged.old }
-    requires rest { D.honest log.old → IsAtRest (D.state log.old) }
-    ensures honest { D.honest log.old ↔ D.honest log.new }
+    requires rest { D.honest log.old.device → IsAtRest (D.state log.old.device) }
+    ensures honest { D.honest log.old.device ↔ D.honest log.new.device }
     ensures empty { staged.new ≡ [] }
-    ensures rest { D.honest log.old → OnOk result (IsAtRest (D.state log.new)) }
-    ensures any_moment { (durable : List AnyRecord) → D.honest log.old → Holds (D.state log.old) durable
-        → LeavesOnly D.moment D.left_since log.old log.new (λ c. (held c ≡ Some durable) ⊎ (held c ≡ Some (durable ++ staged.old))) }
-    ensures ok { (durable : List AnyRecord) → D.honest log.old → Holds (D.state log.old) durable → OnOk result (Holds (D.state log.new) (durable ++ staged.old)) }
-    ensures cause { OnErr result (HasFailed (D.state log.old) (D.state log.new) ⊎ (D.honest log.old → (D.state log.old).stopped ≡ false → 2 ^ 40 < length (D.state log.old).seen + batch_size staged.old + 5)) }
+    ensures rest { D.honest log.old.device → OnOk result (IsAtRest (D.state log.new.device)) }
+    ensures any_moment { (durable : List AnyRecord) → D.honest log.old.device → BankHas (D.state log.old.device) durable
+        → LeavesOnly D.moment D.left_since log.old.device log.new.device (λ c. (bank_records c ≡ Some durable) ⊎ (bank_records c ≡ Some (durable ++ staged.old))) }
+    ensures ok { (durable : List AnyRecord) → D.honest log.old.device → BankHas (D.state log.old.device) durable → OnOk result (BankHas (D.state log.new.device) (durable ++ staged.old)) }
+    ensures counts { (D.state log.old.device).failures ≤ (D.state log.new.device).failures }
+    ensures none { OnOk result ((D.state log.new.device).failures ≡ (D.state log.old.device).failures) }
+    ensures end { OnOk result (log.new.end ≡ log.old.end + batch_size staged.old + record_head) }
+    ensures cause { OnErr result (HasFailed (D.state log.old.device) (D.state log.new.device) ⊎ LacksRoom D.state D.honest log.old.device log.old.end staged.old) }
 {
     staged.append_to(log)?;
     Ok(())
@@ -73,20 +77,25 @@ impl<D: Device> Journal<D> {
     /// Opens the journal of two devices, with the records found, oldest first. It reserves the memory for a whole batch.
     ///
     /// Each refusal gives the devices back: `Down` where a call of a device failed, `NoMemory`, and `Damaged` where the devices
-    /// hold no list of batches. Bank a alone is read, and no call is made on bank b.
+    /// have no list of batches. Bank a alone is read, and no call is made on bank b.
     pub fn open(alloc: Global, a: D, b: D) -> Result<(Journal<D>, Vec<Record>), Refused<D>>
         ensures honest { MatchResult result (λ r. (D.honest a ↔ D.honest r.0.a) × (D.honest b ↔ D.honest r.0.b)) (λ e. (D.honest a ↔ D.honest e.a) × (D.honest b ↔ D.honest e.b)) }
 
-        // Exactly the records that the devices hold.
+        // Exactly the records that the devices have.
         ensures ok { D.honest a → D.honest b → IfOk result (λ r. IsOpened D.state a b r.1.items r.0) }
         ensures fresh { IfOk result (λ r. (r.0.staged ≡ []) × (r.0.is_down ≡ false)) }
         ensures damaged { D.honest a → D.honest b → IfErr result (λ e. e.refusal ≡ Refusal.Damaged → found (D.state a).seen (D.state b).seen ≡ None) }
         ensures down { IfErr result (λ e. e.refusal ≡ Refusal.Down → HasFailed (D.state a) (D.state e.a) ⊎ HasFailed (D.state b) (D.state e.b)) }
         ensures err { IfErr result (λ e. (e.refusal ≡ Refusal.Down) ⊎ ((e.refusal ≡ Refusal.NoMemory) ⊎ (e.refusal ≡ Refusal.Damaged))) }
         ensures stopped { (D.state a).stopped ≡ true → IsErr result }
+        ensures counts_a { MatchResult result (λ r. (D.state a).failures ≤ (D.state r.0.a).failures) (λ e. (D.state a).failures ≤ (D.state e.a).failures) }
+        ensures counts_b { MatchResult result (λ r. (D.state b).failures ≤ (D.state r.0.b).failures) (λ e. (D.state b).failures ≤ (D.state e.b).failures) }
+        ensures none { MatchResult result (λ r. ((D.state r.0.a).failures ≡ (D.state a).failures) × ((D.state r.0.b).failures ≡ (D.state b).failures))
+            (λ e. (e.refusal ≡ Refusal.Down) ⊎ (((D.state e.a).failures ≡ (D.state a).failures) × ((D.state e.b).failures ≡ (D.state b).failures))) }
+        ensures end { D.honest a → IfOk result (λ r. r.0.end < length (D.state r.0.a).seen) }
 
         // At every moment of the call a stop leaves what it could leave before, or the records found.
-        ensures any_moment { D.honest a → D.honest b → (D.state a).stopped ≡ false → MatchResult result
+        ensures any_moment { D.honest a → D.honest b → MatchResult result
             (λ r. LeavesBoth D.moment D.left_since a b r.0.a r.0.b (WasLeftOrFound (D.state a) (D.state b)))
             (λ e. LeavesBoth D.moment D.left_since a b e.a e.b (WasLeftOrFound (D.state a) (D.state b))) }
     {
@@ -136,20 +145,25 @@ impl<D: Device> Journal<D> {
 
     /// Makes durable what is staged, in one batch: four device calls, or none where nothing is staged. It takes no memory.
     ///
-    /// `Down` where a device failed, or bank a would pass 2^40 bytes. Then the staged records may be durable or not, and the journal
-    /// has to be opened again.
+    /// `Down` where a device failed, or the list of bank a would end past 2^40 bytes. Then the staged records may be durable or
+    /// not, which the next opening tells. In memory they are staged no more, and the journal is down: each flush answers `Down`
+    /// without a call, so that nothing which is staged from then on becomes durable, and the devices have to be opened again.
     pub fn flush(&mut self) -> Result<(), Refusal>
         ensures honest { (D.honest self.old.a ↔ D.honest self.new.a) × (D.honest self.old.b ↔ D.honest self.new.b) }
 
         // At every moment of the call a stop leaves the durable records, with all that is staged or without.
         ensures any_moment { D.honest self.old.a → D.honest self.old.b → self.old.is_down ≡ false
-            → LeavesBoth D.moment D.left_since self.old.a self.old.b self.new.a self.new.b (HoldsOldOrNew self.old.durable self.old.staged) }
+            → LeavesBoth D.moment D.left_since self.old.a self.old.b self.new.a self.new.b (HasOldOrNew self.old.durable self.old.staged) }
 
         // From then on each stop leaves them with it.
         ensures ok { D.honest self.old.a → D.honest self.old.b → OnOk result ((self.new.durable ≡ self.old.durable ++ self.old.staged) × HasRecords (D.state self.new.a) (D.state self.new.b) self.new.durable) }
         ensures up { OnOk result ((self.old.is_down ≡ false) × (self.new.is_down ≡ false) × (self.new.staged ≡ [])) }
         ensures err { IfErr result (λ e. (e ≡ Refusal.Down) × (self.new.is_down ≡ true)) }
+        ensures forgets { OnErr result ((self.old.is_down ≡ true) ⊎ (self.new.staged ≡ [])) }
         ensures cause { OnErr result ((self.old.is_down ≡ true) ⊎ HasCause D.state D.honest self.old self.new) }
+        ensures counts { ((D.state self.old.a).failures ≤ (D.state self.new.a).failures) × ((D.state self.old.b).failures ≤ (D.state self.new.b).failures) }
+        ensures none { OnOk result (((D.state self.new.a).failures ≡ (D.state self.old.a).failures) × ((D.state self.new.b).failures ≡ (D.state self.old.b).failures)) }
+        ensures end { OnOk result ((self.old.staged ≡ []) ⊎ (self.new.end ≡ after_batch self.old)) }
 
         // Where a device failed before, or nothing is staged, no call is made.
         ensures quiet { ((self.old.is_down ≡ true) ⊎ (self.old.staged ≡ [])) → self.new ≡ self.old }
@@ -176,7 +190,8 @@ impl<D: Device> Journal<D> {
         self.staged.len()
     }
 
-    /// Whether a flush failed since the opening.
+    /// Whether a flush failed since the opening. Then no later flush makes anything durable, though `stage` and `has_room` still
+    /// answer of the memory: the devices have to be opened again.
     pub fn is_down(&self) -> bool
         ensures { result ≡ self.now.is_down }
     {
@@ -185,11 +200,14 @@ impl<D: Device> Journal<D> {
 
     /// Sets the script of one device, and changes nothing else.
     pub fn fail(&mut self, bank: Bank, n: u64, tear: Tear)
+        ensures set { IsSetOn D.set_to_fail bank n tear self.old.a self.old.b self.new.a self.new.b }
         ensures honest { (D.honest self.old.a ↔ D.honest self.new.a) × (D.honest self.old.b ↔ D.honest self.new.b) }
         ensures keeps_a { D.honest self.old.a → Keeps (D.state self.old.a) (D.state self.new.a) }
         ensures keeps_b { D.honest self.old.b → Keeps (D.state self.old.b) (D.state self.new.b) }
         ensures failures { ((D.state self.new.a).failures ≡ (D.state self.old.a).failures) × ((D.state self.new.b).failures ≡ (D.state self.old.b).failures) }
-        ensures staged { (self.new.staged ≡ self.old.staged) × (self.new.is_down ≡ self.old.is_down) }
+        ensures time_a { D.honest self.old.a → Elapses (D.moment self.old.a) (D.moment self.new.a) (D.left_since self.old.a) (D.left_since self.new.a) (left (D.state self.new.a)) }
+        ensures time_b { D.honest self.old.b → Elapses (D.moment self.old.b) (D.moment self.new.b) (D.left_since self.old.b) (D.left_since self.new.b) (left (D.state self.new.b)) }
+        ensures staged { (self.new.staged ≡ self.old.staged) × (self.new.is_down ≡ self.old.is_down) × (self.new.end ≡ self.old.end) }
         ensures durable { D.honest self.old.a → D.honest self.old.b → self.new.durable ≡ self.old.durable }
     {
         match bank {

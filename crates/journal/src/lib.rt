@@ -2,9 +2,9 @@
 //!
 //! Keeps: a flush leaves the durable records with all that was staged or without, at every moment, and with it after `Ok`.
 //! Never: knows what a record does to a node. The second device is untouched so far.
-//! Callers rely on: `stage` and `flush` take no memory; after `Down` the journal answers nothing more until it is opened again.
+//! Callers rely on: `stage` and `flush` take no memory; after `Down` nothing becomes durable until the devices are opened again.
 //!
-//! Start at `specs/Records.antt`, which records two contents hold.
+//! Start at `specs/Records.antt`, which records two contents have.
 #![tactic(auto)]
 
 mod batch;

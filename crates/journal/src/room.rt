@@ -7,13 +7,7 @@ ghost use Rattle.records.specs.Format.{record_bytes};
 use crate::Journal;
 use crate::batch::{Batch, MAX_LEN};
 use device::Device;
-#[cfg(test)]
-use device::SimDisk;
 use records::MAX_RECORDS;
-#[cfg(test)]
-use std::alloc::Global;
-#[cfg(test)]
-use std::test::Fail;
 
 impl Batch {
     /// Whether one record of so many bytes more fits.
@@ -37,23 +31,4 @@ impl<D: Device> Journal<D> {
     {
         self.staged.has_room_for(bytes)
     }
-}
-
-/// Whether a record of so many bytes fits into a journal of two new disks.
-#[cfg(test)]
-fn fits_alone(alloc: Global, bytes: usize) -> Result<bool, Fail> {
-    let a = SimDisk::new(alloc, Vec::new(alloc))?;
-    let b = SimDisk::new(alloc, Vec::new(alloc))?;
-    match Journal::open(alloc, a, b) {
-        Ok((journal, _)) => Ok(journal.has_room_for(bytes)),
-        Err(_) => Err("the devices were refused".into()),
-    }
-}
-
-// A batch has 1,048,576 bytes at most, three of them before its records.
-#[test]
-fn the_longest_record_fits_alone(rt: HostRuntime) -> Result<(), Fail> {
-    assert!(rt; fits_alone(rt.alloc(), 1_048_573)?);
-    assert!(rt; !fits_alone(rt.alloc(), 1_048_574)?);
-    Ok(())
 }

@@ -3,7 +3,7 @@ use Rattle.std.proofs.lemmas.List.{take_all}
 use Rattle.std.proofs.lemmas.Result.{err_from_is_err_and}
 use Rattle.records.specs.declared.record.Record.{Record}
 use Rattle.records.specs.Reading.{batch}
-use Rattle.tuples.specs.declared.refusal.Refusal.{Refusal}
+use Rattle.refusal.specs.declared.refusal.Refusal.{Refusal}
 use Rattle.journal.specs.Records.{batches}
 use Rattle.journal.proofs.Joined.{none_at, one_more}
 use Rattle.journal.proofs.batches.decode_batches.Goals as goal

@@ -1,23 +1,23 @@
-use Rattle.std.proofs.Common.{◌∙◌, ap, inr}
+use Rattle.std.proofs.Common.{rules, ap, inr}
 use Rattle.device.specs.Sim.{Image, overwritten}
 use Rattle.device.proofs.History.{made_image, made_elapses}
 use Rattle.device.proofs.sim_device.SimDiskDevice.write_at.Goals as goal
 
-pub returns-then-strikes-clause-torn : goal.returns-then-strikes-clause-torn
-returns-then-strikes-clause-torn c = λ hon.
+pub returns-then-is_some-clause-torn : goal.returns-then-is_some-clause-torn
+returns-then-is_some-clause-torn c =
     let s = c.args.self.now in
     let n = c.store.new.self in
     let image = made_image n.first.items s.first.items s.history.items n.history.items (overwritten c.args.at c.args.bytes.now) c.in-Ok.ensures.first c.in-Ok.ensures.made in
     record { durable = ap (λ (m : Image). m.durable) image; written = inr (ap (λ (m : Image). m.written) image) }
 
-pub returns-then-strikes-clause-time : goal.returns-then-strikes-clause-time
-returns-then-strikes-clause-time c = λ hon.
+pub returns-then-is_some-clause-time : goal.returns-then-is_some-clause-time
+returns-then-is_some-clause-time c =
     let s = c.args.self.now in
     let n = c.store.new.self in
     made_elapses n.first.items s.first.items s.history.items n.history.items (overwritten c.args.at c.args.bytes.now) c.in-Ok.ensures.first c.in-Ok.ensures.made
 
-pub returns-else-strikes-clause-ok : goal.returns-else-strikes-clause-ok
-returns-else-strikes-clause-ok c = λ hon.
+pub returns-else-is_some-clause-ok : goal.returns-else-is_some-clause-ok
+returns-else-is_some-clause-ok c =
     let s = c.args.self.now in
     let n = c.store.new.self in
     let image = made_image n.first.items s.first.items s.history.items n.history.items (overwritten c.args.at c.args.bytes.now) c.in-Ok.ensures.first c.in-Ok.ensures.made in
@@ -25,11 +25,11 @@ returns-else-strikes-clause-ok c = λ hon.
       seen = c.in-Ok.ensures.seen;
       durable = ap (λ (m : Image). m.durable) image;
       written = ap (λ (m : Image). m.written) image;
-      stopped = c.in-Ok.ensures.stopped ∙ c.if-self.false;
+      stopped = search rules;
     }
 
-pub returns-else-strikes-clause-time : goal.returns-else-strikes-clause-time
-returns-else-strikes-clause-time c = λ hon.
+pub returns-else-is_some-clause-time : goal.returns-else-is_some-clause-time
+returns-else-is_some-clause-time c =
     let s = c.args.self.now in
     let n = c.store.new.self in
     made_elapses n.first.items s.first.items s.history.items n.history.items (overwritten c.args.at c.args.bytes.now) c.in-Ok.ensures.first c.in-Ok.ensures.made

@@ -1,7 +1,7 @@
 use Rattle.std.proofs.Common.{◌≡◌, ◌+◌, ◌⊎◌, inl, inr, ◌++◌, ◌∷◌, [], List, ℕ, Result, Ok, Err, Some, false, length, ap, subst, ◌∙◌, arith}
 use Rattle.std.specs.Result.{IfErr, OnErr, OnOk, IsErrOf}
-use Rattle.tuples.specs.declared.refusal.Refusal.{Refusal}
-use Rattle.tuples.specs.declared.refusal.Refusal.TheVariants.{Down, Full}
+use Rattle.refusal.specs.declared.refusal.Refusal.{Refusal}
+use Rattle.refusal.specs.declared.refusal.Refusal.TheVariants.{Down, Full}
 use Rattle.records.specs.declared.record.Record.{Record}
 use Rattle.records.specs.Format.{batch_bytes}
 use Rattle.records.specs.Reading.{batch}
@@ -26,15 +26,17 @@ returns-clause-read g c =
 pub returns-clause-any_moment : goal.returns-clause-any_moment
 returns-clause-any_moment g c = λ bodies hon has.
     let body : body_of c.deref_mut.result.now ≡ batch_bytes false c.args.self.now = ap body_of c.deref_mut.ensures.value ∙ c.complete.ensures.body ∙ ap (batch_bytes false) c.self.view_is in
-    subst (λ (l : List ℕ). LeavesOnly g.D.Device.moment g.D.Device.left_since c.args.log.now c.append-result.new.self (IsOldOrNew bodies l)) body (c.append-result.ensures.any_moment bodies hon has)
+    subst (λ (l : List ℕ). LeavesOnly g.D.Device.moment g.D.Device.left_since c.args.log.now.device c.append-result.new.self.device (IsOldOrNew bodies l)) body (c.append-result.ensures.any_moment bodies hon has)
 
 pub returns-clause-ok : goal.returns-clause-ok
 returns-clause-ok g c = λ bodies hon has.
     let body : body_of c.deref_mut.result.now ≡ batch_bytes false c.args.self.now = ap body_of c.deref_mut.ensures.value ∙ c.complete.ensures.body ∙ ap (batch_bytes false) c.self.view_is in
-    subst (λ (l : List ℕ). OnOk c.append-result.result (HasList (g.D.Device.state c.append-result.new.self) (bodies ++ l ∷ []))) body (c.append-result.ensures.ok bodies hon has)
+    subst (λ (l : List ℕ). OnOk c.append-result.result (HasList (g.D.Device.state c.append-result.new.self.device) (bodies ++ l ∷ []))) body (c.append-result.ensures.ok bodies hon has)
 
 pub returns-clause-cause : goal.returns-clause-cause
 returns-clause-cause g c =
     let size : length c.deref_mut.result.now ≡ batch_size c.args.self.now + 5 =
     omega (arith, ap length c.deref_mut.ensures.value, c.complete.ensures.len, length_is _ _ _ c.self.invariant, ap batch_size c.self.view_is) in
-    by_error c.append-result.result c.append-result.ensures.err (λ is. (c.append-result.ensures.failed is).cause) (λ is hon up. omega (arith, (c.append-result.ensures.full is).1 hon up, size))
+    by_error c.append-result.result c.append-result.ensures.err (λ is. (c.append-result.ensures.failed is).cause) (λ is.
+    let full = c.append-result.ensures.full is in
+    record { past = omega (arith, full.1, size); within = full.2 })
