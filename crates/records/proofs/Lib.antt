@@ -7,3 +7,5 @@ pub mod Records
 pub mod Spelled
 pub mod Loop
 pub mod Putting
+pub mod CoordinatorStates
+pub mod Shares

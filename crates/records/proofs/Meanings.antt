@@ -5,7 +5,7 @@ use Rattle.std.proofs.lemmas.Bool.{leb-true, le-leb, ltb-true, lt-ltb, and_parts
 use Rattle.tuples.specs.declared.tuple.Tuple.{Tuple}
 use Rattle.tuples.specs.Changes.{AreDistinct, has_tuple}
 use Rattle.tuples.specs.Names.{IsId, IsName, is_id_byte, is_name_byte}
-use Rattle.records.specs.declared.record.Part.{Part}
+use Rattle.records.specs.declared.record.PlacedId.{PlacedId}
 use Rattle.records.specs.Format.{AreRisingTo}
 use Rattle.records.specs.Reading.{are_distinct, are_rising_to, is_id, is_name}
 
@@ -41,14 +41,14 @@ pub test_of_distinct : (ts : List Tuple) → AreDistinct ts → are_distinct ts 
 test_of_distinct [] h = refl
 test_of_distinct (t ∷ ts) h = and_from _ _ (not_of_false _ h.0) (test_of_distinct ts h.1)
 
-pub rising_of_test : (to : ℕ) (parts : List Part) → are_rising_to to parts ≡ true → AreRisingTo to parts
+pub rising_of_test : (to : ℕ) (placed_ids : List PlacedId) → are_rising_to to placed_ids ≡ true → AreRisingTo to placed_ids
 rising_of_test to [] h = tt
 rising_of_test to (p ∷ []) h = leb-true _ _ h
-rising_of_test to (p ∷ q ∷ parts) h =
-    let a = and_parts (ltb p.place q.place) (are_rising_to to (q ∷ parts)) h in
-    (ltb-true _ _ a.0, rising_of_test to (q ∷ parts) a.1)
+rising_of_test to (p ∷ q ∷ placed_ids) h =
+    let a = and_parts (ltb p.place q.place) (are_rising_to to (q ∷ placed_ids)) h in
+    (ltb-true _ _ a.0, rising_of_test to (q ∷ placed_ids) a.1)
 
-pub test_of_rising : (to : ℕ) (parts : List Part) → AreRisingTo to parts → are_rising_to to parts ≡ true
+pub test_of_rising : (to : ℕ) (placed_ids : List PlacedId) → AreRisingTo to placed_ids → are_rising_to to placed_ids ≡ true
 test_of_rising to [] h = refl
 test_of_rising to (p ∷ []) h = le-leb _ _ h
-test_of_rising to (p ∷ q ∷ parts) h = and_from _ _ (lt-ltb _ _ h.0) (test_of_rising to (q ∷ parts) h.1)
+test_of_rising to (p ∷ q ∷ placed_ids) h = and_from _ _ (lt-ltb _ _ h.0) (test_of_rising to (q ∷ placed_ids) h.1)

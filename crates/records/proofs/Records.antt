@@ -9,15 +9,15 @@ use Rattle.tuples.specs.declared.entry.Entry.{Entry}
 use Rattle.tuples.specs.declared.entry.WriteId.{WriteId}
 use Rattle.tuples.specs.Changes.{IsPart, changed, conditioned, tuple_of}
 use Rattle.tuples.specs.Texts.{IsTuple}
-use Rattle.records.specs.declared.record.Part.{Part}
+use Rattle.records.specs.declared.record.PlacedId.{PlacedId}
 use Rattle.records.specs.declared.record.Record.{Record}
 use Rattle.records.specs.declared.record.Record.TheVariants.{Prepare, Learned, Dropped, Epoch, Decision, Horizon}
 use Rattle.records.specs.Format.{id_bytes, entry_bytes, record_bytes, IsWriteId, WantFits, IsPlace, Fits64, ConditionsFit, ArePlaces, AreRisingTo, IsRecord, IsOfFirst}
-use Rattle.records.specs.Reading.{byte_at, number_at, write_id_at, entry_at, parts_at, are_rising_to, prepare_at, learned_at, dropped_at, epoch_at, decision_at, horizon_at, record_of_kind_at, record_at}
+use Rattle.records.specs.Reading.{byte_at, number_at, write_id_at, entry_at, placed_ids_at, are_rising_to, prepare_at, learned_at, dropped_at, epoch_at, decision_at, horizon_at, record_of_kind_at, record_at}
 use Rattle.records.proofs.Fields.{IsBytes, Takes, IsField, IsCase, one_case, two_case, four_case, tagged, tagged_field, byte_field}
 use Rattle.records.proofs.Meanings.{distinct_of_test, test_of_distinct, rising_of_test, test_of_rising}
 use Rattle.records.proofs.Texts.{kind_takes}
-use Rattle.records.proofs.Writes.{InFirst, AreParts, IsCondition, IsSpelledEntry, IsSpelledPart, entry_field, parts_bytes, parts_field, place_field, write_id_field}
+use Rattle.records.proofs.Writes.{InFirst, ArePlacedIds, IsCondition, IsSpelledEntry, IsSpelledPlacedId, entry_field, placed_ids_bytes, placed_ids_field, place_field, write_id_field}
 
 -- what has a spelling in version 1, where the flag says so, and else in version 2
 abbrev pub IsSpelled : Bool → Record → Type 0
@@ -81,26 +81,26 @@ prepare_fits first w h = (record { id = h.0.id; part = part_of first w h.0; some
 prepare_back : (first : Bool) (w : Entry) → IsSpelled first (Prepare w) → FitsPrepare first w
 prepare_back first w h = (entry_back first w h.0.id h.0.part h.0.wants h.1, le-leb _ _ h.0.some)
 
-abbrev FitsLearned : ℕ × List Part → Type 0
-FitsLearned x = (Fits64 x.0 × AreParts x.1) × (are_rising_to x.0 x.1 ≡ true)
+abbrev FitsLearned : ℕ × List PlacedId → Type 0
+FitsLearned x = (Fits64 x.0 × ArePlacedIds x.1) × (are_rising_to x.0 x.1 ≡ true)
 
-learned_case : IsCase learned_at (λ (x : ℕ × List Part). Learned x.0 x.1) (λ x. to_be_bytes w64 x.0 ++ parts_bytes x.1) FitsLearned
+learned_case : IsCase learned_at (λ (x : ℕ × List PlacedId). Learned x.0 x.1) (λ x. to_be_bytes w64 x.0 ++ placed_ids_bytes x.1) FitsLearned
 unfolding learned_at
-learned_case = two_case (number_at w64) (to_be_bytes w64) Fits64 parts_at parts_bytes AreParts are_rising_to (λ to parts. Learned to parts) place_field parts_field
+learned_case = two_case (number_at w64) (to_be_bytes w64) Fits64 placed_ids_at placed_ids_bytes ArePlacedIds are_rising_to (λ to placed_ids. Learned to placed_ids) place_field placed_ids_field
 
-learned_fits : (first : Bool) (x : ℕ × List Part) → FitsLearned x → IsSpelled first (Learned x.0 x.1)
-learned_fits first x h = (record { to_fits = h.0.0; few = h.0.1.0; ids = each IsSpelledPart (λ p. IsWriteId p.id) (λ p k. k.0) x.1 h.0.1.1; places = rising_of_test _ _ h.1 }, in_first first)
+learned_fits : (first : Bool) (x : ℕ × List PlacedId) → FitsLearned x → IsSpelled first (Learned x.0 x.1)
+learned_fits first x h = (record { to_fits = h.0.0; few = h.0.1.0; ids = each IsSpelledPlacedId (λ p. IsWriteId p.id) (λ p k. k.0) x.1 h.0.1.1; places = rising_of_test _ _ h.1 }, in_first first)
 
-parts_back : (to : ℕ) (parts : List Part) → Fits64 to → AreRisingTo to parts → AllByRecursion (λ (p : Part). IsWriteId p.id) parts → AllByRecursion IsSpelledPart parts
-parts_back to [] fits rising ids = tt
-parts_back to (p ∷ []) fits rising ids = ((ids.0, omega (arith, rising, fits)), tt)
-parts_back to (p ∷ q ∷ parts) fits rising ids =
-    let others = parts_back to (q ∷ parts) fits rising.1 ids.1 in
+placed_ids_back : (to : ℕ) (placed_ids : List PlacedId) → Fits64 to → AreRisingTo to placed_ids → AllByRecursion (λ (p : PlacedId). IsWriteId p.id) placed_ids → AllByRecursion IsSpelledPlacedId placed_ids
+placed_ids_back to [] fits rising ids = tt
+placed_ids_back to (p ∷ []) fits rising ids = ((ids.0, omega (arith, rising, fits)), tt)
+placed_ids_back to (p ∷ q ∷ placed_ids) fits rising ids =
+    let others = placed_ids_back to (q ∷ placed_ids) fits rising.1 ids.1 in
     let next : Fits64 q.place = others.0.1 in
     ((ids.0, omega (arith, rising.0, next)), others)
 
-learned_back : (first : Bool) (to : ℕ) (parts : List Part) → IsSpelled first (Learned to parts) → FitsLearned (to, parts)
-learned_back first to parts h = ((h.0.to_fits, (h.0.few, parts_back to parts h.0.to_fits h.0.places h.0.ids)), test_of_rising _ _ h.0.places)
+learned_back : (first : Bool) (to : ℕ) (placed_ids : List PlacedId) → IsSpelled first (Learned to placed_ids) → FitsLearned (to, placed_ids)
+learned_back first to placed_ids h = ((h.0.to_fits, (h.0.few, placed_ids_back to placed_ids h.0.to_fits h.0.places h.0.ids)), test_of_rising _ _ h.0.places)
 
 dropped_case : IsCase dropped_at (λ (i : WriteId). Dropped i) id_bytes (λ i. IsWriteId i × (true ≡ true))
 unfolding dropped_at
@@ -149,7 +149,7 @@ record_takes first zero bytes z fits e = absurd cc
 record_takes first (suc zero) bytes z fits e =
     kind_takes 1 (prepare_at first) (λ (w : Entry). Prepare w) (entry_bytes first) (FitsPrepare first) (record_bytes first) (IsSpelled first) (prepare_case first) (λ w. refl) (prepare_fits first) bytes z fits e
 record_takes first (suc (suc zero)) bytes z fits e =
-    kind_takes 2 learned_at (λ (x : ℕ × List Part). Learned x.0 x.1) (λ x. to_be_bytes w64 x.0 ++ parts_bytes x.1) FitsLearned (record_bytes first) (IsSpelled first) learned_case (λ x. refl) (learned_fits first) bytes z fits e
+    kind_takes 2 learned_at (λ (x : ℕ × List PlacedId). Learned x.0 x.1) (λ x. to_be_bytes w64 x.0 ++ placed_ids_bytes x.1) FitsLearned (record_bytes first) (IsSpelled first) learned_case (λ x. refl) (learned_fits first) bytes z fits e
 record_takes first (suc (suc (suc zero))) bytes z fits e =
     kind_takes 3 dropped_at (λ (i : WriteId). Dropped i) id_bytes (λ i. IsWriteId i × (true ≡ true)) (record_bytes first) (IsSpelled first) dropped_case (λ i. refl) (λ i h. (h.0, in_first first)) bytes z fits e
 record_takes first (suc (suc (suc (suc zero)))) bytes z fits e =
@@ -163,7 +163,7 @@ record_takes first (suc (suc (suc (suc (suc (suc (suc k))))))) bytes z fits e = 
 record_again : (first : Bool) (r : Record) (rest : List ℕ) → IsSpelled first r → tagged (record_of_kind_at first) (record_bytes first r ++ rest) ≡ Some (r, rest)
 unfolding record_of_kind_at record_bytes
 record_again first (Prepare w) rest h = (prepare_case first).again w rest (prepare_back first w h)
-record_again first (Learned to parts) rest h = learned_case.again (to, parts) rest (learned_back first to parts h)
+record_again first (Learned to placed_ids) rest h = learned_case.again (to, placed_ids) rest (learned_back first to placed_ids h)
 record_again first (Dropped i) rest h = dropped_case.again i rest (h.0, refl)
 record_again first (Epoch e s k n) rest h = epoch_case.again (e, s, k, n) rest (epoch_back first e s k n h)
 record_again first (Decision p w) rest h = (decision_case first).again (p, w) rest (decision_back first p w h)

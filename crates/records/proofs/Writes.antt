@@ -13,9 +13,9 @@ use Rattle.tuples.specs.declared.entry.Entry.{Entry}
 use Rattle.tuples.specs.declared.entry.WriteId.{WriteId}
 use Rattle.tuples.specs.Changes.{changed, conditioned, tuple_of}
 use Rattle.tuples.specs.Texts.{IsTuple}
-use Rattle.records.specs.declared.record.Part.{Part}
-use Rattle.records.specs.Format.{id_bytes, tuple_bytes, change_bytes, want_bytes, condition_bytes, entry_bytes, part_bytes, IsWriteId, WantFits, IsPlace, Fits64}
-use Rattle.records.specs.Reading.{byte_at, number_at, positive_at, tuple_at, change_of_kind_at, change_at, not_after_at, want_of_kind_at, want_at, condition_at, few_at, are_distinct, changes_at, conditions_at, write_id_at, entry_at, part_at, parts_at}
+use Rattle.records.specs.declared.record.PlacedId.{PlacedId}
+use Rattle.records.specs.Format.{id_bytes, tuple_bytes, change_bytes, want_bytes, condition_bytes, entry_bytes, placed_id_bytes, IsWriteId, WantFits, IsPlace, Fits64}
+use Rattle.records.specs.Reading.{byte_at, number_at, positive_at, tuple_at, change_of_kind_at, change_at, not_after_at, want_of_kind_at, want_at, condition_at, few_at, are_distinct, changes_at, conditions_at, write_id_at, entry_at, placed_id_at, placed_ids_at}
 use Rattle.records.proofs.Fields.{IsBytes, Takes, IsField, IsCase, field_of, some_is, one_case, two_case, three_case, tagged, tagged_field, byte_field, number_field, wide16, wide64}
 use Rattle.records.proofs.Texts.{kind_takes, tuple_field}
 use Rattle.records.proofs.Lists.{few_field}
@@ -49,29 +49,29 @@ write_id_field = field_of write_id_at (λ (x : ℕ × ℕ). write_id x.0 x.1) (�
     (λ x fit. record { epoch = fit.0.0.0; epoch_fits = fit.0.0.1; number = fit.0.1.0; number_fits = fit.0.1.1 })
     (λ i fit. ((i.epoch, i.number), refl, (((fit.epoch, fit.epoch_fits), (fit.number, fit.number_fits)), refl)))
 
-abbrev part : WriteId → ℕ → Part
-part i p = record { id = i; place = p }
+abbrev placed_id : WriteId → ℕ → PlacedId
+placed_id i p = record { id = i; place = p }
 
-abbrev pub IsSpelledPart : Part → Type 0
-IsSpelledPart p = IsWriteId p.id × Fits64 p.place
+abbrev pub IsSpelledPlacedId : PlacedId → Type 0
+IsSpelledPlacedId p = IsWriteId p.id × Fits64 p.place
 
-pub part_field : IsField part_at part_bytes IsSpelledPart
-unfolding part_at
-part_field = field_of part_at (λ (x : WriteId × ℕ). part x.0 x.1) (λ x. id_bytes x.0 ++ to_be_bytes w64 x.1) (λ x. (IsWriteId x.0 × Fits64 x.1) × (true ≡ true)) part_bytes IsSpelledPart
-    (two_case write_id_at id_bytes IsWriteId (number_at w64) (to_be_bytes w64) Fits64 (λ i p. true) part write_id_field place_field)
+pub placed_id_field : IsField placed_id_at placed_id_bytes IsSpelledPlacedId
+unfolding placed_id_at
+placed_id_field = field_of placed_id_at (λ (x : WriteId × ℕ). placed_id x.0 x.1) (λ x. id_bytes x.0 ++ to_be_bytes w64 x.1) (λ x. (IsWriteId x.0 × Fits64 x.1) × (true ≡ true)) placed_id_bytes IsSpelledPlacedId
+    (two_case write_id_at id_bytes IsWriteId (number_at w64) (to_be_bytes w64) Fits64 (λ i p. true) placed_id write_id_field place_field)
     (λ x. refl)
     (λ x fit. fit.0)
     (λ p fit. ((p.id, p.place), refl, (fit, refl)))
 
-abbrev pub AreParts : List Part → Type 0
-AreParts parts = (length parts ≤ 256) × AllByRecursion IsSpelledPart parts
+abbrev pub ArePlacedIds : List PlacedId → Type 0
+ArePlacedIds placed_ids = (length placed_ids ≤ 256) × AllByRecursion IsSpelledPlacedId placed_ids
 
-abbrev pub parts_bytes : List Part → List ℕ
-parts_bytes parts = to_be_bytes w16 (length parts) ++ flat_map part_bytes parts
+abbrev pub placed_ids_bytes : List PlacedId → List ℕ
+placed_ids_bytes placed_ids = to_be_bytes w16 (length placed_ids) ++ flat_map placed_id_bytes placed_ids
 
-pub parts_field : IsField parts_at parts_bytes AreParts
-unfolding parts_at
-parts_field = few_field (number_at w16) (to_be_bytes w16) (λ n. n < 2 ^ 16) part_at part_bytes IsSpelledPart 256 (number_field w16 (2 ^ 16) wide16) part_field (λ n le. omega arith)
+pub placed_ids_field : IsField placed_ids_at placed_ids_bytes ArePlacedIds
+unfolding placed_ids_at
+placed_ids_field = few_field (number_at w16) (to_be_bytes w16) (λ n. n < 2 ^ 16) placed_id_at placed_id_bytes IsSpelledPlacedId 256 (number_field w16 (2 ^ 16) wide16) placed_id_field (λ n le. omega arith)
 
 -- ---- changes
 

@@ -9,7 +9,8 @@ use Rattle.tuples.specs.Changes.{changed, has_tuple}
 use Rattle.tuples.specs.Log.{last_from, is_at, meets_want}
 use Rattle.records.specs.declared.record.Record.{Record}
 use Rattle.records.specs.declared.record.Record.TheVariants.{Prepare, Learned, Dropped, Epoch, Decision, Horizon}
-use Rattle.records.specs.Replays.{Identity, greatest_number}
+use Rattle.records.specs.Identity.{Identity, coordinator_number}
+use Rattle.records.specs.Replays.{AskOfLog, greatest_number}
 
 -- what a coordinator knows: the decisions behind a place, its base, in the order of their places; the horizon; and how often it was opened
 pub record CoordinatorState : Type 0 where
@@ -21,7 +22,7 @@ pub record CoordinatorState : Type 0 where
 -- what one more record makes of it
 unfoldable pub coordinator_step : CoordinatorState → Record → CoordinatorState
 coordinator_step s (Prepare w) = s
-coordinator_step s (Learned to parts) = s
+coordinator_step s (Learned to placed_ids) = s
 coordinator_step s (Dropped id) = s
 coordinator_step s (Epoch epoch store shards node) = record s { epoch = epoch }
 coordinator_step s (Decision place w) = record s { log = s.log ++ w ∷ [] }
@@ -60,7 +61,7 @@ abbrev pub HoldsKnown : CoordinatorState → Condition → Type 0
 HoldsKnown s c = (s.base ≡ 0) ⊎ (is_changed s c.tuple ≡ true)
     → meets_want c.want (last_from 0 (s.base + 1) c.tuple s.log) (is_at s.log (length s.log) c.tuple) ≡ true
 
--- a write may be decided at a place: the next one, under an id that no decision has, where its conditions hold
+-- a write may be decided at a place: the next one, under an id that no decision has, where its conditions hold and ask about places of a log
 pub record MayDecide (s : CoordinatorState) (place : ℕ) (w : Entry) : Type 0 where
   pub opened : 1 ≤ s.epoch
   pub next : place ≡ end_of s + 1
@@ -71,15 +72,16 @@ pub record MayDecide (s : CoordinatorState) (place : ℕ) (w : Entry) : Type 0 w
   pub epoch : w.id.epoch ≤ greatest_number
   pub some_number : 1 ≤ w.id.number
   pub number : w.id.number ≤ greatest_number
+  pub places : AskOfLog w.conditions
 
--- the coordinator may be opened once more; its number among the nodes is 255
+-- the coordinator may be opened once more
 pub record MayOpenAgain (me : Identity) (s : CoordinatorState) (epoch store shards node : ℕ) : Type 0 where
   pub next : epoch ≡ s.epoch + 1
   pub greatest : epoch ≤ greatest_number
   pub same_store : store ≡ me.store
   pub same_shards : shards ≡ me.shards
   pub same_node : node ≡ me.node
-  pub coordinator : me.node ≡ 255
+  pub coordinator : me.node ≡ coordinator_number
 
 -- the horizon may be raised to a place of the log
 pub record MayRaise (s : CoordinatorState) (place : ℕ) : Type 0 where
@@ -90,7 +92,7 @@ pub record MayRaise (s : CoordinatorState) (place : ℕ) : Type 0 where
 -- the record may come next at this coordinator
 abbrev pub MayComeNext : Identity → CoordinatorState → Record → Type 0
 MayComeNext me s (Prepare w) = ⊥
-MayComeNext me s (Learned to parts) = ⊥
+MayComeNext me s (Learned to placed_ids) = ⊥
 MayComeNext me s (Dropped id) = ⊥
 MayComeNext me s (Epoch epoch store shards node) = MayOpenAgain me s epoch store shards node
 MayComeNext me s (Decision place w) = MayDecide s place w

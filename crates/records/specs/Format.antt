@@ -14,9 +14,18 @@ use Rattle.tuples.specs.declared.change.Want.TheVariants.{NotAfter, Exists, Abse
 use Rattle.tuples.specs.declared.entry.Entry.{Entry}
 use Rattle.tuples.specs.declared.entry.WriteId.{WriteId}
 use Rattle.tuples.specs.Changes.{IsPart, IsWrite}
-use Rattle.records.specs.declared.record.Part.{Part}
+use Rattle.tuples.specs.Limits.{max_shards}
+use Rattle.records.specs.declared.record.PlacedId.{PlacedId}
 use Rattle.records.specs.declared.record.Record.{Record}
 use Rattle.records.specs.declared.record.Record.TheVariants.{Prepare, Learned, Dropped, Epoch, Decision, Horizon}
+
+-- records of a batch
+abbrev pub max_records : ℕ
+max_records = 65535
+
+-- placed ids of one Learned record
+abbrev pub max_placed_ids : ℕ
+max_placed_ids = 256
 
 -- one byte of length, and that many bytes
 abbrev pub text_bytes : List ℕ → List ℕ
@@ -55,13 +64,13 @@ condition_bytes first c = tuple_bytes c.tuple ++ want_bytes first c.want
 abbrev pub entry_bytes : Bool → Entry → List ℕ
 entry_bytes first w = id_bytes w.id ++ length w.changes ∷ flat_map change_bytes w.changes ++ length w.conditions ∷ flat_map (condition_bytes first) w.conditions
 
-abbrev pub part_bytes : Part → List ℕ
-part_bytes p = id_bytes p.id ++ to_be_bytes w64 p.place
+abbrev pub placed_id_bytes : PlacedId → List ℕ
+placed_id_bytes p = id_bytes p.id ++ to_be_bytes w64 p.place
 
 -- the kind, and its fields
 unfoldable pub record_bytes : Bool → Record → List ℕ
 record_bytes first (Prepare w) = 1 ∷ entry_bytes first w
-record_bytes first (Learned to parts) = 2 ∷ to_be_bytes w64 to ++ to_be_bytes w16 (length parts) ++ flat_map part_bytes parts
+record_bytes first (Learned to placed_ids) = 2 ∷ to_be_bytes w64 to ++ to_be_bytes w16 (length placed_ids) ++ flat_map placed_id_bytes placed_ids
 record_bytes first (Dropped id) = 3 ∷ id_bytes id
 record_bytes first (Epoch epoch store shards node) = 4 ∷ to_be_bytes w64 epoch ++ to_be_bytes w64 store ++ shards ∷ node ∷ []
 record_bytes first (Decision place w) = 5 ∷ to_be_bytes w64 place ++ entry_bytes first w
@@ -90,11 +99,11 @@ WantFits Absent = Unit {0}
 abbrev pub ConditionsFit : List Condition → Type 0
 ConditionsFit = AllByRecursion (λ (c : Condition). WantFits c.want)
 
--- places of parts rise strictly, and end at most at this one
-abbrev pub AreRisingTo : ℕ → List Part → Type 0
+-- places of placed ids rise strictly, and end at most at this one
+abbrev pub AreRisingTo : ℕ → List PlacedId → Type 0
 AreRisingTo to [] = Unit {0}
 AreRisingTo to (p ∷ []) = p.place ≤ to
-AreRisingTo to (p ∷ q ∷ parts) = (p.place < q.place) × AreRisingTo to (q ∷ parts)
+AreRisingTo to (p ∷ q ∷ placed_ids) = (p.place < q.place) × AreRisingTo to (q ∷ placed_ids)
 
 -- a write's part has a change or a condition
 pub record IsPrepared (w : Entry) : Type 0 where
@@ -103,18 +112,18 @@ pub record IsPrepared (w : Entry) : Type 0 where
   pub some : 1 ≤ length w.changes + length w.conditions
   pub wants : ConditionsFit w.conditions
 
-pub record IsLearned (to : ℕ) (parts : List Part) : Type 0 where
+pub record IsLearned (to : ℕ) (placed_ids : List PlacedId) : Type 0 where
   pub to_fits : Fits64 to
-  pub few : length parts ≤ 256
-  pub ids : AllByRecursion (λ (p : Part). IsWriteId p.id) parts
-  pub places : AreRisingTo to parts
+  pub few : length placed_ids ≤ max_placed_ids
+  pub ids : AllByRecursion (λ (p : PlacedId). IsWriteId p.id) placed_ids
+  pub places : AreRisingTo to placed_ids
 
 pub record IsEpoch (epoch store shards node : ℕ) : Type 0 where
   pub epoch_fits : Fits64 epoch
   pub store_fits : Fits64 store
   pub some : 1 ≤ shards
-  pub few : shards ≤ 64
-  pub node_fits : node < 256
+  pub few : shards ≤ max_shards
+  pub node_fits : node < 2 ^ 8
 
 pub record IsDecision (place : ℕ) (w : Entry) : Type 0 where
   pub place_fits : Fits64 place
@@ -125,7 +134,7 @@ pub record IsDecision (place : ℕ) (w : Entry) : Type 0 where
 -- what has a spelling
 abbrev pub IsRecord : Record → Type 0
 IsRecord (Prepare w) = IsPrepared w
-IsRecord (Learned to parts) = IsLearned to parts
+IsRecord (Learned to placed_ids) = IsLearned to placed_ids
 IsRecord (Dropped id) = IsWriteId id
 IsRecord (Epoch epoch store shards node) = IsEpoch epoch store shards node
 IsRecord (Decision place w) = IsDecision place w
@@ -146,7 +155,7 @@ ArePlaces = AllByRecursion (λ (c : Condition). IsPlace c.want)
 abbrev pub IsOfFirst : Record → Type 0
 IsOfFirst (Prepare w) = ArePlaces w.conditions
 IsOfFirst (Decision place w) = ArePlaces w.conditions
-IsOfFirst (Learned to parts) = Unit {0}
+IsOfFirst (Learned to placed_ids) = Unit {0}
 IsOfFirst (Dropped id) = Unit {0}
 IsOfFirst (Epoch epoch store shards node) = Unit {0}
 IsOfFirst (Horizon place) = Unit {0}
@@ -154,6 +163,6 @@ IsOfFirst (Horizon place) = Unit {0}
 -- the bytes are a batch of these records, in version 2 or, where that has them, in version 1
 pub record IsBatch (bytes : List ℕ) (rs : List Record) : Type 0 where
   pub some : 1 ≤ length rs
-  pub few : length rs ≤ 65535
+  pub few : length rs ≤ max_records
   pub records : AreRecords rs
   pub spelled : (bytes ≡ batch_bytes false rs) ⊎ ((bytes ≡ batch_bytes true rs) × AllByRecursion IsOfFirst rs)

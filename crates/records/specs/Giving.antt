@@ -1,7 +1,7 @@
 -- What a reader gives, against what the bytes are read as.
 use Rattle.std.specs.Prelude.{◌≡◌, Option, Some, None, Result, Ok, Err}
-use Rattle.tuples.specs.declared.refusal.Refusal.{Refusal}
-use Rattle.tuples.specs.declared.refusal.Refusal.TheVariants as refusals
+use Rattle.refusal.specs.declared.refusal.Refusal.{Refusal}
+use Rattle.refusal.specs.declared.refusal.Refusal.TheVariants as refusals
 use Rattle.records.specs.declared.unread.Unread.{Unread}
 use Rattle.records.specs.declared.unread.Unread.TheVariants.{Damaged, NoMemory}
 

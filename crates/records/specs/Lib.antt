@@ -1,3 +1,4 @@
+pub mod Identity
 pub mod Format
 pub mod Giving
 pub mod Laws

@@ -15,10 +15,12 @@ use Rattle.tuples.specs.declared.change.Want.TheVariants.{NotAfter, Exists, Abse
 use Rattle.tuples.specs.declared.entry.Entry.{Entry}
 use Rattle.tuples.specs.declared.entry.WriteId.{WriteId}
 use Rattle.tuples.specs.Changes.{changed, conditioned, has_tuple}
+use Rattle.tuples.specs.Limits.{max_changes, max_conditions, max_id, max_name, max_shards}
 use Rattle.tuples.specs.Names.{is_id_byte, is_name_byte}
-use Rattle.records.specs.declared.record.Part.{Part}
+use Rattle.records.specs.declared.record.PlacedId.{PlacedId}
 use Rattle.records.specs.declared.record.Record.{Record}
 use Rattle.records.specs.declared.record.Record.TheVariants.{Prepare, Learned, Dropped, Epoch, Decision, Horizon}
+use Rattle.records.specs.Format.{max_placed_ids}
 
 infixl 10 ◌>>=◌
 abbrev pub ◌>>=◌ : {A B : Type 0} → Option A → (A → Option B) → Option B
@@ -52,10 +54,10 @@ text_at bytes = do
   if nat_lt (length n.1) n.0 then None else Some (take n.0 n.1, drop n.0 n.1)
 
 abbrev pub is_name : List ℕ → Bool
-is_name text = nat_le 1 (length text) && (nat_le (length text) 64 && list_all is_name_byte text)
+is_name text = nat_le 1 (length text) && (nat_le (length text) max_name && list_all is_name_byte text)
 
 abbrev pub is_id : List ℕ → Bool
-is_id text = nat_le 1 (length text) && (nat_le (length text) 128 && list_all is_id_byte text)
+is_id text = nat_le 1 (length text) && (nat_le (length text) max_id && list_all is_id_byte text)
 
 -- a namespace or a relation
 unfoldable pub name_at : List ℕ → Option (List ℕ × List ℕ)
@@ -169,15 +171,15 @@ are_distinct (t ∷ ts) = not (has_tuple t ts) && are_distinct ts
 
 unfoldable pub changes_at : List ℕ → Option (List Change × List ℕ)
 changes_at bytes = do
-  changes ← few_at byte_at change_at 64 bytes
+  changes ← few_at byte_at change_at max_changes bytes
   if_passes (are_distinct (changed changes.0)) changes
 
 unfoldable pub conditions_at : Bool → List ℕ → Option (List Condition × List ℕ)
 conditions_at first bytes = do
-  conditions ← few_at byte_at (condition_at first) 16 bytes
+  conditions ← few_at byte_at (condition_at first) max_conditions bytes
   if_passes (are_distinct (conditioned conditions.0)) conditions
 
--- ---- writes and their parts
+-- ---- writes and what is learned of them
 
 unfoldable pub write_id_at : List ℕ → Option (WriteId × List ℕ)
 write_id_at bytes = do
@@ -192,20 +194,20 @@ entry_at first bytes = do
   conditions ← conditions_at first changes.1
   Some (record { id = id.0; changes = changes.0; conditions = conditions.0 }, conditions.1)
 
-unfoldable pub part_at : List ℕ → Option (Part × List ℕ)
-part_at bytes = do
+unfoldable pub placed_id_at : List ℕ → Option (PlacedId × List ℕ)
+placed_id_at bytes = do
   id ← write_id_at bytes
   place ← number_at w64 id.1
   Some (record { id = id.0; place = place.0 }, place.1)
 
--- places of parts rise strictly, and end at most at this one
-abbrev pub are_rising_to : ℕ → List Part → Bool
+-- places of placed ids rise strictly, and end at most at this one
+abbrev pub are_rising_to : ℕ → List PlacedId → Bool
 are_rising_to to [] = true
 are_rising_to to (p ∷ []) = nat_le p.place to
-are_rising_to to (p ∷ q ∷ parts) = nat_lt p.place q.place && are_rising_to to (q ∷ parts)
+are_rising_to to (p ∷ q ∷ placed_ids) = nat_lt p.place q.place && are_rising_to to (q ∷ placed_ids)
 
-unfoldable pub parts_at : List ℕ → Option (List Part × List ℕ)
-parts_at bytes = few_at (number_at w16) part_at 256 bytes
+unfoldable pub placed_ids_at : List ℕ → Option (List PlacedId × List ℕ)
+placed_ids_at bytes = few_at (number_at w16) placed_id_at max_placed_ids bytes
 
 -- ---- records
 
@@ -217,8 +219,8 @@ prepare_at first bytes = do
 unfoldable pub learned_at : List ℕ → Option (Record × List ℕ)
 learned_at bytes = do
   to ← number_at w64 bytes
-  parts ← parts_at to.1
-  if_passes (are_rising_to to.0 parts.0) (Learned to.0 parts.0, parts.1)
+  placed_ids ← placed_ids_at to.1
+  if_passes (are_rising_to to.0 placed_ids.0) (Learned to.0 placed_ids.0, placed_ids.1)
 
 unfoldable pub dropped_at : List ℕ → Option (Record × List ℕ)
 dropped_at bytes = do
@@ -231,7 +233,7 @@ epoch_at bytes = do
   store ← number_at w64 epoch.1
   shards ← byte_at store.1
   node ← byte_at shards.1
-  if_passes (nat_le 1 shards.0 && nat_le shards.0 64) (Epoch epoch.0 store.0 shards.0 node.0, node.1)
+  if_passes (nat_le 1 shards.0 && nat_le shards.0 max_shards) (Epoch epoch.0 store.0 shards.0 node.0, node.1)
 
 unfoldable pub decision_at : Bool → List ℕ → Option (Record × List ℕ)
 decision_at first bytes = do

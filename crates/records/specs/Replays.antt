@@ -1,14 +1,19 @@
 -- What the records of a shard stand for, and which lists of records a shard can have.
 use Rattle.std.specs.Prelude.{◌≡◌, ◌≤◌, ◌<◌, ◌+◌, ℕ, Bool, true, false, List, [], ◌∷◌, ◌++◌, Option, Some, None, if◌then◌else◌, All}
 use Rattle.tuples.specs.declared.tuple.Tuple.{Tuple}
+use Rattle.tuples.specs.declared.change.Condition.{Condition}
+use Rattle.tuples.specs.declared.change.Want.{Want}
+use Rattle.tuples.specs.declared.change.Want.TheVariants.{NotAfter, Exists, Absent}
 use Rattle.tuples.specs.declared.entry.Entry.{Entry}
 use Rattle.tuples.specs.declared.entry.WriteId.{WriteId}
 use Rattle.tuples.specs.declared.version.Version.{Version}
 use Rattle.tuples.specs.Changes.{changed, conditioned, has_tuple}
+use Rattle.tuples.specs.Limits.{max_number}
 use Rattle.tuples.specs.Log.{same_id}
 use Rattle.tuples.specs.Parts.{shard_of}
 use Rattle.tuples.specs.Versions.{placed, collected}
-use Rattle.records.specs.declared.record.Part.{Part}
+pub use Rattle.records.specs.Identity.{Identity}
+use Rattle.records.specs.declared.record.PlacedId.{PlacedId}
 use Rattle.records.specs.declared.record.Record.{Record}
 use Rattle.records.specs.declared.record.Record.TheVariants.{Prepare, Learned, Dropped, Epoch, Decision, Horizon}
 
@@ -29,23 +34,23 @@ abbrev pub without : WriteId → List Entry → List Entry
 without id [] = []
 without id (w ∷ ws) = if same_id w.id id then without id ws else w ∷ without id ws
 
-abbrev pub without_parts : List Part → List Entry → List Entry
-without_parts [] ws = ws
-without_parts (p ∷ parts) ws = without_parts parts (without p.id ws)
+abbrev pub without_placed_ids : List PlacedId → List Entry → List Entry
+without_placed_ids [] ws = ws
+without_placed_ids (p ∷ placed_ids) ws = without_placed_ids placed_ids (without p.id ws)
 
 abbrev pub changes_at : ℕ → Option Entry → List Version
 changes_at place None = []
 changes_at place (Some w) = placed place w.changes
 
--- the versions that learning these parts adds
-abbrev pub learned_rows : List Part → List Entry → List Version
+-- the versions that learning these placed ids adds
+abbrev pub learned_rows : List PlacedId → List Entry → List Version
 learned_rows [] ws = []
-learned_rows (p ∷ parts) ws = changes_at p.place (find_in_doubt p.id ws) ++ learned_rows parts ws
+learned_rows (p ∷ placed_ids) ws = changes_at p.place (find_in_doubt p.id ws) ++ learned_rows placed_ids ws
 
 -- what one more record makes of it
 unfoldable pub shard_step : ShardState → Record → ShardState
 shard_step s (Prepare w) = record s { in_doubt = s.in_doubt ++ w ∷ [] }
-shard_step s (Learned to parts) = record s { learned = to; rows = s.rows ++ learned_rows parts s.in_doubt; in_doubt = without_parts parts s.in_doubt }
+shard_step s (Learned to placed_ids) = record s { learned = to; rows = s.rows ++ learned_rows placed_ids s.in_doubt; in_doubt = without_placed_ids placed_ids s.in_doubt }
 shard_step s (Dropped id) = record s { in_doubt = without id s.in_doubt }
 shard_step s (Epoch epoch store shards node) = record s { epoch = epoch }
 shard_step s (Decision place w) = s
@@ -62,12 +67,6 @@ empty_shard = record { in_doubt = []; learned = 0; horizon = 0; rows = []; epoch
 unfoldable pub shard_state : List Record → ShardState
 shard_state rs = shard_from empty_shard rs
 
--- which shard of which store
-pub record Identity : Type 0 where
-  pub store : ℕ
-  pub shards : ℕ
-  pub node : ℕ
-
 -- the tuples that a write names, changed or conditioned
 abbrev pub named : Entry → List Tuple
 named w = changed w.changes ++ conditioned w.conditions
@@ -77,10 +76,20 @@ abbrev pub is_held : Tuple → List Entry → Bool
 is_held t [] = false
 is_held t (w ∷ ws) = if has_tuple t (named w) then true else is_held t ws
 
+-- the greatest place, epoch and number of a write
 abbrev pub greatest_number : ℕ
-greatest_number = 9223372036854775807
+greatest_number = max_number
 
--- a write may be prepared at this shard: its id is not in doubt, and its tuples are the shard's and free
+-- what is asked about a place is asked about one that a log can have
+abbrev pub AsksOfLog : Want → Type 0
+AsksOfLog (NotAfter place) = place ≤ greatest_number
+AsksOfLog Exists = Unit {0}
+AsksOfLog Absent = Unit {0}
+
+abbrev pub AskOfLog : List Condition → Type 0
+AskOfLog = All (λ (c : Condition). AsksOfLog c.want)
+
+-- a write may be prepared at this shard: its id is not in doubt, its tuples are the shard's and free, and its conditions ask about places of a log
 pub record MayPrepare (me : Identity) (s : ShardState) (w : Entry) : Type 0 where
   pub opened : 1 ≤ s.epoch
   pub new : find_in_doubt w.id s.in_doubt ≡ None
@@ -90,19 +99,20 @@ pub record MayPrepare (me : Identity) (s : ShardState) (w : Entry) : Type 0 wher
   pub epoch : w.id.epoch ≤ greatest_number
   pub some_number : 1 ≤ w.id.number
   pub number : w.id.number ≤ greatest_number
+  pub places : AskOfLog w.conditions
 
 -- each part names a write in doubt, another each time
-abbrev pub ArePrepared : List Part → List Entry → Type 0
+abbrev pub ArePrepared : List PlacedId → List Entry → Type 0
 ArePrepared [] ws = Unit {0}
-ArePrepared (p ∷ parts) ws = ((w : Entry) × (find_in_doubt p.id ws ≡ Some w)) × ArePrepared parts (without p.id ws)
+ArePrepared (p ∷ placed_ids) ws = ((w : Entry) × (find_in_doubt p.id ws ≡ Some w)) × ArePrepared placed_ids (without p.id ws)
 
 -- decisions up to a place may be applied: that place is no lower than before, and each part lies above the place before
-pub record MayLearn (s : ShardState) (to : ℕ) (parts : List Part) : Type 0 where
+pub record MayLearn (s : ShardState) (to : ℕ) (placed_ids : List PlacedId) : Type 0 where
   pub opened : 1 ≤ s.epoch
   pub on : s.learned ≤ to
   pub place : to ≤ greatest_number
-  pub above : All (λ (p : Part). s.learned < p.place) parts
-  pub prepared : ArePrepared parts s.in_doubt
+  pub above : All (λ (p : PlacedId). s.learned < p.place) placed_ids
+  pub prepared : ArePrepared placed_ids s.in_doubt
 
 -- the shard may be opened once more
 pub record MayOpen (me : Identity) (s : ShardState) (epoch store shards node : ℕ) : Type 0 where
@@ -124,7 +134,7 @@ pub record MayCollect (s : ShardState) (place : ℕ) : Type 0 where
 -- the record may come next at this shard
 abbrev pub MayCome : Identity → ShardState → Record → Type 0
 MayCome me s (Prepare w) = MayPrepare me s w
-MayCome me s (Learned to parts) = MayLearn s to parts
+MayCome me s (Learned to placed_ids) = MayLearn s to placed_ids
 MayCome me s (Dropped id) = MayDrop s id
 MayCome me s (Epoch epoch store shards node) = MayOpen me s epoch store shards node
 MayCome me s (Decision place w) = ⊥

@@ -9,7 +9,7 @@ use crate::Record;
 use crate::distinct::are_rising_to;
 use crate::format::{DECISION, DROPPED, EPOCH, FIRST_VERSION, HORIZON, LEARNED, PREPARE, VERSION};
 use crate::read_text::{byte_of, u16_of, u64_of};
-use crate::read_write::{entry_of, parts_of, write_id_of};
+use crate::read_write::{entry_of, placed_ids_of, write_id_of};
 use crate::unread::Unread;
 use std::alloc::Global;
 use tuples::{MAX_SHARDS, Refusal};
@@ -30,11 +30,11 @@ fn learned_of(alloc: Global, bytes: &[u8]) -> Result<(Record, &[u8]), Unread>
     ensures { Gives (λ x. (x.0, x.1.now)) result (learned_at bytes.now) }
 {
     let (to, rest) = u64_of(bytes)?;
-    let (parts, rest) = parts_of(alloc, rest)?;
-    if !are_rising_to(to, parts.as_slice()) {
+    let (placed_ids, rest) = placed_ids_of(alloc, rest)?;
+    if !are_rising_to(to, placed_ids.as_slice()) {
         return Err(Unread::Damaged);
     }
-    Ok((Record::Learned { to, parts }, rest))
+    Ok((Record::Learned { to, placed_ids }, rest))
 }
 
 #[tactic(auto, unfolding(crate::specs::Reading::epoch_at))]

@@ -3,7 +3,7 @@ ghost use Rattle.std.specs.Prelude.{◌≡◌};
 ghost use Rattle.tuples.specs.Changes.{changed, conditioned, has_tuple};
 ghost use Rattle.records.specs.Reading.{are_distinct, are_rising_to};
 
-use crate::Part;
+use crate::PlacedId;
 use tuples::{Change, Condition, Tuple};
 
 fn names_change(tuple: &Tuple, changes: &[Change]) -> bool
@@ -51,13 +51,13 @@ pub(crate) fn are_conditions_distinct(conditions: &[Condition]) -> bool
 }
 
 /// Whether places rise strictly, and end at most at `to`.
-pub(crate) fn are_rising_to(to: u64, parts: &[Part]) -> bool
-    ensures { result ≡ are_rising_to to parts.now }
+pub(crate) fn are_rising_to(to: u64, placed_ids: &[PlacedId]) -> bool
+    ensures { result ≡ are_rising_to to placed_ids.now }
 {
-    for (i, part) in parts.iter().enumerate() {
-        let rises = match parts.get(i + 1) {
-            Some(next) => part.place < next.place,
-            None => part.place <= to,
+    for (i, placed_id) in placed_ids.iter().enumerate() {
+        let rises = match placed_ids.get(i + 1) {
+            Some(next) => placed_id.place < next.place,
+            None => placed_id.place <= to,
         };
         if !rises {
             return false;

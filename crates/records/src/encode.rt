@@ -2,13 +2,14 @@
 ghost use Rattle.std.specs.Prelude.{◌≡◌, ◌≤◌, ◌<◌, ◌+◌, [], ◌∷◌, ◌++◌, false, length, vec_len, vec_capacity, OnOk, OnErr};
 ghost use Rattle.std.specs.Int.{w16, w64, to_be_bytes};
 ghost use Rattle.std.specs.List.{flat_map};
-ghost use Rattle.records.specs.Format.{IsRecord, entry_bytes, part_bytes, record_bytes};
+ghost use Rattle.records.specs.Format.{IsRecord, entry_bytes, max_placed_ids, placed_id_bytes, record_bytes};
 ghost use Rattle.records.specs.Putting.{Puts};
+ghost use Rattle.tuples.specs.Limits.{max_changes, max_conditions};
 
 use crate::format::{DECISION, DROPPED, EPOCH, HORIZON, LEARNED, PREPARE};
 use crate::put::{put_byte, put_bytes, put_u64};
-use crate::put_write::{put_entry, put_parts, put_write_id};
-use crate::{Parts, Record};
+use crate::put_write::{put_entry, put_placed_ids, put_write_id};
+use crate::{PlacedIds, Record};
 use std::alloc::AllocError;
 use tuples::Entry;
 
@@ -38,7 +39,7 @@ fn put_record(out: &mut Vec<u8>, item: &Record) -> Result<(), AllocError>
 {
     match item {
         Record::Prepare(entry) => put_prepare(out, entry),
-        Record::Learned { to, parts } => put_learned(out, *to, parts),
+        Record::Learned { to, placed_ids } => put_learned(out, *to, placed_ids),
         Record::Dropped(id) => {
             put_byte(out, DROPPED)?;
             put_write_id(out, id)
@@ -58,21 +59,21 @@ fn put_record(out: &mut Vec<u8>, item: &Record) -> Result<(), AllocError>
 }
 
 fn put_prepare(out: &mut Vec<u8>, entry: &Entry) -> Result<(), AllocError>
-    requires few_changes { length entry.now.changes ≤ 64 }
-    requires few_conditions { length entry.now.conditions ≤ 16 }
+    requires few_changes { length entry.now.changes ≤ max_changes }
+    requires few_conditions { length entry.now.conditions ≤ max_conditions }
     ensures { Puts out.old out.new (1 ∷ entry_bytes false entry.now) result }
 {
     put_byte(out, PREPARE)?;
     put_entry(out, entry)
 }
 
-fn put_learned(out: &mut Vec<u8>, to: u64, parts: &Parts) -> Result<(), AllocError>
-    requires { length parts.now ≤ 256 }
-    ensures { Puts out.old out.new (2 ∷ to_be_bytes w64 to ++ to_be_bytes w16 (length parts.now) ++ flat_map part_bytes parts.now) result }
+fn put_learned(out: &mut Vec<u8>, to: u64, placed_ids: &PlacedIds) -> Result<(), AllocError>
+    requires { length placed_ids.now ≤ max_placed_ids }
+    ensures { Puts out.old out.new (2 ∷ to_be_bytes w64 to ++ to_be_bytes w16 (length placed_ids.now) ++ flat_map placed_id_bytes placed_ids.now) result }
 {
     put_byte(out, LEARNED)?;
     put_u64(out, to)?;
-    put_parts(out, parts.as_slice())
+    put_placed_ids(out, placed_ids.as_slice())
 }
 
 fn put_epoch(
@@ -91,8 +92,8 @@ fn put_epoch(
 }
 
 fn put_decision(out: &mut Vec<u8>, place: u64, entry: &Entry) -> Result<(), AllocError>
-    requires few_changes { length entry.now.changes ≤ 64 }
-    requires few_conditions { length entry.now.conditions ≤ 16 }
+    requires few_changes { length entry.now.changes ≤ max_changes }
+    requires few_conditions { length entry.now.conditions ≤ max_conditions }
     ensures { Puts out.old out.new (5 ∷ to_be_bytes w64 place ++ entry_bytes false entry.now) result }
 {
     put_byte(out, DECISION)?;

@@ -9,8 +9,8 @@ pub(crate) const FIRST_VERSION: u8 = 1;
 /// The most records of a batch; each has at least one.
 pub const MAX_RECORDS: usize = 65_535;
 
-/// The most parts of one `Learned` record.
-pub const MAX_PARTS: usize = 256;
+/// The most placed ids of one `Learned` record.
+pub const MAX_PLACED_IDS: usize = 256;
 
 /// The kind of a `Prepare` record.
 pub(crate) const PREPARE: u8 = 1;

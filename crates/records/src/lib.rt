@@ -1,19 +1,22 @@
-//! The records of a node's journal, and batches of them as bytes.
+//! The records of a node's journal, batches of them as bytes, and what lists of records stand for.
 //!
 //! Keeps: one spelling a record within a version, and none begins another.
-//! Never: reads a device, or knows what a record does to a node.
+//! Never: reads a device, or carries out what a record says: `replay` does that for a shard.
 //! Callers rely on: what is decoded is exactly what the bytes spell, and bytes that spell no batch are refused.
 //!
-//! Start at `specs/Format.antt`, the bytes of each record, `specs/Reading.antt`, what bytes are read as, and `specs/Replays.antt`,
-//! what records stand for.
+//! Start at `specs/Format.antt`, the bytes of each record, and `specs/Reading.antt`, what bytes are read as. `specs/Replays.antt` and
+//! `specs/Coordinators.antt` define what the records of a shard and of a coordinator stand for, and which may come next: each crate above
+//! speaks of them.
 #![tactic(auto)]
 
 mod decode;
 mod distinct;
 mod encode;
 mod format;
+mod identity;
 mod laws;
 mod measure;
+mod places;
 mod put;
 mod put_tuple;
 mod put_write;
@@ -24,10 +27,12 @@ mod record;
 mod unread;
 
 pub use decode::decode_batch;
-pub use format::{MAX_PARTS, MAX_RECORDS, VERSION};
+pub use format::{MAX_PLACED_IDS, MAX_RECORDS, VERSION};
+pub use identity::{COORDINATOR, Identity};
 pub use laws::no_record_begins_another;
-pub use measure::prepare_len;
-pub use record::{Part, Parts, Record};
+pub use measure::{decision_len, prepare_len};
+pub use places::ask_of_log;
+pub use record::{PlacedId, PlacedIds, Record};
 
 #[cfg(test)]
 mod tests;

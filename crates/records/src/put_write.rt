@@ -1,11 +1,12 @@
-// Writes and their parts at the end of a vector.
+// writes and what is learned of them at the end of a vector.
 ghost use Rattle.std.specs.Prelude.{◌<◌, ◌≤◌, ◌∷◌, ◌++◌, false, length};
 ghost use Rattle.std.specs.List.{flat_map};
 ghost use Rattle.std.specs.Int.{w16, to_be_bytes};
-ghost use Rattle.records.specs.Format.{change_bytes, condition_bytes, entry_bytes, id_bytes, part_bytes, want_bytes};
+ghost use Rattle.records.specs.Format.{change_bytes, condition_bytes, entry_bytes, id_bytes, max_placed_ids, placed_id_bytes, want_bytes};
+ghost use Rattle.tuples.specs.Limits.{max_changes, max_conditions};
 ghost use Rattle.records.specs.Putting.{Puts};
 
-use crate::Part;
+use crate::PlacedId;
 use crate::format::{ABSENT, DELETE, EXISTS, NOT_AFTER, TOUCH};
 use crate::put::{put_byte, put_u16, put_u64};
 use crate::put_tuple::put_tuple;
@@ -73,7 +74,7 @@ fn put_each_condition(out: &mut Vec<u8>, conditions: &[Condition]) -> Result<(),
 }
 
 fn put_changes(out: &mut Vec<u8>, changes: &[Change]) -> Result<(), AllocError>
-    requires { length changes.now ≤ 64 }
+    requires { length changes.now ≤ max_changes }
     ensures { Puts out.old out.new (length changes.now ∷ flat_map change_bytes changes.now) result }
 {
     put_byte(out, changes.len() as u8)?;
@@ -81,7 +82,7 @@ fn put_changes(out: &mut Vec<u8>, changes: &[Change]) -> Result<(), AllocError>
 }
 
 fn put_conditions(out: &mut Vec<u8>, conditions: &[Condition]) -> Result<(), AllocError>
-    requires { length conditions.now ≤ 16 }
+    requires { length conditions.now ≤ max_conditions }
     ensures { Puts out.old out.new (length conditions.now ∷ flat_map (condition_bytes false) conditions.now) result }
 {
     put_byte(out, conditions.len() as u8)?;
@@ -89,8 +90,8 @@ fn put_conditions(out: &mut Vec<u8>, conditions: &[Condition]) -> Result<(), All
 }
 
 pub(crate) fn put_entry(out: &mut Vec<u8>, entry: &Entry) -> Result<(), AllocError>
-    requires few_changes { length entry.now.changes ≤ 64 }
-    requires few_conditions { length entry.now.conditions ≤ 16 }
+    requires few_changes { length entry.now.changes ≤ max_changes }
+    requires few_conditions { length entry.now.conditions ≤ max_conditions }
     ensures { Puts out.old out.new (entry_bytes false entry.now) result }
 {
     put_write_id(out, &entry.id)?;
@@ -98,26 +99,26 @@ pub(crate) fn put_entry(out: &mut Vec<u8>, entry: &Entry) -> Result<(), AllocErr
     put_conditions(out, entry.conditions.as_slice())
 }
 
-fn put_part(out: &mut Vec<u8>, part: &Part) -> Result<(), AllocError>
-    ensures { Puts out.old out.new (part_bytes part.now) result }
+fn put_placed_id(out: &mut Vec<u8>, placed_id: &PlacedId) -> Result<(), AllocError>
+    ensures { Puts out.old out.new (placed_id_bytes placed_id.now) result }
 {
-    put_write_id(out, &part.id)?;
-    put_u64(out, part.place)
+    put_write_id(out, &placed_id.id)?;
+    put_u64(out, placed_id.place)
 }
 
-fn put_each_part(out: &mut Vec<u8>, parts: &[Part]) -> Result<(), AllocError>
-    ensures { Puts out.old out.new (flat_map part_bytes parts.now) result }
+fn put_each_placed_id(out: &mut Vec<u8>, placed_ids: &[PlacedId]) -> Result<(), AllocError>
+    ensures { Puts out.old out.new (flat_map placed_id_bytes placed_ids.now) result }
 {
-    for part in parts {
-        put_part(out, part)?;
+    for placed_id in placed_ids {
+        put_placed_id(out, placed_id)?;
     }
     Ok(())
 }
 
-pub(crate) fn put_parts(out: &mut Vec<u8>, parts: &[Part]) -> Result<(), AllocError>
-    requires { length parts.now ≤ 256 }
-    ensures { Puts out.old out.new (to_be_bytes w16 (length parts.now) ++ flat_map part_bytes parts.now) result }
+pub(crate) fn put_placed_ids(out: &mut Vec<u8>, placed_ids: &[PlacedId]) -> Result<(), AllocError>
+    requires { length placed_ids.now ≤ max_placed_ids }
+    ensures { Puts out.old out.new (to_be_bytes w16 (length placed_ids.now) ++ flat_map placed_id_bytes placed_ids.now) result }
 {
-    put_u16(out, parts.len() as u16)?;
-    put_each_part(out, parts)
+    put_u16(out, placed_ids.len() as u16)?;
+    put_each_placed_id(out, placed_ids)
 }

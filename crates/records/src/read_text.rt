@@ -5,6 +5,7 @@ ghost use Rattle.records.specs.Giving.{Gives};
 ghost use Rattle.records.specs.Reading.{byte_at, id_at, name_at, number_at, positive_at, text_at};
 
 use crate::unread::Unread;
+use byteorder::{BigEndian, ByteOrder};
 use std::alloc::Global;
 use tuples::{Id, Namespace, Relation};
 
@@ -25,8 +26,7 @@ pub(crate) fn u16_of(bytes: &[u8]) -> Result<(u16, &[u8]), Unread>
         return Err(Unread::Damaged);
     }
     let (front, rest) = bytes.split_at(2);
-    let number = u16::from_be_bytes([front[0], front[1]]);
-    Ok((number, rest))
+    Ok((BigEndian::read_u16(front), rest))
 }
 
 #[tactic(auto, unfolding(crate::specs::Reading::number_at))]
@@ -37,10 +37,7 @@ pub(crate) fn u64_of(bytes: &[u8]) -> Result<(u64, &[u8]), Unread>
         return Err(Unread::Damaged);
     }
     let (front, rest) = bytes.split_at(8);
-    let number = u64::from_be_bytes([
-        front[0], front[1], front[2], front[3], front[4], front[5], front[6], front[7],
-    ]);
-    Ok((number, rest))
+    Ok((BigEndian::read_u64(front), rest))
 }
 
 /// A number from 1 on.

@@ -1,14 +1,14 @@
-// Writes and their parts at the front of bytes, each with the bytes after it.
+// writes and what is learned of them at the front of bytes, each with the bytes after it.
 ghost use Rattle.std.specs.Prelude.{◌≡◌, List};
 ghost use Rattle.records.specs.Giving.{Gives};
-ghost use Rattle.records.specs.Reading.{change_at, change_of_kind_at, changes_at, condition_at, conditions_at, entry_at, list_at, not_after_at, part_at, parts_at, want_at, want_of_kind_at, write_id_at};
+ghost use Rattle.records.specs.Reading.{change_at, change_of_kind_at, changes_at, condition_at, conditions_at, entry_at, list_at, not_after_at, placed_id_at, placed_ids_at, want_at, want_of_kind_at, write_id_at};
 
 use crate::distinct::{are_changes_distinct, are_conditions_distinct};
-use crate::format::{ABSENT, DELETE, EXISTS, MAX_PARTS, NOT_AFTER, TOUCH};
+use crate::format::{ABSENT, DELETE, EXISTS, MAX_PLACED_IDS, NOT_AFTER, TOUCH};
 use crate::read_text::{byte_of, positive_of, u16_of, u64_of};
 use crate::read_tuple::tuple_of;
 use crate::unread::Unread;
-use crate::{Part, Parts};
+use crate::{PlacedId, PlacedIds};
 use std::alloc::Global;
 use tuples::{
     Change, Changes, Condition, Conditions, Entry, MAX_CHANGES, MAX_CONDITIONS, Want, WriteId,
@@ -170,36 +170,40 @@ pub(crate) fn entry_of(alloc: Global, first: bool, bytes: &[u8]) -> Result<(Entr
     ))
 }
 
-#[tactic(auto, unfolding(crate::specs::Reading::part_at))]
-fn part_of(bytes: &[u8]) -> Result<(Part, &[u8]), Unread>
-    ensures { Gives (λ x. (x.0, x.1.now)) result (part_at bytes.now) }
+#[tactic(auto, unfolding(crate::specs::Reading::placed_id_at))]
+fn placed_id_of(bytes: &[u8]) -> Result<(PlacedId, &[u8]), Unread>
+    ensures { Gives (λ x. (x.0, x.1.now)) result (placed_id_at bytes.now) }
 {
     let (id, rest) = write_id_of(bytes)?;
     let (place, rest) = u64_of(rest)?;
-    Ok((Part { id, place }, rest))
+    Ok((PlacedId { id, place }, rest))
 }
 
-fn so_many_parts_of(alloc: Global, count: u16, bytes: &[u8]) -> Result<(Vec<Part>, &[u8]), Unread>
-    ensures { Gives (λ x. (x.0.items, x.1.now)) result (list_at part_at count bytes.now) }
+fn so_many_placed_ids_of(
+    alloc: Global,
+    count: u16,
+    bytes: &[u8],
+) -> Result<(Vec<PlacedId>, &[u8]), Unread>
+    ensures { Gives (λ x. (x.0.items, x.1.now)) result (list_at placed_id_at count bytes.now) }
 {
-    let mut parts = Vec::new(alloc);
+    let mut placed_ids = Vec::new(alloc);
     let mut rest = bytes;
     for _ in 0..count {
-        let (part, after) = part_of(rest)?;
-        parts.push(part)?;
+        let (placed_id, after) = placed_id_of(rest)?;
+        placed_ids.push(placed_id)?;
         rest = after;
     }
-    Ok((parts, rest))
+    Ok((placed_ids, rest))
 }
 
-#[tactic(auto, unfolding(crate::specs::Reading::parts_at))]
-pub(crate) fn parts_of(alloc: Global, bytes: &[u8]) -> Result<(Parts, &[u8]), Unread>
-    ensures { Gives (λ x. (x.0, x.1.now)) result (parts_at bytes.now) }
+#[tactic(auto, unfolding(crate::specs::Reading::placed_ids_at))]
+pub(crate) fn placed_ids_of(alloc: Global, bytes: &[u8]) -> Result<(PlacedIds, &[u8]), Unread>
+    ensures { Gives (λ x. (x.0, x.1.now)) result (placed_ids_at bytes.now) }
 {
     let (count, rest) = u16_of(bytes)?;
-    if usize::from(count) > MAX_PARTS {
+    if usize::from(count) > MAX_PLACED_IDS {
         return Err(Unread::Damaged);
     }
-    let (parts, rest) = so_many_parts_of(alloc, count, rest)?;
-    Ok((Parts::from_vec(parts), rest))
+    let (placed_ids, rest) = so_many_placed_ids_of(alloc, count, rest)?;
+    Ok((PlacedIds::from_vec(placed_ids), rest))
 }

@@ -4,37 +4,37 @@ use tuples::{Entry, WriteId};
 
 /// A write that a shard has learned: its id, and its place in the log, from 1 on.
 #[derive(Clone, Copy, Debug, PartialEq, Eq)]
-pub struct Part {
+pub struct PlacedId {
     pub id: WriteId,
     pub place: u64,
 }
 
-/// Parts in their order, which contracts see as their list.
+/// Placed ids in their order, which contracts see as their list.
 #[derive(Drop)]
-pub struct Parts {
-    items: Vec<Part>,
+pub struct PlacedIds {
+    items: Vec<PlacedId>,
 }
 
-impl Model for Parts {
+impl Model for PlacedIds {
     ghost use Rattle.std.specs.Prelude.{List};
-    ghost use Rattle.records.specs.declared.record.Part.{Part};
+    ghost use Rattle.records.specs.declared.record.PlacedId.{PlacedId};
 
-    ghost Value = { List Part };
+    ghost Value = { List PlacedId };
 
     ghost view = { λ a. a.items.items };
 }
 
-impl Parts {
+impl PlacedIds {
     ghost use Rattle.std.specs.Prelude.{◌≡◌};
 
-    /// These parts, which takes no memory.
-    pub fn from_vec(items: Vec<Part>) -> Self
+    /// These placed ids, which takes no memory.
+    pub fn from_vec(items: Vec<PlacedId>) -> Self
         ensures { result ≡ items.items }
     {
-        Parts { items }
+        PlacedIds { items }
     }
 
-    pub fn as_slice(&self) -> &[Part]
+    pub fn as_slice(&self) -> &[PlacedId]
         ensures { result.now ≡ self.now }
     {
         &self.items
@@ -49,11 +49,11 @@ pub enum Record {
     /// A shard has applied the decisions up to a place, with the places of the writes in which it takes part.
     Learned {
         to: u64,
-        parts: Parts,
+        placed_ids: PlacedIds,
     },
     /// A shard has given up a write that was not decided.
     Dropped(WriteId),
-    /// A node was opened: how often so far, and which node of which store it is (`0xff` is the coordinator).
+    /// A node was opened: how often so far, and which node of which store it is (`COORDINATOR`, or a shard's number).
     Epoch {
         epoch: u64,
         store: u64,

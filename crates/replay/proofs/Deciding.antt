@@ -8,9 +8,9 @@ use Rattle.tuples.specs.declared.entry.Entry.{Entry}
 use Rattle.tuples.specs.declared.entry.WriteId.{WriteId}
 use Rattle.tuples.specs.Log.{same_id}
 use Rattle.tuples.specs.Parts.{shard_of}
-use Rattle.records.specs.declared.record.Part.{Part}
+use Rattle.records.specs.declared.record.PlacedId.{PlacedId}
 use Rattle.records.specs.Replays.{ArePrepared, Identity, find_in_doubt, without}
-use Rattle.replay.specs.Rules.{are_prepared, has_part, is_own}
+use Rattle.replay.specs.Rules.{are_prepared, has_placed_id, is_own}
 use Rattle.holds.proofs.Doubts.{find_without_other, find_without_same, same_id_other, same_id_refl}
 
 abbrev pub AreOwn : Identity → List Tuple → Type 0
@@ -53,35 +53,35 @@ first_false : (a b : Bool) → cond a true b ≡ false → (a ≡ false) × (b �
 first_false true b is = absurd cc
 first_false false b is = (refl, is)
 
--- the parts of other writes are in doubt without this one too
-prepared_without : (id : WriteId) (parts : List Part) (ws : List Entry) → has_part id parts ≡ false → ArePrepared parts ws → ArePrepared parts (without id ws)
+-- the placed ids of other writes are in doubt without this one too
+prepared_without : (id : WriteId) (placed_ids : List PlacedId) (ws : List Entry) → has_placed_id id placed_ids ≡ false → ArePrepared placed_ids ws → ArePrepared placed_ids (without id ws)
 prepared_without id [] ws none prepared = tt
-prepared_without id (p ∷ parts) ws none prepared =
-    let no = first_false (same_id p.id id) (has_part id parts) none in
-    let rest = prepared_without id parts (without p.id ws) no.1 prepared.1 in
-    ((prepared.0.0, find_without_other p.id id ws (other_id p.id id no.0) ∙ prepared.0.1), subst (λ (l : List Entry). ArePrepared parts l) (without_swap id p.id ws) rest)
+prepared_without id (p ∷ placed_ids) ws none prepared =
+    let no = first_false (same_id p.id id) (has_placed_id id placed_ids) none in
+    let rest = prepared_without id placed_ids (without p.id ws) no.1 prepared.1 in
+    ((prepared.0.0, find_without_other p.id id ws (other_id p.id id no.0) ∙ prepared.0.1), subst (λ (l : List Entry). ArePrepared placed_ids l) (without_swap id p.id ws) rest)
 
--- what is in doubt without a write are parts of others
-prepared_others : (id : WriteId) (parts : List Part) (ws : List Entry) → ArePrepared parts (without id ws) → (has_part id parts ≡ false) × ArePrepared parts ws
+-- what is in doubt without a write are placed ids of others
+prepared_others : (id : WriteId) (placed_ids : List PlacedId) (ws : List Entry) → ArePrepared placed_ids (without id ws) → (has_placed_id id placed_ids ≡ false) × ArePrepared placed_ids ws
 prepared_others id [] ws prepared = (refl, tt)
-prepared_others id (p ∷ parts) ws prepared =
+prepared_others id (p ∷ placed_ids) ws prepared =
     let w = prepared.0.0 in
     let ne : p.id ≡ id → ⊥ = λ is. let gone : None ≡ Some w = sym (find_without_same id ws) ∙ ap (λ (i : WriteId). find_in_doubt i (without id ws)) (sym is) ∙ prepared.0.1 in absurd cc in
-    let rest = prepared_others id parts (without p.id ws) (subst (λ (l : List Entry). ArePrepared parts l) (without_swap p.id id ws) prepared.1) in
+    let rest = prepared_others id placed_ids (without p.id ws) (subst (λ (l : List Entry). ArePrepared placed_ids l) (without_swap p.id id ws) prepared.1) in
     (rw (same_id_other p.id id ne) rest.0, ((w, sym (find_without_other p.id id ws ne) ∙ prepared.0.1), rest.1))
 
-prepared_parts : (parts : List Part) (ws : List Entry) → are_prepared parts ws ≡ true → ArePrepared parts ws
+prepared_parts : (placed_ids : List PlacedId) (ws : List Entry) → are_prepared placed_ids ws ≡ true → ArePrepared placed_ids ws
 prepared_parts [] ws is = tt
-prepared_parts (p ∷ parts) ws is =
-    let both = and_parts (is_some (find_in_doubt p.id ws) && not (has_part p.id parts)) (are_prepared parts ws) is in
-    let here = and_parts (is_some (find_in_doubt p.id ws)) (not (has_part p.id parts)) both.0 in
-    (found_or (find_in_doubt p.id ws) here.0, prepared_without p.id parts ws (not-true _ here.1) (prepared_parts parts ws both.1))
+prepared_parts (p ∷ placed_ids) ws is =
+    let both = and_parts (is_some (find_in_doubt p.id ws) && not (has_placed_id p.id placed_ids)) (are_prepared placed_ids ws) is in
+    let here = and_parts (is_some (find_in_doubt p.id ws)) (not (has_placed_id p.id placed_ids)) both.0 in
+    (found_or (find_in_doubt p.id ws) here.0, prepared_without p.id placed_ids ws (not-true _ here.1) (prepared_parts placed_ids ws both.1))
 
-prepared_from : (parts : List Part) (ws : List Entry) → ArePrepared parts ws → are_prepared parts ws ≡ true
+prepared_from : (placed_ids : List PlacedId) (ws : List Entry) → ArePrepared placed_ids ws → are_prepared placed_ids ws ≡ true
 prepared_from [] ws prepared = refl
-prepared_from (p ∷ parts) ws prepared =
-    let others = prepared_others p.id parts ws prepared.1 in
-    and_from _ _ (and_from _ _ (is_found (find_in_doubt p.id ws) prepared.0.0 prepared.0.1) (not_from_false _ others.0)) (prepared_from parts ws others.1)
+prepared_from (p ∷ placed_ids) ws prepared =
+    let others = prepared_others p.id placed_ids ws prepared.1 in
+    and_from _ _ (and_from _ _ (is_found (find_in_doubt p.id ws) prepared.0.0 prepared.0.1) (not_from_false _ others.0)) (prepared_from placed_ids ws others.1)
 
-pub prepared_decides : (parts : List Part) (ws : List Entry) → (are_prepared parts ws ≡ true) ↔ ArePrepared parts ws
-prepared_decides parts ws = (prepared_parts parts ws, prepared_from parts ws)
+pub prepared_decides : (placed_ids : List PlacedId) (ws : List Entry) → (are_prepared placed_ids ws ≡ true) ↔ ArePrepared placed_ids ws
+prepared_decides placed_ids ws = (prepared_parts placed_ids ws, prepared_from placed_ids ws)

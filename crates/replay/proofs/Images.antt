@@ -5,13 +5,13 @@ use Rattle.records.specs.declared.record.Record.{Record}
 use Rattle.records.specs.declared.record.Record.TheVariants.{Prepare, Learned, Dropped, Epoch, Decision, Horizon}
 use Rattle.records.specs.Replays.{Identity, IsShardImage, MayCome, ShardState, shard_state, shard_step}
 use Rattle.holds.specs.Holds.{AreApart}
-use Rattle.holds.proofs.Apart.{apart_none, apart_taken, apart_without, apart_without_parts}
+use Rattle.holds.proofs.Apart.{apart_none, apart_taken, apart_without, apart_without_placed_ids}
 use Rattle.replay.proofs.States.{shard_push}
 
 pub apart_step : (me : Identity) (s : ShardState) (r : Record) → AreApart s.in_doubt → MayCome me s r → AreApart (shard_step s r).in_doubt
 unfolding shard_step
 apart_step me s (Prepare w) apart may = apart_taken s.in_doubt w apart (record { new = may.new; tuples = may.free })
-apart_step me s (Learned to parts) apart may = apart_without_parts parts s.in_doubt apart
+apart_step me s (Learned to placed_ids) apart may = apart_without_placed_ids placed_ids s.in_doubt apart
 apart_step me s (Dropped id) apart may = apart_without id s.in_doubt apart
 apart_step me s (Epoch epoch store shards node) apart may = apart
 apart_step me s (Decision place w) apart may = absurd may

@@ -5,19 +5,19 @@ use Rattle.tuples.specs.declared.entry.Entry.{Entry}
 use Rattle.tuples.specs.declared.entry.WriteId.{WriteId}
 use Rattle.tuples.specs.Log.{same_id}
 use Rattle.tuples.specs.Parts.{shard_of}
-use Rattle.records.specs.declared.record.Part.{Part}
+use Rattle.records.specs.declared.record.PlacedId.{PlacedId}
 use Rattle.records.specs.Replays.{Identity, find_in_doubt}
 
 -- the tuple is this shard's
 abbrev pub is_own : Identity → Tuple → Bool
 is_own me t = shard_of me.shards t.object == me.node
 
--- one of the parts is of this write
-abbrev pub has_part : WriteId → List Part → Bool
-has_part id [] = false
-has_part id (p ∷ parts) = if same_id p.id id then true else has_part id parts
+-- one of the placed ids is of this write
+abbrev pub has_placed_id : WriteId → List PlacedId → Bool
+has_placed_id id [] = false
+has_placed_id id (p ∷ placed_ids) = if same_id p.id id then true else has_placed_id id placed_ids
 
--- each part names a write in doubt, another each time
-abbrev pub are_prepared : List Part → List Entry → Bool
+-- each placed id names a write in doubt, another each time
+abbrev pub are_prepared : List PlacedId → List Entry → Bool
 are_prepared [] ws = true
-are_prepared (p ∷ parts) ws = (is_some (find_in_doubt p.id ws) && not (has_part p.id parts)) && are_prepared parts ws
+are_prepared (p ∷ placed_ids) ws = (is_some (find_in_doubt p.id ws) && not (has_placed_id p.id placed_ids)) && are_prepared placed_ids ws

@@ -4,22 +4,22 @@ ghost use Rattle.records.specs.Replays.{learned_rows};
 ghost use Rattle.versions.specs.Alike.{AreAlike};
 
 use holds::Holds;
-use records::Part;
+use records::PlacedId;
 use std::alloc::{AllocError, Global};
 use versions::Versions;
 
-/// The versions that these parts add, each found among the writes in doubt.
+/// The versions that these placed ids add, each found among the writes in doubt.
 pub fn learned_versions(
     alloc: Global,
-    parts: &[Part],
+    placed_ids: &[PlacedId],
     holds: &Holds,
 ) -> Result<Versions, AllocError>
-    ensures { IfOk result (λ rows. AreAlike rows (learned_rows parts.now holds.now)) }
+    ensures { IfOk result (λ rows. AreAlike rows (learned_rows placed_ids.now holds.now)) }
 {
     let mut rows = Versions::new(alloc);
-    for part in parts {
-        if let Some(entry) = holds.find(part.id) {
-            rows.apply(part.place, entry.changes.as_slice())?;
+    for placed_id in placed_ids {
+        if let Some(entry) = holds.find(placed_id.id) {
+            rows.apply(placed_id.place, entry.changes.as_slice())?;
         }
     }
     Ok(rows)

@@ -10,9 +10,9 @@ ghost use Rattle.versions.specs.Rows.{AreRows};
 ghost use Rattle.replay.specs.Alike.{IsAlike};
 
 use crate::learning::learned_versions;
-use crate::rules::{Home, may_collect, may_drop, may_learn, may_open, may_prepare};
+use crate::rules::{may_collect, may_drop, may_learn, may_open, may_prepare};
 use holds::Holds;
-use records::{Part, Record};
+use records::{Identity, PlacedId, Record};
 use std::alloc::{AllocError, Global};
 use std::marker::Model;
 use tuples::{Condition, Entry, Refusal, Tuple, Tupleset, Version, Want, WriteId};
@@ -50,73 +50,57 @@ impl Memory {
         }
     }
 
-    /// Applies a record that was found, of the shard `node` of a store with so many shards. `Damaged` where it may not come next, `NoMemory`;
-    /// after a refusal the memory is of no use.
-    pub fn replay(
-        &mut self,
-        alloc: Global,
-        store: u64,
-        shards: u8,
-        node: u8,
-        found: Record,
-    ) -> Result<(), Refusal>
-        requires some { 1 ≤ shards }
-        requires few { shards ≤ 64 }
-        ensures ok { OnOk result (MayCome (record { store = store; shards = shards; node = node }) self.old found × IsAlike self.new (shard_step self.old found)) }
-        ensures damaged { IsErrOf result Refusal.Damaged → MayCome (record { store = store; shards = shards; node = node }) self.old found → ⊥ }
+    /// Applies a record that was found, of the shard with this identity. `Damaged` where it may not come next, `NoMemory`; after a refusal
+    /// the memory is of no use.
+    pub fn replay(&mut self, alloc: Global, me: Identity, found: Record) -> Result<(), Refusal>
+        ensures ok { OnOk result (MayCome me self.old found × IsAlike self.new (shard_step self.old found)) }
+        ensures damaged { IsErrOf result Refusal.Damaged → MayCome me self.old found → ⊥ }
         ensures err { IfErr result (λ e. (e ≡ Refusal.Damaged) ⊎ (e ≡ Refusal.NoMemory)) }
     {
-        let home = Home {
-            store,
-            shards,
-            node,
-        };
         match found {
-            Record::Prepare(entry) => self.replay_prepare(&home, entry),
-            Record::Learned { to, parts } => self.replay_learned(alloc, to, parts.as_slice()),
+            Record::Prepare(entry) => self.replay_prepare(me, entry),
+            Record::Learned { to, placed_ids } => {
+                self.replay_learned(alloc, to, placed_ids.as_slice())
+            }
             Record::Dropped(id) => self.replay_dropped(id),
             Record::Epoch {
                 epoch,
                 store,
                 shards,
                 node,
-            } => {
-                let at = Home {
-                    store,
-                    shards,
-                    node,
-                };
-                self.replay_epoch(&home, epoch, &at)
-            }
+            } => self.replay_epoch(me, epoch, store, shards, node),
             // A shard decides nothing.
             Record::Decision { .. } => Err(Refusal::Damaged),
             Record::Horizon(place) => self.replay_horizon(place),
         }
     }
 
-    fn replay_prepare(&mut self, home: &Home, entry: Entry) -> Result<(), Refusal>
-        requires some { 1 ≤ home.now.shards }
-        requires few { home.now.shards ≤ 64 }
-        ensures ok { OnOk result (MayPrepare home.now self.old entry × IsAlike self.new (shard_step self.old (prepare_record entry))) }
-        ensures damaged { IsErrOf result Refusal.Damaged → MayPrepare home.now self.old entry → ⊥ }
+    fn replay_prepare(&mut self, me: Identity, entry: Entry) -> Result<(), Refusal>
+        ensures ok { OnOk result (MayPrepare me self.old entry × IsAlike self.new (shard_step self.old (prepare_record entry))) }
+        ensures damaged { IsErrOf result Refusal.Damaged → MayPrepare me self.old entry → ⊥ }
         ensures err { IfErr result (λ e. (e ≡ Refusal.Damaged) ⊎ (e ≡ Refusal.NoMemory)) }
     {
-        if !may_prepare(home, self, &entry) {
+        if !may_prepare(me, self, &entry) {
             return Err(Refusal::Damaged);
         }
         self.prepare(entry)?;
         Ok(())
     }
 
-    fn replay_learned(&mut self, alloc: Global, to: u64, parts: &[Part]) -> Result<(), Refusal>
-        ensures ok { OnOk result (MayLearn self.old to parts.now × IsAlike self.new (shard_step self.old (learned_record to parts.now))) }
-        ensures damaged { IsErrOf result Refusal.Damaged → MayLearn self.old to parts.now → ⊥ }
+    fn replay_learned(
+        &mut self,
+        alloc: Global,
+        to: u64,
+        placed_ids: &[PlacedId],
+    ) -> Result<(), Refusal>
+        ensures ok { OnOk result (MayLearn self.old to placed_ids.now × IsAlike self.new (shard_step self.old (learned_record to placed_ids.now))) }
+        ensures damaged { IsErrOf result Refusal.Damaged → MayLearn self.old to placed_ids.now → ⊥ }
         ensures err { IfErr result (λ e. (e ≡ Refusal.Damaged) ⊎ (e ≡ Refusal.NoMemory)) }
     {
-        if !may_learn(self, to, parts) {
+        if !may_learn(self, to, placed_ids) {
             return Err(Refusal::Damaged);
         }
-        self.learn(alloc, to, parts)?;
+        self.learn(alloc, to, placed_ids)?;
         Ok(())
     }
 
@@ -134,12 +118,19 @@ impl Memory {
     }
 
     #[tactic(auto, unfolding(records::specs::Replays::shard_step))]
-    fn replay_epoch(&mut self, home: &Home, epoch: u64, at: &Home) -> Result<(), Refusal>
-        ensures ok { OnOk result (MayOpen home.now self.old epoch at.now.store at.now.shards at.now.node × IsAlike self.new (shard_step self.old (epoch_record epoch at.now.store at.now.shards at.now.node))) }
-        ensures damaged { IsErrOf result Refusal.Damaged → MayOpen home.now self.old epoch at.now.store at.now.shards at.now.node → ⊥ }
+    fn replay_epoch(
+        &mut self,
+        me: Identity,
+        epoch: u64,
+        store: u64,
+        shards: u8,
+        node: u8,
+    ) -> Result<(), Refusal>
+        ensures ok { OnOk result (MayOpen me self.old epoch store shards node × IsAlike self.new (shard_step self.old (epoch_record epoch store shards node))) }
+        ensures damaged { IsErrOf result Refusal.Damaged → MayOpen me self.old epoch store shards node → ⊥ }
         ensures err { IfErr result (λ e. e ≡ Refusal.Damaged) }
     {
-        if !may_open(home, self, epoch, at) {
+        if !may_open(me, self, epoch, store, shards, node) {
             return Err(Refusal::Damaged);
         }
         self.open_epoch(epoch);
@@ -180,16 +171,21 @@ impl Memory {
 
     /// Applies decided writes up to a place. Where memory is refused, nothing has changed.
     #[tactic(auto, unfolding(records::specs::Replays::shard_step))]
-    pub fn learn(&mut self, alloc: Global, to: u64, parts: &[Part]) -> Result<(), AllocError>
-        requires { MayLearn self.old to parts.now }
-        ensures ok { OnOk result (IsAlike self.new (shard_step self.old (learned_record to parts.now))) }
+    pub fn learn(
+        &mut self,
+        alloc: Global,
+        to: u64,
+        placed_ids: &[PlacedId],
+    ) -> Result<(), AllocError>
+        requires { MayLearn self.old to placed_ids.now }
+        ensures ok { OnOk result (IsAlike self.new (shard_step self.old (learned_record to placed_ids.now))) }
         ensures err { OnErr result (self.new ≡ self.old) }
     {
-        let rows = learned_versions(alloc, parts, &self.in_doubt)?;
+        let rows = learned_versions(alloc, placed_ids, &self.in_doubt)?;
         self.versions.append(rows)?;
         // Nothing is refused from here on.
         self.learned = to;
-        self.in_doubt.release_parts(parts);
+        self.in_doubt.release_placed_ids(placed_ids);
         Ok(())
     }
 

@@ -1,38 +1,19 @@
 // Which record may come next at a shard.
 ghost use Rattle.std.specs.Prelude.{◌≡◌, ◌↔◌, ◌≤◌, ◌<◌, IsTrue, All};
 ghost use Rattle.std.specs.List.{list_all};
-ghost use Rattle.records.specs.declared.record.Part.{Part as AnyPart};
+ghost use Rattle.records.specs.declared.record.PlacedId.{PlacedId as AnyPlacedId};
 ghost use Rattle.records.specs.Replays.{MayCollect, MayDrop, MayLearn, MayOpen, MayPrepare, greatest_number, named};
 ghost use Rattle.tuples.specs.Changes.{changed, conditioned};
-ghost use Rattle.replay.specs.Rules.{are_prepared as are_parts_prepared, has_part as is_part_there, is_own as is_own_tuple};
+ghost use Rattle.replay.specs.Rules.{are_prepared as are_placed_ids_prepared, has_placed_id as is_placed_id_there, is_own as is_own_tuple};
 
 use crate::Memory;
 use holds::{Holds, is_same};
-use records::Part;
-use std::marker::Model;
+use records::{Identity, PlacedId, ask_of_log};
 use tuples::{Change, Condition, Entry, MAX_NUMBER, Tuple, WriteId, shard_of};
 
-/// Which shard of which store this is.
-#[derive(Drop)]
-pub struct Home {
-    pub store: u64,
-    pub shards: u8,
-    pub node: u8,
-}
-
-impl Model for Home {
-    ghost use Rattle.records.specs.Replays.{Identity};
-
-    ghost Value = { Identity };
-
-    ghost view = { λ h. record { store = h.store; shards = h.shards; node = h.node } };
-}
-
-/// Its id is not in doubt, and its tuples are this shard's and free.
-pub fn may_prepare(home: &Home, memory: &Memory, entry: &Entry) -> bool
-    requires some { 1 ≤ home.now.shards }
-    requires few { home.now.shards ≤ 64 }
-    ensures { IsTrue result ↔ MayPrepare home.now memory.now entry.now }
+/// Its id is not in doubt, its tuples are this shard's and free, and its conditions ask about places of a log.
+pub fn may_prepare(me: Identity, memory: &Memory, entry: &Entry) -> bool
+    ensures { IsTrue result ↔ MayPrepare me memory.now entry.now }
 {
     // Nothing but an opening comes first.
     if memory.epoch() == 0 {
@@ -41,15 +22,15 @@ pub fn may_prepare(home: &Home, memory: &Memory, entry: &Entry) -> bool
     if !is_number(entry.id.epoch) || !is_number(entry.id.number) {
         return false;
     }
-    if !memory.is_free(entry) {
+    if !memory.is_free(entry) || !ask_of_log(entry.conditions.as_slice()) {
         return false;
     }
-    are_tuples_own(home, entry)
+    are_tuples_own(me, entry)
 }
 
-/// Places only rise, and each part is of another write in doubt.
-pub fn may_learn(memory: &Memory, to: u64, parts: &[Part]) -> bool
-    ensures { IsTrue result ↔ MayLearn memory.now to parts.now }
+/// Places only rise, and each placed id is of another write in doubt.
+pub fn may_learn(memory: &Memory, to: u64, placed_ids: &[PlacedId]) -> bool
+    ensures { IsTrue result ↔ MayLearn memory.now to placed_ids.now }
 {
     if memory.epoch() == 0 {
         return false;
@@ -57,10 +38,10 @@ pub fn may_learn(memory: &Memory, to: u64, parts: &[Part]) -> bool
     if to < memory.learned() || to > MAX_NUMBER {
         return false;
     }
-    if !are_above(memory.learned(), parts) {
+    if !are_above(memory.learned(), placed_ids) {
         return false;
     }
-    are_prepared(parts, memory.held())
+    are_prepared(placed_ids, memory.held())
 }
 
 /// The write is in doubt.
@@ -71,8 +52,8 @@ pub fn may_drop(memory: &Memory, id: WriteId) -> bool
 }
 
 /// The next opening, of this very shard.
-pub fn may_open(home: &Home, memory: &Memory, epoch: u64, at: &Home) -> bool
-    ensures { IsTrue result ↔ MayOpen home.now memory.now epoch at.now.store at.now.shards at.now.node }
+pub fn may_open(me: Identity, memory: &Memory, epoch: u64, store: u64, shards: u8, node: u8) -> bool
+    ensures { IsTrue result ↔ MayOpen me memory.now epoch store shards node }
 {
     // The greatest number has none after it.
     if memory.epoch() >= MAX_NUMBER {
@@ -81,7 +62,7 @@ pub fn may_open(home: &Home, memory: &Memory, epoch: u64, at: &Home) -> bool
     if epoch != memory.epoch() + 1 {
         return false;
     }
-    at.store == home.store && at.shards == home.shards && at.node == home.node
+    me.is(store, shards, node)
 }
 
 /// The horizon only rises, and stays within what is learned.
@@ -98,71 +79,63 @@ fn is_number(number: u64) -> bool
     number >= 1 && number <= MAX_NUMBER
 }
 
-fn are_tuples_own(home: &Home, entry: &Entry) -> bool
-    requires some { 1 ≤ home.now.shards }
-    requires few { home.now.shards ≤ 64 }
-    ensures { result ≡ list_all (is_own_tuple home.now) (named entry.now) }
+fn are_tuples_own(me: Identity, entry: &Entry) -> bool
+    ensures { result ≡ list_all (is_own_tuple me) (named entry.now) }
 {
-    are_changes_own(home, entry.changes.as_slice())
-        && are_conditions_own(home, entry.conditions.as_slice())
+    are_changes_own(me, entry.changes.as_slice())
+        && are_conditions_own(me, entry.conditions.as_slice())
 }
 
-fn are_changes_own(home: &Home, changes: &[Change]) -> bool
-    requires some { 1 ≤ home.now.shards }
-    requires few { home.now.shards ≤ 64 }
-    ensures { result ≡ list_all (is_own_tuple home.now) (changed changes.now) }
+fn are_changes_own(me: Identity, changes: &[Change]) -> bool
+    ensures { result ≡ list_all (is_own_tuple me) (changed changes.now) }
 {
     for change in changes {
-        if !is_own(home, change.tuple()) {
+        if !is_own(me, change.tuple()) {
             return false;
         }
     }
     true
 }
 
-fn are_conditions_own(home: &Home, conditions: &[Condition]) -> bool
-    requires some { 1 ≤ home.now.shards }
-    requires few { home.now.shards ≤ 64 }
-    ensures { result ≡ list_all (is_own_tuple home.now) (conditioned conditions.now) }
+fn are_conditions_own(me: Identity, conditions: &[Condition]) -> bool
+    ensures { result ≡ list_all (is_own_tuple me) (conditioned conditions.now) }
 {
     for condition in conditions {
-        if !is_own(home, &condition.tuple) {
+        if !is_own(me, &condition.tuple) {
             return false;
         }
     }
     true
 }
 
-fn is_own(home: &Home, tuple: &Tuple) -> bool
-    requires some { 1 ≤ home.now.shards }
-    requires few { home.now.shards ≤ 64 }
-    ensures { result ≡ is_own_tuple home.now tuple.now }
+fn is_own(me: Identity, tuple: &Tuple) -> bool
+    ensures { result ≡ is_own_tuple me tuple.now }
 {
-    shard_of(&tuple.object, home.shards) == home.node
+    shard_of(&tuple.object, me.shards()) == me.node()
 }
 
-fn are_above(place: u64, parts: &[Part]) -> bool
-    ensures { IsTrue result ↔ All (λ (p : AnyPart). place < p.place) parts.now }
+fn are_above(place: u64, placed_ids: &[PlacedId]) -> bool
+    ensures { IsTrue result ↔ All (λ (p : AnyPlacedId). place < p.place) placed_ids.now }
 {
-    parts.iter().all(|part| part.place > place)
+    placed_ids.iter().all(|placed_id| placed_id.place > place)
 }
 
-fn are_prepared(parts: &[Part], holds: &Holds) -> bool
-    ensures { result ≡ are_parts_prepared parts.now holds.now }
+fn are_prepared(placed_ids: &[PlacedId], holds: &Holds) -> bool
+    ensures { result ≡ are_placed_ids_prepared placed_ids.now holds.now }
 {
-    for (i, part) in parts.iter().enumerate() {
-        if holds.find(part.id).is_none() || has_part(part.id, &parts[i + 1..]) {
+    for (i, placed_id) in placed_ids.iter().enumerate() {
+        if holds.find(placed_id.id).is_none() || has_placed_id(placed_id.id, &placed_ids[i + 1..]) {
             return false;
         }
     }
     true
 }
 
-fn has_part(id: WriteId, parts: &[Part]) -> bool
-    ensures { result ≡ is_part_there id parts.now }
+fn has_placed_id(id: WriteId, placed_ids: &[PlacedId]) -> bool
+    ensures { result ≡ is_placed_id_there id placed_ids.now }
 {
-    for part in parts {
-        if is_same(part.id, id) {
+    for placed_id in placed_ids {
+        if is_same(placed_id.id, id) {
             return true;
         }
     }

@@ -1,7 +1,7 @@
 use Rattle.std.proofs.Common.{◌≡◌, ℕ, List, Some, None, Result, Err, arith}
 use Rattle.std.specs.Global.{Vec}
-use Rattle.tuples.specs.declared.refusal.Refusal.{Refusal}
-use Rattle.tuples.specs.declared.refusal.Refusal.TheVariants as refusals
+use Rattle.refusal.specs.declared.refusal.Refusal.{Refusal}
+use Rattle.refusal.specs.declared.refusal.Refusal.TheVariants as refusals
 use Rattle.records.specs.declared.record.Record.{Record}
 use Rattle.records.specs.declared.unread.Unread.{Unread}
 use Rattle.records.specs.declared.unread.Unread.TheVariants.{Damaged, NoMemory}

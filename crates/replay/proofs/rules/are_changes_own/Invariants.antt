@@ -6,4 +6,4 @@ use Rattle.replay.proofs.rules.are_changes_own.Given as goal
 
 -- all are own if all are from here on
 abbrev pub invariant-loop-change : goal.invariant-loop-change
-invariant-loop-change l = list_all (is_own l.home) (changed l.changes) ≡ list_all (is_own l.home) (changed (drop l.change-index l.changes))
+invariant-loop-change l = list_all (is_own l.me) (changed l.changes) ≡ list_all (is_own l.me) (changed (drop l.change-index l.changes))
