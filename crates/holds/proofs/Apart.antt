@@ -11,8 +11,8 @@ use Rattle.tuples.specs.Changes.{changed, conditioned, has_tuple}
 use Rattle.tuples.specs.Log.{same_id}
 use Rattle.tuples.specs.Order.{tuple_eq}
 use Rattle.tuples.proofs.Same.{tuple_same}
-use Rattle.records.specs.declared.record.Part.{Part}
-use Rattle.records.specs.Replays.{find_in_doubt, is_held, named, without, without_parts}
+use Rattle.records.specs.declared.record.PlacedId.{PlacedId}
+use Rattle.records.specs.Replays.{find_in_doubt, is_held, named, without, without_placed_ids}
 use Rattle.holds.specs.Holds.{AreApart, IsFree}
 use Rattle.holds.proofs.Doubts.{same_id_refl, without_filter}
 
@@ -116,7 +116,7 @@ held_by (u ∷ ws) (suc j) v t at has = ⊎_elim
     (cases_Bool (has_tuple t (named u)))
 
 -- a tuple of the list is free where all of it are
-free_one : (ws : List Entry) (ts : List Tuple) (t : Tuple) → All (λ (u : Tuple). is_held u ws ≡ false) ts → has_tuple t ts ≡ true → is_held t ws ≡ false
+pub free_one : (ws : List Entry) (ts : List Tuple) (t : Tuple) → All (λ (u : Tuple). is_held u ws ≡ false) ts → has_tuple t ts ≡ true → is_held t ws ≡ false
 free_one ws [] t free has = absurd cc
 free_one ws (u ∷ ts) t free has = ⊎_elim
     (λ here. ap (λ (x : Tuple). is_held x ws) (tuple_same t u here) ∙ All-head (λ (u : Tuple). is_held u ws ≡ false) u ts free)
@@ -143,9 +143,9 @@ apart_filtered p ws apart = record {
 pub apart_without : (id : WriteId) (ws : List Entry) → AreApart ws → AreApart (without id ws)
 apart_without id ws apart = subst AreApart (sym (without_filter id ws)) (apart_filtered (λ (w : Entry). not (same_id w.id id)) ws apart)
 
-pub apart_without_parts : (parts : List Part) (ws : List Entry) → AreApart ws → AreApart (without_parts parts ws)
-apart_without_parts [] ws apart = apart
-apart_without_parts (p ∷ parts) ws apart = apart_without_parts parts (without p.id ws) (apart_without p.id ws apart)
+pub apart_without_placed_ids : (placed_ids : List PlacedId) (ws : List Entry) → AreApart ws → AreApart (without_placed_ids placed_ids ws)
+apart_without_placed_ids [] ws apart = apart
+apart_without_placed_ids (p ∷ placed_ids) ws apart = apart_without_placed_ids placed_ids (without p.id ws) (apart_without p.id ws apart)
 
 -- ---- the test of what is free
 

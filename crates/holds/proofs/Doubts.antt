@@ -4,8 +4,8 @@ use Rattle.std.proofs.lemmas.Bool.{eqb-true, eq-eqb, cases_Bool, and_parts, and_
 use Rattle.tuples.specs.declared.entry.Entry.{Entry}
 use Rattle.tuples.specs.declared.entry.WriteId.{WriteId}
 use Rattle.tuples.specs.Log.{same_id}
-use Rattle.records.specs.declared.record.Part.{Part}
-use Rattle.records.specs.Replays.{find_in_doubt, without, without_parts}
+use Rattle.records.specs.declared.record.PlacedId.{PlacedId}
+use Rattle.records.specs.Replays.{find_in_doubt, without, without_placed_ids}
 
 pub same_id_true : (a b : WriteId) → same_id a b ≡ true → a ≡ b
 same_id_true a b is =
@@ -64,9 +64,9 @@ find_without_other id other (w ∷ ws) ne = ⊎_elim
     (λ stays. rw stays (ap (λ o. cond (same_id w.id id) (Some w) o) (find_without_other id other ws ne)))
     (cases_Bool (same_id w.id other))
 
-abbrev pub HasPart : WriteId → List Part → Type 0
-HasPart id [] = ⊥
-HasPart id (p ∷ parts) = (p.id ≡ id) ⊎ HasPart id parts
+abbrev pub HasPlacedId : WriteId → List PlacedId → Type 0
+HasPlacedId id [] = ⊥
+HasPlacedId id (p ∷ placed_ids) = (p.id ≡ id) ⊎ HasPlacedId id placed_ids
 
 pub none_without : (id other : WriteId) (ws : List Entry) → find_in_doubt id ws ≡ None → find_in_doubt id (without other ws) ≡ None
 none_without id other ws none = ⊎_elim
@@ -74,18 +74,18 @@ none_without id other ws none = ⊎_elim
     (λ ne. find_without_other id other ws ne ∙ none)
     (cases_id id other)
 
-pub none_stays : (id : WriteId) (parts : List Part) (ws : List Entry) → find_in_doubt id ws ≡ None → find_in_doubt id (without_parts parts ws) ≡ None
+pub none_stays : (id : WriteId) (placed_ids : List PlacedId) (ws : List Entry) → find_in_doubt id ws ≡ None → find_in_doubt id (without_placed_ids placed_ids ws) ≡ None
 none_stays id [] ws none = none
-none_stays id (p ∷ parts) ws none = none_stays id parts (without p.id ws) (none_without id p.id ws none)
+none_stays id (p ∷ placed_ids) ws none = none_stays id placed_ids (without p.id ws) (none_without id p.id ws none)
 
-pub find_learned : (id : WriteId) (parts : List Part) (ws : List Entry) → HasPart id parts → find_in_doubt id (without_parts parts ws) ≡ None
+pub find_learned : (id : WriteId) (placed_ids : List PlacedId) (ws : List Entry) → HasPlacedId id placed_ids → find_in_doubt id (without_placed_ids placed_ids ws) ≡ None
 find_learned id [] ws has = absurd has
-find_learned id (p ∷ parts) ws (inl here) = none_stays id parts (without p.id ws) (ap (λ (i : WriteId). find_in_doubt id (without i ws)) here ∙ find_without_same id ws)
-find_learned id (p ∷ parts) ws (inr there) = find_learned id parts (without p.id ws) there
+find_learned id (p ∷ placed_ids) ws (inl here) = none_stays id placed_ids (without p.id ws) (ap (λ (i : WriteId). find_in_doubt id (without i ws)) here ∙ find_without_same id ws)
+find_learned id (p ∷ placed_ids) ws (inr there) = find_learned id placed_ids (without p.id ws) there
 
-pub find_not_learned : (id : WriteId) (parts : List Part) (ws : List Entry) → (HasPart id parts → ⊥) → find_in_doubt id (without_parts parts ws) ≡ find_in_doubt id ws
+pub find_not_learned : (id : WriteId) (placed_ids : List PlacedId) (ws : List Entry) → (HasPlacedId id placed_ids → ⊥) → find_in_doubt id (without_placed_ids placed_ids ws) ≡ find_in_doubt id ws
 find_not_learned id [] ws not = refl
-find_not_learned id (p ∷ parts) ws not = find_not_learned id parts (without p.id ws) (λ there. not (inr there)) ∙ find_without_other id p.id ws (λ is. not (inl (sym is)))
+find_not_learned id (p ∷ placed_ids) ws not = find_not_learned id placed_ids (without p.id ws) (λ there. not (inr there)) ∙ find_without_other id p.id ws (λ is. not (inl (sym is)))
 
 pub without_filter : (id : WriteId) (ws : List Entry) → without id ws ≡ filter (λ (w : Entry). not (same_id w.id id)) ws
 without_filter id [] = refl

@@ -1,3 +1,4 @@
 pub mod Doubts
 pub mod Apart
 pub mod Ids
+pub mod Named

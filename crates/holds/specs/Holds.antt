@@ -1,5 +1,9 @@
 -- Writes that hold their tuples.
 use Rattle.std.specs.Prelude.{◌≡◌, ◌⊎◌, ◌<◌, ℕ, true, false, List, [], ◌∷◌, map, None, Some, All, slice_get}
+use Rattle.std.specs.Prelude.{Bool}
+use Rattle.std.specs.List.{list_any}
+use Rattle.std.specs.Ordering.{is_eq}
+use Rattle.tuples.specs.contracts.tuple.TupleOrd.TheImpl.{ghosts}
 use Rattle.tuples.specs.declared.tuple.Tuple.{Tuple}
 use Rattle.tuples.specs.declared.entry.Entry.{Entry}
 use Rattle.tuples.specs.declared.entry.WriteId.{WriteId}
@@ -26,3 +30,12 @@ abbrev pub AreAscendingIds : List WriteId → Type 0
 AreAscendingIds [] = Unit {0}
 AreAscendingIds (i ∷ []) = Unit {0}
 AreAscendingIds (i ∷ j ∷ more) = ((i.epoch < j.epoch) ⊎ ((i.epoch ≡ j.epoch) × (i.number < j.number))) × AreAscendingIds (j ∷ more)
+
+-- the tuple is one of those of the set
+abbrev pub is_in : List Tuple → Tuple → Bool
+is_in held t = list_any (λ (u : Tuple). is_eq (ghosts.cmp t u)) held
+
+-- writes that stay apart, and the set of their tuples
+pub record IsHolding (ws : List Entry) (held : List Tuple) : Type 0 where
+  pub apart : AreApart ws
+  pub exact : (t : Tuple) → is_in held t ≡ is_held t ws

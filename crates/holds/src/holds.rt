@@ -1,13 +1,16 @@
 // The writes that hold their tuples.
 ghost use Rattle.std.specs.Prelude.{◌≡◌, ◌≢◌, ◌↔◌, ◌⊎◌, ◌∷◌, ◌++◌, [], None, Some, Contains, OnOk, OnErr, IfOk, IfErr, IsErrOf, IsTrue, MatchOption};
-ghost use Rattle.records.specs.Replays.{find_in_doubt, is_held, without, without_parts};
-ghost use Rattle.holds.specs.Holds.{AreApart, AreAscendingIds, IsFree, ids};
+ghost use Rattle.records.specs.Replays.{find_in_doubt, is_held, without, without_placed_ids};
+ghost use Rattle.holds.specs.Holds.{AreApart, AreAscendingIds, IsFree, IsHolding, ids, is_in};
 ghost use Rattle.tuples.specs.declared.entry.WriteId.{WriteId as AnyId};
+ghost use Rattle.tuples.specs.declared.tuple.Tuple.{Tuple as AnyTuple};
 
 use crate::ascending::sorted_ids;
-use crate::entries::{self, hold_change, hold_condition, take_out, take_out_parts};
-use records::Part;
+use crate::entries::{self, take_out};
+use crate::held::{hold, holds_change, holds_condition, let_go};
+use records::PlacedId;
 use std::alloc::{AllocError, Global};
+use std::collections::BTreeSet;
 use std::marker::Model;
 use tuples::{Entry, Refusal, Tuple, WriteId};
 
@@ -16,18 +19,19 @@ use tuples::{Entry, Refusal, Tuple, WriteId};
 #[derive(Drop)]
 pub struct Holds {
     writes: Vec<Entry>,
+    held: BTreeSet<Tuple>,
 }
 
 impl Model for Holds {
     ghost use Rattle.std.specs.Prelude.{List};
     ghost use Rattle.tuples.specs.declared.entry.Entry.{Entry};
-    ghost use Rattle.holds.specs.Holds.{AreApart};
+    ghost use Rattle.holds.specs.Holds.{IsHolding};
 
     ghost Value = { List Entry };
 
     ghost view = { λ h. h.writes.items };
 
-    ghost invariant = { λ h. AreApart h.writes.items };
+    ghost invariant = { λ h. IsHolding h.writes.items h.held.keys };
 }
 
 impl Holds {
@@ -37,6 +41,7 @@ impl Holds {
     {
         Holds {
             writes: Vec::new(alloc),
+            held: BTreeSet::new(alloc),
         }
     }
 
@@ -44,7 +49,7 @@ impl Holds {
     pub fn is_free(&self, write: &Entry) -> bool
         ensures { IsTrue result ↔ IsFree self.now write.now }
     {
-        is_free(&self.writes, write)
+        is_free(&self.writes, &self.held, write)
     }
 
     /// Holds all tuples of a write, or none of them: `Busy` where it is not free, `NoMemory`.
@@ -55,10 +60,11 @@ impl Holds {
         ensures err { IfErr result (λ e. (e ≡ Refusal.Busy) ⊎ (e ≡ Refusal.NoMemory)) }
         ensures same { OnErr result (self.new ≡ self.old) }
     {
-        if !is_free(&self.writes, &write) {
+        if !is_free(&self.writes, &self.held, &write) {
             return Err(Refusal::Busy);
         }
         self.writes.reserve(1)?;
+        hold_free(&self.writes, &mut self.held, &write)?;
         self.writes.push_reserved(write);
         Ok(())
     }
@@ -69,14 +75,17 @@ impl Holds {
         ensures gone { find_in_doubt id self.new ≡ None }
         ensures others { (j : AnyId) → j ≢ id → find_in_doubt j self.new ≡ find_in_doubt j self.old }
     {
+        let_go_of(&self.writes, &mut self.held, id);
         take_out(&mut self.writes, id);
     }
 
-    /// Holds the writes of these parts no longer, which takes no memory.
-    pub fn release_parts(&mut self, parts: &[Part])
-        ensures { self.new ≡ without_parts parts.now self.old }
+    /// Holds the writes of these placed_ids no longer, which takes no memory.
+    pub fn release_placed_ids(&mut self, placed_ids: &[PlacedId])
+        ensures { self.new ≡ without_placed_ids placed_ids.now self.old }
     {
-        take_out_parts(&mut self.writes, parts);
+        for placed_id in placed_ids {
+            self.release(placed_id.id);
+        }
     }
 
     /// The write with this id.
@@ -90,7 +99,7 @@ impl Holds {
     pub fn is_held(&self, tuple: &Tuple) -> bool
         ensures { result ≡ is_held tuple.now self.now }
     {
-        entries::is_held(&self.writes, tuple)
+        self.held.contains(tuple)
     }
 
     /// The writes, in the order in which they were taken.
@@ -110,14 +119,41 @@ impl Holds {
     }
 }
 
-fn is_free(writes: &[Entry], write: &Entry) -> bool
+fn is_free(writes: &[Entry], held: &BTreeSet<Tuple>, write: &Entry) -> bool
+    requires { IsHolding writes.now held.now.keys }
     ensures { IsTrue result ↔ IsFree writes.now write.now }
 {
     if entries::find(writes, write.id).is_some() {
         return false;
     }
-    if hold_change(writes, write.changes.as_slice()) {
+    if holds_change(held, write.changes.as_slice()) {
         return false;
     }
-    !hold_condition(writes, write.conditions.as_slice())
+    !holds_condition(held, write.conditions.as_slice())
+}
+
+// Holds the tuples of a write that is free, or none of them.
+fn hold_free(writes: &[Entry], held: &mut BTreeSet<Tuple>, write: &Entry) -> Result<(), Refusal>
+    requires holding { IsHolding writes.now held.old.keys }
+    requires free { IsFree writes.now write.now }
+    ensures ok { OnOk result ((t : AnyTuple) → is_in held.new.keys t ≡ is_held t (writes.now ++ write.now ∷ [])) }
+    ensures err { IfErr result (λ e. e ≡ Refusal.NoMemory) }
+    ensures same { OnErr result ((t : AnyTuple) → is_in held.new.keys t ≡ is_held t writes.now) }
+{
+    if hold(held, write).is_err() {
+        let_go(held, write);
+        return Err(Refusal::NoMemory);
+    }
+    Ok(())
+}
+
+// Holds the tuples of the write with this id no longer.
+fn let_go_of(writes: &[Entry], held: &mut BTreeSet<Tuple>, id: WriteId)
+    requires { IsHolding writes.now held.old.keys }
+    ensures { (t : AnyTuple) → is_in held.new.keys t ≡ is_held t (without id writes.now) }
+{
+    let Some(write) = entries::find(writes, id) else {
+        return;
+    };
+    let_go(held, write);
 }

@@ -9,6 +9,7 @@
 
 mod ascending;
 mod entries;
+mod held;
 mod holds;
 #[cfg(test)]
 mod tests;

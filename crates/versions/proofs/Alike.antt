@@ -99,7 +99,7 @@ selection_alike {a} {b} h place q ts selection = record {
 
 -- ---- the newest version
 
-last_own : (rows : List Version) (t : Tuple) → last_version rows t ≡ last_version (of_tuple t rows) t
+pub last_own : (rows : List Version) (t : Tuple) → last_version rows t ≡ last_version (of_tuple t rows) t
 unfolding last_version
 last_own [] t = refl
 last_own (v ∷ rows) t = ⊎_elim
@@ -180,12 +180,12 @@ cut_at t (u ∷ rows) v rest is = ⊎_elim
 of_own : (v : Version) (rows : List Version) → of_tuple (tuple_of v.change) (v ∷ rows) ≡ v ∷ of_tuple (tuple_of v.change) rows
 of_own v rows = ap (λ (e : Bool). cond e (v ∷ of_tuple (tuple_of v.change) rows) (of_tuple (tuple_of v.change) rows)) (tuple_eq_refl (tuple_of v.change))
 
-alike_none : (rows : List Version) → AreAlike [] rows → rows ≡ []
+pub alike_none : (rows : List Version) → AreAlike [] rows → rows ≡ []
 alike_none [] h = refl
 alike_none (v ∷ rows) h = let some : [] ≡ v ∷ of_tuple (tuple_of v.change) rows = h.each (tuple_of v.change) ∙ of_own v rows in absurd cc
 
 -- without a version that is the first of its tuple in both
-alike_less : (v : Version) (a front back : List Version) → AreAlike (v ∷ a) (front ++ v ∷ back) → of_tuple (tuple_of v.change) front ≡ [] → AreAlike a (front ++ back)
+pub alike_less : (v : Version) (a front back : List Version) → AreAlike (v ∷ a) (front ++ v ∷ back) → of_tuple (tuple_of v.change) front ≡ [] → AreAlike a (front ++ back)
 alike_less v a front back h none = record {
   each = λ t. ⊎_elim
       (λ yes.

@@ -1,4 +1,4 @@
--- Parts of a tuple that are equal compare as equal.
+-- PlacedIds of a tuple that are equal compare as equal.
 use Rattle.std.proofs.Common.{◌≡◌, ℕ, List, ap, ◌∙◌, rules}
 use Rattle.std.specs.Ordering.{is_eq}
 use Rattle.tuples.specs.declared.object.Object.{Object}

@@ -1,6 +1,9 @@
-pub mod Walk
-pub mod Keys
 pub mod Equal
-pub mod Followed
 pub mod Listed
 pub mod Alike
+pub mod Histories
+pub mod Tables
+pub mod Placed
+pub mod Firsts
+pub mod Selected
+pub mod Newest

@@ -1,29 +1,24 @@
--- Rows as a shard has them, and what a walk over them keeps.
-use Rattle.std.specs.Prelude.{◌≤◌, ℕ, Bool, ◌&&◌, List}
-use Rattle.std.specs.List.Sorted.{IsPermutation, IsSorted}
-use Rattle.std.specs.Ordering.{nat_cmp, ordering_then}
+-- Rows as a shard has them: each tuple with its versions.
+use Rattle.std.specs.Prelude.{ℕ, ◌≡◌, Bool, true, ◌&&◌, ◌||◌, max, nat_le, nat_lt, List, [], ◌∷◌, map, filter, Option, None, Some, if◌then◌else◌}
+use Rattle.std.specs.List.{AllByRecursion, flat_map}
+use Rattle.std.specs.List.Sorted.{IsPermutation, IsSorted, IsStrictlySortedBy}
+use Rattle.std.specs.Map.{keys_of, lookup}
+use Rattle.std.specs.BTreeMap.{is_at}
+use Rattle.std.specs.Ordering.{is_le, nat_cmp, ordering_then}
+use Rattle.std.specs.Global.{Vec}
 use Rattle.std.specs.declared.cmp.Ordering.{Ordering}
-use Rattle.std.specs.Borrow.{Bor}
-use Rattle.std.specs.List.{AllByRecursion, list_any}
+use Rattle.std.specs.declared.cmp.Ordering.TheVariants.{Less}
+use Rattle.tuples.specs.declared.change.Change.{Change}
+use Rattle.tuples.specs.declared.change.Change.TheVariants.{Touch, Delete}
 use Rattle.tuples.specs.declared.tuple.Tuple.{Tuple}
 use Rattle.tuples.specs.declared.tupleset.Tupleset.{Tupleset}
 use Rattle.tuples.specs.declared.version.Version.{Version}
+use Rattle.tuples.specs.contracts.tuple.TupleOrd.TheImpl.{ghosts}
 use Rattle.tuples.specs.Changes.{tuple_of}
-use Rattle.tuples.specs.Order.{tuple_cmp, tuple_eq}
+use Rattle.tuples.specs.Order.{tuple_cmp}
 use Rattle.tuples.specs.Reads.{meets}
-use Rattle.tuples.specs.Versions.{there_at}
-
--- no version lies above the place
-abbrev pub AreWithin : ℕ → List Version → Type 0
-AreWithin place = AllByRecursion (λ (v : Version). v.place ≤ place)
-
--- the tuple is one of those that are kept
-abbrev pub is_kept : List (Bor Tuple) → Tuple → Bool
-is_kept kept t = list_any (λ (u : Bor Tuple). tuple_eq t u.now) kept
-
--- the tuple meets the tupleset, and is there at a place
-abbrev pub is_selected : Tupleset → ℕ → List Version → Tuple → Bool
-is_selected q place rows t = meets q t && there_at rows place t
+use Rattle.tuples.specs.Texts.{IsTuple}
+use Rattle.versions.specs.declared.history.Row.{Row}
 
 -- by tuple, and then by place
 abbrev pub version_cmp : Version → Version → Ordering
@@ -33,3 +28,54 @@ version_cmp v u = ordering_then (tuple_cmp (tuple_of v.change) (tuple_of u.chang
 pub record AreRows (rows listed : List Version) : Type 0 where
   pub same : IsPermutation rows listed
   pub in_order : IsSorted version_cmp listed
+
+-- the change of a tuple that touches or deletes it
+abbrev pub change_of : Tuple → Bool → Change
+change_of t touches = if touches then Touch t else Delete t
+
+-- the version of a tuple that a row stands for
+abbrev pub version_of : Tuple → Row → Version
+version_of t r = record { place = r.place; change = change_of t r.is_touch }
+
+abbrev pub versions_of : Tuple → List Row → List Version
+versions_of t = map (version_of t)
+
+-- the versions of a table: of each tuple, in the order of tuples, those of its rows
+abbrev pub listed : List (Tuple × Vec Row) → List Version
+listed = flat_map (λ (e : Tuple × Vec Row). versions_of e.0 e.1.items)
+
+-- the table as a map: one entry a tuple, each in its grammar, in the order of tuples
+pub record IsTable (es : List (Tuple × Vec Row)) : Type 0 where
+  pub in_order : IsStrictlySortedBy ghosts.cmp (keys_of es)
+  pub spelled : AllByRecursion IsTuple (keys_of es)
+
+-- a walk from this tuple on, in the order of tuples, begins before all that meet the tupleset, and passes no other before the last of them
+pub record IsFirst (q : Tupleset) (first : Tuple) : Type 0 where
+  pub before : (t : Tuple) → IsTuple t → meets q t ≡ true → is_le (tuple_cmp first t) ≡ true
+  pub within : (t u : Tuple) → is_le (tuple_cmp first t) ≡ true → tuple_cmp t u ≡ Less → meets q u ≡ true → meets q t ≡ true
+
+-- the relation, or the first one of all
+abbrev pub first_relation : Option (List ℕ) → List ℕ
+first_relation None = 48 ∷ []
+first_relation (Some r) = r
+
+-- what a look-up of the tuple finds
+abbrev pub found : Tuple → List (Tuple × Vec Row) → Option (Vec Row)
+found t = lookup (is_at (ghosts.cmp t))
+
+-- the rows of an entry that was found, and none of none
+abbrev pub rows_in : Option (Vec Row) → List Row
+rows_in None = []
+rows_in (Some h) = h.items
+
+-- the greatest place at or below the horizon, 0 if none
+abbrev pub newest_under : ℕ → List Row → ℕ
+newest_under h [] = 0
+newest_under h (r ∷ rows) = if nat_le r.place h then max r.place (newest_under h rows) else newest_under h rows
+
+-- the rows above the horizon, and the newest at or below it where that is a touch
+abbrev pub stays : ℕ → ℕ → Row → Bool
+stays h newest r = nat_lt h r.place || (r.is_touch && nat_le newest r.place)
+
+unfoldable pub rows_left : ℕ → List Row → List Row
+rows_left h rows = filter (stays h (newest_under h rows)) rows

@@ -1,62 +1,74 @@
-// The tuples that a walk over the rows keeps, in the order of tuples.
-ghost use Rattle.std.specs.Prelude.{◌≡◌, ◌∷◌, [], List, map, OnOk, IfOk};
-ghost use Rattle.tuples.specs.Log.{there_after};
-ghost use Rattle.tuples.specs.declared.tuple.Tuple.{Tuple as AnyTuple};
-ghost use Rattle.tuples.specs.Reads.{AreAscending};
-ghost use Rattle.versions.specs.Rows.{is_kept, is_selected};
+// The tuples of a table that are there at a place, in the order of tuples.
+ghost use Rattle.std.specs.Prelude.{IfOk};
+ghost use Rattle.tuples.specs.Reads.{IsSelection};
+ghost use Rattle.tuples.specs.Versions.{there_at};
+ghost use Rattle.versions.specs.Rows.{IsFirst, IsTable, listed};
 
+use crate::first::first_of;
+use crate::history::{Row, is_there_at};
 use crate::meets::meets_set;
+use crate::table::copy;
 use std::alloc::{AllocError, Global};
-use std::collections::BTreeSet;
-use tuples::{Change, Tuple, Tupleset, Version};
+use std::collections::BTreeMap;
+use tuples::{Tuple, Tupleset};
 
-/// The tuples that are there at a place and meet the tupleset.
-pub(crate) fn kept_at<'a>(
+/// Copies of the tuples that are there at a place and meet the tupleset, ascending.
+pub(crate) fn kept_at(
+    table: &BTreeMap<Tuple, Vec<Row>>,
     alloc: Global,
-    rows: &'a [Version],
     place: u64,
     set: &Tupleset,
-) -> Result<BTreeSet<&'a Tuple>, AllocError>
-    ensures { IfOk result (λ kept. (t : AnyTuple) → is_kept kept.keys t ≡ is_selected set.now place rows.now t) }
+) -> Result<Vec<Tuple>, AllocError>
+    requires { IsTable table.now.entries }
+    ensures { IfOk result (λ tuples. IsSelection (there_at (listed table.now.entries) place) set.now tuples.items) }
 {
-    let mut kept = BTreeSet::new(alloc);
-    for row in rows {
-        if row.place <= place && meets_set(set, row.change.tuple()) {
-            keep_after(&mut kept, &row.change)?;
+    match set {
+        Tupleset::Key(key) => kept_from(table, alloc, place, set, copy(key)?),
+        Tupleset::OfObject(object, relation) => {
+            kept_from(table, alloc, place, set, first_of(alloc, object, relation)?)
         }
+        Tupleset::OfUser(..) => kept_of_all(table, alloc, place, set),
     }
-    Ok(kept)
 }
 
-// what is kept after one more change
-fn keep_after<'a>(kept: &mut BTreeSet<&'a Tuple>, change: &'a Change) -> Result<(), AllocError>
-    ensures { OnOk result ((t : AnyTuple) → is_kept kept.new.keys t ≡ there_after t (is_kept kept.old.keys t) (change.now ∷ [])) }
+// Those that meet the tupleset stand side by side.
+fn kept_from(
+    table: &BTreeMap<Tuple, Vec<Row>>,
+    alloc: Global,
+    place: u64,
+    set: &Tupleset,
+    first: Tuple,
+) -> Result<Vec<Tuple>, AllocError>
+    requires table { IsTable table.now.entries }
+    requires first { IsFirst set.now first }
+    ensures { IfOk result (λ tuples. IsSelection (there_at (listed table.now.entries) place) set.now tuples.items) }
 {
-    match change {
-        Change::Touch(tuple) => {
-            kept.insert(tuple)?;
+    let mut tuples = Vec::new(alloc);
+    for (tuple, rows) in table.range(first..) {
+        if !meets_set(set, tuple) {
+            return Ok(tuples);
         }
-        Change::Delete(tuple) => {
-            kept.remove(&tuple);
+        if is_there_at(rows, place) {
+            tuples.push(copy(tuple)?)?;
         }
-    }
-    Ok(())
-}
-
-/// Copies of the tuples, in their order.
-pub(crate) fn copied(alloc: Global, kept: &BTreeSet<&Tuple>) -> Result<Vec<Tuple>, AllocError>
-    ensures copies { IfOk result (λ tuples. tuples.items ≡ map (λ t. t.now) kept.now.keys) }
-    ensures ascending { IfOk result (λ tuples. AreAscending tuples.items) }
-{
-    let mut tuples = Vec::with_capacity(alloc, kept.len())?;
-    for tuple in kept {
-        tuples.push(copy(tuple)?)?;
     }
     Ok(tuples)
 }
 
-fn copy(tuple: &Tuple) -> Result<Tuple, AllocError>
-    ensures { IfOk result (λ copy. copy ≡ tuple.now) }
+fn kept_of_all(
+    table: &BTreeMap<Tuple, Vec<Row>>,
+    alloc: Global,
+    place: u64,
+    set: &Tupleset,
+) -> Result<Vec<Tuple>, AllocError>
+    requires { IsTable table.now.entries }
+    ensures { IfOk result (λ tuples. IsSelection (there_at (listed table.now.entries) place) set.now tuples.items) }
 {
-    tuple.clone()
+    let mut tuples = Vec::new(alloc);
+    for (tuple, rows) in table {
+        if meets_set(set, tuple) && is_there_at(rows, place) {
+            tuples.push(copy(tuple)?)?;
+        }
+    }
+    Ok(tuples)
 }

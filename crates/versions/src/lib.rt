@@ -4,15 +4,18 @@
 //! Never: knows which write made a version, or touches a device.
 //! Callers rely on: `at` is the snapshot at a place, and `last` the place of the newest version.
 //!
-//! Start at `versions.rt` and `specs/Alike.antt`; the other definitions stand in `tuples`, in `specs/Versions.antt` and `specs/Reads.antt`.
+//! Start at `versions.rt`, `table.rt` and `specs/Alike.antt`; the other definitions stand in `tuples`, in `specs/Versions.antt` and `specs/Reads.antt`.
 #![tactic(auto)]
 
-mod collecting;
+mod applying;
+mod first;
+mod history;
 mod kept;
 mod listing;
 mod meets;
+mod table;
 #[cfg(test)]
 mod tests;
 mod versions;
 
-pub use versions::{Versions, read_alike};
+pub use versions::{Versions, newest_is_last, read_alike};

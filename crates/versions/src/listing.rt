@@ -1,35 +1,43 @@
 // The versions as a list in the order of tuples and places.
 ghost use Rattle.std.specs.Prelude.{◌≡◌, ◌++◌, IfOk, OnOk};
 ghost use Rattle.std.specs.List.Sorted.{IsPermutation, IsSorted};
-ghost use Rattle.versions.specs.Rows.{AreRows, version_cmp};
+ghost use Rattle.versions.specs.Rows.{AreRows, listed, version_cmp, versions_of};
 
+use crate::history::Row;
 use std::alloc::{AllocError, Global};
 use std::cmp::Ordering;
-use tuples::Version;
+use std::collections::BTreeMap;
+use tuples::{Tuple, Version};
 
 /// Copies of the versions, by tuple and then by place.
-pub(crate) fn listed(alloc: Global, rows: &[Version]) -> Result<Vec<Version>, AllocError>
-    ensures { IfOk result (λ v. AreRows rows.now v.items) }
+pub(crate) fn list(
+    table: &BTreeMap<Tuple, Vec<Row>>,
+    alloc: Global,
+) -> Result<Vec<Version>, AllocError>
+    ensures { IfOk result (λ v. AreRows (listed table.now.entries) v.items) }
 {
-    let mut versions = copies(alloc, rows)?;
+    let mut versions = copies(table, alloc)?;
     sort(&mut versions)?;
     Ok(versions)
 }
 
-fn copies(alloc: Global, rows: &[Version]) -> Result<Vec<Version>, AllocError>
-    ensures { IfOk result (λ v. v.items ≡ rows.now) }
+fn copies(table: &BTreeMap<Tuple, Vec<Row>>, alloc: Global) -> Result<Vec<Version>, AllocError>
+    ensures { IfOk result (λ v. v.items ≡ listed table.now.entries) }
 {
-    let mut versions = Vec::with_capacity(alloc, rows.len())?;
-    for row in rows {
-        versions.push(copy(row)?)?;
+    let mut versions = Vec::new(alloc);
+    for (tuple, rows) in table {
+        copy_rows(&mut versions, tuple, rows)?;
     }
     Ok(versions)
 }
 
-fn copy(row: &Version) -> Result<Version, AllocError>
-    ensures { IfOk result (λ v. v ≡ row.now) }
+fn copy_rows(versions: &mut Vec<Version>, tuple: &Tuple, rows: &[Row]) -> Result<(), AllocError>
+    ensures { OnOk result (versions.new.items ≡ versions.old.items ++ versions_of tuple.now rows.now) }
 {
-    row.clone()
+    for row in rows {
+        versions.push(row.version(tuple)?)?;
+    }
+    Ok(())
 }
 
 fn sort(versions: &mut Vec<Version>) -> Result<(), AllocError>

@@ -4,24 +4,27 @@ use std::alloc::Global;
 use std::test::Fail;
 use tuples::{Change, Tuple, Tupleset};
 
-fn touch(alloc: Global, text: &str) -> Result<Change, Fail> {
-    Ok(Change::Touch(Tuple::parse(alloc, text.as_bytes())?))
+/// The versions of these lines: a place, and a tuple that is touched, or deleted behind a `-`.
+fn versions_of(alloc: Global, lines: &[(u64, &str)]) -> Result<Versions, Fail> {
+    let mut versions = Versions::new(alloc);
+    for (place, text) in lines {
+        versions.apply(*place, &[change_of(alloc, text)?])?;
+    }
+    Ok(versions)
 }
 
-fn delete(alloc: Global, text: &str) -> Result<Change, Fail> {
-    Ok(Change::Delete(Tuple::parse(alloc, text.as_bytes())?))
-}
-
-fn apply_one(versions: &mut Versions, place: u64, change: Change) -> Result<(), Fail> {
-    versions.apply(place, &[change])?;
-    Ok(())
+fn change_of(alloc: Global, text: &str) -> Result<Change, Fail> {
+    Ok(match text.strip_prefix("-") {
+        Some(text) => Change::Delete(Tuple::parse(alloc, text.as_bytes())?),
+        None => Change::Touch(Tuple::parse(alloc, text.as_bytes())?),
+    })
 }
 
 /// The text of each tuple of a read, a line each.
 fn read(alloc: Global, versions: &Versions, place: u64, set: &str) -> Result<Vec<u8>, Fail> {
     let set = Tupleset::parse(alloc, set.as_bytes())?;
-    let tuples = versions.at(alloc, place, &set)?;
     let mut text = Vec::new(alloc);
+    let tuples = versions.at(alloc, place, &set)?;
     for tuple in &tuples {
         tuple.write_to(&mut text)?;
         text.push(b'\n')?;
@@ -29,141 +32,47 @@ fn read(alloc: Global, versions: &Versions, place: u64, set: &str) -> Result<Vec
     Ok(text)
 }
 
-fn touched_deleted_and_touched(alloc: Global, text: &str) -> Result<Versions, Fail> {
-    let mut versions = Versions::new(alloc);
-    apply_one(&mut versions, 1, touch(alloc, text)?)?;
-    apply_one(&mut versions, 2, delete(alloc, text)?)?;
-    apply_one(&mut versions, 3, touch(alloc, text)?)?;
-    Ok(versions)
-}
-
 #[test]
-fn a_tuple_is_there_between_its_touch_and_its_delete(rt: HostRuntime) -> Result<(), Fail> {
+fn each_kind_of_tupleset_is_read_at_each_place(rt: HostRuntime) -> Result<(), Fail> {
     let alloc = rt.alloc();
-    let text = "doc:a#viewer@u1";
-    let tuple = Tuple::parse(alloc, text.as_bytes())?;
-    let versions = touched_deleted_and_touched(alloc, text)?;
-    for (place, there) in [(0, false), (1, true), (2, false), (3, true), (4, true)] {
-        assert_eq!(rt; versions.is_there(place, &tuple), there, "at {place}");
-        let lines = read(alloc, &versions, place, text)?;
-        assert_eq!(rt;
-            lines.as_slice() == b"doc:a#viewer@u1\n".as_slice(),
-            there,
-            "at {place}"
-        );
-    }
-    assert_eq!(rt; versions.last(&tuple), 3);
-    Ok(())
-}
-
-#[test]
-fn a_tuple_that_nothing_changed_has_no_place(rt: HostRuntime) -> Result<(), Fail> {
-    let alloc = rt.alloc();
-    let versions = touched_deleted_and_touched(alloc, "doc:a#viewer@u1")?;
-    let other = Tuple::parse(alloc, b"doc:a#viewer@u2")?;
-    assert_eq!(rt; versions.last(&other), 0);
-    Ok(())
-}
-
-fn six_tuples(alloc: Global) -> Result<Versions, Fail> {
-    let mut changes = Vec::new(alloc);
-    for text in [
-        "folder:a#viewer@u1",
-        "doc:b#viewer@u1",
-        "doc:b#owner@u1",
-        "doc:a#viewer@group:g#member",
-        "doc:a#viewer@u1",
-        "doc:a#owner@group:g#member",
-    ] {
-        changes.push(touch(alloc, text)?)?;
-    }
-    let mut versions = Versions::new(alloc);
-    versions.apply(1, &changes)?;
-    Ok(versions)
-}
-
-#[test]
-fn each_kind_of_tupleset_reads_its_tuples_ascending(rt: HostRuntime) -> Result<(), Fail> {
-    let alloc = rt.alloc();
-    let versions = six_tuples(alloc)?;
-    for (set, lines) in [
-        ("doc:a#viewer@u1", "doc:a#viewer@u1\n"),
+    let lines = [
+        (1, "folder:a#viewer@u1"),
+        (1, "doc:b#viewer@u1"),
+        (1, "doc:a#viewer@group:g#member"),
+        (1, "doc:a#viewer@u1"),
+        (2, "-doc:a#viewer@u1"),
+        (3, "doc:a#owner@group:g#member"),
+        (3, "doc:a#viewer@u1"),
+    ];
+    let versions = versions_of(alloc, &lines)?;
+    for (place, set, wanted) in [
+        (0, "doc:a", ""),
+        (1, "doc:a#viewer@u1", "doc:a#viewer@u1\n"),
+        (2, "doc:a#viewer@u1", ""),
         (
+            3,
             "doc:a",
             "doc:a#owner@group:g#member\ndoc:a#viewer@u1\ndoc:a#viewer@group:g#member\n",
         ),
+        (2, "doc:a#viewer", "doc:a#viewer@group:g#member\n"),
+        (3, "doc@u1", "doc:a#viewer@u1\ndoc:b#viewer@u1\n"),
         (
-            "doc:a#viewer",
-            "doc:a#viewer@u1\ndoc:a#viewer@group:g#member\n",
+            3,
+            "doc#owner@group:g#member",
+            "doc:a#owner@group:g#member\n",
         ),
-        (
-            "doc@u1",
-            "doc:a#viewer@u1\ndoc:b#owner@u1\ndoc:b#viewer@u1\n",
-        ),
-        ("doc#viewer@u1", "doc:a#viewer@u1\ndoc:b#viewer@u1\n"),
-        (
-            "doc@group:g#member",
-            "doc:a#owner@group:g#member\ndoc:a#viewer@group:g#member\n",
-        ),
-        ("doc#owner@group:g#member", "doc:a#owner@group:g#member\n"),
-        ("doc:c", ""),
+        (3, "doc:c", ""),
     ] {
-        assert_eq!(rt;
-            read(alloc, &versions, 1, set)?.as_slice(),
-            lines.as_bytes(),
-            "of {set}"
-        );
+        let found = read(alloc, &versions, place, set)?;
+        assert_eq!(rt; found.as_slice(), wanted.as_bytes(), "{set} at {place}");
     }
-    Ok(())
-}
-
-#[test]
-fn what_lies_under_a_horizon_is_forgotten(rt: HostRuntime) -> Result<(), Fail> {
-    let alloc = rt.alloc();
-    let mut versions = Versions::new(alloc);
-    let first = [
-        touch(alloc, "doc:a#viewer@u1")?,
-        touch(alloc, "doc:a#viewer@u2")?,
-    ];
-    versions.apply(1, &first)?;
-    versions.apply(2, &[delete(alloc, "doc:a#viewer@u1")?])?;
-    let mut later = Versions::new(alloc);
-    later.apply(3, &[touch(alloc, "doc:a#viewer@u1")?])?;
-    versions.append(later)?;
-    versions.collect(2);
-    for (place, lines) in [
-        // The touch of u1 at 1 is gone, as its delete at 2 is.
-        (1, "doc:a#viewer@u2\n"),
-        (2, "doc:a#viewer@u2\n"),
-        (3, "doc:a#viewer@u1\ndoc:a#viewer@u2\n"),
-    ] {
-        assert_eq!(rt;
-            read(alloc, &versions, place, "doc:a")?.as_slice(),
-            lines.as_bytes(),
-            "at {place}"
-        );
-    }
-    Ok(())
-}
-
-#[test]
-fn rows_are_listed_by_tuple_and_then_by_place(rt: HostRuntime) -> Result<(), Fail> {
-    let alloc = rt.alloc();
-    let mut versions = Versions::new(alloc);
-    versions.apply(1, &[touch(alloc, "doc:b#viewer@u1")?])?;
-    versions.apply(2, &[touch(alloc, "doc:a#viewer@u1")?])?;
-    versions.apply(3, &[delete(alloc, "doc:a#viewer@u1")?])?;
-    assert_eq!(rt;
-        listed_places(alloc, &versions)?.as_slice(),
-        [2, 3, 1].as_slice()
-    );
     Ok(())
 }
 
 /// The place of each version, as they are listed.
 fn listed_places(alloc: Global, versions: &Versions) -> Result<Vec<u64>, Fail> {
-    let rows = versions.rows(alloc)?;
     let mut places = Vec::new(alloc);
+    let rows = versions.rows(alloc)?;
     for row in &rows {
         places.push(row.place)?;
     }
@@ -171,15 +80,22 @@ fn listed_places(alloc: Global, versions: &Versions) -> Result<Vec<u64>, Fail> {
 }
 
 #[test]
-fn a_horizon_leaves_what_a_read_at_it_needs(rt: HostRuntime) -> Result<(), Fail> {
+fn what_lies_under_a_horizon_is_forgotten(rt: HostRuntime) -> Result<(), Fail> {
     let alloc = rt.alloc();
-    let mut versions = touched_deleted_and_touched(alloc, "doc:a#viewer@u1")?;
-    versions.collect(1);
-    assert_eq!(rt;
-        listed_places(alloc, &versions)?.as_slice(),
-        [1, 2, 3].as_slice()
-    );
-    versions.collect(2);
-    assert_eq!(rt; listed_places(alloc, &versions)?.as_slice(), [3].as_slice());
+    let mut versions = versions_of(alloc, &[(1, "doc:b#viewer@u1"), (1, "doc:a#viewer@u1")])?;
+    let more = [(2, "-doc:a#viewer@u1"), (3, "doc:a#viewer@u1")];
+    versions.append(versions_of(alloc, &more)?)?;
+    let tuple = Tuple::parse(alloc, b"doc:a#viewer@u1")?;
+    assert_eq!(rt; versions.last(&tuple), 3);
+    for (horizon, wanted) in [
+        (1, [1, 2, 3, 1].as_slice()),
+        (2, [3, 1].as_slice()),
+        (3, [3, 1].as_slice()),
+    ] {
+        versions.collect(horizon);
+        let places = listed_places(alloc, &versions)?;
+        assert_eq!(rt; places.as_slice(), wanted, "under {horizon}");
+        assert_eq!(rt; versions.is_there(horizon, &tuple), horizon != 2);
+    }
     Ok(())
 }

@@ -1,6 +1,7 @@
-use Rattle.std.proofs.Common.{◌≡◌, take}
+use Rattle.std.proofs.Common.{◌≡◌, ◌++◌}
+use Rattle.versions.specs.Rows.{listed}
 use Rattle.versions.proofs.listing.copies.Given as goal
 
--- the rows so far are copied
-abbrev pub invariant-loop-row : goal.invariant-loop-row
-invariant-loop-row l = l.versions.items ≡ take l.row-index l.rows
+-- the copies, and the entries that are left
+abbrev pub invariant-loop-tuple : goal.invariant-loop-tuple
+invariant-loop-tuple l = l.versions.items ++ listed l.tuple-iterator ≡ listed l.table.entries

@@ -1,13 +1,18 @@
-use Rattle.std.proofs.Common.{◌≡◌, ◌∙◌, List, sym, ap, subst}
+use Rattle.std.proofs.Common.{◌≡◌, ◌∙◌, List, sym, ap, subst, rules}
 use Rattle.tuples.specs.declared.entry.Entry.{Entry}
-use Rattle.records.specs.Replays.{find_in_doubt}
+use Rattle.records.specs.Replays.{find_in_doubt, is_held, without}
 use Rattle.holds.specs.Holds.{AreApart}
 use Rattle.holds.proofs.Apart.{apart_without}
 use Rattle.holds.proofs.Doubts.{find_without_other, find_without_same}
 use Rattle.holds.proofs.holds.Holds.release.Goals as goal
 
 pub invariant_of-self : goal.invariant_of-self
-invariant_of-self c = subst AreApart (sym c.take_out.ensures) (apart_without c.args.id c.self.inside.writes.items c.self.invariant)
+invariant_of-self c =
+    let same : c.deref.result.now ≡ c.self.inside.writes.items = search rules in
+    record {
+      apart = subst AreApart (sym c.take_out.ensures) (apart_without c.args.id c.self.inside.writes.items c.self.invariant.apart);
+      exact = λ t. c.let_go_of.ensures t ∙ ap (λ (ws : List Entry). is_held t (without c.args.id ws)) same ∙ ap (is_held t) (sym c.take_out.ensures);
+    }
 
 pub returns-clause-gone : goal.returns-clause-gone
 returns-clause-gone c = ap (find_in_doubt c.args.id) c.take_out.ensures ∙ find_without_same c.args.id c.self.inside.writes.items

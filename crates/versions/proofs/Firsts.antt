@@ -1,0 +1,148 @@
+-- Where the tuples of an object begin, in the order of tuples.
+use Rattle.std.proofs.Common.{◌≡◌, ℕ, Bool, true, false, ◌&&◌, nat_le, List, [], ◌∷◌, Option, None, Some, refl, sym, ap, subst, ◌∙◌, arith}
+use Rattle.std.specs.Ordering.{is_eq, is_le, nat_cmp, ordering_reverse, ordering_then}
+use Rattle.std.specs.List.{list_all}
+use Rattle.std.specs.declared.cmp.Ordering.{Ordering}
+use Rattle.std.specs.declared.cmp.Ordering.TheVariants.{Less, Equal, Greater}
+use Rattle.std.proofs.lemmas.Bool.Decides.{nat_tests}
+use Rattle.std.proofs.lemmas.Cmp.{nat_list_cmp_total, tied_itself}
+use Rattle.tuples.specs.declared.object.Object.{Object}
+use Rattle.tuples.specs.declared.tuple.Tuple.{Tuple}
+use Rattle.tuples.specs.declared.tupleset.Tupleset.TheVariants.{Key, OfObject}
+use Rattle.tuples.specs.declared.user.User.{User}
+use Rattle.tuples.specs.declared.user.User.TheVariants.{Id, Set}
+use Rattle.tuples.specs.Names.{IsId, IsName, is_id_byte, is_name_byte}
+use Rattle.tuples.specs.Order.{name_cmp, object_cmp, tuple_cmp, user_cmp}
+use Rattle.tuples.specs.Reads.{has_relation}
+use Rattle.tuples.specs.Texts.{IsUser}
+use Rattle.tuples.proofs.Ordered.{object_total, tuple_total}
+use Rattle.tuples.proofs.Same.{name_same, object_same, tuple_same}
+use Rattle.versions.specs.Rows.{IsFirst, first_relation}
+
+-- ---- orders
+
+le_then : (a b : Ordering) → is_le a ≡ true → is_le b ≡ true → is_le (ordering_then a b) ≡ true
+le_then Less b h k = refl
+le_then Equal b h k = k
+le_then Greater b h k = h
+
+le_first : (a b : Ordering) → is_le (ordering_then a b) ≡ true → is_le a ≡ true
+le_first Less b h = refl
+le_first Equal b h = refl
+le_first Greater b h = h
+
+le_next : (a b : Ordering) → is_eq a ≡ true → is_le (ordering_then a b) ≡ true → is_le b ≡ true
+le_next Less b e h = absurd cc
+le_next Equal b e h = h
+le_next Greater b e h = absurd cc
+
+less_le : (a : Ordering) → a ≡ Less → is_le a ≡ true
+less_le a h = ap is_le h
+
+eq_le : (a : Ordering) → is_eq a ≡ true → is_le a ≡ true
+eq_le Less h = absurd cc
+eq_le Equal h = refl
+eq_le Greater h = absurd cc
+
+eq_back : (a b : Ordering) → a ≡ ordering_reverse b → is_eq b ≡ true → is_eq a ≡ true
+eq_back a Less h e = absurd cc
+eq_back a Equal h e = ap is_eq h
+eq_back a Greater h e = absurd cc
+
+-- neither is above the other
+squeezed : (a b : Ordering) → a ≡ ordering_reverse b → is_le a ≡ true → is_le b ≡ true → is_eq b ≡ true
+squeezed a Less h left right = absurd (let never : true ≡ false = sym left ∙ ap is_le h in cc)
+squeezed a Equal h left right = refl
+squeezed a Greater h left right = absurd cc
+
+both : (a b : Bool) → (a && b) ≡ true → (a ≡ true) × (b ≡ true)
+both true true h = (refl, refl)
+both true false h = absurd cc
+both false b h = absurd cc
+
+joined : (a b : Bool) → a ≡ true → b ≡ true → (a && b) ≡ true
+joined true b h k = k
+joined false b h k = h
+
+-- ---- the first names
+
+nil_le : (bs : List ℕ) → is_le (name_cmp [] bs) ≡ true
+nil_le [] = refl
+nil_le (b ∷ bs) = refl
+
+le_byte : (low b : ℕ) → nat_le low b ≡ true → is_le (nat_cmp low b) ≡ true
+le_byte low b h = grind (arith, nat_tests)
+
+name_byte : (b : ℕ) → is_name_byte b ≡ true → nat_le 48 b ≡ true
+name_byte b h = grind (arith, nat_tests)
+
+id_byte : (b : ℕ) → is_id_byte b ≡ true → nat_le 33 b ≡ true
+id_byte b h = grind (arith, nat_tests)
+
+name_le : (r : List ℕ) → IsName r → is_le (name_cmp (48 ∷ []) r) ≡ true
+name_le [] is = absurd (omega (arith, is.some))
+name_le (b ∷ bs) is = le_then (nat_cmp 48 b) (name_cmp [] bs) (le_byte 48 b (name_byte b (both (is_name_byte b) (list_all is_name_byte bs) is.each).0)) (nil_le bs)
+
+id_le : (i : List ℕ) → IsId i → is_le (name_cmp (33 ∷ []) i) ≡ true
+id_le [] is = absurd (omega (arith, is.some))
+id_le (b ∷ bs) is = le_then (nat_cmp 33 b) (name_cmp [] bs) (le_byte 33 b (id_byte b (both (is_id_byte b) (list_all is_id_byte bs) is.each).0)) (nil_le bs)
+
+user_le : (u : User) → IsUser u → is_le (user_cmp (Id (33 ∷ [])) u) ≡ true
+user_le (Id i) is = id_le i is
+user_le (Set s) is = refl
+
+relation_le : (r : Option (List ℕ)) (t : Tuple) → IsName t.relation → has_relation r t ≡ true → is_le (name_cmp (first_relation r) t.relation) ≡ true
+relation_le None t is has = name_le t.relation is
+relation_le (Some r) t is has = eq_le (name_cmp r t.relation) (eq_back (name_cmp r t.relation) (name_cmp t.relation r) (nat_list_cmp_total.antisymm r t.relation) has)
+
+-- ---- the first tuple
+
+abbrev pub first_tuple : Object → Option (List ℕ) → Tuple
+first_tuple o r = record { object = o; relation = first_relation r; user = Id (33 ∷ []) }
+
+-- the object of a tuple that stands between the first one and one of the object
+same_object : (o : Object) (t u : Tuple) → is_le (object_cmp o t.object) ≡ true → is_le (object_cmp t.object u.object) ≡ true → is_eq (object_cmp u.object o) ≡ true → is_eq (object_cmp t.object o) ≡ true
+same_object o t u low high is =
+    squeezed (object_cmp o t.object) (object_cmp t.object o) (object_total.antisymm o t.object) low
+    (subst (λ (x : Object). is_le (object_cmp t.object x) ≡ true) (object_same u.object o is) high)
+
+same_relation : (r : Option (List ℕ)) (t u : Tuple) → is_le (name_cmp (first_relation r) t.relation) ≡ true → is_le (name_cmp t.relation u.relation) ≡ true → has_relation r u ≡ true → has_relation r t ≡ true
+same_relation None t u low high is = refl
+same_relation (Some r) t u low high is =
+    squeezed (name_cmp r t.relation) (name_cmp t.relation r) (nat_list_cmp_total.antisymm r t.relation) low
+    (subst (λ (x : List ℕ). is_le (name_cmp t.relation x) ≡ true) (name_same u.relation r is) high)
+
+pub first_is : (o : Object) (r : Option (List ℕ)) → IsFirst (OfObject o r) (first_tuple o r)
+first_is o r = record {
+  before = λ t spelled has.
+      let parts = both (is_eq (object_cmp t.object o)) (has_relation r t) has in
+      le_then (object_cmp o t.object) (ordering_then (name_cmp (first_relation r) t.relation) (user_cmp (Id (33 ∷ [])) t.user))
+      (eq_le (object_cmp o t.object) (eq_back (object_cmp o t.object) (object_cmp t.object o) (object_total.antisymm o t.object) parts.0))
+      (le_then (name_cmp (first_relation r) t.relation) (user_cmp (Id (33 ∷ [])) t.user) (relation_le r t spelled.relation parts.1) (user_le t.user spelled.user));
+  within = λ t u low less has.
+      let parts = both (is_eq (object_cmp u.object o)) (has_relation r u) has in
+      let high : is_le (tuple_cmp t u) ≡ true = less_le (tuple_cmp t u) less in
+      let object : is_eq (object_cmp t.object o) ≡ true =
+      same_object o t u (le_first (object_cmp o t.object) (ordering_then (name_cmp (first_relation r) t.relation) (user_cmp (Id (33 ∷ [])) t.user)) low)
+      (le_first (object_cmp t.object u.object) (ordering_then (name_cmp t.relation u.relation) (user_cmp t.user u.user)) high) parts.0
+      in
+      let from : is_eq (object_cmp o t.object) ≡ true = eq_back (object_cmp o t.object) (object_cmp t.object o) (object_total.antisymm o t.object) object in
+      let to : is_eq (object_cmp t.object u.object) ≡ true = ap (λ (x : Object). is_eq (object_cmp t.object x)) (object_same u.object o parts.0) ∙ object in
+      let relation : has_relation r t ≡ true =
+      same_relation r t u
+      (le_first (name_cmp (first_relation r) t.relation) (user_cmp (Id (33 ∷ [])) t.user)
+      (le_next (object_cmp o t.object) (ordering_then (name_cmp (first_relation r) t.relation) (user_cmp (Id (33 ∷ [])) t.user)) from low))
+      (le_first (name_cmp t.relation u.relation) (user_cmp t.user u.user)
+      (le_next (object_cmp t.object u.object) (ordering_then (name_cmp t.relation u.relation) (user_cmp t.user u.user)) to high)) parts.1
+      in
+      joined (is_eq (object_cmp t.object o)) (has_relation r t) object relation;
+}
+
+-- a tuple is the first of those that are it
+pub key_first : (k : Tuple) → IsFirst (Key k) k
+key_first k = record {
+  before = λ t spelled has. subst (λ (x : Tuple). is_le (tuple_cmp k x) ≡ true) (sym (tuple_same t k has)) (ap is_le (tied_itself tuple_total k));
+  within = λ t u low less has.
+      let above : tuple_cmp k t ≡ Greater = tuple_total.antisymm k t ∙ ap ordering_reverse (subst (λ (x : Tuple). tuple_cmp t x ≡ Less) (tuple_same u k has) less) in
+      absurd (let never : true ≡ false = sym low ∙ ap is_le above in cc);
+}

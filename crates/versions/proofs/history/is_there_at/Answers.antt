@@ -1,0 +1,9 @@
+use Rattle.std.proofs.Common.{◌≤◌, length, sym, ap, ◌∙◌, arith}
+use Rattle.std.proofs.lemmas.List.{drop_all}
+use Rattle.versions.proofs.Histories.{there_is_touched, touched}
+use Rattle.versions.proofs.history.is_there_at.Goals as goal
+
+pub returns : goal.returns
+returns c t =
+    let all : length c.args.rows.now ≤ c.loop-row.row-index = omega arith in
+    sym (there_is_touched c.args.place t c.args.rows.now ∙ c.loop-row.invariant ∙ ap (touched c.args.place c.loop-row.there) (drop_all _ _ all))

@@ -1,0 +1,80 @@
+use Rattle.std.proofs.Common.{◌≡◌, ◌++◌, ◌∷◌, [], ◌&&◌, true, false, List, filter, sym, ap, subst, ◌∙◌, append-nil, append_assoc, rules}
+use Rattle.std.specs.Ordering.{is_le}
+use Rattle.tuples.specs.contracts.tuple.TupleOrd.TheImpl.{ghosts}
+use Rattle.tuples.specs.declared.tuple.Tuple.{Tuple}
+use Rattle.tuples.specs.Reads.{IsSelection, meets}
+use Rattle.tuples.specs.Versions.{there_at}
+use Rattle.versions.specs.Rows.{listed, versions_of}
+use Rattle.versions.specs.declared.history.Row.{Row}
+use Rattle.versions.proofs.Selected.{IsWalk, from_low, keeps_first, kept_from_first, kept_of, kept_selection, low_from, none_left, skips_first, walk_from, walk_rest}
+use Rattle.versions.proofs.Tables.{Entries}
+use Rattle.versions.proofs.kept.kept_from.Goals as goal
+
+pub loop-tuple-init : goal.loop-tuple-init
+loop-tuple-init c =
+    let place = c.args.place in
+    let q = c.args.set.now in
+    let first = c.args.first in
+    let es : Entries = c.args.table.now.entries in
+    let gives : c.into_iter-tuple-iterator.result ≡ filter (λ e. is_le (ghosts.cmp first e.0) && true) es = c.into_iter-tuple-iterator.ensures.into_iter_gives ∙ c.range-tuple-items.ensures.between tt in (
+      subst (IsWalk first) (sym gives) (walk_from first (λ t. is_le (ghosts.cmp first t) && true) (low_from first) es c.requires.table.in_order),
+      ap (λ (l : List Tuple). l ++ kept_of place q c.into_iter-tuple-iterator.result) c.new-tuples.ensures.items
+          ∙ ap (λ (l : Entries). kept_of place q l) gives
+          ∙ kept_from_first place q (λ t. is_le (ghosts.cmp first t) && true) (λ t spelled has. from_low first t (c.requires.first.before t spelled has)) es c.requires.table.spelled,
+    )
+
+pub loop-tuple-preserved : goal.loop-tuple-preserved
+loop-tuple-preserved c =
+    let place = c.args.place in
+    let q = c.args.set.now in
+    let t = c.in-Some.tuple.now in
+    let h = c.in-Some.rows.now in
+    let rest : Entries = c.next.new.self in
+    let items : List Tuple = c.loop-tuple.tuples.items in
+    let cut : c.loop-tuple.tuple-iterator ≡ (t, h) ∷ rest = search rules in
+    let gone : there_at (versions_of t h.items) place t ≡ false = ap (λ (l : List Row). there_at (versions_of t l) place t) (sym c.deref.ensures.value) ∙ sym (c.is_there_at.ensures t) ∙ c.if-is_there_at.false in (
+      walk_rest c.args.first t h rest (subst (IsWalk c.args.first) cut c.loop-tuple.invariant.0),
+      ap (λ (l : List Tuple). items ++ l) (sym (skips_first place q t h rest gone)) ∙ ap (λ (l : Entries). items ++ kept_of place q l) (sym cut) ∙ c.loop-tuple.invariant.1,
+    )
+
+pub loop-tuple-preserved-in_ok-push : goal.loop-tuple-preserved-in_ok-push
+loop-tuple-preserved-in_ok-push c =
+    let place = c.args.place in
+    let q = c.args.set.now in
+    let t = c.in-Some.tuple.now in
+    let h = c.in-Some.rows.now in
+    let rest : Entries = c.next.new.self in
+    let items : List Tuple = c.loop-tuple.tuples.items in
+    let cut : c.loop-tuple.tuple-iterator ≡ (t, h) ∷ rest = search rules in
+    let has : meets q t ≡ true = search rules in
+    let there : there_at (versions_of t h.items) place t ≡ true = ap (λ (l : List Row). there_at (versions_of t l) place t) (sym c.deref.ensures.value) ∙ sym (c.is_there_at.ensures t) ∙ c.if-is_there_at.true in
+    let pushed : c.push.new.self.items ≡ items ++ t ∷ [] = search rules in (
+      walk_rest c.args.first t h rest (subst (IsWalk c.args.first) cut c.loop-tuple.invariant.0),
+      ap (λ (l : List Tuple). l ++ kept_of place q rest) pushed
+          ∙ append_assoc items (t ∷ []) (kept_of place q rest)
+          ∙ ap (λ (l : List Tuple). items ++ l) (sym (keeps_first place q t h rest has there))
+          ∙ ap (λ (l : Entries). items ++ kept_of place q l) (sym cut)
+          ∙ c.loop-tuple.invariant.1,
+    )
+
+pub returns-then-not-meets_set : goal.returns-then-not-meets_set
+returns-then-not-meets_set c =
+    let place = c.args.place in
+    let q = c.args.set.now in
+    let t = c.in-Some.tuple.now in
+    let h = c.in-Some.rows.now in
+    let rest : Entries = c.next.new.self in
+    let items : List Tuple = c.loop-tuple.tuples.items in
+    let cut : c.loop-tuple.tuple-iterator ≡ (t, h) ∷ rest = search rules in
+    let misses : meets q t ≡ false = search rules in
+    let none : kept_of place q c.loop-tuple.tuple-iterator ≡ [] = ap (λ (l : Entries). kept_of place q l) cut ∙ none_left place q c.args.first t h rest c.requires.first (subst (IsWalk c.args.first) cut c.loop-tuple.invariant.0) misses in
+    let all : items ≡ kept_of place q c.args.table.now.entries = sym (append-nil items) ∙ ap (λ (l : List Tuple). items ++ l) (sym none) ∙ c.loop-tuple.invariant.1 in
+    subst (IsSelection (there_at (listed c.args.table.now.entries) place) q) (sym all) (kept_selection place q c.args.table.now.entries c.requires.table.in_order)
+
+pub returns : goal.returns
+returns c =
+    let items : List Tuple = c.loop-tuple.tuples.items in
+    let place = c.args.place in
+    let q = c.args.set.now in
+    let all : items ≡ kept_of place q c.args.table.now.entries = sym (append-nil items) ∙ ap (λ (l : Entries). items ++ kept_of place q l) (sym c.in-None.ensures.steps.0) ∙ c.loop-tuple.invariant.1 in
+    subst (IsSelection (there_at (listed c.args.table.now.entries) place) q) (sym all) (kept_selection place q c.args.table.now.entries c.requires.table.in_order)

@@ -1,0 +1,19 @@
+use Rattle.std.proofs.Common.{subst, ◌≡◌, [], sym, ap, ◌∙◌, rules}
+use Rattle.std.proofs.lemmas.List.{nil_from_length}
+use Rattle.std.specs.List.{AllByRecursion}
+use Rattle.std.specs.Map.{keys_of}
+use Rattle.tuples.specs.Texts.{IsTuple}
+use Rattle.versions.specs.Rows.{found, listed, rows_in}
+use Rattle.versions.proofs.Tables.{Entries, all_removed, same_removed}
+use Rattle.versions.proofs.table.remove_empty.Goals as goal
+
+pub returns-then-is_empty-clause-table : goal.returns-then-is_empty-clause-table
+returns-then-is_empty-clause-table c = record {
+  in_order = c.remove.ensures.ordered;
+  spelled = subst (λ (l : Entries). AllByRecursion IsTuple (keys_of l)) (sym c.remove.ensures.entries) (all_removed IsTuple _ c.args.table.now.entries c.requires.spelled);
+}
+
+pub returns-then-is_empty-clause-versions : goal.returns-then-is_empty-clause-versions
+returns-then-is_empty-clause-versions c =
+    let none : rows_in (found c.args.tuple.now c.args.table.now.entries) ≡ [] = sym c.rows_of.ensures.rows ∙ nil_from_length c.rows_of.result.now (search rules) in
+    ap listed c.remove.ensures.entries ∙ same_removed _ c.args.table.now.entries none

@@ -1,0 +1,73 @@
+// Where a walk over the tuples of an object begins.
+ghost use Rattle.std.specs.Prelude.{◌≡◌, ◌∷◌, [], IfOk};
+ghost use Rattle.tuples.specs.Texts.{IsTuple, IsUser};
+ghost use Rattle.tuples.specs.declared.tupleset.Tupleset.TheVariants.{OfObject as of_object};
+ghost use Rattle.versions.specs.Rows.{IsFirst, first_relation};
+
+use std::alloc::{AllocError, Global};
+use tuples::{Id, Object, Relation, Tuple, User};
+
+/// A tuple before which no tuple of the object stands, with this relation where one is given.
+pub(crate) fn first_of(
+    alloc: Global,
+    object: &Object,
+    relation: &Option<Relation>,
+) -> Result<Tuple, AllocError>
+    ensures { IfOk result (λ first. IsFirst (of_object object.now relation.now) first) }
+{
+    let object = object.clone()?;
+    let relation = relation_or_first(alloc, relation)?;
+    let id = first_id(alloc)?;
+    Ok(Tuple {
+        object,
+        relation,
+        user: User::Id(id),
+    })
+}
+
+fn relation_or_first(alloc: Global, relation: &Option<Relation>) -> Result<Relation, AllocError>
+    ensures { IfOk result (λ r. r ≡ first_relation relation.now) }
+{
+    match relation {
+        Some(relation) => relation.clone(),
+        None => match Relation::from_vec(vec![in alloc; b'0']?) {
+            Ok(relation) => Ok(relation),
+            Err(_) => Err(AllocError),
+        },
+    }
+}
+
+// A plain user stands before a userset, and `!` before each other byte of an id.
+fn first_id(alloc: Global) -> Result<Id, AllocError>
+    ensures { IfOk result (λ id. id ≡ 33 ∷ []) }
+{
+    match Id::from_vec(vec![in alloc; b'!']?) {
+        Ok(id) => Ok(id),
+        Err(_) => Err(AllocError),
+    }
+}
+
+/// Each part of a tuple is in its grammar.
+pub(crate) fn see_spelled(tuple: &Tuple)
+    ensures { IsTuple tuple.now }
+{
+    let _namespace = tuple.object.namespace.as_bytes();
+    let _id = tuple.object.id.as_bytes();
+    let _relation = tuple.relation.as_bytes();
+    see_user_spelled(&tuple.user);
+}
+
+fn see_user_spelled(user: &User)
+    ensures { IsUser user.now }
+{
+    match user {
+        User::Id(id) => {
+            let _id = id.as_bytes();
+        }
+        User::Set(userset) => {
+            let _namespace = userset.object.namespace.as_bytes();
+            let _id = userset.object.id.as_bytes();
+            let _relation = userset.relation.as_bytes();
+        }
+    }
+}
