@@ -1,3 +1,4 @@
 pub mod Values
 pub mod Held
 pub mod Standing
+pub mod Coordinators

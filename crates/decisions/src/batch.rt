@@ -1,7 +1,10 @@
 // Decisions on their way to a shard.
 ghost use Rattle.std.specs.Prelude.{◌≡◌, ◌≤◌, ◌+◌, length};
 ghost use Rattle.records.specs.Replays.{greatest_number};
+ghost use Rattle.decisions.specs.Values.{AreDecidedBy};
 
+use device::Device;
+use journal::Journal;
 use std::marker::Model;
 use tuples::Entry;
 
@@ -28,7 +31,20 @@ impl Model for Batch {
 }
 
 impl Batch {
-    /// The decisions at the places from `from` + 1 on.
+    /// For a coordinator, which shows by its journal that these are the decisions at the places from `from` + 1 on, and that every stop
+    /// leaves them.
+    pub fn from_log<D: Device>(journal: &Journal<D>, from: u64, writes: Vec<Entry>) -> Batch
+        requires few { length writes.items ≤ 256 }
+        requires places { from + length writes.items ≤ greatest_number }
+        requires decided { AreDecidedBy D.state D.honest journal.now from writes.items }
+        ensures { result ≡ record { from = from; writes = writes.items } }
+    {
+        let _journal = journal;
+        Batch { from, writes }
+    }
+
+    /// For a store of one shard, which keeps its log in memory and has no coordinator: the decisions at the places from `from` + 1 on. A
+    /// coordinator uses `from_log`.
     pub fn new(from: u64, writes: Vec<Entry>) -> Batch
         requires few { length writes.items ≤ 256 }
         requires places { from + length writes.items ≤ greatest_number }

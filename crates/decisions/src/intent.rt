@@ -1,7 +1,12 @@
 // A write that was begun.
-ghost use Rattle.std.specs.Prelude.{◌≡◌};
-ghost use Rattle.decisions.specs.Values.{IsGiven, IsIntent};
+ghost use Rattle.std.specs.Prelude.{◌≡◌, ◌≤◌, ◌<◌, ◌^◌, ◌↔◌, ℕ, true, IsBitSet};
+ghost use Rattle.tuples.specs.Parts.{takes_part};
+ghost use Rattle.records.specs.Identity.{max_shards};
+ghost use Rattle.records.specs.Replays.{AskOfLog};
+ghost use Rattle.decisions.specs.Values.{IsBegunBy, IsGiven, IsIntent};
 
+use device::Device;
+use journal::Journal;
 use std::marker::Model;
 use tuples::{Entry, Write, WriteId};
 
@@ -13,6 +18,7 @@ pub struct Intent {
 }
 
 impl Model for Intent {
+    ghost use Rattle.records.specs.Replays.{AskOfLog};
     ghost use Rattle.decisions.specs.Values.{IntentValue, IsIntent};
 
     ghost Value = { IntentValue };
@@ -23,9 +29,32 @@ impl Model for Intent {
 }
 
 impl Intent {
-    /// The intent to make a write under an id that was never given before; `kept` is the place up to which all is kept.
+    /// For a coordinator that has given the numbers 1 to `given` since its opening: it shows by its journal that the id comes next, and that
+    /// `kept` is the place up to which every stop leaves the decisions. It has refused a write that asks about a place above its log.
+    pub fn begin<D: Device>(
+        journal: &Journal<D>,
+        given: u64,
+        id: WriteId,
+        write: Write,
+        kept: u64,
+    ) -> Intent
+        requires given { IsGiven id }
+        requires places { AskOfLog write.conditions }
+        requires begun { IsBegunBy D.state D.honest journal.now given id kept }
+        ensures write { result.write ≡ record { id = id; changes = write.changes; conditions = write.conditions } }
+        ensures kept { result.kept ≡ kept }
+    {
+        let _journal = journal;
+        let _given = given;
+        Intent::new(id, write, kept)
+    }
+
+    /// For a store of one shard, which keeps its log in memory and has no coordinator: the intent to make a write under an id that was never
+    /// given before, where all is kept up to the place `kept`. It has refused a write that asks about a place above its log. A coordinator
+    /// uses `begin`.
     pub fn new(id: WriteId, write: Write, kept: u64) -> Intent
         requires given { IsGiven id }
+        requires places { AskOfLog write.conditions }
         ensures write { result.write ≡ record { id = id; changes = write.changes; conditions = write.conditions } }
         ensures kept { result.kept ≡ kept }
     {
@@ -59,6 +88,16 @@ impl Intent {
         ensures { result ≡ self.now.kept }
     {
         self.kept
+    }
+
+    /// The shards that take part in its write, in a store of so many: bit s for shard s.
+    pub fn participants(&self, shards: u8) -> u64
+        requires some { 1 ≤ shards }
+        requires few { shards ≤ max_shards }
+        ensures each { (s : ℕ) → IsBitSet result s ↔ (takes_part shards s self.now.write ≡ true) }
+        ensures below { result < 2 ^ shards }
+    {
+        self.entry.participants(shards)
     }
 
     /// Spends it, for its write.

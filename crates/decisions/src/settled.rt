@@ -1,6 +1,6 @@
 // How far a shard has learned for good.
 ghost use Rattle.std.specs.Prelude.{◌≡◌};
-ghost use Rattle.decisions.specs.Values.{HasLearnedIn};
+ghost use Rattle.decisions.specs.Values.{HasLearnedIn, IsOfNode};
 
 use device::Device;
 use journal::Journal;
@@ -22,9 +22,10 @@ impl Model for Settled {
 }
 
 impl Settled {
-    /// For a shard, which shows by its journal that the place is learned.
+    /// For a shard, which shows by its journal that the place is learned for good, and which shard it is.
     pub fn new<D: Device>(journal: &Journal<D>, shard: u8, place: u64) -> Settled
         requires learned { HasLearnedIn D.state D.honest journal.now.a journal.now.b place }
+        requires shard { IsOfNode D.honest journal.now shard }
         ensures { result ≡ record { shard = shard; place = place } }
     {
         let _journal = journal;

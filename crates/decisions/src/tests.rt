@@ -1,22 +1,32 @@
-// The values that a journal shows, over two new disks in memory.
-ghost use Rattle.std.specs.Prelude.{◌≡◌, ◌++◌, ◌∷◌, [], IfOk, OnOk};
+// What a coordinator tells of one decision, by a journal over two new disks in memory.
+ghost use Rattle.std.specs.Prelude.{◌≡◌, ◌++◌, ◌∷◌, [], IfOk, OnOk, length};
 ghost use Rattle.device.specs.Disk.{state_of};
 ghost use Rattle.journal.specs.Records.{HasRecords};
-ghost use Rattle.records.specs.declared.record.Record.TheVariants.{Prepare as prepare_record};
-ghost use Rattle.tuples.specs.declared.entry.Entry.{Entry as AnyEntry};
-ghost use Rattle.decisions.specs.Values.{IsGiven};
+ghost use Rattle.records.specs.declared.record.Record.TheVariants.{Decision as decision_record, Epoch as epoch_record};
+ghost use Rattle.records.specs.Replays.{AskOfLog};
+ghost use Rattle.decisions.specs.Values.{IsIntent};
 
-use crate::{Heads, Held, Intent, Settled, Ticket, Verdict, Vote};
+use crate::{Batch, Heads, Intent, Verdict};
 use device::SimDisk;
 use journal::Journal;
 use records::Record;
 use std::alloc::Global;
 use std::test::Fail;
-use tuples::{Change, Refusal, Tuple, Write, WriteId};
+use tuples::{Change, Entry, Refusal, Tuple, Write, WriteId};
 
 const FIRST: WriteId = WriteId {
     epoch: 1,
     number: 1,
+};
+
+const SECOND: WriteId = WriteId {
+    epoch: 1,
+    number: 2,
+};
+
+const THIRD: WriteId = WriteId {
+    epoch: 1,
+    number: 3,
 };
 
 fn new_disk(alloc: Global) -> Result<SimDisk, Refusal>
@@ -28,10 +38,8 @@ fn new_disk(alloc: Global) -> Result<SimDisk, Refusal>
     }
 }
 
-/// A journal over two new disks.
 fn new_journal(alloc: Global) -> Result<Journal<SimDisk>, Refusal>
     ensures empty { IfOk result (λ j. (j.durable ≡ []) × (j.staged ≡ [])) }
-    ensures rest { IfOk result (λ j. HasRecords (state_of j.a) (state_of j.b) []) }
 {
     let a = new_disk(alloc)?;
     let b = new_disk(alloc)?;
@@ -41,10 +49,11 @@ fn new_journal(alloc: Global) -> Result<Journal<SimDisk>, Refusal>
     }
 }
 
-fn touch(alloc: Global, text: &str) -> Result<Write, Refusal>
-    ensures { IfOk result (λ w. w.conditions ≡ []) }
+fn touch(alloc: Global) -> Result<Write, Refusal>
+    ensures free { IfOk result (λ w. w.conditions ≡ []) }
+    ensures places { IfOk result (λ w. AskOfLog w.conditions) }
 {
-    let tuple = Tuple::parse(alloc, text.as_bytes())?;
+    let tuple = Tuple::parse(alloc, b"doc:a#viewer@u1")?;
     let mut changes = Vec::new(alloc);
     match changes.push(Change::Touch(tuple)) {
         Ok(()) => Write::new(changes, Vec::new(alloc)),
@@ -52,81 +61,64 @@ fn touch(alloc: Global, text: &str) -> Result<Write, Refusal>
     }
 }
 
-/// Stages a prepare of a write under this id.
-fn stage_prepare(alloc: Global, journal: &mut Journal<SimDisk>, id: WriteId) -> Result<(), Refusal>
-    requires given { IsGiven id }
-    ensures { OnOk result ((w : AnyEntry) × (w.id ≡ id) × (journal.new ≡ record journal.old { staged = journal.old.staged ++ prepare_record w ∷ [] })) }
+/// The first write, which the coordinator has decided.
+fn first_write(alloc: Global) -> Result<Entry, Refusal>
+    ensures whole { IfOk result IsIntent }
+    ensures free { IfOk result (λ w. w.conditions ≡ []) }
+    ensures id { IfOk result (λ w. w.id ≡ record { epoch = 1; number = 1 }) }
 {
-    let write = touch(alloc, "doc:a#viewer@u1")?;
-    let entry = Intent::new(id, write, 0).into_entry();
-    journal.stage(&Record::Prepare(entry))?;
-    Ok(())
+    Ok(Intent::new(FIRST, touch(alloc)?, 0).into_entry())
 }
 
-/// What a ticket tells: its write and the epoch of its shard.
-fn told_by_ticket(alloc: Global) -> Result<(WriteId, u64), Refusal> {
+/// The journal of a coordinator in its first epoch that has decided this write at place 1.
+fn coordinator(alloc: Global, write: &Entry) -> Result<Journal<SimDisk>, Refusal>
+    requires whole { IsIntent write.now }
+    requires free { write.now.conditions ≡ [] }
+    ensures durable { IfOk result (λ j. j.durable ≡ epoch_record 1 1 1 255 ∷ decision_record 1 write.now ∷ []) }
+    ensures staged { IfOk result (λ j. j.staged ≡ []) }
+    ensures rest { IfOk result (λ j. HasRecords (state_of j.a) (state_of j.b) j.durable) }
+{
     let mut journal = new_journal(alloc)?;
-    stage_prepare(alloc, &mut journal, FIRST)?;
-    let ticket = Ticket::new(&journal, FIRST, 0);
-    let told = (ticket.id(), ticket.epoch());
-    ticket.leave();
-    Ok(told)
-}
-
-#[test]
-fn a_ticket_tells_of_a_staged_prepare(rt: HostRuntime) {
-    assert_eq!(rt; told_by_ticket(rt.alloc()), Ok((FIRST, 0)));
-}
-
-/// What a vote tells, by itself and held: its write and its shard.
-fn told_by_vote(alloc: Global) -> Result<(WriteId, u8, WriteId), Refusal> {
-    let mut journal = new_journal(alloc)?;
-    stage_prepare(alloc, &mut journal, FIRST)?;
+    journal.stage(&Record::Epoch {
+        epoch: 1,
+        store: 1,
+        shards: 1,
+        node: 255,
+    })?;
+    let entry = write.clone()?;
+    journal.stage(&Record::Decision { place: 1, entry })?;
     journal.flush()?;
-    let vote = Vote::new(&journal, FIRST, 7);
-    let (id, shard) = (vote.id(), vote.shard());
-    let held = Held::Vote(vote);
-    let held_id = held.id();
-    held.leave();
-    Ok((id, shard, held_id))
+    Ok(journal)
+}
+
+/// What it tells of itself: its numbers, a write that was aborted, the next intent, and the decisions behind place 0.
+fn told(
+    alloc: Global,
+) -> Result<((u64, u64, u64), WriteId, (WriteId, u64), (u64, usize)), Refusal> {
+    let write = first_write(alloc)?;
+    let journal = coordinator(alloc, &write)?;
+    let heads = Heads::new(&journal, 1, 1, 0);
+    let verdict = Verdict::new(&journal, 2, &[], SECOND);
+    let intent = Intent::begin(&journal, 2, THIRD, touch(alloc)?, 1);
+    let begun = (intent.id(), intent.kept());
+    intent.leave();
+    let mut writes = Vec::new(alloc);
+    let Ok(()) = writes.push(write) else {
+        return Err(Refusal::NoMemory);
+    };
+    let batch = Batch::from_log(&journal, 0, writes);
+    Ok((
+        (heads.length(), heads.kept(), heads.horizon()),
+        verdict.id(),
+        begun,
+        (batch.to(), batch.writes().len()),
+    ))
 }
 
 #[test]
-fn a_vote_tells_of_a_durable_prepare(rt: HostRuntime) {
-    assert_eq!(rt; told_by_vote(rt.alloc()), Ok((FIRST, 7, FIRST)));
-}
-
-/// What a new shard has settled.
-fn settled(alloc: Global) -> Result<(u8, u64), Refusal> {
-    let journal = new_journal(alloc)?;
-    let settled = Settled::new(&journal, 7, 0);
-    Ok((settled.shard(), settled.place()))
-}
-
-#[test]
-fn a_new_shard_has_settled_the_empty_store(rt: HostRuntime) {
-    assert_eq!(rt; settled(rt.alloc()), Ok((7, 0)));
-}
-
-/// The write that a new coordinator tells aborted.
-fn aborted(alloc: Global) -> Result<WriteId, Refusal> {
-    let journal = new_journal(alloc)?;
-    Ok(Verdict::new(&journal, FIRST).id())
-}
-
-#[test]
-fn a_new_coordinator_has_decided_nothing(rt: HostRuntime) {
-    assert_eq!(rt; aborted(rt.alloc()), Ok(FIRST));
-}
-
-/// The numbers of a new coordinator.
-fn numbers(alloc: Global) -> Result<(u64, u64, u64), Refusal> {
-    let journal = new_journal(alloc)?;
-    let heads = Heads::new(&journal, 0, 0, 0);
-    Ok((heads.length(), heads.kept(), heads.horizon()))
-}
-
-#[test]
-fn a_new_coordinator_is_at_the_empty_store(rt: HostRuntime) {
-    assert_eq!(rt; numbers(rt.alloc()), Ok((0, 0, 0)));
+fn a_coordinator_tells_of_one_decision(rt: HostRuntime) {
+    assert_eq!(rt;
+        told(rt.alloc()),
+        Ok(((1, 1, 0), SECOND, (THIRD, 1), (1, 1)))
+    );
 }

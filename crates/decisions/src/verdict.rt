@@ -7,7 +7,8 @@ use journal::Journal;
 use std::marker::Model;
 use tuples::WriteId;
 
-/// No decision above the horizon has the id of this write. It is only told: it may be dropped.
+/// A write was aborted: its id was given out, it is not open, and no decision above the horizon has its id. It is only told: it may be
+/// dropped.
 #[derive(Drop, Debug)]
 pub struct Verdict {
     id: WriteId,
@@ -22,13 +23,21 @@ impl Model for Verdict {
 }
 
 impl Verdict {
-    /// For a coordinator, which shows by its journal that the write is not decided above the horizon, by what is durable and staged and
-    /// in whatever a stop leaves.
-    pub fn new<D: Device>(journal: &Journal<D>, id: WriteId) -> Verdict
-        requires aborted { IsAbortedBy D.state D.honest journal.now id }
+    /// For a coordinator that has given the numbers 1 to `given` since its opening, with `still_open` those of its open writes: it shows by its journal
+    /// that the id was given out and is not open, and that no decision above the horizon has it, by what every stop leaves and by what is
+    /// staged.
+    pub fn new<D: Device>(
+        journal: &Journal<D>,
+        given: u64,
+        still_open: &[u64],
+        id: WriteId,
+    ) -> Verdict
+        requires aborted { IsAbortedBy D.state D.honest journal.now given still_open.now id }
         ensures { result ≡ record { id = id } }
     {
         let _journal = journal;
+        let _given = given;
+        let _still_open = still_open;
         Verdict { id }
     }
 

@@ -1,6 +1,6 @@
 // A vote: a prepare is durable.
 ghost use Rattle.std.specs.Prelude.{◌≡◌};
-ghost use Rattle.decisions.specs.Values.{IsPreparedIn};
+ghost use Rattle.decisions.specs.Values.{IsOfNode, IsPreparedIn};
 
 use device::Device;
 use journal::Journal;
@@ -25,9 +25,10 @@ impl Model for Vote {
 }
 
 impl Vote {
-    /// For a shard, which shows by its journal that the prepare is durable.
+    /// For a shard, which shows by its journal that the prepare is durable, and which shard it is.
     pub fn new<D: Device>(journal: &Journal<D>, id: WriteId, shard: u8) -> Vote
         requires durable { IsPreparedIn D.state D.honest journal.now.a journal.now.b id }
+        requires shard { IsOfNode D.honest journal.now shard }
         ensures id { result.id ≡ id }
         ensures shard { result.shard ≡ shard }
     {
