@@ -1,0 +1,5 @@
+pub mod Calls
+pub mod Facts
+pub mod Kept
+pub mod OpenIds
+pub mod Openings

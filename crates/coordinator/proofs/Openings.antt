@@ -1,0 +1,179 @@
+-- Opening a coordinator once more.
+use Rattle.std.proofs.Common.{◌≡◌, inl, inr, ⊎_elim, ◌≤◌, ◌<◌, ◌+◌, ◌-◌, ◌++◌, ℕ, List, [], ◌∷◌, Some, None, All, length, length-drop, take, drop, get_or, refl, sym, ap, ◌∙◌, subst, arith, length-append, false, rules}
+use Rattle.std.proofs.lemmas.List.{at_drop_more, take-append-drop, take_more, append-nil}
+use Rattle.records.specs.declared.record.Record.{Record}
+use Rattle.records.specs.declared.record.Record.TheVariants.{Epoch}
+use Rattle.records.specs.Format.{batch_bytes, record_bytes}
+use Rattle.records.specs.Coordinators.{CoordinatorState, IsCoordinatorImage, MayComeNext, MayOpenAgain, coordinator_state, coordinator_step, empty_coordinator, end_of}
+use Rattle.records.specs.Identity.{coordinator_number}
+use Rattle.records.specs.Replays.{Identity, greatest_number}
+use Rattle.records.proofs.CoordinatorStates.{coordinator_image_push, coordinator_push}
+use Rattle.device.specs.Device.{State, left}
+use Rattle.journal.specs.Records.{HasNoRoom, HasOldOrNew, HasRecords, LeavesBoth, View, found}
+use Rattle.ledger.specs.Ledgers.{LedgerValue}
+use Rattle.decisions.specs.Coordinators.{WasLeftOrReopened, coordinator_opening}
+use Rattle.coordinator.specs.Keeping.{HasFoundOrOpened, IsGivenNumber, IsKept, Remembers}
+
+-- the record of an opening is short
+pub opening_fits : (staged : List Record) (epoch store shards node : ℕ) → staged ≡ [] → HasNoRoom staged (Epoch epoch store shards node) → ⊥
+unfolding batch_bytes record_bytes
+opening_fits staged epoch store shards node none (inl many) = omega (arith, ap length none)
+opening_fits staged epoch store shards node none (inr long) =
+    let short : 1048576 < length (batch_bytes false ([] ++ Epoch epoch store shards node ∷ [])) = subst (λ (l : List Record). 1048576 < length (batch_bytes false (l ++ Epoch epoch store shards node ∷ []))) none long in
+    omega (arith, short)
+
+pub nothing_replayed : empty_coordinator ≡ coordinator_state []
+unfolding coordinator_state
+nothing_replayed = refl
+
+-- one record more of those found
+module _ (me : Identity) (records yielded : List Record) (x : Record) (lt : length yielded < length records) (at : x ≡ get_or records (length yielded) x) where
+  whole : records ≡ take (length yielded) records ++ x ∷ drop (length yielded + 1) records
+  whole = sym (take-append-drop (length yielded) records) ∙ ap (λ (l : List Record). take (length yielded) records ++ l) (at_drop_more (λ (l : List Record). l) records (length yielded) x lt ∙ ap (λ (y : Record). y ∷ drop (length yielded + 1) records) (sym at))
+
+  pub may_follow : IsCoordinatorImage me records → MayComeNext me (coordinator_state (take (length yielded) records)) x
+  may_follow image = image (take (length yielded) records) (drop (length yielded + 1) records) x whole
+
+  next_front : take (length (yielded ++ x ∷ [])) records ≡ take (length yielded) records ++ x ∷ []
+  next_front =
+      let len : length (yielded ++ x ∷ []) ≡ length yielded + 1 = omega (arith, length-append yielded (x ∷ [])) in
+      ap (λ (n : ℕ). take n records) len ∙ take_more records (length yielded) x lt ∙ ap (λ (y : Record). take (length yielded) records ++ y ∷ []) (sym at)
+
+  module _ (m n : CoordinatorState) (is : m ≡ coordinator_state (take (length yielded) records)) where
+    pub replayed_more : n ≡ coordinator_step m x → n ≡ coordinator_state (take (length (yielded ++ x ∷ [])) records)
+    replayed_more stepped = stepped ∙ ap (λ (s : CoordinatorState). coordinator_step s x) is ∙ sym (coordinator_push (take (length yielded) records) x) ∙ ap coordinator_state (sym next_front)
+
+    pub image_more : IsCoordinatorImage me (take (length yielded) records) → MayComeNext me m x → IsCoordinatorImage me (take (length (yielded ++ x ∷ [])) records)
+    image_more image may = subst (IsCoordinatorImage me) (sym next_front) (coordinator_image_push me (take (length yielded) records) x image (subst (λ (s : CoordinatorState). MayComeNext me s x) is may))
+
+pub opened_state : (before : List Record) (epoch store shards node : ℕ) → coordinator_state (before ++ Epoch epoch store shards node ∷ []) ≡ record (coordinator_state before) { epoch = epoch }
+unfolding coordinator_step
+opened_state before epoch store shards node = coordinator_push before (Epoch epoch store shards node)
+
+-- a coordinator's records with one opening more
+pub opened_image : (me : Identity) (rs : List Record) → me.node ≡ coordinator_number → IsCoordinatorImage me rs → (coordinator_state rs).epoch < greatest_number → IsCoordinatorImage me (rs ++ coordinator_opening me rs ∷ [])
+opened_image me rs node image lt =
+    let may : MayOpenAgain me (coordinator_state rs) ((coordinator_state rs).epoch + 1) me.store me.shards me.node = record {
+      next = refl;
+      greatest = omega (arith, lt);
+      same_store = refl;
+      same_shards = refl;
+      same_node = refl;
+      coordinator = node;
+    } in
+    coordinator_image_push me rs (coordinator_opening me rs) image may
+
+-- what is remembered of replayed records with one opening more
+remembers_opened : (s w : CoordinatorState) (l : LedgerValue) (epoch kept horizon : ℕ) → w ≡ record s { epoch = epoch } → s.base ≡ 0 → l ≡ record { base = s.horizon; log = drop s.horizon s.log; awaited = None }
+    → epoch ≡ s.epoch + 1 → s.epoch < greatest_number → kept ≡ end_of s → kept ≤ greatest_number → horizon ≡ s.horizon → s.horizon ≤ end_of s → Remembers w w l epoch kept horizon None
+remembers_opened s w l epoch kept horizon is zero_base ledger next below kept_is fits horizon_is within = record {
+  opened = omega (arith, next);
+  epoch_fits = omega (arith, next, below);
+  kept_epoch = ap (λ (x : CoordinatorState). x.epoch) is;
+  epoch_is = ap (λ (x : CoordinatorState). x.epoch) is;
+  settled = ap (λ (x : LedgerValue). x.awaited) ledger;
+  first = omega (arith, base, zero_base);
+  same_base = refl;
+  base = ap (λ (x : LedgerValue). x.base) ledger ∙ sym horizon_is;
+  horizon_is = ap (λ (x : CoordinatorState). x.horizon) is ∙ sym horizon_is;
+  kept_is = end ∙ sym kept_is;
+  kept_fits = fits;
+  within = omega (arith, horizon_is, within, kept_is);
+  end_is = omega (arith, end, lbase, len, within, zero_base);
+  log = log ∙ ap (λ (n : ℕ). drop n s.log) (let e : s.horizon ≡ l.base - w.base = omega (arith, lbase, base, zero_base) in e) ∙ ap (λ (x : CoordinatorState). drop (l.base - w.base) x.log) (sym is);
+  more = [];
+  longer = sym (append-nil w.log);
+  risen_is = ap (λ (x : CoordinatorState). x.horizon) is ∙ sym horizon_is;
+  rises = omega (arith, horizon_is, high);
+  risen_within = omega (arith, high, end, within);
+}
+  where
+    base : w.base ≡ s.base
+    base = ap (λ (x : CoordinatorState). x.base) is
+
+    high : w.horizon ≡ s.horizon
+    high = ap (λ (x : CoordinatorState). x.horizon) is
+
+    end : end_of w ≡ end_of s
+    end = ap end_of is
+
+    lbase : l.base ≡ s.horizon
+    lbase = ap (λ (x : LedgerValue). x.base) ledger
+
+    log : l.log ≡ drop s.horizon s.log
+    log = ap (λ (x : LedgerValue). x.log) ledger
+
+    len : length l.log ≡ length s.log - s.horizon
+    len = ap length log ∙ length-drop s.horizon s.log
+
+module _ {D : Type 0} (state : D → State) (honest : D → Type 0) (j : View D) (me : Identity) (s : CoordinatorState) (before : List Record) (l : LedgerValue) (epoch kept horizon : ℕ) where
+  pub opened_kept : s ≡ coordinator_state before → s.base ≡ 0 → l ≡ record { base = s.horizon; log = drop s.horizon s.log; awaited = None }
+      → epoch ≡ s.epoch + 1 → s.epoch < greatest_number → kept ≡ end_of s → kept ≤ greatest_number → horizon ≡ s.horizon → s.horizon ≤ end_of s
+      → j.staged ≡ [] → (j.is_down ≡ false → honest j.a → honest j.b → HasRecords (state j.a) (state j.b) j.durable × (j.durable ≡ before ++ Epoch (s.epoch + 1) me.store me.shards me.node ∷ []))
+      → (numbers : List ℕ) → numbers ≡ [] → IsKept state honest j l epoch kept horizon None numbers 0
+  opened_kept is zero_base ledger next below kept_is fits horizon_is within fresh flushed numbers none = record {
+    durable = now;
+    staged = [];
+    remembers = subst (λ (rs : List Record). Remembers (coordinator_state now) (coordinator_state rs) l epoch kept horizon None) (sym (append-nil now))
+        (remembers_opened s (coordinator_state now) l epoch kept horizon state_is zero_base ledger next below kept_is fits horizon_is within);
+    greatest = λ x there. absurd (search rules);
+    numbers_given = subst (All (IsGivenNumber 0)) (sym none) (λ k d lt. absurd (omega (arith, lt)));
+    given_fits = omega arith;
+    staged_is = λ up. sym fresh;
+    backed = λ up ha hb. let f = flushed up ha hb in record { rest = f.0; same = sym f.1 };
+  }
+    where
+      now : List Record
+      now = before ++ Epoch (s.epoch + 1) me.store me.shards me.node ∷ []
+
+      state_is : coordinator_state now ≡ record s { epoch = epoch }
+      state_is = opened_state before (s.epoch + 1) me.store me.shards me.node ∙ ap (λ (x : CoordinatorState). record x { epoch = s.epoch + 1 }) (sym is) ∙ ap (λ (n : ℕ). record s { epoch = n }) (sym next)
+
+-- time during a call, told by what is weaker
+pub leaves_weaker : {D : Type 0} (moment : D → ℕ) (left_since : D → ℕ → List ℕ → Type 0) (a b c d : D) (P Q : List ℕ → List ℕ → Type 0) → LeavesBoth moment left_since a b c d P → ((x y : List ℕ) → P x y → Q x y) → LeavesBoth moment left_since a b c d Q
+leaves_weaker moment left_since a b c d P Q l f = record {
+  later_a = l.later_a;
+  later_b = l.later_b;
+  each = λ x y in_x in_y. f x y (l.each x y in_x in_y);
+  before = λ t u x y le_t le_u in_x in_y. ⊎_elim (λ was. inl was) (λ p. inr (f x y p)) (l.before t u x y le_t le_u in_x in_y);
+}
+
+-- what the opening makes durable is the record of an opening
+module _ (me : Identity) (records : List Record) (node : me.node ≡ coordinator_number) (image : IsCoordinatorImage me records) (s : CoordinatorState) (is : s ≡ coordinator_state records) (below : s.epoch < greatest_number) where
+  longer : (durable : List Record) → durable ≡ records → durable ++ Epoch (s.epoch + 1) me.store me.shards me.node ∷ [] ≡ records ++ coordinator_opening me records ∷ []
+  longer durable same = ap (λ (l : List Record). l ++ Epoch (s.epoch + 1) me.store me.shards me.node ∷ []) same ∙ ap (λ (x : CoordinatorState). records ++ Epoch (x.epoch + 1) me.store me.shards me.node ∷ []) is
+
+  pub found_or_opened : (durable : List Record) → durable ≡ records → (x y : List ℕ) → HasOldOrNew durable (Epoch (s.epoch + 1) me.store me.shards me.node ∷ []) x y → HasFoundOrOpened me records x y
+  found_or_opened durable same x y (inl old) = inl (old ∙ ap (λ (l : List Record). Some l) same)
+  found_or_opened durable same x y (inr new) = inr (opened_image me records node image (subst (λ (x : CoordinatorState). x.epoch < greatest_number) is below), new ∙ ap (λ (l : List Record). Some l) (longer durable same))
+
+  pub opened_durable : (old new : List Record) → old ≡ records → new ≡ old ++ Epoch (s.epoch + 1) me.store me.shards me.node ∷ [] → new ≡ records ++ coordinator_opening me records ∷ []
+  opened_durable old new same more = more ∙ longer old same
+
+pub opened_or_found : (me : Identity) (sa sb : State) (rs : List Record) → found sa.seen sb.seen ≡ Some rs → (x y : List ℕ) → HasFoundOrOpened me rs x y → WasLeftOrReopened me sa sb x y
+opened_or_found me sa sb rs was x y (inl has) = inl (inr (has ∙ sym was))
+opened_or_found me sa sb rs was x y (inr opened) = inr (rs, was, opened.0, opened.1)
+
+-- nothing was done: what is there was found
+pub leaves_found : {D : Type 0} (state : D → State) (moment : D → ℕ) (left_since : D → ℕ → List ℕ → Type 0) (a b : D) (me : Identity) (rs : List Record)
+    → ((x : List ℕ) → left_since a (moment a) x → left (state a) x) → ((y : List ℕ) → left_since b (moment b) y → left (state b) y)
+    → HasRecords (state a) (state b) rs → LeavesBoth moment left_since a b a b (HasFoundOrOpened me rs)
+leaves_found state moment left_since a b me rs only_a only_b has = record {
+  later_a = omega arith;
+  later_b = omega arith;
+  each = λ x y in_x in_y. inl (has x y (only_a x in_x) (only_b y in_y));
+  before = λ t u x y le_t le_u in_x in_y. inl (in_x, in_y);
+}
+
+-- time during a call, and during the next
+pub leaves_then : {D : Type 0} (moment : D → ℕ) (left_since : D → ℕ → List ℕ → Type 0) (a b c d e f : D) (P Q R : List ℕ → List ℕ → Type 0) → LeavesBoth moment left_since a b c d P → LeavesBoth moment left_since c d e f Q
+    → ((x y : List ℕ) → P x y → R x y) → ((x y : List ℕ) → Q x y → R x y) → LeavesBoth moment left_since a b e f R
+leaves_then moment left_since a b c d e f P Q R l m p q = record {
+  later_a = omega (arith, l.later_a, m.later_a);
+  later_b = omega (arith, l.later_b, m.later_b);
+  each = λ x y in_x in_y. ⊎_elim (λ was. p x y (l.each x y was.0 was.1)) (λ now. q x y now) (m.before (moment a) (moment b) x y l.later_a l.later_b in_x in_y);
+  before = λ t u x y le_t le_u in_x in_y. ⊎_elim
+      (λ was. ⊎_elim (λ first. inl first) (λ now. inr (p x y now)) (l.before t u x y le_t le_u was.0 was.1))
+      (λ now. inr (q x y now))
+      (m.before t u x y (omega (arith, le_t, l.later_a)) (omega (arith, le_u, l.later_b)) in_x in_y);
+}

@@ -1,0 +1,179 @@
+// Opening a coordinator: its records are replayed, and one opening more is made durable.
+ghost use Rattle.std.specs.Prelude.{◌≡◌, ◌⊎◌, ◌↔◌, ◌≤◌, ◌<◌, ◌+◌, ◌++◌, ◌∷◌, [], ℕ, List, Some, true, false, OnOk, OnErr, IfOk, IfErr, IsErr, IsErrOf, MatchResult};
+ghost use Rattle.device.specs.Device.{HasFailed};
+ghost use Rattle.journal.specs.Records.{HasCause, HasOldOrNew, HasRecords, LacksRoom, LeavesBoth, found};
+ghost use Rattle.records.specs.declared.record.Record.{Record as AnyRecord};
+ghost use Rattle.records.specs.declared.record.Record.TheVariants.{Epoch as epoch_record};
+ghost use Rattle.records.specs.Identity.{coordinator_number};
+ghost use Rattle.records.specs.Coordinators.{IsCoordinatorImage, coordinator_state};
+ghost use Rattle.records.specs.Replays.{greatest_number};
+ghost use Rattle.decisions.specs.Coordinators.{IsOpenedCoordinator, IsRunning, WasLeftOrReopened, coordinator_opening};
+ghost use Rattle.coordinator.specs.Keeping.{HasFoundOrOpened, HasNoRoomToOpen};
+
+use crate::Coordinator;
+use crate::staging::stage_fitting;
+use device::Device;
+use journal::{Journal, Refused};
+use records::{Identity, Record};
+use recovery::Recovery;
+use std::alloc::Global;
+use tuples::{MAX_NUMBER, Refusal};
+
+// What the records of the coordinator stand for; `Damaged` where they are not those of this one.
+fn replayed(alloc: Global, me: Identity, records: Vec<Record>) -> Result<Recovery, Refusal>
+    ensures state { IfOk result (λ r. r ≡ coordinator_state records.items) }
+    ensures image { OnOk result (IsCoordinatorImage me records.items) }
+    ensures damaged { IsErrOf result Refusal.Damaged → IsCoordinatorImage me records.items → ⊥ }
+    ensures err { IfErr result (λ e. (e ≡ Refusal.Damaged) ⊎ (e ≡ Refusal.NoMemory)) }
+{
+    let mut so_far = Recovery::new(alloc);
+    for record in records {
+        so_far = so_far.replay(me, record)?;
+    }
+    Ok(so_far)
+}
+
+// As `replayed`, and `Full` after the last epoch.
+fn restored(alloc: Global, me: Identity, records: Vec<Record>) -> Result<Recovery, Refusal>
+    ensures state { IfOk result (λ r. (r ≡ coordinator_state records.items) × (r.epoch < greatest_number)) }
+    ensures image { OnOk result (IsCoordinatorImage me records.items) }
+    ensures damaged { IsErrOf result Refusal.Damaged → IsCoordinatorImage me records.items → ⊥ }
+    ensures full { IsErrOf result Refusal.Full → IsCoordinatorImage me records.items × ((coordinator_state records.items).epoch ≡ greatest_number) }
+    ensures err { IfErr result (λ e. (e ≡ Refusal.Damaged) ⊎ ((e ≡ Refusal.NoMemory) ⊎ (e ≡ Refusal.Full))) }
+{
+    let so_far = replayed(alloc, me, records)?;
+    if so_far.epoch() >= MAX_NUMBER {
+        return Err(Refusal::Full);
+    }
+    Ok(so_far)
+}
+
+// Makes one opening more durable.
+fn count_opening<D: Device>(
+    journal: &mut Journal<D>,
+    epoch: u64,
+    me: Identity,
+) -> Result<(), Refusal>
+    requires fresh { journal.old.staged ≡ [] }
+    requires up { journal.old.is_down ≡ false }
+    ensures honest { (D.honest journal.old.a ↔ D.honest journal.new.a) × (D.honest journal.old.b ↔ D.honest journal.new.b) }
+    ensures any_moment { D.honest journal.old.a → D.honest journal.old.b
+        → LeavesBoth D.moment D.left_since journal.old.a journal.old.b journal.new.a journal.new.b (HasOldOrNew journal.old.durable (epoch_record epoch me.store me.shards me.node ∷ [])) }
+    ensures ok { D.honest journal.old.a → D.honest journal.old.b
+        → OnOk result ((journal.new.durable ≡ journal.old.durable ++ epoch_record epoch me.store me.shards me.node ∷ []) × HasRecords (D.state journal.new.a) (D.state journal.new.b) journal.new.durable) }
+    ensures fresh { OnOk result ((journal.new.staged ≡ []) × (journal.new.is_down ≡ false)) }
+    ensures cause { OnErr result (HasCause D.state D.honest (record journal.old { staged = epoch_record epoch me.store me.shards me.node ∷ [] }) journal.new) }
+    ensures err { IfErr result (λ e. e ≡ Refusal.Down) }
+{
+    let next = Record::Epoch {
+        epoch,
+        store: me.store(),
+        shards: me.shards(),
+        node: me.node(),
+    };
+    stage_fitting(journal, &next);
+    journal.flush()?;
+    Ok(())
+}
+
+fn refused<D: Device>(refusal: Refusal, journal: Journal<D>) -> Refused<D>
+    ensures refusal { result.refusal ≡ refusal }
+    ensures devices { (result.a ≡ journal.a) × (result.b ≡ journal.b) }
+{
+    let (a, b) = journal.into_devices();
+    Refused { refusal, a, b }
+}
+
+// The coordinator of this epoch, before it has begun a write.
+fn started<D: Device>(
+    alloc: Global,
+    journal: Journal<D>,
+    me: Identity,
+    so_far: Recovery,
+) -> Coordinator<D>
+    requires next { so_far.epoch < greatest_number }
+    requires fresh { journal.staged ≡ [] }
+    requires found { (before : List AnyRecord) × (so_far ≡ coordinator_state before) × (journal.is_down ≡ false → D.honest journal.a → D.honest journal.b
+        → HasRecords (D.state journal.a) (D.state journal.b) journal.durable × (journal.durable ≡ before ++ epoch_record (so_far.epoch + 1) me.store me.shards me.node ∷ [])) }
+    ensures { result ≡ record { a = journal.a; b = journal.b; end = journal.end; durable = journal.durable; staged = journal.staged; is_down = journal.is_down; me = me; open_ids = []; given = 0 } }
+{
+    let epoch = so_far.epoch() + 1;
+    let kept = so_far.end();
+    let horizon = so_far.horizon();
+    Coordinator {
+        journal,
+        me,
+        epoch,
+        open_numbers: Vec::new(alloc),
+        given: 0,
+        ledger: so_far.into_ledger(),
+        kept,
+        horizon,
+        rising: None,
+    }
+}
+
+// Opens the coordinator over a journal in which these records were found.
+fn start<D: Device>(
+    alloc: Global,
+    mut journal: Journal<D>,
+    records: Vec<Record>,
+    me: Identity,
+) -> Result<Coordinator<D>, Refused<D>>
+    requires coordinator { me.node ≡ coordinator_number }
+    requires fresh { journal.staged ≡ [] }
+    requires up { journal.is_down ≡ false }
+    requires found { D.honest journal.a → D.honest journal.b → (journal.durable ≡ records.items) × HasRecords (D.state journal.a) (D.state journal.b) records.items }
+    ensures honest { MatchResult result (λ s. (D.honest journal.a ↔ D.honest s.a) × (D.honest journal.b ↔ D.honest s.b)) (λ e. (D.honest journal.a ↔ D.honest e.a) × (D.honest journal.b ↔ D.honest e.b)) }
+    ensures ok { D.honest journal.a → D.honest journal.b → IfOk result (λ s. IsCoordinatorImage me records.items
+        × (s.durable ≡ records.items ++ coordinator_opening me records.items ∷ []) × IsRunning D.state D.honest s) }
+    ensures fresh { IfOk result (λ s. (s.staged ≡ []) × (s.is_down ≡ false) × (s.me ≡ me) × (s.open_ids ≡ []) × (s.given ≡ 0)) }
+    ensures damaged { IfErr result (λ e. e.refusal ≡ Refusal.Damaged → IsCoordinatorImage me records.items → ⊥) }
+    ensures full { IfErr result (λ e. e.refusal ≡ Refusal.Full → IsCoordinatorImage me records.items × ((coordinator_state records.items).epoch ≡ greatest_number)) }
+    ensures down { IfErr result (λ e. e.refusal ≡ Refusal.Down → HasFailed (D.state journal.a) (D.state e.a) ⊎ (HasFailed (D.state journal.b) (D.state e.b) ⊎ ((epoch : ℕ) × LacksRoom D.state D.honest journal.a journal.end (epoch_record epoch me.store me.shards me.node ∷ [])))) }
+    ensures err { IfErr result (λ e. (e.refusal ≡ Refusal.Down) ⊎ ((e.refusal ≡ Refusal.NoMemory) ⊎ ((e.refusal ≡ Refusal.Full) ⊎ (e.refusal ≡ Refusal.Damaged)))) }
+    ensures any_moment { D.honest journal.a → D.honest journal.b → MatchResult result
+        (λ s. LeavesBoth D.moment D.left_since journal.a journal.b s.a s.b (HasFoundOrOpened me records.items))
+        (λ e. LeavesBoth D.moment D.left_since journal.a journal.b e.a e.b (HasFoundOrOpened me records.items)) }
+{
+    let so_far = match restored(alloc, me, records) {
+        Ok(so_far) => so_far,
+        Err(refusal) => return Err(refused(refusal, journal)),
+    };
+    match count_opening(&mut journal, so_far.epoch() + 1, me) {
+        Ok(()) => Ok(started(alloc, journal, me, so_far)),
+        Err(refusal) => Err(refused(refusal, journal)),
+    }
+}
+
+impl<D: Device> Coordinator<D> {
+    /// Opens the coordinator with this identity: replays its journal, and makes one `Epoch` record more durable.
+    ///
+    /// Each refusal gives the devices back: `Down` where a call of a device failed, or bank a has no room for the record; `NoMemory`; `Full`
+    /// after the last epoch; and `Damaged` where the devices have no records of this coordinator of this store, a condition that does not
+    /// hold at its decision among the causes.
+    pub fn open(alloc: Global, a: D, b: D, me: Identity) -> Result<Coordinator<D>, Refused<D>>
+        requires coordinator { me.node ≡ coordinator_number }
+        ensures honest { MatchResult result (λ s. (D.honest a ↔ D.honest s.a) × (D.honest b ↔ D.honest s.b)) (λ e. (D.honest a ↔ D.honest e.a) × (D.honest b ↔ D.honest e.b)) }
+        ensures ok { D.honest a → D.honest b → IfOk result (λ s. IsOpenedCoordinator D.state D.honest a b me s) }
+        ensures fresh { IfOk result (λ s. (s.staged ≡ []) × (s.is_down ≡ false) × (s.me ≡ me) × (s.open_ids ≡ []) × (s.given ≡ 0)) }
+
+        // Damaged exactly where there are no records of this coordinator.
+        ensures damaged { D.honest a → D.honest b → IfErr result (λ e. e.refusal ≡ Refusal.Damaged → (rs : List AnyRecord) → found (D.state a).seen (D.state b).seen ≡ Some rs → IsCoordinatorImage me rs → ⊥) }
+        ensures full { D.honest a → D.honest b → IfErr result (λ e. e.refusal ≡ Refusal.Full → (rs : List AnyRecord) × (found (D.state a).seen (D.state b).seen ≡ Some rs)
+            × IsCoordinatorImage me rs × ((coordinator_state rs).epoch ≡ greatest_number)) }
+        ensures down { D.honest a → D.honest b → IfErr result (λ e. e.refusal ≡ Refusal.Down → HasFailed (D.state a) (D.state e.a) ⊎ (HasFailed (D.state b) (D.state e.b) ⊎ HasNoRoomToOpen D.state D.honest D.moment a me)) }
+        ensures err { IfErr result (λ e. (e.refusal ≡ Refusal.Down) ⊎ ((e.refusal ≡ Refusal.NoMemory) ⊎ ((e.refusal ≡ Refusal.Full) ⊎ (e.refusal ≡ Refusal.Damaged)))) }
+        ensures stopped { (D.state a).stopped ≡ true → IsErr result }
+
+        // At every moment of the call a stop leaves what it could leave before, or the records found, with this opening's or without.
+        ensures any_moment { D.honest a → D.honest b → MatchResult result
+            (λ s. LeavesBoth D.moment D.left_since a b s.a s.b (WasLeftOrReopened me (D.state a) (D.state b)))
+            (λ e. LeavesBoth D.moment D.left_since a b e.a e.b (WasLeftOrReopened me (D.state a) (D.state b))) }
+    {
+        match Journal::open(alloc, a, b) {
+            Ok((journal, records)) => start(alloc, journal, records, me),
+            Err(refused) => Err(refused),
+        }
+    }
+}

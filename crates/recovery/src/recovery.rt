@@ -1,0 +1,182 @@
+// The state of a coordinator, as its records are replayed.
+ghost use Rattle.std.specs.Prelude.{◌≡◌, ◌⊎◌, ◌↔◌, ◌≤◌, [], drop, IfOk, IfErr, IsErrOf, IsTrue, All, None};
+ghost use Rattle.records.specs.declared.record.Record.TheVariants.{Decision as decision_record, Epoch as epoch_record, Horizon as horizon_record};
+ghost use Rattle.records.specs.Coordinators.{HoldsKnown, IsNotDecided, MayComeNext, MayDecide, MayOpenAgain, MayRaise, coordinator_step, empty_coordinator, end_of};
+ghost use Rattle.records.specs.Replays.{greatest_number};
+
+use crate::latest::{LastChange, all_hold, enter};
+use crate::rules::{may_decide, may_open, may_raise};
+use ledger::Ledger;
+use records::{Identity, Record};
+use std::alloc::Global;
+use std::collections::BTreeMap;
+use std::marker::Model;
+use tuples::{Condition, Entry, Refusal, Tuple, WriteId};
+
+/// What the records so far stand for, with what the tests of the next one need.
+#[derive(Drop)]
+pub struct Recovery {
+    ledger: Ledger,
+    latest: BTreeMap<Tuple, LastChange>,
+    horizon: u64,
+    epoch: u64,
+}
+
+impl Model for Recovery {
+    ghost use Rattle.std.specs.BTreeMap.{get};
+    ghost use Rattle.records.specs.Coordinators.{CoordinatorState};
+    ghost use Rattle.tuples.specs.Order.{tuple_cmp};
+    ghost use Rattle.recovery.specs.Latest.{IsRecovered};
+
+    ghost Value = { CoordinatorState };
+
+    ghost view = { λ r. record { base = 0; log = r.ledger.log; horizon = r.horizon; epoch = r.epoch } };
+
+    ghost invariant = { λ r. IsRecovered r.ledger (λ t. get tuple_cmp r.latest t) r.horizon r.epoch };
+}
+
+impl Recovery {
+    /// Before any record, which takes no memory.
+    pub fn new(alloc: Global) -> Recovery
+        ensures { result ≡ empty_coordinator }
+    {
+        Recovery {
+            ledger: Ledger::new(alloc, 0),
+            latest: BTreeMap::new(alloc),
+            horizon: 0,
+            epoch: 0,
+        }
+    }
+
+    /// With a record more of this node: `Damaged` where it may not come next, `NoMemory`.
+    pub fn replay(self, me: Identity, found: Record) -> Result<Recovery, Refusal>
+        ensures ok { IfOk result (λ r. MayComeNext me self found × (r ≡ coordinator_step self found)) }
+        ensures damaged { IsErrOf result Refusal.Damaged → MayComeNext me self found → ⊥ }
+        ensures err { IfErr result (λ e. (e ≡ Refusal.Damaged) ⊎ (e ≡ Refusal.NoMemory)) }
+    {
+        match found {
+            Record::Decision { place, entry } => self.decide(place, entry),
+            Record::Epoch {
+                epoch,
+                store,
+                shards,
+                node,
+            } => self.open_epoch(me, epoch, store, shards, node),
+            Record::Horizon(place) => self.raise(place),
+            // A coordinator prepares nothing.
+            Record::Prepare(_) | Record::Learned { .. } | Record::Dropped(_) => {
+                Err(Refusal::Damaged)
+            }
+        }
+    }
+
+    #[tactic(auto, unfolding(records::specs::Coordinators::coordinator_step))]
+    fn decide(self, place: u64, write: Entry) -> Result<Recovery, Refusal>
+        ensures ok { IfOk result (λ r. MayDecide self place write × (r ≡ coordinator_step self (decision_record place write))) }
+        ensures damaged { IsErrOf result Refusal.Damaged → MayDecide self place write → ⊥ }
+        ensures err { IfErr result (λ e. (e ≡ Refusal.Damaged) ⊎ (e ≡ Refusal.NoMemory)) }
+    {
+        if !may_decide(&self, place, &write) {
+            return Err(Refusal::Damaged);
+        }
+        let Recovery {
+            mut ledger,
+            mut latest,
+            horizon,
+            epoch,
+        } = self;
+        ledger.reserve(write.id)?;
+        enter(&mut latest, place, write.changes.as_slice())?;
+        ledger.push_reserved(write);
+        Ok(Recovery {
+            ledger,
+            latest,
+            horizon,
+            epoch,
+        })
+    }
+
+    #[tactic(auto, unfolding(records::specs::Coordinators::coordinator_step))]
+    fn open_epoch(
+        mut self,
+        me: Identity,
+        epoch: u64,
+        store: u64,
+        shards: u8,
+        node: u8,
+    ) -> Result<Recovery, Refusal>
+        ensures ok { IfOk result (λ r. MayOpenAgain me self epoch store shards node × (r ≡ coordinator_step self (epoch_record epoch store shards node))) }
+        ensures damaged { IsErrOf result Refusal.Damaged → MayOpenAgain me self epoch store shards node → ⊥ }
+        ensures err { IfErr result (λ e. e ≡ Refusal.Damaged) }
+    {
+        if !may_open(me, &self, epoch, store, shards, node) {
+            return Err(Refusal::Damaged);
+        }
+        self.epoch = epoch;
+        Ok(self)
+    }
+
+    #[tactic(auto, unfolding(records::specs::Coordinators::coordinator_step))]
+    fn raise(mut self, place: u64) -> Result<Recovery, Refusal>
+        ensures ok { IfOk result (λ r. MayRaise self place × (r ≡ coordinator_step self (horizon_record place))) }
+        ensures damaged { IsErrOf result Refusal.Damaged → MayRaise self place → ⊥ }
+        ensures err { IfErr result (λ e. e ≡ Refusal.Damaged) }
+    {
+        if !may_raise(&self, place) {
+            return Err(Refusal::Damaged);
+        }
+        self.horizon = place;
+        Ok(self)
+    }
+
+    /// How often the coordinator was opened.
+    pub fn epoch(&self) -> u64
+        ensures value { result ≡ self.now.epoch }
+        ensures fits { result ≤ greatest_number }
+    {
+        self.epoch
+    }
+
+    /// The place below which nothing is read.
+    pub fn horizon(&self) -> u64
+        ensures value { result ≡ self.now.horizon }
+        ensures within { result ≤ end_of self.now }
+    {
+        self.horizon
+    }
+
+    /// The place of the last decision.
+    pub fn end(&self) -> u64
+        ensures value { result ≡ end_of self.now }
+        ensures fits { result ≤ greatest_number }
+    {
+        self.ledger.end()
+    }
+
+    pub(crate) fn is_new(&self, id: WriteId) -> bool
+        ensures { IsTrue result ↔ IsNotDecided id self.now }
+    {
+        self.ledger.find(id).is_none()
+    }
+
+    pub(crate) fn all_hold(&self, conditions: &[Condition]) -> bool
+        ensures { IsTrue result ↔ All (HoldsKnown self.now) conditions.now }
+    {
+        all_hold(&self.latest, conditions)
+    }
+
+    /// The decisions above the horizon, which takes no memory.
+    pub fn into_ledger(self) -> Ledger
+        ensures value { result ≡ record { base = self.horizon; log = drop self.horizon self.log; awaited = None } }
+        ensures from_first { self.base ≡ 0 }
+    {
+        let Recovery {
+            mut ledger,
+            latest: _,
+            horizon,
+            epoch: _,
+        } = self;
+        ledger.forget(horizon);
+        ledger
+    }
+}

@@ -1,0 +1,54 @@
+// Which record may come next at a coordinator.
+ghost use Rattle.std.specs.Prelude.{◌≡◌, ◌↔◌, ◌≤◌, IsTrue};
+ghost use Rattle.records.specs.Coordinators.{MayDecide, MayOpenAgain, MayRaise};
+ghost use Rattle.records.specs.Replays.{greatest_number};
+
+use crate::Recovery;
+use records::{COORDINATOR, Identity, ask_of_log};
+use tuples::{Entry, MAX_NUMBER};
+
+// epochs and numbers of writes begin at 1
+fn is_number(number: u64) -> bool
+    ensures { IsTrue result ↔ ((1 ≤ number) × (number ≤ greatest_number)) }
+{
+    number >= 1 && number <= MAX_NUMBER
+}
+
+/// The next place, a new id, and conditions that hold there and ask about places of a log.
+pub(crate) fn may_decide(so_far: &Recovery, place: u64, write: &Entry) -> bool
+    ensures { IsTrue result ↔ MayDecide so_far.now place write.now }
+{
+    if so_far.epoch() == 0 || !is_number(write.id.epoch) || !is_number(write.id.number) {
+        return false;
+    }
+    if so_far.end() >= MAX_NUMBER || place != so_far.end() + 1 {
+        return false;
+    }
+    let conditions = write.conditions.as_slice();
+    ask_of_log(conditions) && so_far.is_new(write.id) && so_far.all_hold(conditions)
+}
+
+/// The next opening, of this very coordinator.
+pub(crate) fn may_open(
+    me: Identity,
+    so_far: &Recovery,
+    epoch: u64,
+    store: u64,
+    shards: u8,
+    node: u8,
+) -> bool
+    ensures { IsTrue result ↔ MayOpenAgain me so_far.now epoch store shards node }
+{
+    // The greatest number has none after it.
+    if so_far.epoch() >= MAX_NUMBER || epoch != so_far.epoch() + 1 {
+        return false;
+    }
+    me.is(store, shards, node) && me.node() == COORDINATOR
+}
+
+/// The horizon only rises, and stays within the log.
+pub(crate) fn may_raise(so_far: &Recovery, place: u64) -> bool
+    ensures { IsTrue result ↔ MayRaise so_far.now place }
+{
+    so_far.epoch() != 0 && so_far.horizon() <= place && place <= so_far.end()
+}
