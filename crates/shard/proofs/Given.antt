@@ -5,21 +5,21 @@ use Rattle.std.proofs.lemmas.List.{append-nil}
 use Rattle.tuples.specs.declared.entry.Entry.{Entry}
 use Rattle.tuples.specs.declared.entry.WriteId.{WriteId}
 use Rattle.records.specs.Format.{IsWriteId}
-use Rattle.records.specs.declared.record.Part.{Part}
+use Rattle.records.specs.declared.record.PlacedId.{PlacedId}
 use Rattle.records.specs.declared.record.Record.{Record}
 use Rattle.records.specs.declared.record.Record.TheVariants.{Prepare, Learned, Dropped, Epoch, Decision, Horizon}
 use Rattle.records.specs.Replays.{ArePrepared, Identity, IsShardImage, MayCome, ShardState, find_in_doubt, shard_state, shard_step, without}
 use Rattle.replay.proofs.Doubts.{cases_id, find_push}
 use Rattle.replay.proofs.States.{shard_push}
-use Rattle.shard.proofs.Waiting.{still_parts, still_without}
+use Rattle.shard.proofs.Waiting.{still_placed_ids, still_without}
 
 abbrev pub AllGiven : List Entry → Type 0
 AllGiven ws = (id : WriteId) (p : Entry) → find_in_doubt id ws ≡ Some p → IsWriteId id
 
-pub given_parts : (parts : List Part) (ws : List Entry) → AllGiven ws → ArePrepared parts ws → AllByRecursion (λ (p : Part). IsWriteId p.id) parts
-given_parts [] ws given prepared = tt
-given_parts (p ∷ parts) ws given prepared =
-    (given p.id prepared.0.0 prepared.0.1, given_parts parts (without p.id ws) (λ id q is. given id q (still_without id p.id ws q is)) prepared.1)
+pub given_placed_ids : (placed_ids : List PlacedId) (ws : List Entry) → AllGiven ws → ArePrepared placed_ids ws → AllByRecursion (λ (p : PlacedId). IsWriteId p.id) placed_ids
+given_placed_ids [] ws given prepared = tt
+given_placed_ids (p ∷ placed_ids) ws given prepared =
+    (given p.id prepared.0.0 prepared.0.1, given_placed_ids placed_ids (without p.id ws) (λ id q is. given id q (still_without id p.id ws q is)) prepared.1)
 
 given_step : (me : Identity) (s : ShardState) (r : Record) → AllGiven s.in_doubt → MayCome me s r → AllGiven (shard_step s r).in_doubt
 unfolding shard_step
@@ -33,7 +33,7 @@ given_step me s (Prepare w) given may id p is = ⊎_elim
     } in subst IsWriteId same own)
     (λ ne. given id p (sym (find_push id s.in_doubt w ne) ∙ is))
     (cases_id w.id id)
-given_step me s (Learned to parts) given may id p is = given id p (still_parts id parts s.in_doubt p is)
+given_step me s (Learned to placed_ids) given may id p is = given id p (still_placed_ids id placed_ids s.in_doubt p is)
 given_step me s (Dropped other) given may id p is = given id p (still_without id other s.in_doubt p is)
 given_step me s (Epoch epoch store shards node) given may id p is = given id p is
 given_step me s (Decision place w) given may id p is = absurd may

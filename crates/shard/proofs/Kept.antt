@@ -2,7 +2,7 @@
 use Rattle.std.proofs.Common.{◌≡◌, ◌≤◌, ◌++◌, ℕ, List, [], ◌∷◌, false, refl, sym, ap, ◌∙◌, subst, append_assoc}
 use Rattle.tuples.specs.declared.entry.Entry.{Entry}
 use Rattle.tuples.specs.declared.entry.WriteId.{WriteId}
-use Rattle.records.specs.declared.record.Part.{Part}
+use Rattle.records.specs.declared.record.PlacedId.{PlacedId}
 use Rattle.records.specs.declared.record.Record.{Record}
 use Rattle.records.specs.declared.record.Record.TheVariants.{Prepare, Learned, Dropped, Epoch, Decision, Horizon}
 use Rattle.records.specs.Replays.{Identity, IsShardImage, MayCome, ShardState, shard_state, shard_step}
@@ -11,20 +11,21 @@ use Rattle.replay.proofs.Alike.{alike_step, alike_trans, may_come_alike}
 use Rattle.replay.proofs.States.{image_push, shard_push}
 use Rattle.device.specs.Device.{State}
 use Rattle.journal.specs.Records.{View}
+use Rattle.decisions.specs.Values.{NamesNode}
 use Rattle.shard.specs.Keeping.{IsBacked, IsKept, prepared_ids}
 use Rattle.shard.specs.Shards.{IsUp, ShardView, Stages, memory}
 
 prepared_append : (rs more : List Record) → prepared_ids (rs ++ more) ≡ prepared_ids rs ++ prepared_ids more
 prepared_append [] more = refl
 prepared_append (Prepare w ∷ rs) more = ap (λ (l : List WriteId). w.id ∷ l) (prepared_append rs more)
-prepared_append (Learned to parts ∷ rs) more = prepared_append rs more
+prepared_append (Learned to placed_ids ∷ rs) more = prepared_append rs more
 prepared_append (Dropped id ∷ rs) more = prepared_append rs more
 prepared_append (Epoch epoch store shards node ∷ rs) more = prepared_append rs more
 prepared_append (Decision place w ∷ rs) more = prepared_append rs more
 prepared_append (Horizon place ∷ rs) more = prepared_append rs more
 
 abbrev pub view_of : {D : Type 0} → View D → Identity → ShardView D
-view_of j me = record { a = j.a; b = j.b; durable = j.durable; staged = j.staged; is_down = j.is_down; me = me }
+view_of j me = record { a = j.a; b = j.b; end = j.end; durable = j.durable; staged = j.staged; is_down = j.is_down; me = me }
 
 pub memory_is : {D : Type 0} (state : D → State) (honest : D → Type 0) (j : View D) (me : Identity) (m : ShardState) (ids : List WriteId) (settled : ℕ) → IsKept state honest j me m ids settled
     → (v : ShardView D) → view_of j me ≡ v → IsUp state honest v → IsAlike m (memory v)
@@ -47,6 +48,7 @@ kept_push {D} state honest j k me m n ids more settled r kept may staged stepped
         rest = b.rest;
         whole = ap (λ (l : List Record). l ++ r ∷ []) b.whole ∙ append_assoc j.durable j.staged (r ∷ []);
       });
+  named = subst (λ (i : View D). i.is_down ≡ false → honest i.a → honest i.b → NamesNode i.durable me.node) (sym staged) kept.named;
   unflushed_are = subst (λ (i : View D). i.is_down ≡ false → more ≡ prepared_ids i.staged) (sym staged)
       (λ up. pushed ∙ ap (λ (l : List WriteId). l ++ prepared_ids (r ∷ [])) (kept.unflushed_are up) ∙ sym (prepared_append j.staged (r ∷ [])));
   settled_is = subst (λ (i : View D). i.is_down ≡ false → honest i.a → honest i.b → settled ≡ (shard_state i.durable).learned) (sym staged) kept.settled_is;
@@ -91,6 +93,6 @@ pub horizon_epoch : (m : ShardState) (place : ℕ) → 1 ≤ m.epoch → 1 ≤ (
 unfolding shard_step
 horizon_epoch m place opened = opened
 
-pub learned_epoch : (m : ShardState) (to : ℕ) (parts : List Part) → 1 ≤ m.epoch → 1 ≤ (shard_step m (Learned to parts)).epoch
+pub learned_epoch : (m : ShardState) (to : ℕ) (placed_ids : List PlacedId) → 1 ≤ m.epoch → 1 ≤ (shard_step m (Learned to placed_ids)).epoch
 unfolding shard_step
-learned_epoch m to parts opened = opened
+learned_epoch m to placed_ids opened = opened

@@ -5,6 +5,5 @@ mod Below
 mod Prepared
 mod Given
 mod Parts
-mod Matching
 mod Openings
 pub mod Told

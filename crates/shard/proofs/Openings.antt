@@ -1,17 +1,19 @@
 -- Opening a shard once more.
-use Rattle.std.proofs.Common.{◌≡◌, inl, inr, ⊎_elim, ◌≤◌, ◌<◌, ◌+◌, ◌++◌, ℕ, List, [], ◌∷◌, Some, length, take, drop, get_or, refl, sym, ap, ◌∙◌, subst, arith, append_assoc, length-append, false}
+use Rattle.std.proofs.Common.{◌≡◌, inl, inr, ⊎_elim, ◌≤◌, ◌<◌, ◌+◌, ◌++◌, ℕ, List, [], ◌∷◌, Some, length, take, drop, get_or, refl, sym, ap, ◌∙◌, subst, arith, append_assoc, length-append, false, Contains}
 use Rattle.std.proofs.lemmas.List.{at_drop_more, take-append-drop, take_more, append-nil}
+use Rattle.std.proofs.lemmas.List.Elements.{Contains-append_right}
 use Rattle.tuples.specs.declared.entry.WriteId.{WriteId}
 use Rattle.records.specs.declared.record.Record.{Record}
 use Rattle.records.specs.declared.record.Record.TheVariants.{Prepare, Learned, Dropped, Epoch, Decision, Horizon}
 use Rattle.records.specs.Format.{batch_bytes, record_bytes}
+use Rattle.records.specs.Identity.{max_shards}
 use Rattle.records.specs.Replays.{Identity, IsShardImage, MayCome, MayOpen, ShardState, empty_shard, greatest_number, shard_state, shard_step}
 use Rattle.replay.specs.Alike.{IsAlike}
 use Rattle.replay.proofs.Alike.{alike_step, alike_trans, may_come_alike}
 use Rattle.replay.proofs.States.{image_push, shard_push}
-use Rattle.device.specs.Device.{State, left}
-use Rattle.journal.specs.Records.{HasNoRoom, HasRecords, HoldsOldOrNew, LeavesBoth, View, found}
-use Rattle.shard.specs.Keeping.{HeldOrOpened, IsKept, prepared_ids}
+use Rattle.device.specs.Device.{HasFailed, State, left}
+use Rattle.journal.specs.Records.{HasNoRoom, HasRecords, LacksRoom, HasOldOrNew, LeavesBoth, View, found}
+use Rattle.shard.specs.Keeping.{HasFoundOrOpened, IsKept, prepared_ids}
 use Rattle.shard.specs.Shards.{IsUp, WasLeftOrOpened, opening}
 use Rattle.shard.proofs.Kept.{view_of}
 
@@ -50,7 +52,7 @@ module _ (me : Identity) (records yielded : List Record) (x : Record) (lt : leng
 step_epoch : (me : Identity) (s : ShardState) (r : Record) → s.epoch ≤ greatest_number → MayCome me s r → (shard_step s r).epoch ≤ greatest_number
 unfolding shard_step
 step_epoch me s (Prepare w) le may = le
-step_epoch me s (Learned to parts) le may = le
+step_epoch me s (Learned to placed_ids) le may = le
 step_epoch me s (Dropped id) le may = le
 step_epoch me s (Epoch epoch store shards node) le may = may.greatest
 step_epoch me s (Decision place w) le may = le
@@ -106,7 +108,7 @@ module _ {D : Type 0} (moment : D → ℕ) (left_since : D → ℕ → List ℕ 
 -- nothing was done: what is there was found
 pub leaves_found : {D : Type 0} (state : D → State) (moment : D → ℕ) (left_since : D → ℕ → List ℕ → Type 0) (a b : D) (me : Identity) (rs : List Record)
     → ((x : List ℕ) → left_since a (moment a) x → left (state a) x) → ((y : List ℕ) → left_since b (moment b) y → left (state b) y)
-    → HasRecords (state a) (state b) rs → LeavesBoth moment left_since a b a b (HeldOrOpened me rs)
+    → HasRecords (state a) (state b) rs → LeavesBoth moment left_since a b a b (HasFoundOrOpened me rs)
 leaves_found state moment left_since a b me rs only_a only_b has = record {
   later_a = omega arith;
   later_b = omega arith;
@@ -114,7 +116,7 @@ leaves_found state moment left_since a b me rs only_a only_b has = record {
   before = λ t u x y le_t le_u in_x in_y. inl (in_x, in_y);
 }
 
-pub opened_or_found : (me : Identity) (sa sb : State) (rs : List Record) → found sa.seen sb.seen ≡ Some rs → (x y : List ℕ) → HeldOrOpened me rs x y → WasLeftOrOpened me sa sb x y
+pub opened_or_found : (me : Identity) (sa sb : State) (rs : List Record) → found sa.seen sb.seen ≡ Some rs → (x y : List ℕ) → HasFoundOrOpened me rs x y → WasLeftOrOpened me sa sb x y
 opened_or_found me sa sb rs was x y (inl held) = inl (inr (held ∙ sym was))
 opened_or_found me sa sb rs was x y (inr opened) = inr (rs, was, opened.0, opened.1)
 
@@ -126,9 +128,9 @@ module _ (me : Identity) (records : List Record) (image : IsShardImage me record
   longer : (durable : List Record) → durable ≡ records → durable ++ epoch_of me e ∷ [] ≡ records ++ opening me records ∷ []
   longer durable same = ap (λ (l : List Record). l ++ epoch_of me e ∷ []) same ∙ ap (λ (n : ℕ). records ++ epoch_of me n ∷ []) is
 
-  pub held_or_opened : (durable : List Record) → durable ≡ records → (x y : List ℕ) → HoldsOldOrNew durable (epoch_of me e ∷ []) x y → HeldOrOpened me records x y
-  held_or_opened durable same x y (inl old) = inl (old ∙ ap (λ (l : List Record). Some l) same)
-  held_or_opened durable same x y (inr new) = inr (opened_image me records image below, new ∙ ap (λ (l : List Record). Some l) (longer durable same))
+  pub has_found_or_opened : (durable : List Record) → durable ≡ records → (x y : List ℕ) → HasOldOrNew durable (epoch_of me e ∷ []) x y → HasFoundOrOpened me records x y
+  has_found_or_opened durable same x y (inl old) = inl (old ∙ ap (λ (l : List Record). Some l) same)
+  has_found_or_opened durable same x y (inr new) = inr (opened_image me records image below, new ∙ ap (λ (l : List Record). Some l) (longer durable same))
 
   module _ {D : Type 0} (state : D → State) (honest : D → Type 0) (j k : View D) (was : honest j.a → honest j.b → j.durable ≡ records)
       (now : honest j.a → honest j.b → (k.durable ≡ j.durable ++ epoch_of me e ∷ []) × HasRecords (state k.a) (state k.b) k.durable) (fresh : k.staged ≡ []) where
@@ -154,7 +156,7 @@ module _ (me : Identity) (records : List Record) (image : IsShardImage me record
           let now : IsAlike (record m { epoch = e }) (shard_step (shard_state records) (opening me records)) = record { in_doubt = replayed.in_doubt; learned = replayed.learned; horizon = replayed.horizon; epoch = is; rows = replayed.rows } in
           subst (λ (s : ShardState). IsAlike s (shard_state (records ++ opening me records ∷ []))) (sym stepped) (subst (IsAlike (record m { epoch = e })) (sym (shard_push records (opening me records))) now)
 
-      pub opened_kept : 1 ≤ me.shards → me.shards ≤ 64 → me.node < me.shards → (honest k.a → honest j.a) → (honest k.b → honest j.b) → IsKept state honest k me n ids settled
+      pub opened_kept : 1 ≤ me.shards → me.shards ≤ max_shards → me.node < me.shards → (honest k.a → honest j.a) → (honest k.b → honest j.b) → IsKept state honest k me n ids settled
       opened_kept some few node back_a back_b = record {
         rs = records ++ opening me records ∷ [];
         replayed = all_replayed;
@@ -164,6 +166,21 @@ module _ (me : Identity) (records : List Record) (image : IsShardImage me record
         few = few;
         node = node;
         backed = λ up ka kb. record { rest = (now (back_a ka) (back_b kb)).1; whole = opened_whole (back_a ka) (back_b kb) };
+        named = λ up ka kb. (
+          (shard_state records).epoch + 1,
+          me.store,
+          me.shards,
+          subst (λ (l : List Record). Contains l (opening me records)) (sym (opened_durable (back_a ka) (back_b kb))) (Contains-append_right records (opening me records ∷ []) (opening me records) (0, omega arith, refl)),
+        );
         unflushed_are = λ up. none ∙ ap prepared_ids (sym fresh);
         settled_is = λ up ka kb. place ∙ all_replayed.learned ∙ ap (λ (l : List Record). (shard_state l).learned) (sym (opened_durable (back_a ka) (back_b kb)));
       }
+
+-- a device that failed in a later part of a call failed in the call
+pub failed_since : (was now new : State) → was.failures ≤ now.failures → HasFailed now new → HasFailed was new
+failed_since was now new le (inl more) = inl (omega (arith, le, more))
+failed_since was now new le (inr most) = inr most
+
+pub lacks_room : {D : Type 0} (state : D → State) (honest : D → Type 0) (j : View D) (me : Identity) (records : List Record) (e : ℕ) → e ≡ (shard_state records).epoch + 1
+    → LacksRoom state honest j.a j.end (epoch_of me e ∷ []) → LacksRoom state honest j.a j.end (opening me records ∷ [])
+lacks_room state honest j me records e is lacks = subst (λ (n : ℕ). LacksRoom state honest j.a j.end (epoch_of me n ∷ [])) is lacks

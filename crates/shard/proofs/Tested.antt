@@ -1,51 +1,44 @@
 -- What a shard tests of its part of a write.
 use Rattle.std.proofs.Common.{◌≡◌, ◌≤◌, ◌+◌, ◌++◌, ◌||◌, ◌&&◌, ◌==◌, ℕ, Bool, true, false, not, List, [], ◌∷◌, length, map, filter, None, Some, All, refl, sym, ap, ◌∙◌, arith}
-use Rattle.std.specs.List.{list_any}
-use Rattle.std.proofs.lemmas.Bool.{both_ways, cases_Bool, eqb-true, ne_eqb, not-false, not_from_true, or_cases, or_parts}
-use Rattle.std.proofs.lemmas.List.Elements.{All-append, All-cons, All-head, All-map, All-nil, All-tail, All-weaker}
-use Rattle.std.proofs.Common.{⊎_elim, Bor, Option, MatchOption}
+use Rattle.std.specs.List.{list_all, list_any}
+use Rattle.std.proofs.lemmas.Bool.{and_parts, cases_Bool, eqb-true, ne_eqb, or_parts}
+use Rattle.std.proofs.lemmas.List.Folds.{list_any_none}
+use Rattle.std.proofs.lemmas.List.Elements.{All-append, All-cons, All-filter, All-head, All-map, All-nil, All-tail, All-weaker}
+use Rattle.std.proofs.Common.{⊎_elim, ◌↔◌, Bor, IsTrue, Option, MatchOption}
 use Rattle.std.specs.Option.{is_some}
 use Rattle.tuples.specs.declared.entry.WriteId.{WriteId}
 use Rattle.tuples.specs.declared.tuple.Tuple.{Tuple}
 use Rattle.tuples.specs.declared.change.Change.{Change}
 use Rattle.tuples.specs.declared.change.Condition.{Condition}
+use Rattle.tuples.specs.declared.change.Want.{Want}
+use Rattle.tuples.specs.declared.change.Want.TheVariants.{NotAfter, Exists, Absent}
 use Rattle.tuples.specs.declared.entry.Entry.{Entry}
 use Rattle.tuples.specs.Changes.{changed, conditioned, tuple_of}
 use Rattle.tuples.specs.Log.{meets_want}
-use Rattle.tuples.specs.Parts.{part, shard_of, takes_part}
+use Rattle.tuples.specs.Parts.{is_of, own_changes, own_conditions, part, shard_of, takes_part}
 use Rattle.tuples.specs.Versions.{last_version, there_at}
 use Rattle.tuples.proofs.Kept.{of_condition, part_is_part}
-use Rattle.records.specs.Format.{ConditionsFit, IsPrepared}
-use Rattle.records.specs.Replays.{Identity, MayPrepare, ShardState, find_in_doubt, is_held, named}
-use Rattle.replay.proofs.Doubts.{found_id}
+use Rattle.records.specs.Format.{ConditionsFit, IsPrepared, WantFits}
+use Rattle.records.specs.Replays.{AskOfLog, AsksOfLog, Identity, MayPrepare, ShardState, find_in_doubt, is_held, named}
 use Rattle.decisions.specs.Values.{IsIntent}
-use Rattle.shard.specs.Own.{is_broken, is_busy, is_own, own_changes, own_conditions}
 use Rattle.shard.specs.Shards.{AreFree, HoldHere}
 
--- none that passes p passes q
-pub none_passes : {X : Type 0} (p q : X → Bool) (xs : List X) → list_any (λ x. p x && q x) xs ≡ false → All (λ x. q x ≡ false) (filter p xs)
-none_passes p q [] no_x = All-nil (λ x. q x ≡ false)
-none_passes p q (x ∷ xs) no_x =
-    let parts = or_parts (p x && q x) (list_any (λ y. p y && q y) xs) no_x in
-    let rest = none_passes p q xs parts.1 in
-    ⊎_elim
-    (λ (is : p x ≡ true). rw is (All-cons (λ y. q y ≡ false) x (filter p xs) (sym (ap (λ b. b && q x) is) ∙ parts.0) rest))
-    (λ (is : p x ≡ false). rw is rest)
-    (cases_Bool (p x))
+-- where none passes, all fail
+pub none_passes : {X : Type 0} (p : X → Bool) (xs : List X) → list_any p xs ≡ false → All (λ x. p x ≡ false) xs
+none_passes p [] no_x = All-nil (λ x. p x ≡ false)
+none_passes p (x ∷ xs) no_x =
+    let parts = or_parts (p x) (list_any p xs) no_x in
+    All-cons (λ y. p y ≡ false) x xs parts.0 (none_passes p xs parts.1)
 
-pub one_passes : {X : Type 0} (p q : X → Bool) (xs : List X) → list_any (λ x. p x && q x) xs ≡ true → All (λ x. q x ≡ false) (filter p xs) → ⊥
-one_passes p q [] some none = absurd cc
-one_passes p q (x ∷ xs) some none = ⊎_elim
-    (λ (is : p x ≡ true).
-    let all : All (λ y. q y ≡ false) (x ∷ filter p xs) = rw is at none in
-    ⊎_elim
-    (λ (here : (p x && q x) ≡ true). both_ways (q x) (All-head (λ y. q y ≡ false) x (filter p xs) all) (sym (ap (λ b. b && q x) is) ∙ here))
-    (λ there. one_passes p q xs there (All-tail (λ y. q y ≡ false) x (filter p xs) all))
-    (or_cases (p x && q x) (list_any (λ y. p y && q y) xs) some))
-    (λ (is : p x ≡ false).
-    let all : All (λ y. q y ≡ false) (filter p xs) = rw is at none in
-    one_passes p q xs (ap (λ b. (b && q x) || list_any (λ y. p y && q y) xs) (sym is) ∙ some) all)
-    (cases_Bool (p x))
+all_pass : {X : Type 0} (p : X → Bool) (xs : List X) → list_all p xs ≡ true → All (λ x. p x ≡ true) xs
+all_pass p [] is = All-nil (λ x. p x ≡ true)
+all_pass p (x ∷ xs) is =
+    let parts = and_parts (p x) (list_all p xs) is in
+    All-cons (λ y. p y ≡ true) x xs parts.0 (all_pass p xs parts.1)
+
+passed : {X : Type 0} (p : X → Bool) (xs : List X) → All (λ x. p x ≡ true) xs → list_all p xs ≡ true
+passed p [] all = refl
+passed p (x ∷ xs) all = ap (λ b. b && list_all p xs) (All-head (λ y. p y ≡ true) x xs all) ∙ passed p xs (All-tail (λ y. p y ≡ true) x xs all)
 
 unmapped : {X Y : Type 0} (P : Y → Type 0) (f : X → Y) (xs : List X) → All P (map f xs) → All (λ x. P (f x)) xs
 unmapped P f [] all = All-nil (λ x. P (f x))
@@ -59,6 +52,46 @@ back : {X : Type 0} (P : X → Type 0) (xs ys : List X) → All P (xs ++ ys) →
 back P [] ys all = all
 back P (x ∷ xs) ys all = back P xs ys (All-tail P x (xs ++ ys) all)
 
+module _ (ws : List Entry) (w : Entry) where
+  abbrev pub changes_held : Bool
+  changes_held = list_any (λ (c : Change). is_held (tuple_of c) ws) w.changes
+
+  abbrev pub conditions_held : Bool
+  conditions_held = list_any (λ (c : Condition). is_held c.tuple ws) w.conditions
+
+  abbrev IsFree : Tuple → Type 0
+  IsFree t = is_held t ws ≡ false
+
+  free_tuples : changes_held ≡ false → conditions_held ≡ false → All IsFree (named w)
+  free_tuples no_change no_condition = All-append IsFree (changed w.changes) (conditioned w.conditions)
+      (All-map IsFree tuple_of w.changes (none_passes (λ (c : Change). is_held (tuple_of c) ws) w.changes no_change))
+      (All-map IsFree of_condition w.conditions (none_passes (λ (c : Condition). is_held c.tuple ws) w.conditions no_condition))
+
+  free_changes : All IsFree (named w) → changes_held ≡ false
+  free_changes free = list_any_none (λ (c : Change). is_held (tuple_of c) ws) w.changes (unmapped IsFree tuple_of w.changes (front IsFree (changed w.changes) (conditioned w.conditions) free))
+
+  free_conditions : All IsFree (named w) → conditions_held ≡ false
+  free_conditions free = list_any_none (λ (c : Condition). is_held c.tuple ws) w.conditions (unmapped IsFree of_condition w.conditions (back IsFree (changed w.changes) (conditioned w.conditions) free))
+
+-- the tests of a part decide whether it is free
+pub is_free_part : (m : ShardState) (w : Entry) → find_in_doubt w.id m.in_doubt ≡ None → changes_held m.in_doubt w ≡ false → conditions_held m.in_doubt w ≡ false → AreFree m w
+is_free_part m w new changes conditions = record { new = new; tuples = free_tuples m.in_doubt w changes conditions }
+
+pub free_has_new_id : (m : ShardState) (w p : Entry) → find_in_doubt w.id m.in_doubt ≡ Some p → AreFree m w → ⊥
+free_has_new_id m w p is free = let gone : Some p ≡ None = sym is ∙ free.new in absurd cc
+
+pub free_changes_of : (m : ShardState) (w : Entry) → AreFree m w → changes_held m.in_doubt w ≡ false
+free_changes_of m w free = free_changes m.in_doubt w free.tuples
+
+pub free_conditions_of : (m : ShardState) (w : Entry) → AreFree m w → conditions_held m.in_doubt w ≡ false
+free_conditions_of m w free = free_conditions m.in_doubt w free.tuples
+
+-- the test of conditions decides whether they hold
+pub hold_decided : (m : ShardState) (cs : List Condition) (result : Bool) → result ≡ list_all (λ (c : Condition). meets_want c.want (last_version m.rows c.tuple) (there_at m.rows m.learned c.tuple)) cs → IsTrue result ↔ HoldHere m cs
+hold_decided m cs result is =
+    let meets : Condition → Bool = λ c. meets_want c.want (last_version m.rows c.tuple) (there_at m.rows m.learned c.tuple) in
+    (λ yes. all_pass meets cs (sym is ∙ yes), λ hold. is ∙ passed meets cs hold)
+
 passing : {X : Type 0} (p : X → Bool) (xs : List X) → All (λ x. p x ≡ true) (filter p xs)
 passing p [] = All-nil (λ x. p x ≡ true)
 passing p (x ∷ xs) = ⊎_elim
@@ -66,59 +99,16 @@ passing p (x ∷ xs) = ⊎_elim
     (λ (is : p x ≡ false). rw is (passing p xs))
     (cases_Bool (p x))
 
-module _ (shards s : ℕ) (ws : List Entry) (w : Entry) where
-  abbrev pub changes_busy : Bool
-  changes_busy = list_any (λ (c : Change). is_busy shards s ws (tuple_of c)) w.changes
-
-  abbrev pub conditions_busy : Bool
-  conditions_busy = list_any (λ (c : Condition). is_busy shards s ws c.tuple) w.conditions
-
-  abbrev IsFree : Tuple → Type 0
-  IsFree t = is_held t ws ≡ false
-
-  pub free_tuples : (changes_busy || conditions_busy) ≡ false → All IsFree (named (part shards s w))
-  unfolding part
-  free_tuples none =
-      let parts = or_parts changes_busy conditions_busy none in
-      All-append IsFree (changed (own_changes shards s w.changes)) (conditioned (own_conditions shards s w.conditions))
-      (All-map IsFree tuple_of (own_changes shards s w.changes) (none_passes (λ (c : Change). is_own shards s (tuple_of c)) (λ (c : Change). is_held (tuple_of c) ws) w.changes parts.0))
-      (All-map IsFree of_condition (own_conditions shards s w.conditions) (none_passes (λ (c : Condition). is_own shards s c.tuple) (λ (c : Condition). is_held c.tuple ws) w.conditions parts.1))
-
-  pub busy_tuple : (changes_busy || conditions_busy) ≡ true → All IsFree (named (part shards s w)) → ⊥
-  unfolding part
-  busy_tuple some free = ⊎_elim
-      (λ here. one_passes (λ (c : Change). is_own shards s (tuple_of c)) (λ (c : Change). is_held (tuple_of c) ws) w.changes here
-      (unmapped IsFree tuple_of (own_changes shards s w.changes) (front IsFree (changed (own_changes shards s w.changes)) (conditioned (own_conditions shards s w.conditions)) free)))
-      (λ here. one_passes (λ (c : Condition). is_own shards s c.tuple) (λ (c : Condition). is_held c.tuple ws) w.conditions here
-      (unmapped IsFree of_condition (own_conditions shards s w.conditions) (back IsFree (changed (own_changes shards s w.changes)) (conditioned (own_conditions shards s w.conditions)) free)))
-      (or_cases changes_busy conditions_busy some)
-
 abbrev IsOwn : ℕ → ℕ → Tuple → Type 0
 IsOwn shards s t = shard_of shards t.object ≡ s
 
 pub own_tuples : (shards s : ℕ) (w : Entry) → All (IsOwn shards s) (named (part shards s w))
 unfolding part
 own_tuples shards s w =
-    let own = λ (t : Tuple) (is : is_own shards s t ≡ true). eqb-true (shard_of shards t.object) s is in
+    let own = λ (t : Tuple) (is : is_of shards s t ≡ true). eqb-true (shard_of shards t.object) s is in
     All-append (IsOwn shards s) (changed (own_changes shards s w.changes)) (conditioned (own_conditions shards s w.conditions))
-    (All-map (IsOwn shards s) tuple_of (own_changes shards s w.changes) (All-weaker (λ (c : Change). is_own shards s (tuple_of c) ≡ true) (λ (c : Change). IsOwn shards s (tuple_of c)) (λ c. own (tuple_of c)) (own_changes shards s w.changes) (passing (λ (c : Change). is_own shards s (tuple_of c)) w.changes)))
-    (All-map (IsOwn shards s) of_condition (own_conditions shards s w.conditions) (All-weaker (λ (c : Condition). is_own shards s c.tuple ≡ true) (λ (c : Condition). IsOwn shards s c.tuple) (λ c. own c.tuple) (own_conditions shards s w.conditions) (passing (λ (c : Condition). is_own shards s c.tuple) w.conditions)))
-
-module _ (shards s : ℕ) (m : ShardState) (w : Entry) where
-  abbrev meets : Condition → Bool
-  meets c = meets_want c.want (last_version m.rows c.tuple) (there_at m.rows m.learned c.tuple)
-
-  pub conditions_hold : list_any (is_broken shards s m) w.conditions ≡ false → HoldHere m (part shards s w).conditions
-  unfolding part
-  conditions_hold none =
-      All-weaker (λ (c : Condition). not (meets c) ≡ false) (λ (c : Condition). meets c ≡ true) (λ c is. not-false (meets c) is) (own_conditions shards s w.conditions)
-      (none_passes (λ (c : Condition). is_own shards s c.tuple) (λ (c : Condition). not (meets c)) w.conditions none)
-
-  pub condition_broken : list_any (is_broken shards s m) w.conditions ≡ true → HoldHere m (part shards s w).conditions → ⊥
-  unfolding part
-  condition_broken some hold =
-      one_passes (λ (c : Condition). is_own shards s c.tuple) (λ (c : Condition). not (meets c)) w.conditions some
-      (All-weaker (λ (c : Condition). meets c ≡ true) (λ (c : Condition). not (meets c) ≡ false) (λ c is. not_from_true (meets c) is) (own_conditions shards s w.conditions) hold)
+    (All-map (IsOwn shards s) tuple_of (own_changes shards s w.changes) (All-weaker (λ (c : Change). is_of shards s (tuple_of c) ≡ true) (λ (c : Change). IsOwn shards s (tuple_of c)) (λ c. own (tuple_of c)) (own_changes shards s w.changes) (passing (λ (c : Change). is_of shards s (tuple_of c)) w.changes)))
+    (All-map (IsOwn shards s) of_condition (own_conditions shards s w.conditions) (All-weaker (λ (c : Condition). is_of shards s c.tuple ≡ true) (λ (c : Condition). IsOwn shards s c.tuple) (λ c. own c.tuple) (own_conditions shards s w.conditions) (passing (λ (c : Condition). is_of shards s c.tuple) w.conditions)))
 
 pub same_part_id : (shards s : ℕ) (w : Entry) → (part shards s w).id ≡ w.id
 unfolding part
@@ -133,15 +123,30 @@ some_part : (shards s : ℕ) (w : Entry) → takes_part shards s w ≡ true → 
 unfolding takes_part
 some_part shards s w is = some_kept (part shards s w).changes (part shards s w).conditions is
 
--- a shard's part of a begun write can be prepared
-pub part_prepared : (shards s : ℕ) (w : Entry) → IsIntent w → takes_part shards s w ≡ true → ConditionsFit (part shards s w).conditions → IsPrepared (part shards s w)
-unfolding part
-part_prepared shards s w intent takes fit = record {
-  id = intent.id.begun;
-  part = part_is_part shards s w intent.whole.part;
-  some = some_part shards s w takes;
-  wants = fit;
-}
+want_fits : (want : Want) → AsksOfLog want → WantFits want
+want_fits (NotAfter place) asks = omega (arith, asks)
+want_fits Exists asks = tt
+want_fits Absent asks = tt
+
+-- places of a log are numbers of 64 bits
+fit : (cs : List Condition) → AskOfLog cs → ConditionsFit cs
+fit [] asks = tt
+fit (c ∷ cs) asks = (want_fits c.want (All-head (λ (d : Condition). AsksOfLog d.want) c cs asks), fit cs (All-tail (λ (d : Condition). AsksOfLog d.want) c cs asks))
+
+module _ (shards s : ℕ) (w : Entry) (intent : IsIntent w) where
+  places_of : AskOfLog (part shards s w).conditions
+  unfolding part
+  places_of = All-filter (λ (c : Condition). is_of shards s c.tuple) (λ (c : Condition). AsksOfLog c.want) w.conditions intent.places
+
+  -- a shard's part of a begun write can be prepared
+  pub part_prepared : takes_part shards s w ≡ true → IsPrepared (part shards s w)
+  unfolding part
+  part_prepared takes = record {
+    id = intent.id.begun;
+    part = part_is_part shards s w intent.whole.part;
+    some = some_part shards s w takes;
+    wants = fit (part shards s w).conditions places_of;
+  }
 
 -- and may come next where it is free
 pub part_may_come : (me : Identity) (m : ShardState) (w : Entry) → 1 ≤ m.epoch → IsIntent w → AreFree m (part me.shards me.node w) → MayPrepare me m (part me.shards me.node w)
@@ -155,15 +160,8 @@ part_may_come me m w opened intent free = record {
   epoch = intent.id.epoch;
   some_number = intent.id.begun.number;
   number = intent.id.number;
+  places = places_of me.shards me.node w intent;
 }
-
-pub free_part : (shards s : ℕ) (m : ShardState) (w : Entry) → find_in_doubt w.id m.in_doubt ≡ None → (changes_busy shards s m.in_doubt w || conditions_busy shards s m.in_doubt w) ≡ false → AreFree m (part shards s w)
-unfolding part
-free_part shards s m w new none = record { new = new; tuples = free_tuples shards s m.in_doubt w none }
-
-pub taken_id : (shards s : ℕ) (m : ShardState) (w p : Entry) → find_in_doubt w.id m.in_doubt ≡ Some p → AreFree m (part shards s w) → ⊥
-unfolding part
-taken_id shards s m w p is free = let gone : Some p ≡ None = sym is ∙ free.new in absurd cc
 
 pub some_looked_up : (id : WriteId) (ws : List Entry) (o : Option (Bor Entry)) → MatchOption o (find_in_doubt id ws ≡ None) (λ w. find_in_doubt id ws ≡ Some w.now) → is_some o ≡ true → (p : Entry) × (find_in_doubt id ws ≡ Some p)
 some_looked_up id ws None is some = absurd cc
@@ -173,44 +171,21 @@ pub none_looked_up : (id : WriteId) (ws : List Entry) (o : Option (Bor Entry)) �
 none_looked_up id ws None is none = is
 none_looked_up id ws (Some w) is none = absurd cc
 
-some_pass : {X : Type 0} (p : X → Bool) (xs : List X) → not (length (filter p xs) == 0) ≡ list_any p xs
-some_pass p [] = refl
-some_pass p (x ∷ xs) = ⊎_elim
-    (λ (is : p x ≡ true). rw is (ap not (ne_eqb (length (x ∷ filter p xs)) 0 (λ none. omega (arith, none)))))
-    (λ (is : p x ≡ false). rw is (some_pass p xs))
-    (cases_Bool (p x))
+not_empty : {X : Type 0} (x : X) (xs : List X) → (length (x ∷ xs) == 0) ≡ false
+not_empty x xs = ne_eqb (length (x ∷ xs)) 0 (λ none. omega (arith, none))
 
-module _ (shards s : ℕ) (w : Entry) where
-  abbrev changes_own : Bool
-  changes_own = list_any (λ (c : Change). is_own shards s (tuple_of c)) w.changes
+both_empty : {X Y : Type 0} (xs : List X) (ys : List Y) (none : Bool) → IsTrue none ↔ ((xs ≡ []) × (ys ≡ [])) → not none ≡ (not (length xs == 0) || not (length ys == 0))
+both_empty [] [] none is = ap not (is.1 (refl, refl))
+both_empty [] (y ∷ ys) none is = ⊎_elim
+    (λ (yes : none ≡ true). let e : (y ∷ ys) ≡ [] = (is.0 yes).1 in absurd cc)
+    (λ (no : none ≡ false). ap not no ∙ sym (ap not (not_empty y ys)))
+    (cases_Bool none)
+both_empty (x ∷ xs) ys none is = ⊎_elim
+    (λ (yes : none ≡ true). let e : (x ∷ xs) ≡ [] = (is.0 yes).0 in absurd cc)
+    (λ (no : none ≡ false). ap not no ∙ sym (ap (λ b. not b || not (length ys == 0)) (not_empty x xs)))
+    (cases_Bool none)
 
-  abbrev conditions_own : Bool
-  conditions_own = list_any (λ (c : Condition). is_own shards s c.tuple) w.conditions
-
-  takes_is : takes_part shards s w ≡ (changes_own || conditions_own)
-  unfolding takes_part part
-  takes_is =
-      ap (λ b. b || not (length (own_conditions shards s w.conditions) == 0)) (some_pass (λ (c : Change). is_own shards s (tuple_of c)) w.changes)
-      ∙ ap (λ b. changes_own || b) (some_pass (λ (c : Condition). is_own shards s c.tuple) w.conditions)
-
-  pub takes_by_change : changes_own ≡ true → takes_part shards s w ≡ true
-  takes_by_change is = takes_is ∙ ap (λ b. b || conditions_own) is
-
-  pub takes_by_condition : changes_own ≡ false → takes_part shards s w ≡ conditions_own
-  takes_by_condition is = takes_is ∙ ap (λ b. b || conditions_own) is
-
-entry_is : (e f : Entry) → e.id ≡ f.id → e.changes ≡ f.changes → e.conditions ≡ f.conditions → e ≡ f
-entry_is e f ids changes conditions =
-    let entry : WriteId → List Change → List Condition → Entry = λ i x y. record { id = i; changes = x; conditions = y } in
-    ap (λ (i : WriteId). entry i e.changes e.conditions) ids ∙ ap (λ (x : List Change). entry f.id x e.conditions) changes ∙ ap (λ (y : List Condition). entry f.id f.changes y) conditions
-
-module _ (shards s : ℕ) (ws : List Entry) (w k : Entry) (there : find_in_doubt w.id ws ≡ Some k) where
-  pub is_own_part : k.changes ≡ own_changes shards s w.changes → k.conditions ≡ own_conditions shards s w.conditions → find_in_doubt w.id ws ≡ Some (part shards s w)
-  unfolding part
-  is_own_part changes conditions = there ∙ ap (λ (e : Entry). Some e) (entry_is k (part shards s w) (found_id w.id ws k there) changes conditions)
-
-  pub parts_own : find_in_doubt w.id ws ≡ Some (part shards s w) → (k.changes ≡ own_changes shards s w.changes) × (k.conditions ≡ own_conditions shards s w.conditions)
-  unfolding part
-  parts_own is =
-      let same : k ≡ part shards s w = (let e : Some k ≡ Some (part shards s w) = sym there ∙ is in cc) in
-      (ap (λ (e : Entry). e.changes) same, ap (λ (e : Entry). e.conditions) same)
+-- a shard takes part where its part is not empty
+pub taken_part : (shards s : ℕ) (w : Entry) (none : Bool) → IsTrue none ↔ (((part shards s w).changes ≡ []) × ((part shards s w).conditions ≡ [])) → not none ≡ takes_part shards s w
+unfolding takes_part
+taken_part shards s w none is = both_empty (part shards s w).changes (part shards s w).conditions none is

@@ -7,10 +7,10 @@ use Rattle.std.proofs.lemmas.List.Elements.{Contains-append_right}
 use Rattle.tuples.specs.declared.entry.Entry.{Entry}
 use Rattle.tuples.specs.declared.entry.WriteId.{WriteId}
 use Rattle.tuples.specs.Log.{same_id}
-use Rattle.records.specs.declared.record.Part.{Part}
+use Rattle.records.specs.declared.record.PlacedId.{PlacedId}
 use Rattle.records.specs.declared.record.Record.{Record}
 use Rattle.records.specs.declared.record.Record.TheVariants.{Prepare, Learned, Dropped, Epoch, Decision, Horizon}
-use Rattle.records.specs.Replays.{ShardState, empty_shard, find_in_doubt, shard_from, shard_state, shard_step, without, without_parts}
+use Rattle.records.specs.Replays.{ShardState, empty_shard, find_in_doubt, shard_from, shard_state, shard_step, without, without_placed_ids}
 use Rattle.replay.proofs.Doubts.{cases_id, find_push, find_without_other, find_without_same, same_id_refl, same_id_true}
 use Rattle.replay.proofs.States.{shard_from-append}
 use Rattle.device.specs.Device.{State, left}
@@ -28,9 +28,9 @@ still_without id other ws p is = ⊎_elim
     (λ ne. sym (find_without_other id other ws ne) ∙ is)
     (cases_id id other)
 
-pub still_parts : (id : WriteId) (parts : List Part) (ws : List Entry) (p : Entry) → find_in_doubt id (without_parts parts ws) ≡ Some p → find_in_doubt id ws ≡ Some p
-still_parts id [] ws p is = is
-still_parts id (q ∷ parts) ws p is = still_without id q.id ws p (still_parts id parts (without q.id ws) p is)
+pub still_placed_ids : (id : WriteId) (placed_ids : List PlacedId) (ws : List Entry) (p : Entry) → find_in_doubt id (without_placed_ids placed_ids ws) ≡ Some p → find_in_doubt id ws ≡ Some p
+still_placed_ids id [] ws p is = is
+still_placed_ids id (q ∷ placed_ids) ws p is = still_without id q.id ws p (still_placed_ids id placed_ids (without q.id ws) p is)
 
 -- what is in doubt and not prepared by these records was in doubt before them
 still : (s : ShardState) (id : WriteId) (rs : List Record) (p : Entry) → has_id id (prepared_ids rs) ≡ false → find_in_doubt id (shard_from s rs).in_doubt ≡ Some p → find_in_doubt id s.in_doubt ≡ Some p
@@ -40,7 +40,7 @@ still s id (Prepare w ∷ rs) p none is =
     let parts = or_parts (same_id w.id id) (has_id id (prepared_ids rs)) none in
     let ne : w.id ≡ id → ⊥ = λ same. both_ways (same_id w.id id) parts.0 (ap (λ (i : WriteId). same_id w.id i) (sym same) ∙ same_id_refl w.id) in
     sym (find_push id s.in_doubt w ne) ∙ still (shard_step s (Prepare w)) id rs p parts.1 is
-still s id (Learned to parts ∷ rs) p none is = still_parts id parts s.in_doubt p (still (shard_step s (Learned to parts)) id rs p none is)
+still s id (Learned to placed_ids ∷ rs) p none is = still_placed_ids id placed_ids s.in_doubt p (still (shard_step s (Learned to placed_ids)) id rs p none is)
 still s id (Dropped other ∷ rs) p none is = still_without id other s.in_doubt p (still (shard_step s (Dropped other)) id rs p none is)
 still s id (Epoch epoch store shards node ∷ rs) p none is = still (shard_step s (Epoch epoch store shards node)) id rs p none is
 still s id (Decision place w ∷ rs) p none is = still (shard_step s (Decision place w)) id rs p none is
@@ -63,7 +63,7 @@ waiting (Prepare w ∷ rs) id has = ⊎_elim
     (λ here. (w, same_id_true w.id id here, (0, omega arith, refl)))
     (λ there. later_one (Prepare w) rs id (waiting rs id there))
     (or_cases (same_id w.id id) (has_id id (prepared_ids rs)) has)
-waiting (Learned to parts ∷ rs) id has = later_one (Learned to parts) rs id (waiting rs id has)
+waiting (Learned to placed_ids ∷ rs) id has = later_one (Learned to placed_ids) rs id (waiting rs id has)
 waiting (Dropped other ∷ rs) id has = later_one (Dropped other) rs id (waiting rs id has)
 waiting (Epoch epoch store shards node ∷ rs) id has = later_one (Epoch epoch store shards node) rs id (waiting rs id has)
 waiting (Decision place w ∷ rs) id has = later_one (Decision place w) rs id (waiting rs id has)

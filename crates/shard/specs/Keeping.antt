@@ -3,9 +3,11 @@ use Rattle.std.specs.Prelude.{◌≡◌, ◌⊎◌, ◌≤◌, ◌<◌, ℕ, fal
 use Rattle.tuples.specs.declared.entry.WriteId.{WriteId}
 use Rattle.records.specs.declared.record.Record.{Record}
 use Rattle.records.specs.declared.record.Record.TheVariants.{Prepare, Learned, Dropped, Epoch, Decision, Horizon}
+use Rattle.records.specs.Identity.{max_shards}
 use Rattle.records.specs.Replays.{Identity, IsShardImage, ShardState, shard_state}
 use Rattle.replay.specs.Alike.{IsAlike}
 use Rattle.device.specs.Device.{State}
+use Rattle.decisions.specs.Values.{NamesNode}
 use Rattle.journal.specs.Records.{HasRecords, View, found}
 use Rattle.shard.specs.Shards.{opening}
 
@@ -13,7 +15,7 @@ use Rattle.shard.specs.Shards.{opening}
 abbrev pub prepared_ids : List Record → List WriteId
 prepared_ids [] = []
 prepared_ids (Prepare w ∷ rs) = w.id ∷ prepared_ids rs
-prepared_ids (Learned to parts ∷ rs) = prepared_ids rs
+prepared_ids (Learned to placed_ids ∷ rs) = prepared_ids rs
 prepared_ids (Dropped id ∷ rs) = prepared_ids rs
 prepared_ids (Epoch epoch store shards node ∷ rs) = prepared_ids rs
 prepared_ids (Decision place w ∷ rs) = prepared_ids rs
@@ -32,12 +34,13 @@ pub record IsKept {D : Type 0} (state : D → State) (honest : D → Type 0) (jo
   pub image : IsShardImage me rs
   pub opened : 1 ≤ memory.epoch
   pub some : 1 ≤ me.shards
-  pub few : me.shards ≤ 64
+  pub few : me.shards ≤ max_shards
   pub node : me.node < me.shards
   pub backed : journal.is_down ≡ false → honest journal.a → honest journal.b → IsBacked state journal rs
+  pub named : journal.is_down ≡ false → honest journal.a → honest journal.b → NamesNode journal.durable me.node
   pub unflushed_are : journal.is_down ≡ false → unflushed ≡ prepared_ids journal.staged
   pub settled_is : journal.is_down ≡ false → honest journal.a → honest journal.b → settled ≡ (shard_state journal.durable).learned
 
--- the contents hold the records that were found, or those of a shard with one opening more
-abbrev pub HeldOrOpened : Identity → List Record → List ℕ → List ℕ → Type 0
-HeldOrOpened me rs x y = (found x y ≡ Some rs) ⊎ (IsShardImage me (rs ++ opening me rs ∷ []) × (found x y ≡ Some (rs ++ opening me rs ∷ [])))
+-- the contents have the records that were found, or those of a shard with one opening more
+abbrev pub HasFoundOrOpened : Identity → List Record → List ℕ → List ℕ → Type 0
+HasFoundOrOpened me rs x y = (found x y ≡ Some rs) ⊎ (IsShardImage me (rs ++ opening me rs ∷ []) × (found x y ≡ Some (rs ++ opening me rs ∷ [])))

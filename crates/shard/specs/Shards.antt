@@ -1,5 +1,5 @@
 -- What a shard is, as its callers see it.
-use Rattle.std.specs.Prelude.{◌≡◌, ◌⊎◌, ◌<◌, ◌+◌, ◌-◌, ℕ, Bool, true, false, List, [], ◌∷◌, ◌++◌, length, drop, Some, None, if◌then◌else◌, All, Contains, slice_get, map}
+use Rattle.std.specs.Prelude.{◌≡◌, ◌⊎◌, ◌<◌, ◌+◌, ◌-◌, ℕ, Bool, true, false, List, [], ◌∷◌, ◌++◌, length, drop, Some, None, if◌then◌else◌, All, Contains, slice_get}
 use Rattle.tuples.specs.declared.tuple.Tuple.{Tuple}
 use Rattle.tuples.specs.declared.change.Condition.{Condition}
 use Rattle.tuples.specs.declared.change.Want.{Want}
@@ -9,18 +9,19 @@ use Rattle.tuples.specs.declared.entry.WriteId.{WriteId}
 use Rattle.tuples.specs.Log.{meets_want}
 use Rattle.tuples.specs.Parts.{part, takes_part}
 use Rattle.tuples.specs.Versions.{there_at, last_version}
-use Rattle.records.specs.declared.record.Part.{Part}
+use Rattle.records.specs.declared.record.PlacedId.{PlacedId}
 use Rattle.records.specs.declared.record.Record.{Record}
 use Rattle.records.specs.declared.record.Record.TheVariants.{Learned, Epoch}
 use Rattle.records.specs.Replays.{Identity, ShardState, IsShardImage, shard_state, find_in_doubt, is_held, named}
 pub use Rattle.holds.specs.Holds.{AreAscendingIds, ids}
 use Rattle.device.specs.Device.{State, left}
-use Rattle.journal.specs.Records.{Finds, HasRecords, View, WasLeftOrFound, found}
+use Rattle.journal.specs.Records.{Finds, HasRecords, IsOpened, LacksRoom, View, WasLeftOrFound, found}
 
--- a shard over two devices: what is durable, what is staged, whether a device failed since the opening, and which shard it is
+-- a shard over two devices: where its list ends on bank a, what is durable, what is staged, whether a flush failed since the opening, and which shard it is
 pub record ShardView (D : Type 0) : Type 0 where
   pub a : D
   pub b : D
+  pub end : ℕ
   pub durable : List Record
   pub staged : List Record
   pub is_down : Bool
@@ -32,7 +33,7 @@ memory v = shard_state (v.durable ++ v.staged)
 
 -- the shard's journal
 abbrev pub journal_of : {D : Type 0} → ShardView D → View D
-journal_of v = record { a = v.a; b = v.b; durable = v.durable; staged = v.staged; is_down = v.is_down }
+journal_of v = record { a = v.a; b = v.b; end = v.end; durable = v.durable; staged = v.staged; is_down = v.is_down }
 
 -- up, over honest devices, each stop leaving the durable records, which with the staged ones are those of this shard
 pub record IsUp {D : Type 0} (state : D → State) (honest : D → Type 0) (v : ShardView D) : Type 0 where
@@ -92,13 +93,20 @@ pub record IsPreparable (s : ShardState) (w : Entry) : Type 0 where
 abbrev pub opening : Identity → List Record → Record
 opening me rs = Epoch ((shard_state rs).epoch + 1) me.store me.shards me.node
 
--- a shard was opened over devices that held these records: they are a shard's, and one opening more is durable
+-- a shard was opened over devices that had these records: they are a shard's, and one opening more is durable
 pub record IsOpenedShard {D : Type 0} (state : D → State) (honest : D → Type 0) (a b : D) (me : Identity) (new : ShardView D) : Type 0 where
   pub rs : List Record
   pub was : found (state a).seen (state b).seen ≡ Some rs
   pub image : IsShardImage me rs
   pub durable : new.durable ≡ rs ++ opening me rs ∷ []
   pub up : IsUp state honest new
+
+-- a journal that was opened over these devices has no room for the record of an opening
+pub record LacksRoomToOpen {D : Type 0} (state : D → State) (honest : D → Type 0) (a b : D) (me : Identity) : Type 0 where
+  pub rs : List Record
+  pub journal : View D
+  pub found : honest a → honest b → IsOpened state a b rs journal
+  pub lacks : LacksRoom state honest journal.a journal.end (opening me rs ∷ [])
 
 -- at a moment of an opening the contents could be left before it, or hold what was found, or the records found with the opening's
 abbrev pub WasLeftOrOpened : Identity → State → State → List ℕ → List ℕ → Type 0
@@ -113,14 +121,14 @@ IsDurable state v id p = (rs : List Record) → Finds (left (state v.a)) (left (
 abbrev pub unlearned : ShardState → ℕ → List Entry → List Entry
 unlearned s from writes = drop (s.learned - from) writes
 
--- the parts of these writes, the first of them at this place
-abbrev pub parts_from : ℕ → ℕ → ℕ → List Entry → List Part
-parts_from shards s place [] = []
-parts_from shards s place (w ∷ log) = if takes_part shards s w then record { id = w.id; place = place } ∷ parts_from shards s (place + 1) log else parts_from shards s (place + 1) log
+-- the placed ids of these writes, the first of them at this place
+abbrev pub placed_ids_from : ℕ → ℕ → ℕ → List Entry → List PlacedId
+placed_ids_from shards s place [] = []
+placed_ids_from shards s place (w ∷ log) = if takes_part shards s w then record { id = w.id; place = place } ∷ placed_ids_from shards s (place + 1) log else placed_ids_from shards s (place + 1) log
 
 -- the record of learning them
 abbrev pub learning : Identity → ShardState → ℕ → List Entry → Record
-learning me s from writes = Learned (from + length writes) (parts_from me.shards me.node (s.learned + 1) (unlearned s from writes))
+learning me s from writes = Learned (from + length writes) (placed_ids_from me.shards me.node (s.learned + 1) (unlearned s from writes))
 
 -- each of these writes is in doubt at the shard with exactly its part, where it has one
 abbrev pub ArePreparedHere : Identity → ShardState → List Entry → Type 0
@@ -130,3 +138,8 @@ ArePreparedHere me s writes = (j : ℕ) (w : Entry) → slice_get writes j ≡ S
 -- no two of these writes have one id
 abbrev pub AreNewIds : List Entry → Type 0
 AreNewIds writes = (i j : ℕ) (v w : Entry) → slice_get writes i ≡ Some v → slice_get writes j ≡ Some w → v.id ≡ w.id → i ≡ j
+
+-- no two of these writes have one id, and each is in doubt at the shard with exactly its part
+pub record AreLearnable (me : Identity) (s : ShardState) (writes : List Entry) : Type 0 where
+  pub new : AreNewIds writes
+  pub prepared : ArePreparedHere me s writes

@@ -20,6 +20,7 @@ impl<D: Device> Shard<D> {
         ensures full { IsUp D.state D.honest self.old → IsErrOf result Refusal.Full
             ↔ (((memory_of self.old).horizon < heads.now.horizon) × (heads.now.horizon ≤ (memory_of self.old).learned) × HasNoRoom self.old.staged (horizon_record heads.now.horizon)) }
         ensures down { IsErrOf result Refusal.Down ↔ (self.old.is_down ≡ true) }
+        ensures kept { self.new ≡ record self.old { staged = self.new.staged } }
         ensures err { IfErr result (λ e. (self.new ≡ self.old) × ((e ≡ Refusal.Down) ⊎ (e ≡ Refusal.Full))) }
     {
         if self.journal.is_down() {

@@ -27,6 +27,7 @@ impl<D: Device> Shard<D> {
         ensures not_here { IsUp D.state D.honest self.old → find_in_doubt verdict.now.id (memory_of self.old).in_doubt ≡ None → self.new ≡ self.old }
         ensures full { IsUp D.state D.honest self.old → HasNoRoom self.old.staged (dropped_record verdict.now.id) → self.new ≡ self.old }
         ensures down { IsErr result ↔ (self.old.is_down ≡ true) }
+        ensures kept { self.new ≡ record self.old { staged = self.new.staged } }
         ensures err { IfErr result (λ e. (e ≡ Refusal.Down) × (self.new ≡ self.old)) }
     {
         spend(held);

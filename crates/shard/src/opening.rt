@@ -1,62 +1,47 @@
 // Opening a shard: its records are replayed, and one opening more is made durable.
-ghost use Rattle.std.specs.Prelude.{◌≡◌, ◌⊎◌, ◌↔◌, ◌≤◌, ◌<◌, ◌+◌, ◌++◌, ◌∷◌, [], List, Some, true, false, OnOk, IfOk, IfErr, IsErr, IsErrOf, MatchResult};
-ghost use Rattle.device.specs.Device.{left};
-ghost use Rattle.journal.specs.Records.{HasRecords, HoldsOldOrNew, LeavesBoth, found};
+ghost use Rattle.std.specs.Prelude.{◌≡◌, ◌⊎◌, ◌↔◌, ◌≤◌, ◌<◌, ◌+◌, ◌++◌, ◌∷◌, [], List, Some, true, false, OnOk, OnErr, IfOk, IfErr, IsErr, IsErrOf, MatchResult};
+ghost use Rattle.device.specs.Device.{HasFailed, left};
+ghost use Rattle.journal.specs.Records.{HasOldOrNew, HasRecords, LacksRoom, LeavesBoth, found};
 ghost use Rattle.records.specs.declared.record.Record.{Record as AnyRecord};
 ghost use Rattle.records.specs.declared.record.Record.TheVariants.{Epoch as epoch_record};
+ghost use Rattle.records.specs.Identity.{IsIdentity};
 ghost use Rattle.records.specs.Replays.{IsShardImage, greatest_number, shard_state};
 ghost use Rattle.replay.specs.Alike.{IsAlike};
-ghost use Rattle.shard.specs.Keeping.{HeldOrOpened};
-ghost use Rattle.shard.specs.Shards.{IsOpenedShard, IsUp, WasLeftOrOpened, opening};
+ghost use Rattle.shard.specs.Keeping.{HasFoundOrOpened};
+ghost use Rattle.shard.specs.Shards.{IsOpenedShard, IsUp, LacksRoomToOpen, WasLeftOrOpened, opening};
 
 use crate::Shard;
 use crate::preparing::stage_fitting;
 use device::Device;
 use journal::{Journal, Refused};
-use records::Record;
+use records::{Identity, Record};
 use replay::Memory;
 use std::alloc::Global;
 use tuples::{MAX_NUMBER, Refusal};
 
 // What the records of the shard stand for; `Damaged` where they are not those of this shard.
-fn replayed(
-    alloc: Global,
-    store: u64,
-    shards: u8,
-    node: u8,
-    records: Vec<Record>,
-) -> Result<Memory, Refusal>
-    requires some { 1 ≤ shards }
-    requires few { shards ≤ 64 }
+fn replayed(alloc: Global, me: Identity, records: Vec<Record>) -> Result<Memory, Refusal>
     ensures memory { IfOk result (λ m. IsAlike m (shard_state records.items)) }
-    ensures image { OnOk result (IsShardImage (record { store = store; shards = shards; node = node }) records.items) }
-    ensures damaged { IsErrOf result Refusal.Damaged → IsShardImage (record { store = store; shards = shards; node = node }) records.items → ⊥ }
+    ensures image { OnOk result (IsShardImage me records.items) }
+    ensures damaged { IsErrOf result Refusal.Damaged → IsShardImage me records.items → ⊥ }
     ensures err { IfErr result (λ e. (e ≡ Refusal.Damaged) ⊎ (e ≡ Refusal.NoMemory)) }
 {
     let mut memory = Memory::new(alloc);
     for record in records {
-        memory.replay(alloc, store, shards, node, record)?;
+        memory.replay(alloc, me, record)?;
     }
     Ok(memory)
 }
 
 // As `replayed`, and `Full` after the last epoch.
-fn restored(
-    alloc: Global,
-    store: u64,
-    shards: u8,
-    node: u8,
-    records: Vec<Record>,
-) -> Result<Memory, Refusal>
-    requires some { 1 ≤ shards }
-    requires few { shards ≤ 64 }
+fn restored(alloc: Global, me: Identity, records: Vec<Record>) -> Result<Memory, Refusal>
     ensures memory { IfOk result (λ m. IsAlike m (shard_state records.items) × (m.epoch < greatest_number)) }
-    ensures image { OnOk result (IsShardImage (record { store = store; shards = shards; node = node }) records.items) }
-    ensures damaged { IsErrOf result Refusal.Damaged → IsShardImage (record { store = store; shards = shards; node = node }) records.items → ⊥ }
-    ensures full { IsErrOf result Refusal.Full → (shard_state records.items).epoch ≡ greatest_number }
+    ensures image { OnOk result (IsShardImage me records.items) }
+    ensures damaged { IsErrOf result Refusal.Damaged → IsShardImage me records.items → ⊥ }
+    ensures full { IsErrOf result Refusal.Full → IsShardImage me records.items × ((shard_state records.items).epoch ≡ greatest_number) }
     ensures err { IfErr result (λ e. (e ≡ Refusal.Damaged) ⊎ ((e ≡ Refusal.NoMemory) ⊎ (e ≡ Refusal.Full))) }
 {
-    let memory = replayed(alloc, store, shards, node, records)?;
+    let memory = replayed(alloc, me, records)?;
     if memory.epoch() >= MAX_NUMBER {
         return Err(Refusal::Full);
     }
@@ -64,30 +49,27 @@ fn restored(
 }
 
 // Makes one opening more durable.
-fn begin<D: Device>(
-    journal: &mut Journal<D>,
-    epoch: u64,
-    store: u64,
-    shards: u8,
-    node: u8,
-) -> Result<(), Refusal>
-    requires some { 1 ≤ shards }
-    requires few { shards ≤ 64 }
+fn begin<D: Device>(journal: &mut Journal<D>, epoch: u64, me: Identity) -> Result<(), Refusal>
     requires fresh { journal.old.staged ≡ [] }
     requires up { journal.old.is_down ≡ false }
+    ensures whole { IsIdentity me }
     ensures honest { (D.honest journal.old.a ↔ D.honest journal.new.a) × (D.honest journal.old.b ↔ D.honest journal.new.b) }
     ensures any_moment { D.honest journal.old.a → D.honest journal.old.b
-        → LeavesBoth D.moment D.left_since journal.old.a journal.old.b journal.new.a journal.new.b (HoldsOldOrNew journal.old.durable (epoch_record epoch store shards node ∷ [])) }
+        → LeavesBoth D.moment D.left_since journal.old.a journal.old.b journal.new.a journal.new.b (HasOldOrNew journal.old.durable (epoch_record epoch me.store me.shards me.node ∷ [])) }
     ensures ok { D.honest journal.old.a → D.honest journal.old.b
-        → OnOk result ((journal.new.durable ≡ journal.old.durable ++ epoch_record epoch store shards node ∷ []) × HasRecords (D.state journal.new.a) (D.state journal.new.b) journal.new.durable) }
+        → OnOk result ((journal.new.durable ≡ journal.old.durable ++ epoch_record epoch me.store me.shards me.node ∷ []) × HasRecords (D.state journal.new.a) (D.state journal.new.b) journal.new.durable) }
     ensures fresh { OnOk result ((journal.new.staged ≡ []) × (journal.new.is_down ≡ false)) }
+    ensures cause { OnErr result (HasFailed (D.state journal.old.a) (D.state journal.new.a) ⊎ (HasFailed (D.state journal.old.b) (D.state journal.new.b)
+        ⊎ LacksRoom D.state D.honest journal.old.a journal.old.end (epoch_record epoch me.store me.shards me.node ∷ []))) }
+    ensures counts { ((D.state journal.old.a).failures ≤ (D.state journal.new.a).failures) × ((D.state journal.old.b).failures ≤ (D.state journal.new.b).failures) }
+    ensures none { OnOk result (((D.state journal.new.a).failures ≡ (D.state journal.old.a).failures) × ((D.state journal.new.b).failures ≡ (D.state journal.old.b).failures)) }
     ensures err { IfErr result (λ e. e ≡ Refusal.Down) }
 {
     let next = Record::Epoch {
         epoch,
-        store,
-        shards,
-        node,
+        store: me.store(),
+        shards: me.shards(),
+        node: me.node(),
     };
     stage_fitting(journal, &next);
     journal.flush()?;
@@ -107,41 +89,41 @@ fn start<D: Device>(
     alloc: Global,
     mut journal: Journal<D>,
     records: Vec<Record>,
-    store: u64,
-    shards: u8,
-    node: u8,
+    me: Identity,
 ) -> Result<Shard<D>, Refused<D>>
-    requires some { 1 ≤ shards }
-    requires few { shards ≤ 64 }
-    requires node { node < shards }
+    requires node { me.node < me.shards }
     requires fresh { journal.staged ≡ [] }
     requires up { journal.is_down ≡ false }
     requires found { D.honest journal.a → D.honest journal.b → (journal.durable ≡ records.items) × HasRecords (D.state journal.a) (D.state journal.b) records.items }
     ensures honest { MatchResult result (λ s. (D.honest journal.a ↔ D.honest s.a) × (D.honest journal.b ↔ D.honest s.b)) (λ e. (D.honest journal.a ↔ D.honest e.a) × (D.honest journal.b ↔ D.honest e.b)) }
-    ensures ok { D.honest journal.a → D.honest journal.b → IfOk result (λ s. IsShardImage (record { store = store; shards = shards; node = node }) records.items
-        × (s.durable ≡ records.items ++ opening (record { store = store; shards = shards; node = node }) records.items ∷ []) × IsUp D.state D.honest s) }
-    ensures fresh { IfOk result (λ s. (s.staged ≡ []) × (s.is_down ≡ false) × (s.me ≡ record { store = store; shards = shards; node = node })) }
-    ensures damaged { IfErr result (λ e. e.refusal ≡ Refusal.Damaged → IsShardImage (record { store = store; shards = shards; node = node }) records.items → ⊥) }
-    ensures full { IfErr result (λ e. e.refusal ≡ Refusal.Full → (shard_state records.items).epoch ≡ greatest_number) }
+    ensures ok { D.honest journal.a → D.honest journal.b → IfOk result (λ s. IsShardImage me records.items
+        × (s.durable ≡ records.items ++ opening me records.items ∷ []) × IsUp D.state D.honest s) }
+    ensures fresh { IfOk result (λ s. (s.staged ≡ []) × (s.is_down ≡ false) × (s.me ≡ me)) }
+    ensures damaged { IfErr result (λ e. e.refusal ≡ Refusal.Damaged → IsShardImage me records.items → ⊥) }
+    ensures full { IfErr result (λ e. e.refusal ≡ Refusal.Full → IsShardImage me records.items × ((shard_state records.items).epoch ≡ greatest_number)) }
     ensures err { IfErr result (λ e. (e.refusal ≡ Refusal.Down) ⊎ ((e.refusal ≡ Refusal.NoMemory) ⊎ ((e.refusal ≡ Refusal.Full) ⊎ (e.refusal ≡ Refusal.Damaged)))) }
+    ensures down { IfErr result (λ e. e.refusal ≡ Refusal.Down → HasFailed (D.state journal.a) (D.state e.a) ⊎ (HasFailed (D.state journal.b) (D.state e.b)
+        ⊎ LacksRoom D.state D.honest journal.a journal.end (opening me records.items ∷ []))) }
+    ensures counts_a { MatchResult result (λ s. (D.state journal.a).failures ≤ (D.state s.a).failures) (λ e. (D.state journal.a).failures ≤ (D.state e.a).failures) }
+    ensures counts_b { MatchResult result (λ s. (D.state journal.b).failures ≤ (D.state s.b).failures) (λ e. (D.state journal.b).failures ≤ (D.state e.b).failures) }
+    ensures none { MatchResult result (λ s. ((D.state s.a).failures ≡ (D.state journal.a).failures) × ((D.state s.b).failures ≡ (D.state journal.b).failures))
+        (λ e. (e.refusal ≡ Refusal.Down) ⊎ (((D.state e.a).failures ≡ (D.state journal.a).failures) × ((D.state e.b).failures ≡ (D.state journal.b).failures))) }
     ensures any_moment { D.honest journal.a → D.honest journal.b → MatchResult result
-        (λ s. LeavesBoth D.moment D.left_since journal.a journal.b s.a s.b (HeldOrOpened (record { store = store; shards = shards; node = node }) records.items))
-        (λ e. LeavesBoth D.moment D.left_since journal.a journal.b e.a e.b (HeldOrOpened (record { store = store; shards = shards; node = node }) records.items)) }
+        (λ s. LeavesBoth D.moment D.left_since journal.a journal.b s.a s.b (HasFoundOrOpened me records.items))
+        (λ e. LeavesBoth D.moment D.left_since journal.a journal.b e.a e.b (HasFoundOrOpened me records.items)) }
 {
-    let mut memory = match restored(alloc, store, shards, node, records) {
+    let mut memory = match restored(alloc, me, records) {
         Ok(memory) => memory,
         Err(refusal) => return Err(refused(refusal, journal)),
     };
     let epoch = memory.epoch() + 1;
-    match begin(&mut journal, epoch, store, shards, node) {
+    match begin(&mut journal, epoch, me) {
         Ok(()) => {
             memory.open_epoch(epoch);
             let settled = memory.learned();
             Ok(Shard {
                 journal,
-                store,
-                shards,
-                node,
+                me,
                 memory,
                 unflushed: Vec::new(alloc),
                 settled,
@@ -152,39 +134,40 @@ fn start<D: Device>(
 }
 
 impl<D: Device> Shard<D> {
-    /// Opens shard `node`, counted from 0, of a store: replays its journal, and makes one `Epoch` record more durable.
+    /// Opens the shard with this identity: replays its journal, and makes one `Epoch` record more durable.
     ///
-    /// Each refusal gives the devices back: `Down` where a call of a device failed, `NoMemory`, `Full` after the last epoch, and
-    /// `Damaged` where the devices hold no records of this shard of this store.
-    pub fn open(
-        alloc: Global,
-        a: D,
-        b: D,
-        store: u64,
-        shards: u8,
-        node: u8,
-    ) -> Result<Shard<D>, Refused<D>>
-        requires some { 1 ≤ shards }
-        requires few { shards ≤ 64 }
-        requires node { node < shards }
+    /// Each refusal gives the devices back: `Down` where a call of a device failed, or bank a would grow past 2^40 bytes; `NoMemory`;
+    /// `Full` after the last epoch; `Damaged` where the devices have no records of this shard of this store.
+    pub fn open(alloc: Global, a: D, b: D, me: Identity) -> Result<Shard<D>, Refused<D>>
+        requires node { me.node < me.shards }
         ensures honest { MatchResult result (λ s. (D.honest a ↔ D.honest s.a) × (D.honest b ↔ D.honest s.b)) (λ e. (D.honest a ↔ D.honest e.a) × (D.honest b ↔ D.honest e.b)) }
-        ensures ok { D.honest a → D.honest b → IfOk result (λ s. IsOpenedShard D.state D.honest a b (record { store = store; shards = shards; node = node }) s) }
-        ensures fresh { IfOk result (λ s. (s.staged ≡ []) × (s.is_down ≡ false) × (s.me ≡ record { store = store; shards = shards; node = node })) }
+        ensures ok { D.honest a → D.honest b → IfOk result (λ s. IsOpenedShard D.state D.honest a b me s) }
+        ensures fresh { IfOk result (λ s. (s.staged ≡ []) × (s.is_down ≡ false) × (s.me ≡ me)) }
 
         // Damaged exactly where there are no records of this shard.
         ensures damaged { D.honest a → D.honest b → IfErr result (λ e. e.refusal ≡ Refusal.Damaged → (rs : List AnyRecord) → found (D.state a).seen (D.state b).seen ≡ Some rs
-            → IsShardImage (record { store = store; shards = shards; node = node }) rs → ⊥) }
-        ensures full { D.honest a → D.honest b → IfErr result (λ e. e.refusal ≡ Refusal.Full → (rs : List AnyRecord) → found (D.state a).seen (D.state b).seen ≡ Some rs → (shard_state rs).epoch ≡ greatest_number) }
+            → IsShardImage me rs → ⊥) }
+
+        // Full only where the records are this shard's, after its last epoch.
+        ensures full { D.honest a → D.honest b → IfErr result (λ e. e.refusal ≡ Refusal.Full → (rs : List AnyRecord) × (found (D.state a).seen (D.state b).seen ≡ Some rs)
+            × IsShardImage me rs × ((shard_state rs).epoch ≡ greatest_number)) }
         ensures err { IfErr result (λ e. (e.refusal ≡ Refusal.Down) ⊎ ((e.refusal ≡ Refusal.NoMemory) ⊎ ((e.refusal ≡ Refusal.Full) ⊎ (e.refusal ≡ Refusal.Damaged)))) }
+
+        // Down only where a device failed in this call, or bank a has no room.
+        ensures down { IfErr result (λ e. e.refusal ≡ Refusal.Down → HasFailed (D.state a) (D.state e.a) ⊎ (HasFailed (D.state b) (D.state e.b) ⊎ LacksRoomToOpen D.state D.honest a b me)) }
         ensures stopped { (D.state a).stopped ≡ true → IsErr result }
+        ensures counts_a { MatchResult result (λ s. (D.state a).failures ≤ (D.state s.a).failures) (λ e. (D.state a).failures ≤ (D.state e.a).failures) }
+        ensures counts_b { MatchResult result (λ s. (D.state b).failures ≤ (D.state s.b).failures) (λ e. (D.state b).failures ≤ (D.state e.b).failures) }
+        ensures none { MatchResult result (λ s. ((D.state s.a).failures ≡ (D.state a).failures) × ((D.state s.b).failures ≡ (D.state b).failures))
+            (λ e. (e.refusal ≡ Refusal.Down) ⊎ (((D.state e.a).failures ≡ (D.state a).failures) × ((D.state e.b).failures ≡ (D.state b).failures))) }
 
         // At every moment of the call a stop leaves what it could leave before, or the records found, with this opening's or without.
-        ensures any_moment { D.honest a → D.honest b → (D.state a).stopped ≡ false → MatchResult result
-            (λ s. LeavesBoth D.moment D.left_since a b s.a s.b (WasLeftOrOpened (record { store = store; shards = shards; node = node }) (D.state a) (D.state b)))
-            (λ e. LeavesBoth D.moment D.left_since a b e.a e.b (WasLeftOrOpened (record { store = store; shards = shards; node = node }) (D.state a) (D.state b))) }
+        ensures any_moment { D.honest a → D.honest b → MatchResult result
+            (λ s. LeavesBoth D.moment D.left_since a b s.a s.b (WasLeftOrOpened me (D.state a) (D.state b)))
+            (λ e. LeavesBoth D.moment D.left_since a b e.a e.b (WasLeftOrOpened me (D.state a) (D.state b))) }
     {
         match Journal::open(alloc, a, b) {
-            Ok((journal, records)) => start(alloc, journal, records, store, shards, node),
+            Ok((journal, records)) => start(alloc, journal, records, me),
             Err(refused) => Err(refused),
         }
     }

@@ -1,5 +1,5 @@
 // Preparing a write: its part is tested, staged and held in doubt.
-ghost use Rattle.std.specs.Prelude.{◌≡◌, ◌⊎◌, ◌≤◌, ◌↔◌, ◌++◌, ◌∷◌, [], true, OnOk, OnErr, IfOk, IfErr, IsErrOf};
+ghost use Rattle.std.specs.Prelude.{◌≡◌, ◌⊎◌, ◌≤◌, ◌↔◌, ◌++◌, ◌∷◌, [], true, false, OnOk, OnErr, IfOk, IfErr, IsErrOf};
 ghost use Rattle.decisions.specs.Values.{IsIntent};
 ghost use Rattle.holds.specs.Holds.{IsFree};
 ghost use Rattle.journal.specs.Records.{HasNoRoom};
@@ -10,11 +10,11 @@ ghost use Rattle.tuples.specs.Parts.{part, takes_part};
 ghost use Rattle.shard.specs.Shards.{AreFree, AskBelow, HoldHere, IsBroken, IsBusy, IsPreparable, IsUp, Stages, memory as memory_of, own_part as own_part_of};
 
 use crate::Shard;
-use crate::own::{own_part, test};
+use crate::own::{holds, is_collected, is_free, own_part};
 use decisions::{Intent, Ticket};
 use device::Device;
 use journal::Journal;
-use records::{Record, prepare_len};
+use records::{Identity, Record, prepare_len};
 use replay::Memory;
 use std::alloc::Global;
 use tuples::{Entry, Refusal, WriteId};
@@ -55,38 +55,49 @@ fn hold<D: Device>(
     Ok(())
 }
 
-// Stages the prepare of the shard's part of a write that it takes part in, and holds it in doubt: all of it or nothing.
+// Stages the prepare of the shard's part of a write that it takes part in, and holds it in doubt: all of it or nothing. Each cause is tested
+// for the whole part before the next, and memory is asked for last.
 fn prepare<D: Device>(
     journal: &mut Journal<D>,
     memory: &mut Memory,
     unflushed: &mut Vec<WriteId>,
     alloc: Global,
     write: &Entry,
-    shards: u8,
-    node: u8,
+    me: Identity,
 ) -> Result<(), Refusal>
-    requires some { 1 ≤ shards }
-    requires few { shards ≤ 64 }
     requires whole { IsIntent write.now }
-    requires part { takes_part shards node write.now ≡ true }
-    ensures staged { OnOk result (journal.new ≡ record journal.old { staged = journal.old.staged ++ prepare_record (part shards node write.now) ∷ [] }) }
-    ensures held { OnOk result (memory.new ≡ shard_step memory.old (prepare_record (part shards node write.now))) }
+    requires part { takes_part me.shards me.node write.now ≡ true }
+    ensures staged { OnOk result (journal.new ≡ record journal.old { staged = journal.old.staged ++ prepare_record (part me.shards me.node write.now) ∷ [] }) }
+    ensures held { OnOk result (memory.new ≡ shard_step memory.old (prepare_record (part me.shards me.node write.now))) }
     ensures waits { OnOk result (unflushed.new.items ≡ unflushed.old.items ++ write.now.id ∷ []) }
-    ensures ok { OnOk result (IsPreparable memory.old (part shards node write.now)) }
-    ensures collected { IsErrOf result Refusal.Collected ↔ AskBelow memory.old.horizon (part shards node write.now).conditions }
-    ensures busy { IsErrOf result Refusal.Busy ↔ IsBusy memory.old (part shards node write.now) }
-    ensures broken { IsErrOf result Refusal.Precondition ↔ IsBroken memory.old (part shards node write.now) }
-    ensures full { IsErrOf result Refusal.Full ↔ (IsPreparable memory.old (part shards node write.now) × HasNoRoom journal.old.staged (prepare_record (part shards node write.now))) }
-    ensures memory { IsErrOf result Refusal.NoMemory → IsPreparable memory.old (part shards node write.now) × (HasNoRoom journal.old.staged (prepare_record (part shards node write.now)) → ⊥) }
-    ensures err { IfErr result (λ e. ((e ≡ Refusal.Collected) ⊎ ((e ≡ Refusal.Busy) ⊎ ((e ≡ Refusal.Precondition) ⊎ ((e ≡ Refusal.Full) ⊎ (e ≡ Refusal.NoMemory))))) × (journal.new ≡ journal.old) × (memory.new ≡ memory.old) × (unflushed.new.items ≡ unflushed.old.items)) }
+    ensures up { OnOk result (journal.old.is_down ≡ false) }
+    ensures ok { OnOk result (IsPreparable memory.old (part me.shards me.node write.now)) }
+    ensures down { IsErrOf result Refusal.Down ↔ (journal.old.is_down ≡ true) }
+    ensures collected { journal.old.is_down ≡ false → IsErrOf result Refusal.Collected ↔ AskBelow memory.old.horizon (part me.shards me.node write.now).conditions }
+    ensures busy { journal.old.is_down ≡ false → IsErrOf result Refusal.Busy ↔ IsBusy memory.old (part me.shards me.node write.now) }
+    ensures broken { journal.old.is_down ≡ false → IsErrOf result Refusal.Precondition ↔ IsBroken memory.old (part me.shards me.node write.now) }
+    ensures full { journal.old.is_down ≡ false → IsErrOf result Refusal.Full ↔ (IsPreparable memory.old (part me.shards me.node write.now) × HasNoRoom journal.old.staged (prepare_record (part me.shards me.node write.now))) }
+    ensures memory { IsErrOf result Refusal.NoMemory → IsPreparable memory.old (part me.shards me.node write.now) × (HasNoRoom journal.old.staged (prepare_record (part me.shards me.node write.now)) → ⊥) }
+    ensures err { IfErr result (λ e. ((e ≡ Refusal.Down) ⊎ ((e ≡ Refusal.Collected) ⊎ ((e ≡ Refusal.Busy) ⊎ ((e ≡ Refusal.Precondition) ⊎ ((e ≡ Refusal.Full) ⊎ (e ≡ Refusal.NoMemory)))))) × (journal.new ≡ journal.old) × (memory.new ≡ memory.old) × (unflushed.new.items ≡ unflushed.old.items)) }
 {
-    test(memory, write, shards, node)?;
-    let bytes = prepare_len(write, shards, node);
-    if !journal.has_room_for(bytes) {
+    if journal.is_down() {
+        return Err(Refusal::Down);
+    }
+    let part = own_part(write, me);
+    if is_collected(memory, &part) {
+        return Err(Refusal::Collected);
+    }
+    if !is_free(memory, &part) {
+        return Err(Refusal::Busy);
+    }
+    if !holds(memory, &part) {
+        return Err(Refusal::Precondition);
+    }
+    if !journal.has_room_for(prepare_len(write, me)) {
         return Err(Refusal::Full);
     }
-    let part = own_part(alloc, write, shards, node)?;
-    hold(journal, memory, unflushed, part)?;
+    let kept = part.to_entry(alloc)?;
+    hold(journal, memory, unflushed, kept)?;
     Ok(())
 }
 
@@ -111,11 +122,9 @@ impl<D: Device> Shard<D> {
             ↔ (IsPreparable (memory_of self.old) (own_part_of self.old intent.now.write) × HasNoRoom self.old.staged (prepare_record (own_part_of self.old intent.now.write))) }
         ensures memory { IsUp D.state D.honest self.old → IsErrOf result Refusal.NoMemory
             → IsPreparable (memory_of self.old) (own_part_of self.old intent.now.write) × (HasNoRoom self.old.staged (prepare_record (own_part_of self.old intent.now.write)) → ⊥) }
+        ensures kept { self.new ≡ record self.old { staged = self.new.staged } }
         ensures err { IfErr result (λ e. (self.new ≡ self.old) × ((e ≡ Refusal.Down) ⊎ ((e ≡ Refusal.Collected) ⊎ ((e ≡ Refusal.Busy) ⊎ ((e ≡ Refusal.Precondition) ⊎ ((e ≡ Refusal.Full) ⊎ (e ≡ Refusal.NoMemory))))))) }
     {
-        if self.journal.is_down() {
-            return Err(Refusal::Down);
-        }
         let write = intent.entry();
         prepare(
             &mut self.journal,
@@ -123,8 +132,7 @@ impl<D: Device> Shard<D> {
             &mut self.unflushed,
             alloc,
             write,
-            self.shards,
-            self.node,
+            self.me,
         )?;
         Ok(Ticket::new(&self.journal, write.id, self.memory.epoch()))
     }

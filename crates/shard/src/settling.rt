@@ -25,6 +25,6 @@ impl<D: Device> Shard<D> {
         if self.journal.is_down() {
             return Err(Refusal::Down);
         }
-        Ok(Settled::new(&self.journal, self.node, self.settled))
+        Ok(Settled::new(&self.journal, self.me.node(), self.settled))
     }
 }

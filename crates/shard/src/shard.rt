@@ -2,8 +2,8 @@
 ghost use Rattle.std.specs.Prelude.{◌≡◌, ◌≢◌, ◌⊎◌, ◌≤◌, ◌<◌, ◌+◌, ◌-◌, ◌^◌, ◌++◌, ◌∷◌, [], ℕ, List, Some, None, true, false, length, min, OnOk, OnErr, IfOk, IfErr, IsErr, IsErrOf, ◌↔◌, Contains, is_some};
 ghost use Rattle.records.specs.declared.record.Record.TheVariants.{Prepare as prepare_record};
 ghost use Rattle.records.specs.Replays.{find_in_doubt};
-ghost use Rattle.device.specs.Device.{Keeps};
-ghost use Rattle.journal.specs.Records.{HasCause, HoldsOldOrNew, LeavesBoth};
+ghost use Rattle.device.specs.Device.{Elapses, Keeps, left};
+ghost use Rattle.journal.specs.Records.{HasCause, HasOldOrNew, IsSetOn, LeavesBoth, after_batch};
 ghost use Rattle.tuples.specs.declared.entry.Entry.{Entry as AnyEntry};
 ghost use Rattle.shard.specs.declared.replies.VoteReply.TheVariants.{Yes, Later, No};
 ghost use Rattle.shard.specs.Shards.{IsDurable, IsUp, ShardView, journal_of, memory};
@@ -12,19 +12,25 @@ use crate::VoteReply;
 use decisions::{Ticket, Vote};
 use device::{Device, Tear};
 use journal::{Bank, Journal};
+use records::Identity;
 use replay::Memory;
 use std::marker::Model;
 use tuples::{Refusal, WriteId};
 
 /// A shard over two devices.
+///
+/// While it is up its memory is the replay of its records, the durable and the staged ones. Once a flush failed nobody knows which of the
+/// staged records are durable: the memory keeps them, the journal forgets them, and nothing is answered from either. The shard is of no
+/// use but for its devices, and the next opening replays what these have.
 #[derive(Drop)]
 pub struct Shard<D: Device> {
+    // its records: a list that this shard may have, which names it
     pub(crate) journal: Journal<D>,
-    pub(crate) store: u64,
-    pub(crate) shards: u8,
-    pub(crate) node: u8,
+    // a shard, not the coordinator
+    pub(crate) me: Identity,
+    // what the records stand for, but for the order of rows of different tuples; opened at least once
     pub(crate) memory: Memory,
-    // the ids whose prepares are staged
+    // the ids of the staged prepares, in their order
     pub(crate) unflushed: Vec<WriteId>,
     // the place that the durable records have learned
     pub(crate) settled: u64,
@@ -37,9 +43,9 @@ impl<D: Device> Model for Shard<D> {
 
     ghost Value = { ShardView D };
 
-    ghost view = { λ s. record { a = s.journal.a; b = s.journal.b; durable = s.journal.durable; staged = s.journal.staged; is_down = s.journal.is_down; me = record { store = s.store; shards = s.shards; node = s.node } } };
+    ghost view = { λ s. record { a = s.journal.a; b = s.journal.b; end = s.journal.end; durable = s.journal.durable; staged = s.journal.staged; is_down = s.journal.is_down; me = s.me } };
 
-    ghost invariant = { λ s. IsKept D.state D.honest s.journal (record { store = s.store; shards = s.shards; node = s.node }) s.memory s.unflushed.items s.settled };
+    ghost invariant = { λ s. IsKept D.state D.honest s.journal s.me s.memory s.unflushed.items s.settled };
 }
 
 impl<D: Device> Shard<D> {
@@ -55,15 +61,22 @@ impl<D: Device> Shard<D> {
         Ok(self.memory.learned())
     }
 
-    /// Makes durable what is staged. After `Down` it may be durable or not, and the shard has to be opened again.
+    /// Makes durable what is staged, all of it or nothing; it takes no memory. After `Down` it may be durable or not, and the shard has to be
+    /// opened again.
     pub fn flush(&mut self) -> Result<(), Refusal>
         ensures honest { (D.honest self.old.a ↔ D.honest self.new.a) × (D.honest self.old.b ↔ D.honest self.new.b) }
-        ensures any_moment { IsUp D.state D.honest self.old → LeavesBoth D.moment D.left_since self.old.a self.old.b self.new.a self.new.b (HoldsOldOrNew self.old.durable self.old.staged) }
+        ensures any_moment { IsUp D.state D.honest self.old → LeavesBoth D.moment D.left_since self.old.a self.old.b self.new.a self.new.b (HasOldOrNew self.old.durable self.old.staged) }
         ensures ok { IsUp D.state D.honest self.old → OnOk result (IsUp D.state D.honest self.new × (self.new.durable ≡ self.old.durable ++ self.old.staged) × (self.new.staged ≡ [])) }
         ensures me { self.new.me ≡ self.old.me }
-        ensures down { self.old.is_down ≡ true → IsErr result × (self.new ≡ self.old) }
+        ensures down { self.old.is_down ≡ true → IsErr result }
+
+        // Where it is down, or nothing is staged, no call is made.
+        ensures quiet { ((self.old.is_down ≡ true) ⊎ (self.old.staged ≡ [])) → self.new ≡ self.old }
         ensures cause { OnErr result ((self.old.is_down ≡ true) ⊎ HasCause D.state D.honest (journal_of self.old) (journal_of self.new)) }
         ensures err { IfErr result (λ e. (e ≡ Refusal.Down) × (self.new.is_down ≡ true)) }
+        ensures counts { ((D.state self.old.a).failures ≤ (D.state self.new.a).failures) × ((D.state self.old.b).failures ≤ (D.state self.new.b).failures) }
+        ensures none { OnOk result (((D.state self.new.a).failures ≡ (D.state self.old.a).failures) × ((D.state self.new.b).failures ≡ (D.state self.old.b).failures)) }
+        ensures end { OnOk result ((self.old.staged ≡ []) ⊎ (self.new.end ≡ after_batch (journal_of self.old))) }
     {
         match self.journal.flush() {
             Ok(()) => {
@@ -99,7 +112,7 @@ impl<D: Device> Shard<D> {
             return VoteReply::Later(ticket);
         }
         ticket.leave();
-        VoteReply::Yes(Vote::new(&self.journal, id, self.node))
+        VoteReply::Yes(Vote::new(&self.journal, id, self.me.node()))
     }
 
     /// Whether a device failed since the opening.
@@ -111,11 +124,14 @@ impl<D: Device> Shard<D> {
 
     /// Sets the script of one device, and changes nothing else.
     pub fn fail(&mut self, bank: Bank, n: u64, tear: Tear)
+        ensures set { IsSetOn D.set_to_fail bank n tear self.old.a self.old.b self.new.a self.new.b }
         ensures honest { (D.honest self.old.a ↔ D.honest self.new.a) × (D.honest self.old.b ↔ D.honest self.new.b) }
         ensures keeps_a { D.honest self.old.a → Keeps (D.state self.old.a) (D.state self.new.a) }
         ensures keeps_b { D.honest self.old.b → Keeps (D.state self.old.b) (D.state self.new.b) }
         ensures failures { ((D.state self.new.a).failures ≡ (D.state self.old.a).failures) × ((D.state self.new.b).failures ≡ (D.state self.old.b).failures) }
-        ensures staged { (self.new.staged ≡ self.old.staged) × (self.new.is_down ≡ self.old.is_down) × (self.new.me ≡ self.old.me) }
+        ensures time_a { D.honest self.old.a → Elapses (D.moment self.old.a) (D.moment self.new.a) (D.left_since self.old.a) (D.left_since self.new.a) (left (D.state self.new.a)) }
+        ensures time_b { D.honest self.old.b → Elapses (D.moment self.old.b) (D.moment self.new.b) (D.left_since self.old.b) (D.left_since self.new.b) (left (D.state self.new.b)) }
+        ensures staged { (self.new.staged ≡ self.old.staged) × (self.new.is_down ≡ self.old.is_down) × (self.new.end ≡ self.old.end) × (self.new.me ≡ self.old.me) }
         ensures durable { D.honest self.old.a → D.honest self.old.b → self.new.durable ≡ self.old.durable }
     {
         self.journal.fail(bank, n, tear);
@@ -141,9 +157,7 @@ impl<D: Device> Shard<D> {
     {
         let Shard {
             journal,
-            store: _,
-            shards: _,
-            node: _,
+            me: _,
             memory: _,
             unflushed: _,
             settled: _,

@@ -1,7 +1,8 @@
-// What a coordinator would show by its journal.
-ghost use Rattle.std.specs.Prelude.{◌≡◌, [], IfOk};
+// What a coordinator in its first epoch tells that has decided nothing and raised its horizon.
+ghost use Rattle.std.specs.Prelude.{◌≡◌, ◌∷◌, [], IfOk};
 ghost use Rattle.device.specs.Disk.{state_of};
 ghost use Rattle.journal.specs.Records.{HasRecords};
+ghost use Rattle.records.specs.declared.record.Record.TheVariants.{Epoch as epoch_record, Horizon as horizon_record};
 
 use decisions::{Heads, Verdict};
 use device::SimDisk;
@@ -19,10 +20,8 @@ fn new_disk(alloc: Global) -> Result<SimDisk, Refusal>
     }
 }
 
-/// A journal over two new disks.
 fn new_journal(alloc: Global) -> Result<Journal<SimDisk>, Refusal>
     ensures empty { IfOk result (λ j. (j.durable ≡ []) × (j.staged ≡ [])) }
-    ensures rest { IfOk result (λ j. HasRecords (state_of j.a) (state_of j.b) []) }
 {
     let a = new_disk(alloc)?;
     let b = new_disk(alloc)?;
@@ -32,16 +31,31 @@ fn new_journal(alloc: Global) -> Result<Journal<SimDisk>, Refusal>
     }
 }
 
-/// The verdict of a coordinator that has decided nothing.
-pub(super) fn verdict(alloc: Global, id: WriteId) -> Result<Verdict, Refusal> {
-    let journal = new_journal(alloc)?;
-    Ok(Verdict::new(&journal, id))
+/// Its journal.
+fn coordinator(alloc: Global) -> Result<Journal<SimDisk>, Refusal>
+    ensures durable { IfOk result (λ j. j.durable ≡ epoch_record 1 1 1 255 ∷ horizon_record 1 ∷ []) }
+    ensures staged { IfOk result (λ j. j.staged ≡ []) }
+    ensures rest { IfOk result (λ j. HasRecords (state_of j.a) (state_of j.b) j.durable) }
+{
+    let mut journal = new_journal(alloc)?;
+    journal.stage(&Record::Epoch {
+        epoch: 1,
+        store: 1,
+        shards: 1,
+        node: 255,
+    })?;
+    journal.stage(&Record::Horizon(1))?;
+    journal.flush()?;
+    Ok(journal)
 }
 
-/// The numbers of a coordinator that has raised its horizon.
-pub(super) fn heads(alloc: Global, horizon: u64) -> Result<Heads, Refusal> {
-    let mut journal = new_journal(alloc)?;
-    journal.stage(&Record::Horizon(horizon))?;
-    journal.flush()?;
-    Ok(Heads::new(&journal, 0, 0, horizon))
+/// The verdict of its write 2, and its numbers.
+pub(super) fn told(alloc: Global) -> Result<(Verdict, Heads), Refusal> {
+    let journal = coordinator(alloc)?;
+    let id = WriteId {
+        epoch: 1,
+        number: 2,
+    };
+    let verdict = Verdict::new(&journal, 2, &[], id);
+    Ok((verdict, Heads::new(&journal, 0, 0, 1)))
 }

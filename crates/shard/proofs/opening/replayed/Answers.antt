@@ -1,10 +1,10 @@
-use Rattle.std.proofs.Common.{Err, ◌≡◌, ◌∙◌, ap, sym, subst}
+use Rattle.std.proofs.Common.{Err, ◌≡◌, ◌∙◌, ap}
 use Rattle.std.proofs.lemmas.Iterator.Adapters.{YieldsList-from_vec}
 use Rattle.std.proofs.lemmas.Iterator.Consumers.{YieldsList-turn}
 use Rattle.std.proofs.lemmas.Result.{err_from_is_err_and}
-use Rattle.tuples.specs.declared.refusal.Refusal.{Refusal}
-use Rattle.tuples.specs.declared.refusal.Refusal.TheVariants.{Damaged}
-use Rattle.records.specs.Replays.{Identity, MayCome, ShardState}
+use Rattle.refusal.specs.declared.refusal.Refusal.{Refusal}
+use Rattle.refusal.specs.declared.refusal.Refusal.TheVariants.{Damaged}
+use Rattle.records.specs.Replays.{Identity, MayCome}
 use Rattle.replay.proofs.Alike.{alike_same, alike_sym, may_come_alike}
 use Rattle.replay.proofs.States.{image_empty}
 use Rattle.shard.proofs.Openings.{image_more, may_follow, nothing_replayed, replayed_more}
@@ -13,12 +13,12 @@ use Rattle.shard.proofs.opening.replayed.Goals as goal
 pub loop-record-init : goal.loop-record-init
 loop-record-init c = record {
   memory = alike_same _ _ (c.new-memory.ensures ∙ nothing_replayed);
-  image = image_empty (record { store = c.args.store; shards = c.args.shards; node = c.args.node });
+  image = image_empty c.args.me;
 }
 
 pub loop-record-preserved : goal.loop-record-preserved
 loop-record-preserved c =
-    let me : Identity = record { store = c.args.store; shards = c.args.shards; node = c.args.node } in
+    let me : Identity = c.args.me in
     let records = c.args.records.items in
     let x = c.in-Some.record in
     let e1 = c.into_iter-record-iterator.ensures.into_iter_gives in
@@ -31,7 +31,7 @@ loop-record-preserved c =
 
 pub returns-in_err-replay-clause-damaged : goal.returns-in_err-replay-clause-damaged
 returns-in_err-replay-clause-damaged c = λ is image.
-    let me : Identity = record { store = c.args.store; shards = c.args.shards; node = c.args.node } in
+    let me : Identity = c.args.me in
     let records = c.args.records.items in
     let x = c.in-Some.record in
     let t = YieldsList-turn (YieldsList-from_vec records (cc) (cc)) c.loop-record.yielded c.loop-record.record-iterator c.loop-record.yielded_by c.next.result c.next.new.self x c.in-Some.is c.next.ensures.steps in

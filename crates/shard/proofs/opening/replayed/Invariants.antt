@@ -6,5 +6,5 @@ use Rattle.shard.proofs.opening.replayed.Given as goal
 abbrev pub invariant-loop-record : goal.invariant-loop-record
 invariant-loop-record l = record {
   memory : IsAlike l.memory (shard_state (take (length l.yielded) l.fn.records.items));
-  image : IsShardImage (record { store = l.store; shards = l.shards; node = l.node }) (take (length l.yielded) l.fn.records.items);
+  image : IsShardImage l.me (take (length l.yielded) l.fn.records.items);
 }

@@ -9,7 +9,7 @@ use Rattle.shard.proofs.shard.Shard.collect.Goals as goal
 pub invariant_of-self-2 : goal.invariant_of-self-2
 invariant_of-self-2 g c =
     let s = c.self.inside in
-    let me : Identity = record { store = s.store; shards = s.shards; node = s.node } in
+    let me : Identity = s.me in
     let place = c.horizon-place.result in
     let may : MayCollect s.memory place = record {
       opened = c.self.invariant.opened;
@@ -23,7 +23,7 @@ invariant_of-self-2 g c =
 pub returns-clause-ok : goal.returns-clause-ok
 returns-clause-ok g c = λ up above within.
     let s = c.self.inside in
-    let me : Identity = record { store = s.store; shards = s.shards; node = s.node } in
+    let me : Identity = s.me in
     let place = c.horizon-place.result in
     let v = c.args.self.now in
     let k = view_of c.stage.new.self me in

@@ -13,7 +13,7 @@ use Rattle.shard.proofs.shard.Shard.drop_write.Goals as goal
 pub stage-requires : goal.stage-requires
 stage-requires g c =
     let s = c.self.inside in
-    let me : Identity = record { store = s.store; shards = s.shards; node = s.node } in
+    let me : Identity = s.me in
     let id = c.id-id.result in
     let one = found_one id s.memory.in_doubt c.find.result c.find.ensures c.is_none.ensures c.if-is_none.false in
     let given : AllGiven s.memory.in_doubt = subst AllGiven (sym c.self.invariant.replayed.in_doubt) (given_image me c.self.invariant.rs c.self.invariant.image) in
@@ -22,7 +22,7 @@ stage-requires g c =
 pub invariant_of-self : goal.invariant_of-self
 invariant_of-self g c =
     let s = c.self.inside in
-    let me : Identity = record { store = s.store; shards = s.shards; node = s.node } in
+    let me : Identity = s.me in
     let id = c.id-id.result in
     let one = found_one id s.memory.in_doubt c.find.result c.find.ensures c.is_none.ensures c.if-is_none.false in
     let may : MayDrop s.memory id = record { opened = c.self.invariant.opened; prepared = one } in
@@ -33,7 +33,7 @@ invariant_of-self g c =
 pub returns-in-Ok-clause-dropped : goal.returns-in-Ok-clause-dropped
 returns-in-Ok-clause-dropped g c = λ up there room.
     let s = c.self.inside in
-    let me : Identity = record { store = s.store; shards = s.shards; node = s.node } in
+    let me : Identity = s.me in
     let id = c.id-id.result in
     let one = found_one id s.memory.in_doubt c.find.result c.find.ensures c.is_none.ensures c.if-is_none.false in
     let may : MayDrop s.memory id = record { opened = c.self.invariant.opened; prepared = one } in

@@ -1,4 +1,4 @@
-use Rattle.std.proofs.Common.{◌↔◌, List, subst, Contains, ◌≡◌, ◌∙◌, ap}
+use Rattle.std.proofs.Common.{◌↔◌, List, subst, Contains}
 use Rattle.tuples.specs.declared.entry.Entry.{Entry}
 use Rattle.tuples.specs.declared.entry.WriteId.{WriteId}
 use Rattle.shard.specs.Shards.{AreAscendingIds, ids}

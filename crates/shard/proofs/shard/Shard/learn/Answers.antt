@@ -1,38 +1,48 @@
-use Rattle.std.proofs.Common.{Err, ◌≡◌, ◌≤◌, ◌<◌, ◌+◌, ◌-◌, ℕ, List, length, drop, refl, sym, ◌∙◌, ap, subst, arith}
+use Rattle.std.proofs.Common.{◌≡◌, ◌≤◌, ◌<◌, ◌+◌, ◌-◌, ℕ, List, length, drop, refl, sym, ◌∙◌, ap, subst, arith}
 use Rattle.std.proofs.lemmas.List.{append-nil}
-use Rattle.std.proofs.lemmas.Result.{err_from_is_err_and}
+use Rattle.std.proofs.lemmas.Bool.{both_ways}
 use Rattle.tuples.specs.declared.entry.Entry.{Entry}
-use Rattle.tuples.specs.declared.refusal.Refusal.{Refusal}
-use Rattle.tuples.specs.declared.refusal.Refusal.TheVariants.{Damaged}
 use Rattle.records.specs.Format.{IsLearned}
-use Rattle.records.specs.Replays.{Identity, MayLearn, ShardState}
-use Rattle.records.specs.declared.record.Part.{Part}
+use Rattle.records.specs.Replays.{ArePrepared, Identity, MayLearn, ShardState, find_in_doubt}
+use Rattle.records.specs.declared.record.PlacedId.{PlacedId}
 use Rattle.records.specs.declared.record.Record.{Record}
 use Rattle.records.specs.declared.record.Record.TheVariants.{Learned as learned_record}
 use Rattle.replay.specs.Alike.{IsAlike}
 use Rattle.replay.proofs.Alike.{may_come_alike, same_but_rows}
-use Rattle.shard.specs.Own.{AreHere}
-use Rattle.shard.specs.Shards.{AreNewIds, ShardView, Stages, learning, memory, parts_from, unlearned}
+use Rattle.shard.specs.Shards.{AreLearnable, ShardView, Stages, learning, memory, placed_ids_from, unlearned}
 use Rattle.shard.proofs.Given.{AllGiven, given_image}
 use Rattle.shard.proofs.Kept.{kept_push, learned_epoch, memory_is, stages, still_up, view_of}
-use Rattle.shard.proofs.Parts.{learned_spelled, may_learn}
+use Rattle.shard.proofs.Parts.{all_prepared, learned_spelled, may_learn}
 use Rattle.shard.proofs.shard.Shard.learn.Goals as goal
 
-parts_are : (shards s n : ℕ) (m : ShardState) (from : ℕ) (writes l : List Entry) (parts : List Part) → parts ≡ parts_from shards s (n + 1) l → n ≡ m.learned → l ≡ drop (n - from) writes → parts ≡ parts_from shards s (m.learned + 1) (unlearned m from writes)
-parts_are shards s n m from writes l parts is learned rest =
-    is ∙ ap (parts_from shards s (n + 1)) rest ∙ ap (λ (k : ℕ). parts_from shards s (k + 1) (drop (k - from) writes)) learned
+placed_ids_are : (shards s n : ℕ) (m : ShardState) (from : ℕ) (writes l : List Entry) (placed_ids : List PlacedId) → placed_ids ≡ placed_ids_from shards s (n + 1) l → n ≡ m.learned → l ≡ drop (n - from) writes → placed_ids ≡ placed_ids_from shards s (m.learned + 1) (unlearned m from writes)
+placed_ids_are shards s n m from writes l placed_ids is learned rest =
+    is ∙ ap (placed_ids_from shards s (n + 1)) rest ∙ ap (λ (k : ℕ). placed_ids_from shards s (k + 1) (drop (k - from) writes)) learned
 
-pub returns-in_err-parts-clause-damaged : goal.returns-in_err-parts-clause-damaged
-returns-in_err-parts-clause-damaged g c = λ up is.
+learnable_alike : (me : Identity) (m n : ShardState) (l : List Entry) → m.in_doubt ≡ n.in_doubt → AreLearnable me m l → AreLearnable me n l
+learnable_alike me m n l same are = record { new = are.new; prepared = λ j w is takes. ap (find_in_doubt w.id) (sym same) ∙ are.prepared j w is takes }
+
+-- what can be learned by the memory can be by what the records stand for
+module _ {D : Type 0} (v : ShardView D) (me : Identity) (m : ShardState) (n from : ℕ) (writes l : List Entry) (same : me ≡ v.me) (now : IsAlike m (memory v)) (learned : n ≡ m.learned) (rest : l ≡ drop (n - from) writes) where
+  rest_now : l ≡ unlearned (memory v) from writes
+  rest_now = rest ∙ ap (λ (k : ℕ). drop (k - from) writes) (learned ∙ now.learned)
+
+  learnable_now : AreLearnable me m l → AreLearnable v.me (memory v) (unlearned (memory v) from writes)
+  learnable_now are = subst (λ (i : Identity). AreLearnable i (memory v) (unlearned (memory v) from writes)) same (subst (AreLearnable me (memory v)) rest_now (learnable_alike me m (memory v) l now.in_doubt are))
+
+  learnable_was : AreLearnable v.me (memory v) (unlearned (memory v) from writes) → AreLearnable me m l
+  learnable_was are = learnable_alike me (memory v) m l (sym now.in_doubt) (subst (AreLearnable me (memory v)) (sym rest_now) (subst (λ (i : Identity). AreLearnable i (memory v) (unlearned (memory v) from writes)) (sym same) are))
+
+pub returns-then-not-are_learnable-clause-damaged : goal.returns-then-not-are_learnable-clause-damaged
+returns-then-not-are_learnable-clause-damaged g c = λ up from_le learned_lt.
     let s = c.self.inside in
+    let v = c.args.self.now in
     let b = c.args.batch.now in
-    let now : IsAlike s.memory (memory c.args.self.now) = memory_is g.D.Device.state g.D.Device.honest s.journal _ s.memory s.unflushed.items s.settled c.self.invariant c.args.self.now c.self.view_is up in
-    let p = err_from_is_err_and c.from_residual.result c.from_residual.ensures.1 in
-    let same : c.in_err-parts.field-0.0 ≡ Damaged = (let e = rw (p.1, p.2) at is in cc) in
-    let writes : c.behind-writes.result.now ≡ unlearned s.memory b.from b.writes = c.behind-writes.ensures.writes ∙ ap (λ (n : ℕ). drop (n - b.from) b.writes) c.learned-learned.ensures in
-    let refused = subst (λ (l : List Entry). AreNewIds l → AreHere s.shards s.node s.memory.in_doubt l → ⊥) writes (c.in_err-parts.ensures.damaged (ap (λ (e : Refusal). Err e) same)) in
-    let whole = subst (λ (v : ShardView g.row.D.Denot). AreNewIds (unlearned s.memory b.from b.writes) → AreHere v.me.shards v.me.node s.memory.in_doubt (unlearned s.memory b.from b.writes) → ⊥) c.self.view_is refused in
-    subst (λ (m : ShardState). AreNewIds (unlearned m b.from b.writes) → AreHere c.args.self.now.me.shards c.args.self.now.me.node m.in_doubt (unlearned m b.from b.writes) → ⊥) (same_but_rows now) whole
+    let now : IsAlike s.memory (memory v) = memory_is g.D.Device.state g.D.Device.honest s.journal _ s.memory s.unflushed.items s.settled c.self.invariant v c.self.view_is up in (
+      λ is are. both_ways c.are_learnable.result c.if-not-are_learnable.true
+          (c.are_learnable.ensures.1 (learnable_was v s.me s.memory c.learned-learned.result b.from b.writes c.behind-writes.result.now (ap (λ (x : ShardView g.row.D.Denot). x.me) c.self.view_is) now c.learned-learned.ensures c.behind-writes.ensures.writes are)),
+      λ none. refl,
+    )
 
 pub apply-requires-clause-spelled : goal.apply-requires-clause-spelled
 apply-requires-clause-spelled g c =
@@ -41,11 +51,11 @@ apply-requires-clause-spelled g c =
     let kept = c.self.invariant in
     let le : b.from ≤ s.memory.learned = omega (arith, c.if-learned-from.false, c.learned-learned.ensures, c.from.ensures) in
     let lt : s.memory.learned < b.from + length b.writes = omega (arith, c.if-to-learned.false, c.learned-learned.ensures, c.to.ensures.value) in
-    let parts : c.in_ok-parts.parts.items ≡ parts_from s.shards s.node (s.memory.learned + 1) (unlearned s.memory b.from b.writes) =
-    parts_are s.shards s.node c.learned-learned.result s.memory b.from b.writes c.behind-writes.result.now c.in_ok-parts.parts.items c.in_ok-parts.ensures.parts c.learned-learned.ensures c.behind-writes.ensures.writes in
+    let placed_ids : c.in_ok-placed_ids.placed_ids.items ≡ placed_ids_from s.me.shards s.me.node (s.memory.learned + 1) (unlearned s.memory b.from b.writes) =
+    placed_ids_are s.me.shards s.me.node c.learned-learned.result s.memory b.from b.writes c.behind-writes.result.now c.in_ok-placed_ids.placed_ids.items c.in_ok-placed_ids.ensures c.learned-learned.ensures c.behind-writes.ensures.writes in
     let given : AllGiven s.memory.in_doubt = subst AllGiven (sym kept.replayed.in_doubt) (given_image _ kept.rs kept.image) in
-    subst (λ (n : ℕ). IsLearned n c.in_ok-parts.parts.items) (sym c.to-2.ensures.value)
-    (learned_spelled s.shards s.node s.memory b.from b.writes le lt (omega (arith, c.to.ensures.greatest, c.to.ensures.value)) c.in_ok-parts.parts.items parts c.in_ok-parts.ensures.prepared c.behind-writes.ensures.few given)
+    subst (λ (n : ℕ). IsLearned n c.in_ok-placed_ids.placed_ids.items) (sym c.to-2.ensures.value)
+    (learned_spelled s.me.shards s.me.node s.memory b.from b.writes le lt (omega (arith, c.to.ensures.greatest, c.to.ensures.value)) c.in_ok-placed_ids.placed_ids.items placed_ids (subst (λ (l : List PlacedId). ArePrepared l s.memory.in_doubt) (sym c.in_ok-placed_ids.ensures) (all_prepared s.me s.memory (c.learned-learned.result + 1) c.behind-writes.result.now (c.are_learnable.ensures.0 c.if-not-are_learnable.false))) c.behind-writes.ensures.few given)
 
 pub apply-requires-clause-may : goal.apply-requires-clause-may
 apply-requires-clause-may g c =
@@ -53,58 +63,57 @@ apply-requires-clause-may g c =
     let b = c.args.batch.now in
     let le : b.from ≤ s.memory.learned = omega (arith, c.if-learned-from.false, c.learned-learned.ensures, c.from.ensures) in
     let lt : s.memory.learned < b.from + length b.writes = omega (arith, c.if-to-learned.false, c.learned-learned.ensures, c.to.ensures.value) in
-    let parts : c.in_ok-parts.parts.items ≡ parts_from s.shards s.node (s.memory.learned + 1) (unlearned s.memory b.from b.writes) =
-    parts_are s.shards s.node c.learned-learned.result s.memory b.from b.writes c.behind-writes.result.now c.in_ok-parts.parts.items c.in_ok-parts.ensures.parts c.learned-learned.ensures c.behind-writes.ensures.writes in
-    subst (λ (n : ℕ). MayLearn s.memory n c.in_ok-parts.parts.items) (sym c.to-2.ensures.value)
-    (may_learn s.shards s.node s.memory b.from b.writes le lt (omega (arith, c.to.ensures.greatest, c.to.ensures.value)) c.in_ok-parts.parts.items parts c.in_ok-parts.ensures.prepared c.self.invariant.opened)
+    let placed_ids : c.in_ok-placed_ids.placed_ids.items ≡ placed_ids_from s.me.shards s.me.node (s.memory.learned + 1) (unlearned s.memory b.from b.writes) =
+    placed_ids_are s.me.shards s.me.node c.learned-learned.result s.memory b.from b.writes c.behind-writes.result.now c.in_ok-placed_ids.placed_ids.items c.in_ok-placed_ids.ensures c.learned-learned.ensures c.behind-writes.ensures.writes in
+    subst (λ (n : ℕ). MayLearn s.memory n c.in_ok-placed_ids.placed_ids.items) (sym c.to-2.ensures.value)
+    (may_learn s.me.shards s.me.node s.memory b.from b.writes le lt (omega (arith, c.to.ensures.greatest, c.to.ensures.value)) c.in_ok-placed_ids.placed_ids.items placed_ids (subst (λ (l : List PlacedId). ArePrepared l s.memory.in_doubt) (sym c.in_ok-placed_ids.ensures) (all_prepared s.me s.memory (c.learned-learned.result + 1) c.behind-writes.result.now (c.are_learnable.ensures.0 c.if-not-are_learnable.false))) c.self.invariant.opened)
 
 pub invariant_of-self-2 : goal.invariant_of-self-2
 invariant_of-self-2 g c =
     let s = c.self.inside in
-    let me : Identity = record { store = s.store; shards = s.shards; node = s.node } in
+    let me : Identity = s.me in
     let b = c.args.batch.now in
-    let r = learned_record c.to-2.result c.in_ok-parts.parts.items in
-    let parts : c.in_ok-parts.parts.items ≡ parts_from s.shards s.node (s.memory.learned + 1) (unlearned s.memory b.from b.writes) =
-    parts_are s.shards s.node c.learned-learned.result s.memory b.from b.writes c.behind-writes.result.now c.in_ok-parts.parts.items c.in_ok-parts.ensures.parts c.learned-learned.ensures c.behind-writes.ensures.writes in
-    let may : MayLearn s.memory c.to-2.result c.in_ok-parts.parts.items = (
+    let r = learned_record c.to-2.result c.in_ok-placed_ids.placed_ids.items in
+    let placed_ids : c.in_ok-placed_ids.placed_ids.items ≡ placed_ids_from s.me.shards s.me.node (s.memory.learned + 1) (unlearned s.memory b.from b.writes) =
+    placed_ids_are s.me.shards s.me.node c.learned-learned.result s.memory b.from b.writes c.behind-writes.result.now c.in_ok-placed_ids.placed_ids.items c.in_ok-placed_ids.ensures c.learned-learned.ensures c.behind-writes.ensures.writes in
+    let may : MayLearn s.memory c.to-2.result c.in_ok-placed_ids.placed_ids.items = (
     let le : b.from ≤ s.memory.learned = omega (arith, c.if-learned-from.false, c.learned-learned.ensures, c.from.ensures) in
     let lt : s.memory.learned < b.from + length b.writes = omega (arith, c.if-to-learned.false, c.learned-learned.ensures, c.to.ensures.value) in
-    subst (λ (n : ℕ). MayLearn s.memory n c.in_ok-parts.parts.items) (sym c.to-2.ensures.value)
-    (may_learn s.shards s.node s.memory b.from b.writes le lt (omega (arith, c.to.ensures.greatest, c.to.ensures.value)) c.in_ok-parts.parts.items parts c.in_ok-parts.ensures.prepared c.self.invariant.opened)) in
-    let opened : 1 ≤ c.apply.new.memory.epoch = subst (λ (n : ℕ). 1 ≤ n) (sym c.in_ok-apply.ensures.applied.epoch) (learned_epoch s.memory c.to-2.result c.in_ok-parts.parts.items c.self.invariant.opened) in
+    subst (λ (n : ℕ). MayLearn s.memory n c.in_ok-placed_ids.placed_ids.items) (sym c.to-2.ensures.value)
+    (may_learn s.me.shards s.me.node s.memory b.from b.writes le lt (omega (arith, c.to.ensures.greatest, c.to.ensures.value)) c.in_ok-placed_ids.placed_ids.items placed_ids (subst (λ (l : List PlacedId). ArePrepared l s.memory.in_doubt) (sym c.in_ok-placed_ids.ensures) (all_prepared s.me s.memory (c.learned-learned.result + 1) c.behind-writes.result.now (c.are_learnable.ensures.0 c.if-not-are_learnable.false))) c.self.invariant.opened)) in
+    let opened : 1 ≤ c.apply.new.memory.epoch = subst (λ (n : ℕ). 1 ≤ n) (sym c.in_ok-apply.ensures.applied.epoch) (learned_epoch s.memory c.to-2.result c.in_ok-placed_ids.placed_ids.items c.self.invariant.opened) in
     kept_push g.D.Device.state g.D.Device.honest s.journal c.apply.new.journal me s.memory c.apply.new.memory s.unflushed.items s.unflushed.items s.settled r c.self.invariant may
     c.in_ok-apply.ensures.staged c.in_ok-apply.ensures.applied opened (sym (append-nil s.unflushed.items))
 
-pub returns-clause-prepared : goal.returns-clause-prepared
-returns-clause-prepared g c = λ up from_le learned_lt.
+pub returns-clause-learnable : goal.returns-clause-learnable
+returns-clause-learnable g c = λ up from_le learned_lt.
     let s = c.self.inside in
+    let v = c.args.self.now in
     let b = c.args.batch.now in
-    let now : IsAlike s.memory (memory c.args.self.now) = memory_is g.D.Device.state g.D.Device.honest s.journal _ s.memory s.unflushed.items s.settled c.self.invariant c.args.self.now c.self.view_is up in
-    let writes : c.behind-writes.result.now ≡ unlearned s.memory b.from b.writes = c.behind-writes.ensures.writes ∙ ap (λ (n : ℕ). drop (n - b.from) b.writes) c.learned-learned.ensures in
-    let here = subst (λ (l : List Entry). AreHere s.shards s.node s.memory.in_doubt l) writes c.in_ok-parts.ensures.here in
-    let whole = subst (λ (v : ShardView g.row.D.Denot). AreHere v.me.shards v.me.node s.memory.in_doubt (unlearned s.memory b.from b.writes)) c.self.view_is here in
-    subst (λ (m : ShardState). AreHere c.args.self.now.me.shards c.args.self.now.me.node m.in_doubt (unlearned m b.from b.writes)) (same_but_rows now) whole
+    let now : IsAlike s.memory (memory v) = memory_is g.D.Device.state g.D.Device.honest s.journal _ s.memory s.unflushed.items s.settled c.self.invariant v c.self.view_is up in
+    learnable_now v s.me s.memory c.learned-learned.result b.from b.writes c.behind-writes.result.now (ap (λ (x : ShardView g.row.D.Denot). x.me) c.self.view_is) now c.learned-learned.ensures c.behind-writes.ensures.writes
+    (c.are_learnable.ensures.0 c.if-not-are_learnable.false)
 
 pub returns-clause-ok : goal.returns-clause-ok
 returns-clause-ok g c = λ up from_le learned_lt.
     let s = c.self.inside in
     let v = c.args.self.now in
     let b = c.args.batch.now in
-    let me : Identity = record { store = s.store; shards = s.shards; node = s.node } in
+    let me : Identity = s.me in
     let now : IsAlike s.memory (memory v) = memory_is g.D.Device.state g.D.Device.honest s.journal me s.memory s.unflushed.items s.settled c.self.invariant v c.self.view_is up in
-    let parts : c.in_ok-parts.parts.items ≡ parts_from s.shards s.node (s.memory.learned + 1) (unlearned s.memory b.from b.writes) =
-    parts_are s.shards s.node c.learned-learned.result s.memory b.from b.writes c.behind-writes.result.now c.in_ok-parts.parts.items c.in_ok-parts.ensures.parts c.learned-learned.ensures c.behind-writes.ensures.writes in
-    let same : learned_record c.to-2.result c.in_ok-parts.parts.items ≡ learning v.me (memory v) b.from b.writes =
-    ap (λ (n : ℕ). learned_record n c.in_ok-parts.parts.items) c.to-2.ensures.value ∙ ap (λ (l : List Part). learned_record (b.from + length b.writes) l) parts
+    let placed_ids : c.in_ok-placed_ids.placed_ids.items ≡ placed_ids_from s.me.shards s.me.node (s.memory.learned + 1) (unlearned s.memory b.from b.writes) =
+    placed_ids_are s.me.shards s.me.node c.learned-learned.result s.memory b.from b.writes c.behind-writes.result.now c.in_ok-placed_ids.placed_ids.items c.in_ok-placed_ids.ensures c.learned-learned.ensures c.behind-writes.ensures.writes in
+    let same : learned_record c.to-2.result c.in_ok-placed_ids.placed_ids.items ≡ learning v.me (memory v) b.from b.writes =
+    ap (λ (n : ℕ). learned_record n c.in_ok-placed_ids.placed_ids.items) c.to-2.ensures.value ∙ ap (λ (l : List PlacedId). learned_record (b.from + length b.writes) l) placed_ids
     ∙ ap (λ (m : ShardState). learning me m b.from b.writes) (same_but_rows now) ∙ ap (λ (x : ShardView g.row.D.Denot). learning x.me (memory v) b.from b.writes) c.self.view_is in
-    let may : MayLearn s.memory c.to-2.result c.in_ok-parts.parts.items = (
+    let may : MayLearn s.memory c.to-2.result c.in_ok-placed_ids.placed_ids.items = (
     let le : b.from ≤ s.memory.learned = omega (arith, c.if-learned-from.false, c.learned-learned.ensures, c.from.ensures) in
     let lt : s.memory.learned < b.from + length b.writes = omega (arith, c.if-to-learned.false, c.learned-learned.ensures, c.to.ensures.value) in
-    subst (λ (n : ℕ). MayLearn s.memory n c.in_ok-parts.parts.items) (sym c.to-2.ensures.value)
-    (may_learn s.shards s.node s.memory b.from b.writes le lt (omega (arith, c.to.ensures.greatest, c.to.ensures.value)) c.in_ok-parts.parts.items parts c.in_ok-parts.ensures.prepared c.self.invariant.opened)) in
-    let may_now : MayLearn (memory v) c.to-2.result c.in_ok-parts.parts.items = may_come_alike now me (learned_record c.to-2.result c.in_ok-parts.parts.items) may in
-    let staged = stages s.journal c.apply.new.journal me (learned_record c.to-2.result c.in_ok-parts.parts.items) c.in_ok-apply.ensures.staged v c.self.view_is in (
+    subst (λ (n : ℕ). MayLearn s.memory n c.in_ok-placed_ids.placed_ids.items) (sym c.to-2.ensures.value)
+    (may_learn s.me.shards s.me.node s.memory b.from b.writes le lt (omega (arith, c.to.ensures.greatest, c.to.ensures.value)) c.in_ok-placed_ids.placed_ids.items placed_ids (subst (λ (l : List PlacedId). ArePrepared l s.memory.in_doubt) (sym c.in_ok-placed_ids.ensures) (all_prepared s.me s.memory (c.learned-learned.result + 1) c.behind-writes.result.now (c.are_learnable.ensures.0 c.if-not-are_learnable.false))) c.self.invariant.opened)) in
+    let may_now : MayLearn (memory v) c.to-2.result c.in_ok-placed_ids.placed_ids.items = may_come_alike now me (learned_record c.to-2.result c.in_ok-placed_ids.placed_ids.items) may in
+    let staged = stages s.journal c.apply.new.journal me (learned_record c.to-2.result c.in_ok-placed_ids.placed_ids.items) c.in_ok-apply.ensures.staged v c.self.view_is in (
       refl,
       subst (λ (r : Record). Stages v r (view_of c.apply.new.journal me)) same staged,
-      still_up g.D.Device.state g.D.Device.honest v (view_of c.apply.new.journal me) (learned_record c.to-2.result c.in_ok-parts.parts.items) up may_now staged,
+      still_up g.D.Device.state g.D.Device.honest v (view_of c.apply.new.journal me) (learned_record c.to-2.result c.in_ok-placed_ids.placed_ids.items) up may_now staged,
     )

@@ -1,10 +1,11 @@
-use Rattle.std.proofs.Common.{◌≡◌, List, false, true, Some, Contains, sym, ◌∙◌, ap, subst}
+use Rattle.std.proofs.Common.{ℕ, ◌≡◌, List, false, true, Some, Contains, sym, ◌∙◌, ap, subst}
 use Rattle.std.specs.Option.{is_some}
 use Rattle.tuples.specs.declared.entry.Entry.{Entry}
 use Rattle.tuples.specs.declared.entry.WriteId.{WriteId}
 use Rattle.records.specs.declared.record.Record.{Record}
 use Rattle.records.specs.declared.record.Record.TheVariants.{Prepare}
-use Rattle.records.specs.Replays.{find_in_doubt, shard_state, ShardState}
+use Rattle.records.specs.Replays.{find_in_doubt, shard_state}
+use Rattle.decisions.specs.Values.{NamesNode}
 use Rattle.shard.specs.Shards.{IsDurable, ShardView, memory}
 use Rattle.shard.specs.Keeping.{prepared_ids}
 use Rattle.shard.proofs.Kept.{memory_is}
@@ -23,6 +24,9 @@ new-requires g c = record {
       ap (has_id c.id-id.result) (sym (c.deref.ensures.value ∙ kept.unflushed_are up)) ∙ sym c.contains.ensures.value ∙ c.if-contains.false in
       let there = sym (ap (find_in_doubt c.id-id.result) kept.replayed.in_doubt ∙ ap (λ (rs : List Record). find_in_doubt c.id-id.result (shard_state rs).in_doubt) backed.whole) ∙ one.1 in
       ap (λ o. is_some o) (durable_prepare g.D.Device.state s.journal.a s.journal.b s.journal.durable c.id-id.result one.0 backed.rest (durable_found s.journal.durable s.journal.staged c.id-id.result one.0 none there) rs finds);
+  shard = λ ha hb.
+      let up : c.self.inside.journal.is_down ≡ false = cc in
+      subst (λ (n : ℕ). NamesNode c.self.inside.journal.durable n) (sym c.node.ensures) (c.self.invariant.named up ha hb);
 }
 
 pub returns-clause-yes : goal.returns-clause-yes
@@ -40,7 +44,7 @@ returns-clause-yes g c = λ v up is.
     let voted : IsVoted c.id-id.result = (λ p found. is_durable g.D.Device.state g.D.Device.honest c.args.self.now c.id-id.result p up none found, ap (λ o. is_some o) there) in
     let whole = subst IsVoted c.id-id.ensures voted in (
       ap (λ w. w.id) (sym here) ∙ c.new.ensures.id ∙ c.id-id.ensures,
-      ap (λ w. w.shard) (sym here) ∙ c.new.ensures.shard ∙ ap (λ (w : ShardView g.row.D.Denot). w.me.node) c.self.view_is,
+      ap (λ w. w.shard) (sym here) ∙ c.new.ensures.shard ∙ c.node.ensures ∙ ap (λ (w : ShardView g.row.D.Denot). w.me.node) c.self.view_is,
       whole.0,
       whole.1,
     )

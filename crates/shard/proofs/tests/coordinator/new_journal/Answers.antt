@@ -1,16 +1,18 @@
-use Rattle.std.proofs.Common.{◌≡◌, [], List, ◌∙◌, sym, subst}
+use Rattle.std.proofs.Common.{◌≡◌, ◌∙◌, ℕ, List, [], Some, refl, sym, subst}
 use Rattle.records.specs.declared.record.Record.{Record}
-use Rattle.device.specs.Disk.{state_of}
-use Rattle.journal.specs.Records.{HasRecords}
-use Rattle.decisions.proofs.Fresh.{none_found}
+use Rattle.gated.specs.Gated.{gated}
+use Rattle.journal.specs.Records.{found}
 use Rattle.shard.proofs.tests.coordinator.new_journal.Goals as goal
 
-pub returns-in-Ok-clause-empty : goal.returns-in-Ok-clause-empty
-returns-in-Ok-clause-empty c =
-    let opened = c.in-Ok.ensures.ok tt tt in
-    (opened.durable ∙ none_found _ _ _ c.in_ok-a.ensures opened.was, c.in-Ok.ensures.fresh.0)
+nothing_found : (x y : List ℕ) → x ≡ [] → found x y ≡ Some []
+unfolding found gated
+nothing_found x y is = subst (λ (c : List ℕ). found c y ≡ Some []) (sym is) refl
 
-pub returns-in-Ok-clause-rest : goal.returns-in-Ok-clause-rest
-returns-in-Ok-clause-rest c =
+none_found : (x y : List ℕ) (rs : List Record) → x ≡ [] → found x y ≡ Some rs → rs ≡ []
+none_found x y rs is has =
+    let same : Some rs ≡ Some [] = sym has ∙ nothing_found x y is in cc
+
+pub returns-in-Ok : goal.returns-in-Ok
+returns-in-Ok c =
     let opened = c.in-Ok.ensures.ok tt tt in
-    subst (λ (l : List Record). HasRecords (state_of c.in-Ok.journal.a) (state_of c.in-Ok.journal.b) l) (none_found _ _ _ c.in_ok-a.ensures opened.was) opened.has
+    record { empty = (opened.durable ∙ none_found _ _ _ c.in_ok-a.ensures opened.was, c.in-Ok.ensures.fresh.0) }
