@@ -127,14 +127,10 @@ asks_place word text want no_question no_exclamation p = record {
   only = λ c v w e. asked_place word text want c.tuple c.want no_question no_exclamation p w e;
 }
 
-asks_none : (word : List ℕ) (t : Tuple) (want : Want) → ((rest : List ℕ) → word ≢ 63 ∷ rest) → ((rest : List ℕ) → word ≢ 33 ∷ rest) → NamesNoPlace word
-    → IsWanted want → word ≡ wanted_text (tuple_text t) want → ⊥
-asks_none word t (NotAfter place) no_question no_exclamation none w e = none (tuple_text t) place w e
-asks_none word t Exists no_question no_exclamation none w e = no_question (tuple_text t) e
-asks_none word t Absent no_question no_exclamation none w e = no_exclamation (tuple_text t) e
-
 pub asks_nothing : (word : List ℕ) → ((rest : List ℕ) → word ≢ 63 ∷ rest) → ((rest : List ℕ) → word ≢ 33 ∷ rest) → NamesNoPlace word → AsksNothing word
-asks_nothing word no_question no_exclamation none c v w e = asks_none word c.tuple c.want no_question no_exclamation none w e
+asks_nothing word no_question no_exclamation none text (NotAfter place) w e = none text place w e
+asks_nothing word no_question no_exclamation none text Exists w e = no_question text e
+asks_nothing word no_question no_exclamation none text Absent w e = no_exclamation text e
 
 -- a condition's text is that of no other
 pub condition_text_once : (a b : Condition) → IsTuple a.tuple × IsWanted a.want → IsTuple b.tuple × IsWanted b.want → condition_text a ≡ condition_text b → a ≡ b

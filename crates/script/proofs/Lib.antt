@@ -8,3 +8,4 @@ pub mod Asking
 pub mod Marks
 pub mod Writing
 pub mod Reading
+pub mod Causing

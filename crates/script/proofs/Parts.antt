@@ -1,18 +1,18 @@
 -- What the words of a list say of the values that they spell.
-use Rattle.std.proofs.Common.{◌≡◌, ℕ, suc, zero, ◌+◌, ◌<◌, List, [], ◌∷◌, ◌++◌, map, take, length, get_or, Option, Some, None, MatchOption, is_some, false, sym, ap, ◌∙◌, ◌⊎◌, inl, inr, Bor, arith}
+use Rattle.std.proofs.Common.{◌≡◌, subst, true, ℕ, suc, zero, ◌+◌, ◌<◌, List, [], ◌∷◌, ◌++◌, map, take, length, get_or, Option, Some, None, MatchOption, is_some, false, sym, ap, ◌∙◌, ◌⊎◌, inl, inr, Bor, arith}
 use Rattle.std.specs.List.{All}
 use Rattle.std.proofs.lemmas.Bool.{false≢true}
 use Rattle.std.proofs.lemmas.List.{take_more, map-append}
-use Rattle.std.proofs.lemmas.List.Elements.{All-head, All-tail}
+use Rattle.std.proofs.lemmas.List.Elements.{All-head, All-push, All-tail}
 use Rattle.tuples.specs.declared.change.Condition.{Condition}
 use Rattle.tuples.specs.declared.change.Want.{Want}
 use Rattle.tuples.specs.declared.tupleset.Tupleset.{Tupleset}
-use Rattle.tuples.specs.declared.refusal.Refusal.{Refusal}
-use Rattle.tuples.specs.declared.refusal.Refusal.TheVariants.{BadTuple, NoMemory}
+use Rattle.refusal.specs.declared.refusal.Refusal.{Refusal}
+use Rattle.refusal.specs.declared.refusal.Refusal.TheVariants.{BadTuple, NoMemory}
 use Rattle.tuples.specs.Changes.{tuple_of}
 use Rattle.tuples.specs.Texts.{IsTuple, IsTupleset, tupleset_text}
 use Rattle.script.specs.Lines.{IsWanted, change_text, condition_text}
-use Rattle.script.specs.Words.{IsRefused, AreChanges, AreConditions, AreSets, AsksNothing, IsAskedOf}
+use Rattle.script.specs.Words.{AreChanges, AreConditions, AreSets, AsksNothing, HasConditionShape, IsAskedOf, IsChangeOf, IsConditionOf, IsMisspelled}
 use Rattle.script.proofs.Texts.{each_change, each_condition}
 
 -- the value that a word spells
@@ -34,7 +34,7 @@ map_more {A} {B} {C} f g xs ys i d y h e here =
     ∙ sym (map-append g ys (y ∷ []))
 
 -- a word that is no change
-pub changes_refused : (words : List (Bor (List ℕ))) (i : ℕ) (d : Bor (List ℕ)) (e : Refusal) → i < length words → IsRefused (λ c. IsTuple (tuple_of c) × ((get_or words i d).now ≡ change_text c)) e → IsRefused (AreChanges (map (λ w. w.now) words)) e
+pub changes_refused : (words : List (Bor (List ℕ))) (i : ℕ) (d : Bor (List ℕ)) (e : Refusal) → i < length words → IsMisspelled (IsChangeOf (get_or words i d).now) e → IsMisspelled (AreChanges (map (λ w. w.now) words)) e
 changes_refused words i d e h (inl r) = inl (r.0, λ changes a. let v = value_at (λ w. w.now) change_text (λ c. IsTuple (tuple_of c)) words changes i d h a.0 (each_change IsTuple changes a.1) in r.1 v.0 (v.1, v.2))
 changes_refused words i d e h (inr r) = inr r
 
@@ -47,18 +47,30 @@ condition_at words cs i d h a = value_at (λ w. w.now) condition_text IsAsked wo
 
 -- a word that is no condition
 pub conditions_refused : (words : List (Bor (List ℕ))) (i : ℕ) (d : Bor (List ℕ)) (e : Refusal) → i < length words
-    → IsRefused (λ c. IsTuple c.tuple × IsWanted c.want × ((get_or words i d).now ≡ condition_text c)) e → IsRefused (AreConditions (map (λ w. w.now) words)) e
+    → IsMisspelled (IsConditionOf (get_or words i d).now) e → IsMisspelled (AreConditions (map (λ w. w.now) words)) e
 conditions_refused words i d e h (inl r) = inl (r.0, λ cs a. let v = condition_at words cs i d h a in r.1 v.0 (v.1.0, v.1.1, v.2))
 conditions_refused words i d e h (inr r) = inr r
 
-pub not_asked : (words : List (Bor (List ℕ))) (i : ℕ) (d : Bor (List ℕ)) → i < length words → AsksNothing (get_or words i d).now → (cs : List Condition) → AreConditions (map (λ w. w.now) words) cs → ⊥
-not_asked words i d h none cs a = let v = condition_at words cs i d h a in none v.0 v.1.0 v.1.1 v.2
+pub asked_none : (word : List ℕ) (r : Option (Bor (List ℕ) × Want)) → MatchOption r (AsksNothing word) (λ parts. IsAskedOf word parts.0.now parts.1) → is_some r ≡ false → HasConditionShape word → ⊥
+asked_none word None h none shape = h shape.0 shape.1 shape.2 shape.3
+asked_none word (Some parts) h none shape = absurd (false≢true (sym none))
 
-pub asked_none : (word : List ℕ) (r : Option (Bor (List ℕ) × Want)) → MatchOption r (AsksNothing word) (λ parts. IsAskedOf word parts.0.now parts.1) → is_some r ≡ false → AsksNothing word
-asked_none word None h none = h
-asked_none word (Some parts) h none = absurd (false≢true (sym none))
+pub asked_some : (word : List ℕ) (r : Option (Bor (List ℕ) × Want)) → MatchOption r (AsksNothing word) (λ parts. IsAskedOf word parts.0.now parts.1) → is_some r ≡ true → HasConditionShape word
+asked_some word None h some = absurd (false≢true some)
+asked_some word (Some parts) h some = (parts.0.now, parts.1, h.wanted, h.whole)
+
+-- what holds of each text holds of that of the word at a place
+pub all_at : {A B : Type 0} (f : A → B) (P : B → Type 0) (xs : List A) (i : ℕ) (d : A) → i < length xs → All P (map f xs) → P (f (get_or xs i d))
+all_at f P [] i d h each = absurd (omega arith)
+all_at f P (x ∷ xs) zero d h each = All-head P (f x) (map f xs) each
+all_at f P (x ∷ xs) (suc i) d h each = all_at f P xs i d (omega arith) (All-tail P (f x) (map f xs) each)
+
+-- and of one text more
+pub all_more : {A B : Type 0} (f : A → B) (P : B → Type 0) (xs : List A) (i : ℕ) (d : A) → i < length xs → All P (map f (take i xs)) → P (f (get_or xs i d)) → All P (map f (take (i + 1) xs))
+all_more {A} {B} f P xs i d h each here =
+    subst (λ (t : List B). All P t) (sym (ap (map f) (take_more xs i d h) ∙ map-append f (take i xs) (get_or xs i d ∷ []))) (All-push P (map f (take i xs)) (f (get_or xs i d)) each here)
 
 -- a word that is no tupleset
-pub sets_refused : (words : List (Bor (List ℕ))) (i : ℕ) (d : Bor (List ℕ)) (e : Refusal) → i < length words → (e ≡ BadTuple) ⊎ (e ≡ NoMemory) → (e ≡ BadTuple → (q : Tupleset) → IsTupleset q → (get_or words i d).now ≡ tupleset_text q → ⊥) → IsRefused (AreSets (map (λ w. w.now) words)) e
-sets_refused words i d e h (inl was) bad = inl (inr (inl was), λ sets a. let v = value_at (λ w. w.now) tupleset_text IsTupleset words sets i d h a.0 a.1 in bad was v.0 v.1 v.2)
+pub sets_refused : (words : List (Bor (List ℕ))) (i : ℕ) (d : Bor (List ℕ)) (e : Refusal) → i < length words → (e ≡ BadTuple) ⊎ (e ≡ NoMemory) → (e ≡ BadTuple → (q : Tupleset) → IsTupleset q → (get_or words i d).now ≡ tupleset_text q → ⊥) → IsMisspelled (AreSets (map (λ w. w.now) words)) e
+sets_refused words i d e h (inl was) bad = inl (was, λ sets a. let v = value_at (λ w. w.now) tupleset_text IsTupleset words sets i d h a.0 a.1 in bad was v.0 v.1 v.2)
 sets_refused words i d e h (inr was) bad = inr was

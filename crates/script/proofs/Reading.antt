@@ -9,10 +9,10 @@ use Rattle.std.proofs.lemmas.Bool.Decides.{nat_tests}
 use Rattle.tuples.specs.declared.object.Object.{Object}
 use Rattle.tuples.specs.declared.tupleset.Tupleset.{Tupleset}
 use Rattle.tuples.specs.declared.tupleset.Tupleset.TheVariants.{Key, OfObject, OfUser}
-use Rattle.tuples.specs.declared.refusal.Refusal.{Refusal}
+use Rattle.refusal.specs.declared.refusal.Refusal.{Refusal}
 use Rattle.tuples.specs.Texts.{IsObject, IsTupleset, object_text, relation_text, tupleset_text, user_text}
 use Rattle.script.specs.declared.command.Command.TheVariants.{Pass, WriteAll, ReadLatest, Rows, Restart, Fail}
-use Rattle.script.specs.Words.{SpellsWords, SpellNothing, IsRefused, AreSets}
+use Rattle.script.specs.Words.{SpellsWords, SpellNothing, IsMisspelled, IsRefused, AreSets}
 use Rattle.script.proofs.Lists.{heads, tails, not_both}
 
 not_write : codes "read" ≡ codes "write" → ⊥
@@ -91,8 +91,8 @@ empty_set f words some = read_only (f ∷ map (λ w. w.now) words) (λ sets h.
     not_both (list_any (λ (x : Bor (List ℕ)). is_none x.now) words) some (sym (any_map is_none (λ (x : Bor (List ℕ)). x.now) words) ∙ no))
 
 -- a refusal of the tuplesets is one of the read
-pub read_refused : (f : List ℕ) (ws : List (List ℕ)) (e : Refusal) → IsRefused (AreSets ws) e → IsRefused (SpellsWords (codes "read" ∷ f ∷ ws)) e
-read_refused f ws e (inl r) = inl (r.0, read_only (f ∷ ws) (λ sets h. r.1 sets.items (rest_of f ws _ h.0, h.3)))
+pub read_refused : (f : List ℕ) (ws : List (List ℕ)) (e : Refusal) → IsMisspelled (AreSets ws) e → IsRefused (SpellsWords (codes "read" ∷ f ∷ ws)) e
+read_refused f ws e (inl r) = inl (inr (inl r.0), read_only (f ∷ ws) (λ sets h. r.1 sets.items (rest_of f ws _ h.0, h.3)))
 read_refused f ws e (inr r) = inr r
 
 -- the same of words as they are cut
@@ -103,7 +103,7 @@ cut_words words sets f e = ap (map (λ (w : Bor (List ℕ)). w.now)) e
 pub cut_nothing : (words sets : List (Bor (List ℕ))) (f : Bor (List ℕ)) → words ≡ f ∷ sets → SpellNothing (codes "read" ∷ f.now ∷ map (λ w. w.now) sets) → SpellNothing (codes "read" ∷ map (λ w. w.now) words)
 cut_nothing words sets f e none = subst (λ (ws : List (List ℕ)). SpellNothing (codes "read" ∷ ws)) (sym (cut_words words sets f e)) none
 
-pub cut_refused : (words sets : List (Bor (List ℕ))) (f : Bor (List ℕ)) (e : Refusal) → words ≡ f ∷ sets → IsRefused (AreSets (map (λ w. w.now) sets)) e → IsRefused (SpellsWords (codes "read" ∷ map (λ w. w.now) words)) e
+pub cut_refused : (words sets : List (Bor (List ℕ))) (f : Bor (List ℕ)) (e : Refusal) → words ≡ f ∷ sets → IsMisspelled (AreSets (map (λ w. w.now) sets)) e → IsRefused (SpellsWords (codes "read" ∷ map (λ w. w.now) words)) e
 cut_refused words sets f e cut r = subst (λ (ws : List (List ℕ)). IsRefused (SpellsWords (codes "read" ∷ ws)) e) (sym (cut_words words sets f cut)) (read_refused f.now (map (λ w. w.now) sets) e r)
 
 no_items : (sets : List (Bor (List ℕ))) → eqb (length sets) 0 ≡ true → sets ≡ []

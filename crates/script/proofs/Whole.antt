@@ -12,8 +12,8 @@ use Rattle.tuples.specs.Texts.{IsTuple, IsTupleset, tupleset_text}
 use Rattle.script.specs.declared.command.Command.{Command}
 use Rattle.script.specs.declared.command.Command.TheVariants.{Pass, WriteAll, ReadLatest, Rows, Restart, Fail}
 use Rattle.script.specs.Lines.{Spells, IsPassed, IsWanted, change_text, condition_text, write_text, bank_text, tear_text}
-use Rattle.tuples.specs.declared.refusal.Refusal.{Refusal}
-use Rattle.tuples.specs.declared.refusal.Refusal.TheVariants.{BadRequest, BadTuple, TooLarge, Repeated, NoMemory}
+use Rattle.refusal.specs.declared.refusal.Refusal.{Refusal}
+use Rattle.refusal.specs.declared.refusal.Refusal.TheVariants.{BadRequest, BadTuple, TooLarge, Repeated, NoMemory}
 use Rattle.script.specs.Words.{IsRefused, SpellsWords, Reads, IsVerdict, if_words, words_of}
 use Rattle.script.proofs.Split.{split_at_space, split_last, split_texts, split_texts_more, join_texts, join_texts_more}
 use Rattle.script.proofs.Texts.{change_lacks, condition_lacks, tupleset_lacks, bank_lacks, tear_lacks, decimal_lacks, each_change, each_condition}

@@ -4,20 +4,20 @@ use Rattle.std.specs.List.{All, list_all}
 use Rattle.std.proofs.lemmas.List.{length-map}
 use Rattle.std.proofs.lemmas.Bool.{false≢true}
 use Rattle.std.proofs.lemmas.Bool.Decides.{nat_tests}
-use Rattle.std.proofs.lemmas.List.Elements.{All-head, All-tail}
+use Rattle.std.proofs.lemmas.List.Elements.{All-head, All-map, All-tail, All-weaker}
 use Rattle.tuples.specs.declared.change.Change.{Change}
 use Rattle.tuples.specs.declared.change.Change.TheVariants.{Touch, Delete}
 use Rattle.tuples.specs.declared.change.Condition.{Condition}
 use Rattle.tuples.specs.declared.tuple.Tuple.{Tuple}
-use Rattle.tuples.specs.declared.refusal.Refusal.{Refusal}
-use Rattle.tuples.specs.declared.refusal.Refusal.TheVariants.{BadRequest, TooLarge, Repeated}
+use Rattle.refusal.specs.declared.refusal.Refusal.{Refusal}
+use Rattle.refusal.specs.declared.refusal.Refusal.TheVariants.{BadRequest, TooLarge, Repeated}
 use Rattle.tuples.specs.Changes.{AreDistinct, tuple_of, changed, conditioned}
 use Rattle.tuples.specs.Texts.{IsTuple, tuple_text}
 use Rattle.tuples.specs.Writes.{WriteValue}
 use Rattle.tuples.proofs.Once.{tuple_text_once}
 use Rattle.script.specs.declared.command.Command.TheVariants.{Pass, WriteAll, ReadLatest, Rows, Restart, Fail}
 use Rattle.script.specs.Lines.{IsWanted, change_text, condition_text}
-use Rattle.script.specs.Words.{SpellsWords, SpellNothing, IsRefused, IsWriteOf, AreBehind, AreChanges, AreConditions, if_words, is_marked}
+use Rattle.script.specs.Words.{SpellsWords, SpellNothing, IsRefused, IsWriteOf, AreBehind, AreChanges, AreConditions, HasConditionShape, IsMisspelled, if_words, is_marked}
 use Rattle.script.proofs.Lists.{heads, tails, not_both}
 use Rattle.script.proofs.Asking.{condition_text_once}
 use Rattle.script.proofs.Texts.{each_change, each_condition}
@@ -66,7 +66,7 @@ nothing_cut y [] c behind marked e = no_more y c e
 nothing_cut y (x ∷ b) c behind marked e = differs is_marked y x marked behind (sym (heads x y b c e))
 
 -- words are cut in one way behind the changes in front
-cut_marked : (a b c d : List (List ℕ)) → list_all is_marked a ≡ true → list_all is_marked c ≡ true → AreBehind b → AreBehind d → a ++ b ≡ c ++ d → (a ≡ c) × (b ≡ d)
+pub cut_marked : (a b c d : List (List ℕ)) → list_all is_marked a ≡ true → list_all is_marked c ≡ true → AreBehind b → AreBehind d → a ++ b ≡ c ++ d → (a ≡ c) × (b ≡ d)
 cut_marked [] b [] d ma mc hb hd e = (refl, e)
 cut_marked [] b (y ∷ c) d ma mc hb hd e = absurd (nothing_cut y b (c ++ d) hb (first_marked y c mc) e)
 cut_marked (x ∷ a) b [] d ma mc hb hd e = absurd (nothing_cut x d (a ++ b) hd (first_marked x a ma) (sym e))
@@ -74,7 +74,7 @@ cut_marked (x ∷ a) b (y ∷ c) d ma mc hb hd e =
     let rest = cut_marked a b c d (rest_marked x a ma) (rest_marked y c mc) hb hd (tails x y (a ++ b) (c ++ d) e) in
     (ap (λ (w : List ℕ). w ∷ a) (heads x y (a ++ b) (c ++ d) e) ∙ ap (λ (ws : List (List ℕ)). y ∷ ws) rest.0, rest.1)
 
-if_behind : (ws : List (List ℕ)) → AreBehind (if_words ws)
+pub if_behind : (ws : List (List ℕ)) → AreBehind (if_words ws)
 if_behind [] = tt
 if_behind (w ∷ ws) = refl
 
@@ -85,7 +85,7 @@ behind_if words [] name none cut is e some = absurd (not_both none e some)
 behind_if words (c ∷ conditions) name none cut is e some =
     ap (map (λ (w : Bor (List ℕ)). w.now)) cut ∙ ap (λ (t : List ℕ). t ∷ map (λ (w : Bor (List ℕ)). w.now) (c ∷ conditions)) is
 
-if_words_once : (a b : List (List ℕ)) → if_words a ≡ if_words b → a ≡ b
+pub if_words_once : (a b : List (List ℕ)) → if_words a ≡ if_words b → a ≡ b
 if_words_once [] [] e = refl
 if_words_once [] (w ∷ b) e = absurd (no_more (codes "if") (w ∷ b) e)
 if_words_once (w ∷ a) [] e = absurd (no_more (codes "if") (w ∷ a) (sym e))
@@ -122,16 +122,21 @@ parts_spell ws front rest conditions w whole is h =
 
 -- the refusals of the parts
 
-pub changes_refuse : (changes conditions : List (List ℕ)) (e : Refusal) → IsRefused (AreChanges changes) e → IsRefused (IsWriteOf changes conditions) e
-changes_refuse changes conditions e (inl r) = inl (r.0, λ w h. r.1 w.changes (h.0, h.2.part.changes_spelled))
+pub changes_refuse : (changes conditions : List (List ℕ)) (e : Refusal) → IsMisspelled (AreChanges changes) e → IsRefused (IsWriteOf changes conditions) e
+changes_refuse changes conditions e (inl r) = inl (inr (inl r.0), λ w h. r.1 w.changes (h.0, h.2.part.changes_spelled))
 changes_refuse changes conditions e (inr r) = inr r
 
-pub conditions_refuse : (changes conditions : List (List ℕ)) (e : Refusal) → IsRefused (AreConditions conditions) e → IsRefused (IsWriteOf changes conditions) e
-conditions_refuse changes conditions e (inl r) = inl (r.0, λ w h. r.1 w.conditions (h.1, h.2.part.conditions_spelled, h.3))
+pub conditions_refuse : (changes conditions : List (List ℕ)) (e : Refusal) → IsMisspelled (AreConditions conditions) e → IsRefused (IsWriteOf changes conditions) e
+conditions_refuse changes conditions e (inl r) = inl (inr (inl r.0), λ w h. r.1 w.conditions (h.1, h.2.part.conditions_spelled, h.3))
 conditions_refuse changes conditions e (inr r) = inr r
 
-pub nothing_asked : (changes conditions : List (List ℕ)) → ((cs : List Condition) → AreConditions conditions cs → ⊥) → (w : WriteValue) → IsWriteOf changes conditions w → ⊥
-nothing_asked changes conditions none w h = none w.conditions (h.1, h.2.part.conditions_spelled, h.3)
+-- conditions are in their shape
+asked_all : (words : List (List ℕ)) (cs : List Condition) → AreConditions words cs → All HasConditionShape words
+asked_all words cs a = subst (λ (ws : List (List ℕ)). All HasConditionShape ws) (sym a.0)
+    (All-map HasConditionShape condition_text cs (All-weaker (λ (c : Condition). IsWanted c.want) (λ c. HasConditionShape (condition_text c)) (λ c wanted. (tuple_text c.tuple, c.want, wanted, refl)) cs a.2))
+
+pub nothing_asked : (changes conditions : List (List ℕ)) → (All HasConditionShape conditions → ⊥) → (w : WriteValue) → IsWriteOf changes conditions w → ⊥
+nothing_asked changes conditions none w h = none (asked_all conditions w.conditions (h.1, h.2.part.conditions_spelled, h.3))
 
 marks_apart : (xs ys : List ℕ) → 43 ∷ xs ≡ 45 ∷ ys → ⊥
 marks_apart xs ys e = false≢true (sym (ap (λ (x : List ℕ). eqb (get_or x 0 0) 43) e))

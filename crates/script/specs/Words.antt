@@ -6,10 +6,10 @@ use Rattle.tuples.specs.declared.change.Change.{Change}
 use Rattle.tuples.specs.declared.change.Condition.{Condition}
 use Rattle.tuples.specs.declared.change.Want.{Want}
 use Rattle.tuples.specs.declared.change.Want.TheVariants.{NotAfter}
-use Rattle.tuples.specs.declared.refusal.Refusal.{Refusal}
-use Rattle.tuples.specs.declared.refusal.Refusal.TheVariants.{BadRequest, BadTuple, TooLarge, Repeated, NoMemory}
+use Rattle.refusal.specs.declared.refusal.Refusal.{Refusal}
+use Rattle.refusal.specs.declared.refusal.Refusal.TheVariants.{BadRequest, BadTuple, TooLarge, Repeated, NoMemory}
 use Rattle.tuples.specs.declared.tupleset.Tupleset.{Tupleset}
-use Rattle.tuples.specs.Changes.{IsWrite, changed, conditioned}
+use Rattle.tuples.specs.Changes.{IsWrite, changed, conditioned, tuple_of}
 use Rattle.tuples.specs.Parsing.{SpellsNone}
 use Rattle.tuples.specs.Texts.{IsTuple, IsTupleset, tuple_text, tupleset_text}
 use Rattle.tuples.specs.Writes.{WriteValue}
@@ -51,6 +51,10 @@ IsVerdict e = (e ≡ BadRequest) ⊎ ((e ≡ BadTuple) ⊎ ((e ≡ TooLarge) ⊎
 abbrev pub IsRefused : {A : Type 0} → (A → Type 0) → Refusal → Type 0
 IsRefused {A} IsRead e = (IsVerdict e × ((a : A) → IsRead a → ⊥)) ⊎ (e ≡ NoMemory)
 
+-- why no value is read of words in their shape: a text is none of the grammar, or no memory
+abbrev pub IsMisspelled : {A : Type 0} → (A → Type 0) → Refusal → Type 0
+IsMisspelled {A} IsRead e = ((e ≡ BadTuple) × ((a : A) → IsRead a → ⊥)) ⊎ (e ≡ NoMemory)
+
 -- a value that is read
 abbrev pub Reads : {A : Type 0} → (A → Type 0) → Result A Refusal → Type 0
 Reads IsRead (Ok a) = IsRead a
@@ -64,6 +68,14 @@ ReadsText IsValid text_of text (Some a) = IsValid a × (text ≡ text_of a)
 -- each word is a change
 abbrev pub AreChanges : List (List ℕ) → List Change → Type 0
 AreChanges words changes = (words ≡ map change_text changes) × All IsTuple (changed changes)
+
+-- the word is this change
+abbrev pub IsChangeOf : List ℕ → Change → Type 0
+IsChangeOf word c = IsTuple (tuple_of c) × (word ≡ change_text c)
+
+-- the word is this condition
+abbrev pub IsConditionOf : List ℕ → Condition → Type 0
+IsConditionOf word c = IsTuple c.tuple × IsWanted c.want × (word ≡ condition_text c)
 
 -- each word is a condition
 abbrev pub AreConditions : List (List ℕ) → List Condition → Type 0
@@ -89,9 +101,13 @@ pub record IsPlacedOf (word text : List ℕ) (want : Want) : Type 0 where
 abbrev pub NamesNoPlace : List ℕ → Type 0
 NamesNoPlace word = (text : List ℕ) (place : ℕ) → place < 2 ^ 63 → word ≡ wanted_text text (NotAfter place) → ⊥
 
--- the word spells no condition
+-- the word is in a condition's shape: some text, which may be no tuple's, and what is wanted of it
+abbrev pub HasConditionShape : List ℕ → Type 0
+HasConditionShape word = (text : List ℕ) × (want : Want) × IsWanted want × (word ≡ wanted_text text want)
+
+-- the word is in no condition's shape
 abbrev pub AsksNothing : List ℕ → Type 0
-AsksNothing word = (c : Condition) → IsTuple c.tuple → IsWanted c.want → word ≡ condition_text c → ⊥
+AsksNothing word = (text : List ℕ) (want : Want) → IsWanted want → word ≡ wanted_text text want → ⊥
 
 -- each word is a tupleset
 abbrev pub AreSets : List (List ℕ) → List Tupleset → Type 0

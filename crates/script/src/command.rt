@@ -1,8 +1,9 @@
 // The commands of a script.
-ghost use Rattle.std.specs.Prelude.{◌≡◌, ◌≤◌, ◌⊎◌, ◌↔◌, ◌∷◌, IfOk, IfErr, IsErrOf, IsTrue, MatchOption, codes, length, map};
+ghost use Rattle.std.specs.Prelude.{◌≡◌, ◌≤◌, ◌<◌, ◌⊎◌, ◌↔◌, ◌∷◌, IfOk, IfErr, IsErrOf, IsTrue, MatchOption, codes, length, map};
 ghost use Rattle.script.specs.declared.command.Command.{Command as AnyCommand};
 ghost use Rattle.script.specs.Lines.{IsPassed, Spells};
-ghost use Rattle.script.specs.Words.{Reads, SpellNothing, SpellsWords};
+ghost use Rattle.script.specs.Causes.{AreTooMany, HaveBadText, HaveNoShape, HaveRepeats, IsCause};
+ghost use Rattle.script.specs.Words.{Reads, SpellNothing, SpellsWords, words_of};
 
 use crate::fail::parse_fail;
 use crate::read::parse_read;
@@ -37,11 +38,18 @@ pub enum Command {
 }
 
 impl Command {
-    /// The command that the line spells. In this order: `TooLarge` for a line past the limit, `BadRequest` where its words are in no
-    /// command's shape, `TooLarge` for more changes, conditions or tuplesets than the limits, `BadTuple` where a text is none, `Repeated`
-    /// where two changes or two conditions name one tuple; `NoMemory`.
+    /// The command that the line spells; the line comes without its line feed. A refusal is that of the first thing wrong, in this
+    /// order: `TooLarge` for a line past the limit, `BadRequest` where its words are in no command's shape, `TooLarge` for more changes,
+    /// conditions or tuplesets than the limits, `BadTuple` where a text is none, `Repeated` where two changes or two conditions name one
+    /// tuple. `NoMemory` may come over any line that is not passed.
     pub fn parse(alloc: Global, line: &[u8]) -> Result<Command, Refusal>
+        ensures long { 262144 < length line.now → IsErrOf result Refusal.TooLarge }
+        ensures passed { IsPassed line.now → length line.now ≤ 262144 → IfErr result (λ e. ⊥) }
         ensures ok { IfOk result (Spells line.now) }
+        ensures shape { IsErrOf result Refusal.BadRequest → HaveNoShape (words_of line.now) }
+        ensures sizes { IsErrOf result Refusal.TooLarge → (262144 < length line.now) ⊎ AreTooMany (words_of line.now) }
+        ensures texts { IsErrOf result Refusal.BadTuple → HaveBadText (words_of line.now) }
+        ensures repeats { IsErrOf result Refusal.Repeated → HaveRepeats (words_of line.now) }
         ensures none { IfErr result (λ e. (e ≡ Refusal.BadRequest) ⊎ ((e ≡ Refusal.BadTuple) ⊎ (e ≡ Refusal.Repeated)) → (c : AnyCommand) → Spells line.now c → ⊥) }
         ensures large { IsErrOf result Refusal.TooLarge → length line.now ≤ 262144 → (c : AnyCommand) → Spells line.now c → ⊥ }
         ensures err { IfErr result (λ e. (e ≡ Refusal.BadRequest) ⊎ ((e ≡ Refusal.BadTuple) ⊎ ((e ≡ Refusal.TooLarge) ⊎ ((e ≡ Refusal.Repeated) ⊎ (e ≡ Refusal.NoMemory))))) }
@@ -67,7 +75,8 @@ fn is_passed(line: &[u8]) -> bool
 }
 
 fn parse_words(alloc: Global, words: &[&[u8]]) -> Result<Command, Refusal>
-    ensures { Reads (SpellsWords (map (λ w. w.now) words.now)) result }
+    ensures command { Reads (SpellsWords (map (λ w. w.now) words.now)) result }
+    ensures cause { IfErr result (IsCause (map (λ w. w.now) words.now)) }
 {
     let Some((name, words)) = words.split_first() else {
         return Err(Refusal::BadRequest);

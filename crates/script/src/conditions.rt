@@ -1,10 +1,7 @@
 // Conditions, as `doc:a#lock@lock=3`, `?doc:a#viewer@ann` or `!doc:a#viewer@ann`.
-ghost use Rattle.std.specs.Prelude.{◌≡◌, ◌∷◌, ◌++◌, ℕ, List, MatchOption, MatchResult, true, false, map};
-ghost use Rattle.tuples.specs.declared.change.Condition.{Condition as AnyCondition};
+ghost use Rattle.std.specs.Prelude.{◌≡◌, ◌∷◌, ◌++◌, ◌↔◌, All, IsTrue, MatchOption, MatchResult, map};
 ghost use Rattle.tuples.specs.Parsing.{Lacks};
-ghost use Rattle.tuples.specs.Texts.{IsTuple};
-ghost use Rattle.script.specs.Lines.{IsWanted, condition_text};
-ghost use Rattle.script.specs.Words.{AreConditions, AsksNothing, IsAskedOf, IsPlacedOf, IsRefused, NamesNoPlace, Reads};
+ghost use Rattle.script.specs.Words.{AreConditions, AsksNothing, HasConditionShape, IsAskedOf, IsConditionOf, IsMisspelled, IsPlacedOf, NamesNoPlace};
 
 use crate::numbers::parse_place;
 use std::alloc::Global;
@@ -12,7 +9,7 @@ use tuples::{Condition, Refusal, Tuple, Want};
 
 /// Whether each word is in a condition's shape. It says nothing of the text of the tuple.
 pub(crate) fn are_asked(words: &[&[u8]]) -> bool
-    ensures { result ≡ false → (conditions : List AnyCondition) → AreConditions (map (λ w. w.now) words.now) conditions → ⊥ }
+    ensures { IsTrue result ↔ All HasConditionShape (map (λ w. w.now) words.now) }
 {
     for word in words {
         if split_condition(word).is_none() {
@@ -24,7 +21,7 @@ pub(crate) fn are_asked(words: &[&[u8]]) -> bool
 
 /// The conditions of these words.
 pub(crate) fn parse_conditions(alloc: Global, words: &[&[u8]]) -> Result<Vec<Condition>, Refusal>
-    ensures { MatchResult result (λ conditions. AreConditions (map (λ w. w.now) words.now) conditions.items) (IsRefused (AreConditions (map (λ w. w.now) words.now))) }
+    ensures { MatchResult result (λ conditions. AreConditions (map (λ w. w.now) words.now) conditions.items) (IsMisspelled (AreConditions (map (λ w. w.now) words.now))) }
 {
     let mut conditions = Vec::with_capacity(alloc, words.len())?;
     for word in words {
@@ -34,10 +31,10 @@ pub(crate) fn parse_conditions(alloc: Global, words: &[&[u8]]) -> Result<Vec<Con
 }
 
 fn parse_condition(alloc: Global, word: &[u8]) -> Result<Condition, Refusal>
-    ensures { Reads (λ condition. IsTuple condition.tuple × IsWanted condition.want × (word.now ≡ condition_text condition)) result }
+    ensures { MatchResult result (IsConditionOf word.now) (IsMisspelled (IsConditionOf word.now)) }
 {
     let Some((tuple, want)) = split_condition(word) else {
-        return Err(Refusal::BadRequest);
+        return Err(Refusal::BadTuple);
     };
     let tuple = Tuple::parse(alloc, tuple)?;
     Ok(Condition { tuple, want })

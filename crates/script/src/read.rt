@@ -1,7 +1,8 @@
 // Reads, as `read latest doc:a doc#viewer@ann`.
-ghost use Rattle.std.specs.Prelude.{◌≡◌, ◌∷◌, ◌==◌, MatchResult, codes, length, map};
+ghost use Rattle.std.specs.Prelude.{◌≡◌, ◌∷◌, ◌==◌, IfErr, MatchResult, codes, length, map};
 ghost use Rattle.std.specs.List.{list_any};
-ghost use Rattle.script.specs.Words.{AreSets, IsRefused, Reads, SpellsWords};
+ghost use Rattle.script.specs.Causes.{IsCause};
+ghost use Rattle.script.specs.Words.{AreSets, IsMisspelled, Reads, SpellsWords};
 
 use crate::{Command, MAX_SETS};
 use std::alloc::Global;
@@ -9,7 +10,8 @@ use tuples::{Refusal, Tupleset};
 
 /// The read of these words, which stand behind `read`.
 pub(crate) fn parse_read(alloc: Global, words: &[&[u8]]) -> Result<Command, Refusal>
-    ensures { Reads (SpellsWords (codes "read" ∷ map (λ w. w.now) words.now)) result }
+    ensures read { Reads (SpellsWords (codes "read" ∷ map (λ w. w.now) words.now)) result }
+    ensures cause { IfErr result (IsCause (codes "read" ∷ map (λ w. w.now) words.now)) }
 {
     let Some((freshness, sets)) = words.split_first() else {
         return Err(Refusal::BadRequest);
@@ -30,7 +32,7 @@ fn has_empty(words: &[&[u8]]) -> bool
 }
 
 fn parse_sets(alloc: Global, words: &[&[u8]]) -> Result<Vec<Tupleset>, Refusal>
-    ensures { MatchResult result (λ sets. AreSets (map (λ w. w.now) words.now) sets.items) (IsRefused (AreSets (map (λ w. w.now) words.now))) }
+    ensures { MatchResult result (λ sets. AreSets (map (λ w. w.now) words.now) sets.items) (IsMisspelled (AreSets (map (λ w. w.now) words.now))) }
 {
     let mut sets = Vec::with_capacity(alloc, words.len())?;
     for word in words {

@@ -1,10 +1,8 @@
 // Writes, as `write +doc:a#viewer@ann -doc:a#viewer@bob if doc:a#lock@lock=3`.
-ghost use Rattle.std.specs.Prelude.{◌≡◌, ◌∷◌, ◌++◌, List, ℕ, MatchOption, MatchResult, codes, map, not, true};
+ghost use Rattle.std.specs.Prelude.{◌≡◌, ◌∷◌, ◌++◌, IfErr, List, ℕ, MatchOption, MatchResult, codes, map, not, true};
 ghost use Rattle.std.specs.List.{list_all, position};
-ghost use Rattle.tuples.specs.Changes.{tuple_of};
-ghost use Rattle.tuples.specs.Texts.{IsTuple};
-ghost use Rattle.script.specs.Lines.{change_text};
-ghost use Rattle.script.specs.Words.{AreBehind, AreChanges, IsRefused, IsWriteOf, Reads, SpellsWords, if_words, is_marked};
+ghost use Rattle.script.specs.Causes.{IsCause, IsPartsCause};
+ghost use Rattle.script.specs.Words.{AreBehind, AreChanges, IsChangeOf, IsMisspelled, IsWriteOf, Reads, SpellsWords, if_words, is_marked};
 
 use crate::Command;
 use crate::conditions::{are_asked, parse_conditions};
@@ -13,7 +11,8 @@ use tuples::{Change, MAX_CHANGES, MAX_CONDITIONS, Refusal, Tuple, Write};
 
 /// The write of these words, which stand behind `write`.
 pub(crate) fn parse_write(alloc: Global, words: &[&[u8]]) -> Result<Command, Refusal>
-    ensures { Reads (SpellsWords (codes "write" ∷ map (λ w. w.now) words.now)) result }
+    ensures write { Reads (SpellsWords (codes "write" ∷ map (λ w. w.now) words.now)) result }
+    ensures cause { IfErr result (IsCause (codes "write" ∷ map (λ w. w.now) words.now)) }
 {
     let (changes, rest) = split_changes(words);
     let Some(conditions) = words_behind_if(rest) else {
@@ -55,7 +54,9 @@ fn words_behind_if<'a>(words: &'a [&'a [u8]]) -> Option<&'a [&'a [u8]]>
 }
 
 fn parse_parts(alloc: Global, changes: &[&[u8]], conditions: &[&[u8]]) -> Result<Write, Refusal>
-    ensures { Reads (IsWriteOf (map (λ w. w.now) changes.now) (map (λ w. w.now) conditions.now)) result }
+    requires { list_all is_marked (map (λ w. w.now) changes.now) ≡ true }
+    ensures cause { IfErr result (IsPartsCause (map (λ w. w.now) changes.now) (map (λ w. w.now) conditions.now)) }
+    ensures write { Reads (IsWriteOf (map (λ w. w.now) changes.now) (map (λ w. w.now) conditions.now)) result }
 {
     if changes.is_empty() || !are_asked(conditions) {
         return Err(Refusal::BadRequest);
@@ -79,7 +80,7 @@ fn is_marked(word: &[u8]) -> bool
 }
 
 fn parse_changes(alloc: Global, words: &[&[u8]]) -> Result<Vec<Change>, Refusal>
-    ensures { MatchResult result (λ changes. AreChanges (map (λ w. w.now) words.now) changes.items) (IsRefused (AreChanges (map (λ w. w.now) words.now))) }
+    ensures { MatchResult result (λ changes. AreChanges (map (λ w. w.now) words.now) changes.items) (IsMisspelled (AreChanges (map (λ w. w.now) words.now))) }
 {
     let mut changes = Vec::with_capacity(alloc, words.len())?;
     for word in words {
@@ -89,11 +90,11 @@ fn parse_changes(alloc: Global, words: &[&[u8]]) -> Result<Vec<Change>, Refusal>
 }
 
 fn parse_change(alloc: Global, word: &[u8]) -> Result<Change, Refusal>
-    ensures { Reads (λ change. IsTuple (tuple_of change) × (word.now ≡ change_text change)) result }
+    ensures { MatchResult result (IsChangeOf word.now) (IsMisspelled (IsChangeOf word.now)) }
 {
     match word.split_first() {
         Some((b'+', tuple)) => Ok(Change::Touch(Tuple::parse(alloc, tuple)?)),
         Some((b'-', tuple)) => Ok(Change::Delete(Tuple::parse(alloc, tuple)?)),
-        _ => Err(Refusal::BadRequest),
+        _ => Err(Refusal::BadTuple),
     }
 }

@@ -3,7 +3,7 @@ use Rattle.std.specs.List.{All}
 use Rattle.std.proofs.lemmas.Result.{err_from_is_err_and}
 use Rattle.std.proofs.lemmas.List.Elements.{All-push}
 use Rattle.tuples.specs.declared.tupleset.Tupleset.{Tupleset}
-use Rattle.tuples.specs.declared.refusal.Refusal.{Refusal}
+use Rattle.refusal.specs.declared.refusal.Refusal.{Refusal}
 use Rattle.tuples.specs.Texts.{IsTupleset, tupleset_text}
 use Rattle.script.proofs.Parts.{sets_refused, map_more}
 use Rattle.script.proofs.read.parse_sets.Goals as goal

@@ -1,0 +1,5 @@
+use Rattle.connections.proofs.Keeping.{forks_worker}
+use Rattle.connections.proofs.connections.Connections.worker.Goals as goal
+
+pub another-pass-requires-clause-rule : goal.another-pass-requires-clause-rule
+another-pass-requires-clause-rule g c = forks_worker _ _

@@ -1,5 +1,0 @@
-use Rattle.sessions.proofs.Keeping.{begins}
-use Rattle.sessions.proofs.connections.Connections.empty.Goals as goal
-
-pub ruled-requires-clause-rule : goal.ruled-requires-clause-rule
-ruled-requires-clause-rule g c = begins

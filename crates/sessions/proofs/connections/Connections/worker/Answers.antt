@@ -1,5 +1,0 @@
-use Rattle.sessions.proofs.Keeping.{forks_worker}
-use Rattle.sessions.proofs.connections.Connections.worker.Goals as goal
-
-pub another-pass-requires-clause-rule : goal.another-pass-requires-clause-rule
-another-pass-requires-clause-rule g c = forks_worker _ _
