@@ -1,5 +1,0 @@
-use Rattle.cluster.proofs.Locks.{doubts_apart}
-use Rattle.cluster.proofs.lock_laws.writes_in_doubt_are_apart.Goals as goal
-
-pub returns : goal.returns
-returns c = doubts_apart

@@ -1,5 +1,0 @@
-use Rattle.cluster.proofs.Reading.{reads_answer}
-use Rattle.cluster.proofs.reading_laws.reads_agree.Goals as goal
-
-pub returns : goal.returns
-returns g c = λ store shards. reads_answer store shards g.W.Leavings.left

@@ -1,5 +1,0 @@
-use Rattle.cluster.proofs.Reading.{shard_rows_show_snapshots}
-use Rattle.cluster.proofs.reading_laws.shard_rows_show_snapshots.Goals as goal
-
-pub returns : goal.returns
-returns c = shard_rows_show_snapshots

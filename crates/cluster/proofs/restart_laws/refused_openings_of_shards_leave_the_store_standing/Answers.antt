@@ -1,5 +1,0 @@
-use Rattle.cluster.proofs.Refusing.{refused_shards_stand}
-use Rattle.cluster.proofs.restart_laws.refused_openings_of_shards_leave_the_store_standing.Goals as goal
-
-pub returns : goal.returns
-returns g c = λ store shards. refused_shards_stand store shards g.W.Leavings.left g.W.Leavings.left_after

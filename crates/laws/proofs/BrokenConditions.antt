@@ -1,0 +1,90 @@
+-- A condition that is met after the whole log is met by the rows of its tuple's shard, where no write in doubt names the tuple.
+use Rattle.std.proofs.Common.{◌≡◌, ⊎_elim, ℕ, Bool, true, false, ◌||◌, ◌==◌, ◌+◌, ◌<◌, ◌≤◌, max, List, [], ◌∷◌, ◌++◌, take, filter, refl, sym, ◌∙◌, ap, subst, arith, if◌then◌else◌, length, nat_lt, ◌&&◌, not}
+use Rattle.std.proofs.lemmas.Bool.{cases_Bool, eq-eqb, le-leb, leb-true}
+use Rattle.tuples.specs.declared.tuple.Tuple.{Tuple}
+use Rattle.tuples.specs.declared.change.Change.{Change}
+use Rattle.tuples.specs.declared.change.Want.{Want}
+use Rattle.tuples.specs.declared.change.Want.TheVariants.{NotAfter, Exists, Absent}
+use Rattle.tuples.specs.declared.entry.Entry.{Entry}
+use Rattle.tuples.specs.declared.version.Version.{Version}
+use Rattle.tuples.specs.Changes.{changed, has_tuple, tuple_of}
+use Rattle.tuples.specs.Log.{is_at, last_from, last_place, meets_want}
+use Rattle.tuples.specs.Order.{tuple_eq}
+use Rattle.tuples.specs.Parts.{shard_of}
+use Rattle.tuples.specs.Versions.{changes_from, collected, last_version, of_shard, placed, there_at, versions, is_touch, superseded}
+use Rattle.versions.proofs.Alike.{last_alike}
+use Rattle.laws.specs.LockLaws.{MetConditionsAreMetHere}
+use Rattle.laws.proofs.PreparableConditions.{last_before, there_before, there_by_rows, unheld_unchanged}
+use Rattle.records.specs.Replays.{ShardState}
+use Rattle.laws.specs.Shards.{ShardMeans}
+
+either : (b d : Bool) (place last : ℕ) → (if b then max place (if d then max place last else last) else (if d then max place last else last)) ≡ (if b || d then max place last else last)
+either true true place last = omega arith
+either true false place last = refl
+either false d place last = refl
+
+-- the last version behind the changes of one place
+last_placed : (place : ℕ) (changes : List Change) (rows : List Version) (t : Tuple)
+    → last_version (placed place changes ++ rows) t ≡ (if has_tuple t (changed changes) then max place (last_version rows t) else last_version rows t)
+unfolding last_version
+last_placed place [] rows t = refl
+last_placed place (c ∷ changes) rows t =
+    let last = last_version rows t in
+    ap (λ (n : ℕ). if tuple_eq t (tuple_of c) then max place n else n) (last_placed place changes rows t)
+    ∙ either (tuple_eq t (tuple_of c)) (has_tuple t (changed changes)) place last
+
+step : (named : Bool) (found place last : ℕ) → found < place → max (if named then place else found) last ≡ max found (if named then max place last else last)
+step true found place last lt = omega arith
+step false found place last lt = refl
+
+bound : (named : Bool) (found place : ℕ) → found < place → (if named then place else found) < place + 1
+bound true found place lt = omega arith
+bound false found place lt = omega arith
+
+last_none : (found : ℕ) (t : Tuple) → found ≡ max found (last_version [] t)
+unfolding last_version
+last_none found t = omega arith
+
+-- the last change of a log by its versions
+last_from_is : (found place : ℕ) (t : Tuple) (log : List Entry) → found < place → last_from found place t log ≡ max found (last_version (changes_from place log) t)
+last_from_is found place t [] lt = last_none found t
+last_from_is found place t (w ∷ log) lt =
+    let named = has_tuple t (changed w.changes) in
+    last_from_is (if named then place else found) (place + 1) t log (bound named found place lt)
+    ∙ step named found place (last_version (changes_from (place + 1) log) t) lt
+    ∙ ap (λ (n : ℕ). max found n) (sym (last_placed place w.changes (changes_from (place + 1) log) t))
+
+-- the last of some versions is no later than the last of all
+last_some : (p : Version → Bool) (rows : List Version) (t : Tuple) → last_version (filter p rows) t ≤ last_version rows t
+unfolding last_version
+last_some p [] t = omega arith
+last_some p (v ∷ rows) t =
+    let rest = last_some p rows t in
+    ⊎_elim
+    (λ yes. ⊎_elim (λ is. rw yes (rw is (omega (arith, rest)))) (λ other. rw yes (rw other rest)) (cases_Bool (tuple_eq t (tuple_of v.change))))
+    (λ no. ⊎_elim (λ is. rw no (rw is (omega (arith, rest)))) (λ other. rw no (rw other rest)) (cases_Bool (tuple_eq t (tuple_of v.change))))
+    (cases_Bool (p v))
+
+rows_last : (shards s : ℕ) (log : List Entry) (hc h : ℕ) (state : ShardState) → ShardMeans shards s log hc h state → (t : Tuple) → last_version state.rows t ≤ last_place (take state.learned log) t
+unfolding versions collected last_place
+rows_last shards s log hc h state m t =
+    let all = changes_from 1 (take state.learned log) in
+    let rows : last_version state.rows t ≡ last_version (of_shard shards s (versions log state.learned state.horizon)) t = last_alike m.rows t in
+    let own_rows = last_some (λ (v : Version). shard_of shards (tuple_of v.change).object == s) (collected state.horizon all) t in
+    let kept_rows = last_some (λ (v : Version). nat_lt state.horizon v.place || (is_touch v.change && not (superseded state.horizon v all))) all t in
+    let is = last_from_is 0 1 t (take state.learned log) (omega arith) in
+    omega (arith, rows, own_rows, kept_rows, is)
+
+by_want : (want : Want) (of_rows of_log : ℕ) (there : Bool) → of_rows ≤ of_log → meets_want want of_log there ≡ true → meets_want want of_rows there ≡ true
+by_want (NotAfter place) of_rows of_log there low met = let at : of_log ≤ place = leb-true _ _ met in le-leb of_rows place (omega (arith, low, at))
+by_want Exists of_rows of_log there low met = met
+by_want Absent of_rows of_log there low met = met
+
+pub met_conditions_are_met_here : MetConditionsAreMetHere
+met_conditions_are_met_here shards s log hc h state c is_log le m is_own free holds =
+    let t = c.tuple in
+    let own : (shard_of shards t.object == s) ≡ true = eq-eqb (shard_of shards t.object) s is_own in
+    let none = unheld_unchanged shards s log hc h state is_log le m t own free in
+    let there : there_at state.rows state.learned t ≡ is_at log (length log) t = there_by_rows shards s log hc h state is_log le m t own ∙ sym (there_before t log state.learned none) in
+    let last : last_version state.rows t ≤ last_place log t = subst (λ (n : ℕ). last_version state.rows t ≤ n) (sym (last_before t log state.learned none)) (rows_last shards s log hc h state m t) in
+    by_want c.want (last_version state.rows t) (last_place log t) (there_at state.rows state.learned t) last (ap (λ (b : Bool). meets_want c.want (last_place log t) b) there ∙ holds)

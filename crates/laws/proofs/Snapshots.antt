@@ -1,0 +1,109 @@
+-- The versions of a log give back its snapshots.
+use Rattle.std.proofs.Common.{◌≡◌, ◌⊎◌, inl, inr, ⊎_elim, ℕ, zero, suc, Bool, true, false, ◌+◌, ◌-◌, ◌<◌, ◌≤◌, ◌==◌, nat_le, List, [], ◌∷◌, ◌++◌, map, filter, take, refl, sym, ◌∙◌, ap, arith}
+use Rattle.std.proofs.lemmas.Bool.{cases_Bool, le-leb, lt-leb, leb-true, leb-false, eq-eqb}
+use Rattle.std.proofs.lemmas.List.Elements.{filter-append}
+use Rattle.std.specs.List.{flat_map}
+use Rattle.tuples.specs.declared.tuple.Tuple.{Tuple}
+use Rattle.tuples.specs.declared.change.Change.{Change}
+use Rattle.tuples.specs.declared.entry.Entry.{Entry}
+use Rattle.tuples.specs.declared.version.Version.{Version}
+use Rattle.tuples.specs.Changes.{tuple_of}
+use Rattle.tuples.specs.Log.{is_at, there_after}
+use Rattle.tuples.specs.Parts.{shard_of}
+use Rattle.tuples.specs.Versions.{placed, changes_from, collected, of_shard, there_at, versions}
+use Rattle.records.specs.Replays.{ShardState}
+use Rattle.laws.specs.Shards.{ShardMeans}
+use Rattle.laws.proofs.Rows.{above_changes, kept_all}
+use Rattle.versions.proofs.Alike.{alike_same, alike_trans, there_at_alike}
+use Rattle.versions.specs.Alike.{AreAlike}
+
+abbrev at_or_below : ℕ → Version → Bool
+at_or_below s v = nat_le v.place s
+
+abbrev changes_of : List Version → List Change
+changes_of = map (λ (v : Version). v.change)
+
+map-append : (xs ys : List Version) → changes_of (xs ++ ys) ≡ changes_of xs ++ changes_of ys
+map-append [] ys = refl
+map-append (x ∷ xs) ys = ap (λ (l : List Change). x.change ∷ l) (map-append xs ys)
+
+-- changes at a place that counts all count
+all_count : (s place : ℕ) (changes : List Change) → place ≤ s → changes_of (filter (at_or_below s) (placed place changes)) ≡ changes
+all_count s place [] le = refl
+all_count s place (c ∷ changes) le = rw (le-leb place s le) (ap (λ (l : List Change). c ∷ l) (all_count s place changes le))
+
+none_counts : (s place : ℕ) (changes : List Change) → s < place → filter (at_or_below s) (placed place changes) ≡ []
+none_counts s place [] lt = refl
+none_counts s place (c ∷ changes) lt = rw (lt-leb place s lt) (none_counts s place changes lt)
+
+none_counts_from : (s place : ℕ) (log : List Entry) → s < place → filter (at_or_below s) (changes_from place log) ≡ []
+none_counts_from s place [] lt = refl
+none_counts_from s place (w ∷ log) lt =
+    filter-append (at_or_below s) (placed place w.changes) (changes_from (place + 1) log)
+    ∙ ap (λ (l : List Version). l ++ filter (at_or_below s) (changes_from (place + 1) log)) (none_counts s place w.changes lt)
+    ∙ none_counts_from s (place + 1) log (omega arith)
+
+cases_le : (a b : ℕ) → (a ≤ b) ⊎ (b < a)
+cases_le a b = ⊎_elim (λ yes. inl (leb-true a b yes)) (λ no. inr (leb-false a b no)) (cases_Bool (nat_le a b))
+
+take_none : {X : Type 0} (n : ℕ) (xs : List X) → n ≡ 0 → take n xs ≡ []
+take_none n xs is = ap (λ k. take k xs) is ∙ refl
+
+-- the changes at places up to s are those of the first writes
+counted_changes : (s place : ℕ) (log : List Entry) → changes_of (filter (at_or_below s) (changes_from place log)) ≡ flat_map (λ (w : Entry). w.changes) (take (s + 1 - place) log)
+counted_changes s place [] = nothing (s + 1 - place)
+  where
+    nothing : (n : ℕ) → [] ≡ flat_map (λ (w : Entry). w.changes) (take n [])
+    nothing zero = refl
+    nothing (suc n) = refl
+counted_changes s place (w ∷ log) = ⊎_elim
+    (λ le.
+    let rest = counted_changes s (place + 1) log in
+    let n : s + 1 - place ≡ suc (s + 1 - (place + 1)) = omega arith in
+    ap changes_of (filter-append (at_or_below s) (placed place w.changes) (changes_from (place + 1) log))
+    ∙ map-append (filter (at_or_below s) (placed place w.changes)) (filter (at_or_below s) (changes_from (place + 1) log))
+    ∙ ap (λ (l : List Change). l ++ changes_of (filter (at_or_below s) (changes_from (place + 1) log))) (all_count s place w.changes le)
+    ∙ ap (λ (l : List Change). w.changes ++ l) rest
+    ∙ ap (λ (k : ℕ). flat_map (λ (v : Entry). v.changes) (take k (w ∷ log))) (sym n))
+    (λ lt.
+    let n : s + 1 - place ≡ 0 = omega arith in
+    ap changes_of (none_counts_from s place (w ∷ log) lt)
+    ∙ ap (flat_map (λ (v : Entry). v.changes)) (sym (take_none (s + 1 - place) (w ∷ log) n)))
+    (cases_le place s)
+
+take-take-le : {X : Type 0} (s p : ℕ) (xs : List X) → s ≤ p → take s (take p xs) ≡ take s xs
+take-take-le zero p xs le = refl
+take-take-le (suc s) zero xs le = absurd (omega arith)
+take-take-le (suc s) (suc p) [] le = refl
+take-take-le (suc s) (suc p) (x ∷ xs) le = ap (λ (l : List _). x ∷ l) (take-take-le s p xs (omega arith))
+
+-- by the changes of the first p writes a tuple is there at a place up to p as the log says
+pub there_at-changes : (log : List Entry) (p s : ℕ) (t : Tuple) → s ≤ p → there_at (changes_from 1 (take p log)) s t ≡ is_at log s t
+unfolding there_at is_at
+there_at-changes log p s t le =
+    let n : s + 1 - 1 ≡ s = omega arith in
+    ap (there_after t false) (counted_changes s 1 (take p log)
+    ∙ ap (λ (k : ℕ). flat_map (λ (w : Entry). w.changes) (take k (take p log))) n
+    ∙ ap (flat_map (λ (w : Entry). w.changes)) (take-take-le s p log le))
+
+-- one shard has all objects
+shard_of_one : (t : Tuple) → (shard_of 1 t.object == 0) ≡ true
+unfolding shard_of
+shard_of_one t = eq-eqb _ 0 (omega arith)
+
+pub of_one_shard : (rows : List Version) → of_shard 1 0 rows ≡ rows
+of_one_shard [] = refl
+of_one_shard (v ∷ rows) = rw (shard_of_one (tuple_of v.change)) (ap (λ (l : List Version). v ∷ l) (of_one_shard rows))
+
+-- with no horizon all versions are kept
+pub versions_all : (log : List Entry) (p : ℕ) → versions log p 0 ≡ changes_from 1 (take p log)
+unfolding versions collected
+versions_all log p = kept_all 0 (changes_from 1 (take p log)) (changes_from 1 (take p log)) (above_changes 0 1 (take p log) (omega arith))
+
+-- the rows of a store's only shard, with no horizon, show each snapshot up to the learned place
+pub there_at_one : (log : List Entry) (hc : ℕ) (state : ShardState) (s : ℕ) (t : Tuple) → ShardMeans 1 0 log hc 0 state → s ≤ state.learned → there_at state.rows s t ≡ is_at log s t
+there_at_one log hc state s t m le =
+    let none : state.horizon ≡ 0 = omega (arith, m.horizon) in
+    let rows : AreAlike state.rows (changes_from 1 (take state.learned log)) =
+    alike_trans m.rows (alike_same _ _ (of_one_shard (versions log state.learned state.horizon) ∙ ap (versions log state.learned) none ∙ versions_all log state.learned)) in
+    there_at_alike rows s t ∙ there_at-changes log state.learned s t le

@@ -1,0 +1,255 @@
+-- Which conditions hold after a log: one write more, part by part, and by its last writes alone.
+use Rattle.std.proofs.Common.{◌≡◌, ◌≢◌, ◌⊎◌, inl, inr, ⊎_elim, ℕ, zero, suc, Bool, true, false, not, ◌+◌, ◌<◌, ◌≤◌, ◌==◌, ◌||◌, List, [], ◌∷◌, ◌++◌, length, take, drop, filter, Some, None, All, refl, sym, ◌∙◌, ap, subst, arith, cond, append-nil, slice_get}
+use Rattle.std.specs.List.{flat_map, list_any}
+use Rattle.std.proofs.lemmas.Bool.{cases_Bool, both_ways, eq-eqb, or_cases, or_parts}
+use Rattle.std.proofs.lemmas.Grind.{flat_map-append}
+use Rattle.std.proofs.lemmas.List.{length-take-le, map-append, take-append-drop, take_all}
+use Rattle.std.proofs.lemmas.List.Elements.{All-cons, All-head, All-nil, All-tail}
+use Rattle.std.proofs.lemmas.List.Folds.{list_any-append}
+use Rattle.tuples.specs.declared.tuple.Tuple.{Tuple}
+use Rattle.tuples.specs.declared.change.Change.{Change}
+use Rattle.tuples.specs.declared.change.Change.TheVariants.{Touch, Delete}
+use Rattle.tuples.specs.declared.change.Condition.{Condition}
+use Rattle.tuples.specs.declared.entry.Entry.{Entry}
+use Rattle.tuples.specs.declared.entry.WriteId.{WriteId}
+use Rattle.tuples.specs.Changes.{changed, conditioned, has_tuple, tuple_of}
+use Rattle.tuples.specs.Log.{HoldAfter, Holds, is_at, last_from, last_place, meets_want, same_id, there_after}
+use Rattle.tuples.specs.Order.{tuple_eq}
+use Rattle.tuples.specs.Parts.{expected, part, shard_of, takes_part}
+use Rattle.tuples.proofs.Named.{shard_below, tuple_equivalence}
+use Rattle.tuples.proofs.Same.{tuple_same}
+use Rattle.records.specs.Replays.{find_in_doubt, named}
+use Rattle.laws.specs.LockLaws.{ConditionsHoldAsKnown, ConditionsHoldByParts, DecisionsLeaveConditions}
+use Rattle.holds.specs.Holds.{AreApart}
+use Rattle.laws.proofs.Rows.{empty_of_length}
+
+-- changes of other tuples leave a tuple there or not, as it was
+pub there_unchanged : (t : Tuple) (b : Bool) (changes : List Change) → has_tuple t (changed changes) ≡ false → there_after t b changes ≡ b
+there_unchanged t b [] none = refl
+there_unchanged t b (Touch u ∷ changes) none = let parts = or_parts (tuple_eq t u) (has_tuple t (changed changes)) none in rw (parts.0) (there_unchanged t b changes parts.1)
+there_unchanged t b (Delete u ∷ changes) none = let parts = or_parts (tuple_eq t u) (has_tuple t (changed changes)) none in rw (parts.0) (there_unchanged t b changes parts.1)
+
+pub there_both : (t : Tuple) (b : Bool) (xs ys : List Change) → there_after t b (xs ++ ys) ≡ there_after t (there_after t b xs) ys
+there_both t b [] ys = refl
+there_both t b (Touch u ∷ xs) ys = there_both t (cond (tuple_eq t u) true b) xs ys
+there_both t b (Delete u ∷ xs) ys = there_both t (cond (tuple_eq t u) false b) xs ys
+
+-- whether it is there after all of a log
+pub there_last : (t : Tuple) (log : List Entry) → is_at log (length log) t ≡ there_after t false (flat_map (λ (w : Entry). w.changes) log)
+unfolding is_at
+there_last t log = ap (λ (l : List Entry). there_after t false (flat_map (λ (w : Entry). w.changes) l)) (take_all (length log) log (omega arith))
+
+there_push : (t : Tuple) (log : List Entry) (w : Entry) → has_tuple t (changed w.changes) ≡ false → is_at (log ++ w ∷ []) (length (log ++ w ∷ [])) t ≡ is_at log (length log) t
+there_push t log w none =
+    there_last t (log ++ w ∷ [])
+    ∙ ap (there_after t false) (flat_map-append (λ (v : Entry). v.changes) log (w ∷ []))
+    ∙ there_both t false (flat_map (λ (v : Entry). v.changes) log) (flat_map (λ (v : Entry). v.changes) (w ∷ []))
+    ∙ ap (there_after t (there_after t false (flat_map (λ (v : Entry). v.changes) log))) (append-nil w.changes)
+    ∙ there_unchanged t (there_after t false (flat_map (λ (v : Entry). v.changes) log)) w.changes none
+    ∙ sym (there_last t log)
+
+last_from-push : (found place : ℕ) (t : Tuple) (log : List Entry) (w : Entry) → has_tuple t (changed w.changes) ≡ false → last_from found place t (log ++ w ∷ []) ≡ last_from found place t log
+last_from-push found place t [] w none = rw none refl
+last_from-push found place t (v ∷ log) w none = last_from-push (cond (has_tuple t (changed v.changes)) place found) (place + 1) t log w none
+
+last_push : (t : Tuple) (log : List Entry) (w : Entry) → has_tuple t (changed w.changes) ≡ false → last_place (log ++ w ∷ []) t ≡ last_place log t
+unfolding last_place
+last_push t log w none = last_from-push 0 1 t log w none
+
+-- a condition of a tuple that the write does not change goes on to hold
+pub holds_push : (log : List Entry) (w : Entry) (c : Condition) → has_tuple c.tuple (changed w.changes) ≡ false → Holds log c → Holds (log ++ w ∷ []) c
+holds_push log w c none holds =
+    ap (λ (n : ℕ). meets_want c.want n (is_at (log ++ w ∷ []) (length (log ++ w ∷ [])) c.tuple)) (last_push c.tuple log w none)
+    ∙ ap (λ (b : Bool). meets_want c.want (last_place log c.tuple) b) (there_push c.tuple log w none)
+    ∙ holds
+
+pub or_left : (a b : Bool) → a ≡ true → (a || b) ≡ true
+or_left a b is = rw is refl
+
+pub or_right : (a b : Bool) → b ≡ true → (a || b) ≡ true
+or_right true b is = refl
+or_right false b is = is
+
+pub tuple_itself : (t : Tuple) → tuple_eq t t ≡ true
+tuple_itself t = tuple_equivalence.refl t
+
+-- conditions of tuples that the write does not change go on to hold
+hold_apart : (log : List Entry) (w : Entry) (conditions : List Condition) → ((t : Tuple) → has_tuple t (conditioned conditions) ≡ true → has_tuple t (changed w.changes) ≡ false)
+    → All (Holds log) conditions → All (Holds (log ++ w ∷ [])) conditions
+hold_apart log w [] apart hold = All-nil (Holds (log ++ w ∷ []))
+hold_apart log w (c ∷ conditions) apart hold = All-cons (Holds (log ++ w ∷ [])) c conditions
+    (holds_push log w c (apart c.tuple (or_left (tuple_eq c.tuple c.tuple) (has_tuple c.tuple (conditioned conditions)) (tuple_itself c.tuple))) (All-head (Holds log) c conditions hold))
+    (hold_apart log w conditions (λ t has. apart t (or_right (tuple_eq t c.tuple) (has_tuple t (conditioned conditions)) has)) (All-tail (Holds log) c conditions hold))
+
+-- a tuple that a shard's part conditions is the shard's
+pub own_conditioned : (shards s : ℕ) (t : Tuple) (conditions : List Condition) → has_tuple t (conditioned (filter (λ (c : Condition). shard_of shards c.tuple.object == s) conditions)) ≡ true → (shard_of shards t.object == s) ≡ true
+own_conditioned shards s t [] has = absurd cc
+own_conditioned shards s t (c ∷ conditions) has = ⊎_elim
+    (λ own. ⊎_elim
+    (λ here. ap (λ (u : Tuple). shard_of shards u.object == s) (tuple_same t c.tuple here) ∙ own)
+    (λ later. own_conditioned shards s t conditions later)
+    (or_cases (tuple_eq t c.tuple) (has_tuple t (conditioned (filter (λ (d : Condition). shard_of shards d.tuple.object == s) conditions))) (rw own at has)))
+    (λ other. own_conditioned shards s t conditions (rw other at has))
+    (cases_Bool (shard_of shards c.tuple.object == s))
+
+-- a tuple of the shard that a write changes is changed by the shard's part of it
+pub changed_in_part : (shards s : ℕ) (t : Tuple) (changes : List Change) → (shard_of shards t.object == s) ≡ true → has_tuple t (changed changes) ≡ true
+    → has_tuple t (changed (filter (λ (c : Change). shard_of shards (tuple_of c).object == s) changes)) ≡ true
+changed_in_part shards s t [] own has = absurd cc
+changed_in_part shards s t (c ∷ changes) own has = ⊎_elim
+    (λ here.
+    let mine : (shard_of shards (tuple_of c).object == s) ≡ true = ap (λ (u : Tuple). shard_of shards u.object == s) (sym (tuple_same t (tuple_of c) here)) ∙ own in
+    rw mine (or_left (tuple_eq t (tuple_of c)) (has_tuple t (changed (filter (λ (d : Change). shard_of shards (tuple_of d).object == s) changes))) here))
+    (λ later. in_longer (shard_of shards (tuple_of c).object == s) (changed_in_part shards s t changes own later))
+    (or_cases (tuple_eq t (tuple_of c)) (has_tuple t (changed changes)) has)
+  where
+    in_longer : (b : Bool) → has_tuple t (changed (filter (λ (d : Change). shard_of shards (tuple_of d).object == s) changes)) ≡ true
+        → has_tuple t (changed (cond b (c ∷ filter (λ (d : Change). shard_of shards (tuple_of d).object == s) changes) (filter (λ (d : Change). shard_of shards (tuple_of d).object == s) changes))) ≡ true
+    in_longer true there = or_right (tuple_eq t (tuple_of c)) (has_tuple t (changed (filter (λ (d : Change). shard_of shards (tuple_of d).object == s) changes))) there
+    in_longer false there = there
+
+pub some_changes : (t : Tuple) (changes : List Change) → has_tuple t (changed changes) ≡ true → not (length changes == 0) ≡ true
+some_changes t changes has = ⊎_elim
+    (λ some. some)
+    (λ none. let gone : false ≡ true = ap (λ (l : List Change). has_tuple t (changed l)) (sym (empty_of_length changes none)) ∙ has in absurd (both_ways false refl gone))
+    (cases_Bool (not (length changes == 0)))
+
+pub find_at : (id : WriteId) (ws : List Entry) (w : Entry) → find_in_doubt id ws ≡ Some w → (j : ℕ) × (slice_get ws j ≡ Some w)
+find_at id [] w is = absurd cc
+find_at id (v ∷ ws) w is = ⊎_elim
+    (λ here. (zero, ap (λ b. cond b (Some v) (find_in_doubt id ws)) (sym here) ∙ is))
+    (λ later. let r = find_at id ws w (ap (λ b. cond b (Some v) (find_in_doubt id ws)) (sym later) ∙ is) in (suc r.0, r.1))
+    (cases_Bool (same_id v.id id))
+
+-- of two writes that a shard has in doubt, one changes no tuple that the other's part conditions
+not_changed : (shards s : ℕ) (v w : Entry) (in_doubt : List Entry) → AreApart in_doubt → v.id ≢ w.id
+    → find_in_doubt w.id in_doubt ≡ expected shards s w → find_in_doubt v.id in_doubt ≡ Some (part shards s v)
+    → (t : Tuple) → has_tuple t (conditioned (part shards s v).conditions) ≡ true → has_tuple t (changed w.changes) ≡ false
+unfolding part takes_part expected
+not_changed shards s v w in_doubt apart ne found_w found_v t has = ⊎_elim
+    (λ changes_it.
+    let own = own_conditioned shards s t v.conditions has in
+    let in_part : has_tuple t (changed (part shards s w).changes) ≡ true = changed_in_part shards s t w.changes own changes_it in
+    let takes : takes_part shards s w ≡ true = or_left (not (length (part shards s w).changes == 0)) (not (length (part shards s w).conditions == 0)) (some_changes t (part shards s w).changes in_part) in
+    let there : find_in_doubt w.id in_doubt ≡ Some (part shards s w) = found_w ∙ ap (λ b. cond b (Some (part shards s w)) None) takes in
+    let at_v = find_at v.id in_doubt (part shards s v) found_v in
+    let at_w = find_at w.id in_doubt (part shards s w) there in
+    let other : at_v.0 ≢ at_w.0 = λ same. ne (same_ids (part shards s v) (part shards s w) (sym at_v.1 ∙ ap (slice_get in_doubt) same ∙ at_w.1)) in
+    let named_v : has_tuple t (named (part shards s v)) ≡ true = list_any-append (tuple_eq t) (changed (part shards s v).changes) (conditioned (part shards s v).conditions) ∙ or_right (has_tuple t (changed (part shards s v).changes)) (has_tuple t (conditioned (part shards s v).conditions)) has in
+    let named_w : has_tuple t (named (part shards s w)) ≡ true = list_any-append (tuple_eq t) (changed (part shards s w).changes) (conditioned (part shards s w).conditions) ∙ or_left (has_tuple t (changed (part shards s w).changes)) (has_tuple t (conditioned (part shards s w).conditions)) in_part in
+    absurd (other (apart.tuples at_v.0 at_w.0 (part shards s v) (part shards s w) at_v.1 at_w.1 t named_v named_w)))
+    (λ none. none)
+    (cases_Bool (has_tuple t (changed w.changes)))
+  where
+    same_ids : (a b : Entry) → Some a ≡ Some b → a.id ≡ b.id
+    same_ids a b is = let same : a ≡ b = cc in ap (λ (e : Entry). e.id) same
+
+pub decisions_leave_conditions : DecisionsLeaveConditions
+unfolding HoldAfter
+decisions_leave_conditions shards s log v w in_doubt apart ne found_w found_v hold =
+    hold_apart log w (part shards s v).conditions (not_changed shards s v w in_doubt apart ne found_w found_v) hold
+
+-- the conditions of one shard's part among a list, the list itself part by part
+hold_parts : (shards : ℕ) (log : List Entry) (conditions : List Condition) → 1 ≤ shards
+    → ((s : ℕ) → s < shards → All (Holds log) (filter (λ (c : Condition). shard_of shards c.tuple.object == s) conditions)) → All (Holds log) conditions
+hold_parts shards log [] some each = All-nil (Holds log)
+hold_parts shards log (c ∷ conditions) some each = All-cons (Holds log) c conditions
+    (All-head (Holds log) c (filter (λ (d : Condition). shard_of shards d.tuple.object == shard_of shards c.tuple.object) conditions) (first (eq-eqb _ _ refl) (each (shard_of shards c.tuple.object) (shard_below shards c.tuple.object some))))
+    (hold_parts shards log conditions some (λ s lt. rest (shard_of shards c.tuple.object == s) (filter (λ (d : Condition). shard_of shards d.tuple.object == s) conditions) (each s lt)))
+  where
+    first : (shard_of shards c.tuple.object == shard_of shards c.tuple.object) ≡ true
+        → All (Holds log) (filter (λ (d : Condition). shard_of shards d.tuple.object == shard_of shards c.tuple.object) (c ∷ conditions))
+        → All (Holds log) (c ∷ filter (λ (d : Condition). shard_of shards d.tuple.object == shard_of shards c.tuple.object) conditions)
+    first own all = rw own at all
+
+    rest : (b : Bool) (kept : List Condition) → All (Holds log) (cond b (c ∷ kept) kept) → All (Holds log) kept
+    rest true kept all = All-tail (Holds log) c kept all
+    rest false kept all = all
+
+pub conditions_hold_by_parts : ConditionsHoldByParts
+unfolding HoldAfter part takes_part
+conditions_hold_by_parts shards log w some each = hold_parts shards log w.conditions some (λ s lt. ⊎_elim
+    (λ takes. each s lt takes)
+    (λ none. nothing (filter (λ (c : Condition). shard_of shards c.tuple.object == s) w.conditions) (or_parts (not (length (part shards s w).changes == 0)) (not (length (part shards s w).conditions == 0)) none).1)
+    (cases_Bool (takes_part shards s w)))
+  where
+    nothing : (conditions : List Condition) → not (length conditions == 0) ≡ false → All (Holds log) conditions
+    nothing conditions none = subst (All (Holds log)) (sym (empty_of_length conditions none)) (All-nil (Holds log))
+
+-- what changes that name a tuple leave does not hang on what was there before
+there_changed : (t : Tuple) (a b : Bool) (changes : List Change) → has_tuple t (changed changes) ≡ true → there_after t a changes ≡ there_after t b changes
+there_changed t a b [] has = absurd cc
+there_changed t a b (Touch u ∷ changes) has = ⊎_elim
+    (λ here. rw here refl)
+    (λ later. there_changed t (cond (tuple_eq t u) true a) (cond (tuple_eq t u) true b) changes later)
+    (or_cases (tuple_eq t u) (has_tuple t (changed changes)) has)
+there_changed t a b (Delete u ∷ changes) has = ⊎_elim
+    (λ here. rw here refl)
+    (λ later. there_changed t (cond (tuple_eq t u) false a) (cond (tuple_eq t u) false b) changes later)
+    (or_cases (tuple_eq t u) (has_tuple t (changed changes)) has)
+
+-- nor on the place found so far
+last_changed : (t : Tuple) (a b place : ℕ) (log : List Entry) → list_any (λ (w : Entry). has_tuple t (changed w.changes)) log ≡ true → last_from a place t log ≡ last_from b place t log
+last_changed t a b place [] has = absurd cc
+last_changed t a b place (w ∷ log) has = ⊎_elim
+    (λ here. rw here refl)
+    (λ later. last_changed t (cond (has_tuple t (changed w.changes)) place a) (cond (has_tuple t (changed w.changes)) place b) (place + 1) log later)
+    (or_cases (has_tuple t (changed w.changes)) (list_any (λ (v : Entry). has_tuple t (changed v.changes)) log) has)
+
+changed_by_log : (t : Tuple) (log : List Entry) → list_any (λ (w : Entry). has_tuple t (changed w.changes)) log ≡ true → has_tuple t (changed (flat_map (λ (w : Entry). w.changes) log)) ≡ true
+changed_by_log t [] has = absurd cc
+changed_by_log t (w ∷ log) has =
+    let rest = flat_map (λ (v : Entry). v.changes) log in
+    let split : has_tuple t (changed (w.changes ++ rest)) ≡ (has_tuple t (changed w.changes) || has_tuple t (changed rest)) =
+    ap (has_tuple t) (map-append tuple_of w.changes rest) ∙ list_any-append (tuple_eq t) (changed w.changes) (changed rest) in
+    ⊎_elim
+    (λ here. split ∙ or_left (has_tuple t (changed w.changes)) (has_tuple t (changed rest)) here)
+    (λ later. split ∙ or_right (has_tuple t (changed w.changes)) (has_tuple t (changed rest)) (changed_by_log t log later))
+    (or_cases (has_tuple t (changed w.changes)) (list_any (λ (v : Entry). has_tuple t (changed v.changes)) log) has)
+
+pub last_from-append : (found place : ℕ) (t : Tuple) (xs ys : List Entry) → last_from found place t (xs ++ ys) ≡ last_from (last_from found place t xs) (place + length xs) t ys
+last_from-append found place t [] ys = ap (λ n. last_from found n t ys) (let e : place ≡ place + 0 = omega arith in e)
+last_from-append found place t (w ∷ xs) ys =
+    let at = cond (has_tuple t (changed w.changes)) place found in
+    last_from-append at (place + 1) t xs ys
+    ∙ ap (λ n. last_from (last_from at (place + 1) t xs) n t ys) (let e : place + 1 + length xs ≡ place + length (w ∷ xs) = omega arith in e)
+
+-- the last change of a tuple, and whether it is there, by the writes behind a place, where these change it or are the whole log
+module _ (log : List Entry) (base : ℕ) (t : Tuple) (le : base ≤ length log) (enough : (base ≡ 0) ⊎ (list_any (λ (w : Entry). has_tuple t (changed w.changes)) (drop base log) ≡ true)) where
+  joined : take base log ++ drop base log ≡ log
+  joined = take-append-drop base log
+
+  last_behind : last_place log t ≡ last_from 0 (base + 1) t (drop base log)
+  unfolding last_place
+  last_behind =
+      let size : length (take base log) ≡ base = length-take-le base log le in
+      ap (last_from 0 1 t) (sym joined)
+      ∙ last_from-append 0 1 t (take base log) (drop base log)
+      ∙ ap (λ n. last_from (last_from 0 1 t (take base log)) n t (drop base log)) (let e : 1 + length (take base log) ≡ base + 1 = omega (arith, size) in e)
+      ∙ ⊎_elim
+      (λ none. ap (λ n. last_from (last_from 0 1 t (take n log)) (base + 1) t (drop base log)) none)
+      (λ has. last_changed t (last_from 0 1 t (take base log)) 0 (base + 1) (drop base log) has)
+      enough
+
+  there_behind : is_at log (length log) t ≡ is_at (drop base log) (length (drop base log)) t
+  there_behind =
+      let of_log = λ (l : List Entry). flat_map (λ (w : Entry). w.changes) l in
+      there_last t log
+      ∙ ap (λ (l : List Entry). there_after t false (of_log l)) (sym joined)
+      ∙ ap (there_after t false) (flat_map-append (λ (w : Entry). w.changes) (take base log) (drop base log))
+      ∙ there_both t false (of_log (take base log)) (of_log (drop base log))
+      ∙ ⊎_elim
+      (λ none. ap (λ n. there_after t (there_after t false (of_log (take n log))) (of_log (drop base log))) none)
+      (λ has. there_changed t (there_after t false (of_log (take base log))) false (of_log (drop base log)) (changed_by_log t (drop base log) has))
+      enough
+      ∙ sym (there_last t (drop base log))
+
+pub conditions_hold_as_known : ConditionsHoldAsKnown
+conditions_hold_as_known log h state c m holds enough =
+    let le : state.base ≤ length log = omega (arith, m.base, m.within) in
+    let here : (state.base ≡ 0) ⊎ (list_any (λ (w : Entry). has_tuple c.tuple (changed w.changes)) (drop state.base log) ≡ true) =
+    ⊎_elim (λ none. inl none) (λ has. inr (ap (list_any (λ (w : Entry). has_tuple c.tuple (changed w.changes))) (sym m.decisions) ∙ has)) enough in
+    ap (λ (l : List Entry). meets_want c.want (last_from 0 (state.base + 1) c.tuple l) (is_at l (length l) c.tuple)) m.decisions
+    ∙ ap (λ (n : ℕ). meets_want c.want n (is_at (drop state.base log) (length (drop state.base log)) c.tuple)) (sym (last_behind log state.base c.tuple le here))
+    ∙ ap (λ (b : Bool). meets_want c.want (last_place log c.tuple) b) (sym (there_behind log state.base c.tuple le here))
+    ∙ holds

@@ -1,0 +1,5 @@
+use Rattle.laws.proofs.CoordinatorSteps.{horizons_rest}
+use Rattle.laws.proofs.coordinator_laws.horizons_leave_all_at_rest.Goals as goal
+
+pub returns : goal.returns
+returns g c = horizons_rest g.W.Contents.coordinator g.W.Contents.coordinator_after g.W.Contents.shard

@@ -1,0 +1,11 @@
+pub mod Shards
+pub mod Coordinators
+pub mod Worlds
+pub mod LogLaws
+pub mod ShardLaws
+pub mod CoordinatorLaws
+pub mod StopLaws
+pub mod Machines
+pub mod Nodes
+pub mod LockLaws
+pub mod Stops

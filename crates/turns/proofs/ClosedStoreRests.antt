@@ -1,0 +1,62 @@
+-- A store that stands rests over its devices once it is closed, and unmade devices rest at the empty log.
+use Rattle.std.proofs.Common.{◌≡◌, inl, ℕ, List, [], Some, refl, sym, ◌∙◌, ap, subst, arith}
+use Rattle.records.specs.declared.record.Record.{Record}
+use Rattle.device.specs.Device.{Leaves, State, left}
+use Rattle.device.proofs.Moments.{leaves_nothing_else}
+use Rattle.gated.specs.Gated.{gated}
+use Rattle.journal.specs.Records.{found}
+use Rattle.laws.specs.Nodes.{IsThere, NodeName, coordinator, leaves, shard}
+use Rattle.turns.specs.Stands.{at_shards}
+use Rattle.turns.specs.StoreLaws.{ClosedStoresRest, IsUnmade, UnmadeStoresRest}
+use Rattle.turns.specs.Stores.{stops, AreSound}
+use Rattle.laws.proofs.EmptyStore.{empty_rests}
+use Rattle.laws.proofs.LessLeft.{less_rests}
+
+found_nothing : (y : List ℕ) → found [] y ≡ Some []
+unfolding found gated
+found_nothing y = refl
+
+-- a stop leaves nothing of an unmade device
+left_nothing : (s : State) (x : List ℕ) → IsUnmade s → left s x → x ≡ []
+left_nothing s x un is =
+    let nothing : Leaves s.durable [] x = subst (λ (w : List (ℕ × ℕ)). Leaves s.durable w x) un.written is in
+    leaves_nothing_else s.durable x nothing ∙ un.durable
+
+module _ {D : Type 0} (state : D → State) (honest : D → Type 0) (moment : D → ℕ) (left_since : D → ℕ → List ℕ → Type 0) (store shards : ℕ) where
+  pub closed_stores_rest : ClosedStoresRest state honest moment left_since store shards
+  closed_stores_rest s now st =
+      let left = stops state honest store shards s.devices in
+      let with = leaves left now.nodes in (
+        record {
+          sound = st.sound;
+          rests = (less_rests (with coordinator) (left coordinator) (at_shards with) (at_shards left) store shards now.machine.log now.machine.kept now.machine.horizon
+              (λ found is. (found, is, inl refl)) (λ t found is. (found, is, inl refl))).0 st.stands.rests;
+          given = λ w has. (st.stands.ids.log_given w has).epoch;
+        },
+        λ j d lt. let verdict = st.stands.told j d lt in record { given = verdict.given.epoch; none = verdict.none },
+      )
+
+  module _ (devices : NodeName → D × D) (un : (n : NodeName) → IsThere shards n → IsUnmade (state (devices n).0) × IsUnmade (state (devices n).1)) where
+    records_none : (n : NodeName) (a b : List ℕ) → IsThere shards n → left (state (devices n).0) a → found a b ≡ Some []
+    records_none n a b there is = ap (λ x. found x b) (left_nothing (state (devices n).0) a (un n there).0 is) ∙ found_nothing b
+
+    pub stops_none : (n : NodeName) (rs : List Record) → IsThere shards n → stops state honest store shards devices n rs → rs ≡ []
+    stops_none n rs there (a, b, in_a, in_b, is) = let both : Some [] ≡ Some rs = sym (records_none n a b there in_a) ∙ is in cc
+
+    pub unmade_sound : (honest_devices : (n : NodeName) → IsThere shards n → honest (devices n).0 × honest (devices n).1) → AreSound state honest store shards devices
+    unmade_sound both = record {
+      honest_a = λ n there. (both n there).0;
+      honest_b = λ n there. (both n there).1;
+      readable = λ n a b there in_a in_b. ([], records_none n a b there in_a);
+    }
+
+pub unmade_stores_rest : {D : Type 0} (state : D → State) (honest : D → Type 0) (moment : D → ℕ) (left_since : D → ℕ → List ℕ → Type 0) (store shards : ℕ) → UnmadeStoresRest state honest moment left_since store shards
+unmade_stores_rest state honest moment left_since store shards devices both un =
+    let left = stops state honest store shards devices in
+    record {
+      sound = unmade_sound state honest moment left_since store shards devices un both;
+      rests = empty_rests (left coordinator) (left coordinator) (at_shards left) (at_shards left) store shards
+          (λ found is. inl (stops_none state honest moment left_since store shards devices un coordinator found tt is))
+          (λ s found lt is. inl (stops_none state honest moment left_since store shards devices un (shard s) found lt is));
+      given = λ w has. absurd (omega (arith, has.1));
+    }

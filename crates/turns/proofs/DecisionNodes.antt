@@ -1,0 +1,227 @@
+-- The coordinator of a store that stands stages a decision: what the nodes know then.
+use Rattle.std.proofs.Common.{◌≡◌, ◌≢◌, ◌⊎◌, inl, inr, ⊎_elim, ℕ, ◌+◌, ◌<◌, ◌≤◌, List, [], ◌∷◌, ◌++◌, length, Contains, refl, sym, ◌∙◌, ap, subst, arith, append_assoc}
+use Rattle.std.proofs.lemmas.List.{length_push}
+use Rattle.std.proofs.lemmas.List.Elements.{Contains-append_right, Contains-push_cases}
+use Rattle.tuples.specs.declared.entry.Entry.{Entry}
+use Rattle.tuples.specs.declared.entry.WriteId.{WriteId}
+use Rattle.tuples.specs.Log.{AreNew}
+use Rattle.records.specs.declared.record.Record.{Record}
+use Rattle.records.specs.declared.record.Record.TheVariants.{Decision, Dropped, Epoch, Horizon, Learned, Prepare}
+use Rattle.records.specs.Coordinators.{CoordinatorState, coordinator_from, coordinator_state, coordinator_step, empty_coordinator, end_of}
+use Rattle.records.specs.Replays.{ShardState, without, shard_state}
+use Rattle.turns.specs.DecidingLaws.{IsDeciding, with_decision, with_write}
+use Rattle.turns.specs.Held.{IsOpen, IsRightVerdict, WasGiven}
+use Rattle.laws.specs.LogLaws.{IsUnlisted}
+use Rattle.turns.specs.Moments.{Moment}
+use Rattle.laws.specs.Nodes.{CoordinatorKnows, NodeName, NodeState, Nodes, ShardKnows, coordinator, leaves, refused, shard, staged_of, up, IsOfRefusedOpening}
+use Rattle.turns.specs.Stands.{HeadsStand, IdsStand, LocksStand, NodesStand, at_shards, ListedStand}
+use Rattle.laws.specs.Worlds.{Means, Rests}
+use Rattle.laws.proofs.CoordinatorStates.{coordinator_from-append, coordinator_push}
+use Rattle.laws.proofs.CoordinatorSteps.{decisions_rest}
+use Rattle.turns.proofs.DecisionLists.{few_still, new_without, other_without}
+use Rattle.laws.proofs.LessLeft.{less_rests}
+use Rattle.laws.proofs.Lists.{slice_get_push}
+use Rattle.laws.proofs.Locks.{of_without}
+use Rattle.turns.proofs.ShardStages.{durable_in}
+use Rattle.turns.proofs.ShardStagesStands.{contained_at, contained_from}
+use Rattle.laws.proofs.DecisionStep.{listed_means}
+use Rattle.refusal.specs.declared.refusal.Refusal.{Refusal}
+
+-- records without an opening leave the epoch as it is
+pub epoch_stays : (s : CoordinatorState) (rs : List Record) → ((a b c d : ℕ) → Contains rs (Epoch a b c d) → ⊥) → (coordinator_from s rs).epoch ≡ s.epoch
+unfolding coordinator_step
+epoch_stays s [] none = refl
+epoch_stays s (Prepare v ∷ rs) none = epoch_stays (coordinator_step s (Prepare v)) rs (λ a b c d has. none a b c d (Contains-append_right (Prepare v ∷ []) rs (Epoch a b c d) has))
+epoch_stays s (Learned to placed_ids ∷ rs) none = epoch_stays (coordinator_step s (Learned to placed_ids)) rs (λ a b c d has. none a b c d (Contains-append_right (Learned to placed_ids ∷ []) rs (Epoch a b c d) has))
+epoch_stays s (Dropped id ∷ rs) none = epoch_stays (coordinator_step s (Dropped id)) rs (λ a b c d has. none a b c d (Contains-append_right (Dropped id ∷ []) rs (Epoch a b c d) has))
+epoch_stays s (Epoch e f g h ∷ rs) none = absurd (none e f g h (0, omega arith, refl))
+epoch_stays s (Decision place v ∷ rs) none = epoch_stays (coordinator_step s (Decision place v)) rs (λ a b c d has. none a b c d (Contains-append_right (Decision place v ∷ []) rs (Epoch a b c d) has))
+epoch_stays s (Horizon place ∷ rs) none = epoch_stays (coordinator_step s (Horizon place)) rs (λ a b c d has. none a b c d (Contains-append_right (Horizon place ∷ []) rs (Epoch a b c d) has))
+
+module _ (store shards : ℕ) (left : NodeName → List Record → Type 0) (now : Moment) (next : Nodes) (place : ℕ) (w : Entry) (st : IsDeciding store shards left now next place w) where
+  records : List Record
+  records = st.step.durable ++ st.step.staged
+
+  after : coordinator_state ((st.step.durable ++ st.step.staged) ++ Decision place w ∷ []) ≡ coordinator_step (coordinator_state (st.step.durable ++ st.step.staged)) (Decision place w)
+  after = coordinator_push (st.step.durable ++ st.step.staged) (Decision place w)
+
+  pub knew : CoordinatorKnows now.nodes (coordinator_state st.step.durable) (coordinator_state (st.step.durable ++ st.step.staged))
+  knew = record { durable = st.step.durable; staged = st.step.staged; is_up = st.step.was; durable_state = refl; replayed = refl }
+
+  -- what the coordinator knows now: the same is durable, and it has one decision more
+  pub knows_now : (kept m : CoordinatorState) → CoordinatorKnows next kept m → (kept ≡ coordinator_state st.step.durable) × (m ≡ coordinator_step (coordinator_state (st.step.durable ++ st.step.staged)) (Decision place w))
+  knows_now kept m k =
+      let both : up k.durable k.staged ≡ up st.step.durable (st.step.staged ++ Decision place w ∷ []) = sym k.is_up ∙ st.step.now in (
+        k.durable_state ∙ ap coordinator_state (ap durable_in both),
+        k.replayed
+            ∙ ap (λ (l : List Record). coordinator_state (l ++ k.staged)) (ap durable_in both)
+            ∙ ap (λ (l : List Record). coordinator_state (st.step.durable ++ l)) (ap staged_of both)
+            ∙ ap coordinator_state (sym (append_assoc st.step.durable st.step.staged (Decision place w ∷ [])))
+            ∙ after,
+      )
+
+  pub same_epoch : (kept m : CoordinatorState) → CoordinatorKnows next kept m → m.epoch ≡ (coordinator_state (st.step.durable ++ st.step.staged)).epoch
+  unfolding coordinator_step
+  same_epoch kept m k = ap (λ (c : CoordinatorState). c.epoch) (knows_now kept m k).1
+
+  pub shard_left : (t : ℕ) (found : List Record) → leaves left next (shard t) found → leaves left now.nodes (shard t) found
+  shard_left t found is = (is.0, is.1, ⊎_elim (λ plain. inl plain) (λ more. inr (more ∙ ap (λ (n : NodeState). is.0 ++ staged_of n) (st.step.shards t))) is.2)
+
+  pub shard_knew : (t : ℕ) (m : ShardState) → ShardKnows next t m → ShardKnows now.nodes t m
+  shard_knew t m k = record { durable = k.durable; staged = k.staged; is_up = sym (st.step.shards t) ∙ k.is_up; replayed = k.replayed }
+
+  coordinator_left : (found : List Record) → leaves left next coordinator found → leaves left now.nodes coordinator found ⊎ (found ≡ (st.step.durable ++ st.step.staged) ++ Decision place w ∷ [])
+  coordinator_left found is = ⊎_elim
+      (λ plain. inl (is.0, is.1, inl plain))
+      (λ more. inr (more
+      ∙ ap (λ (l : List Record). is.0 ++ l) (ap staged_of st.step.now)
+      ∙ ap (λ (l : List Record). l ++ (st.step.staged ++ Decision place w ∷ [])) ((st.stands.nodes.durable coordinator st.step.durable st.step.staged is.0 st.step.was).0 is.1)
+      ∙ sym (append_assoc st.step.durable st.step.staged (Decision place w ∷ []))))
+      is.2
+
+  here : leaves left now.nodes coordinator (st.step.durable ++ st.step.staged)
+  here = (st.step.durable, (st.stands.nodes.durable coordinator st.step.durable st.step.staged st.step.durable st.step.was).1 refl, inr (ap (λ (l : List Record). st.step.durable ++ l) (sym (ap staged_of st.step.was))))
+
+  pub was_open : (v : Entry) → IsOpen next v → IsOpen now.nodes v × (v.id ≢ w.id)
+  was_open v is =
+      let has : Contains (without w.id now.nodes.open_writes) v = subst (λ (l : List Entry). Contains l v) st.step.open_writes is in
+      let at = contained_at (without w.id now.nodes.open_writes) v has in
+      let old = of_without w.id now.nodes.open_writes at.0 v at.1 in
+      (contained_from now.nodes.open_writes old.0 v old.1, other_without w.id now.nodes.open_writes v has)
+
+  pub given_kept : (id : WriteId) → WasGiven shards left now.nodes id → WasGiven shards left next id
+  given_kept id g = record {
+    epoch = g.epoch;
+    now = λ kept m k.
+        let was = g.now (coordinator_state st.step.durable) (coordinator_state (st.step.durable ++ st.step.staged)) knew in
+        let same = same_epoch kept m k in
+        ⊎_elim
+        (λ (earlier : id.epoch < (coordinator_state (st.step.durable ++ st.step.staged)).epoch). inl (subst (λ (n : ℕ). id.epoch < n) (sym same) earlier))
+        (λ of_now. inr (of_now.0 ∙ sym same, subst (λ (n : ℕ). id.number ≤ n) (sym st.step.given) of_now.1))
+        was;
+  }
+
+  pub unlisted_longer : (id : WriteId) → id ≢ w.id → IsUnlisted id now.machine.log → IsUnlisted id (now.machine.log ++ w ∷ [])
+  unlisted_longer id ne unlisted j v is same = ⊎_elim (λ old. unlisted j v old same) (λ new. ne (same ∙ ap (λ (e : Entry). e.id) (sym new.1))) (slice_get_push now.machine.log w v j is)
+
+  pub verdict_kept : (id : WriteId) → IsRightVerdict shards left now id → IsRightVerdict shards left (with_decision now next w) id
+  verdict_kept id v = record {
+    given = given_kept id v.given;
+    closed = λ x is. v.closed x (was_open x is).0;
+    none = λ j x is above same. ⊎_elim (λ old. v.none j x old above same) (λ new. v.closed w st.is_open (sym (same ∙ ap (λ (e : Entry). e.id) (sym new.1)))) (slice_get_push now.machine.log w x j is);
+  }
+
+  -- what the coordinator knew
+  pub knew_only : (kept m : CoordinatorState) → CoordinatorKnows now.nodes kept m → m ≡ coordinator_state (st.step.durable ++ st.step.staged)
+  knew_only kept m k =
+      let both : up k.durable k.staged ≡ up st.step.durable st.step.staged = sym k.is_up ∙ st.step.was in
+      k.replayed ∙ ap (λ (l : List Record). coordinator_state (l ++ k.staged)) (ap durable_in both) ∙ ap (λ (l : List Record). coordinator_state (st.step.durable ++ l)) (ap staged_of both)
+
+  durable_epoch : (coordinator_state (st.step.durable ++ st.step.staged)).epoch ≡ (coordinator_state st.step.durable).epoch
+  unfolding coordinator_state
+  durable_epoch =
+      ap (λ (c : CoordinatorState). c.epoch) (coordinator_from-append empty_coordinator st.step.durable st.step.staged)
+      ∙ epoch_stays (coordinator_from empty_coordinator st.step.durable) st.step.staged (λ a b c d has. st.stands.nodes.no_opening coordinator st.step.durable st.step.staged a b c d st.step.was has)
+
+  own_epoch : w.id.epoch ≡ (coordinator_state (st.step.durable ++ st.step.staged)).epoch
+  own_epoch = (st.stands.ids.of_now w st.is_open _ _ knew).0
+
+  pub own_given : WasGiven shards left now.nodes w.id
+  own_given = record {
+    epoch = λ found is.
+        let only : found ≡ st.step.durable = (st.stands.nodes.durable coordinator st.step.durable st.step.staged found st.step.was).0 is in
+        subst (λ (l : List Record). w.id.epoch ≤ (coordinator_state l).epoch) (sym only) (let a = own_epoch in let b = durable_epoch in omega (arith, a, b));
+    now = λ kept m k. inr (own_epoch ∙ ap (λ (c : CoordinatorState). c.epoch) (sym (knew_only kept m k)), (st.stands.ids.of_now w st.is_open _ _ knew).1);
+  }
+
+  -- both parts of the law of decisions, over the shards as they are now
+  both_rest : Rests store shards (now.machine.log ++ w ∷ []) now.machine.kept now.machine.horizon (leaves left next coordinator) (at_shards (leaves left now.nodes))
+      × Means store shards (now.machine.log ++ w ∷ []) now.machine.horizon ((st.step.durable ++ st.step.staged) ++ Decision place w ∷ []) (at_shards (leaves left now.nodes))
+  both_rest =
+      let a = own_epoch in
+      decisions_rest (leaves left now.nodes coordinator) (leaves left next coordinator) (at_shards (leaves left now.nodes)) store shards now.machine.log now.machine.kept now.machine.horizon (st.step.durable ++ st.step.staged) place w
+      (record { rests = st.stands.rests; here = here; image = st.image; adds = coordinator_left })
+      (st.stands.heads.whole st.step.durable st.step.staged st.step.was)
+      (record { whole = st.whole; new = st.stands.ids.unlisted w st.is_open; given = omega (arith, a); prepared = st.prepared; conditions = st.conditions })
+
+  pub rests_kept : Rests store shards (now.machine.log ++ w ∷ []) now.machine.kept now.machine.horizon (leaves left next coordinator) (at_shards (leaves left next))
+  rests_kept = (less_rests (leaves left next coordinator) (leaves left next coordinator) (at_shards (leaves left now.nodes)) (at_shards (leaves left next)) store shards (now.machine.log ++ w ∷ []) now.machine.kept now.machine.horizon
+      (λ found is. is) shard_left).0 both_rest.0
+
+  whole_kept : Means store shards (now.machine.log ++ w ∷ []) now.machine.horizon ((st.step.durable ++ st.step.staged) ++ Decision place w ∷ []) (at_shards (leaves left next))
+  whole_kept = (less_rests (leaves left next coordinator) (leaves left next coordinator) (at_shards (leaves left now.nodes)) (at_shards (leaves left next)) store shards (now.machine.log ++ w ∷ []) now.machine.kept now.machine.horizon
+      (λ found is. is) shard_left).1 ((st.step.durable ++ st.step.staged) ++ Decision place w ∷ []) both_rest.1
+
+  node_was : (n : NodeName) (d g : List Record) → next.at n ≡ up d g → (now.nodes.at n ≡ up d g) ⊎ ((n ≡ coordinator) × (d ≡ st.step.durable) × (g ≡ st.step.staged ++ Decision place w ∷ []))
+  node_was coordinator d g is = let both : up d g ≡ up st.step.durable (st.step.staged ++ Decision place w ∷ []) = sym is ∙ st.step.now in inr (refl, ap durable_in both, ap staged_of both)
+  node_was (shard t) d g is = inl (sym (st.step.shards t) ∙ is)
+
+  pub nodes_kept : NodesStand store shards left next
+  nodes_kept = record {
+    durable = λ n d g found is. ⊎_elim
+        (λ was. st.stands.nodes.durable n d g found was)
+        (λ fresh.
+        let was : now.nodes.at n ≡ up d st.step.staged = ap now.nodes.at fresh.0 ∙ st.step.was ∙ ap (λ (l : List Record). up l st.step.staged) (sym fresh.1) in
+        st.stands.nodes.durable n d st.step.staged found was)
+        (node_was n d g is);
+    no_opening = λ n d g a b c e is has. ⊎_elim
+        (λ was. st.stands.nodes.no_opening n d g a b c e was has)
+        (λ fresh. ⊎_elim
+        (λ old. st.stands.nodes.no_opening coordinator st.step.durable st.step.staged a b c e st.step.was old)
+        (λ (new : Decision place w ≡ Epoch a b c e). absurd cc)
+        (Contains-push_cases st.step.staged (Decision place w) (Epoch a b c e) (subst (λ (l : List Record). Contains l (Epoch a b c e)) fresh.2 has)))
+        (node_was n d g is);
+    coordinator_opened = λ kept m k. subst (λ (c : CoordinatorState). 1 ≤ c.epoch) (sym (knows_now kept m k).0) (st.stands.nodes.coordinator_opened (coordinator_state st.step.durable) (coordinator_state (st.step.durable ++ st.step.staged)) knew);
+    shard_opened = λ t d g is. st.stands.nodes.shard_opened t d g (sym (st.step.shards t) ∙ is);
+    sound = not_damaged;
+  }
+    where
+      not_damaged : (n : NodeName) (e : Refusal) → next.at n ≡ refused e → IsOfRefusedOpening e
+      not_damaged coordinator e is = let both : refused e ≡ up st.step.durable (st.step.staged ++ Decision place w ∷ []) = sym is ∙ st.step.now in absurd cc
+      not_damaged (shard t) e is = st.stands.nodes.sound (shard t) e (sym (st.step.shards t) ∙ is)
+
+  pub heads_kept : HeadsStand store shards left next (with_write now.machine w)
+  unfolding coordinator_step
+  heads_kept = record {
+    log = λ kept m k.
+        let old = st.stands.heads.log (coordinator_state st.step.durable) (coordinator_state (st.step.durable ++ st.step.staged)) knew in
+        let state = coordinator_state (st.step.durable ++ st.step.staged) in
+        let longer : length (state.log ++ w ∷ []) ≡ length state.log + 1 = length_push state.log w in
+        ap end_of (knows_now kept m k).1 ∙ (let e : state.base + length (state.log ++ w ∷ []) ≡ length (now.machine.log ++ w ∷ []) = omega (arith, old, longer, length_push now.machine.log w) in e);
+    kept = λ kept m k. ap end_of (knows_now kept m k).0 ∙ st.stands.heads.kept (coordinator_state st.step.durable) (coordinator_state (st.step.durable ++ st.step.staged)) knew;
+    horizon = λ kept m k. ap (λ (c : CoordinatorState). c.horizon) (knows_now kept m k).0 ∙ st.stands.heads.horizon (coordinator_state st.step.durable) (coordinator_state (st.step.durable ++ st.step.staged)) knew;
+    whole = λ d g is.
+        let both : up st.step.durable (st.step.staged ++ Decision place w ∷ []) ≡ up d g = sym st.step.now ∙ is in
+        let same : (st.step.durable ++ st.step.staged) ++ Decision place w ∷ [] ≡ d ++ g =
+        append_assoc st.step.durable st.step.staged (Decision place w ∷ []) ∙ ap (λ (l : List Record). l ++ (st.step.staged ++ Decision place w ∷ [])) (ap durable_in both) ∙ ap (λ (l : List Record). d ++ l) (ap staged_of both) in
+        subst (λ (l : List Record). Means store shards (now.machine.log ++ w ∷ []) now.machine.horizon l (at_shards (leaves left next))) same whole_kept;
+  }
+
+  pub listed_kept : ListedStand store shards left next (with_write now.machine w)
+  listed_kept t found lt is =
+      let was = shard_left t found is in
+      listed_means shards t now.machine.log w now.machine.horizon now.machine.horizon (shard_state found) (st.prepared t found lt was) (st.stands.listed t found lt was)
+
+  -- a decision leaves the horizon that the coordinator knows
+  pub same_horizon : (coordinator_state (st.step.durable ++ st.step.staged)).horizon ≡ (coordinator_state (st.step.durable ++ (st.step.staged ++ Decision place w ∷ []))).horizon
+  unfolding coordinator_step
+  same_horizon = sym (ap (λ (c : CoordinatorState). c.horizon) (ap coordinator_state (sym (append_assoc st.step.durable st.step.staged (Decision place w ∷ []))) ∙ coordinator_push (st.step.durable ++ st.step.staged) (Decision place w)))
+
+  pub locks_kept : LocksStand store shards left next
+  locks_kept t found lt is = st.stands.locks t found lt (shard_left t found is)
+
+  pub ids_kept : IdsStand store shards left next (with_write now.machine w)
+  unfolding coordinator_step
+  ids_kept = record {
+    distinct = subst AreNew (sym st.step.open_writes) (new_without w.id now.nodes.open_writes st.stands.ids.distinct);
+    few = subst (λ (l : List Entry). length l ≤ 1024) (sym st.step.open_writes) (few_still w.id now.nodes.open_writes 1024 st.stands.ids.few);
+    unlisted = λ v is. let was = was_open v is in unlisted_longer v.id was.1 (st.stands.ids.unlisted v was.0);
+    of_now = λ v is kept m knows.
+        let was = st.stands.ids.of_now v (was_open v is).0 _ _ knew in
+        (was.0 ∙ sym (same_epoch kept m knows), subst (λ (n : ℕ). v.id.number ≤ n) (sym st.step.given) was.1);
+    log_given = λ v has. given_kept v.id (⊎_elim
+        (λ old. st.stands.ids.log_given v old)
+        (λ new. subst (λ (e : Entry). WasGiven shards left now.nodes e.id) new own_given)
+        (Contains-push_cases now.machine.log w v has));
+    prepares_given = λ t found v lt is has. given_kept v.id (st.stands.ids.prepares_given t found v lt (shard_left t found is) has);
+  }

@@ -1,0 +1,129 @@
+-- The coordinator of a store that stands fails in a flush.
+use Rattle.std.proofs.Common.{◌≡◌, inl, inr, ⊎_elim, ◌↔◌, ℕ, ◌≤◌, List, ◌++◌, Contains, refl, sym, ◌∙◌, ap, subst, append-nil}
+use Rattle.tuples.specs.declared.entry.WriteId.{WriteId}
+use Rattle.records.specs.declared.record.Record.{Record}
+use Rattle.records.specs.declared.record.Record.TheVariants.{Epoch}
+use Rattle.records.specs.Coordinators.{CoordinatorState, coordinator_from, coordinator_state, empty_coordinator}
+use Rattle.decisions.specs.Standing.{IsGivenOut}
+use Rattle.turns.specs.FlushLaws.{FailedFlushesStand, FailsFlush}
+use Rattle.laws.specs.Machines.{Machine}
+use Rattle.turns.specs.Moments.{Moment}
+use Rattle.laws.specs.Nodes.{CoordinatorKnows, NodeName, NodeState, Nodes, coordinator, down, leaves, refused, shard, staged_of, up, IsOfRefusedOpening}
+use Rattle.turns.specs.Stands.{HeadsStand, NodesStand, Stands, at_shards}
+use Rattle.laws.specs.Worlds.{Means, Rests}
+use Rattle.laws.proofs.CoordinatorStates.{coordinator_from-append}
+use Rattle.turns.proofs.DecisionNodes.{epoch_stays}
+use Rattle.laws.proofs.LessLeft.{less_rests}
+use Rattle.turns.proofs.LessLeftFlows.{GoesOn, stands_on}
+use Rattle.refusal.specs.declared.refusal.Refusal.{Refusal}
+
+-- what is asked of the coordinator that is known of it alone
+pub record CoordinatorStands (store shards : ℕ) (after : NodeName → List Record → Type 0) (next : Nodes) : Type 0 where
+  pub durable : (d g rs : List Record) → next.at coordinator ≡ up d g → after coordinator rs ↔ (rs ≡ d)
+  pub no_opening : (d g : List Record) (a b c e : ℕ) → next.at coordinator ≡ up d g → Contains g (Epoch a b c e) → ⊥
+  pub opened : (kept memory : CoordinatorState) → CoordinatorKnows next kept memory → 1 ≤ kept.epoch
+  pub sound : (e : Refusal) → next.at coordinator ≡ refused e → IsOfRefusedOpening e
+
+module _ (store shards : ℕ) (left after : NodeName → List Record → Type 0) (now : Moment) (next : Nodes) (stands : Stands store shards left now)
+    (unchanged : (t : ℕ) → next.at (shard t) ≡ now.nodes.at (shard t)) (same : (t : ℕ) (rs : List Record) → after (shard t) rs ↔ left (shard t) rs) where
+  -- the shards stand as they did
+  pub nodes_stand : CoordinatorStands store shards after next → NodesStand store shards after next
+  nodes_stand here = record {
+    durable = λ k d g rs is. durable_at k d g rs is;
+    no_opening = λ k d g a b c e is has. none_at k d g a b c e is has;
+    coordinator_opened = here.opened;
+    shard_opened = λ t d g is. stands.nodes.shard_opened t d g (sym (unchanged t) ∙ is);
+    sound = not_damaged;
+  }
+    where
+      durable_at : (k : NodeName) (d g rs : List Record) → next.at k ≡ up d g → (after k rs → rs ≡ d) × (rs ≡ d → after k rs)
+      durable_at coordinator d g rs is = here.durable d g rs is
+      durable_at (shard t) d g rs is =
+          let was : now.nodes.at (shard t) ≡ up d g = sym (unchanged t) ∙ is in
+          (λ x. (stands.nodes.durable (shard t) d g rs was).0 ((same t rs).0 x), λ x. (same t rs).1 ((stands.nodes.durable (shard t) d g rs was).1 x))
+
+      none_at : (k : NodeName) (d g : List Record) (a b c e : ℕ) → next.at k ≡ up d g → Contains g (Epoch a b c e) → ⊥
+      none_at coordinator d g a b c e is has = here.no_opening d g a b c e is has
+      none_at (shard t) d g a b c e is has = stands.nodes.no_opening (shard t) d g a b c e (sym (unchanged t) ∙ is) has
+
+      not_damaged : (k : NodeName) (e : Refusal) → next.at k ≡ refused e → IsOfRefusedOpening e
+      not_damaged coordinator e is = here.sound e is
+      not_damaged (shard t) e is = stands.nodes.sound (shard t) e (sym (unchanged t) ∙ is)
+
+  -- of a coordinator that is not up nothing is known
+  pub nothing_known : (m : Machine) → ((d g : List Record) → next.at coordinator ≡ up d g → ⊥) → ((e : Refusal) → next.at coordinator ≡ refused e → IsOfRefusedOpening e)
+      → CoordinatorStands store shards after next × HeadsStand store shards after next m
+  nothing_known m not_up sound = (
+    record {
+      durable = λ d g rs is. absurd (not_up d g is);
+      no_opening = λ d g a b c e is has. not_up d g is;
+      opened = λ kept memory k. absurd (not_up k.durable k.staged k.is_up);
+      sound = sound;
+    },
+    record {
+      log = λ kept memory k. absurd (not_up k.durable k.staged k.is_up);
+      kept = λ kept memory k. absurd (not_up k.durable k.staged k.is_up);
+      horizon = λ kept memory k. absurd (not_up k.durable k.staged k.is_up);
+      whole = λ d g is. absurd (not_up d g is);
+    },
+  )
+
+module _ (store shards : ℕ) (left after : NodeName → List Record → Type 0) (now : Moment) (next : Nodes) (stands : Stands store shards left now) (fails : FailsFlush left after now.nodes next) where
+  same_epoch : (coordinator_state (fails.durable ++ fails.staged)).epoch ≡ (coordinator_state fails.durable).epoch
+  unfolding coordinator_state
+  same_epoch =
+      ap (λ (c : CoordinatorState). c.epoch) (coordinator_from-append empty_coordinator fails.durable fails.staged)
+      ∙ epoch_stays (coordinator_from empty_coordinator fails.durable) fails.staged (λ a b c d has. stands.nodes.no_opening coordinator fails.durable fails.staged a b c d fails.was has)
+
+  durable_left : left coordinator fails.durable
+  durable_left = (stands.nodes.durable coordinator fails.durable fails.staged fails.durable fails.was).1 refl
+
+  not_up : (d g : List Record) → next.at coordinator ≡ up d g → ⊥
+  not_up d g is = let both : down ≡ up d g = sym fails.now ∙ is in cc
+
+  given_out : (id : WriteId) → IsGivenOut (left coordinator) id → IsGivenOut (after coordinator) id
+  given_out id old found is =
+      let low : id.epoch ≤ (coordinator_state fails.durable).epoch = old fails.durable durable_left in
+      ⊎_elim
+      (λ plain. subst (λ (l : List Record). id.epoch ≤ (coordinator_state l).epoch) (sym plain) low)
+      (λ more. subst (λ (l : List Record). id.epoch ≤ (coordinator_state l).epoch) (sym more) (subst (λ (k : ℕ). id.epoch ≤ k) (sym same_epoch) low))
+      (fails.here found is)
+
+  less : (found : List Record) → leaves after next coordinator found → leaves left now.nodes coordinator found
+  less found is =
+      let same : found ≡ is.0 = ⊎_elim (λ plain. plain) (λ more. more ∙ ap (λ (l : List Record). is.0 ++ l) (ap staged_of fails.now) ∙ append-nil is.0) is.2 in (
+        fails.durable,
+        durable_left,
+        ⊎_elim
+            (λ plain. inl (same ∙ plain))
+            (λ more. inr (same ∙ more ∙ ap (λ (l : List Record). fails.durable ++ l) (sym (ap staged_of fails.was))))
+            (fails.here is.0 is.1),
+      )
+
+  shard_less : (t : ℕ) (rs : List Record) → leaves after next (shard t) rs → leaves left now.nodes (shard t) rs
+  shard_less t rs is = (is.0, (fails.same t is.0).0 is.1, ⊎_elim (λ plain. inl plain) (λ more. inr (more ∙ ap (λ (x : NodeState). is.0 ++ staged_of x) (fails.unchanged t))) is.2)
+
+  both_less : (Rests store shards now.machine.log now.machine.kept now.machine.horizon (leaves left now.nodes coordinator) (at_shards (leaves left now.nodes)) → Rests store shards now.machine.log now.machine.kept now.machine.horizon (leaves after next coordinator) (at_shards (leaves after next)))
+      × ((c : List Record) → Means store shards now.machine.log now.machine.horizon c (at_shards (leaves left now.nodes)) → Means store shards now.machine.log now.machine.horizon c (at_shards (leaves after next)))
+  both_less = less_rests (leaves left now.nodes coordinator) (leaves after next coordinator) (at_shards (leaves left now.nodes)) (at_shards (leaves after next)) store shards now.machine.log now.machine.kept now.machine.horizon less shard_less
+
+  on : GoesOn store shards left after now next
+  on = record {
+    stands = stands;
+    rests = both_less.0 stands.rests;
+    whole = λ c is. both_less.1 c;
+    in_doubt = λ t found is. (found, shard_less t found is, refl);
+    listed = λ t found lt is. stands.listed t found lt (shard_less t found is);
+    shard_knew = λ t m k. inl (m, record { durable = k.durable; staged = k.staged; is_up = sym (fails.unchanged t) ∙ k.is_up; replayed = k.replayed }, refl, refl);
+    coordinator_was = inr fails.now;
+    given_out = given_out;
+    open_writes = fails.open_writes;
+    given = fails.given;
+    epochs = λ t epoch old found is. old found ((fails.same t found).0 is);
+    settled = λ t place old found is. old found ((fails.same t found).0 is);
+  }
+
+pub failed_flushes_stand : (store shards : ℕ) (left after : NodeName → List Record → Type 0) → FailedFlushesStand store shards left after
+failed_flushes_stand store shards left after now next stands fails =
+    let none = nothing_known store shards left after now next stands fails.unchanged fails.same now.machine (not_up store shards left after now next stands fails) (λ e is. let both : down ≡ refused e = sym fails.now ∙ is in absurd cc) in
+    stands_on store shards left after now next (on store shards left after now next stands fails) (nodes_stand store shards left after now next stands fails.unchanged fails.same none.0)

@@ -1,0 +1,77 @@
+-- A flush of a shard is a turn of a run, which ends the flow that asked for it.
+use Rattle.std.proofs.Common.{◌≡◌, ◌≢◌, inl, inr, ℕ, ◌<◌, ◌⊎◌, false, List, [], ◌∷◌, ◌++◌, Option, Some, Contains, refl, sym, ap, subst, arith}
+use Rattle.std.proofs.lemmas.List.Elements.{All-nil}
+use Rattle.refusal.specs.declared.refusal.Refusal.{Refusal}
+use Rattle.refusal.specs.declared.refusal.Refusal.TheVariants.{Down, Unsure}
+use Rattle.records.specs.declared.record.Record.{Record}
+use Rattle.laws.specs.Nodes.{NodeName, Nodes, coordinator, down, shard, up}
+use Rattle.turns.specs.Causes.{HasItsCause, IsDown}
+use Rattle.turns.specs.Flows.{Asked, to_flush}
+use Rattle.turns.specs.FlushLaws.{FlushesShard, ShardFlushesAnswer}
+use Rattle.turns.specs.Moments.{Moment, Running, ended, is_write}
+use Rattle.turns.specs.Replies.{Agrees, done}
+use Rattle.turns.specs.Runs.{IsQuiet, IsTurned, MayRise, Turns, answered, refuses}
+use Rattle.turns.specs.StagingLaws.{with_nodes}
+use Rattle.turns.specs.Stands.{IsHorizonIn, Stands}
+use Rattle.turns.proofs.FlowEnds.{flows_end}
+use Rattle.turns.proofs.ShardFlush.{shard_flushes_stand}
+use Rattle.turns.proofs.ShardStages.{is_shard}
+
+module _ (store shards : ℕ) (left after : NodeName → List Record → Type 0) (now : Moment) (next : Nodes) (s : ℕ) (r : Running) (st : Stands store shards left now) (in_store : s < shards) (flush : FlushesShard s left after now.nodes next)
+    (there : Contains now.running r) (asked : r.asked ≡ to_flush (shard s)) (goes_on : r.is_cancelled ≡ false) where
+  abbrev flushed : Moment
+  flushed = record now { nodes = next; running = ended r.slot now.running }
+
+  nor_here : shard s ≢ coordinator
+  nor_here same = let e : 1 ≡ 0 = ap is_shard same in omega (arith, e)
+
+  turned : (o : Option Refusal) → (o ≡ r.met) ⊎ ((e : Refusal) × (o ≡ Some e) × HasItsCause shards now flushed r e)
+      → IsTurned shards (IsHorizonIn store shards left now.nodes) now r [] flushed (record r { seen = r.seen ++ now.machine ∷ []; met = o })
+  turned o why = record {
+    slot = refl;
+    asked = refl;
+    same_id = λ id is. is;
+    seen = refl;
+    decides = inr (record { moves_are = All-nil (IsQuiet (MayRise shards (IsHorizonIn store shards left now.nodes) now)); decided = refl });
+    met = why;
+    cancelled = refl;
+    reopened_is = refl;
+  }
+
+  done_turn : next.at (shard s) ≡ up (flush.durable ++ flush.staged) [] → Turns shards (IsHorizonIn store shards left now.nodes) now r (answered done ∷ []) flushed
+  done_turn is_up = record {
+    moves = [];
+    machine = refl;
+    node = shard s;
+    others = flush.others;
+    called = inr (inr (inl (record { durable = flush.durable; staged = flush.staged; was = flush.was; now = is_up })));
+    later = record r { seen = r.seen ++ now.machine ∷ [] };
+    open_writes = inl (record { open_writes = flush.others.open_writes nor_here; given = flush.others.given nor_here });
+    turned = turned r.met (inl refl);
+    named = refl;
+    tells = inl (goes_on, (answered done, refl, (subst (λ (a : Asked). Agrees (record r { seen = r.seen ++ now.machine ∷ [] }) flushed a done) (sym asked) tt, refl, refl)));
+  }
+
+  down_turn : next.at (shard s) ≡ down → Turns shards (IsHorizonIn store shards left now.nodes) now r (refuses Down ∷ []) flushed
+  down_turn is_down = record {
+    moves = [];
+    machine = refl;
+    node = shard s;
+    others = flush.others;
+    called = inr (inr (inr (record { durable = flush.durable; staged = flush.staged; was = flush.was; now = is_down })));
+    later = record r { seen = r.seen ++ now.machine ∷ []; met = Some Down };
+    open_writes = inl (record { open_writes = flush.others.open_writes nor_here; given = flush.others.given nor_here });
+    turned = turned (Some Down) (inr (Down, refl, inl (subst (IsDown shards next) (sym asked) (shard s, (in_store, refl), inl is_down))));
+    named = refl;
+    tells = inl (goes_on, (refuses Down, refl, (record { met = refl; decided = λ none. not_unsure; undecided_write = λ other. (st.flows.quiet r there (ap is_write asked)).0 }, refl, refl)));
+  }
+    where
+      not_unsure : Down ≢ Unsure
+      not_unsure is = cc
+
+pub shard_flushes_answer : (store shards : ℕ) (left after : NodeName → List Record → Type 0) → ShardFlushesAnswer store shards left after
+shard_flushes_answer store shards left after now next s r st in_store flush image there asked goes_on = (
+  flows_end store shards after (with_nodes now next) r.slot (shard_flushes_stand store shards left after now next s st flush image),
+  done_turn store shards left after now next s r st in_store flush there asked goes_on,
+  down_turn store shards left after now next s r st in_store flush there asked goes_on,
+)

@@ -1,0 +1,240 @@
+-- Each record that a shard stages leaves the store standing for the same machine.
+use Rattle.std.proofs.Common.{◌≡◌, inl, inr, ⊎_elim, ℕ, ◌+◌, ◌-◌, ◌≤◌, true, List, [], ◌∷◌, ◌++◌, length, take, drop, Some, None, Contains, sym, ◌∙◌, ap, subst, arith, slice_get, refl}
+use Rattle.std.proofs.lemmas.List.{take_all}
+use Rattle.std.proofs.lemmas.List.Elements.{Contains-push_cases}
+use Rattle.tuples.specs.declared.change.Change.{Change}
+use Rattle.tuples.specs.declared.change.Condition.{Condition}
+use Rattle.tuples.specs.declared.entry.Entry.{Entry}
+use Rattle.tuples.specs.declared.entry.WriteId.{WriteId}
+use Rattle.tuples.specs.Log.{HoldAfter}
+use Rattle.tuples.specs.Parts.{part, takes_part}
+use Rattle.records.specs.declared.record.PlacedId.{PlacedId}
+use Rattle.records.specs.declared.record.Record.{Record}
+use Rattle.records.specs.declared.record.Record.TheVariants.{Prepare, Learned, Dropped, Epoch, Horizon}
+use Rattle.records.specs.Replays.{MayPrepare, ShardState, find_in_doubt, shard_state, shard_step, without, without_placed_ids}
+use Rattle.replay.proofs.Doubts.{HasPlacedId, cases_id, find_not_learned, find_push, find_push_same, find_without_other, find_without_same}
+use Rattle.replay.proofs.States.{image_last, shard_push}
+use Rattle.decisions.specs.Values.{BatchValue}
+use Rattle.shard.specs.Shards.{learning, placed_ids_from}
+use Rattle.laws.specs.LogLaws.{IsUnlisted}
+use Rattle.laws.specs.ShardLaws.{IsShardStep}
+use Rattle.laws.specs.Worlds.{Rests, shard_node}
+use Rattle.laws.specs.Nodes.{NodeName, Nodes, leaves}
+use Rattle.turns.specs.Flows.{Asked, Holds, checking, collecting, flushing, id_of, learning as learns, raising, reading, resolving, to_write, watching, writing}
+use Rattle.turns.specs.Held.{IsOpen, IsRight, IsRightBatch, IsRightVerdict, IsUndecided, WasGiven, own_write}
+use Rattle.turns.specs.Moments.{Moment, Running}
+use Rattle.turns.specs.StagingLaws.{IsFlowOf, IsStaging, with_nodes}
+use Rattle.turns.specs.Stands.{Stands, at_shards}
+use Rattle.laws.proofs.LearnStep.{part_is_from, slice_get_drop}
+use Rattle.laws.proofs.Lists.{slice_get_taken}
+use Rattle.laws.proofs.Locks.{of_without}
+use Rattle.laws.proofs.ShardSteps.{collects_rest, drops_rest, learns_rest, prepares_rest, unlearned_of_log, collected_means, batch_means, dropped_unlisted}
+use Rattle.turns.proofs.ShardStages.{epoch_given, left_now, memory, memory_left}
+use Rattle.turns.proofs.ShardStagesStands.{contained_at, contained_from, stands_kept}
+use Rattle.laws.specs.Shards.{ShardMeans}
+use Rattle.laws.proofs.PrepareStep.{dropped_means, prepared_means}
+
+module _ (store shards : ℕ) (left : NodeName → List Record → Type 0) (now : Moment) (next : Nodes) (s : ℕ) where
+  step_of : (r : Record) (st : IsStaging store shards left now next s r) (stops : List Record → Type 0) (kept : ℕ)
+      → Rests store shards now.machine.log kept now.machine.horizon stops (at_shards (leaves left now.nodes))
+      → IsShardStep store shards now.machine.log kept now.machine.horizon stops (at_shards (leaves left now.nodes)) s (memory store shards left now next s r st) r (at_shards (leaves left next))
+  step_of r st stops kept rests = record {
+    rests = rests;
+    here = memory_left store shards left now next s r st;
+    image = st.image;
+    adds = left_now store shards left now next s r st;
+  }
+
+  -- a horizon leaves the writes in doubt as they are
+  pub collects_stand : (place : ℕ) → IsStaging store shards left now next s (Horizon place) → place ≤ now.machine.horizon → Stands store shards left (with_nodes now next)
+  unfolding shard_step
+  collects_stand place st low = stands_kept store shards left now next s (Horizon place) st (record {
+    no_epoch = λ a b c d is. absurd cc;
+    rests = λ stops kept le of_coordinator rests. collects_rest stops (at_shards (leaves left now.nodes)) (at_shards (leaves left next)) store shards now.machine.log kept now.machine.horizon s was place (step_of (Horizon place) st stops kept rests) low;
+    given = λ w has. inl (subst (λ (m : ShardState). Contains m.in_doubt w) after has);
+    means = λ m. subst (ShardMeans shards s now.machine.log now.machine.horizon now.machine.horizon) (sym after)
+        (collected_means (shard_node store shards s) shards s now.machine.log now.machine.horizon now.machine.horizon was place st.image low m);
+    keeps = λ f there changes conditions id asked is_id. record {
+      found = λ none p has. inl (ap (λ (m : ShardState). find_in_doubt id m.in_doubt) (sym after) ∙ has);
+      promised = λ here has. ap (λ (m : ShardState). find_in_doubt id m.in_doubt) after ∙ has;
+      epoch = ap (λ (m : ShardState). m.epoch) after;
+    };
+  })
+    where
+      was : List Record
+      was = st.step.durable ++ st.step.staged
+
+      after : shard_state (was ++ Horizon place ∷ []) ≡ shard_step (shard_state was) (Horizon place)
+      after = shard_push was (Horizon place)
+
+  pub drops_stand : (id : WriteId) → IsStaging store shards left now next s (Dropped id) → IsRightVerdict shards left now id → Stands store shards left (with_nodes now next)
+  unfolding shard_step
+  drops_stand id st verdict = stands_kept store shards left now next s (Dropped id) st (record {
+    no_epoch = λ a b c d is. absurd cc;
+    rests = λ stops kept le of_coordinator rests. drops_rest stops (at_shards (leaves left now.nodes)) (at_shards (leaves left next)) store shards now.machine.log kept now.machine.horizon s was id (step_of (Dropped id) st stops kept rests) verdict.none;
+    given = λ w has.
+        let at = contained_at (without id (shard_state was).in_doubt) w (subst (λ (m : ShardState). Contains m.in_doubt w) after has) in
+        let old = of_without id (shard_state was).in_doubt at.0 w at.1 in
+        inl (contained_from (shard_state was).in_doubt old.0 w old.1);
+    means = λ m. subst (ShardMeans shards s now.machine.log now.machine.horizon now.machine.horizon) (sym after)
+        (dropped_means shards s now.machine.log now.machine.horizon now.machine.horizon (shard_state was) id
+        (dropped_unlisted (shard_node store shards s) shards s now.machine.log now.machine.horizon now.machine.horizon was id st.image m verdict.none) m);
+    keeps = λ f there changes conditions own asked is_id. record {
+      found = λ none p has.
+          let has_after : find_in_doubt own (without id (shard_state was).in_doubt) ≡ Some p = ap (λ (m : ShardState). find_in_doubt own m.in_doubt) (sym after) ∙ has in
+          inl (⊎_elim
+          (λ (same : own ≡ id). let gone : None ≡ Some p = sym (find_without_same own (shard_state was).in_doubt) ∙ ap (λ (i : WriteId). find_in_doubt own (without i (shard_state was).in_doubt)) same ∙ has_after in absurd cc)
+          (λ ne. sym (find_without_other own id (shard_state was).in_doubt ne) ∙ has_after)
+          (cases_id own id));
+      promised = λ here has. ap (λ (m : ShardState). find_in_doubt own m.in_doubt) after ∙ find_without_other own id (shard_state was).in_doubt (verdict.closed (own_write own changes conditions) here) ∙ has;
+      epoch = ap (λ (m : ShardState). m.epoch) after;
+    };
+  })
+    where
+      was : List Record
+      was = st.step.durable ++ st.step.staged
+
+      after : shard_state (was ++ Dropped id ∷ []) ≡ shard_step (shard_state was) (Dropped id)
+      after = shard_push was (Dropped id)
+
+  -- a flow that has not decided has an undecided write
+  undecided_of : (f : Running) (w : Entry) (h : Holds) → id_of h ≡ Some w.id → f.decided ≡ None → IsRight shards left now f (to_write w.changes w.conditions) h → IsUndecided shards left now w
+  undecided_of f w (writing h) is none right = (right.own w.id is).undecided none
+  undecided_of f w (reading h) is none right = absurd cc
+  undecided_of f w (checking h) is none right = absurd cc
+  undecided_of f w (watching h) is none right = absurd cc
+  undecided_of f w flushing is none right = absurd cc
+  undecided_of f w (learns h) is none right = absurd cc
+  undecided_of f w (resolving h) is none right = absurd cc
+  undecided_of f w (raising h) is none right = absurd cc
+  undecided_of f w (collecting h) is none right = absurd cc
+
+  pub prepares_stand : (w : Entry) (r : Running) → IsStaging store shards left now next s (Prepare (part shards s w)) → IsFlowOf now r w → takes_part shards s w ≡ true → (IsOpen now.nodes w → HoldAfter now.machine.log (part shards s w).conditions)
+      → Stands store shards left (with_nodes now next)
+  unfolding shard_step part
+  prepares_stand w r st flow takes hold = stands_kept store shards left now next s (Prepare (part shards s w)) st (record {
+    no_epoch = λ a b c d is. absurd cc;
+    rests = λ stops kept le of_coordinator rests. prepares_rest stops (at_shards (leaves left now.nodes)) (at_shards (leaves left next)) store shards now.machine.log kept now.machine.horizon s was (part shards s w)
+        (step_of (Prepare (part shards s w)) st stops kept rests) own.unlisted
+        (λ c is. epoch_given store shards left now next s (Prepare (part shards s w)) st w.id own.given c (of_coordinator c is));
+    given = λ x has. ⊎_elim
+        (λ old. inl old)
+        (λ new. inr (subst (λ (y : Entry). WasGiven shards left now.nodes y.id) new own.given))
+        (Contains-push_cases (shard_state was).in_doubt (part shards s w) x (subst (λ (m : ShardState). Contains m.in_doubt x) after has));
+    means = λ m. subst (ShardMeans shards s now.machine.log now.machine.horizon now.machine.horizon) (sym after)
+        (prepared_means shards s now.machine.log now.machine.horizon now.machine.horizon (shard_state was) w.id own.unlisted m (part shards s w) refl);
+    keeps = λ f there changes conditions id asked is_id. record {
+      found = λ none p has.
+          let has_after : find_in_doubt id ((shard_state was).in_doubt ++ part shards s w ∷ []) ≡ Some p = ap (λ (m : ShardState). find_in_doubt id m.in_doubt) (sym after) ∙ has in
+          ⊎_elim
+          (λ (same : w.id ≡ id).
+          let one : f ≡ r = same_flow f there id is_id same in
+          let asks : to_write changes conditions ≡ to_write w.changes w.conditions = sym asked ∙ ap (λ (g : Running). g.asked) one ∙ flow.asked in
+          let whole : own_write id changes conditions ≡ w = same_write id changes conditions same asks in
+          let part_is : Some (part shards s w) ≡ Some p = sym (find_push_same (shard_state was).in_doubt (part shards s w) may.new) ∙ ap (λ (i : WriteId). find_in_doubt i ((shard_state was).in_doubt ++ part shards s w ∷ [])) same ∙ has_after in
+          let is : part shards s w ≡ p = cc in
+          inr (ap (takes_part shards s) whole ∙ takes, sym is ∙ ap (part shards s) (sym whole), λ here. subst (λ (q : Entry). HoldAfter now.machine.log q.conditions) is (hold (subst (IsOpen now.nodes) whole here))))
+          (λ ne. inl (sym (find_push id (shard_state was).in_doubt (part shards s w) ne) ∙ has_after))
+          (cases_id w.id id);
+      promised = λ here has. ⊎_elim
+          (λ (same : w.id ≡ id).
+          let gone : None ≡ Some (part shards s (own_write id changes conditions)) = sym may.new ∙ ap (λ (i : WriteId). find_in_doubt i (shard_state was).in_doubt) same ∙ has in
+          absurd cc)
+          (λ ne. ap (λ (m : ShardState). find_in_doubt id m.in_doubt) after ∙ find_push id (shard_state was).in_doubt (part shards s w) ne ∙ has)
+          (cases_id w.id id);
+      epoch = ap (λ (m : ShardState). m.epoch) after;
+    };
+  })
+    where
+      was : List Record
+      was = st.step.durable ++ st.step.staged
+
+      after : shard_state (was ++ Prepare (part shards s w) ∷ []) ≡ shard_step (shard_state was) (Prepare (part shards s w))
+      after = shard_push was (Prepare (part shards s w))
+
+      may : MayPrepare (shard_node store shards s) (shard_state was) (part shards s w)
+      may = image_last (shard_node store shards s) was (Prepare (part shards s w)) st.image
+
+      own : IsUndecided shards left now w
+      own = undecided_of r w r.holds flow.id flow.undecided (subst (λ (a : Asked). IsRight shards left now r a r.holds) flow.asked (st.stands.flows.held r flow.there))
+
+      same_flow : (f : Running) → Contains now.running f → (id : WriteId) → id_of f.holds ≡ Some id → w.id ≡ id → f ≡ r
+      same_flow f there id is_id same =
+          let at_f = contained_at now.running f there in
+          let at_r = contained_at now.running r flow.there in
+          let index : at_f.0 ≡ at_r.0 = st.stands.flows.ids at_f.0 at_r.0 f r id at_f.1 at_r.1 is_id (flow.id ∙ ap (λ (i : WriteId). Some i) same) in
+          let both : Some f ≡ Some r = sym at_f.1 ∙ ap (slice_get now.running) index ∙ at_r.1 in
+          cc
+
+      same_write : (id : WriteId) (changes : List Change) (conditions : List Condition) → w.id ≡ id → to_write changes conditions ≡ to_write w.changes w.conditions → own_write id changes conditions ≡ w
+      same_write id changes conditions same asks =
+          let a : changes ≡ w.changes = cc in
+          let b : conditions ≡ w.conditions = cc in
+          ap (λ (i : WriteId). own_write i changes conditions) (sym same) ∙ ap (λ (l : List Change). own_write w.id l conditions) a ∙ ap (λ (l : List Condition). own_write w.id w.changes l) b
+
+  -- what is left without placed_ids was there
+  of_placed_ids : (placed_ids : List PlacedId) (ws : List Entry) (w : Entry) → Contains (without_placed_ids placed_ids ws) w → Contains ws w
+  of_placed_ids [] ws w has = has
+  of_placed_ids (p ∷ placed_ids) ws w has =
+      let at = contained_at (without p.id ws) w (of_placed_ids placed_ids (without p.id ws) w has) in
+      let old = of_without p.id ws at.0 w at.1 in
+      contained_from ws old.0 w old.1
+
+  still_without : (id other : WriteId) (ws : List Entry) (p : Entry) → find_in_doubt id (without other ws) ≡ Some p → find_in_doubt id ws ≡ Some p
+  still_without id other ws p is = ⊎_elim
+      (λ (same : id ≡ other). let gone : None ≡ Some p = sym (find_without_same id ws) ∙ ap (λ (i : WriteId). find_in_doubt id (without i ws)) same ∙ is in absurd cc)
+      (λ ne. sym (find_without_other id other ws ne) ∙ is)
+      (cases_id id other)
+
+  still_placed_ids : (id : WriteId) (placed_ids : List PlacedId) (ws : List Entry) (p : Entry) → find_in_doubt id (without_placed_ids placed_ids ws) ≡ Some p → find_in_doubt id ws ≡ Some p
+  still_placed_ids id [] ws p is = is
+  still_placed_ids id (q ∷ placed_ids) ws p is = still_without id q.id ws p (still_placed_ids id placed_ids (without q.id ws) p is)
+
+  pub learns_stand : (r : Record) (b : BatchValue) → (st : IsStaging store shards left now next s r)
+      → r ≡ learning (shard_node store shards s) (shard_state (st.step.durable ++ st.step.staged)) b.from b.writes
+      → IsRightBatch now.machine b → b.from ≤ (shard_state (st.step.durable ++ st.step.staged)).learned → (shard_state (st.step.durable ++ st.step.staged)).learned ≤ b.from + length b.writes
+      → Stands store shards left (with_nodes now next)
+  unfolding shard_step
+  learns_stand r b st is_learning batch low high = stands_kept store shards left now next s r st (record {
+    no_epoch = λ x y z u is. let bad : Learned (b.from + length b.writes) placed_ids ≡ Epoch x y z u = sym is_learning ∙ is in absurd cc;
+    rests = λ stops kept le of_coordinator rests. learns_rest stops (at_shards (leaves left now.nodes)) (at_shards (leaves left next)) store shards now.machine.log kept now.machine.horizon s was b.from b.writes
+        (subst (λ (q : Record). IsShardStep store shards now.machine.log kept now.machine.horizon stops (at_shards (leaves left now.nodes)) s was q (at_shards (leaves left next))) is_learning (step_of r st stops kept rests))
+        batch.writes (omega (arith, batch.kept, batch.within, le)) low high;
+    means = λ m.
+        let log = now.machine.log in
+        let all : take (length log) log ≡ log = take_all (length log) log (omega arith) in
+        let fits : b.from + length b.writes ≤ length log = omega (arith, batch.kept, batch.within, st.stands.rests.within) in
+        subst (ShardMeans shards s log now.machine.horizon now.machine.horizon) (sym after)
+        (subst (λ (l : List Entry). ShardMeans shards s l now.machine.horizon now.machine.horizon (shard_step (shard_state was) (Learned (b.from + length b.writes) placed_ids))) all
+        (batch_means store shards s log now.machine.horizon now.machine.horizon (shard_state was) b.from b.writes (length log) st.stands.rests.is_log.new batch.writes fits (omega arith) low high (omega arith)
+        (subst (λ (l : List Entry). ShardMeans shards s l now.machine.horizon now.machine.horizon (shard_state was)) (sym all) m)));
+    given = λ w has. inl (of_placed_ids placed_ids (shard_state was).in_doubt w (subst (λ (m : ShardState). Contains m.in_doubt w) after has));
+    keeps = λ f there changes conditions own asked is_id. record {
+      found = λ none p has. inl (still_placed_ids own placed_ids (shard_state was).in_doubt p (ap (λ (m : ShardState). find_in_doubt own m.in_doubt) (sym after) ∙ has));
+      promised = λ here has. ap (λ (m : ShardState). find_in_doubt own m.in_doubt) after
+          ∙ find_not_learned own placed_ids (shard_state was).in_doubt (not_listed own (st.stands.ids.unlisted (own_write own changes conditions) here)) ∙ has;
+      epoch = ap (λ (m : ShardState). m.epoch) after;
+    };
+  })
+    where
+      was : List Record
+      was = st.step.durable ++ st.step.staged
+
+      placed_ids : List PlacedId
+      placed_ids = placed_ids_from shards s ((shard_state (st.step.durable ++ st.step.staged)).learned + 1) (drop ((shard_state (st.step.durable ++ st.step.staged)).learned - b.from) b.writes)
+
+      after : shard_state (was ++ r ∷ []) ≡ shard_step (shard_state was) (Learned (b.from + length b.writes) placed_ids)
+      after = shard_push was r ∙ ap (shard_step (shard_state was)) is_learning
+
+      not_listed : (own : WriteId) → IsUnlisted own now.machine.log → HasPlacedId own placed_ids → ⊥
+      not_listed own unlisted has =
+          let log = now.machine.log in
+          let p = (shard_state was).learned in
+          let m = b.from + length b.writes - p in
+          let fits : b.from + length b.writes ≤ length log = omega (arith, batch.kept, batch.within, st.stands.rests.within) in
+          let all : take (length log) log ≡ log = take_all (length log) log (omega arith) in
+          let of_log : drop (p - b.from) b.writes ≡ take m (drop p log) = unlearned_of_log log b.writes b.from p (length log) batch.writes low high fits ∙ ap (λ (l : List Entry). take m (drop p l)) all in
+          let at = part_is_from shards s (p + 1) (drop (p - b.from) b.writes) own has in
+          let there : slice_get (take m (drop p log)) at.0 ≡ Some at.1 = ap (λ (l : List Entry). slice_get l at.0) (sym of_log) ∙ at.2 in
+          let in_log : slice_get log (p + at.0) ≡ Some at.1 = sym (slice_get_drop p log at.0) ∙ slice_get_taken m (drop p log) at.0 at.1 there in
+          unlisted (p + at.0) at.1 in_log (sym at.3)

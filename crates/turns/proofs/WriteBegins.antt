@@ -1,0 +1,457 @@
+-- A write begins: its id is new, so what other flows hold stays right.
+use Rattle.std.proofs.Common.{◌≡◌, ◌≢◌, ◌⊎◌, inl, inr, ⊎_elim, ◌==◌, ℕ, zero, suc, Bool, true, false, ◌<◌, ◌≤◌, ◌+◌, List, [], ◌∷◌, ◌++◌, length, Option, Some, None, slice_get, slice_index_or, Contains, All, refl, sym, ◌∙◌, ap, subst, arith, if◌then◌else◌}
+use Rattle.std.proofs.lemmas.Bool.{eqb-true}
+use Rattle.std.proofs.lemmas.List.Elements.{All-nil, Contains-append_right, Contains-push_cases}
+use Rattle.std.proofs.lemmas.Option.{same_Some}
+use Rattle.tuples.specs.declared.change.Change.{Change}
+use Rattle.tuples.specs.declared.change.Condition.{Condition}
+use Rattle.tuples.specs.declared.entry.Entry.{Entry}
+use Rattle.tuples.specs.declared.entry.WriteId.{WriteId}
+use Rattle.tuples.specs.declared.object.Userset.{Userset}
+use Rattle.tuples.specs.declared.tupleset.Tupleset.{Tupleset}
+use Rattle.tuples.specs.declared.user.User.{User}
+use Rattle.tuples.specs.Log.{AreNew, same_id}
+use Rattle.records.specs.declared.record.Record.{Record}
+use Rattle.records.specs.declared.record.Record.TheVariants.{Prepare, Learned, Dropped, Epoch, Decision, Horizon}
+use Rattle.records.specs.Coordinators.{CoordinatorState, coordinator_from, coordinator_state, coordinator_step, empty_coordinator}
+use Rattle.records.specs.Replays.{ShardState, find_in_doubt, shard_state}
+use Rattle.replay.proofs.Doubts.{found_id}
+use Rattle.decisions.specs.Values.{IntentValue}
+use Rattle.decisions.specs.Standing.{DecidedValue}
+use Rattle.laws.specs.LogLaws.{IsUnlisted}
+use Rattle.laws.specs.Nodes.{NodeName, Nodes, CoordinatorKnows, NodeState, ShardKnows, coordinator, down, leaves, refused, shard, up}
+use Rattle.turns.specs.Flows.{Freshness, Asked, HeldTicket, HeldVote, WriteHolds, ReadHolds, CheckHolds, HeadsHeld, RaiseHolds, ResolveHolds, Resolved, committed, aborted, undecided, Holds, writing, reading, checking, watching, flushing, learning, resolving, raising, collecting, id_of, to_write, to_read, to_check, to_watch, to_flush, to_learn, to_resolve, to_raise, to_collect}
+use Rattle.turns.specs.FlowLaws.{IsBegin, WritesBegin, with_intent, with_open}
+use Rattle.turns.specs.Held.{AreHeldHeads, IsOpen, IsRight, IsRightCheck, IsRightDecision, IsRightIntent, IsRightOwn, IsRightRaise, IsRightRead, IsRightResolve, IsRightResolved, IsRightTicket, IsRightVerdict, IsRightVote, IsRightWrite, IsStaged, IsUndecided, WasGiven, own_write}
+use Rattle.turns.specs.Moments.{Moment, Running, replaced}
+use Rattle.laws.specs.Machines.{Machine}
+use Rattle.turns.specs.Stands.{HasSeenBelow, IsQuietFlow, Stands}
+use Rattle.turns.proofs.FlowBegins.{alone, among}
+use Rattle.turns.proofs.ShardStagesStands.{contained_at, contained_from}
+
+no_value : {X : Type 0} {x : X} → None ≡ Some x → ⊥
+no_value is = cc
+
+-- Given a store, and a write whose id no id that was given is
+module _ (store shards : ℕ) (left : NodeName → List Record → Type 0) (now : Moment) (w : Entry) (running : List Running) (fresh : (id : WriteId) → WasGiven shards left now.nodes id → id ≢ w.id) where
+  abbrev nodes : Nodes
+  nodes = with_open store shards left now.nodes w
+
+  abbrev next : Moment
+  next = record now { nodes = nodes; running = running }
+
+  knew : (k m : CoordinatorState) → CoordinatorKnows nodes k m → CoordinatorKnows now.nodes k m
+  knew k m c = record { durable = c.durable; staged = c.staged; is_up = c.is_up; durable_state = c.durable_state; replayed = c.replayed }
+
+  shard_knew : (s : ℕ) (m : ShardState) → ShardKnows nodes s m → ShardKnows now.nodes s m
+  shard_knew s m c = record { durable = c.durable; staged = c.staged; is_up = c.is_up; replayed = c.replayed }
+
+  pub given_on : (id : WriteId) → WasGiven shards left now.nodes id → WasGiven shards left nodes id
+  given_on id g = record {
+    epoch = g.epoch;
+    now = λ k m knows. ⊎_elim (λ earlier. inl earlier) (λ same. inr (same.0, omega (arith, same.1))) (g.now k m (knew k m knows));
+  }
+
+  was_open : (v : Entry) → WasGiven shards left now.nodes v.id → IsOpen nodes v → IsOpen now.nodes v
+  was_open v given is = ⊎_elim (λ new. absurd (fresh v.id given (ap (λ (x : Entry). x.id) (sym new)))) (λ old. old) (among w v now.nodes.open_writes is)
+
+  verdict_on : (id : WriteId) → IsRightVerdict shards left now id → IsRightVerdict shards left next id
+  verdict_on id v = record {
+    given = given_on id v.given;
+    closed = λ u is. ⊎_elim (λ new same. fresh id v.given (sym same ∙ ap (λ (x : Entry). x.id) (sym new))) (λ old. v.closed u old) (among w u now.nodes.open_writes is);
+    none = v.none;
+  }
+
+  undecided_on : (v : Entry) → IsUndecided shards left now v → IsUndecided shards left next v
+  undecided_on v u = record { unlisted = u.unlisted; given = given_on v.id u.given; exact = u.exact }
+
+  ticket_on : (v : Entry) → WasGiven shards left now.nodes v.id → (t : HeldTicket) → IsRightTicket shards left now v t → IsRightTicket shards left next v t
+  ticket_on v given t k = record { own = k.own; there = k.there; takes = k.takes; epoch = k.epoch; prepared = λ is m knows same. k.prepared (was_open v given is) m (shard_knew t.shard m knows) same }
+
+  vote_on : (v : Entry) → WasGiven shards left now.nodes v.id → (t : HeldVote) → IsRightVote shards left now v t → IsRightVote shards left next v t
+  vote_on v given t k = record { own = k.own; there = k.there; takes = k.takes; prepared = λ is. k.prepared (was_open v given is) }
+
+  intent_on : (v : Entry) → WasGiven shards left now.nodes v.id → (i : IntentValue) → IsRightIntent shards left now v i → IsRightIntent shards left next v i
+  intent_on v given i k = record {
+    own = k.own;
+    kept = k.kept;
+    opened = λ d m knows same. Contains-append_right (w ∷ []) now.nodes.open_writes v (k.opened d m (knew d m knows) same);
+    conditions = λ is. k.conditions (was_open v given is);
+  }
+
+  decision_on : (v : Entry) (d : DecidedValue) → IsRightDecision shards left now v d → IsRightDecision shards left next v d
+  decision_on v d k = record { counted = k.counted; epoch = k.epoch; given = given_on v.id k.given; there = λ e m knows same. k.there e m (knew e m knows) same }
+
+  -- the id of a flow's write was given, whether it has decided or not
+  own_given : (r : Running) (v : Entry) (h : WriteHolds) → IsRightOwn shards left now r v h → h.decided ≡ r.decided → WasGiven shards left now.nodes v.id
+  own_given r v h k same = by_decided r.decided refl
+    where
+      by_decided : (o : Option DecidedValue) → r.decided ≡ o → WasGiven shards left now.nodes v.id
+      by_decided None is = (k.undecided is).given
+      by_decided (Some d) is = (k.decision d (same ∙ is)).given
+
+  module _ (r : Running) where
+    own_on : (v : Entry) (h : WriteHolds) → IsRightOwn shards left now r v h → h.decided ≡ r.decided → IsRightOwn shards left next r v h
+    own_on v h k same =
+        let given = own_given r v h k same in
+        record {
+          undecided = λ none. undecided_on v (k.undecided none);
+          intent = λ i is. let right = k.intent i is in (right.0, intent_on v given i right.1);
+          tickets = λ j d lt. ticket_on v given (slice_index_or h.tickets j d) (k.tickets j d lt);
+          votes = λ j d lt. vote_on v given (slice_index_or h.votes j d) (k.votes j d lt);
+          decision = λ d is. decision_on v d (k.decision d is);
+          verdict = λ id is. let right = k.verdict id is in (right.0, verdict_on id right.1);
+          not_reopened = λ i is not_since. Contains-append_right (w ∷ []) now.nodes.open_writes v (k.not_reopened i is not_since);
+        }
+
+    write_on : (changes : List Change) (conditions : List Condition) (h : WriteHolds) → IsRightWrite shards left now r changes conditions h → IsRightWrite shards left next r changes conditions h
+    write_on changes conditions h k = record {
+      nothing = k.nothing;
+      own = λ id is. own_on (own_write id changes conditions) h (k.own id is) k.same_decision;
+      same_decision = k.same_decision;
+      batch = k.batch;
+      out = k.out;
+      cancelled = k.cancelled;
+      refused_or_cancelled = k.refused_or_cancelled;
+    }
+
+    read_on : (fresh_at : Freshness) (sets : List Tupleset) (h : ReadHolds) → IsRightRead shards left now r fresh_at sets h → IsRightRead shards left next r fresh_at sets h
+    read_on fresh_at sets h k = record { heads = k.heads; place = k.place; done = k.done; few = k.few; rows = k.rows; nothing = k.nothing; batch = k.batch }
+
+    check_on : (fresh_at : Freshness) (x : Userset) (u : User) (h : CheckHolds) → IsRightCheck shards left now r fresh_at x u h → IsRightCheck shards left next r fresh_at x u h
+    check_on fresh_at x u h k = record {
+      heads = k.heads;
+      place = k.place;
+      nothing = k.nothing;
+      asked = k.asked;
+      once = k.once;
+      reached = k.reached;
+      none = k.none;
+      further = k.further;
+      batch = k.batch;
+    }
+
+    heads_on : (h : HeadsHeld) → AreHeldHeads shards left now r h → AreHeldHeads shards left next r h
+    heads_on h k = record { heads = k.heads; batch = k.batch }
+
+    resolved_on : (f : Resolved) → IsRightResolved shards left now f → IsRightResolved shards left next f
+    resolved_on (committed id p) k = k
+    resolved_on (aborted id) k = verdict_on id k
+    resolved_on (undecided id) k = tt
+
+    resolve_on : (h : ResolveHolds) → IsRightResolve shards left now h → IsRightResolve shards left next h
+    resolve_on h k = record {
+      found = λ j d lt. resolved_on (slice_index_or h.found j d) (k.found j d lt);
+      verdict = λ id is. verdict_on id (k.verdict id is);
+      batch = k.batch;
+    }
+
+    staged_on : (x : ℕ) → IsStaged shards left now.nodes x → IsStaged shards left nodes x
+    staged_on x s = record { durable = s.durable; staged = s.staged; is_up = s.is_up; enough = s.enough }
+
+    raise_on : (x : ℕ) (h : RaiseHolds) → IsRightRaise shards left now r x h → IsRightRaise shards left next r x h
+    raise_on x h k = record {
+      named = k.named;
+      heads = k.heads;
+      settled = k.settled;
+      batch = k.batch;
+      raised = λ is same. ⊎_elim (λ there. inl there) (λ other. ⊎_elim (λ staged. inr (inl (staged_on x staged))) (λ gone. inr (inr gone)) other) (k.raised is same);
+    }
+
+    right_on : (asked : Asked) (holds : Holds) → IsRight shards left now r asked holds → IsRight shards left next r asked holds
+    right_on (to_write changes conditions) (writing h) k = write_on changes conditions h k
+    right_on (to_read fresh_at sets) (reading h) k = read_on fresh_at sets h k
+    right_on (to_check fresh_at x u) (checking h) k = check_on fresh_at x u h k
+    right_on (to_watch c limit names) (watching h) k = heads_on h k
+    right_on (to_flush n) flushing k = tt
+    right_on (to_learn s) (learning h) k = heads_on h k
+    right_on (to_resolve s) (resolving h) k = resolve_on h k
+    right_on (to_raise x) (raising h) k = raise_on x h k
+    right_on (to_collect s) (collecting h) k = heads_on h k
+    right_on asked holds k = absurd k
+
+    -- the id of a flow was given
+    flow_given : (asked : Asked) (holds : Holds) (id : WriteId) → IsRight shards left now r asked holds → id_of holds ≡ Some id → WasGiven shards left now.nodes id
+    flow_given (to_write changes conditions) (writing h) id k is = own_given r (own_write id changes conditions) h (k.own id is) k.same_decision
+    flow_given asked (writing h) id k is = absurd k
+    flow_given asked holds id k is = absurd (no_value is)
+
+-- a write in doubt that is found is one of those in doubt
+found_in : (id : WriteId) (ws : List Entry) (p : Entry) → find_in_doubt id ws ≡ Some p → Contains ws p
+found_in id [] p is = absurd (no_value is)
+found_in id (v ∷ ws) p is = by_id (same_id v.id id) refl (found_in id ws p)
+  where
+    by_id : (b : Bool) → same_id v.id id ≡ b → (find_in_doubt id ws ≡ Some p → Contains ws p) → Contains (v ∷ ws) p
+    by_id true same rest = subst (Contains (v ∷ ws)) (same_Some v p (sym (ap (λ b. if b then Some v else find_in_doubt id ws) same) ∙ is)) (alone v ws)
+    by_id false same rest = Contains-append_right (v ∷ []) ws p (rest (sym (ap (λ b. if b then Some v else find_in_doubt id ws) same) ∙ is))
+
+-- a flow where one is replaced stood there before, or is the one that replaces a flow of its slot
+IsReplaced : Running → List Running → ℕ → Running → Type 0
+IsReplaced later rs j x = (slice_get rs j ≡ Some x) ⊎ ((x ≡ later) × ((y : Running) × (slice_get rs j ≡ Some y) × (y.slot ≡ later.slot)))
+
+replaced_is : (later : Running) (rs : List Running) (j : ℕ) (x : Running) → slice_get (replaced later rs) j ≡ Some x → IsReplaced later rs j x
+unfolding IsReplaced
+replaced_is later [] j x is = inl is
+replaced_is later (q ∷ rs) j x is = by_slot (q.slot == later.slot) refl j is (replaced_is later rs)
+  where
+    by_slot : (b : Bool) → (q.slot == later.slot) ≡ b → (i : ℕ) → slice_get (if b then later ∷ rs else q ∷ replaced later rs) i ≡ Some x
+        → ((k : ℕ) (y : Running) → slice_get (replaced later rs) k ≡ Some y → IsReplaced later rs k y) → IsReplaced later (q ∷ rs) i x
+    by_slot true same zero here rest = inr (sym (same_Some later x here), (q, refl, eqb-true q.slot later.slot same))
+    by_slot true same (suc i) there rest = inl there
+    by_slot false same zero here rest = inl here
+    by_slot false same (suc i) there rest = rest i x there
+
+pub same_length : (later : Running) (rs : List Running) → length (replaced later rs) ≡ length rs
+same_length later [] = refl
+same_length later (q ∷ rs) = by_slot (q.slot == later.slot) (same_length later rs)
+  where
+    by_slot : (b : Bool) → length (replaced later rs) ≡ length rs → length (if b then later ∷ rs else q ∷ replaced later rs) ≡ length (q ∷ rs)
+    by_slot true same = refl
+    by_slot false same = omega (arith, same)
+
+-- the durable and the staged part of a node that is up
+durable_part : NodeState → List Record
+durable_part (up durable staged) = durable
+durable_part down = []
+durable_part (refused e) = []
+
+staged_part : NodeState → List Record
+staged_part (up durable staged) = staged
+staged_part down = []
+staged_part (refused e) = []
+
+-- what a coordinator knows is one thing
+pub one_memory : (all : Nodes) (k m k' m' : CoordinatorState) → CoordinatorKnows all k m → CoordinatorKnows all k' m' → m ≡ m'
+unfolding durable_part staged_part
+one_memory all k m k' m' one two =
+    let same : up one.durable one.staged ≡ up two.durable two.staged = sym one.is_up ∙ two.is_up in
+    one.replayed ∙ ap (λ rs. coordinator_state (rs ++ one.staged)) (ap durable_part same) ∙ ap (λ rs. coordinator_state (two.durable ++ rs)) (ap staged_part same) ∙ sym two.replayed
+
+from_append : (s : CoordinatorState) (xs ys : List Record) → coordinator_from s (xs ++ ys) ≡ coordinator_from (coordinator_from s xs) ys
+from_append s [] ys = refl
+from_append s (x ∷ xs) ys = from_append (coordinator_step s x) xs ys
+
+-- a record that is no opening leaves the epoch
+step_epoch : (s : CoordinatorState) (x : Record) → ((e a b c : ℕ) → x ≡ Epoch e a b c → ⊥) → (coordinator_step s x).epoch ≡ s.epoch
+unfolding coordinator_step
+step_epoch s (Prepare v) none = refl
+step_epoch s (Learned to placed_ids) none = refl
+step_epoch s (Dropped id) none = refl
+step_epoch s (Epoch e a b c) none = absurd (none e a b c refl)
+step_epoch s (Decision place v) none = refl
+step_epoch s (Horizon place) none = refl
+
+-- records without an opening leave the epoch
+same_epoch : (s : CoordinatorState) (rs : List Record) → ((epoch a b c : ℕ) → Contains rs (Epoch epoch a b c) → ⊥) → (coordinator_from s rs).epoch ≡ s.epoch
+same_epoch s [] none = refl
+same_epoch s (r ∷ rs) none = same_epoch (coordinator_step s r) rs (λ e a b c has. none e a b c (Contains-append_right (r ∷ []) rs (Epoch e a b c) has)) ∙ step_epoch s r (λ e a b c is. none e a b c (subst (λ x. Contains (x ∷ rs) (Epoch e a b c)) (sym is) (alone (Epoch e a b c) rs)))
+
+-- what is staged behind durable records without an opening leaves their epoch
+staged_epoch : (durable staged : List Record) → ((epoch a b c : ℕ) → Contains staged (Epoch epoch a b c) → ⊥) → (coordinator_state (durable ++ staged)).epoch ≡ (coordinator_state durable).epoch
+unfolding coordinator_state
+staged_epoch durable staged none = ap (λ (c : CoordinatorState). c.epoch) (from_append empty_coordinator durable staged) ∙ same_epoch (coordinator_from empty_coordinator durable) staged none
+
+-- A write begins at a store that stands.
+module _ (store shards : ℕ) (left : NodeName → List Record → Type 0) (now : Moment) (r : Running) (h : WriteHolds) (w : Entry)
+    (b : IsBegin store shards left now r h w) (st : Stands store shards left now) where
+  fresh : (id : WriteId) → WasGiven shards left now.nodes id → id ≢ w.id
+  fresh id given same = ⊎_elim
+      (λ earlier. omega (arith, earlier, ap (λ (i : WriteId). i.epoch) same, b.epoch))
+      (λ this. omega (arith, this.1, ap (λ (i : WriteId). i.number) same, b.number))
+      (given.now b.kept b.memory b.knows)
+
+  abbrev later : Running
+  later = with_intent store shards left now r h w
+
+  abbrev flows : List Running
+  flows = replaced later now.running
+
+  abbrev after : Moment
+  after = record now { nodes = with_open store shards left now.nodes w; running = flows }
+
+  unlisted : IsUnlisted w.id now.machine.log
+  unlisted j v is same = fresh v.id (st.ids.log_given v (contained_from now.machine.log j v is)) (sym same)
+
+  no_prepare : (s : ℕ) (found : List Record) (p : Entry) → s < shards → leaves left now.nodes (shard s) found → find_in_doubt w.id (shard_state found).in_doubt ≡ Some p → ⊥
+  no_prepare s found p lt here is =
+      fresh p.id (st.ids.prepares_given s found p lt here (found_in w.id (shard_state found).in_doubt p is)) (found_id w.id (shard_state found).in_doubt p is)
+
+  w_given : WasGiven shards left (with_open store shards left now.nodes w) w.id
+  w_given = record {
+    epoch = λ found here.
+        let known = b.knows in
+        let durable = (st.nodes.durable coordinator known.durable known.staged found known.is_up).0 here in
+        epoch_is found durable;
+    now = λ k m knows. inr (b.epoch ∙ ap (λ (c : CoordinatorState). c.epoch) (same_memory k m (knew store shards left now w flows fresh k m knows)), omega (arith, b.number));
+  }
+    where
+      same_memory : (k m : CoordinatorState) → CoordinatorKnows now.nodes k m → b.memory ≡ m
+      same_memory k m c = one_memory now.nodes b.kept b.memory k m b.knows c
+
+      epoch_is : (found : List Record) → found ≡ b.knows.durable → w.id.epoch ≤ (coordinator_state found).epoch
+      epoch_is found is =
+          let same : (coordinator_state (b.knows.durable ++ b.knows.staged)).epoch ≡ (coordinator_state b.knows.durable).epoch =
+          staged_epoch b.knows.durable b.knows.staged (λ e x y z has. st.nodes.no_opening coordinator b.knows.durable b.knows.staged e x y z b.knows.is_up has) in
+          let memory : b.memory.epoch ≡ (coordinator_state (b.knows.durable ++ b.knows.staged)).epoch = ap (λ (c : CoordinatorState). c.epoch) b.knows.replayed in
+          let at_found : (coordinator_state found).epoch ≡ (coordinator_state b.knows.durable).epoch = ap (λ rs. (coordinator_state rs).epoch) is in
+          omega (arith, b.epoch, memory, same, at_found)
+
+  -- what the flow held before
+  was_write : IsRightWrite shards left now r w.changes w.conditions h
+  was_write = subst (λ x. IsRight shards left now r (to_write w.changes w.conditions) x) b.holds (subst (λ a. IsRight shards left now r a r.holds) b.asked (st.flows.held r b.running))
+
+  -- what it holds now
+  intent_right : IsRightIntent shards left after w (record { write = w; kept = now.machine.kept })
+  intent_right = record {
+    own = refl;
+    kept = omega arith;
+    opened = λ k m knows same. alone w now.nodes.open_writes;
+    conditions = λ is s found p lt here has. absurd (no_prepare s found p lt here has);
+  }
+
+  own_right : IsRightOwn shards left after later w (record h { id = Some w.id; intent = Some (record { write = w; kept = now.machine.kept }) })
+  own_right =
+      let nothing = was_write.nothing b.unbegun in
+      record {
+        undecided = λ none. record { unlisted = unlisted; given = w_given; exact = λ s found p lt here has. absurd (no_prepare s found p lt here has) };
+        intent = λ i is. (b.undecided, subst (IsRightIntent shards left after w) (same_Some _ i is) intent_right);
+        tickets = subst (All (IsRightTicket shards left after w)) (sym nothing.tickets) (All-nil (IsRightTicket shards left after w));
+        votes = subst (All (IsRightVote shards left after w)) (sym nothing.votes) (All-nil (IsRightVote shards left after w));
+        decision = λ d is. absurd (no_value (sym nothing.decided ∙ is));
+        verdict = λ id is. absurd (no_value (sym nothing.verdict ∙ is));
+        not_reopened = λ i is not_since. alone w now.nodes.open_writes;
+      }
+
+  later_right : IsRight shards left after later later.asked later.holds
+  later_right = subst (λ a. IsRight shards left after later a later.holds) (sym b.asked) (record {
+    nothing = λ none. absurd (no_value (sym none));
+    own = λ id is. subst (λ i. IsRightOwn shards left after later (own_write i w.changes w.conditions) (record h { id = Some w.id; intent = Some (record { write = w; kept = now.machine.kept }) })) (same_Some w.id id is) own_right;
+    same_decision = was_write.same_decision;
+    batch = was_write.batch;
+    out = was_write.out;
+    cancelled = was_write.cancelled;
+    refused_or_cancelled = was_write.refused_or_cancelled;
+  })
+
+  -- a flow after it
+  flow_right : (x : Running) → Contains flows x → IsRight shards left after x x.asked x.holds
+  unfolding IsReplaced
+  flow_right x has =
+      let at = contained_at flows x has in
+      ⊎_elim
+      (λ old. right_on store shards left now w flows fresh x x.asked x.holds (st.flows.held x (contained_from now.running at.0 x old)))
+      (λ new. subst (λ (y : Running). IsRight shards left after y y.asked y.holds) (sym new.0) later_right)
+      (replaced_is later now.running at.0 x at.1)
+
+  flow_seen : (x : Running) → Contains flows x → HasSeenBelow now.machine x
+  unfolding IsReplaced
+  flow_seen x has =
+      let at = contained_at flows x has in
+      ⊎_elim
+      (λ old. st.flows.seen x (contained_from now.running at.0 x old))
+      (λ new. subst (HasSeenBelow now.machine) (sym new.0) (λ p there. ⊎_elim
+      (λ old. st.flows.seen r b.running p old)
+      (λ seen. subst (λ (m : Machine). (m.kept ≤ now.machine.kept) × (m.horizon ≤ now.machine.horizon)) seen (omega arith, omega arith))
+      (Contains-push_cases r.seen now.machine p there)))
+      (replaced_is later now.running at.0 x at.1)
+
+  flow_quiet : (x : Running) → Contains flows x → IsQuietFlow x
+  unfolding IsReplaced
+  flow_quiet x has =
+      let at = contained_at flows x has in
+      ⊎_elim
+      (λ old. st.flows.quiet x (contained_from now.running at.0 x old))
+      (λ new. subst IsQuietFlow (sym new.0) (λ no_write. st.flows.quiet r b.running no_write))
+      (replaced_is later now.running at.0 x at.1)
+
+  -- it stood there before with the same slot
+  origin : (j : ℕ) (x : Running) → slice_get flows j ≡ Some x → (y : Running) × (slice_get now.running j ≡ Some y) × (y.slot ≡ x.slot)
+  unfolding IsReplaced
+  origin j x is = ⊎_elim
+      (λ old. (x, old, refl))
+      (λ new. (new.1.0, new.1.1, new.1.2 ∙ sym (ap (λ (y : Running). y.slot) new.0)))
+      (replaced_is later now.running j x is)
+
+  slots : (i j : ℕ) (q x : Running) → slice_get flows i ≡ Some q → slice_get flows j ≡ Some x → q.slot ≡ x.slot → i ≡ j
+  slots i j q x is_q is_x same =
+      let from_q = origin i q is_q in
+      let from_x = origin j x is_x in
+      st.flows.slots i j from_q.0 from_x.0 from_q.1 from_x.1 (from_q.2 ∙ same ∙ sym from_x.2)
+
+  -- a flow that stood there before has another write
+  other_id : (j : ℕ) (x : Running) (id : WriteId) → slice_get now.running j ≡ Some x → id_of x.holds ≡ Some id → id ≢ w.id
+  other_id j x id is has = fresh id (flow_given store shards left now w flows fresh x x.asked x.holds id (st.flows.held x (contained_from now.running j x is)) has)
+
+  later_id : (x : Running) (id : WriteId) → x ≡ later → id_of x.holds ≡ Some id → id ≡ w.id
+  later_id x id is has = sym (same_Some w.id id (ap (λ (y : Running). id_of y.holds) (sym is) ∙ has))
+
+  ids : (i j : ℕ) (q x : Running) (id : WriteId) → slice_get flows i ≡ Some q → slice_get flows j ≡ Some x → id_of q.holds ≡ Some id → id_of x.holds ≡ Some id → i ≡ j
+  unfolding IsReplaced
+  ids i j q x id is_q is_x has_q has_x = ⊎_elim
+      (λ old_q. ⊎_elim
+      (λ old_x. st.flows.ids i j q x id old_q old_x has_q has_x)
+      (λ new_x. absurd (other_id i q id old_q has_q (later_id x id new_x.0 has_x)))
+      (replaced_is later now.running j x is_x))
+      (λ new_q. ⊎_elim
+      (λ old_x. absurd (other_id j x id old_x has_x (later_id q id new_q.0 has_q)))
+      (λ new_x. st.flows.slots i j new_q.1.0 new_x.1.0 new_q.1.1 new_x.1.1 (new_q.1.2 ∙ sym new_x.1.2))
+      (replaced_is later now.running j x is_x))
+      (replaced_is later now.running i q is_q)
+
+  -- an open write has another id
+  other_open : (v : Entry) → Contains now.nodes.open_writes v → v.id ≢ w.id
+  other_open v has same =
+      let is = st.ids.of_now v has b.kept b.memory b.knows in
+      omega (arith, is.1, ap (λ (i : WriteId). i.number) same, b.number)
+
+  distinct : AreNew (w ∷ now.nodes.open_writes)
+  distinct zero zero u v is_u is_v same = refl
+  distinct zero (suc j) u v is_u is_v same = absurd (other_open v (contained_from now.nodes.open_writes j v is_v) (sym same ∙ sym (ap (λ (x : Entry). x.id) (same_Some w u is_u))))
+  distinct (suc i) zero u v is_u is_v same = absurd (other_open u (contained_from now.nodes.open_writes i u is_u) (same ∙ sym (ap (λ (x : Entry). x.id) (same_Some w v is_v))))
+  distinct (suc i) (suc j) u v is_u is_v same = ap suc (st.ids.distinct i j u v is_u is_v same)
+
+  stands_after : Stands store shards left after
+  stands_after = record {
+    rests = st.rests;
+    nodes = record {
+      durable = st.nodes.durable;
+      no_opening = st.nodes.no_opening;
+      coordinator_opened = λ k m knows. st.nodes.coordinator_opened k m (knew store shards left now w flows fresh k m knows);
+      shard_opened = st.nodes.shard_opened;
+      sound = st.nodes.sound;
+    };
+    heads = record {
+      log = λ k m knows. st.heads.log k m (knew store shards left now w flows fresh k m knows);
+      kept = λ k m knows. st.heads.kept k m (knew store shards left now w flows fresh k m knows);
+      horizon = λ k m knows. st.heads.horizon k m (knew store shards left now w flows fresh k m knows);
+      whole = st.heads.whole;
+    };
+    listed = st.listed;
+    locks = st.locks;
+    ids = record {
+      distinct = distinct;
+      few = omega (arith, b.room);
+      unlisted = λ v has. ⊎_elim (λ new. subst (λ (x : Entry). IsUnlisted x.id now.machine.log) new unlisted) (λ old. st.ids.unlisted v old) (among w v now.nodes.open_writes has);
+      of_now = λ v has k m knows.
+          let known = knew store shards left now w flows fresh k m knows in
+          ⊎_elim
+          (λ new. subst (λ (x : Entry). (x.id.epoch ≡ m.epoch) × (x.id.number ≤ now.nodes.given + 1)) new
+          (b.epoch ∙ ap (λ (c : CoordinatorState). c.epoch) (one_memory now.nodes b.kept b.memory k m b.knows known), omega (arith, b.number)))
+          (λ old. let is = st.ids.of_now v old k m known in (is.0, omega (arith, is.1)))
+          (among w v now.nodes.open_writes has);
+      log_given = λ v has. given_on store shards left now w flows fresh v.id (st.ids.log_given v has);
+      prepares_given = λ s found v lt here has. given_on store shards left now w flows fresh v.id (st.ids.prepares_given s found v lt here has);
+    };
+    flows = record {
+      few = omega (arith, st.flows.few, same_length later now.running);
+      slots = slots;
+      ids = ids;
+      held = flow_right;
+      seen = flow_seen;
+      quiet = flow_quiet;
+    };
+    told = λ j d lt. verdict_on store shards left now w flows fresh (slice_index_or now.told j d) (st.told j d lt);
+  }
+
+pub writes_begin : (store shards : ℕ) (left : NodeName → List Record → Type 0) → WritesBegin store shards left
+writes_begin store shards left now r h w b st = stands_after store shards left now r h w b st

@@ -1,0 +1,221 @@
+-- What no store stands for and no promise allows: mistakes that the definitions refuse, one by one.
+use Rattle.std.proofs.Common.{◌≡◌, ◌⊎◌, ◌^◌, ◌-◌, ◌+◌, inr, ⊎_elim, ℕ, zero, suc, ◌<◌, true, false, true≢false, List, [], ◌∷◌, ◌++◌, length, Some, None, Contains, refl, sym, ◌∙◌, ap, subst, arith}
+use Rattle.tuples.specs.declared.change.Change.TheVariants.{Touch}
+use Rattle.tuples.specs.declared.entry.Entry.{Entry}
+use Rattle.tuples.specs.declared.entry.WriteId.{WriteId}
+use Rattle.refusal.specs.declared.refusal.Refusal.{Refusal}
+use Rattle.tuples.specs.Parts.{expected, part, shard_of, takes_part}
+use Rattle.tuples.proofs.Examples.{numbered, viewed}
+use Rattle.records.specs.declared.record.Record.{Record}
+use Rattle.records.specs.declared.record.Record.TheVariants.{Epoch, Prepare}
+use Rattle.records.specs.Coordinators.{coordinator_state}
+use Rattle.records.specs.Replays.{ShardState, shard_state, shard_step}
+use Rattle.device.specs.Device.{State}
+use Rattle.journal.specs.Records.{found}
+use Rattle.laws.specs.Machines.{Machine}
+use Rattle.laws.specs.Nodes.{NodeName, NodeState, NodeTurns, coordinator, down, refused, shard, up}
+use Rattle.laws.specs.Shards.{ShardMeans}
+use Rattle.turns.specs.Causes.{IsBusy}
+use Rattle.turns.specs.Flows.{nothing_begun, to_flush, to_watch, to_write, writing}
+use Rattle.turns.specs.Moments.{Moment, Running, begun}
+use Rattle.turns.specs.Promises.{ComesUp, HasDeviceCause, StopsBetween}
+use Rattle.turns.specs.Reopens.{IsOpened}
+use Rattle.turns.specs.Replies.{IsWriteAnswer}
+use Rattle.turns.specs.Stands.{HasSeenBelow, IsQuietFlow, Stands}
+use Rattle.turns.specs.Stores.{ShowsFlow, Store, stops}
+use Rattle.std.proofs.lemmas.List.{length_push}
+use Rattle.tuples.specs.declared.tuple.Tuple.{Tuple}
+use Rattle.turns.proofs.SmallRuns.{two_kept}
+
+-- a flow that the store shows as running on is not read as cancelled, and one that is no write is never cancelled while it runs
+abbrev silent : Running
+silent = record (begun 0 (to_flush coordinator)) { is_cancelled = true }
+
+cancelled_in_the_reading : ShowsFlow silent (record { asked = Some (to_flush coordinator); holds = silent.holds; is_cancelled = false }) → ⊥
+cancelled_in_the_reading shows = true≢false (sym shows.cancelled)
+
+cancelled_flush_runs_on : IsQuietFlow silent → ⊥
+cancelled_flush_runs_on quiet = true≢false (quiet refl).1
+
+-- no watch has seen a horizon that was never there
+abbrev seer : Running
+seer = record (begun 0 (to_watch 0 1 [])) { seen = record { log = []; kept = 0; horizon = 9 } ∷ [] }
+
+horizon_never_there : HasSeenBelow two_kept seer → ⊥
+horizon_never_there sees = let is = sees (record { log = []; kept = 0; horizon = 9 }) (zero, omega arith, refl) in omega (arith, is.1)
+
+-- the log ends in no write that its shard has not prepared
+abbrev phantom : Entry
+phantom = numbered 7 (Touch (viewed 97) ∷ []) []
+
+not_prepared : ShardMeans 1 0 (phantom ∷ []) 0 0 (shard_state []) → ⊥
+unfolding shard_state expected takes_part part shard_of
+not_prepared means = none_is_some (means.in_doubt.above 0 phantom refl (omega arith))
+  where
+    none_is_some : {X : Type 0} {x : X} → None ≡ Some x → ⊥
+    none_is_some is = cc
+
+-- a node goes down for no reason
+abbrev untouched : State
+untouched = record { seen = []; durable = []; written = []; stopped = false; failures = 0 }
+
+down_for_nothing : HasDeviceCause (λ (s : State). s) (λ s. Unit {0}) (λ s. 0) (λ s t x. x ≡ []) 1 1 (λ n. (untouched, untouched)) (λ n. (untouched, untouched)) coordinator → ⊥
+down_for_nothing cause = ⊎_elim not_failed (λ rest. ⊎_elim not_failed (λ full. ⊎_elim (λ is. omega (arith, is)) (λ is. omega (arith, is)) full) rest) cause
+  where
+    not_failed : (untouched.failures < untouched.failures) ⊎ (untouched.failures ≡ 2 ^ 64 - 1) → ⊥
+    not_failed failed = ⊎_elim (λ is. omega (arith, is)) (λ is. omega (arith, is)) failed
+
+-- an opening opens nothing
+opens_nothing : {D : Type 0} (state : D → State) (honest : D → Type 0) (moment : D → ℕ) (left_since : D → ℕ → List ℕ → Type 0) (old : NodeName → D × D) (new : Store D)
+    → new.at coordinator ≡ down → IsOpened state honest moment left_since 1 1 old new coordinator → ⊥
+opens_nothing state honest moment left_since old new is_down opened = ⊎_elim
+    (λ came. not_up (sym is_down ∙ came.is_up))
+    (λ no. not_refused (sym is_down ∙ no.1))
+    opened
+  where
+    not_up : {a b : List Record} → down ≡ up a b → ⊥
+    not_up is = cc
+
+    not_refused : {e : Refusal} → down ≡ refused e → ⊥
+    not_refused is = cc
+
+-- a turn opens the node that it calls again
+abbrev once : List Record
+once = Epoch 1 1 1 0 ∷ []
+
+abbrev twice : List Record
+twice = Epoch 1 1 1 0 ∷ Epoch 2 1 1 0 ∷ []
+
+durable_part : NodeState → List Record
+durable_part (up durable staged) = durable
+durable_part down = []
+durable_part (refused e) = []
+
+staged_part : NodeState → List Record
+staged_part (up durable staged) = staged
+staged_part down = []
+staged_part (refused e) = []
+
+two_is_one : length twice ≡ length once → ⊥
+two_is_one is = omega (arith, is)
+
+no_longer : {X : Type 0} (xs : List X) (x : X) → [] ≡ xs ++ x ∷ [] → ⊥
+no_longer [] x is = cc
+no_longer (y ∷ xs) x is = cc
+
+up_is_not_down : {a b : List Record} → up a b ≡ down → ⊥
+up_is_not_down is = cc
+
+opened_by_a_turn : NodeTurns (up once []) (up twice []) → ⊥
+unfolding durable_part staged_part
+opened_by_a_turn turns = ⊎_elim
+    (λ same. two_is_one (ap (λ n. length (durable_part n)) same))
+    (λ rest. ⊎_elim
+    (λ more. no_longer more.staged more.next (ap staged_part more.now))
+    (λ others. ⊎_elim
+    (λ flushed.
+    let was = ap (λ n. length (durable_part n ++ staged_part n)) flushed.was in
+    let now = ap (λ n. length (durable_part n)) flushed.now in
+    two_is_one (now ∙ sym was))
+    (λ falls. up_is_not_down falls.now)
+    others)
+    rest)
+    turns
+
+-- a turn takes back what the node had staged
+abbrev doubtful : NodeState
+doubtful = up [] (Prepare phantom ∷ [])
+
+prepare_taken_back : NodeTurns doubtful (up [] []) → ⊥
+unfolding durable_part staged_part
+prepare_taken_back turns = ⊎_elim
+    (λ same. none_is_one (length (staged_part (up [] []))) refl (ap (λ n. length (staged_part n)) same))
+    (λ rest. ⊎_elim
+    (λ more. no_longer more.staged more.next (ap staged_part more.now))
+    (λ others. ⊎_elim
+    (λ flushed.
+    let was = ap (λ n. length (durable_part n ++ staged_part n)) flushed.was in
+    let now = ap (λ n. length (durable_part n)) flushed.now in
+    none_is_one (length (durable_part (up [] []))) refl (now ∙ sym was))
+    (λ falls. up_is_not_down falls.now)
+    others)
+    rest)
+    turns
+  where
+    none_is_one : (n : ℕ) → n ≡ 0 → n ≡ 1 → ⊥
+    none_is_one n is_none is_one = omega (arith, is_none, is_one)
+
+-- between two turns a shard has a prepare in doubt that nobody made: its id was never given out
+abbrev one_doubtful : NodeName → NodeState
+one_doubtful coordinator = up [] []
+one_doubtful (shard zero) = doubtful
+one_doubtful (shard (suc s)) = up [] []
+
+abbrev between_turns : Moment
+between_turns = record { machine = two_kept; nodes = record { at = one_doubtful; open_writes = []; given = 0 }; running = []; told = []; named = [] }
+
+invented_prepare : Stands 1 1 (λ n rs. rs ≡ []) between_turns → ⊥
+unfolding shard_state shard_step coordinator_state
+invented_prepare stands =
+    let given = stands.ids.prepares_given 0 (Prepare phantom ∷ []) phantom (omega arith) ([], refl, inr refl) (zero, omega arith, refl) in
+    let low = given.epoch [] refl in
+    omega (arith, low)
+
+at_owner : one_doubtful (shard (shard_of 1 (viewed 97).object)) ≡ doubtful
+unfolding shard_of
+at_owner = refl
+
+in_doubt_of : NodeState → List Entry
+in_doubt_of (up durable staged) = (shard_state (durable ++ staged)).in_doubt
+in_doubt_of down = []
+in_doubt_of (refused e) = []
+
+one_in_doubt : in_doubt_of doubtful ≡ phantom ∷ []
+unfolding shard_state shard_step in_doubt_of
+one_in_doubt = refl
+
+only_phantom : (w : Entry) → Contains (phantom ∷ []) w → phantom ≡ w
+only_phantom w (zero, lt, same) = same
+only_phantom w (suc k, lt, same) = absurd (omega (arith, lt))
+
+-- Busy for the flow's own prepare
+busy_by_itself : IsBusy 1 between_turns (Some phantom.id) (to_write (Touch (viewed 97) ∷ []) []) → ⊥
+unfolding in_doubt_of
+busy_by_itself (t, (zero, lt, is), held) =
+    let owner : one_doubtful (shard (shard_of 1 t.object)) ≡ doubtful = ap (λ (u : Tuple). one_doubtful (shard (shard_of 1 u.object))) (sym is) ∙ at_owner in
+    let known : (held.memory).in_doubt ≡ phantom ∷ [] = ap (λ (m : ShardState). m.in_doubt) held.knows.replayed ∙ ap in_doubt_of (sym held.knows.is_up ∙ owner) ∙ one_in_doubt in
+    held.not_own (ap (λ (w : Entry). Some w.id) (only_phantom held.other (subst (λ (ws : List Entry). Contains ws held.other) known held.in_doubt)))
+busy_by_itself (t, (suc k, lt, is), held) = omega (arith, lt)
+
+-- a stop inside a step leaves a content that holds no records, as a gate that was opened with its body
+unreadable_inside : {D : Type 0} (state : D → State) (honest : D → Type 0) (moment : D → ℕ) (left_since : D → ℕ → List ℕ → Type 0) (old new : NodeName → D × D) (before after : Machine) (a b : List ℕ)
+    → left_since (new coordinator).0 (moment (old coordinator).0) a → left_since (new coordinator).1 (moment (old coordinator).1) b → found a b ≡ None
+    → StopsBetween state honest moment left_since 1 1 old new before after → ⊥
+unreadable_inside state honest moment left_since old new before after a b in_a in_b none between = let rs = between.readable coordinator a b tt in_a in_b in none_is_some (sym none ∙ rs.1)
+  where
+    none_is_some : {X : Type 0} {x : X} → None ≡ Some x → ⊥
+    none_is_some is = cc
+
+-- a flow acknowledges a place where the log has another's write, though the changes are the same
+abbrev second : Running
+second = record (begun 0 (to_write (Touch (viewed 97) ∷ []) [])) { holds = writing (record nothing_begun { id = Some (record { epoch = 1; number = 2 }) }) }
+
+acknowledged_twice : IsWriteAnswer second two_kept (Touch (viewed 97) ∷ []) [] 1 → ⊥
+acknowledged_twice answer =
+    let own : record { epoch = 1; number = 2 } ≡ answer.id = cc in
+    let there : record { epoch = 1; number = 1 } ≡ answer.id = cc in
+    let both : 2 ≡ 1 = ap (λ (i : WriteId). i.number) (own ∙ sym there) in
+    omega (arith, both)
+
+-- the coordinator comes up in an epoch that a stop could leave, and gives its ids again
+abbrev opened_once : List Record
+opened_once = Epoch 1 1 1 255 ∷ []
+
+opened_in_the_same_epoch : {D : Type 0} (state : D → State) (honest : D → Type 0) (moment : D → ℕ) (left_since : D → ℕ → List ℕ → Type 0) (old : NodeName → D × D)
+    → ((rs : List Record) → stops state honest 1 1 old coordinator rs → rs ≡ opened_once) → ComesUp state honest moment left_since 1 1 old coordinator (up opened_once []) → ⊥
+unfolding durable_part
+opened_in_the_same_epoch state honest moment left_since old only comes =
+    let was = ap length (only comes.was comes.was_left) in
+    let now = ap (λ n. length (durable_part n)) comes.is_up in
+    let more = length_push comes.was (Epoch ((coordinator_state comes.was).epoch + 1) 1 1 255) in
+    omega (arith, was, now, more)
