@@ -1,0 +1,4 @@
+pub mod Values
+pub mod Inverting
+pub mod Spelled
+pub mod Causing
