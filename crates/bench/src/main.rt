@@ -8,14 +8,13 @@
 #![tactic(auto)]
 
 mod codec;
+mod doubts;
 mod flush;
 mod latest;
 mod measure;
 mod pairs;
 mod rows;
 mod sample;
-#[cfg(test)]
-mod tests;
 mod texts;
 mod timing;
 
@@ -55,7 +54,7 @@ fn run<R: Runtime + Threads + Wait + Sync>(
 ) -> anyhow::Result<()> {
     if words.len() <= 1 {
         println!(rt;
-            "measures: texts COUNT, codec ROUNDS, flush RECORDS, versions ROWS, pairs-by-one COUNT, pairs-by-two COUNT, latest-by-one, latest-by-four, called-by-one, called-by-four"
+            "measures: texts COUNT, codec ROUNDS, flush RECORDS, versions ROWS, holds WRITES, pairs-by-one COUNT, pairs-by-two COUNT, latest-by-one, latest-by-four, called-by-one, called-by-four"
         )?;
         return Ok(());
     }

@@ -1,6 +1,6 @@
 // What can be measured.
 use crate::latest::Way;
-use crate::{codec, flush, latest, pairs, rows, texts};
+use crate::{codec, doubts, flush, latest, pairs, rows, texts};
 use std::alloc::Global;
 use std::rt::Clock;
 use std::sync::Wait;
@@ -17,6 +17,8 @@ pub(crate) enum Measure {
     Flush(u16),
     /// So many versions of tuples, applied and then read.
     Versions(u32),
+    /// So many writes in doubt, and one more that is held and released.
+    Holds(u32),
     /// Looks at the safe place.
     LatestByOne(Way),
     /// Looks by four threads at once.
@@ -59,6 +61,7 @@ impl Measure {
             "codec" => Some(Measure::Codec(count)),
             "flush" => Some(Measure::Flush(u16::try_from(count).ok()?)),
             "versions" => Some(Measure::Versions(count)),
+            "holds" => Some(Measure::Holds(count)),
             "pairs-by-one" => Some(Measure::PairsByOne(count)),
             "pairs-by-two" => Some(Measure::PairsByTwo(count)),
             _ => None,
@@ -76,6 +79,7 @@ impl Measure {
             Measure::Codec(rounds) => codec::measure(rt, alloc, rounds)?,
             Measure::Flush(count) => flush::measure(rt, alloc, count)?,
             Measure::Versions(rows) => rows::measure(rt, alloc, rows)?,
+            Measure::Holds(writes) => doubts::measure(rt, alloc, writes)?,
             Measure::LatestByOne(way) => latest::by_one(rt, alloc, way)?,
             Measure::LatestByFour(way) => latest::by_four(rt, alloc, way)?,
             Measure::PairsByOne(count) => pairs::by_one(rt, alloc, count)?,

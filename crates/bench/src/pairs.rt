@@ -2,7 +2,7 @@
 ghost use Rattle.std.specs.Prelude.{◌≡◌};
 
 use crate::timing::Timing;
-use sessions::{AcceptorPass, Connections, WorkerPass};
+use connections::{AcceptorPass, Connections, WorkerPass};
 use std::alloc::Global;
 use std::sync::Wait;
 use std::thread::{Threads, join};

@@ -15,13 +15,14 @@ const USERS: u32 = 10;
 // How often each read is done.
 const READS: u64 = 100;
 
-/// Applies so many rows, a write of one change each (`apply`), and reads a key (`key`) and an object (`object`) of them, and prints
-/// how long each took. What a read answers is how many tuples it found.
+/// Applies so many rows, a write of one change each (`apply`), reads a key (`key`) and an object (`object`) of them, asks for the newest
+/// place of each tuple (`last`), and forgets half of the rows once each tuple was changed again (`collect`), and prints how long each took.
+/// What a read answers is how many tuples it found.
 pub(crate) fn measure(rt: &(impl Clock + Eprint), alloc: Global, rows: u32) -> anyhow::Result<()> {
     let changes = changes(alloc, rows)?;
     let mut versions = Versions::new(alloc);
     let start = Instant::now(rt)?;
-    apply_all(&mut versions, &changes)?;
+    apply_all(&mut versions, 1, &changes)?;
     let applied = Timing {
         amount: u64::from(rows),
         elapsed: start.elapsed(rt)?,
@@ -33,7 +34,32 @@ pub(crate) fn measure(rt: &(impl Clock + Eprint), alloc: Global, rows: u32) -> a
     key.print(rt, "key")?;
     let object = read(rt, alloc, &versions, place, "doc:d5")?;
     object.print(rt, "object")?;
+    let start = Instant::now(rt)?;
+    let last = Timing {
+        amount: u64::from(rows),
+        answer: newest(&versions, &changes),
+        elapsed: start.elapsed(rt)?,
+    };
+    last.print(rt, "last")?;
+    apply_all(&mut versions, place + 1, &changes)?;
+    let start = Instant::now(rt)?;
+    versions.collect(place + place / 2);
+    let collected = Timing {
+        amount: u64::from(rows),
+        elapsed: start.elapsed(rt)?,
+        answer: newest(&versions, &changes),
+    };
+    collected.print(rt, "collect")?;
     Ok(())
+}
+
+// The newest place of all tuples.
+fn newest(versions: &Versions, changes: &[Change]) -> u64 {
+    let mut newest = 0;
+    for change in changes {
+        newest = versions.last(change.tuple()).max(newest);
+    }
+    newest
 }
 
 fn read(
@@ -82,10 +108,10 @@ fn changes(alloc: Global, rows: u32) -> Result<Vec<Change>, Refusal> {
     Ok(changes)
 }
 
-// Each at a place of its own.
-fn apply_all(versions: &mut Versions, changes: &[Change]) -> Result<(), AllocError> {
+// Each at a place of its own, from this one on.
+fn apply_all(versions: &mut Versions, from: u64, changes: &[Change]) -> Result<(), AllocError> {
     for i in 0..changes.len() {
-        versions.apply(i as u64 + 1, &changes[i..i + 1])?;
+        versions.apply(from.saturating_add(i as u64), &changes[i..i + 1])?;
     }
     Ok(())
 }

@@ -1,8 +1,8 @@
 -- A running shard applies the batch behind its learned place.
 use Rattle.std.proofs.Common.{◌≡◌, ◌≢◌, ℕ, Bool, true, false, ◌+◌, ◌<◌, ◌≤◌, List, length, ◌∙◌, ap, arith}
 use Rattle.tuples.specs.declared.entry.Entry.{Entry}
-use Rattle.tuples.specs.declared.refusal.Refusal.{Refusal}
-use Rattle.tuples.specs.declared.refusal.Refusal.TheVariants.{Damaged}
+use Rattle.refusal.specs.declared.refusal.Refusal.{Refusal}
+use Rattle.refusal.specs.declared.refusal.Refusal.TheVariants.{Damaged}
 use Rattle.records.specs.Replays.{ShardState}
 use Rattle.device.specs.Device.{State}
 use Rattle.shard.specs.Shards.{ShardView, IsUp, Stages, AreNewIds, ArePreparedHere, learning, memory, unlearned}

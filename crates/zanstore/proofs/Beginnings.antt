@@ -3,12 +3,13 @@ use Rattle.std.proofs.Common.{◌≡◌, ℕ, zero, suc, ◌+◌, ◌<◌, List,
 use Rattle.std.proofs.lemmas.List.{append-nil}
 use Rattle.tuples.specs.Versions.{of_shard}
 use Rattle.records.specs.Replays.{shard_state}
+use Rattle.versions.proofs.Alike.{alike_same}
 use Rattle.device.specs.Device.{State, Leaves}
 use Rattle.device.proofs.Moments.{leaves_nothing_else}
 use Rattle.gated.specs.Gated.{gated}
 use Rattle.journal.specs.Records.{found}
-use Rattle.cluster.specs.Shards.{ShardMeans}
-use Rattle.cluster.proofs.Snapshots.{versions_all}
+use Rattle.laws.specs.Shards.{ShardMeans}
+use Rattle.laws.proofs.Snapshots.{versions_all}
 use Rattle.zanstore.specs.Lines.{Answers, AnswersAll}
 use Rattle.zanstore.specs.Smalls.{SmallView}
 use Rattle.zanstore.specs.Stores.{AreKept, IsMeant, IsNumbered}
@@ -26,7 +27,7 @@ unfolding shard_state
 nothing_means = record {
   learned = omega arith;
   horizon = omega arith;
-  rows = ap (of_shard 1 0) (sym (versions_all [] 0));
+  rows = alike_same _ _ (ap (of_shard 1 0) (sym (versions_all [] 0)));
   settled = omega arith;
   in_doubt = record { above = λ j w is le. absurd (nothing_at j w is); below = λ j w is lt. absurd (nothing_at j w is) };
 }

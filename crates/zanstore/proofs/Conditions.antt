@@ -13,10 +13,12 @@ use Rattle.tuples.specs.Log.{HoldAfter, Holds, IsLegal, is_at, last_from, last_p
 use Rattle.tuples.specs.Order.{tuple_eq}
 use Rattle.tuples.specs.Versions.{changes_from, last_version, placed, there_at, versions}
 use Rattle.records.specs.Replays.{ShardState}
+use Rattle.versions.specs.Alike.{AreAlike}
+use Rattle.versions.proofs.Alike.{alike_same, alike_trans, last_alike}
 use Rattle.shard.specs.Shards.{HoldHere}
-use Rattle.cluster.specs.Shards.{ShardMeans}
-use Rattle.cluster.proofs.Lists.{slice_get_push}
-use Rattle.cluster.proofs.Snapshots.{of_one_shard, there_at_one, versions_all}
+use Rattle.laws.specs.Shards.{ShardMeans}
+use Rattle.laws.proofs.Lists.{slice_get_push}
+use Rattle.laws.proofs.Snapshots.{of_one_shard, there_at_one, versions_all}
 
 either : (b d : Bool) (place last : ℕ) → (if b then max place (if d then max place last else last) else (if d then max place last else last)) ≡ (if b || d then max place last else last)
 either true true place last = omega arith
@@ -62,17 +64,17 @@ last_place_is t log = last_from_is 0 1 t log (omega arith) ∙ zero_least (last_
     zero_least n = omega arith
 
 -- the rows of a store's only shard are the versions up to its learned place
-pub rows_at_one : (log : List Entry) (s : ShardState) → ShardMeans 1 0 log 0 0 s → s.rows ≡ versions log s.learned 0
+pub rows_at_one : (log : List Entry) (s : ShardState) → ShardMeans 1 0 log 0 0 s → AreAlike s.rows (versions log s.learned 0)
 rows_at_one log s m =
     let none : s.horizon ≡ 0 = omega (arith, m.horizon) in
-    m.rows ∙ of_one_shard (versions log s.learned s.horizon) ∙ ap (versions log s.learned) none
+    alike_trans m.rows (alike_same _ _ (of_one_shard (versions log s.learned s.horizon) ∙ ap (versions log s.learned) none))
 
 -- where it has learned the whole log, they tell the last change
 last_at_one : (log : List Entry) (s : ShardState) (t : Tuple) → ShardMeans 1 0 log 0 0 s → s.learned ≡ length log → last_version s.rows t ≡ last_place log t
 last_at_one log s t m all =
-    let rows : s.rows ≡ changes_from 1 log =
-    rows_at_one log s m ∙ versions_all log s.learned ∙ ap (changes_from 1) (take_all s.learned log (omega arith)) in
-    ap (λ (l : List Version). last_version l t) rows ∙ sym (last_place_is t log)
+    let rows : AreAlike s.rows (changes_from 1 log) =
+    alike_trans (rows_at_one log s m) (alike_same _ _ (versions_all log s.learned ∙ ap (changes_from 1) (take_all s.learned log (omega arith)))) in
+    last_alike rows t ∙ sym (last_place_is t log)
 
 -- so a condition holds there as it does after the log
 same_want : (log : List Entry) (s : ShardState) (c : Condition) → ShardMeans 1 0 log 0 0 s → s.learned ≡ length log

@@ -2,8 +2,8 @@
 use Rattle.std.proofs.Common.{◌≡◌, ◌≢◌, ⊎_elim, ℕ, false, ◌+◌, ◌≤◌, List, [], ◌∷◌, ◌++◌, length, Some, refl, sym, ◌∙◌, ap, subst, arith}
 use Rattle.std.proofs.lemmas.List.{append-nil}
 use Rattle.tuples.specs.declared.entry.Entry.{Entry}
-use Rattle.tuples.specs.declared.refusal.Refusal.{Refusal}
-use Rattle.tuples.specs.declared.refusal.Refusal.TheVariants.{Damaged}
+use Rattle.refusal.specs.declared.refusal.Refusal.{Refusal}
+use Rattle.refusal.specs.declared.refusal.Refusal.TheVariants.{Damaged}
 use Rattle.records.specs.declared.record.Record.{Record}
 use Rattle.records.specs.declared.record.Record.TheVariants.{Epoch}
 use Rattle.records.specs.Replays.{Identity, ShardState, IsShardImage, shard_step, shard_state}
@@ -11,7 +11,7 @@ use Rattle.device.specs.Device.{State, Leaves, Keeps, Revived, left, reach}
 use Rattle.device.proofs.Moments.{leaves_nothing_else}
 use Rattle.journal.specs.Records.{HasRecords, LeavesBoth, found}
 use Rattle.shard.specs.Shards.{ShardView, IsOpenedShard, WasLeftOrOpened, opening}
-use Rattle.cluster.specs.Shards.{ShardMeans}
+use Rattle.laws.specs.Shards.{ShardMeans}
 use Rattle.replay.proofs.States.{shard_push}
 use Rattle.zanstore.specs.Stores.{AreKept, IsMeant, IsRunning, only}
 

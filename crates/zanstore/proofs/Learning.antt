@@ -9,9 +9,9 @@ use Rattle.tuples.specs.Parts.{part, takes_part, expected}
 use Rattle.records.specs.declared.record.Record.{Record}
 use Rattle.records.specs.declared.record.Record.TheVariants.{Learned}
 use Rattle.records.specs.Replays.{Identity, ShardState, shard_step}
-use Rattle.shard.specs.Shards.{AreNewIds, ArePreparedHere, learning, parts_from, unlearned}
-use Rattle.cluster.specs.Shards.{ShardMeans}
-use Rattle.cluster.proofs.Learns.{learned_means}
+use Rattle.shard.specs.Shards.{AreNewIds, ArePreparedHere, learning, placed_ids_from, unlearned}
+use Rattle.laws.specs.Shards.{ShardMeans}
+use Rattle.laws.proofs.LearnStep.{learned_means}
 use Rattle.zanstore.specs.Stores.{only}
 
 -- the decisions behind a place that one batch has
@@ -52,12 +52,12 @@ abbrev pub place_behind : ShardState → List Entry → ℕ
 place_behind s log = s.learned + length (behind s.learned log)
 
 learning_is : (store : ℕ) (s : ShardState) (log : List Entry)
-    → learning (only store) s s.learned (behind s.learned log) ≡ Learned (place_behind s log) (parts_from 1 0 (s.learned + 1) (take (place_behind s log - s.learned) (drop s.learned log)))
+    → learning (only store) s s.learned (behind s.learned log) ≡ Learned (place_behind s log) (placed_ids_from 1 0 (s.learned + 1) (take (place_behind s log - s.learned) (drop s.learned log)))
 learning_is store s log =
     let back : place_behind s log - s.learned ≡ length (behind s.learned log) = omega arith in
     let all : unlearned s s.learned (behind s.learned log) ≡ take (place_behind s log - s.learned) (drop s.learned log) =
     unlearned_is s log ∙ sym (take_of_take 256 (drop s.learned log)) ∙ sym (ap (λ (n : ℕ). take n (drop s.learned log)) back) in
-    ap (λ (ws : List Entry). Learned (place_behind s log) (parts_from 1 0 (s.learned + 1) ws)) all
+    ap (λ (ws : List Entry). Learned (place_behind s log) (placed_ids_from 1 0 (s.learned + 1) ws)) all
 
 -- the record of learning them leaves what the records mean
 behind_means : (store : ℕ) (s : ShardState) (log : List Entry) → AreNew log → ShardMeans 1 0 log 0 0 s

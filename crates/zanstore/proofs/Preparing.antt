@@ -7,14 +7,14 @@ use Rattle.tuples.specs.declared.change.Want.TheVariants.{NotAfter, Exists, Abse
 use Rattle.tuples.specs.Log.{HoldAfter}
 use Rattle.tuples.specs.declared.entry.Entry.{Entry}
 use Rattle.tuples.specs.declared.entry.WriteId.{WriteId}
-use Rattle.tuples.specs.declared.refusal.Refusal.{Refusal}
-use Rattle.tuples.specs.declared.refusal.Refusal.TheVariants.{Busy, Collected, Down, Full, NoMemory, Precondition}
+use Rattle.refusal.specs.declared.refusal.Refusal.{Refusal}
+use Rattle.refusal.specs.declared.refusal.Refusal.TheVariants.{Busy, Collected, Down, Full, NoMemory, Precondition}
 use Rattle.records.specs.declared.record.Record.TheVariants.{Prepare}
 use Rattle.records.specs.Replays.{ShardState, find_in_doubt}
 use Rattle.decisions.specs.Values.{IsIntent, TicketValue}
 use Rattle.device.specs.Device.{State}
 use Rattle.shard.specs.Shards.{ShardView, AreFree, AskBelow, HoldHere, IsBelow, IsDurable, IsUp, Stages, memory, own_part}
-use Rattle.cluster.proofs.Prepares.{prepared_means}
+use Rattle.laws.proofs.PrepareStep.{prepared_means}
 use Rattle.zanstore.specs.Lines.{IsNew}
 use Rattle.zanstore.specs.Stores.{IsRunning}
 use Rattle.zanstore.specs.Causes.{IsPrepareCause}

@@ -3,17 +3,17 @@ use Rattle.std.proofs.Common.{◌≡◌, ⊎_elim, ℕ, Bool, true, false, ◌�
 use Rattle.std.specs.Result.{IsErrOf}
 use Rattle.std.proofs.lemmas.List.{append-nil}
 use Rattle.tuples.specs.declared.entry.Entry.{Entry}
-use Rattle.tuples.specs.declared.refusal.Refusal.{Refusal}
-use Rattle.tuples.specs.declared.refusal.Refusal.TheVariants.{Down}
+use Rattle.refusal.specs.declared.refusal.Refusal.{Refusal}
+use Rattle.refusal.specs.declared.refusal.Refusal.TheVariants.{Down}
 use Rattle.tuples.specs.Parts.{expected}
 use Rattle.records.specs.declared.record.Record.{Record}
 use Rattle.records.specs.Replays.{Identity, ShardState, IsShardImage, shard_step, shard_state, find_in_doubt}
 use Rattle.device.specs.Device.{State, Keeps, left}
-use Rattle.journal.specs.Records.{HoldsOldOrNew, LeavesBoth}
+use Rattle.journal.specs.Records.{HasOldOrNew, LeavesBoth}
 use Rattle.shard.specs.Shards.{ShardView, IsUp, IsDurable, Stages, memory}
-use Rattle.cluster.specs.Shards.{ShardMeans}
+use Rattle.laws.specs.Shards.{ShardMeans}
 use Rattle.replay.proofs.States.{shard_push}
-use Rattle.cluster.proofs.Decides.{listed_means}
+use Rattle.laws.proofs.DecisionStep.{listed_means}
 use Rattle.zanstore.specs.Stores.{AreKept, IsMeant, IsRunning}
 use Rattle.zanstore.proofs.Keeping.{kept_where, kept_after, left_of_kept, left_itself}
 
@@ -79,10 +79,10 @@ module _ {D : Type 0} (state : D → State) (honest : D → Type 0) (store : ℕ
   pub stopped_is_running : (moment : D → ℕ) (left_since : D → ℕ → List ℕ → Type 0)
       → ((d : D) (t : ℕ) (c : List ℕ) → honest d → t ≤ moment d → left (state d) c → left_since d t c)
       → (old new : ShardView D) → IsRunning state honest store log old → old.is_down ≡ false → honest new.a → honest new.b → new.is_down ≡ true → new.me ≡ old.me
-      → LeavesBoth moment left_since old.a old.b new.a new.b (HoldsOldOrNew old.durable old.staged) → IsRunning state honest store log new
+      → LeavesBoth moment left_since old.a old.b new.a new.b (HasOldOrNew old.durable old.staged) → IsRunning state honest store log new
   stopped_is_running moment left_since counts_now old new running up_old ha hb down me leaves = record {
     me = me ∙ running.me;
-    kept = kept_after state honest store log moment left_since counts_now old.a old.b new.a new.b (HoldsOldOrNew old.durable old.staged) ha hb leaves (λ x y p. ⊎_elim
+    kept = kept_after state honest store log moment left_since counts_now old.a old.b new.a new.b (HasOldOrNew old.durable old.staged) ha hb leaves (λ x y p. ⊎_elim
         (λ was. (old.durable, was, running.durable_means up_old))
         (λ now. (old.durable ++ old.staged, now, memory_meant old running up_old))
         p);
@@ -94,7 +94,7 @@ module _ {D : Type 0} (state : D → State) (honest : D → Type 0) (store : ℕ
   pub flush_is_running : (moment : D → ℕ) (left_since : D → ℕ → List ℕ → Type 0)
       → ((d : D) (t : ℕ) (c : List ℕ) → honest d → t ≤ moment d → left (state d) c → left_since d t c)
       → (r : Result (Unit {0}) Refusal) (old new : ShardView D) → IsRunning state honest store log old → old.is_down ≡ false → honest new.a → honest new.b
-      → LeavesBoth moment left_since old.a old.b new.a new.b (HoldsOldOrNew old.durable old.staged) → new.me ≡ old.me
+      → LeavesBoth moment left_since old.a old.b new.a new.b (HasOldOrNew old.durable old.staged) → new.me ≡ old.me
       → OnOk r (IsUp state honest new × (new.durable ≡ old.durable ++ old.staged) × (new.staged ≡ [])) → IfErr r (λ e. (e ≡ Down) × (new.is_down ≡ true))
       → IsRunning state honest store log new
   flush_is_running moment left_since counts_now (Ok u) old new running up ha hb leaves me ok err =

@@ -12,8 +12,8 @@ use Rattle.tuples.specs.Versions.{there_at}
 use Rattle.records.specs.Replays.{ShardState}
 use Rattle.device.specs.Device.{State}
 use Rattle.shard.specs.Shards.{ShardView, memory}
-use Rattle.cluster.specs.Shards.{ShardMeans}
-use Rattle.cluster.proofs.Snapshots.{there_at_one}
+use Rattle.laws.specs.Shards.{ShardMeans}
+use Rattle.laws.proofs.Snapshots.{there_at_one}
 use Rattle.zanstore.specs.Lines.{AreSelections, row_line, row_lines}
 use Rattle.zanstore.specs.Stores.{HasLearned, IsRunning}
 

@@ -14,7 +14,7 @@ use Rattle.records.specs.declared.record.Record.TheVariants.{Prepare}
 use Rattle.records.specs.Replays.{Identity, ShardState, shard_step, find_in_doubt, greatest_number}
 use Rattle.decisions.specs.Values.{IsIntent}
 use Rattle.replay.proofs.Doubts.{same_id_refl}
-use Rattle.cluster.proofs.Lists.{slice_get_push}
+use Rattle.laws.proofs.Lists.{slice_get_push}
 use Rattle.zanstore.specs.Stores.{IsNumbered, only}
 use Rattle.zanstore.specs.Lines.{IsNew}
 use Rattle.zanstore.proofs.Conditions.{legal_push}

@@ -6,8 +6,8 @@ use Rattle.tuples.specs.declared.tuple.Tuple.{Tuple}
 use Rattle.tuples.specs.declared.tupleset.Tupleset.{Tupleset}
 use Rattle.tuples.specs.declared.entry.Entry.{Entry}
 use Rattle.tuples.specs.declared.entry.WriteId.{WriteId}
-use Rattle.tuples.specs.declared.refusal.Refusal.{Refusal}
-use Rattle.tuples.specs.Refusals.{number_of, name_of}
+use Rattle.refusal.specs.declared.refusal.Refusal.{Refusal}
+use Rattle.refusal.specs.Refusals.{number_of, name_of}
 use Rattle.tuples.specs.Texts.{tuple_text}
 use Rattle.tuples.specs.Log.{HoldAfter, is_at}
 use Rattle.tuples.specs.Reads.{IsSelection}

@@ -8,7 +8,7 @@ use Rattle.device.specs.Device.{State, left}
 use Rattle.journal.specs.Records.{found}
 use Rattle.decisions.specs.Values.{IsIntent}
 use Rattle.shard.specs.Shards.{ShardView, IsUp, memory}
-use Rattle.cluster.specs.Shards.{ShardMeans}
+use Rattle.laws.specs.Shards.{ShardMeans}
 
 -- shard 0 of a store of one shard
 abbrev pub only : ℕ → Identity

@@ -19,8 +19,6 @@ mod reading;
 mod settings;
 mod sim;
 mod small;
-#[cfg(test)]
-mod tests;
 mod writing;
 
 use settings::Settings;

@@ -18,7 +18,7 @@ pub enum Node<D: Device> {
 
 impl<D: Device> Node<D> {
     ghost use Rattle.zanstore.specs.Causes.{IsLack};
-    ghost use Rattle.zanstore.specs.Nodes.{IsWell};
+    ghost use Rattle.zanstore.specs.Nodes.{IsSetIn, IsWell, devices_of};
 
     /// The refusal of its opening, where that was refused.
     pub(crate) fn refusal(&self) -> Option<Refusal>
@@ -33,7 +33,8 @@ impl<D: Device> Node<D> {
 
     /// Sets the script of one device, and changes nothing else.
     pub(crate) fn fail(&mut self, bank: Bank, n: u64, tear: Tear)
-        ensures { (log : List AnyEntry) (store : _) → IsWell D.state D.honest store log self.old → IsWell D.state D.honest store log self.new }
+        ensures set { IsSetIn D.set_to_fail bank n tear (devices_of self.old) (devices_of self.new) }
+        ensures well { (log : List AnyEntry) (store : _) → IsWell D.state D.honest store log self.old → IsWell D.state D.honest store log self.new }
     {
         match self {
             Node::Up(shard) => shard.fail(bank, n, tear),

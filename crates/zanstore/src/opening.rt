@@ -7,6 +7,7 @@ ghost use Rattle.zanstore.specs.Nodes.{IsWell};
 use crate::node::Node;
 use device::{Device, Stopped};
 use journal::Refused;
+use records::Identity;
 use shard::Shard;
 use std::alloc::Global;
 use tuples::Refusal;
@@ -15,7 +16,7 @@ use tuples::Refusal;
 pub(crate) fn open<D: Device>(alloc: Global, store: u64, a: D, b: D) -> Node<D>
     ensures { (log : List AnyEntry) → AreKept D.state D.honest store log a b → (D.state a).stopped ≡ false → (D.state b).stopped ≡ false → IsWell D.state D.honest store log result }
 {
-    match Shard::open(alloc, a, b, store, 1, 0) {
+    match Shard::open(alloc, a, b, Identity::shard(store, 1, 0)) {
         Ok(shard) => Node::Up(shard),
         Err(refused) => Node::Refused(refused),
     }

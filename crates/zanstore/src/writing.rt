@@ -1,6 +1,6 @@
 // One write on its way through the shard: prepared, flushed, voted for.
 ghost use Rattle.std.specs.Prelude.{◌≡◌, ◌++◌, ◌∷◌, [], List, length, OnOk, IfOk, IfErr, Some, false};
-ghost use Rattle.records.specs.Replays.{find_in_doubt};
+ghost use Rattle.records.specs.Replays.{AskOfLog, find_in_doubt};
 ghost use Rattle.decisions.specs.Values.{IsIntent};
 ghost use Rattle.shard.specs.Shards.{IsDurable, IsUp, memory};
 ghost use Rattle.tuples.specs.declared.entry.WriteId.{WriteId as AnyId};
@@ -145,6 +145,7 @@ pub(crate) fn decide<D: Device>(
     write: Write,
 ) -> Result<(), Refusal>
     requires numbered { IsNumbered log.old.items given.old }
+    requires places { AskOfLog write.conditions }
     requires well { IsWell D.state D.honest store log.old.items node.old }
     ensures numbered { IsNumbered log.new.items given.new }
     ensures well { IsWell D.state D.honest store log.new.items node.new }

@@ -1,8 +1,8 @@
-use Rattle.std.proofs.Common.{◌≡◌, ◌∙◌, ◌++◌, List, ap, subst, false}
+use Rattle.std.proofs.Common.{◌≡◌, ◌∙◌, ◌++◌, List, ap, false}
 use Rattle.std.specs.List.{flat_map}
-use Rattle.tuples.specs.declared.refusal.Refusal.TheVariants.{Down}
+use Rattle.refusal.specs.declared.refusal.Refusal.TheVariants.{Down}
 use Rattle.tuples.specs.declared.version.Version.{Version}
-use Rattle.versions.specs.Rows.{AreRows}
+use Rattle.versions.proofs.Alike.{rows_alike}
 use Rattle.shard.specs.Shards.{memory}
 use Rattle.zanstore.specs.Lines.{version_line}
 use Rattle.zanstore.proofs.Conditions.{rows_at_one}
@@ -18,7 +18,7 @@ returns-in-Ok-clause-ok g c = λ log store running.
       means.learned,
       (
         rows.items,
-        subst (λ (l : List Version). AreRows l rows.items) (rows_at_one log (memory s) means) (c.in_ok-rows.ensures.ok (running.up up)),
+        rows_alike (rows_at_one log (memory s) means) (c.in_ok-rows.ensures.ok (running.up up)),
         c.in-Ok.ensures ∙ ap (λ (l : List Version). c.args.out.now.items ++ flat_map version_line l) c.deref.ensures.value,
       ),
     )

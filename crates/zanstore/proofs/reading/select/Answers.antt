@@ -2,7 +2,7 @@ use Rattle.std.proofs.Common.{◌≡◌, false}
 use Rattle.shard.specs.Shards.{memory}
 use Rattle.zanstore.proofs.Selections.{selected}
 use Rattle.zanstore.proofs.Running.{not_err, not_true}
-use Rattle.tuples.specs.declared.refusal.Refusal.TheVariants.{Down}
+use Rattle.refusal.specs.declared.refusal.Refusal.TheVariants.{Down}
 use Rattle.zanstore.proofs.reading.select.Goals as goal
 
 pub returns-in-Rows-clause-ok : goal.returns-in-Rows-clause-ok

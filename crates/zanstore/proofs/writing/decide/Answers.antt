@@ -1,7 +1,7 @@
 use Rattle.std.proofs.Common.{◌+◌, ◌<◌, ◌∙◌, ◌++◌, ◌∷◌, [], List, Result, OnOk, ap, sym, subst, arith}
 use Rattle.std.specs.Result.{is_ok}
 use Rattle.tuples.specs.declared.entry.Entry.{Entry}
-use Rattle.tuples.specs.declared.refusal.Refusal.{Refusal}
+use Rattle.refusal.specs.declared.refusal.Refusal.{Refusal}
 use Rattle.tuples.specs.Log.{HoldAfter}
 use Rattle.decisions.specs.Values.{IsIntent}
 use Rattle.records.specs.Replays.{greatest_number}
