@@ -11,3 +11,5 @@ pub mod BitsOf
 pub mod Sets
 pub mod Examples
 mod Members
+pub mod Walked
+pub mod Reaching

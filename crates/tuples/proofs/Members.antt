@@ -7,6 +7,7 @@ use Rattle.tuples.specs.declared.user.User.TheVariants.{Id, Set}
 use Rattle.tuples.specs.Changes.{has_tuple}
 use Rattle.tuples.specs.Checking.{IsChain, IsMember, IsReached, end_of_chain, holding}
 use Rattle.tuples.specs.Order.{tuple_eq, userset_cmp}
+use Rattle.tuples.specs.Walking.{meets_check}
 use Rattle.tuples.proofs.Same.{userset_same}
 
 -- g:x#m, for a byte x
@@ -75,3 +76,16 @@ no_user_in_ring x (inr b) = subst (λ z. ring (holding z (Id (49 ∷ []))) ≡ f
 
 no_member_of_a_ring : IsMember ring (Id (49 ∷ [])) (userset 97) → ⊥
 no_member_of_a_ring m = true≢false (sym m.last ∙ no_user_in_ring (end_of_chain (userset 97) m.through) (ends_in_ring (userset 97) m.through (inl refl) m.chain))
+
+-- a check of the user 1 asks of a for the user's own tuple and for that of b, for no other user, and for nothing of b
+asks_for_the_user : meets_check (userset 97) (Id (49 ∷ [])) (holding (userset 97) (Id (49 ∷ []))) ≡ true
+asks_for_the_user = refl
+
+asks_for_usersets : meets_check (userset 97) (Id (49 ∷ [])) (holding (userset 97) (Set (userset 98))) ≡ true
+asks_for_usersets = refl
+
+asks_for_no_other_user : meets_check (userset 97) (Id (49 ∷ [])) (holding (userset 97) (Id (50 ∷ []))) ≡ false
+asks_for_no_other_user = refl
+
+asks_of_one_userset : meets_check (userset 97) (Id (49 ∷ [])) (holding (userset 98) (Id (49 ∷ []))) ≡ false
+asks_of_one_userset = refl

@@ -13,3 +13,4 @@ pub mod Bits
 pub mod Versions
 pub mod Watching
 pub mod Checking
+pub mod Walking
