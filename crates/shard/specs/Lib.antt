@@ -1,3 +1,4 @@
 pub mod Shards
 pub mod Keeping
 pub mod Own
+pub mod Calls
