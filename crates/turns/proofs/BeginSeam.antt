@@ -142,10 +142,10 @@ begin_has_cause store shards left D now after old changes conditions e r st seen
     known : CoordinatorKnows now.nodes (kept_of old) (memory_of old)
     known = record { durable = old.durable; staged = old.staged; is_up = seen.at; durable_state = refl; replayed = refl }
 
-    future : FirstIs old conditions (NamesFuture old) → IsFuture (length now.machine.log) r.asked
+    future : FirstIs old conditions (NamesFuture old) → IsFuture now.machine r.asked
     future first =
         let end : end_of (memory_of old) ≡ length now.machine.log = st.heads.log (kept_of old) (memory_of old) known in
-        subst (IsFuture (length now.machine.log)) (sym asked) (first.is.0, (first.condition, contained_from conditions first.index first.condition first.there, first.is.1), (let at = first.is.2 in omega (arith, at, end)))
+        subst (IsFuture now.machine) (sym asked) (first.is.0, (first.condition, contained_from conditions first.index first.condition first.there, first.is.1), (let at = first.is.2 in omega (arith, at, end)))
 
     collected : FirstIs old conditions (NamesCollected old) → IsBelow now.machine.horizon r r.asked
     collected first =

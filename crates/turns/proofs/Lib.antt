@@ -44,3 +44,5 @@ pub mod FlushTurn
 pub mod FailedFlushTurn
 pub mod ShardFlushTurn
 pub mod AlikeRecords
+pub mod OnceEach
+pub mod CheckWalk

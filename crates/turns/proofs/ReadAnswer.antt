@@ -25,7 +25,7 @@ use Rattle.records.specs.Replays.{ShardState}
 use Rattle.turns.specs.Flows.{Freshness, ReadHolds}
 use Rattle.turns.specs.Held.{IsRightRead, there_below}
 use Rattle.turns.specs.Moments.{Moment, Running}
-use Rattle.laws.specs.Nodes.{NodeName, NodeState, coordinator, leaves, shard, staged_of}
+use Rattle.laws.specs.Nodes.{NodeName, NodeState, ShardKnows, coordinator, leaves, shard, staged_of}
 use Rattle.turns.specs.ReadingLaws.{IsMerged, IsReading, IsShardReply, NeedsOnly, OneShardIsEnough, ReadsAgree, ReadsAskAll, ReadsFinishOne, ReadsGoOn, RepliesSelect, ShardRowsShowSnapshots, there_of}
 use Rattle.turns.specs.Replies.{IsReadAnswer}
 use Rattle.laws.specs.Shards.{ShardMeans}
@@ -100,19 +100,23 @@ unfolding is_at
 first_writes log n place le t = ap (λ (l : List Entry). there_after t false (flat_map (λ (v : Entry). v.changes) l)) (take-take place n log le)
 
 module _ (store shards : ℕ) (left : NodeName → List Record → Type 0) (now : Moment) where
+  -- a shard's rows show at a kept place which of its own tuples were there
+  pub rows_show : (s place : ℕ) (memory : ShardState) → Stands store shards left now → ((found : List Record) × left coordinator found) → s < shards → place ≤ now.machine.kept
+      → ShardKnows now.nodes s memory → memory.horizon ≤ place → place ≤ memory.learned → there_at memory.rows place ≡ there_of shards s now.machine.log place
+  rows_show s place memory st some lt low k above learned =
+      let was = st.rests.each some.0 (some.0, some.1, inl refl) in
+      let durable : left (shard s) k.durable = (st.nodes.durable (shard s) k.durable k.staged k.durable k.is_up).1 refl in
+      let here : leaves left now.nodes (shard s) (k.durable ++ k.staged) = (k.durable, durable, inr (ap (λ (n : NodeState). k.durable ++ staged_of n) (sym k.is_up))) in
+      let means : ShardMeans shards s (take was.0 now.machine.log) (coordinator_state some.0).horizon now.machine.horizon memory = subst (λ (x : ShardState). ShardMeans shards s (take was.0 now.machine.log) (coordinator_state some.0).horizon now.machine.horizon x) (sym k.replayed) (was.3.each_shard s (k.durable ++ k.staged) lt here).means in
+      fun_ext (λ t.
+      shard_rows_show_snapshots shards s (take was.0 now.machine.log) (coordinator_state some.0).horizon now.machine.horizon memory place t (log_taken was.0 now.machine.log was.2 st.rests.is_log) means above learned
+      ∙ ap (λ (b : Bool). b && (shard_of shards t.object == s)) (first_writes now.machine.log was.0 place (omega (arith, low, was.1)) t))
+
   pub replies_select : (s place : ℕ) (q : Tupleset) (rows : List Tuple) → Stands store shards left now
       → ((found : List Record) × left coordinator found) → s < shards → place ≤ now.machine.kept → IsShardReply now s place q rows
       → IsSelection (there_of shards s now.machine.log place) q rows
   replies_select s place q rows st some lt low reply =
-      let was = st.rests.each some.0 (some.0, some.1, inl refl) in
-      let k = reply.knows in
-      let durable : left (shard s) k.durable = (st.nodes.durable (shard s) k.durable k.staged k.durable k.is_up).1 refl in
-      let here : leaves left now.nodes (shard s) (k.durable ++ k.staged) = (k.durable, durable, inr (ap (λ (n : NodeState). k.durable ++ staged_of n) (sym k.is_up))) in
-      let means : ShardMeans shards s (take was.0 now.machine.log) (coordinator_state some.0).horizon now.machine.horizon reply.memory = subst (λ (x : ShardState). ShardMeans shards s (take was.0 now.machine.log) (coordinator_state some.0).horizon now.machine.horizon x) (sym k.replayed) (was.3.each_shard s (k.durable ++ k.staged) lt here).means in
-      let shown : there_at reply.memory.rows place ≡ there_of shards s now.machine.log place = fun_ext (λ t.
-      shard_rows_show_snapshots shards s (take was.0 now.machine.log) (coordinator_state some.0).horizon now.machine.horizon reply.memory place t (log_taken was.0 now.machine.log was.2 st.rests.is_log) means reply.above reply.learned
-      ∙ ap (λ (b : Bool). b && (shard_of shards t.object == s)) (first_writes now.machine.log was.0 place (omega (arith, low, was.1)) t)) in
-      subst (λ (there : Tuple → Bool). IsSelection there q rows) shown reply.selected
+      subst (λ (there : Tuple → Bool). IsSelection there q rows) (rows_show s place reply.memory st some lt low reply.knows reply.above reply.learned) reply.selected
 
   module _ (r : Running) (fresh : Freshness) (sets : List Tupleset) (h : ReadHolds) (place : ℕ) (right : IsRightRead shards left now r fresh sets h) where
     same_place : (s : ℕ) → h.place ≡ Some place → h.place ≡ Some s → place ≡ s

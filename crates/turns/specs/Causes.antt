@@ -20,8 +20,9 @@ use Rattle.records.specs.Format.{IsRecord}
 use Rattle.records.specs.Replays.{ShardState, is_held, named, greatest_number}
 use Rattle.journal.specs.Records.{HasNoRoom}
 use Rattle.decisions.specs.Standing.{DecidedValue}
+use Rattle.laws.specs.Machines.{Machine}
 use Rattle.laws.specs.Nodes.{NodeName, coordinator, shard, up, down, refused, Nodes, ShardKnows, CoordinatorKnows}
-use Rattle.turns.specs.Flows.{id_of, Freshness, latest, at_least, exact, Asked, to_write, to_read, to_check, to_watch, to_flush, to_learn, to_resolve, to_raise, to_collect, HeldTicket, Holds, writing}
+use Rattle.turns.specs.Flows.{id_of, Freshness, latest, at_least, exact, Asked, to_write, to_read, to_check, to_watch, to_flush, to_learn, to_resolve, to_raise, to_collect, HeldTicket, Holds, most_walked, writing}
 use Rattle.turns.specs.Moments.{Moment, Running, WasKept}
 use Rattle.turns.specs.Replies.{IsPlaceOf}
 
@@ -35,17 +36,17 @@ WantsFuture n latest = ⊥
 WantsFuture n (at_least z) = n < z
 WantsFuture n (exact z) = n < z
 
--- Future: what was asked names a place above the length of the log
-abbrev pub IsFuture : ℕ → Asked → Type 0
-IsFuture n (to_write changes conditions) = (place : ℕ) × NamesPlace conditions place × (n < place)
-IsFuture n (to_read fresh sets) = WantsFuture n fresh
-IsFuture n (to_check fresh x u) = WantsFuture n fresh
-IsFuture n (to_watch c limit names) = n < c
-IsFuture n (to_flush m) = ⊥
-IsFuture n (to_learn s) = ⊥
-IsFuture n (to_resolve s) = ⊥
-IsFuture n (to_raise x) = n < x
-IsFuture n (to_collect s) = ⊥
+-- Future: what was asked names a place above the length of the log, or, to raise the horizon, one above the kept place
+abbrev pub IsFuture : Machine → Asked → Type 0
+IsFuture m (to_write changes conditions) = (place : ℕ) × NamesPlace conditions place × (length m.log < place)
+IsFuture m (to_read fresh sets) = WantsFuture (length m.log) fresh
+IsFuture m (to_check fresh x u) = WantsFuture (length m.log) fresh
+IsFuture m (to_watch c limit names) = length m.log < c
+IsFuture m (to_flush n) = ⊥
+IsFuture m (to_learn s) = ⊥
+IsFuture m (to_resolve s) = ⊥
+IsFuture m (to_raise x) = m.kept < x
+IsFuture m (to_collect s) = ⊥
 
 -- the place of an answer lies below the horizon: the one that was asked for, or one that the flow found, which it has fallen below
 abbrev pub WantsBelow : ℕ → Running → Freshness → Type 0
@@ -175,7 +176,7 @@ HasNoNumber now = (1024 ≤ length now.nodes.open_writes) ⊎ ((greatest_number 
 abbrev pub IsFull : ℕ → Moment → Running → Asked → Type 0
 IsFull shards now r (to_write changes conditions) = HasFullBatch shards now.nodes r.asked (id_of r.holds) ⊎ HasNoNumber now
 IsFull shards now r (to_check fresh x u) = HasFullBatch shards now.nodes r.asked (id_of r.holds)
-    ⊎ ((s : ℕ) × IsPlaceOf fresh r now.machine s × ReachesMoreThan 4096 (is_at now.machine.log s) x)
+    ⊎ ((s : ℕ) × IsPlaceOf fresh r now.machine s × ReachesMoreThan most_walked (is_at now.machine.log s) x)
 IsFull shards now r asked = HasFullBatch shards now.nodes r.asked (id_of r.holds)
 
 -- The cause of a refusal by a node that is open, seen before the call and, of what fails in it, behind it. Requests were tested before they
@@ -187,7 +188,7 @@ IsCause shards before after r TooLarge = ⊥
 IsCause shards before after r Repeated = ⊥
 IsCause shards before after r BadZookie = ⊥
 IsCause shards before after r WrongStore = ⊥
-IsCause shards before after r Future = IsFuture (length before.machine.log) r.asked
+IsCause shards before after r Future = IsFuture before.machine r.asked
 IsCause shards before after r Collected = IsBelow before.machine.horizon r r.asked
 IsCause shards before after r Precondition = IsBroken shards before r.asked
 IsCause shards before after r Busy = IsBusy shards before (id_of r.holds) r.asked

@@ -49,6 +49,10 @@ most_namespaces = 16
 abbrev pub most_watched : ℕ
 most_watched = 256
 
+-- the most usersets that one check walks
+abbrev pub most_walked : ℕ
+most_walked = 4096
+
 -- What is asked is whole and in range, as requests are once they were read, and of a node that is there.
 abbrev pub IsAsked : ℕ → Asked → Type 0
 IsAsked shards (to_write changes conditions) = IsWrite changes conditions

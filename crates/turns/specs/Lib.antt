@@ -24,3 +24,4 @@ pub mod RaisingLaws
 pub mod AbortLaws
 pub mod HeadsLaws
 pub mod ReadingLaws
+pub mod CheckingLaws

@@ -7,6 +7,7 @@
 #![tactic(auto)]
 
 mod abort_laws;
+mod checking_laws;
 mod deciding_laws;
 mod flow_laws;
 mod flush_laws;
@@ -26,6 +27,10 @@ pub use abort_laws::{
     aborts_leave_the_store_standing, decisions_that_are_found_are_kept,
     ids_that_are_not_found_are_aborted, intents_are_refused_with_cause, outcomes_agree,
     tickets_are_refused_with_cause,
+};
+pub use checking_laws::{
+    check_replies_select, checks_begin, checks_go_on, checks_say_no, checks_say_yes,
+    full_checks_have_cause,
 };
 pub use deciding_laws::{
     deciders_hold_what_is_right, deciders_take_their_turn, decisions_leave_the_store_standing,

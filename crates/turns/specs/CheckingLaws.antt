@@ -1,0 +1,85 @@
+-- Laws of checks: what a shard answers of one userset, what a check holds behind it, and what it answers.
+use Rattle.std.specs.Prelude.{◌≡◌, ◌≤◌, ◌<◌, ◌⊎◌, ◌↔◌, ℕ, true, false, List, [], ◌∷◌, ◌++◌, length, Some, None, Contains}
+use Rattle.refusal.specs.declared.refusal.Refusal.TheVariants.{Full}
+use Rattle.tuples.specs.declared.object.Userset.{Userset}
+use Rattle.tuples.specs.declared.tuple.Tuple.{Tuple}
+use Rattle.tuples.specs.declared.user.User.{User}
+use Rattle.tuples.specs.declared.user.User.TheVariants.{Set}
+use Rattle.tuples.specs.Checking.{AreOnce, holding}
+use Rattle.tuples.specs.Log.{is_at}
+use Rattle.tuples.specs.Parts.{shard_of}
+use Rattle.tuples.specs.Versions.{there_at}
+use Rattle.tuples.specs.Walking.{IsCheckSelection}
+use Rattle.records.specs.declared.record.Record.{Record}
+use Rattle.records.specs.Replays.{ShardState}
+use Rattle.laws.specs.Nodes.{NodeName, ShardKnows, coordinator}
+use Rattle.turns.specs.Causes.{IsCause}
+use Rattle.turns.specs.Flows.{CheckHolds, Freshness, most_walked, to_check}
+use Rattle.turns.specs.Held.{IsRightCheck}
+use Rattle.turns.specs.Moments.{Moment, Running}
+use Rattle.turns.specs.Replies.{IsCheckAnswer, IsPlaceOf}
+use Rattle.turns.specs.Stands.{Stands}
+
+-- a shard that is up selects what a check asks of a userset, at a place that it has learned, and that is not below its horizon
+pub record IsCheckReply (now : Moment) (s place : ℕ) (y : Userset) (u : User) (rows : List Tuple) : Type 0 where
+  pub memory : ShardState
+  pub knows : ShardKnows now.nodes s memory
+  pub learned : place ≤ memory.learned
+  pub above : memory.horizon ≤ place
+  pub selected : IsCheckSelection (there_at memory.rows place) y u rows
+
+-- one userset more, each once
+pub record IsOneMore (old : List Userset) (y : Userset) (new : List Userset) : Type 0 where
+  pub once : AreOnce new
+  pub has : (z : Userset) → Contains new z ↔ (Contains old z ⊎ (z ≡ y))
+
+-- A check has walked the first userset that waits, and lets those wait too that this one holds and that it has not met yet.
+pub record Walks (y : Userset) (rows : List Tuple) (h next : CheckHolds) : Type 0 where
+  pub heads : next.heads ≡ h.heads
+  pub place : next.place ≡ h.place
+  pub batch : next.batch ≡ h.batch
+  pub rest : List Userset
+  pub first : h.waiting ≡ y ∷ rest
+  pub walked : IsOneMore h.walked y next.walked
+  pub more : List Userset
+  pub waiting : next.waiting ≡ rest ++ more
+  pub once : AreOnce more
+  pub held : (z : Userset) → Contains more z → Contains rows (holding y (Set z))
+  pub new : (z : Userset) → Contains more z → Contains (h.walked ++ h.waiting) z → ⊥
+  pub all : (z : Userset) → Contains rows (holding y (Set z)) → Contains (h.walked ++ h.waiting) z ⊎ Contains more z
+
+-- The store has this id and so many shards, and a stop may leave this of each node, but for what is staged. Of the premises, that the store stands and
+-- the shard's answer are the call's; what a check holds, what it makes of it, and where it goes, are the flow's.
+module _ (store shards : ℕ) (left : NodeName → List Record → Type 0) where
+  -- what the userset's own shard answers at a kept place is what a check asks of the whole store
+  abbrev pub CheckRepliesSelect : Type 0
+  CheckRepliesSelect = (now : Moment) (s place : ℕ) (y : Userset) (u : User) (rows : List Tuple) → Stands store shards left now → ((found : List Record) × left coordinator found)
+      → s < shards → s ≡ shard_of shards y.object → place ≤ now.machine.kept → IsCheckReply now s place y u rows
+      → IsCheckSelection (is_at now.machine.log place) y u rows
+
+  -- a check that finds its place holds what is right
+  abbrev pub ChecksBegin : Type 0
+  ChecksBegin = (now : Moment) (r : Running) (fresh : Freshness) (x : Userset) (u : User) (h : CheckHolds) (place : ℕ) → IsRightCheck shards left now r fresh x u h → h.place ≡ None
+      → IsPlaceOf fresh r now.machine place → IsRightCheck shards left now r fresh x u (record h { place = Some place })
+
+  -- a check that has walked one userset more, which does not hold the user, holds what is right
+  abbrev pub ChecksGoOn : Type 0
+  ChecksGoOn = (now : Moment) (r : Running) (fresh : Freshness) (x : Userset) (u : User) (h next : CheckHolds) (place : ℕ) (y : Userset) (rows : List Tuple)
+      → IsRightCheck shards left now r fresh x u h → h.place ≡ Some place → Walks y rows h next
+      → IsCheckSelection (is_at now.machine.log place) y u rows → (Contains rows (holding y u) → ⊥) → IsRightCheck shards left now r fresh x u next
+
+  -- where a userset that waits holds the user, yes agrees
+  abbrev pub ChecksSayYes : Type 0
+  ChecksSayYes = (now : Moment) (r : Running) (fresh : Freshness) (x : Userset) (u : User) (h : CheckHolds) (place : ℕ) (y : Userset) (rows : List Tuple)
+      → IsRightCheck shards left now r fresh x u h → h.place ≡ Some place → Contains h.waiting y
+      → IsCheckSelection (is_at now.machine.log place) y u rows → Contains rows (holding y u) → IsCheckAnswer fresh x u r now.machine place true
+
+  -- where none waits, no agrees
+  abbrev pub ChecksSayNo : Type 0
+  ChecksSayNo = (now : Moment) (r : Running) (fresh : Freshness) (x : Userset) (u : User) (h : CheckHolds) (place : ℕ)
+      → IsRightCheck shards left now r fresh x u h → h.place ≡ Some place → h.waiting ≡ [] → IsCheckAnswer fresh x u r now.machine place false
+
+  -- where as many were walked as may be, and one waits still, Full has its cause
+  abbrev pub FullChecksHaveCause : Type 0
+  FullChecksHaveCause = (now after : Moment) (r : Running) (fresh : Freshness) (x : Userset) (u : User) (h : CheckHolds) (place : ℕ) (y : Userset) → r.asked ≡ to_check fresh x u
+      → IsRightCheck shards left now r fresh x u h → h.place ≡ Some place → most_walked ≤ length h.walked → Contains h.waiting y → IsCause shards now after r Full
