@@ -5,6 +5,7 @@ ghost use Rattle.records.specs.declared.record.Record.TheVariants.{Dropped as dr
 ghost use Rattle.records.specs.Replays.{MayCollect, MayCome, MayDrop, MayLearn, MayOpen, MayPrepare, empty_shard, find_in_doubt, is_held, shard_step};
 ghost use Rattle.tuples.specs.Log.{meets_want};
 ghost use Rattle.tuples.specs.Reads.{IsSelection};
+ghost use Rattle.tuples.specs.Walking.{IsCheckSelection};
 ghost use Rattle.tuples.specs.Versions.{last_version, there_at};
 ghost use Rattle.versions.specs.Rows.{AreRows};
 ghost use Rattle.replay.specs.Alike.{IsAlike};
@@ -15,7 +16,9 @@ use holds::Holds;
 use records::{Identity, PlacedId, Record};
 use std::alloc::{AllocError, Global};
 use std::marker::Model;
-use tuples::{Condition, Entry, Refusal, Tuple, Tupleset, Version, Want, WriteId};
+use tuples::{
+    Condition, Entry, Refusal, Tuple, Tupleset, User, Userset, Version, Want, WriteId,
+};
 use versions::Versions;
 
 /// What a shard knows, which contracts see as the state that its records stand for.
@@ -264,6 +267,19 @@ impl Memory {
         ensures { IfOk result (λ tuples. IsSelection (there_at self.now.rows place) set.now tuples.items) }
     {
         self.versions.at(alloc, place, set)
+    }
+
+    /// The tuples that are there at a place and that a check asks of a userset, ascending: that of the user, and those of usersets.
+    pub fn asked_at(
+        &self,
+        alloc: Global,
+        place: u64,
+        userset: &Userset,
+        user: &User,
+    ) -> Result<Vec<Tuple>, AllocError>
+        ensures { IfOk result (λ tuples. IsCheckSelection (there_at self.now.rows place) userset.now user.now tuples.items) }
+    {
+        self.versions.asked_at(alloc, place, userset, user)
     }
 
     /// Copies of the versions, by tuple and then by place.

@@ -1,6 +1,7 @@
 // What a shard tells of what it knows.
 ghost use Rattle.std.specs.Prelude.{◌≡◌, ◌⊎◌, ◌≤◌, ◌<◌, true, IfOk, IfErr, IsErr, IsErrOf, ◌↔◌, Contains};
 ghost use Rattle.tuples.specs.Reads.{IsSelection};
+ghost use Rattle.tuples.specs.Walking.{IsCheckSelection};
 ghost use Rattle.tuples.specs.Versions.{there_at};
 ghost use Rattle.shard.specs.declared.replies.ReadReply.TheVariants.{Rows, Behind};
 ghost use Rattle.versions.specs.Rows.{AreRows};
@@ -9,7 +10,7 @@ ghost use Rattle.shard.specs.Shards.{AreAscendingIds, IsUp, ids, memory};
 use crate::{ReadReply, Shard};
 use device::Device;
 use std::alloc::Global;
-use tuples::{Refusal, Tupleset, Version, WriteId};
+use tuples::{Refusal, Tupleset, User, Userset, Version, WriteId};
 
 impl<D: Device> Shard<D> {
     /// The ids of the writes that are prepared and neither learned nor dropped, ascending.
@@ -63,6 +64,38 @@ impl<D: Device> Shard<D> {
             return Ok(ReadReply::Behind);
         }
         match self.memory.at(alloc, place, set) {
+            Ok(tuples) => Ok(ReadReply::Rows(tuples)),
+            Err(_) => Err(Refusal::NoMemory),
+        }
+    }
+
+    /// The tuples of this shard that are there at a place and that a check asks of a userset, ascending: that of the user, and those of
+    /// usersets. `Behind` and the refusals are those of `read`.
+    pub fn read_for_check(
+        &self,
+        alloc: Global,
+        place: u64,
+        userset: &Userset,
+        user: &User,
+    ) -> Result<ReadReply, Refusal>
+        ensures rows { (ts : _) → IsUp D.state D.honest self.now → IfOk result (λ r. r ≡ Rows ts → (place ≤ (memory self.now).learned) × ((memory self.now).horizon ≤ place)
+            × IsCheckSelection (there_at (memory self.now).rows place) userset.now user.now ts.items) }
+        ensures behind { IsUp D.state D.honest self.now → IfOk result (λ r. r ≡ Behind → (memory self.now).learned < place) }
+        ensures ahead { IsUp D.state D.honest self.now → (memory self.now).horizon ≤ place → (memory self.now).learned < place → IfOk result (λ r. r ≡ Behind) × (IsErr result → ⊥) }
+        ensures collected { IsUp D.state D.honest self.now → IsErrOf result Refusal.Collected ↔ (place < (memory self.now).horizon) }
+        ensures down { IsErrOf result Refusal.Down ↔ (self.now.is_down ≡ true) }
+        ensures err { IfErr result (λ e. (e ≡ Refusal.Down) ⊎ ((e ≡ Refusal.Collected) ⊎ (e ≡ Refusal.NoMemory))) }
+    {
+        if self.journal.is_down() {
+            return Err(Refusal::Down);
+        }
+        if place < self.memory.horizon() {
+            return Err(Refusal::Collected);
+        }
+        if self.memory.learned() < place {
+            return Ok(ReadReply::Behind);
+        }
+        match self.memory.asked_at(alloc, place, userset, user) {
             Ok(tuples) => Ok(ReadReply::Rows(tuples)),
             Err(_) => Err(Refusal::NoMemory),
         }

@@ -12,7 +12,10 @@ use Rattle.tuples.specs.declared.version.Version.{Version}
 use Rattle.tuples.specs.Changes.{tuple_of}
 use Rattle.tuples.specs.Log.{there_after}
 use Rattle.tuples.specs.Order.{tuple_eq}
+use Rattle.tuples.specs.declared.object.Userset.{Userset}
+use Rattle.tuples.specs.declared.user.User.{User}
 use Rattle.tuples.specs.Reads.{IsSelection}
+use Rattle.tuples.specs.Walking.{IsCheckSelection}
 use Rattle.tuples.specs.Versions.{collected, is_touch, last_version, superseded, there_at}
 use Rattle.tuples.proofs.Ordered.{tuple_eq_refl}
 use Rattle.tuples.proofs.Same.{tuple_same}
@@ -90,6 +93,15 @@ there_at_alike {a} {b} h place t = there_at_own a place t ∙ ap (λ (l : List V
 
 pub selection_alike : {a b : List Version} → AreAlike a b → (place : ℕ) (q : Tupleset) (ts : List Tuple) → IsSelection (there_at a place) q ts → IsSelection (there_at b place) q ts
 selection_alike {a} {b} h place q ts selection = record {
+  ascending = selection.ascending;
+  exact = λ t. (
+    λ has. let both = (selection.exact t).0 has in (sym (there_at_alike h place t) ∙ both.0, both.1),
+    λ both. (selection.exact t).1 (there_at_alike h place t ∙ both.0, both.1),
+  );
+}
+
+pub check_selection_alike : {a b : List Version} → AreAlike a b → (place : ℕ) (x : Userset) (u : User) (ts : List Tuple) → IsCheckSelection (there_at a place) x u ts → IsCheckSelection (there_at b place) x u ts
+check_selection_alike {a} {b} h place x u ts selection = record {
   ascending = selection.ascending;
   exact = λ t. (
     λ has. let both = (selection.exact t).0 has in (sym (there_at_alike h place t) ∙ both.0, both.1),

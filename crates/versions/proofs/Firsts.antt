@@ -7,17 +7,19 @@ use Rattle.std.specs.declared.cmp.Ordering.TheVariants.{Less, Equal, Greater}
 use Rattle.std.proofs.lemmas.Bool.Decides.{nat_tests}
 use Rattle.std.proofs.lemmas.Cmp.{nat_list_cmp_total, tied_itself}
 use Rattle.tuples.specs.declared.object.Object.{Object}
+use Rattle.tuples.specs.declared.object.Userset.{Userset}
 use Rattle.tuples.specs.declared.tuple.Tuple.{Tuple}
 use Rattle.tuples.specs.declared.tupleset.Tupleset.TheVariants.{Key, OfObject}
 use Rattle.tuples.specs.declared.user.User.{User}
 use Rattle.tuples.specs.declared.user.User.TheVariants.{Id, Set}
 use Rattle.tuples.specs.Names.{IsId, IsName, is_id_byte, is_name_byte}
-use Rattle.tuples.specs.Order.{name_cmp, object_cmp, tuple_cmp, user_cmp}
-use Rattle.tuples.specs.Reads.{has_relation}
-use Rattle.tuples.specs.Texts.{IsUser}
+use Rattle.tuples.specs.Order.{name_cmp, object_cmp, tuple_cmp, user_cmp, userset_cmp}
+use Rattle.tuples.specs.Reads.{has_relation, meets, same_name}
+use Rattle.tuples.specs.Walking.{is_set}
+use Rattle.tuples.specs.Texts.{IsUser, IsUserset}
 use Rattle.tuples.proofs.Ordered.{object_total, tuple_total}
 use Rattle.tuples.proofs.Same.{name_same, object_same, tuple_same}
-use Rattle.versions.specs.Rows.{IsFirst, first_relation}
+use Rattle.versions.specs.Rows.{IsFirst, first_relation, is_set_of, lowest_userset}
 
 -- ---- orders
 
@@ -112,7 +114,7 @@ same_relation (Some r) t u low high is =
     squeezed (name_cmp r t.relation) (name_cmp t.relation r) (nat_list_cmp_total.antisymm r t.relation) low
     (subst (λ (x : List ℕ). is_le (name_cmp t.relation x) ≡ true) (name_same u.relation r is) high)
 
-pub first_is : (o : Object) (r : Option (List ℕ)) → IsFirst (OfObject o r) (first_tuple o r)
+pub first_is : (o : Object) (r : Option (List ℕ)) → IsFirst (meets (OfObject o r)) (first_tuple o r)
 first_is o r = record {
   before = λ t spelled has.
       let parts = both (is_eq (object_cmp t.object o)) (has_relation r t) has in
@@ -139,10 +141,63 @@ first_is o r = record {
 }
 
 -- a tuple is the first of those that are it
-pub key_first : (k : Tuple) → IsFirst (Key k) k
+pub key_first : (k : Tuple) → IsFirst (meets (Key k)) k
 key_first k = record {
   before = λ t spelled has. subst (λ (x : Tuple). is_le (tuple_cmp k x) ≡ true) (sym (tuple_same t k has)) (ap is_le (tied_itself tuple_total k));
   within = λ t u low less has.
       let above : tuple_cmp k t ≡ Greater = tuple_total.antisymm k t ∙ ap ordering_reverse (subst (λ (x : Tuple). tuple_cmp t x ≡ Less) (tuple_same u k has) less) in
       absurd (let never : true ≡ false = sym low ∙ ap is_le above in cc);
+}
+
+-- ---- the first tuple of a userset that names a userset
+
+abbrev pub first_set : Userset → Tuple
+first_set x = record { object = x.object; relation = x.relation; user = Set lowest_userset }
+
+set_le : (y : Userset) → IsUserset y → is_le (userset_cmp lowest_userset y) ≡ true
+set_le y is = le_then (object_cmp lowest_userset.object y.object) (name_cmp (48 ∷ []) y.relation)
+    (le_then (name_cmp (48 ∷ []) y.object.namespace) (name_cmp (33 ∷ []) y.object.id) (name_le y.object.namespace is.object.namespace) (id_le y.object.id is.object.id))
+    (name_le y.relation is.relation)
+
+user_set_le : (u : User) → IsUser u → is_set u ≡ true → is_le (user_cmp (Set lowest_userset) u) ≡ true
+user_set_le (Id i) is set = absurd cc
+user_set_le (Set y) is set = set_le y is
+
+user_is_set : (u : User) → is_le (user_cmp (Set lowest_userset) u) ≡ true → is_set u ≡ true
+user_is_set (Id i) low = absurd cc
+user_is_set (Set y) low = refl
+
+pub set_first_is : (x : Userset) → IsFirst (is_set_of x) (first_set x)
+set_first_is x = record {
+  before = λ t spelled has.
+      let parts = both (is_eq (object_cmp t.object x.object)) (same_name t.relation x.relation && is_set t.user) has in
+      let more = both (same_name t.relation x.relation) (is_set t.user) parts.1 in
+      le_then (object_cmp x.object t.object) (ordering_then (name_cmp x.relation t.relation) (user_cmp (Set lowest_userset) t.user))
+      (eq_le (object_cmp x.object t.object) (eq_back (object_cmp x.object t.object) (object_cmp t.object x.object) (object_total.antisymm x.object t.object) parts.0))
+      (le_then (name_cmp x.relation t.relation) (user_cmp (Set lowest_userset) t.user)
+      (eq_le (name_cmp x.relation t.relation) (eq_back (name_cmp x.relation t.relation) (name_cmp t.relation x.relation) (nat_list_cmp_total.antisymm x.relation t.relation) more.0))
+      (user_set_le t.user spelled.user more.1));
+  within = λ t u low less has.
+      let parts = both (is_eq (object_cmp u.object x.object)) (same_name u.relation x.relation && is_set u.user) has in
+      let more = both (same_name u.relation x.relation) (is_set u.user) parts.1 in
+      let high : is_le (tuple_cmp t u) ≡ true = less_le (tuple_cmp t u) less in
+      let object : is_eq (object_cmp t.object x.object) ≡ true =
+      same_object x.object t u (le_first (object_cmp x.object t.object) (ordering_then (name_cmp x.relation t.relation) (user_cmp (Set lowest_userset) t.user)) low)
+      (le_first (object_cmp t.object u.object) (ordering_then (name_cmp t.relation u.relation) (user_cmp t.user u.user)) high) parts.0
+      in
+      let from : is_eq (object_cmp x.object t.object) ≡ true = eq_back (object_cmp x.object t.object) (object_cmp t.object x.object) (object_total.antisymm x.object t.object) object in
+      let to : is_eq (object_cmp t.object u.object) ≡ true = ap (λ (o : Object). is_eq (object_cmp t.object o)) (object_same u.object x.object parts.0) ∙ object in
+      let rest : is_le (ordering_then (name_cmp x.relation t.relation) (user_cmp (Set lowest_userset) t.user)) ≡ true =
+      le_next (object_cmp x.object t.object) (ordering_then (name_cmp x.relation t.relation) (user_cmp (Set lowest_userset) t.user)) from low
+      in
+      let relation : same_name t.relation x.relation ≡ true =
+      same_relation (Some x.relation) t u
+      (le_first (name_cmp x.relation t.relation) (user_cmp (Set lowest_userset) t.user) rest)
+      (le_first (name_cmp t.relation u.relation) (user_cmp t.user u.user)
+      (le_next (object_cmp t.object u.object) (ordering_then (name_cmp t.relation u.relation) (user_cmp t.user u.user)) to high)) more.0
+      in
+      let after : is_eq (name_cmp x.relation t.relation) ≡ true = eq_back (name_cmp x.relation t.relation) (name_cmp t.relation x.relation) (nat_list_cmp_total.antisymm x.relation t.relation) relation in
+      joined (is_eq (object_cmp t.object x.object)) (same_name t.relation x.relation && is_set t.user) object
+      (joined (same_name t.relation x.relation) (is_set t.user) relation
+      (user_is_set t.user (le_next (name_cmp x.relation t.relation) (user_cmp (Set lowest_userset) t.user) after rest)));
 }

@@ -6,4 +6,5 @@ pub mod Tables
 pub mod Placed
 pub mod Firsts
 pub mod Selected
+pub mod Asked
 pub mod Newest

@@ -11,36 +11,37 @@ use Rattle.std.proofs.lemmas.Bool.{cases_Bool}
 use Rattle.std.proofs.lemmas.List.Kept.{IsStrictlySortedBy-filter}
 use Rattle.std.proofs.lemmas.Map.Views.{Contains-from_any, list_any-from_Contains}
 use Rattle.tuples.specs.declared.tuple.Tuple.{Tuple}
-use Rattle.tuples.specs.declared.tupleset.Tupleset.{Tupleset}
+use Rattle.tuples.specs.declared.version.Version.{Version}
+use Rattle.versions.specs.Alike.{of_tuple}
 use Rattle.tuples.specs.contracts.tuple.TupleOrd.TheImpl.{ghosts}
 use Rattle.tuples.specs.Texts.{IsTuple}
 use Rattle.tuples.specs.Order.{tuple_cmp, tuple_eq}
-use Rattle.tuples.specs.Reads.{AreAscending, IsSelection, meets}
+use Rattle.tuples.specs.Reads.{AreAscending}
 use Rattle.tuples.specs.Versions.{there_at}
 use Rattle.tuples.proofs.Ordered.{tuple_eq_refl, tuple_eq_symm, tuple_lt_apart}
 use Rattle.tuples.proofs.Same.{tuple_same}
-use Rattle.versions.specs.Rows.{IsFirst, found, listed, rows_in, versions_of}
+use Rattle.versions.specs.Rows.{IsFirst, IsPicked, found, listed, rows_in, versions_of}
 use Rattle.versions.specs.declared.history.Row.{Row}
 use Rattle.versions.proofs.Alike.{there_at_own}
 use Rattle.versions.proofs.Tables.{AreSorted, Entries, before, of_listed, same_order, same_tie}
 
--- the tuples of the entries that are there and meet the tupleset
-abbrev pub kept_of : ℕ → Tupleset → Entries → List Tuple
+-- the tuples of the entries that are there and pass a test
+abbrev pub kept_of : ℕ → (Tuple → Bool) → Entries → List Tuple
 kept_of place q [] = []
-kept_of place q (e ∷ es) = cond (meets q e.0 && there_at (versions_of e.0 e.1.items) place e.0) (e.0 ∷ kept_of place q es) (kept_of place q es)
+kept_of place q (e ∷ es) = cond (q e.0 && there_at (versions_of e.0 e.1.items) place e.0) (e.0 ∷ kept_of place q es) (kept_of place q es)
 
-up_from : (place : ℕ) (q : Tupleset) (t : Tuple) (es : Entries) → AllByRecursion (λ y. ghosts.cmp t y ≡ Less) (keys_of es) → AreSorted es → AreAscending (t ∷ kept_of place q es)
+up_from : (place : ℕ) (q : Tuple → Bool) (t : Tuple) (es : Entries) → AllByRecursion (λ y. ghosts.cmp t y ≡ Less) (keys_of es) → AreSorted es → AreAscending (t ∷ kept_of place q es)
 unfolding IsStrictlySortedBy
 up_from place q t [] above sorted = tt
-up_from place q t ((u, h) ∷ es) above sorted = elim (cases_Bool (meets q u && there_at (versions_of u h.items) place u)) [
+up_from place q t ((u, h) ∷ es) above sorted = elim (cases_Bool (q u && there_at (versions_of u h.items) place u)) [
   | inl is ↦ subst (λ (b : Bool). AreAscending (t ∷ cond b (u ∷ kept_of place q es) (kept_of place q es))) (sym is) (before t u above.0, up_from place q u es sorted.0 sorted.1)
   | inr not_kept ↦ subst (λ (b : Bool). AreAscending (t ∷ cond b (u ∷ kept_of place q es) (kept_of place q es))) (sym not_kept) (up_from place q t es above.1 sorted.1)
 ]
 
-ascending : (place : ℕ) (q : Tupleset) (es : Entries) → AreSorted es → AreAscending (kept_of place q es)
+ascending : (place : ℕ) (q : Tuple → Bool) (es : Entries) → AreSorted es → AreAscending (kept_of place q es)
 unfolding IsStrictlySortedBy
 ascending place q [] sorted = tt
-ascending place q ((u, h) ∷ es) sorted = elim (cases_Bool (meets q u && there_at (versions_of u h.items) place u)) [
+ascending place q ((u, h) ∷ es) sorted = elim (cases_Bool (q u && there_at (versions_of u h.items) place u)) [
   | inl is ↦ subst (λ (b : Bool). AreAscending (cond b (u ∷ kept_of place q es) (kept_of place q es))) (sym is) (up_from place q u es sorted.0 sorted.1)
   | inr not_kept ↦ subst (λ (b : Bool). AreAscending (cond b (u ∷ kept_of place q es) (kept_of place q es))) (sym not_kept) (ascending place q es sorted.1)
 ]
@@ -69,23 +70,23 @@ first : (m : Bool) (t u : Tuple) (rest : List Tuple) → tuple_eq t u ≡ true �
 first true t u rest is none = ap (λ (b : Bool). b || list_any (tuple_eq t) rest) is
 first false t u rest is none = none
 
-has_kept : (place : ℕ) (q : Tupleset) (es : Entries) (t : Tuple) → AreSorted es → list_any (tuple_eq t) (kept_of place q es) ≡ (meets q t && there_in place t es)
+has_kept : (place : ℕ) (q : Tuple → Bool) (es : Entries) (t : Tuple) → AreSorted es → list_any (tuple_eq t) (kept_of place q es) ≡ (q t && there_in place t es)
 unfolding IsStrictlySortedBy there_in
-has_kept place q [] t sorted = sym (ap (λ (b : Bool). meets q t && b) (never place t) ∙ and_false (meets q t))
+has_kept place q [] t sorted = sym (ap (λ (b : Bool). q t && b) (never place t) ∙ and_false (q t))
 has_kept place q ((u, h) ∷ es) t sorted = elim (cases_Bool (tuple_eq t u)) [
   | inl is ↦
       let same : t ≡ u = tuple_same t u is in
       let gone : there_at (versions_of t (rows_in (found t es))) place t ≡ false = ap (λ o. there_at (versions_of t (rows_in o)) place t) (ap (λ (x : Tuple). found x es) same ∙ found_above u es sorted.0) ∙ never place t in
-      let none : list_any (tuple_eq t) (kept_of place q es) ≡ false = has_kept place q es t sorted.1 ∙ ap (λ (b : Bool). meets q t && b) gone ∙ and_false (meets q t) in
+      let none : list_any (tuple_eq t) (kept_of place q es) ≡ false = has_kept place q es t sorted.1 ∙ ap (λ (b : Bool). q t && b) gone ∙ and_false (q t) in
       let here : found t ((u, h) ∷ es) ≡ Some h = ap (λ (b : Bool). cond b (Some h) (found t es)) (same_tie t u ∙ is) in
-      first (meets q u && there_at (versions_of u h.items) place u) t u (kept_of place q es) is none
-      ∙ ap (λ (x : Tuple). meets q x && there_at (versions_of x h.items) place x) (sym same)
-      ∙ ap (λ o. meets q t && there_at (versions_of t (rows_in o)) place t) (sym here)
+      first (q u && there_at (versions_of u h.items) place u) t u (kept_of place q es) is none
+      ∙ ap (λ (x : Tuple). q x && there_at (versions_of x h.items) place x) (sym same)
+      ∙ ap (λ o. q t && there_at (versions_of t (rows_in o)) place t) (sym here)
   | inr apart ↦
       let past : found t ((u, h) ∷ es) ≡ found t es = ap (λ (b : Bool). cond b (Some h) (found t es)) (same_tie t u ∙ apart) in
-      skipped (meets q u && there_at (versions_of u h.items) place u) t u (kept_of place q es) apart
+      skipped (q u && there_at (versions_of u h.items) place u) t u (kept_of place q es) apart
       ∙ has_kept place q es t sorted.1
-      ∙ ap (λ o. meets q t && there_at (versions_of t (rows_in o)) place t) (sym past)
+      ∙ ap (λ o. q t && there_at (versions_of t (rows_in o)) place t) (sym past)
 ]
 
 tuple_equivalence : IsEquivalence tuple_eq
@@ -99,35 +100,50 @@ both false b h = absurd cc
 joined : (a b : Bool) → b ≡ true → a ≡ true → (a && b) ≡ true
 joined a b h k = ap (λ (x : Bool). x && b) k ∙ h
 
--- ascending tuples, and all that are there and meet the tupleset
-selection_of : (there : Tuple → Bool) (q : Tupleset) (ts : List Tuple) → AreAscending ts → ((t : Tuple) → list_any (tuple_eq t) ts ≡ (meets q t && there t)) → IsSelection there q ts
-selection_of there q ts up has = record {
+-- ascending tuples, and all that are there and pass the test
+pub picked_of : (there : Tuple → Bool) (q : Tuple → Bool) (ts : List Tuple) → AreAscending ts → ((t : Tuple) → list_any (tuple_eq t) ts ≡ (q t && there t)) → IsPicked there q ts
+picked_of there q ts up has = record {
   ascending = up;
   exact = λ t. (
-    λ h. both (meets q t) (there t) (sym (has t) ∙ list_any-from_Contains tuple_equivalence t ts h),
-    λ h. Contains-from_any tuple_same t ts (has t ∙ joined (meets q t) (there t) h.0 h.1),
+    λ h. both (q t) (there t) (sym (has t) ∙ list_any-from_Contains tuple_equivalence t ts h),
+    λ h. Contains-from_any tuple_same t ts (has t ∙ joined (q t) (there t) h.0 h.1),
   );
 }
 
--- the tuples of a table that are there and meet the tupleset are its selection
-pub kept_selection : (place : ℕ) (q : Tupleset) (es : Entries) → AreSorted es → IsSelection (there_at (listed es) place) q (kept_of place q es)
+same_tests : (a b : Bool) → (a ≡ true → b ≡ true) → (b ≡ true → a ≡ true) → a ≡ b
+same_tests true b f g = sym (f refl)
+same_tests false true f g = g refl
+same_tests false false f g = refl
+
+-- and back
+pub picked_any : (there : Tuple → Bool) (q : Tuple → Bool) (ts : List Tuple) → IsPicked there q ts → (t : Tuple) → list_any (tuple_eq t) ts ≡ (q t && there t)
+picked_any there q ts picked t = same_tests (list_any (tuple_eq t) ts) (q t && there t)
+    (λ has. let pair = (picked.exact t).0 (Contains-from_any tuple_same t ts has) in joined (q t) (there t) pair.0 pair.1)
+    (λ h. let pair = both (q t) (there t) h in list_any-from_Contains tuple_equivalence t ts ((picked.exact t).1 (pair.0, pair.1)))
+
+-- the tuples of a table that are there and pass a test
+pub kept_selection : (place : ℕ) (q : Tuple → Bool) (es : Entries) → AreSorted es → IsPicked (there_at (listed es) place) q (kept_of place q es)
 unfolding there_in
-kept_selection place q es sorted = selection_of (there_at (listed es) place) q (kept_of place q es) (ascending place q es sorted)
-    (λ t. has_kept place q es t sorted ∙ ap (λ (b : Bool). meets q t && b) (sym (there_at_own (listed es) place t ∙ ap (λ l. there_at l place t) (of_listed t es sorted))))
+kept_selection place q es sorted = picked_of (there_at (listed es) place) q (kept_of place q es) (ascending place q es sorted)
+    (λ t. has_kept place q es t sorted ∙ ap (λ (b : Bool). q t && b) (sym (there_at_own (listed es) place t ∙ ap (λ l. there_at l place t) (of_listed t es sorted))))
+
+-- what is there of all versions is there by the tuple's own rows
+pub there_by_rows : (t : Tuple) (rows : List Row) (all : List Version) (place : ℕ) → versions_of t rows ≡ of_tuple t all → there_at all place t ≡ there_at (versions_of t rows) place t
+there_by_rows t rows all place own = there_at_own all place t ∙ ap (λ (l : List Version). there_at l place t) (sym own)
 
 -- ---- a walk over those that stand side by side
 
 -- a walk from the first one on leaves none out
-pub kept_from_first : (place : ℕ) (q : Tupleset) (p : Tuple → Bool) → ((t : Tuple) → IsTuple t → meets q t ≡ true → p t ≡ true) → (es : Entries) → AllByRecursion IsTuple (keys_of es) → kept_of place q (filter (λ e. p e.0) es) ≡ kept_of place q es
+pub kept_from_first : (place : ℕ) (q : Tuple → Bool) (p : Tuple → Bool) → ((t : Tuple) → IsTuple t → q t ≡ true → p t ≡ true) → (es : Entries) → AllByRecursion IsTuple (keys_of es) → kept_of place q (filter (λ e. p e.0) es) ≡ kept_of place q es
 kept_from_first place q p passes [] spelled = refl
 kept_from_first place q p passes ((t, h) ∷ es) spelled = elim (cases_Bool (p t)) [
   | inl is ↦
       ap (λ (b : Bool). kept_of place q (cond b ((t, h) ∷ filter (λ e. p e.0) es) (filter (λ e. p e.0) es))) is
-      ∙ ap (λ (l : List Tuple). cond (meets q t && there_at (versions_of t h.items) place t) (t ∷ l) l) (kept_from_first place q p passes es spelled.1)
+      ∙ ap (λ (l : List Tuple). cond (q t && there_at (versions_of t h.items) place t) (t ∷ l) l) (kept_from_first place q p passes es spelled.1)
   | inr apart ↦
       ap (λ (b : Bool). kept_of place q (cond b ((t, h) ∷ filter (λ e. p e.0) es) (filter (λ e. p e.0) es))) apart
       ∙ kept_from_first place q p passes es spelled.1
-      ∙ sym (ap (λ (b : Bool). cond (b && there_at (versions_of t h.items) place t) (t ∷ kept_of place q es) (kept_of place q es)) (misses (meets q t) (p t) (passes t spelled.0) apart))
+      ∙ sym (ap (λ (b : Bool). cond (b && there_at (versions_of t h.items) place t) (t ∷ kept_of place q es) (kept_of place q es)) (misses (q t) (p t) (passes t spelled.0) apart))
 ]
   where
     misses : (m b : Bool) → (m ≡ true → b ≡ true) → b ≡ false → m ≡ false
@@ -139,18 +155,18 @@ pub record IsWalk (first : Tuple) (es : Entries) : Type 0 where
   pub in_order : AreSorted es
   pub above : AllByRecursion (λ (t : Tuple). is_le (tuple_cmp first t) ≡ true) (keys_of es)
 
-none_after : (place : ℕ) (q : Tupleset) (first t : Tuple) → IsFirst q first → is_le (tuple_cmp first t) ≡ true → meets q t ≡ false → (es : Entries) → AllByRecursion (λ y. ghosts.cmp t y ≡ Less) (keys_of es) → kept_of place q es ≡ []
+none_after : (place : ℕ) (q : Tuple → Bool) (first t : Tuple) → IsFirst q first → is_le (tuple_cmp first t) ≡ true → q t ≡ false → (es : Entries) → AllByRecursion (λ y. ghosts.cmp t y ≡ Less) (keys_of es) → kept_of place q es ≡ []
 none_after place q first t is low misses [] above = refl
 none_after place q first t is low misses ((u, h) ∷ es) above =
-    ap (λ (b : Bool). cond (b && there_at (versions_of u h.items) place u) (u ∷ kept_of place q es) (kept_of place q es)) (out (meets q u) (is.within t u low (sym (same_order t u) ∙ above.0)))
+    ap (λ (b : Bool). cond (b && there_at (versions_of u h.items) place u) (u ∷ kept_of place q es) (kept_of place q es)) (out (q u) (is.within t u low (sym (same_order t u) ∙ above.0)))
     ∙ none_after place q first t is low misses es above.1
   where
-    out : (m : Bool) → (m ≡ true → meets q t ≡ true) → m ≡ false
+    out : (m : Bool) → (m ≡ true → q t ≡ true) → m ≡ false
     out true implies = sym (implies refl) ∙ misses
     out false implies = refl
 
--- behind one that does not meet the tupleset none does
-pub none_left : (place : ℕ) (q : Tupleset) (first t : Tuple) (h : Vec Row) (es : Entries) → IsFirst q first → IsWalk first ((t, h) ∷ es) → meets q t ≡ false → kept_of place q ((t, h) ∷ es) ≡ []
+-- behind one that does not pass the test none does
+pub none_left : (place : ℕ) (q : Tuple → Bool) (first t : Tuple) (h : Vec Row) (es : Entries) → IsFirst q first → IsWalk first ((t, h) ∷ es) → q t ≡ false → kept_of place q ((t, h) ∷ es) ≡ []
 unfolding IsStrictlySortedBy
 none_left place q first t h es is walk misses =
     ap (λ (b : Bool). cond (b && there_at (versions_of t h.items) place t) (t ∷ kept_of place q es) (kept_of place q es)) misses
@@ -198,8 +214,8 @@ from_low first t h = and_true (is_le (ghosts.cmp first t)) ∙ ap is_le (same_or
 
 -- an entry that is kept, and one that is not
 
-pub keeps_first : (place : ℕ) (q : Tupleset) (t : Tuple) (h : Vec Row) (es : Entries) → meets q t ≡ true → there_at (versions_of t h.items) place t ≡ true → kept_of place q ((t, h) ∷ es) ≡ t ∷ kept_of place q es
+pub keeps_first : (place : ℕ) (q : Tuple → Bool) (t : Tuple) (h : Vec Row) (es : Entries) → q t ≡ true → there_at (versions_of t h.items) place t ≡ true → kept_of place q ((t, h) ∷ es) ≡ t ∷ kept_of place q es
 keeps_first place q t h es has there = rw has (rw there refl)
 
-pub skips_first : (place : ℕ) (q : Tupleset) (t : Tuple) (h : Vec Row) (es : Entries) → there_at (versions_of t h.items) place t ≡ false → kept_of place q ((t, h) ∷ es) ≡ kept_of place q es
-skips_first place q t h es gone = ap (λ (b : Bool). cond (meets q t && b) (t ∷ kept_of place q es) (kept_of place q es)) gone ∙ ap (λ (b : Bool). cond b (t ∷ kept_of place q es) (kept_of place q es)) (and_false (meets q t))
+pub skips_first : (place : ℕ) (q : Tuple → Bool) (t : Tuple) (h : Vec Row) (es : Entries) → there_at (versions_of t h.items) place t ≡ false → kept_of place q ((t, h) ∷ es) ≡ kept_of place q es
+skips_first place q t h es gone = ap (λ (b : Bool). cond (q t && b) (t ∷ kept_of place q es) (kept_of place q es)) gone ∙ ap (λ (b : Bool). cond b (t ∷ kept_of place q es) (kept_of place q es)) (and_false (q t))

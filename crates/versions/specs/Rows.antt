@@ -1,22 +1,23 @@
 -- Rows as a shard has them: each tuple with its versions.
-use Rattle.std.specs.Prelude.{ℕ, ◌≡◌, Bool, true, ◌&&◌, ◌||◌, max, nat_le, nat_lt, List, [], ◌∷◌, map, filter, Option, None, Some, if◌then◌else◌}
+use Rattle.std.specs.Prelude.{ℕ, ◌≡◌, ◌↔◌, Bool, true, ◌&&◌, ◌||◌, max, nat_le, nat_lt, List, [], ◌∷◌, map, filter, Option, None, Some, if◌then◌else◌, Contains}
 use Rattle.std.specs.List.{AllByRecursion, flat_map}
 use Rattle.std.specs.List.Sorted.{IsPermutation, IsSorted, IsStrictlySortedBy}
 use Rattle.std.specs.Map.{keys_of, lookup}
 use Rattle.std.specs.BTreeMap.{is_at}
-use Rattle.std.specs.Ordering.{is_le, nat_cmp, ordering_then}
+use Rattle.std.specs.Ordering.{is_eq, is_le, nat_cmp, ordering_then}
 use Rattle.std.specs.Global.{Vec}
 use Rattle.std.specs.declared.cmp.Ordering.{Ordering}
 use Rattle.std.specs.declared.cmp.Ordering.TheVariants.{Less}
 use Rattle.tuples.specs.declared.change.Change.{Change}
 use Rattle.tuples.specs.declared.change.Change.TheVariants.{Touch, Delete}
 use Rattle.tuples.specs.declared.tuple.Tuple.{Tuple}
-use Rattle.tuples.specs.declared.tupleset.Tupleset.{Tupleset}
+use Rattle.tuples.specs.declared.object.Userset.{Userset}
 use Rattle.tuples.specs.declared.version.Version.{Version}
 use Rattle.tuples.specs.contracts.tuple.TupleOrd.TheImpl.{ghosts}
 use Rattle.tuples.specs.Changes.{tuple_of}
-use Rattle.tuples.specs.Order.{tuple_cmp}
-use Rattle.tuples.specs.Reads.{meets}
+use Rattle.tuples.specs.Order.{object_cmp, tuple_cmp}
+use Rattle.tuples.specs.Reads.{AreAscending, same_name}
+use Rattle.tuples.specs.Walking.{is_set}
 use Rattle.tuples.specs.Texts.{IsTuple}
 use Rattle.versions.specs.declared.history.Row.{Row}
 
@@ -49,10 +50,23 @@ pub record IsTable (es : List (Tuple × Vec Row)) : Type 0 where
   pub in_order : IsStrictlySortedBy ghosts.cmp (keys_of es)
   pub spelled : AllByRecursion IsTuple (keys_of es)
 
--- a walk from this tuple on, in the order of tuples, begins before all that meet the tupleset, and passes no other before the last of them
-pub record IsFirst (q : Tupleset) (first : Tuple) : Type 0 where
-  pub before : (t : Tuple) → IsTuple t → meets q t ≡ true → is_le (tuple_cmp first t) ≡ true
-  pub within : (t u : Tuple) → is_le (tuple_cmp first t) ≡ true → tuple_cmp t u ≡ Less → meets q u ≡ true → meets q t ≡ true
+-- the tuples of a set that pass a test, ascending
+pub record IsPicked (there test : Tuple → Bool) (rows : List Tuple) : Type 0 where
+  pub ascending : AreAscending rows
+  pub exact : (t : Tuple) → Contains rows t ↔ ((there t ≡ true) × (test t ≡ true))
+
+-- a walk from this tuple on, in the order of tuples, begins before all that pass the test, and passes no other before the last of them
+pub record IsFirst (test : Tuple → Bool) (first : Tuple) : Type 0 where
+  pub before : (t : Tuple) → IsTuple t → test t ≡ true → is_le (tuple_cmp first t) ≡ true
+  pub within : (t u : Tuple) → is_le (tuple_cmp first t) ≡ true → tuple_cmp t u ≡ Less → test u ≡ true → test t ≡ true
+
+-- the tuple is one of the userset, and its user is a userset
+abbrev pub is_set_of : Userset → Tuple → Bool
+is_set_of x t = is_eq (object_cmp t.object x.object) && (same_name t.relation x.relation && is_set t.user)
+
+-- the userset before which no other stands
+abbrev pub lowest_userset : Userset
+lowest_userset = record { object = record { namespace = 48 ∷ []; id = 33 ∷ [] }; relation = 48 ∷ [] }
 
 -- the relation, or the first one of all
 abbrev pub first_relation : Option (List ℕ) → List ℕ

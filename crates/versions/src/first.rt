@@ -2,10 +2,11 @@
 ghost use Rattle.std.specs.Prelude.{◌≡◌, ◌∷◌, [], IfOk};
 ghost use Rattle.tuples.specs.Texts.{IsTuple, IsUser};
 ghost use Rattle.tuples.specs.declared.tupleset.Tupleset.TheVariants.{OfObject as of_object};
-ghost use Rattle.versions.specs.Rows.{IsFirst, first_relation};
+ghost use Rattle.tuples.specs.Reads.{meets};
+ghost use Rattle.versions.specs.Rows.{IsFirst, first_relation, is_set_of, lowest_userset};
 
 use std::alloc::{AllocError, Global};
-use tuples::{Id, Object, Relation, Tuple, User};
+use tuples::{Id, Namespace, Object, Relation, Tuple, User, Userset};
 
 /// A tuple before which no tuple of the object stands, with this relation where one is given.
 pub(crate) fn first_of(
@@ -13,7 +14,7 @@ pub(crate) fn first_of(
     object: &Object,
     relation: &Option<Relation>,
 ) -> Result<Tuple, AllocError>
-    ensures { IfOk result (λ first. IsFirst (of_object object.now relation.now) first) }
+    ensures { IfOk result (λ first. IsFirst (meets (of_object object.now relation.now)) first) }
 {
     let object = object.clone()?;
     let relation = relation_or_first(alloc, relation)?;
@@ -23,6 +24,42 @@ pub(crate) fn first_of(
         relation,
         user: User::Id(id),
     })
+}
+
+/// A tuple before which no tuple of the userset stands that names a userset.
+pub(crate) fn first_set_of(alloc: Global, userset: &Userset) -> Result<Tuple, AllocError>
+    ensures { IfOk result (λ first. IsFirst (is_set_of userset.now) first) }
+{
+    let object = userset.object.clone()?;
+    let relation = userset.relation.clone()?;
+    let lowest = lowest_set(alloc)?;
+    Ok(Tuple {
+        object,
+        relation,
+        user: User::Set(lowest),
+    })
+}
+
+// `0:!#0`, before which no userset stands
+fn lowest_set(alloc: Global) -> Result<Userset, AllocError>
+    ensures { IfOk result (λ y. y ≡ lowest_userset) }
+{
+    let namespace = first_namespace(alloc)?;
+    let id = first_id(alloc)?;
+    let relation = relation_or_first(alloc, &None)?;
+    Ok(Userset {
+        object: Object { namespace, id },
+        relation,
+    })
+}
+
+fn first_namespace(alloc: Global) -> Result<Namespace, AllocError>
+    ensures { IfOk result (λ n. n ≡ 48 ∷ []) }
+{
+    match Namespace::from_vec(vec![in alloc; b'0']?) {
+        Ok(namespace) => Ok(namespace),
+        Err(_) => Err(AllocError),
+    }
 }
 
 fn relation_or_first(alloc: Global, relation: &Option<Relation>) -> Result<Relation, AllocError>

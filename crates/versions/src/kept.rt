@@ -1,12 +1,12 @@
 // The tuples of a table that are there at a place, in the order of tuples.
 ghost use Rattle.std.specs.Prelude.{IfOk};
-ghost use Rattle.tuples.specs.Reads.{IsSelection};
+ghost use Rattle.tuples.specs.Reads.{IsSelection, meets};
 ghost use Rattle.tuples.specs.Versions.{there_at};
-ghost use Rattle.versions.specs.Rows.{IsFirst, IsTable, listed};
+ghost use Rattle.versions.specs.Rows.{IsFirst, IsPicked, IsTable, listed};
 
+use crate::asks::Asks;
 use crate::first::first_of;
 use crate::history::{Row, is_there_at};
-use crate::meets::meets_set;
 use crate::table::copy;
 use std::alloc::{AllocError, Global};
 use std::collections::BTreeMap;
@@ -31,21 +31,21 @@ pub(crate) fn kept_at(
     }
 }
 
-// Those that meet the tupleset stand side by side.
-fn kept_from(
+/// Copies of the tuples that are there at a place and asked for, ascending. Those that are asked for stand side by side, from the first on.
+pub(crate) fn kept_from<Q: Asks>(
     table: &BTreeMap<Tuple, Vec<Row>>,
     alloc: Global,
     place: u64,
-    set: &Tupleset,
+    asked: &Q,
     first: Tuple,
 ) -> Result<Vec<Tuple>, AllocError>
     requires table { IsTable table.now.entries }
-    requires first { IsFirst set.now first }
-    ensures { IfOk result (λ tuples. IsSelection (there_at (listed table.now.entries) place) set.now tuples.items) }
+    requires first { IsFirst (Q.asks asked.now) first }
+    ensures { IfOk result (λ tuples. IsPicked (there_at (listed table.now.entries) place) (Q.asks asked.now) tuples.items) }
 {
     let mut tuples = Vec::new(alloc);
     for (tuple, rows) in table.range(first..) {
-        if !meets_set(set, tuple) {
+        if !asked.asks_for(tuple) {
             return Ok(tuples);
         }
         if is_there_at(rows, place) {
@@ -62,11 +62,11 @@ fn kept_of_all(
     set: &Tupleset,
 ) -> Result<Vec<Tuple>, AllocError>
     requires { IsTable table.now.entries }
-    ensures { IfOk result (λ tuples. IsSelection (there_at (listed table.now.entries) place) set.now tuples.items) }
+    ensures { IfOk result (λ tuples. IsPicked (there_at (listed table.now.entries) place) (meets set.now) tuples.items) }
 {
     let mut tuples = Vec::new(alloc);
     for (tuple, rows) in table {
-        if meets_set(set, tuple) && is_there_at(rows, place) {
+        if set.asks_for(tuple) && is_there_at(rows, place) {
             tuples.push(copy(tuple)?)?;
         }
     }

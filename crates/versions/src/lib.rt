@@ -8,11 +8,12 @@
 #![tactic(auto)]
 
 mod applying;
+mod asks;
+mod checking;
 mod first;
 mod history;
 mod kept;
 mod listing;
-mod meets;
 mod table;
 #[cfg(test)]
 mod tests;

@@ -2,6 +2,7 @@
 ghost use Rattle.std.specs.Prelude.{◌≡◌, ◌++◌, [], OnOk, OnErr, IfOk};
 ghost use Rattle.tuples.specs.Versions.{collected, last_version, placed, there_at};
 ghost use Rattle.tuples.specs.Reads.{IsSelection};
+ghost use Rattle.tuples.specs.Walking.{IsCheckSelection};
 ghost use Rattle.versions.specs.Alike.{AlikeReadsAlike, AreAlike};
 ghost use Rattle.versions.specs.Last.{NewestIsLast};
 ghost use Rattle.versions.specs.Rows.{AreRows};
@@ -9,11 +10,11 @@ ghost use Rattle.versions.specs.Rows.{AreRows};
 use crate::history::{Row, is_there_at, last_place};
 use crate::kept::kept_at;
 use crate::listing::list;
-use crate::{applying, table};
+use crate::{applying, checking, table};
 use std::alloc::{AllocError, Global};
 use std::collections::BTreeMap;
 use std::marker::Model;
-use tuples::{Change, Tuple, Tupleset, Version};
+use tuples::{Change, Tuple, Tupleset, User, Userset, Version};
 
 /// The versions of tuples, which contracts see as a list. Of it only the order within one tuple is promised.
 ///
@@ -89,6 +90,19 @@ impl Versions {
         ensures { IfOk result (λ tuples. IsSelection (there_at self.now place) set.now tuples.items) }
     {
         kept_at(&self.rows, alloc, place, set)
+    }
+
+    /// The tuples that are there at a place and that a check asks of a userset, ascending: that of the user, and those of usersets.
+    pub fn asked_at(
+        &self,
+        alloc: Global,
+        place: u64,
+        userset: &Userset,
+        user: &User,
+    ) -> Result<Vec<Tuple>, AllocError>
+        ensures { IfOk result (λ tuples. IsCheckSelection (there_at self.now place) userset.now user.now tuples.items) }
+    {
+        checking::asked_at(&self.rows, alloc, place, userset, user)
     }
 
     /// Copies of all versions, by tuple and then by place.

@@ -2,18 +2,17 @@ use Rattle.std.proofs.Common.{◌≡◌, ◌++◌, ◌∷◌, [], ◌&&◌, true
 use Rattle.std.specs.Ordering.{is_le}
 use Rattle.tuples.specs.contracts.tuple.TupleOrd.TheImpl.{ghosts}
 use Rattle.tuples.specs.declared.tuple.Tuple.{Tuple}
-use Rattle.tuples.specs.Reads.{IsSelection, meets}
 use Rattle.tuples.specs.Versions.{there_at}
-use Rattle.versions.specs.Rows.{listed, versions_of}
+use Rattle.versions.specs.Rows.{IsPicked, listed, versions_of}
 use Rattle.versions.specs.declared.history.Row.{Row}
 use Rattle.versions.proofs.Selected.{IsWalk, from_low, keeps_first, kept_from_first, kept_of, kept_selection, low_from, none_left, skips_first, walk_from, walk_rest}
 use Rattle.versions.proofs.Tables.{Entries}
 use Rattle.versions.proofs.kept.kept_from.Goals as goal
 
 pub loop-tuple-init : goal.loop-tuple-init
-loop-tuple-init c =
+loop-tuple-init g c =
     let place = c.args.place in
-    let q = c.args.set.now in
+    let q = g.Q.Asks.asks c.args.asked.now in
     let first = c.args.first in
     let es : Entries = c.args.table.now.entries in
     let gives : c.into_iter-tuple-iterator.result ≡ filter (λ e. is_le (ghosts.cmp first e.0) && true) es = c.into_iter-tuple-iterator.ensures.into_iter_gives ∙ c.range-tuple-items.ensures.between tt in (
@@ -24,9 +23,9 @@ loop-tuple-init c =
     )
 
 pub loop-tuple-preserved : goal.loop-tuple-preserved
-loop-tuple-preserved c =
+loop-tuple-preserved g c =
     let place = c.args.place in
-    let q = c.args.set.now in
+    let q = g.Q.Asks.asks c.args.asked.now in
     let t = c.in-Some.tuple.now in
     let h = c.in-Some.rows.now in
     let rest : Entries = c.next.new.self in
@@ -38,15 +37,15 @@ loop-tuple-preserved c =
     )
 
 pub loop-tuple-preserved-in_ok-push : goal.loop-tuple-preserved-in_ok-push
-loop-tuple-preserved-in_ok-push c =
+loop-tuple-preserved-in_ok-push g c =
     let place = c.args.place in
-    let q = c.args.set.now in
+    let q = g.Q.Asks.asks c.args.asked.now in
     let t = c.in-Some.tuple.now in
     let h = c.in-Some.rows.now in
     let rest : Entries = c.next.new.self in
     let items : List Tuple = c.loop-tuple.tuples.items in
     let cut : c.loop-tuple.tuple-iterator ≡ (t, h) ∷ rest = search rules in
-    let has : meets q t ≡ true = search rules in
+    let has : q t ≡ true = search rules in
     let there : there_at (versions_of t h.items) place t ≡ true = ap (λ (l : List Row). there_at (versions_of t l) place t) (sym c.deref.ensures.value) ∙ sym (c.is_there_at.ensures t) ∙ c.if-is_there_at.true in
     let pushed : c.push.new.self.items ≡ items ++ t ∷ [] = search rules in (
       walk_rest c.args.first t h rest (subst (IsWalk c.args.first) cut c.loop-tuple.invariant.0),
@@ -57,24 +56,24 @@ loop-tuple-preserved-in_ok-push c =
           ∙ c.loop-tuple.invariant.1,
     )
 
-pub returns-then-not-meets_set : goal.returns-then-not-meets_set
-returns-then-not-meets_set c =
+pub returns-then-not-asks_for : goal.returns-then-not-asks_for
+returns-then-not-asks_for g c =
     let place = c.args.place in
-    let q = c.args.set.now in
+    let q = g.Q.Asks.asks c.args.asked.now in
     let t = c.in-Some.tuple.now in
     let h = c.in-Some.rows.now in
     let rest : Entries = c.next.new.self in
     let items : List Tuple = c.loop-tuple.tuples.items in
     let cut : c.loop-tuple.tuple-iterator ≡ (t, h) ∷ rest = search rules in
-    let misses : meets q t ≡ false = search rules in
+    let misses : q t ≡ false = search rules in
     let none : kept_of place q c.loop-tuple.tuple-iterator ≡ [] = ap (λ (l : Entries). kept_of place q l) cut ∙ none_left place q c.args.first t h rest c.requires.first (subst (IsWalk c.args.first) cut c.loop-tuple.invariant.0) misses in
     let all : items ≡ kept_of place q c.args.table.now.entries = sym (append-nil items) ∙ ap (λ (l : List Tuple). items ++ l) (sym none) ∙ c.loop-tuple.invariant.1 in
-    subst (IsSelection (there_at (listed c.args.table.now.entries) place) q) (sym all) (kept_selection place q c.args.table.now.entries c.requires.table.in_order)
+    subst (IsPicked (there_at (listed c.args.table.now.entries) place) q) (sym all) (kept_selection place q c.args.table.now.entries c.requires.table.in_order)
 
 pub returns : goal.returns
-returns c =
+returns g c =
     let items : List Tuple = c.loop-tuple.tuples.items in
     let place = c.args.place in
-    let q = c.args.set.now in
+    let q = g.Q.Asks.asks c.args.asked.now in
     let all : items ≡ kept_of place q c.args.table.now.entries = sym (append-nil items) ∙ ap (λ (l : Entries). items ++ kept_of place q l) (sym c.in-None.ensures.steps.0) ∙ c.loop-tuple.invariant.1 in
-    subst (IsSelection (there_at (listed c.args.table.now.entries) place) q) (sym all) (kept_selection place q c.args.table.now.entries c.requires.table.in_order)
+    subst (IsPicked (there_at (listed c.args.table.now.entries) place) q) (sym all) (kept_selection place q c.args.table.now.entries c.requires.table.in_order)
