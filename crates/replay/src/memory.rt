@@ -16,9 +16,7 @@ use holds::Holds;
 use records::{Identity, PlacedId, Record};
 use std::alloc::{AllocError, Global};
 use std::marker::Model;
-use tuples::{
-    Condition, Entry, Refusal, Tuple, Tupleset, User, Userset, Version, Want, WriteId,
-};
+use tuples::{Condition, Entry, Refusal, Tuple, Tupleset, User, Userset, Version, Want, WriteId};
 use versions::Versions;
 
 /// What a shard knows, which contracts see as the state that its records stand for.

@@ -1,5 +1,4 @@
-use Rattle.std.proofs.Common.{◌≡◌, ◌∷◌, List, Bool, true, false, cond, sym, ap, ◌∙◌, rules}
-use Rattle.tuples.specs.declared.tuple.Tuple.{Tuple}
+use Rattle.std.proofs.Common.{◌≡◌, ◌∷◌, Bool, true, false, cond, sym, ap, ◌∙◌, rules}
 use Rattle.tuples.specs.Versions.{there_at}
 use Rattle.versions.specs.Rows.{listed}
 use Rattle.versions.proofs.Selected.{there_by_rows}

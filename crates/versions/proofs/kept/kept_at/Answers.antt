@@ -1,9 +1,4 @@
-use Rattle.std.proofs.Common.{◌≡◌, List, sym, ap, subst, rules}
-use Rattle.std.proofs.lemmas.Result.{IfOk-weaker}
-use Rattle.tuples.specs.declared.tuple.Tuple.{Tuple}
-use Rattle.tuples.specs.declared.tupleset.Tupleset.{Tupleset}
-use Rattle.tuples.specs.Reads.{meets}
-use Rattle.versions.specs.Rows.{IsFirst}
+use Rattle.std.proofs.Common.{◌≡◌, rules}
 use Rattle.versions.proofs.Firsts.{key_first}
 use Rattle.versions.proofs.kept.kept_at.Goals as goal
 
