@@ -46,3 +46,5 @@ pub mod ShardFlushTurn
 pub mod AlikeRecords
 pub mod OnceEach
 pub mod CheckWalk
+pub mod SeesOn
+pub mod QuietTurns

@@ -14,6 +14,7 @@ mod flush_laws;
 mod heads_laws;
 mod opening_laws;
 mod prepare_laws;
+mod quiet_laws;
 mod raising_laws;
 mod reading_laws;
 mod restart_laws;
@@ -55,6 +56,11 @@ pub use opening_laws::openings_of_shards_leave_the_store_standing;
 pub use prepare_laws::{
     broken_shards_have_cause, busy_shards_have_cause, collected_shards_have_cause,
     full_shards_have_cause, prepared_conditions_are_met,
+};
+pub use quiet_laws::{
+    away_nodes_have_cause, quiet_calls_answer, quiet_calls_end_cancelled_flows, quiet_calls_keep,
+    quiet_calls_refuse, quiet_calls_take_their_turn, refused_flows_end, refused_writes_go_out,
+    writes_spend_what_they_hold,
 };
 pub use raising_laws::horizons_leave_the_store_standing;
 pub use reading_laws::{

@@ -1,0 +1,5 @@
+use Rattle.turns.proofs.QuietTurns.{quiet_calls_keep}
+use Rattle.turns.proofs.quiet_laws.quiet_calls_keep.Goals as goal
+
+pub returns : goal.returns
+returns g c = λ store shards. quiet_calls_keep store shards g.W.Leavings.left g.W.Leavings.left_after
