@@ -1,0 +1,4 @@
+pub mod Escapes
+pub mod Growing
+pub mod Listed
+pub mod Wholes

@@ -1,14 +1,17 @@
 //! The texts of answers.
 //!
-//! Keeps: a text is compact JSON, its keys in byte order, without a line feed.
-//! Never: writes to anything, or looks at a store.
-//! Callers rely on: the text for refused memory takes none.
+//! Keeps: a text is compact JSON, its keys in byte order, without a line feed; it is appended whole or not at all.
+//! Never: takes memory but for the text itself, or looks at a store.
+//! Callers rely on: a text is refused only where the vector had no room for all of it.
 //!
 //! Start at `specs/Texts.antt`.
 #![tactic(auto)]
 
+mod answer;
+mod lists;
+mod strings;
 #[cfg(test)]
 mod tests;
-mod texts;
+mod text;
 
-pub use texts::{no_memory_text, refusal_text};
+pub use answer::{Answer, Events, Membership, Rows, Written, write_refusal};

@@ -1,0 +1,10 @@
+use Rattle.std.proofs.Common.{ap}
+use Rattle.serde_json.specs.Written.{compact_text}
+use Rattle.json.specs.Print.{escape_byte}
+use Rattle.answers.specs.Texts.{sets_json}
+use Rattle.answers.proofs.Growing.{grown_as, grown_then}
+use Rattle.answers.proofs.answer.push_rows.Goals as goal
+
+pub returns : goal.returns
+unfolding escape_byte
+returns c = grown_then c.push-is_full.ensures (grown_then (grown_as (ap (λ l. compact_text (sets_json l)) c.deref.ensures.value) c.push_sets-is_full.ensures) (grown_then c.push-is_full-2.ensures c.push_end.ensures))
