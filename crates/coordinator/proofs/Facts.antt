@@ -125,19 +125,24 @@ module _ {D : Type 0} (v : CoordinatorView D) (l : LedgerValue) (epoch kept hori
     there = found_kept (kept_of v) (memory_of v) l epoch kept horizon rising r id place p le;
     own = p.same;
     place_is = let at = found_at (kept_of v) (memory_of v) l epoch kept horizon rising r id place p in let b = r.same_base in omega (arith, at, b);
+    above =
+        let at = found_at (kept_of v) (memory_of v) l epoch kept horizon rising r id place p in
+        let up = found_above (kept_of v) (memory_of v) l epoch kept horizon rising r id place p in
+        let h = r.horizon_is in
+        omega (arith, at, up, h);
   }
 
   pub finds_staged : v.is_down ≡ false → (place : ℕ) → IsPlaceOf id l.base l.log place → kept < place → FindsNothingYet v id
   finds_staged up place p lt = record {
     is_up = up;
-    not_kept = λ q f above. staged_alone (kept_of v) (memory_of v) l epoch kept horizon rising r id place p lt f.index f.write f.there f.own (let h = r.horizon_is in let i = f.place_is in omega (arith, above, h, i));
+    not_kept = λ q f. staged_alone (kept_of v) (memory_of v) l epoch kept horizon rising r id place p lt f.index f.write f.there f.own (let h = r.horizon_is in let i = f.place_is in let a = f.above in omega (arith, a, h, i));
     not_aborted = λ none. none.none (decided_above place p);
   }
 
   pub finds_waiting : v.is_down ≡ false → IsOther id l.log → (Contains v.open_ids id ⊎ (IsGivenAt v id → ⊥)) → FindsNothingYet v id
   finds_waiting up other waits = record {
     is_up = up;
-    not_kept = λ q f above. kept_not_above (kept_of v) (memory_of v) l epoch kept horizon rising r id other f.index f.write f.there (let i = f.place_is in omega (arith, above, i)) f.own;
+    not_kept = λ q f. kept_not_above (kept_of v) (memory_of v) l epoch kept horizon rising r id other f.index f.write f.there (let i = f.place_is in let a = f.above in omega (arith, a, i)) f.own;
     not_aborted = λ none. ⊎_elim (λ there. none.closed there) (λ never. never none.given) waits;
   }
 

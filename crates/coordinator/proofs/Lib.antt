@@ -3,3 +3,4 @@ pub mod Facts
 pub mod Kept
 pub mod OpenIds
 pub mod Openings
+pub mod CountedVotes

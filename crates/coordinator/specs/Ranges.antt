@@ -2,8 +2,7 @@
 use Rattle.std.specs.Prelude.{◌≡◌, ◌≤◌, ◌<◌, ℕ, List, Some, Contains, slice_get}
 use Rattle.tuples.specs.declared.change.Condition.{Condition}
 use Rattle.tuples.specs.declared.change.Want.{Want}
-use Rattle.tuples.specs.declared.entry.WriteId.{WriteId}
-use Rattle.decisions.specs.Values.{SettledValue, VoteValue}
+use Rattle.decisions.specs.Values.{SettledValue}
 use Rattle.tuples.specs.declared.change.Want.TheVariants.{NotAfter, Exists, Absent}
 
 -- what is wanted names a place above the end
@@ -34,7 +33,3 @@ pub record FirstOut (horizon end : ℕ) (conditions : List Condition) (P : Want 
 -- the shard has settled at least to the place
 abbrev pub HasSettled : ℕ → ℕ → List SettledValue → Type 0
 HasSettled shard place settled = (x : SettledValue) × Contains settled x × (x.shard ≡ shard) × (place ≤ x.place)
-
--- the shard has voted for the write
-abbrev pub HasVoted : ℕ → WriteId → List VoteValue → Type 0
-HasVoted shard id votes = (v : VoteValue) × Contains votes v × (v.shard ≡ shard) × (v.id ≡ id)

@@ -102,6 +102,13 @@ impl<D: Device> Coordinator<D> {
         self.horizon
     }
 
+    /// Which node of which store it is.
+    pub fn identity(&self) -> Identity
+        ensures { result ≡ self.now.me }
+    {
+        self.me
+    }
+
     /// Whether a flush failed since the opening.
     pub fn is_down(&self) -> bool
         ensures { result ≡ self.now.is_down }

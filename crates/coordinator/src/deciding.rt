@@ -88,7 +88,7 @@ fn spent(refusal: Refusal, intent: Intent, votes: Vec<Vote>) -> NotDecided
 }
 
 impl<D: Device> Coordinator<D> {
-    /// Decides an open write, at the next place, by the votes of all shards that take part in it. The decision is staged: it is no promise
+    /// Decides an open write, at the next place, by one vote of each shard that takes part in it. The decision is staged: it is no promise
     /// before a flush. Several can be staged and flushed together.
     ///
     /// Nothing has changed after a refusal; they are tested in this order: `Down`, `Aborted` where the write is not open (or its id is one

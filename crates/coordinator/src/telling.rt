@@ -37,7 +37,7 @@ impl Outcome {
 /// What became of the write with an id.
 #[derive(Drop)]
 pub enum Inquiry {
-    /// It is decided, at this place, and every stop leaves the decision.
+    /// It is decided, at this place above the horizon, and every stop leaves the decision.
     Commit(u64),
     /// It was given out, is not open, and no decision above the horizon has it.
     Abort(Verdict),
@@ -79,8 +79,8 @@ impl<D: Device> Coordinator<D> {
         id.epoch < self.epoch || (id.epoch == self.epoch && id.number <= self.given)
     }
 
-    /// What became of the write with this id: a commit only by a durable decision, an abort only where it was given out and is neither open nor
-    /// decided above the horizon. `Down` where a device failed.
+    /// What became of the write with this id: a commit only by a durable decision above the horizon, an abort only where it was given out and is
+    /// neither open nor decided above the horizon. `Down` where a device failed.
     pub fn inquire(&self, id: WriteId) -> Result<Inquiry, Refusal>
         ensures commit { (place : _) → IsRunning D.state D.honest self.now → result ≡ Ok (Commit place) → FindsAt self.now id place }
         ensures abort { (v : _) → IsRunning D.state D.honest self.now → result ≡ Ok (Abort v) → (v.id ≡ id) × FindsNone self.now id }

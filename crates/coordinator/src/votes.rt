@@ -1,81 +1,41 @@
-// Whether all shards that take part in a write have voted for it.
-ghost use Rattle.std.specs.Prelude.{true, false, ◌≡◌, ◌↔◌, ◌≤◌, ◌==◌, IsTrue};
-ghost use Rattle.std.specs.List.{list_any};
-ghost use Rattle.tuples.specs.Changes.{tuple_of};
-ghost use Rattle.tuples.specs.Parts.{shard_of as shard_number, takes_part as takes_part_in};
+// Whether the votes for a write are exactly one of each shard that takes part in it.
+ghost use Rattle.std.specs.Prelude.{ℕ, ◌≡◌, ◌≢◌, ◌↔◌, ◌<◌, ◌≤◌, IsTrue, IsBitSet};
+ghost use Rattle.tuples.specs.Limits.{IsShardCount, max_shards};
 ghost use Rattle.decisions.specs.Coordinators.{HaveVoted};
-ghost use Rattle.coordinator.specs.Ranges.{HasVoted};
 
 use decisions::{Intent, Vote};
-use tuples::{Change, Condition, Entry, WriteId, shard_of};
 
-fn changes_name(changes: &[Change], shards: u8, shard: u8) -> bool
-    requires some { 1 ≤ shards }
-    requires few { shards ≤ 64 }
-    ensures { result ≡ list_any (λ c. shard_number shards (tuple_of c).object == shard) changes.now }
+// Shards as the bits of one number: whether the bit of this one is set.
+fn is_set(bits: u64, shard: u8) -> bool
+    requires { shard < max_shards }
+    ensures { IsTrue result ↔ IsBitSet bits shard }
 {
-    for change in changes {
-        if shard_of(&change.tuple().object, shards) == shard {
-            return true;
-        }
-    }
-    false
+    bits & (1 << shard) != 0
 }
 
-fn conditions_name(conditions: &[Condition], shards: u8, shard: u8) -> bool
-    requires some { 1 ≤ shards }
-    requires few { shards ≤ 64 }
-    ensures { result ≡ list_any (λ c. shard_number shards c.tuple.object == shard) conditions.now }
+// The bits but that of the shard.
+fn without(bits: u64, shard: u8) -> u64
+    requires { shard < max_shards }
+    ensures others { (s : ℕ) → s < max_shards → IsBitSet result s ↔ (IsBitSet bits s × (s ≢ shard)) }
+    ensures few { result ≤ bits }
 {
-    for condition in conditions {
-        if shard_of(&condition.tuple.object, shards) == shard {
-            return true;
-        }
-    }
-    false
+    bits & !(1 << shard)
 }
 
-fn takes_part(write: &Entry, shards: u8, shard: u8) -> bool
-    requires some { 1 ≤ shards }
-    requires few { shards ≤ 64 }
-    ensures { result ≡ takes_part_in shards shard write.now }
-{
-    changes_name(write.changes.as_slice(), shards, shard)
-        || conditions_name(write.conditions.as_slice(), shards, shard)
-}
-
-fn has_voted(shard: u8, id: WriteId, votes: &[Vote]) -> bool
-    ensures { IsTrue result ↔ HasVoted shard id votes.now }
-{
-    votes
-        .iter()
-        .any(|vote| vote.shard() == shard && vote.id() == id)
-}
-
-// Whether a shard takes part in the write and has not voted for it.
-fn lacks_vote(write: &Entry, shards: u8, shard: u8, votes: &[Vote]) -> bool
-    requires some { 1 ≤ shards }
-    requires few { shards ≤ 64 }
-    ensures no { result ≡ false → takes_part_in shards shard write.now ≡ true → HasVoted shard write.now.id votes.now }
-    ensures yes { result ≡ true → (takes_part_in shards shard write.now ≡ true) × (HasVoted shard write.now.id votes.now → ⊥) }
-{
-    if !takes_part(write, shards, shard) {
-        return false;
-    }
-    !has_voted(shard, write.id, votes)
-}
-
-/// Whether each shard of so many that takes part in the write has voted for it.
+/// Whether the votes are exactly one of each shard that takes part in the write, in a store of so many shards: each of them has voted, there
+/// is no vote of another shard or for another write, and none twice. It takes no memory.
 pub fn votes_match(shards: u8, intent: &Intent, votes: &[Vote]) -> bool
-    requires some { 1 ≤ shards }
-    requires few { shards ≤ 64 }
+    requires { IsShardCount shards }
     ensures { IsTrue result ↔ HaveVoted shards intent.now.write votes.now }
 {
-    let write = intent.entry();
-    for shard in 0..shards {
-        if lacks_vote(write, shards, shard, votes) {
+    let id = intent.id();
+    let mut missing = intent.participants(shards);
+    for vote in votes {
+        let shard = vote.shard();
+        if vote.id() != id || shard >= shards || !is_set(missing, shard) {
             return false;
         }
+        missing = without(missing, shard);
     }
-    true
+    missing == 0
 }

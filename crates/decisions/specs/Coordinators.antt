@@ -1,6 +1,6 @@
 -- A coordinator as its callers see it, and what each of its calls does, over lists of records alone: what stops leave, locks and logs are the
 -- matter of whoever calls.
-use Rattle.std.specs.Prelude.{◌≡◌, ◌⊎◌, ◌≤◌, ◌<◌, ◌+◌, ◌-◌, ℕ, min, Bool, false, true, List, [], ◌∷◌, ◌++◌, length, take, drop, All, Some, None, Contains, if◌then◌else◌, slice_get}
+use Rattle.std.specs.Prelude.{◌≡◌, ◌≢◌, ◌⊎◌, ◌≤◌, ◌<◌, ◌+◌, ◌-◌, ℕ, min, Bool, false, true, List, [], ◌∷◌, ◌++◌, length, take, drop, All, AllPairs, Some, None, Contains, if◌then◌else◌, slice_get}
 use Rattle.tuples.specs.declared.change.Change.{Change}
 use Rattle.tuples.specs.declared.change.Condition.{Condition}
 use Rattle.tuples.specs.declared.change.Want.TheVariants.{NotAfter}
@@ -17,7 +17,7 @@ use Rattle.records.specs.Replays.{Identity, greatest_number}
 use Rattle.device.specs.Device.{State}
 use Rattle.journal.specs.Records.{HasNoRoom, HasRecords, View, WasLeftOrFound, found}
 use Rattle.decisions.specs.Standing.{DecidedValue}
-use Rattle.decisions.specs.Values.{BatchValue, HeadsValue, IntentValue, IsIntent, SettledValue, VoteValue}
+use Rattle.decisions.specs.Values.{BatchValue, HeadsValue, IntentValue, IsIntent, SettledValue, VoteValue, max_batch}
 
 -- A coordinator over two devices: where the list of bank a ends, what is durable, what is staged, whether a device failed since the opening, which node of which store it is;
 -- and what lies in its memory alone: the ids of the writes that are open, the last of them first, and the last number that it gave.
@@ -110,9 +110,17 @@ pub record BeginsRefused {D : Type 0} (old : CoordinatorView D) (conditions : Li
   pub full : e ≡ Full → HasNoId old
   pub others : (e ≡ Future) ⊎ ((e ≡ Collected) ⊎ ((e ≡ Full) ⊎ (e ≡ NoMemory)))
 
--- each shard that takes part has voted for the write
-abbrev pub HaveVoted : ℕ → Entry → List VoteValue → Type 0
-HaveVoted shards w votes = (s : ℕ) → s < shards → takes_part shards s w ≡ true → (v : VoteValue) × Contains votes v × (v.shard ≡ s) × (v.id ≡ w.id)
+-- a vote for the write, of a shard that takes part in it
+pub record IsVoteFor (shards : ℕ) (w : Entry) (v : VoteValue) : Type 0 where
+  pub id : v.id ≡ w.id
+  pub shard : v.shard < shards
+  pub participant : takes_part shards v.shard w ≡ true
+
+-- Exactly one vote of each shard that takes part in the write: each of them has voted for it, there is no other vote, and no shard voted twice.
+pub record HaveVoted (shards : ℕ) (w : Entry) (votes : List VoteValue) : Type 0 where
+  pub each : (s : ℕ) → s < shards → takes_part shards s w ≡ true → (v : VoteValue) × Contains votes v × (v.shard ≡ s)
+  pub own : All (IsVoteFor shards w) votes
+  pub once : AllPairs (λ (v u : VoteValue). v.shard ≢ u.shard) votes
 
 -- A write is decided: it was open, and stands at the next place. Its conditions are those that the shards tested: none is looked at here.
 pub record DecidesAt {D : Type 0} (old : CoordinatorView D) (w : Entry) (d : DecidedValue) (new : CoordinatorView D) : Type 0 where
@@ -169,7 +177,7 @@ IsDecidedAbove v id = (j : ℕ) × (w : Entry) × (slice_get (memory_of v).log j
 abbrev pub IsGivenAt : {D : Type 0} → CoordinatorView D → WriteId → Type 0
 IsGivenAt v id = (id.epoch < (memory_of v).epoch) ⊎ ((id.epoch ≡ (memory_of v).epoch) × (id.number ≤ v.given))
 
--- asked for an id, it finds a durable decision at this place
+-- asked for an id, it finds a durable decision at this place, above the horizon
 pub record FindsAt {D : Type 0} (v : CoordinatorView D) (id : WriteId) (place : ℕ) : Type 0 where
   pub is_up : v.is_down ≡ false
   pub index : ℕ
@@ -177,6 +185,7 @@ pub record FindsAt {D : Type 0} (v : CoordinatorView D) (id : WriteId) (place : 
   pub there : slice_get (kept_of v).log index ≡ Some write
   pub own : write.id ≡ id
   pub place_is : place ≡ (kept_of v).base + index + 1
+  pub above : (kept_of v).horizon < place
 
 -- asked for an id that it gave, it finds no decision above the horizon, and no open write
 pub record FindsNone {D : Type 0} (v : CoordinatorView D) (id : WriteId) : Type 0 where
@@ -188,16 +197,16 @@ pub record FindsNone {D : Type 0} (v : CoordinatorView D) (id : WriteId) : Type 
 -- asked for an id, it finds an open write, a decision that is staged, or an id that it never gave
 pub record FindsNothingYet {D : Type 0} (v : CoordinatorView D) (id : WriteId) : Type 0 where
   pub is_up : v.is_down ≡ false
-  pub not_kept : (place : ℕ) → FindsAt v id place → (kept_of v).horizon < place → ⊥
+  pub not_kept : (place : ℕ) → FindsAt v id place → ⊥
   pub not_aborted : FindsNone v id → ⊥
 
--- the durable decisions behind a place, up to another, at most 256 of them
+-- the durable decisions behind a place, up to another, at most those of one batch
 pub record BatchesAt {D : Type 0} (v : CoordinatorView D) (from to : ℕ) (b : BatchValue) : Type 0 where
   pub is_up : v.is_down ≡ false
   pub above : (kept_of v).horizon ≤ from
   pub within : to ≤ end_of (kept_of v)
   pub from_is : b.from ≡ from
-  pub writes : b.writes ≡ take (min (to - from) 256) (drop (from - (kept_of v).base) (kept_of v).log)
+  pub writes : b.writes ≡ take (min (to - from) max_batch) (drop (from - (kept_of v).base) (kept_of v).log)
 
 -- the three numbers of a coordinator that is up
 abbrev pub heads_of : {D : Type 0} → CoordinatorView D → HeadsValue

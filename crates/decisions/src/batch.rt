@@ -1,7 +1,7 @@
 // Decisions on their way to a shard.
 ghost use Rattle.std.specs.Prelude.{◌≡◌, ◌≤◌, ◌+◌, length};
 ghost use Rattle.records.specs.Replays.{greatest_number};
-ghost use Rattle.decisions.specs.Values.{AreDecidedBy};
+ghost use Rattle.decisions.specs.Values.{AreDecidedBy, max_batch};
 
 use device::Device;
 use journal::Journal;
@@ -21,20 +21,20 @@ pub struct Batch {
 impl Model for Batch {
     ghost use Rattle.std.specs.Prelude.{◌≤◌, ◌+◌, length};
     ghost use Rattle.records.specs.Replays.{greatest_number};
-    ghost use Rattle.decisions.specs.Values.{BatchValue};
+    ghost use Rattle.decisions.specs.Values.{BatchValue, max_batch};
 
     ghost Value = { BatchValue };
 
     ghost view = { λ b. record { from = b.from; writes = b.writes.items } };
 
-    ghost invariant = { λ b. (length b.writes.items ≤ 256) × (b.from + length b.writes.items ≤ greatest_number) };
+    ghost invariant = { λ b. (length b.writes.items ≤ max_batch) × (b.from + length b.writes.items ≤ greatest_number) };
 }
 
 impl Batch {
     /// For a coordinator, which shows by its journal that these are the decisions at the places from `from` + 1 on, and that every stop
     /// leaves them.
     pub fn from_log<D: Device>(journal: &Journal<D>, from: u64, writes: Vec<Entry>) -> Batch
-        requires few { length writes.items ≤ 256 }
+        requires few { length writes.items ≤ max_batch }
         requires places { from + length writes.items ≤ greatest_number }
         requires decided { AreDecidedBy D.state D.honest journal.now from writes.items }
         ensures { result ≡ record { from = from; writes = writes.items } }
@@ -46,7 +46,7 @@ impl Batch {
     /// For a store of one shard, which keeps its log in memory and has no coordinator: the decisions at the places from `from` + 1 on. A
     /// coordinator uses `from_log`.
     pub fn new(from: u64, writes: Vec<Entry>) -> Batch
-        requires few { length writes.items ≤ 256 }
+        requires few { length writes.items ≤ max_batch }
         requires places { from + length writes.items ≤ greatest_number }
         ensures { result ≡ record { from = from; writes = writes.items } }
     {
@@ -70,7 +70,7 @@ impl Batch {
 
     pub fn writes(&self) -> &[Entry]
         ensures value { result.now ≡ self.now.writes }
-        ensures few { length self.now.writes ≤ 256 }
+        ensures few { length self.now.writes ≤ max_batch }
     {
         &self.writes
     }

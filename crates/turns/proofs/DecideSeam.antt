@@ -53,7 +53,7 @@ module _ (store shards : ℕ) (left : NodeName → List Record → Type 0) {D : 
   is_open = intent_right.opened _ _ knows (sym decides.own_epoch)
 
   prepared : IsPreparedInAll shards (at_shards (leaves left now.nodes)) w × HoldAfter now.machine.log w.conditions
-  prepared = votes_prepare store shards left now w intent h.votes is_open some lefts (own_right.undecided (own_right.intent intent has).0) intent_right own_right.votes (λ s lt takes. let v = voted s lt takes in (v.0, v.1, v.2))
+  prepared = votes_prepare store shards left now w intent h.votes is_open some lefts (own_right.undecided (own_right.intent intent has).0) intent_right own_right.votes (λ s lt takes. let v = voted.each s lt takes in (v.0, v.1, v.2))
 
   means : Means store shards now.machine.log now.machine.horizon (old.durable ++ old.staged) (at_shards (leaves left now.nodes))
   means = st.heads.whole old.durable old.staged seen.at
