@@ -1,9 +1,9 @@
 mod Kept
 mod Waiting
-mod Tested
+pub mod Tested
 mod Below
 mod Prepared
-mod Given
-mod Parts
+pub mod Given
+pub mod Parts
 mod Openings
 pub mod Told

@@ -48,3 +48,10 @@ pub mod OnceEach
 pub mod CheckWalk
 pub mod SeesOn
 pub mod QuietTurns
+pub mod ShardSeam
+pub mod ShardPrepareSeam
+pub mod ShardLearnSeam
+pub mod ShardReadSeam
+pub mod ShardOpeningSeam
+pub mod ShardCheckSeam
+pub mod ShardFailedSeam

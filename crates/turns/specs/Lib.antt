@@ -26,3 +26,6 @@ pub mod HeadsLaws
 pub mod ReadingLaws
 pub mod CheckingLaws
 pub mod QuietTurns
+pub mod ShardSeamLaws
+pub mod ShardOpeningLaws
+pub mod ShardCheckLaws

@@ -19,6 +19,8 @@ mod raising_laws;
 mod reading_laws;
 mod restart_laws;
 mod seam_laws;
+mod shard_opening_laws;
+mod shard_seam_laws;
 mod staging_laws;
 mod store_laws;
 #[cfg(test)]
@@ -76,6 +78,12 @@ pub use restart_laws::{
 };
 pub use seam_laws::{
     abort_takes_its_turn, begin_has_cause, begin_takes_its_turn, decide_takes_its_turn,
+};
+pub use shard_opening_laws::{flushes_of_shards_are_quiet, shard_opening_takes_its_step};
+pub use shard_seam_laws::{
+    check_takes_its_turn, collect_takes_its_turn, drop_takes_its_turn, learn_takes_its_turn,
+    prepare_takes_its_turn, read_takes_its_turn, settle_takes_its_turn, told_doubts_are_given,
+    vote_takes_its_turn,
 };
 pub use staging_laws::{
     collected_rows_leave_the_store_standing, drops_leave_the_store_standing,

@@ -1,0 +1,80 @@
+-- What a shard's own contract of a read for a check says makes turns of a run.
+use Rattle.std.proofs.Common.{◌≡◌, ◌≢◌, ◌⊎◌, inl, inr, ⊎_elim, ℕ, ◌≤◌, ◌<◌, true, List, [], Some, Contains, refl, sym, ◌∙◌, ap, subst, arith}
+use Rattle.std.proofs.lemmas.List.Elements.{All-nil}
+use Rattle.tuples.specs.declared.object.Userset.{Userset}
+use Rattle.tuples.specs.declared.tuple.Tuple.{Tuple}
+use Rattle.tuples.specs.declared.user.User.{User}
+use Rattle.tuples.specs.Log.{is_at}
+use Rattle.tuples.specs.Parts.{shard_of}
+use Rattle.tuples.specs.Walking.{IsCheckSelection}
+use Rattle.refusal.specs.declared.refusal.Refusal.{Refusal}
+use Rattle.refusal.specs.declared.refusal.Refusal.TheVariants.{Collected, NoMemory, Unsure}
+use Rattle.records.specs.declared.record.Record.{Record}
+use Rattle.shard.specs.Shards.{ShardView, memory}
+use Rattle.laws.specs.Nodes.{NodeName, coordinator}
+use Rattle.turns.specs.Causes.{HasItsCause, IsBelow}
+use Rattle.turns.specs.Flows.{Asked, CheckHolds, Freshness, Holds, checking, id_of, to_check}
+use Rattle.turns.specs.Held.{IsRight, IsRightCheck, IsRightVerdict}
+use Rattle.turns.specs.Moments.{Moment, Running, is_write}
+use Rattle.turns.specs.QuietTurns.{ending, with_call}
+use Rattle.turns.specs.Replies.{Agrees, checked}
+use Rattle.turns.specs.ShardCheckLaws.{CheckTurns, CheckYesTurns, IsChecker, ReadsForCheckAt, RefusedChecksHaveCause}
+use Rattle.turns.specs.ShardSeamLaws.{ShardIsSeen, StandsAndTurns}
+use Rattle.turns.specs.Stands.{Stands}
+use Rattle.turns.proofs.Batches.{known_means}
+use Rattle.turns.proofs.CheckWalk.{check_replies_select, checks_go_on, checks_say_yes}
+use Rattle.turns.proofs.QuietTurns.{nothing_changes, quiet_calls_answer, quiet_calls_turn}
+use Rattle.turns.proofs.SeesOn.{sees_on}
+use Rattle.turns.proofs.ShardReadSeam.{wants_below}
+use Rattle.turns.proofs.ShardSeam.{knows}
+
+module _ (store shards : ℕ) (left : NodeName → List Record → Type 0) {D : Type 0} (now : Moment) (old : ShardView D) (s : ℕ) (fresh : Freshness) (x : Userset) (u : User) (place : ℕ) (r : Running) (h : CheckHolds)
+    (st : Stands store shards left now) (seen : ShardIsSeen store shards s now.nodes old) (own : IsChecker now r fresh x u h place) where
+  held : IsRightCheck shards left now r fresh x u h
+  held = subst (λ (a : Asked). IsRight shards left now r a (checking h)) own.asked (subst (λ (y : Holds). IsRight shards left now r r.asked y) own.holds (st.flows.held r own.running))
+
+  -- and behind one turn more
+  on : (k : CheckHolds) → IsRightCheck shards left now r fresh x u k → (holds : Holds) → IsRightCheck shards left now (with_call r holds r.met now.machine) fresh x u k
+  on k right holds = sees_on shards left now r holds now.machine k.batch right.batch (to_check fresh x u) (checking k) right
+
+  module _ (y : Userset) (rows : List Tuple) (of_shard : s ≡ shard_of shards y.object) (some : (found : List Record) × left coordinator found) (reply : ReadsForCheckAt old place y u rows) where
+    selects : IsCheckSelection (is_at now.machine.log place) y u rows
+    selects = check_replies_select store shards left now s place y u rows st some seen.there of_shard (held.place place own.at_place).kept
+        (record { memory = memory old; knows = knows store shards left now old s seen; learned = reply.learned; above = reply.above; selected = reply.rows_are })
+
+  collected : place < (memory old).horizon → IsBelow now.machine.horizon r r.asked
+  collected low =
+      let means = known_means store shards left now s (memory old) st seen.there (knows store shards left now old s seen) in
+      subst (IsBelow now.machine.horizon r) (sym own.asked) (wants_below r fresh now.machine.horizon place (held.place place own.at_place).wanted (omega (arith, low, means.horizon)))
+
+pub check_turns : (store shards : ℕ) (left : NodeName → List Record → Type 0) (D : Type 0) → CheckTurns store shards left D
+check_turns store shards left D now old s fresh x y u place rows r h later st some seen of_shard own reply walks not_held =
+    let right : IsRightCheck shards left now r fresh x u later = checks_go_on store shards left now r fresh x u h later place y rows (held store shards left now old s fresh x u place r h st seen own) own.at_place walks
+    (selects store shards left now old s fresh x u place r h st seen own y rows of_shard some reply) not_held in
+    quiet_calls_turn store shards left left now now.nodes now.machine r (checking later) r.met
+    (record {
+      call = nothing_changes store shards left now st;
+      running = own.running;
+      same_id = sym (ap id_of own.holds);
+      right = subst (λ (a : Asked). IsRight shards left now (with_call r (checking later) r.met now.machine) a (checking later)) (sym own.asked)
+          (on store shards left now old s fresh x u place r h st seen own later right (checking later));
+    })
+    (inl refl)
+
+pub check_yes_turns : (store shards : ℕ) (left : NodeName → List Record → Type 0) (D : Type 0) → CheckYesTurns store shards left D
+check_yes_turns store shards left D now old s fresh x y u place rows r h st some seen of_shard own reply waits has =
+    quiet_calls_answer store shards left left now now.nodes now.machine r r.holds (checked place true) (nothing_changes store shards left now st) own.running refl (st.flows.quiet r own.running (ap is_write own.asked)).1
+    (subst (λ (a : Asked). Agrees (with_call r r.holds r.met now.machine) (ending now now.nodes now.machine r []) a (checked place true)) (sym own.asked)
+    (checks_say_yes store shards left now (with_call r r.holds r.met now.machine) fresh x u h place y rows
+    (on store shards left now old s fresh x u place r h st seen own h (held store shards left now old s fresh x u place r h st seen own) r.holds) own.at_place waits
+    (selects store shards left now old s fresh x u place r h st seen own y rows of_shard some reply) has))
+    (All-nil (IsRightVerdict shards left now))
+
+pub refused_checks_have_cause : (store shards : ℕ) (left : NodeName → List Record → Type 0) (D : Type 0) → RefusedChecksHaveCause store shards left D
+refused_checks_have_cause store shards left D now behind old s fresh x u place e r h st seen own is_of = ⊎_elim
+    (λ is. (
+      subst (HasItsCause shards now behind r) (sym is.0) (inl (collected store shards left now old s fresh x u place r h st seen own is.1)),
+      λ same. let both : Collected ≡ Unsure = sym is.0 ∙ same in cc,
+    ))
+    (λ is. (subst (HasItsCause shards now behind r) (sym is) (inl tt), λ same. let both : NoMemory ≡ Unsure = sym is ∙ same in cc))
+    is_of

@@ -1,0 +1,280 @@
+-- What a shard's own contracts of learning, of a drop and of a collection say makes turns of a run.
+use Rattle.std.proofs.Common.{◌≡◌, ◌≢◌, ◌⊎◌, inl, inr, ⊎_elim, ℕ, ◌≤◌, ◌<◌, ◌+◌, Bool, true, false, List, [], ◌∷◌, ◌++◌, length, Option, Some, None, Contains, All, slice_get, refl, sym, ◌∙◌, ap, subst, arith, append_assoc}
+use Rattle.std.specs.Option.{is_some}
+use Rattle.std.proofs.lemmas.Bool.{cases_lt}
+use Rattle.std.proofs.lemmas.List.{append-nil}
+use Rattle.std.proofs.lemmas.List.Elements.{All-nil}
+use Rattle.replay.proofs.States.{shard_push}
+use Rattle.tuples.specs.declared.change.Change.{Change}
+use Rattle.tuples.specs.declared.change.Condition.{Condition}
+use Rattle.tuples.specs.declared.entry.Entry.{Entry}
+use Rattle.tuples.specs.declared.entry.WriteId.{WriteId}
+use Rattle.refusal.specs.declared.refusal.Refusal.{Refusal}
+use Rattle.refusal.specs.declared.refusal.Refusal.TheVariants.{Damaged, Full, NoMemory, Unsure}
+use Rattle.records.specs.declared.record.Record.{Record}
+use Rattle.records.specs.declared.record.Record.TheVariants.{Decision, Dropped, Epoch, Horizon, Learned, Prepare}
+use Rattle.records.specs.Format.{IsRecord}
+use Rattle.records.specs.Replays.{Identity, IsShardImage, MayCome, ShardState, find_in_doubt, greatest_number, shard_state, shard_step}
+use Rattle.device.specs.Device.{State}
+use Rattle.gated.specs.Gated.{max_body}
+use Rattle.journal.specs.Records.{HasNoRoom, batch_size, max_records}
+use Rattle.decisions.specs.Standing.{HeadsValue}
+use Rattle.decisions.specs.Values.{BatchValue}
+use Rattle.shard.specs.Calls.{CollectsAt, DropsAt, LearnRefused, LearnsAt}
+use Rattle.shard.specs.Shards.{AreLearnable, IsUp, ShardView, Stages, learning, memory, placed_ids_from, unlearned}
+use Rattle.shard.proofs.Given.{given_image}
+use Rattle.shard.proofs.Parts.{all_prepared, learned_spelled}
+use Rattle.laws.specs.Machines.{Machine}
+use Rattle.laws.specs.Nodes.{NodeName, Nodes, shard}
+use Rattle.laws.specs.Worlds.{shard_node}
+use Rattle.turns.specs.Causes.{CallsShard, HasFullBatch, HasItsCause, IsFull, LetsLearn, Stages as MayStage}
+use Rattle.turns.specs.Flows.{Asked, Holds, ResolveHolds, WriteHolds, checking, collecting, flushing, id_of, learning as learns, raising, reading, resolving, to_check, to_collect, to_flush, to_learn, to_raise, to_read, to_resolve, to_watch, to_write, watching, writing}
+use Rattle.turns.specs.Held.{AreRightHeads, IfHeld, IsRight, IsRightBatch, IsRightResolve, IsRightVerdict, IsRightWrite}
+use Rattle.turns.specs.Moments.{Moment, Running, is_write}
+use Rattle.turns.specs.QuietTurns.{HoldsLess, IsQuietCall, batch_of, ending, with_batch, with_call}
+use Rattle.turns.specs.Replies.{Agrees, done}
+use Rattle.turns.specs.Runs.{Turns, answered}
+use Rattle.turns.specs.ShardSeamLaws.{CollectTurns, DropTurns, LearnTurns, RefusedCollectsHaveCause, RefusedLearnsHaveCause, ResolvedDropTurns, ShardIsSeen, StandsAndTurns, behind_shard}
+use Rattle.turns.specs.StagingLaws.{with_nodes}
+use Rattle.turns.specs.Stands.{IsHorizonIn, Stands}
+use Rattle.turns.proofs.Batches.{batches_meet_prepares}
+use Rattle.turns.proofs.QuietTurns.{quiet_calls_answer, quiet_calls_keep, quiet_calls_turn, writes_spend}
+use Rattle.turns.proofs.SeesOn.{sees_on}
+use Rattle.turns.proofs.ShardSeam.{knows, seen_after, staged_quietly, staging, unchanged}
+use Rattle.turns.proofs.ShardStagesSteps.{collects_stand, drops_stand, learns_stand}
+
+-- decisions on their way that a flow holds are right
+batch_right : (shards : ℕ) (left : NodeName → List Record → Type 0) (now : Moment) (r : Running) (asked : Asked) (h : Holds) → IsRight shards left now r asked h → IfHeld (batch_of h) (IsRightBatch now.machine)
+batch_right shards left now r (to_write changes conditions) (writing h) k = k.batch
+batch_right shards left now r (to_read fresh sets) (reading h) k = k.batch
+batch_right shards left now r (to_check fresh x u) (checking h) k = k.batch
+batch_right shards left now r (to_watch c limit names) (watching h) k = k.batch
+batch_right shards left now r (to_flush n) flushing k = λ b is. let both : None ≡ Some b = is in absurd cc
+batch_right shards left now r (to_learn s) (learns h) k = k.batch
+batch_right shards left now r (to_resolve s) (resolving h) k = k.batch
+batch_right shards left now r (to_raise x) (raising h) k = k.batch
+batch_right shards left now r (to_collect s) (collecting h) k = k.batch
+batch_right shards left now r asked h k = absurd k
+
+-- a batch that has no room is the cause of Full, whatever was asked
+full_of : (shards : ℕ) (now : Moment) (r : Running) (asked : Asked) → HasFullBatch shards now.nodes r.asked (id_of r.holds) → IsFull shards now r asked
+full_of shards now r (to_write changes conditions) full = inl full
+full_of shards now r (to_read fresh sets) full = full
+full_of shards now r (to_check fresh x u) full = inl full
+full_of shards now r (to_watch c limit names) full = full
+full_of shards now r (to_flush n) full = full
+full_of shards now r (to_learn s) full = full
+full_of shards now r (to_resolve s) full = full
+full_of shards now r (to_raise x) full = full
+full_of shards now r (to_collect s) full = full
+
+-- a flow that lets a shard learn stages what is learned there
+stages_learned : (shards : ℕ) (asked : Asked) (own : Option WriteId) (s : ℕ) (me : Identity) (m : ShardState) (b : BatchValue) → LetsLearn asked → MayStage shards asked own (shard s) (learning me m b.from b.writes)
+stages_learned shards asked own s me m b lets = lets
+
+has_room : (staged : List Record) (r : Record) → HasNoRoom staged r ⊎ (HasNoRoom staged r → ⊥)
+has_room staged r = ⊎_elim
+    (λ few. ⊎_elim
+    (λ long. inl (inr long))
+    (λ short. inr (λ full. ⊎_elim (λ many. omega (arith, few, many)) (λ long. omega (arith, short, long)) full))
+    (cases_lt max_body (batch_size (staged ++ r ∷ []))))
+    (λ many. inl (inl many))
+    (cases_lt (length staged) max_records)
+
+found_or_not : {X : Type 0} (o : Option X) → (o ≡ None) ⊎ (is_some o ≡ true)
+found_or_not None = inl refl
+found_or_not (Some x) = inr refl
+
+module _ (store shards : ℕ) (left : NodeName → List Record → Type 0) {D : Type 0} (state : D → State) (honest : D → Type 0) (now : Moment) (old : ShardView D) (s : ℕ) (r : Running)
+    (st : Stands store shards left now) (seen : ShardIsSeen store shards s now.nodes old) where
+  module _ (b : BatchValue) (right : IsRightBatch now.machine b) where
+    -- all that it has not learned is in doubt there with its part
+    learnable : b.from ≤ (memory old).learned → AreLearnable (shard_node store shards s) (memory old) (unlearned (memory old) b.from b.writes)
+    learnable low = let met = batches_meet_prepares store shards left now s (memory old) b st seen.there (knows store shards left now old s seen) right low in record { new = met.1; prepared = met.0 }
+
+    module _ (new : ShardView D) (all : Bool) (call : LearnsAt state honest old b all new) where
+      learned : Record
+      learned = learning old.me (memory old) b.from b.writes
+
+      is_learned : learning old.me (memory old) b.from b.writes ≡ learning (shard_node store shards s) (memory old) b.from b.writes
+      is_learned = ap (λ (me : Identity). learning me (memory old) b.from b.writes) seen.me
+
+      more : b.from ≤ (memory old).learned → (memory old).learned < b.from + length b.writes
+          → ShardIsSeen store shards s (behind_shard s now.nodes new) new × IsQuietCall store shards left left now (behind_shard s now.nodes new) now.machine
+      more low high =
+          let ok = call.more (record { from = low; to = high }) in (
+            seen_after store shards left now old s seen new (learning old.me (memory old) b.from b.writes) ok.1,
+            staged_quietly store shards left now old s seen new (learning old.me (memory old) b.from b.writes) ok.1 (λ e a c d is. absurd cc)
+                (learns_stand store shards left now (behind_shard s now.nodes new) s (learning old.me (memory old) b.from b.writes) b
+                (staging store shards left now old s seen new (learning old.me (memory old) b.from b.writes) ok.1 st (ok.2).image) is_learned right low (omega (arith, high))),
+          )
+
+      learns_quietly : ShardIsSeen store shards s (behind_shard s now.nodes new) new × IsQuietCall store shards left left now (behind_shard s now.nodes new) now.machine
+      learns_quietly = ⊎_elim
+          (λ high. ⊎_elim
+          (λ ahead. unchanged store shards left now old s seen new st (call.ahead ahead).1)
+          (λ low. more low high)
+          (cases_lt (memory old).learned b.from))
+          (λ known. unchanged store shards left now old s seen new st (call.known known).1)
+          (cases_lt (memory old).learned (b.from + length b.writes))
+
+    module _ (e : Refusal) (behind : Moment) (calls : CallsShard shards r.asked s) (lets : LetsLearn r.asked) (is_up : IsUp state honest old) (few : length b.writes ≤ 256) (fits : b.from + length b.writes ≤ greatest_number)
+        (given_up : LearnRefused old b e) where
+      low : b.from ≤ (memory old).learned
+      low = ⊎_elim (λ ahead. absurd (given_up.not_ahead ahead)) (λ le. le) (cases_lt (memory old).learned b.from)
+
+      high : (memory old).learned < b.from + length b.writes
+      high = ⊎_elim (λ lt. lt) (λ known. absurd (given_up.unknown known)) (cases_lt (memory old).learned (b.from + length b.writes))
+
+      learnable_here : AreLearnable old.me (memory old) (unlearned (memory old) b.from b.writes)
+      learnable_here = subst (λ (me : Identity). AreLearnable me (memory old) (unlearned (memory old) b.from b.writes)) (sym seen.me) (learnable low)
+
+      spelled : IsRecord (learning old.me (memory old) b.from b.writes)
+      spelled = learned_spelled old.me.shards old.me.node (memory old) b.from b.writes low high fits
+          (placed_ids_from old.me.shards old.me.node ((memory old).learned + 1) (unlearned (memory old) b.from b.writes)) refl
+          (all_prepared old.me (memory old) ((memory old).learned + 1) (unlearned (memory old) b.from b.writes) learnable_here)
+          (omega (arith, few)) (given_image old.me (old.durable ++ old.staged) is_up.image)
+
+      refused_cause : (e ≡ NoMemory) ⊎ ((e ≡ Full) ⊎ (e ≡ Damaged)) → HasItsCause shards now behind r e × (e ≢ Unsure)
+      refused_cause is_of = ⊎_elim
+          (λ is. (subst (HasItsCause shards now behind r) (sym is) (inl tt), λ same. let both : NoMemory ≡ Unsure = sym is ∙ same in cc))
+          (λ rest. ⊎_elim
+          (λ is. (subst (HasItsCause shards now behind r) (sym is) (inl (full_of shards now r r.asked (full is))), λ same. let both : Full ≡ Unsure = sym is ∙ same in cc))
+          (λ is. absurd ((given_up.damaged (record { from = low; to = high })).0 is learnable_here))
+          rest)
+          is_of
+        where
+          full : e ≡ Full → HasFullBatch shards now.nodes r.asked (id_of r.holds)
+          full is = record {
+            node = shard s;
+            durable = old.durable;
+            staged = old.staged;
+            next = learning old.me (memory old) b.from b.writes;
+            calls = (seen.there, calls);
+            is_up = seen.at;
+            stages = stages_learned shards r.asked (id_of r.holds) s old.me (memory old) b lets;
+            is_record = spelled;
+            no_room = given_up.full is;
+          }
+
+  -- a drop by a verdict that is right is quiet
+  drops_quietly : (new : ShardView D) (id : WriteId) → IsRightVerdict shards left now id → DropsAt state honest old id new
+      → ShardIsSeen store shards s (behind_shard s now.nodes new) new × IsQuietCall store shards left left now (behind_shard s now.nodes new) now.machine
+  drops_quietly new id verdict call = ⊎_elim
+      (λ none. unchanged store shards left now old s seen new st (call.not_here none))
+      (λ there. ⊎_elim
+      (λ full. unchanged store shards left now old s seen new st (call.full full))
+      (λ room. dropped (call.dropped there room))
+      (has_room old.staged (Dropped id)))
+      (found_or_not (find_in_doubt id (memory old).in_doubt))
+    where
+      dropped : Stages old (Dropped id) new × IsUp state honest new → ShardIsSeen store shards s (behind_shard s now.nodes new) new × IsQuietCall store shards left left now (behind_shard s now.nodes new) now.machine
+      dropped ok = (
+        seen_after store shards left now old s seen new (Dropped id) ok.0,
+        staged_quietly store shards left now old s seen new (Dropped id) ok.0 (λ e a c d is. absurd cc)
+            (drops_stand store shards left now (behind_shard s now.nodes new) s id (staging store shards left now old s seen new (Dropped id) ok.0 st (ok.1).image) verdict),
+      )
+
+  -- a collection up to a place that is not above the horizon is quiet
+  collects_quietly : (new : ShardView D) (place : ℕ) → place ≤ now.machine.horizon → CollectsAt state honest old place new
+      → ShardIsSeen store shards s (behind_shard s now.nodes new) new × IsQuietCall store shards left left now (behind_shard s now.nodes new) now.machine
+  collects_quietly new place low call = ⊎_elim
+      (λ above. unchanged store shards left now old s seen new st (call.nothing (inl above)))
+      (λ within. ⊎_elim
+      (λ raised. collected (call.raised raised within))
+      (λ lower. unchanged store shards left now old s seen new st (call.nothing (inr lower)))
+      (cases_lt (memory old).horizon place))
+      (cases_lt (memory old).learned place)
+    where
+      collected : Stages old (Horizon place) new × IsUp state honest new → ShardIsSeen store shards s (behind_shard s now.nodes new) new × IsQuietCall store shards left left now (behind_shard s now.nodes new) now.machine
+      collected ok = (
+        seen_after store shards left now old s seen new (Horizon place) ok.0,
+        staged_quietly store shards left now old s seen new (Horizon place) ok.0 (λ e a c d is. absurd cc)
+            (collects_stand store shards left now (behind_shard s now.nodes new) s place (staging store shards left now old s seen new (Horizon place) ok.0 st (ok.1).image) low),
+      )
+
+pub learn_turns : (store shards : ℕ) (left : NodeName → List Record → Type 0) {D : Type 0} (state : D → State) (honest : D → Type 0) → LearnTurns store shards left state honest
+learn_turns store shards left state honest now old new s b all kept r st seen running has call right_kept =
+    let right : IsRightBatch now.machine b = batch_right shards left now r r.asked r.holds (st.flows.held r running) b has in
+    let quiet = learns_quietly store shards left state honest now old s r st seen b right new all call in
+    (quiet.0, quiet_calls_keep store shards left left now (behind_shard s now.nodes new) now.machine r kept quiet.1 running right_kept)
+
+pub refused_learns_have_cause : (store shards : ℕ) (left : NodeName → List Record → Type 0) {D : Type 0} (state : D → State) (honest : D → Type 0) → RefusedLearnsHaveCause store shards left state honest
+refused_learns_have_cause store shards left state honest now behind old s b e r st seen running has is_up few fits calls lets given_up is_of =
+    refused_cause store shards left state honest now old s r st seen b (batch_right shards left now r r.asked r.holds (st.flows.held r running) b has) e behind calls lets is_up few fits given_up is_of
+
+pub drop_turns : (store shards : ℕ) (left : NodeName → List Record → Type 0) {D : Type 0} (state : D → State) (honest : D → Type 0) → DropTurns store shards left state honest
+drop_turns store shards left state honest now old new s id changes conditions r h k st seen running asked holds has less same_way call =
+    let quiet = drops_quietly store shards left state honest now old s r st seen new id (verdict_of h.id refl) call in
+    (quiet.0, writes_spend store shards left left now (behind_shard s now.nodes new) now.machine r h k changes conditions quiet.1 running asked holds less same_way)
+  where
+    right : IsRightWrite shards left now r changes conditions h
+    right = subst (λ (a : Asked). IsRight shards left now r a (writing h)) asked (subst (λ (x : Holds). IsRight shards left now r r.asked x) holds (st.flows.held r running))
+
+    verdict_of : (own : Option WriteId) → h.id ≡ own → IsRightVerdict shards left now id
+    verdict_of None none = let both : None ≡ Some id = sym (right.nothing none).verdict ∙ has in absurd cc
+    verdict_of (Some own) is = ((right.own own is).verdict id has).1
+
+pub resolved_drop_turns : (store shards : ℕ) (left : NodeName → List Record → Type 0) {D : Type 0} (state : D → State) (honest : D → Type 0) → ResolvedDropTurns store shards left state honest
+resolved_drop_turns store shards left state honest now old new s t id r h st seen running asked holds has call =
+    let quiet = drops_quietly store shards left state honest now old s r st seen new id (right.verdict id has) call in (
+      quiet.0,
+      quiet_calls_turn store shards left left now (behind_shard s now.nodes new) now.machine r (resolving (record h { verdict = None })) r.met
+          (record { call = quiet.1; running = running; same_id = sym (ap id_of holds); right = later_right (quiet.1).stands })
+          (inl refl),
+    )
+  where
+    right : IsRightResolve shards left now h
+    right = subst (λ (a : Asked). IsRight shards left now r a (resolving h)) asked (subst (λ (x : Holds). IsRight shards left now r r.asked x) holds (st.flows.held r running))
+
+    later_right : Stands store shards left (with_nodes now (behind_shard s now.nodes new))
+        → IsRight shards left (with_nodes now (behind_shard s now.nodes new)) (with_call r (resolving (record h { verdict = None })) r.met now.machine) r.asked (resolving (record h { verdict = None }))
+    later_right stands =
+        let k : IsRightResolve shards left (with_nodes now (behind_shard s now.nodes new)) h =
+        subst (λ (a : Asked). IsRight shards left (with_nodes now (behind_shard s now.nodes new)) r a (resolving h)) asked
+        (subst (λ (x : Holds). IsRight shards left (with_nodes now (behind_shard s now.nodes new)) r r.asked x) holds (stands.flows.held r running)) in
+        subst (λ (a : Asked). IsRight shards left (with_nodes now (behind_shard s now.nodes new)) (with_call r (resolving (record h { verdict = None })) r.met now.machine) a (resolving (record h { verdict = None }))) (sym asked)
+        (record { found = k.found; verdict = λ x is. let both : None ≡ Some x = is in absurd cc; batch = k.batch })
+
+pub collect_turns : (store shards : ℕ) (left : NodeName → List Record → Type 0) {D : Type 0} (state : D → State) (honest : D → Type 0) → CollectTurns store shards left state honest
+collect_turns store shards left state honest now old new s t heads r st seen running asked right call =
+    let quiet = collects_quietly store shards left state honest now old s r st seen new heads.horizon right.horizon call in
+    let turn = quiet_calls_answer store shards left left now (behind_shard s now.nodes new) now.machine r r.holds done quiet.1 running refl (st.flows.quiet r running (ap is_write asked)).1
+    (subst (λ (a : Asked). Agrees (with_call r r.holds r.met now.machine) (ending now (behind_shard s now.nodes new) now.machine r []) a done) (sym asked) tt)
+    (All-nil (IsRightVerdict shards left (with_nodes now (behind_shard s now.nodes new)))) in
+    (quiet.0, turn.0, turn.1)
+
+-- a shard learns no place above the greatest number
+step_learned : (me : Identity) (m : ShardState) (r : Record) → m.learned ≤ greatest_number → MayCome me m r → (shard_step m r).learned ≤ greatest_number
+unfolding shard_step
+step_learned me m (Prepare w) le may = le
+step_learned me m (Learned to ids) le may = may.place
+step_learned me m (Dropped id) le may = le
+step_learned me m (Epoch e a b c) le may = le
+step_learned me m (Decision place w) le may = le
+step_learned me m (Horizon place) le may = le
+
+learned_from : (me : Identity) (before rs : List Record) → IsShardImage me (before ++ rs) → (shard_state before).learned ≤ greatest_number → (shard_state (before ++ rs)).learned ≤ greatest_number
+learned_from me before [] image le = subst (λ (l : List Record). (shard_state l).learned ≤ greatest_number) (sym (append-nil before)) le
+learned_from me before (r ∷ rs) image le =
+    let all : (before ++ r ∷ []) ++ rs ≡ before ++ r ∷ rs = append_assoc before (r ∷ []) rs in
+    let next : (shard_state (before ++ r ∷ [])).learned ≤ greatest_number =
+    subst (λ (m : ShardState). m.learned ≤ greatest_number) (sym (shard_push before r)) (step_learned me (shard_state before) r le (image before rs r refl)) in
+    subst (λ (l : List Record). (shard_state l).learned ≤ greatest_number) all (learned_from me (before ++ r ∷ []) rs (subst (IsShardImage me) (sym all) image) next)
+
+least_learned : (me : Identity) (rs : List Record) → IsShardImage me rs → (shard_state rs).learned ≤ greatest_number
+unfolding shard_state
+least_learned me rs image = learned_from me [] rs image (omega arith)
+
+pub refused_collects_have_cause : (store shards : ℕ) (left : NodeName → List Record → Type 0) {D : Type 0} (state : D → State) (honest : D → Type 0) → RefusedCollectsHaveCause store shards left state honest
+refused_collects_have_cause store shards left state honest now behind old s heads r st seen asked is_up low no_room = inl (full_of shards now r r.asked (record {
+  node = shard s;
+  durable = old.durable;
+  staged = old.staged;
+  next = Horizon heads.horizon;
+  calls = (seen.there, subst (λ (a : Asked). CallsShard shards a s) (sym asked) refl);
+  is_up = seen.at;
+  stages = asked;
+  is_record = (let most = least_learned old.me (old.durable ++ old.staged) is_up.image in omega (arith, most, low));
+  no_room = no_room;
+}))
