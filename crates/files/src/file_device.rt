@@ -1,0 +1,227 @@
+// A device over a file of which no contract tells anything.
+ghost use Rattle.std.specs.Prelude.{◌≡◌, ◌≤◌, ◌+◌, ◌<◌, ◌⊎◌, ◌^◌, ◌-◌, true, false, List, IfOk, IsTrue, OnOk, OnErr, length, take, drop};
+ghost use Rattle.std.proofs.Common.{subst, sym, arith};
+ghost use Rattle.std.proofs.lemmas.List.{take_all};
+ghost use Rattle.device.specs.Device.{Elapses, Keeps, left};
+ghost use Rattle.device.specs.Disk.{IsFresh, left_since_of, moment_of, state_of};
+ghost use Rattle.device.specs.Sim.{CouldLeave};
+ghost use Rattle.device.specs.declared.call.Call.{Call};
+ghost use Rattle.files.specs.Files.{file_state};
+
+use crate::RawFile;
+use device::{Device, SimDisk, Stopped, Tear};
+use std::alloc::{AllocError, Global};
+
+/// A device over a file. Whether it is recorded is fixed when it is made, so it is honest or not, and no call changes that.
+#[derive(Drop)]
+pub struct FileDevice<F: RawFile> {
+    alloc: Global,
+    file: F,
+    is_recorded: bool,
+    is_stopped: bool,
+    failures: u64,
+    // what the file should hold, where it is recorded; else nothing
+    record: SimDisk,
+}
+
+impl<F: RawFile> FileDevice<F> {
+    /// A device over the file, of which no clause tells anything.
+    pub fn new(alloc: Global, file: F) -> Result<FileDevice<F>, AllocError>
+        ensures { IfOk result (λ d. (d.is_recorded ≡ false) × (d.file ≡ file) × (d.failures ≡ 0)) }
+    {
+        let record = SimDisk::new(alloc, Vec::new(alloc))?;
+        Ok(FileDevice {
+            alloc,
+            file,
+            is_recorded: false,
+            is_stopped: false,
+            failures: 0,
+            record,
+        })
+    }
+
+    /// A device over a file that should hold this content, durable. It is honest.
+    pub fn recorded(alloc: Global, file: F, content: Vec<u8>) -> Result<FileDevice<F>, AllocError>
+        ensures honest { IfOk result (λ d. d.is_recorded ≡ true) }
+        ensures content { IfOk result (λ d. IsFresh content.items (file_state d.record d.is_stopped d.failures)) }
+    {
+        let record = SimDisk::new(alloc, content)?;
+        Ok(FileDevice {
+            alloc,
+            file,
+            is_recorded: true,
+            is_stopped: false,
+            failures: 0,
+            record,
+        })
+    }
+
+    /// Whether its file is held against a record.
+    pub fn is_recorded(&self) -> bool
+        ensures { result ≡ self.now.is_recorded }
+    {
+        self.is_recorded
+    }
+
+    // Counts a failure: from now on each call fails.
+    fn stop(&mut self) -> Stopped
+        ensures file { self.new.file ≡ self.old.file }
+        ensures recorded { self.new.is_recorded ≡ self.old.is_recorded }
+        ensures record { self.new.record ≡ self.old.record }
+        ensures stopped { self.new.is_stopped ≡ true }
+        ensures cause { (self.old.failures < self.new.failures) ⊎ (self.new.failures ≡ 2 ^ 64 - 1) }
+        ensures counts { self.old.failures ≤ self.new.failures }
+    {
+        self.is_stopped = true;
+        self.failures = self.failures.saturating_add(1);
+        Stopped
+    }
+
+    // Holds what was read against the record.
+    fn compare(&mut self, at: usize, found: &[u8]) -> Result<(), Stopped>
+        requires { (state_of self.old.record).stopped ≡ false → at + length found.now ≤ length (state_of self.old.record).seen }
+        ensures recorded { self.new.is_recorded ≡ self.old.is_recorded }
+        ensures stopped { OnOk result (self.new.is_stopped ≡ self.old.is_stopped) }
+        ensures none { OnOk result (self.new.failures ≡ self.old.failures) }
+        ensures bytes { OnOk result (found.now ≡ take (length found.now) (drop at (state_of self.old.record).seen)) }
+        ensures keeps { Keeps (state_of self.old.record) (state_of self.new.record) }
+        ensures time { Elapses (moment_of self.old.record) (moment_of self.new.record) (left_since_of self.old.record) (left_since_of self.new.record) (left (state_of self.new.record)) }
+        ensures err { OnErr result ((self.new.is_stopped ≡ true) × ((self.old.failures < self.new.failures) ⊎ (self.new.failures ≡ 2 ^ 64 - 1))) }
+        ensures counts { self.old.failures ≤ self.new.failures }
+    {
+        let Ok(mut kept) = vec![in self.alloc; 0; found.len()] else {
+            return Err(self.stop());
+        };
+        if !agrees(&mut self.record, at, &mut kept, found) {
+            return Err(self.stop());
+        }
+        Ok(())
+    }
+}
+
+// Whether the record reads so there; the buffer is as long.
+fn agrees(record: &mut SimDisk, at: usize, buf: &mut [u8], found: &[u8]) -> bool
+    requires inside { (state_of record.old).stopped ≡ false → at + length buf.old ≤ length (state_of record.old).seen }
+    requires same { length buf.old ≡ length found.now }
+    ensures bytes { IsTrue result → found.now ≡ take (length found.now) (drop at (state_of record.old).seen) }
+    ensures keeps { Keeps (state_of record.old) (state_of record.new) }
+    ensures time { Elapses (moment_of record.old) (moment_of record.new) (left_since_of record.old) (left_since_of record.new) (left (state_of record.new)) }
+{
+    match record.read_at(at, buf) {
+        Ok(()) => &*buf == found,
+        Err(_) => false,
+    }
+}
+
+impl<F: RawFile> Device for FileDevice<F> {
+    ghost state = { λ d. file_state d.record d.is_stopped d.failures };
+
+    ghost honest = { λ d. d.is_recorded ≡ true };
+
+    ghost moment = { λ d. moment_of d.record };
+
+    ghost left_since = { λ d t c. left_since_of d.record t c };
+
+    // A file has no scripts.
+    ghost set_to_fail = { λ d n tear. Unit {0} };
+
+    ghost reads_left = { λ d hon up. d.record.readable };
+
+    ghost reads_longest = { λ d hon up. d.record.longest };
+
+    ghost counts_now = { λ d t c hon le now. (length d.record.history.items, le, Prim.omega arith, subst (λ (calls : List Call). CouldLeave d.record.first.items calls c) (sym (take_all (length d.record.history.items) d.record.history.items (Prim.omega arith))) now) };
+
+    ghost only_now = { λ d c hon since. subst (λ (calls : List Call). CouldLeave d.record.first.items calls c) (take_all since.0 d.record.history.items since.1) since.3 };
+
+    fn len(&mut self) -> Result<usize, Stopped> {
+        if self.is_stopped {
+            return Err(self.stop());
+        }
+        let Ok(found) = self.file.len() else {
+            return Err(self.stop());
+        };
+        if self.is_recorded {
+            match self.record.len() {
+                Ok(len) => {
+                    if len != found {
+                        return Err(self.stop());
+                    }
+                }
+                Err(_) => return Err(self.stop()),
+            }
+        }
+        Ok(found)
+    }
+
+    fn read_at(&mut self, at: usize, buf: &mut [u8]) -> Result<(), Stopped> {
+        if self.is_stopped {
+            return Err(self.stop());
+        }
+        match self.file.read_at(at, buf) {
+            Ok(()) => {}
+            Err(_) => return Err(self.stop()),
+        }
+        if self.is_recorded {
+            return self.compare(at, buf);
+        }
+        Ok(())
+    }
+
+    fn write_at(&mut self, at: usize, bytes: &[u8]) -> Result<(), Stopped> {
+        if self.is_stopped {
+            return Err(self.stop());
+        }
+        let is_done = self.file.write_at(at, bytes).is_ok();
+        if self.is_recorded {
+            match self.record.write_at(at, bytes) {
+                Ok(()) => {}
+                Err(_) => return Err(self.stop()),
+            }
+        }
+        if !is_done {
+            return Err(self.stop());
+        }
+        Ok(())
+    }
+
+    fn sync(&mut self) -> Result<(), Stopped> {
+        if self.is_stopped {
+            return Err(self.stop());
+        }
+        match self.file.sync() {
+            Ok(()) => {}
+            Err(_) => return Err(self.stop()),
+        }
+        if self.is_recorded {
+            match self.record.sync() {
+                Ok(()) => {}
+                Err(_) => return Err(self.stop()),
+            }
+        }
+        Ok(())
+    }
+
+    fn revive(&mut self) -> Result<(), Stopped> {
+        // A record says which contents may be found, and not which one is: it is of no use any more.
+        if self.is_recorded {
+            return Err(self.stop());
+        }
+        match self.file.reopen() {
+            Ok(()) => {}
+            Err(_) => return Err(self.stop()),
+        }
+        // What reads now has to stay: a failed sync may have left it other than the disk has it.
+        match self.file.sync() {
+            Ok(()) => {}
+            Err(_) => return Err(self.stop()),
+        }
+        self.is_stopped = false;
+        Ok(())
+    }
+
+    fn failures(&self) -> u64 {
+        self.failures
+    }
+
+    fn fail(&mut self, _n: u64, _tear: Tear) {}
+}
