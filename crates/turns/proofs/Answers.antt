@@ -24,7 +24,7 @@ use Rattle.laws.proofs.CoordinatorStates.{coordinator_from-append, end_is_length
 use Rattle.laws.specs.Coordinators.{CoordinatorMeans}
 use Rattle.turns.proofs.ShardStagesStands.{contained_from}
 
-replays : (rs more : List Record) → coordinator_state (rs ++ more) ≡ coordinator_from (coordinator_state rs) more
+pub replays : (rs more : List Record) → coordinator_state (rs ++ more) ≡ coordinator_from (coordinator_state rs) more
 unfolding coordinator_state
 replays rs more = coordinator_from-append empty_coordinator rs more
 
@@ -62,7 +62,7 @@ module _ (store shards : ℕ) (left : NodeName → List Record → Type 0) (now 
   durable_there = (knows.durable, (st.nodes.durable coordinator knows.durable knows.staged knows.durable knows.is_up).1 refl, inl refl)
 
   -- what is durable means the log up to the kept place
-  durable_means : CoordinatorMeans (take now.machine.kept now.machine.log) now.machine.horizon kept
+  pub durable_means : CoordinatorMeans (take now.machine.kept now.machine.log) now.machine.horizon kept
   durable_means =
       let was = st.rests.each knows.durable durable_there in
       let means : CoordinatorMeans (take was.0 now.machine.log) now.machine.horizon kept = subst (CoordinatorMeans (take was.0 now.machine.log) now.machine.horizon) (sym knows.durable_state) was.3.decided in

@@ -1,9 +1,10 @@
 -- A flush of the coordinator that fails is a turn of a run, which ends the flow that asked for it with Down.
-use Rattle.std.proofs.Common.{◌≡◌, ◌≢◌, inl, inr, ℕ, false, List, [], ◌∷◌, ◌++◌, None, Some, Contains, refl, sym, ap, subst}
+use Rattle.std.proofs.Common.{◌≡◌, ◌≢◌, inl, inr, ℕ, false, List, [], ◌∷◌, ◌++◌, None, Some, Contains, refl, sym, ◌∙◌, ap, subst}
 use Rattle.std.proofs.lemmas.List.Elements.{All-nil}
 use Rattle.refusal.specs.declared.refusal.Refusal.TheVariants.{Down, Unsure}
 use Rattle.records.specs.declared.record.Record.{Record}
 use Rattle.laws.specs.Nodes.{NodeName, Nodes, SameBut, coordinator, shard}
+use Rattle.turns.specs.AnswerLaws.{FailedFlushesAreQuiet}
 use Rattle.turns.specs.Causes.{Calls, IsDown}
 use Rattle.turns.specs.Flows.{to_flush}
 use Rattle.turns.specs.FlushLaws.{FailedFlushesAnswer, FailsFlush}
@@ -67,6 +68,25 @@ module _ (store shards : ℕ) (left after : NodeName → List Record → Type 0)
     where
       not_unsure : Down ≢ Unsure
       not_unsure is = cc
+
+pub failed_flushes_are_quiet : (store shards : ℕ) (left after : NodeName → List Record → Type 0) → FailedFlushesAreQuiet store shards left after
+failed_flushes_are_quiet store shards left after now next st fails = (
+  record {
+    stands = failed_flushes_stand store shards left after now next st fails;
+    moves = [];
+    machine = refl;
+    quiet = All-nil (IsQuiet (MayRise shards (IsHorizonIn store shards left now.nodes) now));
+    node = coordinator;
+    others = record { others = unchanged; open_writes = λ ne. absurd (ne refl); given = λ ne. absurd (ne refl) };
+    called = inr (inr (inr (record { durable = fails.durable; staged = fails.staged; was = fails.was; now = fails.now })));
+    open_writes = record { open_writes = fails.open_writes; given = fails.given };
+  },
+  λ r ran same calls. inl (coordinator, calls, inl (ap (λ (n : Nodes). n.at coordinator) same ∙ fails.now)),
+)
+  where
+    unchanged : (k : NodeName) → k ≢ coordinator → next.at k ≡ now.nodes.at k
+    unchanged coordinator ne = absurd (ne refl)
+    unchanged (shard t) ne = fails.unchanged t
 
 pub failed_flushes_answer : (store shards : ℕ) (left after : NodeName → List Record → Type 0) → FailedFlushesAnswer store shards left after
 failed_flushes_answer store shards left after now next r st fails there asked goes_on = (

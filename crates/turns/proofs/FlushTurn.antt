@@ -3,29 +3,27 @@ use Rattle.std.proofs.Common.{◌≡◌, ◌≢◌, inl, inr, ⊎_elim, ℕ, ◌
 use Rattle.std.proofs.lemmas.Bool.{cases_lt}
 use Rattle.std.proofs.lemmas.List.Elements.{All-cons, All-nil}
 use Rattle.records.specs.declared.record.Record.{Record}
-use Rattle.records.specs.Coordinators.{IsCoordinatorImage, coordinator_state}
+use Rattle.records.specs.Coordinators.{coordinator_state}
 use Rattle.laws.specs.Machines.{Machine, Move, Moves, keep, raise}
 use Rattle.laws.specs.Nodes.{NodeName, Nodes, SameBut, coordinator, leaves, shard, staged_of}
-use Rattle.laws.specs.Worlds.{Means, coordinator_node}
+use Rattle.laws.specs.Worlds.{Means}
+use Rattle.turns.specs.AnswerLaws.{CoordinatorFlushesAreQuiet}
 use Rattle.turns.specs.Flows.{Asked, to_flush}
 use Rattle.turns.specs.FlushLaws.{FlushesAnswer, FlushesCoordinator, all_kept, with_flush}
 use Rattle.turns.specs.Moments.{Moment, Running, ended}
+use Rattle.turns.specs.QuietTurns.{IsQuietCall}
 use Rattle.turns.specs.Replies.{Agrees, done}
 use Rattle.turns.specs.Runs.{IsQuiet, MayRise, Turns, answered}
 use Rattle.turns.specs.Stands.{IsHorizonIn, Stands, at_shards}
 use Rattle.turns.proofs.CoordinatorFlush.{coordinator_flushes_stand}
 use Rattle.turns.proofs.FlowEnds.{flows_end}
 
-module _ (store shards : ℕ) (left after : NodeName → List Record → Type 0) (now : Moment) (next : Nodes) (r : Running) (st : Stands store shards left now) (flush : FlushesCoordinator left after now.nodes next)
-    (image : IsCoordinatorImage (coordinator_node store shards) (flush.durable ++ flush.staged)) (asked : r.asked ≡ to_flush coordinator) (goes_on : r.is_cancelled ≡ false) where
+module _ (store shards : ℕ) (left after : NodeName → List Record → Type 0) (now : Moment) (next : Nodes) (st : Stands store shards left now) (flush : FlushesCoordinator left after now.nodes next) where
   abbrev records : List Record
   records = flush.durable ++ flush.staged
 
   abbrev m : Machine
   m = all_kept now.machine records
-
-  abbrev flushed : Moment
-  flushed = record now { nodes = next; machine = m; running = ended r.slot now.running }
 
   whole : Means store shards now.machine.log now.machine.horizon records (at_shards (leaves left now.nodes))
   whole = st.heads.whole flush.durable flush.staged flush.was
@@ -67,31 +65,51 @@ module _ (store shards : ℕ) (left after : NodeName → List Record → Type 0)
       unchanged coordinator ne = absurd (ne refl)
       unchanged (shard t) ne = flush.shards t
 
-  turns : Turns shards (IsHorizonIn store shards left now.nodes) now r (answered done ∷ []) flushed
-  turns = record {
+  is_quiet : IsQuietCall store shards left after now next m
+  is_quiet = record {
+    stands = coordinator_flushes_stand store shards left after now next st flush whole.image;
     moves = moved.0;
     machine = moved.1;
+    quiet = moved.2;
     node = coordinator;
     others = same_but;
     called = inr (inr (inl (record { durable = flush.durable; staged = flush.staged; was = flush.was; now = flush.now })));
-    later = with_flush r m;
-    open_writes = inl (record { open_writes = flush.open_writes; given = flush.given });
-    turned = record {
-      slot = refl;
-      asked = refl;
-      same_id = λ id is. is;
-      seen = refl;
-      decides = inr (record { moves_are = moved.2; decided = refl });
-      met = inl refl;
-      cancelled = refl;
-      reopened_is = refl;
-    };
-    named = refl;
-    tells = inl (goes_on, (answered done, refl, (subst (λ (a : Asked). Agrees (with_flush r m) flushed a done) (sym asked) refl, refl, refl)));
+    open_writes = record { open_writes = flush.open_writes; given = flush.given };
   }
+
+  -- where the flow was to flush the coordinator, it ends
+  module _ (r : Running) (asked : r.asked ≡ to_flush coordinator) (goes_on : r.is_cancelled ≡ false) where
+    abbrev flushed : Moment
+    flushed = record now { nodes = next; machine = m; running = ended r.slot now.running }
+
+    turns : Turns shards (IsHorizonIn store shards left now.nodes) now r (answered done ∷ []) flushed
+    turns = record {
+      moves = moved.0;
+      machine = moved.1;
+      node = coordinator;
+      others = same_but;
+      called = inr (inr (inl (record { durable = flush.durable; staged = flush.staged; was = flush.was; now = flush.now })));
+      later = with_flush r m;
+      open_writes = inl (record { open_writes = flush.open_writes; given = flush.given });
+      turned = record {
+        slot = refl;
+        asked = refl;
+        same_id = λ id is. is;
+        seen = refl;
+        decides = inr (record { moves_are = moved.2; decided = refl });
+        met = inl refl;
+        cancelled = refl;
+        reopened_is = refl;
+      };
+      named = refl;
+      tells = inl (goes_on, (answered done, refl, (subst (λ (a : Asked). Agrees (with_flush r m) flushed a done) (sym asked) refl, refl, refl)));
+    }
+
+pub flushes_are_quiet : (store shards : ℕ) (left after : NodeName → List Record → Type 0) → CoordinatorFlushesAreQuiet store shards left after
+flushes_are_quiet store shards left after now next st flush = is_quiet store shards left after now next st flush
 
 pub flushes_answer : (store shards : ℕ) (left after : NodeName → List Record → Type 0) → FlushesAnswer store shards left after
 flushes_answer store shards left after now next r st flush image asked goes_on = (
   flows_end store shards after (record now { nodes = next; machine = all_kept now.machine (flush.durable ++ flush.staged) }) r.slot (coordinator_flushes_stand store shards left after now next st flush image),
-  turns store shards left after now next r st flush image asked goes_on,
+  turns store shards left after now next st flush r asked goes_on,
 )

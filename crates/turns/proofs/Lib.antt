@@ -23,6 +23,7 @@ pub mod DecisionNodes
 pub mod DecisionFlows
 pub mod DecisionLists
 pub mod SmallRuns
+mod SmallChecks
 pub mod NewStore
 pub mod RunChain
 pub mod RunNames
@@ -40,12 +41,18 @@ pub mod Batches
 pub mod DecideSeam
 pub mod BeginSeam
 pub mod AbortSeam
+pub mod CoordinatorCalls
+pub mod CoordinatorTurns
+pub mod DecideCauses
+pub mod RaiseSeam
+pub mod CoordinatorOpeningSeam
 pub mod FlushTurn
 pub mod FailedFlushTurn
 pub mod ShardFlushTurn
 pub mod AlikeRecords
 pub mod OnceEach
 pub mod CheckWalk
+pub mod AnswerTurns
 pub mod SeesOn
 pub mod QuietTurns
 pub mod ShardSeam

@@ -69,7 +69,7 @@ mapped f [] y has = absurd (omega (arith, has.1))
 mapped f (x ∷ xs) y (zero, lt, same) = (x, (zero, omega arith, refl), same)
 mapped f (x ∷ xs) y (suc k, lt, same) = let rest = mapped f xs y (k, omega (arith, lt), same) in (rest.0, Contains-append_right (x ∷ []) xs rest.0 rest.1, rest.2)
 
-map_has : {X Y : Type 0} (f : X → Y) (xs : List X) (x : X) → Contains xs x → Contains (map f xs) (f x)
+pub map_has : {X Y : Type 0} (f : X → Y) (xs : List X) (x : X) → Contains xs x → Contains (map f xs) (f x)
 map_has f [] x has = absurd (omega (arith, has.1))
 map_has f (y ∷ xs) x (zero, lt, same) = (zero, omega arith, ap f same)
 map_has f (y ∷ xs) x (suc k, lt, same) = Contains-append_right (f y ∷ []) (map f xs) (f x) (map_has f xs x (k, omega (arith, lt), same))

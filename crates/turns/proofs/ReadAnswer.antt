@@ -26,8 +26,8 @@ use Rattle.turns.specs.Flows.{Freshness, ReadHolds}
 use Rattle.turns.specs.Held.{IsRightRead, there_below}
 use Rattle.turns.specs.Moments.{Moment, Running}
 use Rattle.laws.specs.Nodes.{NodeName, NodeState, ShardKnows, coordinator, leaves, shard, staged_of}
-use Rattle.turns.specs.ReadingLaws.{IsMerged, IsReading, IsShardReply, NeedsOnly, OneShardIsEnough, ReadsAgree, ReadsAskAll, ReadsFinishOne, ReadsGoOn, RepliesSelect, ShardRowsShowSnapshots, there_of}
-use Rattle.turns.specs.Replies.{IsReadAnswer}
+use Rattle.turns.specs.ReadingLaws.{IsMerged, IsReading, IsShardReply, NeedsOnly, OneShardIsEnough, ReadsAgree, ReadsAskAll, ReadsBegin, ReadsFinishOne, ReadsGoOn, RepliesSelect, ShardRowsShowSnapshots, there_of}
+use Rattle.turns.specs.Replies.{IsPlaceOf, IsReadAnswer}
 use Rattle.laws.specs.Shards.{ShardMeans}
 use Rattle.turns.specs.Stands.{Stands}
 use Rattle.laws.proofs.KeptVersions.{versions_give_snapshots}
@@ -98,6 +98,30 @@ one_shard_is_enough shards s log place q rows needs selects = record {
 first_writes : (log : List Entry) (n place : ℕ) → place ≤ n → (t : Tuple) → is_at (take n log) place t ≡ is_at log place t
 unfolding is_at
 first_writes log n place le t = ap (λ (l : List Entry). there_after t false (flat_map (λ (v : Entry). v.changes) l)) (take-take place n log le)
+
+-- of the shards below the first nothing is selected
+none_below : (shards : ℕ) (left : NodeName → List Record → Type 0) (log : List Entry) (s : ℕ) (q : Tupleset) → IsSelection (there_below shards left 0 log s) q []
+none_below shards left log s q = record {
+  ascending = tt;
+  exact = λ t. (
+    λ has. absurd (omega (arith, has.1)),
+    λ is. let lt : shard_of shards t.object < 0 = ltb-true _ _ (and_parts (is_at log s t) (nat_lt (shard_of shards t.object) 0) is.0).1 in absurd (omega (arith, lt)),
+  );
+}
+
+pub reads_begin : (store shards : ℕ) (left : NodeName → List Record → Type 0) → ReadsBegin store shards left
+reads_begin store shards left now r fresh sets h place right none found =
+    let empty = right.nothing none in
+    record {
+      heads = right.heads;
+      place = λ s is. subst (IsPlaceOf fresh r now.machine) (same_Some place s is) found;
+      done = λ s i q rows is at_set at_row. let within = slice_get_within h.done i rows at_row in absurd (omega (arith, within, ap length empty.0));
+      few = right.few;
+      rows = λ s q is at. subst (λ (rows : List Tuple). IsSelection (there_below shards left h.below now.machine.log s) q rows) (sym empty.2)
+          (subst (λ (n : ℕ). IsSelection (there_below shards left n now.machine.log s) q []) (sym empty.1) (none_below shards left now.machine.log s q));
+      nothing = λ is. absurd cc;
+      batch = right.batch;
+    }
 
 module _ (store shards : ℕ) (left : NodeName → List Record → Type 0) (now : Moment) where
   -- a shard's rows show at a kept place which of its own tuples were there
@@ -212,19 +236,10 @@ module _ (store shards : ℕ) (left : NodeName → List Record → Type 0) (now 
           (subst (λ (x : List Tuple). IsSelection (is_at now.machine.log place) q x) new.1 selects)))
           (slice_get_push h.done rows row i at_row);
       few = let lt : length h.done < length sets = slice_get_within sets (length h.done) q reading.next in omega (arith, lt, length_push h.done rows);
-      rows = λ s p is at. none_yet s p;
+      rows = λ s p is at. none_below shards left now.machine.log s p;
       nothing = λ none. let both : None ≡ Some place = sym none ∙ reading.at_place in absurd cc;
       batch = right.batch;
     }
-      where
-        none_yet : (s : ℕ) (p : Tupleset) → IsSelection (there_below shards left 0 now.machine.log s) p []
-        none_yet s p = record {
-          ascending = tt;
-          exact = λ t. (
-            λ has. absurd (omega (arith, has.1)),
-            λ is. let lt : shard_of shards t.object < 0 = ltb-true _ _ (and_parts (is_at now.machine.log s t) (nat_lt (shard_of shards t.object) 0) is.0).1 in absurd (omega (arith, lt)),
-          );
-        }
 
     pub reads_agree : h.place ≡ Some place → length h.done ≡ length sets → IsReadAnswer fresh sets r now.machine place h.done
     reads_agree at all = record { place = right.place place at; all = all; each = λ i q row at_set at_row. right.done place i q row at at_set at_row }

@@ -48,8 +48,9 @@ pub record Walks (y : Userset) (rows : List Tuple) (h next : CheckHolds) : Type 
   pub new : (z : Userset) → Contains more z → Contains (h.walked ++ h.waiting) z → ⊥
   pub all : (z : Userset) → Contains rows (holding y (Set z)) → Contains (h.walked ++ h.waiting) z ⊎ Contains more z
 
--- The store has this id and so many shards, and a stop may leave this of each node, but for what is staged. Of the premises, that the store stands and
--- the shard's answer are the call's; what a check holds, what it makes of it, and where it goes, are the flow's.
+-- The store has this id and so many shards, and a stop may leave this of each node, but for what is staged. Of the premises, that the store stands, and
+-- that a stop leaves some records of the coordinator, are the store's; the shard's answer is the call's; what a check holds, what it makes of an answer,
+-- and where it goes, are the flow's.
 module _ (store shards : ℕ) (left : NodeName → List Record → Type 0) where
   -- what the userset's own shard answers at a kept place is what a check asks of the whole store
   abbrev pub CheckRepliesSelect : Type 0

@@ -12,6 +12,8 @@ pub mod Reopens
 pub mod StoreLaws
 pub mod PrepareLaws
 pub mod SeamLaws
+pub mod CoordinatorSeamLaws
+pub mod CoordinatorOpeningLaws
 pub mod AlikeLaws
 pub mod DecidingLaws
 pub mod FlowLaws
@@ -25,6 +27,7 @@ pub mod AbortLaws
 pub mod HeadsLaws
 pub mod ReadingLaws
 pub mod CheckingLaws
+pub mod AnswerLaws
 pub mod QuietTurns
 pub mod ShardSeamLaws
 pub mod ShardOpeningLaws

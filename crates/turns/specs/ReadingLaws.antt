@@ -1,5 +1,5 @@
 -- Laws of reads: what shards answer, one after another, is what a tupleset selects of the whole store at one place.
-use Rattle.std.specs.Prelude.{◌≡◌, ◌≤◌, ◌<◌, ◌+◌, ◌⊎◌, ◌↔◌, ◌&&◌, ◌==◌, ℕ, Bool, List, [], ◌∷◌, ◌++◌, length, Some, Contains, slice_get}
+use Rattle.std.specs.Prelude.{◌≡◌, ◌≤◌, ◌<◌, ◌+◌, ◌⊎◌, ◌↔◌, ◌&&◌, ◌==◌, ℕ, Bool, List, [], ◌∷◌, ◌++◌, length, Some, None, Contains, slice_get}
 use Rattle.tuples.specs.declared.entry.Entry.{Entry}
 use Rattle.tuples.specs.declared.tuple.Tuple.{Tuple}
 use Rattle.tuples.specs.declared.tupleset.Tupleset.{Tupleset}
@@ -16,7 +16,7 @@ use Rattle.laws.specs.Nodes.{NodeName, ShardKnows, coordinator}
 use Rattle.turns.specs.Flows.{Freshness, ReadHolds}
 use Rattle.turns.specs.Held.{IsRightRead}
 use Rattle.turns.specs.Moments.{Moment, Running}
-use Rattle.turns.specs.Replies.{IsReadAnswer}
+use Rattle.turns.specs.Replies.{IsPlaceOf, IsReadAnswer}
 use Rattle.turns.specs.Stands.{Stands}
 
 -- a tuple that was there at a place, of one shard
@@ -64,6 +64,11 @@ module _ (store shards : ℕ) (left : NodeName → List Record → Type 0) where
   RepliesSelect = (now : Moment) (s place : ℕ) (q : Tupleset) (rows : List Tuple) → Stands store shards left now
       → ((found : List Record) × left coordinator found) → s < shards → place ≤ now.machine.kept → IsShardReply now s place q rows
       → IsSelection (there_of shards s now.machine.log place) q rows
+
+  -- a read that finds its place holds what is right
+  abbrev pub ReadsBegin : Type 0
+  ReadsBegin = (now : Moment) (r : Running) (fresh : Freshness) (sets : List Tupleset) (h : ReadHolds) (place : ℕ) → IsRightRead shards left now r fresh sets h → h.place ≡ None
+      → IsPlaceOf fresh r now.machine place → IsRightRead shards left now r fresh sets (record h { place = Some place })
 
   -- with the answer of the next shard a read holds what is right
   abbrev pub ReadsGoOn : Type 0

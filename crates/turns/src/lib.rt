@@ -7,7 +7,10 @@
 #![tactic(auto)]
 
 mod abort_laws;
+mod answer_laws;
 mod checking_laws;
+mod coordinator_opening_laws;
+mod coordinator_seam_laws;
 mod deciding_laws;
 mod flow_laws;
 mod flush_laws;
@@ -31,9 +34,12 @@ pub use abort_laws::{
     ids_that_are_not_found_are_aborted, intents_are_refused_with_cause, outcomes_agree,
     tickets_are_refused_with_cause,
 };
-pub use checking_laws::{
-    check_replies_select, checks_begin, checks_go_on, checks_say_no, checks_say_yes,
-    full_checks_have_cause,
+pub use answer_laws::{answers_agree, cares_agree, coordinator_flushes_are_quiet};
+pub use checking_laws::{check_replies_select, checks_agree, checks_walk};
+pub use coordinator_opening_laws::coordinator_opening_is_a_step;
+pub use coordinator_seam_laws::{
+    batch_takes_its_turn, decide_has_cause, heads_take_their_turn, inquire_takes_its_turn,
+    outcome_takes_its_turn, raise_takes_its_turn,
 };
 pub use deciding_laws::{
     deciders_hold_what_is_right, deciders_take_their_turn, decisions_leave_the_store_standing,
@@ -66,8 +72,8 @@ pub use quiet_laws::{
 };
 pub use raising_laws::horizons_leave_the_store_standing;
 pub use reading_laws::{
-    one_shard_is_enough, reads_agree, reads_ask_all, reads_finish_a_tupleset, reads_go_on,
-    replies_select, shard_rows_show_snapshots,
+    one_shard_is_enough, reads_agree, reads_ask_all, reads_begin, reads_finish_a_tupleset,
+    reads_go_on, replies_select, shard_rows_show_snapshots,
 };
 pub use restart_laws::{
     closed_stores_stand, openings_of_shards_are_steps,

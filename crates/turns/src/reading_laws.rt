@@ -1,6 +1,6 @@
 // Laws of reads, each the clause of a function with an empty body.
 ghost use Rattle.std.specs.Prelude.{ℕ};
-ghost use Rattle.turns.specs.ReadingLaws.{OneShardIsEnough, ReadsAgree, ReadsAskAll, ReadsFinishOne, ReadsGoOn, RepliesSelect, ShardRowsShowSnapshots};
+ghost use Rattle.turns.specs.ReadingLaws.{OneShardIsEnough, ReadsAgree, ReadsAskAll, ReadsBegin, ReadsFinishOne, ReadsGoOn, RepliesSelect, ShardRowsShowSnapshots};
 
 use laws::Leavings;
 
@@ -17,6 +17,11 @@ pub fn one_shard_is_enough()
 /// A shard's answer at a kept place is what the tupleset selects of its tuples.
 pub fn replies_select<W: Leavings>()
     ensures { (store shards : ℕ) → RepliesSelect store shards W.left }
+{}
+
+/// A read that finds its place holds what is right.
+pub fn reads_begin<W: Leavings>()
+    ensures { (store shards : ℕ) → ReadsBegin store shards W.left }
 {}
 
 /// With the answer of the next shard a read holds what is right.
