@@ -62,6 +62,7 @@ fn newest(versions: &Versions, changes: &[Change]) -> u64 {
     newest
 }
 
+// The tupleset is lent, since each way out of a function that owns one is proved.
 fn read(
     rt: &impl Clock,
     alloc: Global,
@@ -70,10 +71,20 @@ fn read(
     text: &str,
 ) -> anyhow::Result<Timing> {
     let set = Tupleset::parse(alloc, text.as_bytes())?;
+    read_set(rt, alloc, versions, place, &set)
+}
+
+fn read_set(
+    rt: &impl Clock,
+    alloc: Global,
+    versions: &Versions,
+    place: u64,
+    set: &Tupleset,
+) -> anyhow::Result<Timing> {
     let mut tuples = 0;
     let start = Instant::now(rt)?;
     for _ in 0..READS {
-        tuples = found(alloc, versions, place, &set)?;
+        tuples = found(alloc, versions, place, set)?;
     }
     Ok(Timing {
         amount: READS,

@@ -16,8 +16,6 @@ mod faults;
 mod sim_device;
 mod sim_disk;
 mod tear;
-#[cfg(test)]
-mod tests;
 
 pub use device::{Device, Stopped};
 pub use sim_disk::SimDisk;

@@ -12,8 +12,6 @@ mod format;
 mod log;
 mod opening;
 mod split;
-#[cfg(test)]
-mod tests;
 
 pub use format::{MAX_BODY, MAX_DEVICE};
 pub use log::GatedLog;

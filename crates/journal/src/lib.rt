@@ -12,8 +12,6 @@ mod batches;
 mod journal;
 mod refused;
 mod room;
-#[cfg(test)]
-mod tests;
 
 pub use journal::Journal;
 pub use refused::{Bank, Refused};

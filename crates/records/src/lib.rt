@@ -33,6 +33,3 @@ pub use laws::no_record_begins_another;
 pub use measure::{decision_len, prepare_len};
 pub use places::ask_of_log;
 pub use record::{PlacedId, PlacedIds, Record};
-
-#[cfg(test)]
-mod tests;

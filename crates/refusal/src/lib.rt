@@ -9,8 +9,6 @@
 
 mod laws;
 mod refusal;
-#[cfg(test)]
-mod tests;
 
 pub use laws::{a_name_is_of_one_refusal, a_number_is_of_one_refusal};
 pub use refusal::Refusal;

@@ -10,7 +10,5 @@
 mod learning;
 mod memory;
 mod rules;
-#[cfg(test)]
-mod tests;
 
 pub use memory::Memory;

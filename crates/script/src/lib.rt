@@ -12,8 +12,6 @@ mod conditions;
 mod fail;
 mod numbers;
 mod read;
-#[cfg(test)]
-mod tests;
 mod words;
 mod write;
 

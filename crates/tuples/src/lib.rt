@@ -22,8 +22,6 @@ mod relation;
 mod sharding;
 mod spell;
 mod split;
-#[cfg(test)]
-mod tests;
 mod tuple;
 mod tupleset;
 mod user;

@@ -9,8 +9,6 @@
 
 mod bytes;
 mod laws;
-#[cfg(test)]
-mod tests;
 mod text;
 mod zookie;
 

@@ -1,8 +1,8 @@
 // Tokens, their texts and the alphabet, by tables that another program's base64 gave.
-use crate::{Zookie, a_text_is_of_one_zookie};
 use base64::engine::general_purpose::STANDARD;
+use refusal::Refusal;
 use std::test::Fail;
-use tuples::Refusal;
+use zookie::{Zookie, a_text_is_of_one_zookie};
 
 const GREATEST: u64 = u64::MAX;
 

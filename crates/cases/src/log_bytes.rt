@@ -1,6 +1,6 @@
 // A gated log over a disk in memory: its bytes, and what is found after a failure.
-use crate::GatedLog;
 use device::{Device, SimDisk, Tear};
+use gated::GatedLog;
 use refusal::Refusal;
 use std::alloc::{AllocError, Global};
 use std::test::Fail;

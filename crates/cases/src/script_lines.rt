@@ -1,8 +1,8 @@
 // Lines and what they are read as.
-use crate::{Command, MAX_LINE};
+use refusal::Refusal;
+use script::{Command, MAX_LINE};
 use std::alloc::Global;
 use std::test::Fail;
-use tuples::Refusal;
 
 // The name of the line's command, or the number of its refusal.
 fn read_as(alloc: Global, line: &[u8]) -> &'static str {

@@ -1,5 +1,5 @@
 // The numbers and names of the refusals.
-use crate::Refusal;
+use refusal::Refusal;
 use std::test::Fail;
 
 #[test]

@@ -1,11 +1,11 @@
 // The bytes of a journal over two disks in memory, and what is found in them, also after a call of a disk failed.
 // The batches were worked out by hand. Version 1 is read, version 2 is written.
-use crate::{Bank, Journal};
 use device::{Device, SimDisk, Tear};
+use journal::{Bank, Journal};
 use records::decode_batch;
+use refusal::Refusal;
 use std::alloc::Global;
 use std::test::Fail;
-use tuples::Refusal;
 
 /// The first opening of shard 1 of 2 of store 1, behind its gate.
 const OPENED: [u8; 28] = [

@@ -1,6 +1,6 @@
 // The order of tuples.
-use crate::Refusal;
-use crate::tests::parsed;
+use crate::tuple_texts::parsed;
+use refusal::Refusal;
 use std::alloc::Global;
 use std::cmp::Ordering;
 use std::test::Fail;

@@ -1,8 +1,9 @@
 // What a shard knows after its records, and which records may not come next: bytes of records that were worked out by hand.
-use crate::Memory;
 use records::{Identity, decode_batch};
+use refusal::Refusal;
+use replay::Memory;
 use std::alloc::{AllocError, Global};
-use tuples::{Refusal, Tupleset};
+use tuples::Tupleset;
 
 /// A record, by its bytes.
 #[derive(Clone, Copy, Debug, PartialEq, Eq)]

@@ -1,14 +1,18 @@
 // Tuples and tuplesets, and their texts.
-use crate::tests::parsed;
-use crate::{
-    Refusal, Tupleset, User, a_text_is_of_one_tuple, a_text_is_of_one_tupleset,
-    a_tuple_has_one_text,
-};
+use refusal::Refusal;
 use std::alloc::Global;
 use std::test::Fail;
+use tuples::{
+    Tuple, Tupleset, User, a_text_is_of_one_tuple, a_text_is_of_one_tupleset, a_tuple_has_one_text,
+};
 
 // Each `N` of a row stands for these 64 bytes.
 const NAME: &str = "a23456789_b23456789_c23456789_d23456789_e23456789_f23456789_g234";
+
+// Nothing is known of the tuple, so that the tests which use it are proved fast.
+pub(crate) fn parsed(alloc: Global, text: &str) -> Result<Tuple, Refusal> {
+    Tuple::parse(alloc, text.as_bytes())
+}
 
 fn respelled(alloc: Global, text: &str) -> Result<Vec<u8>, Refusal> {
     let tuple = parsed(alloc, text)?;

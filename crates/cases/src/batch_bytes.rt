@@ -1,8 +1,8 @@
 // Bytes of batches that were worked out by hand.
-use crate::decode_batch;
+use records::decode_batch;
+use refusal::Refusal;
 use std::alloc::Global;
 use std::test::Fail;
-use tuples::Refusal;
 
 /// The first opening of node 1 of two shards, store 1.
 const OPENING: [u8; 22] = [

@@ -1,0 +1,28 @@
+//! Tables of cases for the crates below a node: texts, bytes and what a stop leaves, with values that were worked out outside the program.
+//!
+//! Keeps: nothing at run time; it has tests alone.
+//! They stand here, over public calls, since a crate with tests of its own is proved once more for them.
+#![tactic(auto)]
+
+#[cfg(test)]
+mod batch_bytes;
+#[cfg(test)]
+mod journal_bytes;
+#[cfg(test)]
+mod log_bytes;
+#[cfg(test)]
+mod object_shards;
+#[cfg(test)]
+mod refusal_names;
+#[cfg(test)]
+mod script_lines;
+#[cfg(test)]
+mod shard_replay;
+#[cfg(test)]
+mod struck_disks;
+#[cfg(test)]
+mod token_texts;
+#[cfg(test)]
+mod tuple_order;
+#[cfg(test)]
+mod tuple_texts;
