@@ -2,7 +2,7 @@
 // The batches were worked out by hand. Version 1 is read, version 2 is written.
 use device::{Device, SimDisk, Tear};
 use journal::{Bank, Journal};
-use records::decode_batch;
+use records::{Record, decode_batch};
 use refusal::Refusal;
 use std::alloc::Global;
 use std::test::Fail;
@@ -91,18 +91,35 @@ fn flushed(
     tear: Tear,
 ) -> Result<Vec<u8>, Fail> {
     let (mut journal, _) = opened(alloc, content)?;
-    for record in &decode_batch(alloc, batch)? {
+    let records = decode_batch(alloc, batch)?;
+    let as_scripted = stage_and_flush(&mut journal, &records, n, tear)?;
+    let (mut a, _) = journal.into_devices();
+    if as_scripted {
+        revived(alloc, &mut a)
+    } else {
+        Err("the script failed another call".into())
+    }
+}
+
+/// Whether the flush failed exactly where one of its four calls did.
+fn stage_and_flush<D: Device>(
+    journal: &mut Journal<D>,
+    records: &[Record],
+    n: u64,
+    tear: Tear,
+) -> Result<bool, Refusal> {
+    for record in records {
         journal.stage(record)?;
     }
     journal.fail(Bank::A, n, tear);
     let result = journal.flush();
-    if result.is_ok() != (n > 4) || journal.is_down() != (n <= 4) {
-        return Err("the script failed another call".into());
-    }
-    let (mut a, _) = journal.into_devices();
-    a.revive()?;
-    let mut bytes = vec![in alloc; 0; a.len()?]?;
-    a.read_at(0, &mut bytes)?;
+    Ok(result.is_ok() == (n > 4) && journal.is_down() == (n <= 4))
+}
+
+fn revived<D: Device>(alloc: Global, device: &mut D) -> Result<Vec<u8>, Fail> {
+    device.revive()?;
+    let mut bytes = vec![in alloc; 0; device.len()?]?;
+    device.read_at(0, &mut bytes)?;
     Ok(bytes)
 }
 

@@ -119,11 +119,15 @@ fn apply_all(alloc: Global, steps: &[Step]) -> Result<Memory, usize> {
     Ok(memory)
 }
 
+fn count(alloc: Global, memory: &Memory, place: u64, set: &Tupleset) -> Result<usize, AllocError> {
+    let tuples = memory.at(alloc, place, set)?;
+    Ok(tuples.len())
+}
+
 /// How many tuples of `doc:a#viewer` are there at a place.
 fn there(alloc: Global, memory: &Memory, place: u64) -> Result<usize, Refusal> {
     let set = Tupleset::parse(alloc, b"doc:a#viewer")?;
-    let tuples = memory.at(alloc, place, &set)?;
-    Ok(tuples.len())
+    Ok(count(alloc, memory, place, &set)?)
 }
 
 /// What a shard that was opened twice, learned a write and dropped another knows: its openings, what it has learned, its horizon, and

@@ -4,17 +4,26 @@ use refusal::Refusal;
 use std::alloc::Global;
 use std::cmp::Ordering;
 use std::test::Fail;
+use tuples::Tuple;
 
 // How the first compares with the second, if each comparison of them says the same.
+fn compared(a: &Tuple, b: &Tuple) -> Option<Ordering> {
+    let order = a.cmp(b);
+    let agree = b.cmp(a) == order.reverse()
+        && a.is(b) == order.is_eq()
+        && (a == b) == order.is_eq()
+        && a.is_before(b) == order.is_lt();
+    if agree { Some(order) } else { None }
+}
+
+fn order_with(alloc: Global, a: &Tuple, second: &str) -> Result<Option<Ordering>, Refusal> {
+    let b = parsed(alloc, second)?;
+    Ok(compared(a, &b))
+}
+
 fn order_of(alloc: Global, first: &str, second: &str) -> Result<Option<Ordering>, Refusal> {
     let a = parsed(alloc, first)?;
-    let b = parsed(alloc, second)?;
-    let order = a.cmp(&b);
-    let agree = b.cmp(&a) == order.reverse()
-        && a.is(&b) == order.is_eq()
-        && (a == b) == order.is_eq()
-        && a.is_before(&b) == order.is_lt();
-    Ok(if agree { Some(order) } else { None })
+    order_with(alloc, &a, second)
 }
 
 #[test]
