@@ -2,7 +2,7 @@
 // The batches were worked out by hand. Version 1 is read, version 2 is written.
 use device::{Device, SimDisk, Tear};
 use journal::{Bank, Journal};
-use records::{Record, decode_batch};
+use records::decode_batch;
 use refusal::Refusal;
 use std::alloc::Global;
 use std::test::Fail;
@@ -91,8 +91,7 @@ fn flushed(
     tear: Tear,
 ) -> Result<Vec<u8>, Fail> {
     let (mut journal, _) = opened(alloc, content)?;
-    let records = decode_batch(alloc, batch)?;
-    let as_scripted = stage_and_flush(&mut journal, &records, n, tear)?;
+    let as_scripted = stage_and_flush(alloc, &mut journal, batch, n, tear)?;
     let (mut a, _) = journal.into_devices();
     if as_scripted {
         revived(alloc, &mut a)
@@ -103,12 +102,13 @@ fn flushed(
 
 /// Whether the flush failed exactly where one of its four calls did.
 fn stage_and_flush<D: Device>(
+    alloc: Global,
     journal: &mut Journal<D>,
-    records: &[Record],
+    batch: &[u8],
     n: u64,
     tear: Tear,
 ) -> Result<bool, Refusal> {
-    for record in records {
+    for record in &decode_batch(alloc, batch)? {
         journal.stage(record)?;
     }
     journal.fail(Bank::A, n, tear);
