@@ -1,5 +1,5 @@
 mod Kept
-mod Waiting
+pub mod Waiting
 pub mod Tested
 mod Below
 mod Prepared

@@ -9,12 +9,10 @@ use Rattle.turns.specs.FlushLaws.{FailedFlushesStand, FailsFlush}
 use Rattle.laws.specs.Machines.{Machine}
 use Rattle.turns.specs.Moments.{Moment}
 use Rattle.laws.specs.Nodes.{CoordinatorKnows, NodeName, NodeState, Nodes, coordinator, down, leaves, refused, shard, staged_of, up, IsOfRefusedOpening}
-use Rattle.turns.specs.Stands.{HeadsStand, NodesStand, Stands, at_shards}
-use Rattle.laws.specs.Worlds.{Means, Rests}
+use Rattle.turns.specs.Stands.{HeadsStand, NodesStand, Stands}
 use Rattle.laws.proofs.CoordinatorStates.{coordinator_from-append}
 use Rattle.turns.proofs.DecisionNodes.{epoch_stays}
-use Rattle.laws.proofs.LessLeft.{less_rests}
-use Rattle.turns.proofs.LessLeftFlows.{GoesOn, stands_on}
+use Rattle.turns.proofs.LessLeftFlows.{GoesOn, both_less, stands_on}
 use Rattle.refusal.specs.declared.refusal.Refusal.{Refusal}
 
 -- what is asked of the coordinator that is known of it alone
@@ -103,15 +101,11 @@ module _ (store shards : ℕ) (left after : NodeName → List Record → Type 0)
   shard_less : (t : ℕ) (rs : List Record) → leaves after next (shard t) rs → leaves left now.nodes (shard t) rs
   shard_less t rs is = (is.0, (fails.same t is.0).0 is.1, ⊎_elim (λ plain. inl plain) (λ more. inr (more ∙ ap (λ (x : NodeState). is.0 ++ staged_of x) (fails.unchanged t))) is.2)
 
-  both_less : (Rests store shards now.machine.log now.machine.kept now.machine.horizon (leaves left now.nodes coordinator) (at_shards (leaves left now.nodes)) → Rests store shards now.machine.log now.machine.kept now.machine.horizon (leaves after next coordinator) (at_shards (leaves after next)))
-      × ((c : List Record) → Means store shards now.machine.log now.machine.horizon c (at_shards (leaves left now.nodes)) → Means store shards now.machine.log now.machine.horizon c (at_shards (leaves after next)))
-  both_less = less_rests (leaves left now.nodes coordinator) (leaves after next coordinator) (at_shards (leaves left now.nodes)) (at_shards (leaves after next)) store shards now.machine.log now.machine.kept now.machine.horizon less shard_less
-
   on : GoesOn store shards left after now next
   on = record {
     stands = stands;
-    rests = both_less.0 stands.rests;
-    whole = λ c is. both_less.1 c;
+    rests = (both_less store shards left after now next less shard_less).0 stands.rests;
+    whole = λ c is. (both_less store shards left after now next less shard_less).1 c;
     in_doubt = λ t found is. (found, shard_less t found is, refl);
     listed = λ t found lt is. stands.listed t found lt (shard_less t found is);
     shard_knew = λ t m k. inl (m, record { durable = k.durable; staged = k.staged; is_up = sym (fails.unchanged t) ∙ k.is_up; replayed = k.replayed }, refl, refl);

@@ -10,12 +10,21 @@ use Rattle.records.specs.Coordinators.{CoordinatorState}
 use Rattle.records.specs.Replays.{ShardState, find_in_doubt, shard_state}
 use Rattle.decisions.specs.Standing.{IsGivenOut, IsSettled, IsShardEpoch}
 use Rattle.laws.specs.Worlds.{Means, Rests}
+use Rattle.laws.proofs.LessLeft.{less_rests}
 use Rattle.turns.specs.Flows.{Asked, HeldTicket, HeldVote, Holds, RaiseHolds, Resolved, ResolveHolds, WriteHolds, aborted, checking, collecting, committed, flushing, learning, raising, reading, resolving, to_check, to_collect, to_flush, to_learn, to_raise, to_read, to_resolve, to_watch, to_write, undecided, watching, writing}
 use Rattle.turns.specs.Held.{IsOpen, IsRight, IsRightOwn, IsRightRaise, IsRightResolve, IsRightResolved, IsRightTicket, IsRightVerdict, IsRightVote, IsRightWrite, WasGiven, own_write}
 use Rattle.turns.specs.Moments.{Moment, Running}
 use Rattle.laws.specs.Nodes.{CoordinatorKnows, NodeName, Nodes, ShardKnows, coordinator, down, leaves, shard, up, staged_of, NodeState}
 use Rattle.turns.specs.StagingLaws.{with_nodes}
 use Rattle.turns.specs.Stands.{NodesStand, Stands, at_shards, AreApart, ListedStand}
+
+-- a stop leaves no more of any node: all nodes go on to rest
+pub both_less : (store shards : ℕ) (left after : NodeName → List Record → Type 0) (now : Moment) (next : Nodes) → ((rs : List Record) → leaves after next coordinator rs → leaves left now.nodes coordinator rs)
+    → ((t : ℕ) (rs : List Record) → leaves after next (shard t) rs → leaves left now.nodes (shard t) rs)
+    → (Rests store shards now.machine.log now.machine.kept now.machine.horizon (leaves left now.nodes coordinator) (at_shards (leaves left now.nodes)) → Rests store shards now.machine.log now.machine.kept now.machine.horizon (leaves after next coordinator) (at_shards (leaves after next)))
+    × ((c : List Record) → Means store shards now.machine.log now.machine.horizon c (at_shards (leaves left now.nodes)) → Means store shards now.machine.log now.machine.horizon c (at_shards (leaves after next)))
+both_less store shards left after now next less shard_less =
+    less_rests (leaves left now.nodes coordinator) (leaves after next coordinator) (at_shards (leaves left now.nodes)) (at_shards (leaves after next)) store shards now.machine.log now.machine.kept now.machine.horizon less shard_less
 
 -- All nodes go on to rest; what a stop leaves of a shard has in doubt what it could leave before; a shard has in doubt what it had, or is of a later
 -- epoch; the coordinator is as it was, or down; and what a stop leaves of a node has no lower epoch, and of a shard has learned no less.

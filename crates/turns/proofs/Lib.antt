@@ -62,3 +62,6 @@ pub mod ShardReadSeam
 pub mod ShardOpeningSeam
 pub mod ShardCheckSeam
 pub mod ShardFailedSeam
+pub mod ShardLearnAnswer
+mod SmallTurns
+pub mod ShardReplaced

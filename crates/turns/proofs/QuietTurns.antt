@@ -13,10 +13,10 @@ use Rattle.records.specs.declared.record.Record.TheVariants.{Epoch}
 use Rattle.laws.specs.Machines.{Machine}
 use Rattle.laws.specs.Nodes.{IsOfRefusedOpening, NodeName, Nodes, coordinator}
 use Rattle.turns.specs.Causes.{HasItsCause}
-use Rattle.turns.specs.Flows.{Asked, Holds, WriteHolds, id_of, outward, to_write, writing}
+use Rattle.turns.specs.Flows.{Holds, WriteHolds, id_of, outward, to_write, writing}
 use Rattle.turns.specs.Held.{HoldsNothing, IsRight, IsRightOwn, IsRightTicket, IsRightVerdict, IsRightVote, IsRightWrite, own_write}
-use Rattle.turns.specs.Moments.{Moment, Running, is_write, ended, replaced}
-use Rattle.turns.specs.QuietTurns.{HasMet, AwayNodesHaveCause, HoldsLess, IsAway, IsQuietCall, IsQuietStep, QuietCallsAnswer, QuietCallsEnd, QuietCallsKeep, QuietCallsRefuse, QuietCallsTurn, RefusedFlowsEnd, RefusedWritesGoOut, WritesSpend, behind_call, ending, going_on, with_batch, with_call}
+use Rattle.turns.specs.Moments.{Moment, Running, ended, replaced}
+use Rattle.turns.specs.QuietTurns.{HasMet, AwayNodesHaveCause, HoldsLess, IsQuietCall, IsQuietStep, QuietCallsAnswer, QuietCallsEnd, QuietCallsKeep, QuietCallsRefuse, QuietCallsTurn, RefusedFlowsEnd, RefusedWritesGoOut, WritesSpend, behind_call, ending, going_on, with_batch, with_call}
 use Rattle.turns.specs.Replies.{Agrees, Answer}
 use Rattle.turns.specs.Runs.{EndsAs, EndsQuietly, IsQuiet, IsTurned, MayRise, Told, Turns, answered, goes_on, refuses, told_by}
 use Rattle.turns.specs.SeamLaws.{told_unless}

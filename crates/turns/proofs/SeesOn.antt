@@ -1,9 +1,8 @@
 -- A flow that has seen one machine more, and holds what it held but for the decisions on their way: all of it stays right.
-use Rattle.std.proofs.Common.{◌≡◌, ℕ, zero, suc, List, [], ◌∷◌, ◌++◌, Option, Some, Contains, slice_get, slice_index_or, refl, arith}
+use Rattle.std.proofs.Common.{◌≡◌, ℕ, List, [], ◌∷◌, ◌++◌, Option, Some, Contains, slice_get, refl, arith}
 use Rattle.std.proofs.lemmas.List.Elements.{Contains-append_left}
 use Rattle.tuples.specs.declared.change.Change.{Change}
 use Rattle.tuples.specs.declared.change.Condition.{Condition}
-use Rattle.tuples.specs.declared.entry.WriteId.{WriteId}
 use Rattle.records.specs.declared.record.Record.{Record}
 use Rattle.decisions.specs.Values.{BatchValue}
 use Rattle.decisions.specs.Standing.{HeadsValue}

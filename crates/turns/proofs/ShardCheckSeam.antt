@@ -1,29 +1,27 @@
 -- What a shard's own contract of a read for a check says makes turns of a run.
-use Rattle.std.proofs.Common.{◌≡◌, ◌≢◌, ◌⊎◌, inl, inr, ⊎_elim, ℕ, ◌≤◌, ◌<◌, true, List, [], Some, Contains, refl, sym, ◌∙◌, ap, subst, arith}
-use Rattle.std.proofs.lemmas.List.Elements.{All-nil}
+use Rattle.std.proofs.Common.{◌≡◌, ◌⊎◌, inl, ⊎_elim, ℕ, ◌<◌, List, refl, sym, ◌∙◌, ap, subst, arith}
 use Rattle.tuples.specs.declared.object.Userset.{Userset}
 use Rattle.tuples.specs.declared.tuple.Tuple.{Tuple}
 use Rattle.tuples.specs.declared.user.User.{User}
 use Rattle.tuples.specs.Log.{is_at}
 use Rattle.tuples.specs.Parts.{shard_of}
 use Rattle.tuples.specs.Walking.{IsCheckSelection}
-use Rattle.refusal.specs.declared.refusal.Refusal.{Refusal}
 use Rattle.refusal.specs.declared.refusal.Refusal.TheVariants.{Collected, NoMemory, Unsure}
 use Rattle.records.specs.declared.record.Record.{Record}
 use Rattle.shard.specs.Shards.{ShardView, memory}
 use Rattle.laws.specs.Nodes.{NodeName, coordinator}
 use Rattle.turns.specs.Causes.{HasItsCause, IsBelow}
 use Rattle.turns.specs.Flows.{Asked, CheckHolds, Freshness, Holds, checking, id_of, to_check}
-use Rattle.turns.specs.Held.{IsRight, IsRightCheck, IsRightVerdict}
-use Rattle.turns.specs.Moments.{Moment, Running, is_write}
-use Rattle.turns.specs.QuietTurns.{ending, with_call}
-use Rattle.turns.specs.Replies.{Agrees, checked}
+use Rattle.turns.specs.Held.{IsRight, IsRightCheck}
+use Rattle.turns.specs.Moments.{Moment, Running}
+use Rattle.turns.specs.QuietTurns.{with_call}
 use Rattle.turns.specs.ShardCheckLaws.{CheckTurns, CheckYesTurns, IsChecker, ReadsForCheckAt, RefusedChecksHaveCause}
-use Rattle.turns.specs.ShardSeamLaws.{ShardIsSeen, StandsAndTurns}
+use Rattle.turns.specs.ShardSeamLaws.{ShardIsSeen}
 use Rattle.turns.specs.Stands.{Stands}
+use Rattle.turns.proofs.AnswerTurns.{checks_end_yes}
 use Rattle.turns.proofs.Batches.{known_means}
-use Rattle.turns.proofs.CheckWalk.{check_replies_select, checks_go_on, checks_say_yes}
-use Rattle.turns.proofs.QuietTurns.{nothing_changes, quiet_calls_answer, quiet_calls_turn}
+use Rattle.turns.proofs.CheckWalk.{check_replies_select, checks_go_on}
+use Rattle.turns.proofs.QuietTurns.{nothing_changes, quiet_calls_turn}
 use Rattle.turns.proofs.SeesOn.{sees_on}
 use Rattle.turns.proofs.ShardReadSeam.{wants_below}
 use Rattle.turns.proofs.ShardSeam.{knows}
@@ -63,12 +61,9 @@ check_turns store shards left D now old s fresh x y u place rows r h later st so
 
 pub check_yes_turns : (store shards : ℕ) (left : NodeName → List Record → Type 0) (D : Type 0) → CheckYesTurns store shards left D
 check_yes_turns store shards left D now old s fresh x y u place rows r h st some seen of_shard own reply waits has =
-    quiet_calls_answer store shards left left now now.nodes now.machine r r.holds (checked place true) (nothing_changes store shards left now st) own.running refl (st.flows.quiet r own.running (ap is_write own.asked)).1
-    (subst (λ (a : Asked). Agrees (with_call r r.holds r.met now.machine) (ending now now.nodes now.machine r []) a (checked place true)) (sym own.asked)
-    (checks_say_yes store shards left now (with_call r r.holds r.met now.machine) fresh x u h place y rows
+    checks_end_yes store shards left left now now.nodes now.machine r fresh x u h place y rows (nothing_changes store shards left now st) own.running own.asked
     (on store shards left now old s fresh x u place r h st seen own h (held store shards left now old s fresh x u place r h st seen own) r.holds) own.at_place waits
-    (selects store shards left now old s fresh x u place r h st seen own y rows of_shard some reply) has))
-    (All-nil (IsRightVerdict shards left now))
+    (selects store shards left now old s fresh x u place r h st seen own y rows of_shard some reply) has
 
 pub refused_checks_have_cause : (store shards : ℕ) (left : NodeName → List Record → Type 0) (D : Type 0) → RefusedChecksHaveCause store shards left D
 refused_checks_have_cause store shards left D now behind old s fresh x u place e r h st seen own is_of = ⊎_elim

@@ -1,22 +1,19 @@
 -- What a shard's own contracts of an opening that is refused and of a flush that fails say makes steps of a run.
 use Rattle.std.proofs.Common.{◌≡◌, ◌⊎◌, inl, inr, ⊎_elim, ℕ, ◌≤◌, ◌+◌, ◌++◌, List, [], ◌∷◌, Some, refl, sym, ◌∙◌, ap, subst}
 use Rattle.std.proofs.lemmas.List.Elements.{All-nil}
-use Rattle.refusal.specs.declared.refusal.Refusal.{Refusal}
 use Rattle.records.specs.declared.record.Record.{Record}
 use Rattle.records.specs.Replays.{Identity, IsShardImage, shard_state}
 use Rattle.device.specs.Device.{Leaves, Revived, State, left as device_left}
 use Rattle.device.proofs.Moments.{leaves_nothing_else}
-use Rattle.journal.specs.Records.{Finds, HasOldOrNew, LeavesBoth, WasLeftOrFound, found}
-use Rattle.shard.specs.Shards.{IsUp, ShardView, WasLeftOrOpened, opening}
-use Rattle.laws.specs.Nodes.{IsOfRefusedOpening, NodeName, Nodes, down, refused, shard}
+use Rattle.journal.specs.Records.{Finds, found}
+use Rattle.shard.specs.Shards.{WasLeftOrOpened, opening}
+use Rattle.laws.specs.Nodes.{down, refused, shard}
 use Rattle.laws.specs.Worlds.{shard_node}
 use Rattle.turns.specs.FlushLaws.{FlushesShard}
-use Rattle.turns.specs.Moments.{Moment}
-use Rattle.turns.specs.RestartLaws.{IsReopenedShard, RefusesShard}
+use Rattle.turns.specs.RestartLaws.{IsReopenedShard}
 use Rattle.turns.specs.Runs.{IsQuiet, MayRise}
-use Rattle.turns.specs.ShardOpeningLaws.{AreRevived, FailedFlushesAreQuiet, IsOver, RefusedOpeningsStep, put_at}
-use Rattle.turns.specs.ShardSeamLaws.{ShardIsSeen}
-use Rattle.turns.specs.Stands.{IsHorizonIn, Stands}
+use Rattle.turns.specs.ShardOpeningLaws.{FailedShardFlushesAreQuiet, RefusedOpeningsStep, put_at}
+use Rattle.turns.specs.Stands.{IsHorizonIn}
 use Rattle.turns.specs.Stores.{stops}
 use Rattle.turns.proofs.RefusedOpening.{refused_shards_stand}
 use Rattle.turns.proofs.ShardFlush.{shard_flushes_stand}
@@ -32,8 +29,8 @@ revived_reads : (old new : State) → Revived old new → (c : List ℕ) → dev
 revived_reads old new r c leaves = leaves_nothing_else new.durable c (subst (λ (w : List (ℕ × ℕ)). Leaves new.durable w c) r.written leaves) ∙ r.durable
 
 module _ {D : Type 0} (state : D → State) (honest : D → Type 0) (moment : D → ℕ) (left_since : D → ℕ → List ℕ → Type 0) (counts_now : CountsNow state honest moment left_since) (store shards : ℕ) where
-  pub failed_flushes_are_quiet : FailedFlushesAreQuiet state honest moment left_since store shards
-  failed_flushes_are_quiet old new now s was v st seen is_up honest_a honest_b moments over = record {
+  pub failed_shard_flushes_are_quiet : FailedShardFlushesAreQuiet state honest moment left_since store shards
+  failed_shard_flushes_are_quiet old new now s was v st seen is_up honest_a honest_b moments over = record {
     stands = shard_flushes_stand store shards (stops state honest store shards old) (stops state honest store shards new) now (put_at s down now.nodes) s st flush
         (subst (λ (i : Identity). IsShardImage i (was.durable ++ was.staged)) seen.me is_up.image);
     moves = [];

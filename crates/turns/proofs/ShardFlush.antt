@@ -9,10 +9,9 @@ use Rattle.decisions.specs.Standing.{IsSettled, IsShardEpoch}
 use Rattle.turns.specs.FlushLaws.{FlushesShard, ShardFlushesStand}
 use Rattle.turns.specs.Moments.{Moment}
 use Rattle.laws.specs.Nodes.{NodeName, NodeState, Nodes, ShardKnows, coordinator, down, leaves, refused, shard, staged_of, up, IsOfRefusedOpening}
-use Rattle.turns.specs.Stands.{NodesStand, Stands, at_shards}
-use Rattle.laws.specs.Worlds.{Means, Rests, shard_node}
-use Rattle.laws.proofs.LessLeft.{less_rests}
-use Rattle.turns.proofs.LessLeftFlows.{GoesOn, stands_on}
+use Rattle.turns.specs.Stands.{NodesStand, Stands}
+use Rattle.laws.specs.Worlds.{shard_node}
+use Rattle.turns.proofs.LessLeftFlows.{GoesOn, both_less, stands_on}
 use Rattle.laws.proofs.Locks.{same_or_not}
 use Rattle.turns.proofs.ShardStages.{durable_in, is_shard, shard_number}
 use Rattle.refusal.specs.declared.refusal.Refusal.{Refusal}
@@ -134,15 +133,11 @@ module _ (store shards : ℕ) (left after : NodeName → List Record → Type 0)
       (λ ne found is. old found ((flush.same (shard t) found (other t ne)).0 is))
       (same_or_not t s)
 
-  both_less : (Rests store shards now.machine.log now.machine.kept now.machine.horizon (leaves left now.nodes coordinator) (at_shards (leaves left now.nodes)) → Rests store shards now.machine.log now.machine.kept now.machine.horizon (leaves after next coordinator) (at_shards (leaves after next)))
-      × ((c : List Record) → Means store shards now.machine.log now.machine.horizon c (at_shards (leaves left now.nodes)) → Means store shards now.machine.log now.machine.horizon c (at_shards (leaves after next)))
-  both_less = less_rests (leaves left now.nodes coordinator) (leaves after next coordinator) (at_shards (leaves left now.nodes)) (at_shards (leaves after next)) store shards now.machine.log now.machine.kept now.machine.horizon (less coordinator) (λ t. less (shard t))
-
   on : GoesOn store shards left after now next
   on = record {
     stands = stands;
-    rests = both_less.0 stands.rests;
-    whole = λ c is. both_less.1 c;
+    rests = (both_less store shards left after now next (less coordinator) (λ t. less (shard t))).0 stands.rests;
+    whole = λ c is. (both_less store shards left after now next (less coordinator) (λ t. less (shard t))).1 c;
     in_doubt = λ t found is. (found, less (shard t) found is, refl);
     listed = λ t found lt is. stands.listed t found lt (less (shard t) found is);
     shard_knew = λ t m k. inl (m, shard_knew t m k, refl, refl);

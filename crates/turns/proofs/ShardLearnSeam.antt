@@ -1,13 +1,9 @@
 -- What a shard's own contracts of learning, of a drop and of a collection say makes turns of a run.
-use Rattle.std.proofs.Common.{◌≡◌, ◌≢◌, ◌⊎◌, inl, inr, ⊎_elim, ℕ, ◌≤◌, ◌<◌, ◌+◌, Bool, true, false, List, [], ◌∷◌, ◌++◌, length, Option, Some, None, Contains, All, slice_get, refl, sym, ◌∙◌, ap, subst, arith, append_assoc}
+use Rattle.std.proofs.Common.{◌≡◌, ◌≢◌, ◌⊎◌, inl, inr, ⊎_elim, ℕ, ◌≤◌, ◌<◌, ◌+◌, Bool, true, List, [], ◌∷◌, ◌++◌, length, Option, Some, None, refl, sym, ◌∙◌, ap, subst, arith, append_assoc}
 use Rattle.std.specs.Option.{is_some}
 use Rattle.std.proofs.lemmas.Bool.{cases_lt}
 use Rattle.std.proofs.lemmas.List.{append-nil}
-use Rattle.std.proofs.lemmas.List.Elements.{All-nil}
 use Rattle.replay.proofs.States.{shard_push}
-use Rattle.tuples.specs.declared.change.Change.{Change}
-use Rattle.tuples.specs.declared.change.Condition.{Condition}
-use Rattle.tuples.specs.declared.entry.Entry.{Entry}
 use Rattle.tuples.specs.declared.entry.WriteId.{WriteId}
 use Rattle.refusal.specs.declared.refusal.Refusal.{Refusal}
 use Rattle.refusal.specs.declared.refusal.Refusal.TheVariants.{Damaged, Full, NoMemory, Unsure}
@@ -18,28 +14,24 @@ use Rattle.records.specs.Replays.{Identity, IsShardImage, MayCome, ShardState, f
 use Rattle.device.specs.Device.{State}
 use Rattle.gated.specs.Gated.{max_body}
 use Rattle.journal.specs.Records.{HasNoRoom, batch_size, max_records}
-use Rattle.decisions.specs.Standing.{HeadsValue}
 use Rattle.decisions.specs.Values.{BatchValue}
 use Rattle.shard.specs.Calls.{CollectsAt, DropsAt, LearnRefused, LearnsAt}
 use Rattle.shard.specs.Shards.{AreLearnable, IsUp, ShardView, Stages, learning, memory, placed_ids_from, unlearned}
 use Rattle.shard.proofs.Given.{given_image}
 use Rattle.shard.proofs.Parts.{all_prepared, learned_spelled}
-use Rattle.laws.specs.Machines.{Machine}
-use Rattle.laws.specs.Nodes.{NodeName, Nodes, shard}
+use Rattle.laws.specs.Nodes.{NodeName, shard}
 use Rattle.laws.specs.Worlds.{shard_node}
 use Rattle.turns.specs.Causes.{CallsShard, HasFullBatch, HasItsCause, IsFull, LetsLearn, Stages as MayStage}
-use Rattle.turns.specs.Flows.{Asked, Holds, ResolveHolds, WriteHolds, checking, collecting, flushing, id_of, learning as learns, raising, reading, resolving, to_check, to_collect, to_flush, to_learn, to_raise, to_read, to_resolve, to_watch, to_write, watching, writing}
-use Rattle.turns.specs.Held.{AreRightHeads, IfHeld, IsRight, IsRightBatch, IsRightResolve, IsRightVerdict, IsRightWrite}
-use Rattle.turns.specs.Moments.{Moment, Running, is_write}
-use Rattle.turns.specs.QuietTurns.{HoldsLess, IsQuietCall, batch_of, ending, with_batch, with_call}
-use Rattle.turns.specs.Replies.{Agrees, done}
-use Rattle.turns.specs.Runs.{Turns, answered}
-use Rattle.turns.specs.ShardSeamLaws.{CollectTurns, DropTurns, LearnTurns, RefusedCollectsHaveCause, RefusedLearnsHaveCause, ResolvedDropTurns, ShardIsSeen, StandsAndTurns, behind_shard}
+use Rattle.turns.specs.Flows.{Asked, Holds, checking, collecting, flushing, id_of, learning as learns, raising, reading, resolving, to_check, to_collect, to_flush, to_learn, to_raise, to_read, to_resolve, to_watch, to_write, watching, writing}
+use Rattle.turns.specs.Held.{IfHeld, IsRight, IsRightBatch, IsRightResolve, IsRightVerdict, IsRightWrite}
+use Rattle.turns.specs.Moments.{Moment, Running}
+use Rattle.turns.specs.QuietTurns.{IsQuietCall, batch_of, with_call}
+use Rattle.turns.specs.ShardSeamLaws.{CollectTurns, DropTurns, LearnTurns, RefusedCollectsHaveCause, RefusedLearnsHaveCause, ResolvedDropTurns, ShardIsSeen, behind_shard}
 use Rattle.turns.specs.StagingLaws.{with_nodes}
-use Rattle.turns.specs.Stands.{IsHorizonIn, Stands}
+use Rattle.turns.specs.Stands.{Stands}
+use Rattle.turns.proofs.AnswerTurns.{collects_end}
 use Rattle.turns.proofs.Batches.{batches_meet_prepares}
-use Rattle.turns.proofs.QuietTurns.{quiet_calls_answer, quiet_calls_keep, quiet_calls_turn, writes_spend}
-use Rattle.turns.proofs.SeesOn.{sees_on}
+use Rattle.turns.proofs.QuietTurns.{quiet_calls_keep, quiet_calls_turn, writes_spend}
 use Rattle.turns.proofs.ShardSeam.{knows, seen_after, staged_quietly, staging, unchanged}
 use Rattle.turns.proofs.ShardStagesSteps.{collects_stand, drops_stand, learns_stand}
 
@@ -93,9 +85,6 @@ module _ (store shards : ℕ) (left : NodeName → List Record → Type 0) {D : 
     learnable low = let met = batches_meet_prepares store shards left now s (memory old) b st seen.there (knows store shards left now old s seen) right low in record { new = met.1; prepared = met.0 }
 
     module _ (new : ShardView D) (all : Bool) (call : LearnsAt state honest old b all new) where
-      learned : Record
-      learned = learning old.me (memory old) b.from b.writes
-
       is_learned : learning old.me (memory old) b.from b.writes ≡ learning (shard_node store shards s) (memory old) b.from b.writes
       is_learned = ap (λ (me : Identity). learning me (memory old) b.from b.writes) seen.me
 
@@ -109,7 +98,7 @@ module _ (store shards : ℕ) (left : NodeName → List Record → Type 0) {D : 
                 (staging store shards left now old s seen new (learning old.me (memory old) b.from b.writes) ok.1 st (ok.2).image) is_learned right low (omega (arith, high))),
           )
 
-      learns_quietly : ShardIsSeen store shards s (behind_shard s now.nodes new) new × IsQuietCall store shards left left now (behind_shard s now.nodes new) now.machine
+      pub learns_quietly : ShardIsSeen store shards s (behind_shard s now.nodes new) new × IsQuietCall store shards left left now (behind_shard s now.nodes new) now.machine
       learns_quietly = ⊎_elim
           (λ high. ⊎_elim
           (λ ahead. unchanged store shards left now old s seen new st (call.ahead ahead).1)
@@ -239,9 +228,7 @@ resolved_drop_turns store shards left state honest now old new s t id r h st see
 pub collect_turns : (store shards : ℕ) (left : NodeName → List Record → Type 0) {D : Type 0} (state : D → State) (honest : D → Type 0) → CollectTurns store shards left state honest
 collect_turns store shards left state honest now old new s t heads r st seen running asked right call =
     let quiet = collects_quietly store shards left state honest now old s r st seen new heads.horizon right.horizon call in
-    let turn = quiet_calls_answer store shards left left now (behind_shard s now.nodes new) now.machine r r.holds done quiet.1 running refl (st.flows.quiet r running (ap is_write asked)).1
-    (subst (λ (a : Asked). Agrees (with_call r r.holds r.met now.machine) (ending now (behind_shard s now.nodes new) now.machine r []) a done) (sym asked) tt)
-    (All-nil (IsRightVerdict shards left (with_nodes now (behind_shard s now.nodes new)))) in
+    let turn = collects_end store shards left left now (behind_shard s now.nodes new) now.machine r t quiet.1 running asked in
     (quiet.0, turn.0, turn.1)
 
 -- a shard learns no place above the greatest number

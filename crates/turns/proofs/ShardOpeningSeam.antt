@@ -1,15 +1,14 @@
 -- What a shard's own contracts of its opening and of its flush say makes steps of a run.
-use Rattle.std.proofs.Common.{◌≡◌, ◌≢◌, ◌⊎◌, inl, inr, ⊎_elim, ◌==◌, ℕ, ◌≤◌, ◌<◌, ◌+◌, ◌^◌, ◌++◌, ◌↔◌, List, [], ◌∷◌, Some, refl, sym, ◌∙◌, ap, subst, arith, if◌then◌else◌}
+use Rattle.std.proofs.Common.{◌≡◌, ◌≢◌, ◌⊎◌, inl, inr, ⊎_elim, ℕ, ◌≤◌, ◌+◌, ◌++◌, ◌↔◌, List, [], ◌∷◌, Some, refl, sym, ◌∙◌, ap, subst, arith}
 use Rattle.std.proofs.lemmas.List.{append-nil}
 use Rattle.std.proofs.lemmas.List.Elements.{All-nil}
-use Rattle.std.proofs.lemmas.Bool.{cases_Bool, eq-eqb, eqb-true}
 use Rattle.records.specs.declared.record.Record.{Record}
 use Rattle.records.specs.declared.record.Record.TheVariants.{Epoch}
 use Rattle.records.specs.Replays.{Identity, IsShardImage, shard_state}
 use Rattle.device.specs.Device.{HasFailed, State, left as device_left}
 use Rattle.journal.specs.Records.{Finds, found}
 use Rattle.shard.specs.Shards.{IsOpenedShard, IsUp, ShardView, opening}
-use Rattle.laws.specs.Nodes.{NodeName, NodeState, Nodes, coordinator, shard, up}
+use Rattle.laws.specs.Nodes.{NodeName, Nodes, shard, up}
 use Rattle.laws.specs.Worlds.{shard_node}
 use Rattle.turns.specs.Moments.{Moment}
 use Rattle.turns.specs.OpeningLaws.{OpensShard}

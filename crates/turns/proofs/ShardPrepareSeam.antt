@@ -1,27 +1,26 @@
 -- What a shard's own contracts of a prepare and of a vote say makes turns of a run.
-use Rattle.std.proofs.Common.{◌≡◌, ◌≢◌, ◌⊎◌, inl, inr, ⊎_elim, ℕ, ◌≤◌, ◌<◌, max, Bool, true, false, List, [], ◌∷◌, ◌++◌, length, Option, Some, None, Contains, All, refl, sym, ◌∙◌, ap, subst, arith}
+use Rattle.std.proofs.Common.{◌≡◌, ◌⊎◌, inl, ⊎_elim, ℕ, ◌≤◌, ◌<◌, true, List, [], ◌∷◌, ◌++◌, length, Option, Some, None, Contains, All, refl, sym, ◌∙◌, ap, subst, arith}
 use Rattle.std.specs.Option.{is_some}
 use Rattle.std.proofs.lemmas.List.Elements.{All-append, All-cons, All-contains, All-nil}
 use Rattle.tuples.specs.declared.entry.Entry.{Entry}
 use Rattle.tuples.specs.declared.entry.WriteId.{WriteId}
 use Rattle.refusal.specs.declared.refusal.Refusal.{Refusal}
-use Rattle.refusal.specs.declared.refusal.Refusal.TheVariants.{Aborted, Busy, Collected, Full, NoMemory, Precondition}
+use Rattle.refusal.specs.declared.refusal.Refusal.TheVariants.{Aborted}
 use Rattle.tuples.specs.Parts.{part, takes_part}
 use Rattle.records.specs.declared.record.Record.{Record}
 use Rattle.records.specs.declared.record.Record.TheVariants.{Prepare}
-use Rattle.records.specs.Format.{IsRecord}
 use Rattle.records.specs.Replays.{Identity, ShardState, find_in_doubt, shard_state, shard_step}
 use Rattle.replay.proofs.Doubts.{find_push_same}
 use Rattle.device.specs.Device.{State, left as device_left, reach}
-use Rattle.journal.specs.Records.{Finds, HasNoRoom}
+use Rattle.journal.specs.Records.{HasNoRoom}
 use Rattle.decisions.specs.Values.{IntentValue, IsIntent, TicketValue, VoteValue}
 use Rattle.shard.specs.Calls.{PrepareRefused, PreparesAt, VotesAt}
 use Rattle.shard.specs.Shards.{AskBelow, IsBroken, IsBusy, IsPreparable, IsUp, ShardView, Stages, memory, own_part}
 use Rattle.shard.proofs.Tested.{part_prepared, same_part_id}
-use Rattle.laws.specs.Nodes.{NodeName, Nodes, ShardKnows, leaves, shard, staged_of}
+use Rattle.laws.specs.Nodes.{NodeName, Nodes, ShardKnows, leaves, shard}
 use Rattle.turns.specs.Causes.{HasItsCause, IsCause, IsCutOff}
 use Rattle.turns.specs.Flows.{Asked, HeldTicket, HeldVote, Holds, WriteHolds, id_of, outward, writing}
-use Rattle.turns.specs.Held.{IsOpen, IsRight, IsRightTicket, IsRightVote, IsRightWrite, own_write}
+use Rattle.turns.specs.Held.{IsRight, IsRightTicket, IsRightVote, IsRightWrite, own_write}
 use Rattle.turns.specs.Moments.{Moment, Running}
 use Rattle.turns.specs.PrepareLaws.{IsPreparing}
 use Rattle.turns.specs.QuietTurns.{HoldsLess, IsQuietCall, going_on, with_call}

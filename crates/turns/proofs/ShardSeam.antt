@@ -10,7 +10,7 @@ use Rattle.records.specs.declared.record.Record.TheVariants.{Decision, Dropped, 
 use Rattle.records.specs.Replays.{Identity, IsShardImage, ShardState, empty_shard, shard_from, shard_state, shard_step}
 use Rattle.replay.proofs.States.{shard_from-append, shard_push}
 use Rattle.shard.specs.Shards.{ShardView, Stages, memory, own_part}
-use Rattle.laws.specs.Nodes.{NodeName, NodeState, Nodes, SameBut, ShardKnows, coordinator, leaves, shard, staged_of, up}
+use Rattle.laws.specs.Nodes.{NodeName, NodeState, Nodes, ShardKnows, coordinator, leaves, shard, staged_of, up}
 use Rattle.laws.specs.Worlds.{shard_node}
 use Rattle.turns.specs.Moments.{Moment}
 use Rattle.turns.specs.QuietTurns.{IsQuietCall}

@@ -16,6 +16,7 @@ use Rattle.replay.proofs.Doubts.{HasPlacedId, cases_id, find_not_learned, find_p
 use Rattle.replay.proofs.States.{image_last, shard_push}
 use Rattle.decisions.specs.Values.{BatchValue}
 use Rattle.shard.specs.Shards.{learning, placed_ids_from}
+use Rattle.shard.proofs.Waiting.{still_placed_ids}
 use Rattle.laws.specs.LogLaws.{IsUnlisted}
 use Rattle.laws.specs.ShardLaws.{IsShardStep}
 use Rattle.laws.specs.Worlds.{Rests, shard_node}
@@ -179,16 +180,6 @@ module _ (store shards : ℕ) (left : NodeName → List Record → Type 0) (now 
       let at = contained_at (without p.id ws) w (of_placed_ids placed_ids (without p.id ws) w has) in
       let old = of_without p.id ws at.0 w at.1 in
       contained_from ws old.0 w old.1
-
-  still_without : (id other : WriteId) (ws : List Entry) (p : Entry) → find_in_doubt id (without other ws) ≡ Some p → find_in_doubt id ws ≡ Some p
-  still_without id other ws p is = ⊎_elim
-      (λ (same : id ≡ other). let gone : None ≡ Some p = sym (find_without_same id ws) ∙ ap (λ (i : WriteId). find_in_doubt id (without i ws)) same ∙ is in absurd cc)
-      (λ ne. sym (find_without_other id other ws ne) ∙ is)
-      (cases_id id other)
-
-  still_placed_ids : (id : WriteId) (placed_ids : List PlacedId) (ws : List Entry) (p : Entry) → find_in_doubt id (without_placed_ids placed_ids ws) ≡ Some p → find_in_doubt id ws ≡ Some p
-  still_placed_ids id [] ws p is = is
-  still_placed_ids id (q ∷ placed_ids) ws p is = still_without id q.id ws p (still_placed_ids id placed_ids (without q.id ws) p is)
 
   pub learns_stand : (r : Record) (b : BatchValue) → (st : IsStaging store shards left now next s r)
       → r ≡ learning (shard_node store shards s) (shard_state (st.step.durable ++ st.step.staged)) b.from b.writes

@@ -15,7 +15,7 @@ use Rattle.turns.specs.Flows.{HeldTicket, HeldVote, Holds, WriteHolds, checking,
 use Rattle.turns.specs.Held.{IfHeld, IsRight, IsRightBatch, IsRightVerdict}
 use Rattle.turns.specs.Moments.{Moment, Running, ended, is_write, replaced}
 use Rattle.turns.specs.Replies.{Answer, Agrees}
-use Rattle.turns.specs.Runs.{IsQuiet, KeepsOpen, MayRise, Turns, answered, goes_on, refuses, told_by}
+use Rattle.turns.specs.Runs.{IsQuiet, KeepsOpen, MayRise, Turns, answered, refuses, told_by}
 use Rattle.turns.specs.SeamLaws.{told_unless}
 use Rattle.turns.specs.Stands.{IsHorizonIn, Stands}
 

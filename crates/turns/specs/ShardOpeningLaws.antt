@@ -57,8 +57,8 @@ module _ {D : Type 0} (state : D → State) (honest : D → Type 0) (moment : D 
       × IsQuietCall store shards (stops state honest store shards old) (stops state honest store shards new) now next now.machine
 
   -- One that fails takes the shard down, and is quiet: at every moment of it a stop leaves what was durable, with what was staged or without.
-  abbrev pub FailedFlushesAreQuiet : Type 0
-  FailedFlushesAreQuiet = (old new : NodeName → D × D) (now : Moment) (s : ℕ) (was v : ShardView D) → Stands store shards (stops state honest store shards old) now
+  abbrev pub FailedShardFlushesAreQuiet : Type 0
+  FailedShardFlushesAreQuiet = (old new : NodeName → D × D) (now : Moment) (s : ℕ) (was v : ShardView D) → Stands store shards (stops state honest store shards old) now
       → ShardIsSeen store shards s now.nodes was → IsUp state honest was → honest v.a → honest v.b
       → LeavesBoth moment left_since was.a was.b v.a v.b (HasOldOrNew was.durable was.staged) → IsOver old s v.a v.b new
       → IsQuietCall store shards (stops state honest store shards old) (stops state honest store shards new) now (put_at s down now.nodes) now.machine

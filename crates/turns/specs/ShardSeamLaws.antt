@@ -1,5 +1,5 @@
 -- The seams between the contracts of a shard's calls, over its own records, and turns of a run.
-use Rattle.std.specs.Prelude.{◌≡◌, ◌≢◌, ◌⊎◌, ◌≤◌, ◌<◌, ◌+◌, ◌==◌, ℕ, Bool, false, true, List, [], ◌∷◌, ◌++◌, length, Option, Some, None, Contains, if◌then◌else◌, slice_get}
+use Rattle.std.specs.Prelude.{◌≡◌, ◌≢◌, ◌⊎◌, ◌≤◌, ◌<◌, ◌+◌, ◌==◌, ℕ, Bool, true, List, [], ◌∷◌, ◌++◌, length, Option, Some, None, Contains, if◌then◌else◌}
 use Rattle.tuples.specs.declared.change.Change.{Change}
 use Rattle.tuples.specs.declared.change.Condition.{Condition}
 use Rattle.tuples.specs.declared.entry.Entry.{Entry}
@@ -21,7 +21,7 @@ use Rattle.shard.specs.Shards.{IsUp, ShardView, memory}
 use Rattle.laws.specs.Nodes.{NodeName, NodeState, Nodes, coordinator, shard, up}
 use Rattle.laws.specs.Worlds.{shard_node}
 use Rattle.turns.specs.Causes.{CallsShard, HasItsCause, LetsLearn}
-use Rattle.turns.specs.Flows.{Freshness, HeldTicket, ReadHolds, RaiseHolds, ResolveHolds, WriteHolds, outward, raising, reading, resolving, to_collect, to_raise, to_read, to_resolve, to_write, writing}
+use Rattle.turns.specs.Flows.{Freshness, HeadsHeld, HeldTicket, ReadHolds, RaiseHolds, ResolveHolds, WriteHolds, learning, outward, raising, reading, resolving, to_collect, to_learn, to_raise, to_read, to_resolve, to_write, writing}
 use Rattle.turns.specs.Held.{AreRightHeads, IfHeld, IsRightBatch, WasGiven}
 use Rattle.turns.specs.Moments.{Moment, Running}
 use Rattle.turns.specs.QuietTurns.{HoldsLess, batch_of, ending, going_on, with_batch, with_call}
@@ -114,6 +114,14 @@ module _ (store shards : ℕ) (left : NodeName → List Record → Type 0) {D : 
       → IsUp state honest old → length b.writes ≤ 256 → b.from + length b.writes ≤ greatest_number → CallsShard shards r.asked s → LetsLearn r.asked
       → LearnRefused old b e → (e ≡ NoMemory) ⊎ ((e ≡ Full) ⊎ (e ≡ Damaged))
       → HasItsCause shards now behind r e × (e ≢ Unsure)
+
+  -- a learning that holds right heads is done where the shard learns up to their kept place
+  abbrev pub LearnAnswers : Type 0
+  LearnAnswers = (now : Moment) (old new : ShardView D) (s : ℕ) (b : BatchValue) (heads : HeadsValue) (r : Running) (h : HeadsHeld)
+      → Stands store shards left now → ShardIsSeen store shards s now.nodes old → Contains now.running r → r.asked ≡ to_learn s → r.holds ≡ learning h → h.heads ≡ Some heads
+      → h.batch ≡ Some b → LearnsAt state honest old b true new → heads.kept ≤ b.from + length b.writes
+      → let next = behind_shard s now.nodes new in let ran = ending now next now.machine r [] in
+      ShardIsSeen store shards s next new × Stands store shards left ran × Turns shards (IsHorizonIn store shards left now.nodes) now r (answered done ∷ []) ran
 
   -- a drop by a verdict that a write flow holds is a turn of a run, behind which it may have spent a ticket, a vote or the verdict
   abbrev pub DropTurns : Type 0

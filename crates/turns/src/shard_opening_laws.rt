@@ -1,7 +1,7 @@
 // The seams between the contracts of a shard's opening and flush and steps of a run, over the devices of a store, each the clauses of a function with an
 // empty body.
 ghost use Rattle.std.specs.Prelude.{ℕ};
-ghost use Rattle.turns.specs.ShardOpeningLaws.{FailedFlushesAreQuiet, FailedShardsHaveCause, FullShardsWereOpened, NoShardIsDamaged, RefusedOpeningsStep, ShardFlushesAreQuiet, ShardOpeningsStep};
+ghost use Rattle.turns.specs.ShardOpeningLaws.{FailedShardFlushesAreQuiet, FailedShardsHaveCause, FullShardsWereOpened, NoShardIsDamaged, RefusedOpeningsStep, ShardFlushesAreQuiet, ShardOpeningsStep};
 
 use device::Device;
 
@@ -18,5 +18,5 @@ pub fn shard_opening_takes_its_step<D: Device>()
 /// A flush is quiet, whatever flow makes it, whether it answers Ok or fails.
 pub fn flushes_of_shards_are_quiet<D: Device>()
     ensures ok { (store shards : ℕ) → ShardFlushesAreQuiet D.state D.honest D.moment D.left_since store shards }
-    ensures failed { (store shards : ℕ) → FailedFlushesAreQuiet D.state D.honest D.moment D.left_since store shards }
+    ensures failed { (store shards : ℕ) → FailedShardFlushesAreQuiet D.state D.honest D.moment D.left_since store shards }
 {}

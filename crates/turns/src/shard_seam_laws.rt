@@ -1,7 +1,7 @@
 // The seams between contracts of a shard's calls and turns of a run, each the clauses of a function with an empty body.
 ghost use Rattle.std.specs.Prelude.{ℕ};
 ghost use Rattle.turns.specs.ShardCheckLaws.{CheckTurns, CheckYesTurns, RefusedChecksHaveCause};
-ghost use Rattle.turns.specs.ShardSeamLaws.{CollectTurns, DropTurns, LearnTurns, PrepareTurns, ReadOneTurns, ReadTurns, RefusedCollectsHaveCause, RefusedLearnsHaveCause, RefusedPrepareTurns, RefusedReadsHaveCause, RefusedVoteTurns, ResolvedDropTurns, SettleTurns, ToldDoubtsAreGiven, VoteTurns};
+ghost use Rattle.turns.specs.ShardSeamLaws.{CollectTurns, DropTurns, LearnAnswers, LearnTurns, PrepareTurns, ReadOneTurns, ReadTurns, RefusedCollectsHaveCause, RefusedLearnsHaveCause, RefusedPrepareTurns, RefusedReadsHaveCause, RefusedVoteTurns, ResolvedDropTurns, SettleTurns, ToldDoubtsAreGiven, VoteTurns};
 
 use device::Device;
 use laws::Leavings;
@@ -19,9 +19,11 @@ pub fn vote_takes_its_turn<W: Leavings, D: Device>()
     ensures aborted { (store shards : ℕ) → RefusedVoteTurns store shards W.left D.state D.honest }
 {}
 
-/// And so is what a shard learns for whatever flow. What it refuses to learn has its cause, and is never `Damaged`.
+/// And so is what a shard learns for whatever flow. A learning is done where it learns up to the kept place of its heads.
+/// What it refuses to learn has its cause, and is never `Damaged`.
 pub fn learn_takes_its_turn<W: Leavings, D: Device>()
     ensures ok { (store shards : ℕ) → LearnTurns store shards W.left D.state D.honest }
+    ensures ends { (store shards : ℕ) → LearnAnswers store shards W.left D.state D.honest }
     ensures refused { (store shards : ℕ) → RefusedLearnsHaveCause store shards W.left D.state D.honest }
 {}
 
