@@ -4,8 +4,11 @@ use Rattle.tuples.specs.declared.entry.Entry.{Entry}
 use Rattle.tuples.specs.declared.entry.WriteId.{WriteId}
 use Rattle.tuples.specs.declared.tuple.Tuple.{Tuple}
 use Rattle.tuples.specs.declared.tupleset.Tupleset.{Tupleset}
+use Rattle.tuples.specs.declared.object.Userset.{Userset}
+use Rattle.tuples.specs.declared.user.User.{User}
 use Rattle.tuples.specs.Reads.{IsSelection}
 use Rattle.tuples.specs.Versions.{there_at}
+use Rattle.tuples.specs.Walking.{IsCheckSelection}
 use Rattle.refusal.specs.declared.refusal.Refusal.{Refusal}
 use Rattle.refusal.specs.declared.refusal.Refusal.TheVariants.{Busy, Collected, Damaged, Full, NoMemory, Precondition}
 use Rattle.records.specs.declared.record.Record.{Record}
@@ -79,6 +82,12 @@ pub record ReadsAt {D : Type 0} (v : ShardView D) (place : ℕ) (set : Tupleset)
   pub learned : place ≤ (memory v).learned
   pub above : (memory v).horizon ≤ place
   pub rows_are : IsSelection (there_at (memory v).rows place) set rows
+
+-- It has these rows of what a check asks of a userset, at a place that it has learned, not below its horizon.
+pub record ReadsForCheckAt {D : Type 0} (v : ShardView D) (place : ℕ) (x : Userset) (u : User) (rows : List Tuple) : Type 0 where
+  pub learned : place ≤ (memory v).learned
+  pub above : (memory v).horizon ≤ place
+  pub rows_are : IsCheckSelection (there_at (memory v).rows place) x u rows
 
 -- It has settled up to a place, in whatever a stop leaves.
 pub record SettlesAt {D : Type 0} (state : D → State) (v : ShardView D) (s : SettledValue) : Type 0 where

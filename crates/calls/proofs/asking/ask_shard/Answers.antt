@@ -1,0 +1,67 @@
+-- The clauses of each call, as its answer has them.
+use Rattle.std.proofs.Common.{refl}
+use Rattle.calls.proofs.Preparing.{prepare_refused, prepares}
+use Rattle.calls.proofs.Learning.{learn_refused, learns, reads, reads_for_check}
+use Rattle.calls.proofs.asking.ask_shard.Goals as goal
+
+pub returns-in-Learn : goal.returns-in-Learn
+returns-in-Learn g c = let e = c.learn-answer.ensures in rw c.in-Learn.is (
+  refl,
+  record {
+    ok = λ up. learns g.D.Device.state g.D.Device.honest c.args.shard.now c.learn-answer.new.self c.in-Learn.batch c.learn-answer.result (e.known up) (e.ahead up) (e.ok up) (e.learnable up);
+    refused = λ up. learn_refused g.D.Device.state g.D.Device.honest c.args.shard.now c.learn-answer.new.self c.in-Learn.batch c.learn-answer.result (e.known up) (e.ahead up) (e.damaged up) (e.full up);
+    down = e.down;
+    stays = e.kept;
+    err = e.err;
+  },
+)
+
+pub returns-in-StagePrepare : goal.returns-in-StagePrepare
+returns-in-StagePrepare g c = let e = c.stage_prepare-answer.ensures in rw c.in-StagePrepare.is (
+  refl,
+  record {
+    ok = λ up. prepares g.D.Device.state g.D.Device.honest c.args.shard.now c.stage_prepare-answer.new.self c.in-StagePrepare.intent.write c.stage_prepare-answer.result (e.ok up) (e.above up) (e.free up) (e.conditions up);
+    refused = λ up. prepare_refused g.D.Device.state g.D.Device.honest c.args.shard.now c.stage_prepare-answer.new.self c.in-StagePrepare.intent.write c.stage_prepare-answer.result (e.collected up) (e.busy up) (e.broken up) (e.full up) (e.memory up);
+    down = e.down;
+    stays = e.kept;
+    err = e.err;
+  },
+)
+
+pub returns-in-Vote : goal.returns-in-Vote
+returns-in-Vote g c = let e = c.vote.ensures in rw c.in-Vote.is (
+  refl,
+  record {
+    yes = λ vote up is. let y = e.yes vote up is in record { id = y.0; shard = y.1; here = y.3; durable = y.2 };
+    later = λ t up is. let l = e.later t up is in (l.0, record { here = l.1; staged = l.2 });
+    no = e.no;
+    down = e.down;
+  },
+)
+
+pub returns-in-Read : goal.returns-in-Read
+returns-in-Read g c = let e = c.read-answer.ensures in rw c.in-Read.is (
+  refl,
+  refl,
+  record {
+    rows = λ ts up. reads c.args.shard.now c.in-Read.place c.in-Read.set ts c.read-answer.result (e.rows ts up);
+    behind = e.behind;
+    collected = e.collected;
+    down = e.down;
+    err = e.err;
+  },
+)
+
+pub returns-in-ReadForCheck : goal.returns-in-ReadForCheck
+returns-in-ReadForCheck g c = let e = c.read_for_check-answer.ensures in rw c.in-ReadForCheck.is (
+  refl,
+  refl,
+  refl,
+  record {
+    rows = λ ts up. reads_for_check c.args.shard.now c.in-ReadForCheck.place c.in-ReadForCheck.userset c.in-ReadForCheck.user ts c.read_for_check-answer.result (e.rows ts up);
+    behind = e.behind;
+    collected = e.collected;
+    down = e.down;
+    err = e.err;
+  },
+)

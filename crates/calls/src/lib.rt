@@ -1,0 +1,23 @@
+//! The calls of nodes as values, and the one function that makes a call.
+//!
+//! A call carries what it spends, as an intent, tickets and votes, and its reply gives back what comes back, so that a flow asks for a call
+//! without knowing the node, and a node is called without knowing the flow.
+//!
+//! Keeps: a reply belongs to its call; what a call was handed is spent by the node or lies in the reply.
+//! Never: makes more than the one call, or keeps anything between two.
+//! Callers rely on: `ask` promises what the node's own call does, and what a `Told` holds was carried by a reply.
+//!
+//! Start at `specs/Asking.antt`, what may be asked and what is answered.
+#![tactic(auto)]
+
+mod asking;
+mod call;
+mod node;
+mod reply;
+mod told;
+
+pub use asking::ask;
+pub use call::{CoordinatorCall, NodeCall, NodeName, ShardCall};
+pub use node::Node;
+pub use reply::{CoordinatorReply, Reply, ShardReply};
+pub use told::Told;

@@ -1,0 +1,100 @@
+// A node: opened, or known by the refusal of its opening.
+ghost use Rattle.std.specs.Prelude.{◌≡◌, ◌<◌};
+ghost use Rattle.records.specs.Identity.{coordinator_number};
+ghost use Rattle.calls.specs.Opening.{CoordinatorOpens, ShardOpens, refusal_of};
+ghost use Rattle.calls.specs.Views.{devices_of};
+
+use coordinator::Coordinator;
+use device::Device;
+use journal::Refused;
+use records::Identity;
+use shard::Shard;
+use std::alloc::Global;
+use std::marker::Model;
+use tuples::Refusal;
+
+#[derive(Drop)]
+pub(crate) enum Opened<D: Device> {
+    Coordinator(Coordinator<D>),
+    Shard(Shard<D>),
+    Refused(Refused<D>),
+}
+
+/// A node of a store, as its last opening left it. One whose opening was refused answers that refusal to every call.
+#[derive(Drop)]
+pub struct Node<D: Device> {
+    pub(crate) alloc: Global,
+    pub(crate) opened: Opened<D>,
+}
+
+impl<D: Device> Model for Node<D> {
+    ghost use Rattle.calls.specs.Views.{NodeView};
+
+    ghost Value = { NodeView D };
+
+    ghost use Rattle.calls.specs.Seen.{seen};
+
+    ghost view = { λ n. seen n.opened };
+}
+
+impl<D: Device> Node<D> {
+    /// Opens the coordinator with this identity.
+    pub fn open_coordinator(alloc: Global, a: D, b: D, me: Identity) -> Node<D>
+        requires { me.node ≡ coordinator_number }
+        ensures { CoordinatorOpens D.state D.honest D.moment D.left_since a b me result }
+    {
+        match Coordinator::open(alloc, a, b, me) {
+            Ok(coordinator) => Node {
+                alloc,
+                opened: Opened::Coordinator(coordinator),
+            },
+            Err(refused) => Node {
+                alloc,
+                opened: Opened::Refused(refused),
+            },
+        }
+    }
+
+    /// Opens the shard with this identity.
+    pub fn open_shard(alloc: Global, a: D, b: D, me: Identity) -> Node<D>
+        requires { me.node < me.shards }
+        ensures { ShardOpens D.state D.honest D.moment D.left_since a b me result }
+    {
+        match Shard::open(alloc, a, b, me) {
+            Ok(shard) => Node {
+                alloc,
+                opened: Opened::Shard(shard),
+            },
+            Err(refused) => Node {
+                alloc,
+                opened: Opened::Refused(refused),
+            },
+        }
+    }
+
+    /// The refusal of its opening, where that was refused.
+    pub fn refusal(&self) -> Option<Refusal>
+        ensures { result ≡ refusal_of self.now }
+    {
+        match &self.opened {
+            Opened::Coordinator(_) => None,
+            Opened::Shard(_) => None,
+            Opened::Refused(refused) => Some(refused.refusal),
+        }
+    }
+
+    /// Gives the devices back.
+    pub fn into_devices(self) -> (D, D)
+        ensures { result ≡ devices_of self }
+    {
+        let Node { alloc: _, opened } = self;
+        match opened {
+            Opened::Coordinator(coordinator) => coordinator.into_devices(),
+            Opened::Shard(shard) => shard.into_devices(),
+            Opened::Refused(refused) => {
+                let Refused { refusal: _, a, b } = refused;
+                (a, b)
+            }
+        }
+    }
+}

@@ -1,0 +1,22 @@
+-- What is held on the way of a shard to a place.
+use Rattle.std.specs.Prelude.{ℕ, Bool, Option}
+use Rattle.decisions.specs.Values.{BatchValue}
+
+-- between two calls: the shard, the place to which it is brought, and the decisions on their way to it
+pub record CatchUpValue : Type 0 where
+  pub shard : ℕ
+  pub to : ℕ
+  pub batch : Option BatchValue
+
+-- The call that is out: how far has the shard learned; the decisions behind a place; that the shard learn, for the first time or again behind a flush;
+-- that flush.
+pub data Awaited : Type 0 where
+  learned : Awaited
+  decisions : Awaited
+  learning : Bool → Awaited
+  flushing : Awaited
+
+-- while a call is out: what is held then, and which call it is
+pub record CatchUpCallValue : Type 0 where
+  pub held : CatchUpValue
+  pub awaited : Awaited

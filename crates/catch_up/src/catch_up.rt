@@ -1,0 +1,87 @@
+// A shard on its way to a place, between two calls.
+ghost use Rattle.std.specs.Prelude.{◌≡◌, None};
+ghost use Rattle.calls.specs.Asking.{MayBeMade};
+ghost use Rattle.catch_up.specs.CatchingUp.{Asks};
+ghost use Rattle.catch_up.specs.Steps.{awaited_by, held_by};
+
+use crate::caught::{Asked, CatchUpCall};
+use calls::{CoordinatorCall, NodeCall, ShardCall};
+use decisions::Batch;
+use std::marker::Model;
+
+#[derive(Drop)]
+pub(crate) enum Step {
+    // how far has the shard learned?
+    Learned,
+    // the decisions behind this place are wanted
+    Batch(u64),
+    // the shard is to learn these; whether it was flushed for that already
+    Learn(Batch, bool),
+    // the shard has no room for these before a flush
+    Flush(Batch),
+}
+
+/// A shard that is brought up to a place of the log, and waits for its next turn.
+#[derive(Drop)]
+pub struct CatchUp {
+    pub(crate) shard: u8,
+    pub(crate) to: u64,
+    pub(crate) step: Step,
+}
+
+impl Model for CatchUp {
+    ghost use Rattle.catch_up.specs.Held.{CatchUpValue};
+
+    ghost Value = { CatchUpValue };
+
+    ghost use Rattle.catch_up.specs.Steps.{batch_of, IsBelow};
+
+    ghost view = { λ c. record { shard = c.shard; to = c.to; batch = batch_of c.step } };
+
+    ghost invariant = { λ c. IsBelow c.to c.step };
+}
+
+impl CatchUp {
+    /// Of this shard, up to this place.
+    pub fn new(shard: u8, to: u64) -> CatchUp
+        ensures { result ≡ record { shard = shard; to = to; batch = None } }
+    {
+        CatchUp {
+            shard,
+            to,
+            step: Step::Learned,
+        }
+    }
+
+    /// Its next call.
+    pub fn next_call(self) -> (NodeCall, CatchUpCall)
+        ensures { Asks self result.0 result.1 }
+    {
+        let CatchUp { shard, to, step } = self;
+        match step {
+            Step::Learned => {
+                let call = NodeCall::Shard(shard, ShardCall::Learned);
+                (call, awaiting(shard, to, Asked::Learned))
+            }
+            Step::Batch(from) => {
+                let call = NodeCall::Coordinator(CoordinatorCall::Batch(from, to));
+                (call, awaiting(shard, to, Asked::Batch))
+            }
+            Step::Learn(batch, is_again) => {
+                let call = NodeCall::Shard(shard, ShardCall::Learn(batch));
+                (call, awaiting(shard, to, Asked::Learn(is_again)))
+            }
+            Step::Flush(batch) => {
+                let call = NodeCall::Shard(shard, ShardCall::Flush);
+                (call, awaiting(shard, to, Asked::Flush(batch)))
+            }
+        }
+    }
+}
+
+// A call of it is out.
+fn awaiting(shard: u8, to: u64, asked: Asked) -> CatchUpCall
+    ensures { result ≡ record { held = record { shard = shard; to = to; batch = held_by asked }; awaited = awaited_by asked } }
+{
+    CatchUpCall { shard, to, asked }
+}
