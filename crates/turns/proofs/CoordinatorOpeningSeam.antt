@@ -1,4 +1,4 @@
--- What the coordinator's own contract of its opening says makes a step of a run.
+-- What the coordinator's own contracts of its opening and of its flush say, over the devices of a store.
 use Rattle.std.proofs.Common.{◌≡◌, ◌≢◌, ◌⊎◌, inl, inr, ⊎_elim, ◌+◌, ◌≤◌, ◌++◌, ◌↔◌, ℕ, List, [], ◌∷◌, length, Some, refl, sym, ◌∙◌, ap, subst, arith}
 use Rattle.std.proofs.lemmas.List.{length_push}
 use Rattle.std.proofs.lemmas.Option.{same_Some}
@@ -11,7 +11,7 @@ use Rattle.journal.specs.Records.{Finds, found}
 use Rattle.decisions.specs.Coordinators.{CoordinatorView, IsOpenedCoordinator, WasLeftOrReopened, coordinator_opening}
 use Rattle.laws.specs.Nodes.{NodeName, Nodes, coordinator, shard, up}
 use Rattle.laws.specs.Worlds.{coordinator_node}
-use Rattle.turns.specs.CoordinatorOpeningLaws.{CoordinatorOpeningsStep, FailedOpeningsHaveCause, FullCoordinatorsWereOpened, IsFresh, NoCoordinatorIsDamaged, OpensOverDevices, RefusedOpeningsStep, behind_refusal}
+use Rattle.turns.specs.CoordinatorOpeningLaws.{CoordinatorOpeningsStep, FailedOpeningsHaveCause, FailsOverDevices, FlushesOverDevices, FullCoordinatorsWereOpened, IsFresh, IsOverDevices, NoCoordinatorIsDamaged, OpensOverDevices, RefusedOpeningsStep, behind_refusal}
 use Rattle.turns.specs.Moments.{Moment}
 use Rattle.turns.specs.Promises.{ComesUp}
 use Rattle.turns.specs.RestartLaws.{IsReopenedCoordinator, OpensCoordinator, RefusesCoordinator}
@@ -27,6 +27,24 @@ revived_alone s t r c is = leaves_nothing_else t.seen c (subst (λ (w : List (�
 
 no_longer : (rs : List Record) (r : Record) → rs ≡ rs ++ r ∷ [] → ⊥
 no_longer rs r same = let more = ap length same in omega (arith, more, length_push rs r)
+
+-- Given the devices of a store, and those of the coordinator behind a call
+module _ {D : Type 0} (state : D → State) (honest : D → Type 0) (moment : D → ℕ) (left_since : D → ℕ → List ℕ → Type 0) (store shards : ℕ) (old new : NodeName → D × D) (new_a new_b : D)
+    (over : IsOverDevices state honest moment left_since store shards old new_a new_b new) where
+  pub to_node : (rs : List Record) → stops state honest store shards new coordinator rs → Finds (device_left (state new_a)) (device_left (state new_b)) rs
+  to_node rs finds = subst (λ (d : D). Finds (device_left (state new_a)) (device_left (state d)) rs) over.second (subst (λ (d : D). Finds (device_left (state d)) (device_left (state (new coordinator).1)) rs) over.first finds)
+
+  pub from_node : (rs : List Record) → Finds (device_left (state new_a)) (device_left (state new_b)) rs → stops state honest store shards new coordinator rs
+  from_node rs finds = subst (λ (d : D). Finds (device_left (state (new coordinator).0)) (device_left (state d)) rs) (sym over.second) (subst (λ (d : D). Finds (device_left (state d)) (device_left (state new_b)) rs) (sym over.first) finds)
+
+  no_shard : (s : ℕ) → shard s ≢ coordinator
+  no_shard s is = cc
+
+  pub elsewhere : (s : ℕ) (rs : List Record) → stops state honest store shards new (shard s) rs ↔ stops state honest store shards old (shard s) rs
+  elsewhere s rs = (
+    subst (λ (d : D × D). Finds (device_left (state d.0)) (device_left (state d.1)) rs) (over.others (shard s) (no_shard s)),
+    subst (λ (d : D × D). Finds (device_left (state d.0)) (device_left (state d.1)) rs) (sym (over.others (shard s) (no_shard s))),
+  )
 
 -- Given what a device holds and whether it is honest, how often a stop may have come at it, and what a stop since then may have left, now among it
 module _ {D : Type 0} (state : D → State) (honest : D → Type 0) (moment : D → ℕ) (left_since : D → ℕ → List ℕ → Type 0)
@@ -65,28 +83,13 @@ module _ {D : Type 0} (state : D → State) (honest : D → Type 0) (moment : D 
       image = more.2;
     })
 
-    pub to_node : (rs : List Record) → after coordinator rs → Finds (device_left (state new_a)) (device_left (state new_b)) rs
-    to_node rs finds = subst (λ (d : D). Finds (device_left (state new_a)) (device_left (state d)) rs) over.second (subst (λ (d : D). Finds (device_left (state d)) (device_left (state (new coordinator).1)) rs) over.first finds)
-
-    pub from_node : (rs : List Record) → Finds (device_left (state new_a)) (device_left (state new_b)) rs → after coordinator rs
-    from_node rs finds = subst (λ (d : D). Finds (device_left (state (new coordinator).0)) (device_left (state d)) rs) (sym over.second) (subst (λ (d : D). Finds (device_left (state d)) (device_left (state new_b)) rs) (sym over.first) finds)
-
-    no_shard : (s : ℕ) → shard s ≢ coordinator
-    no_shard s is = cc
-
-    pub elsewhere : (s : ℕ) (rs : List Record) → after (shard s) rs ↔ before (shard s) rs
-    elsewhere s rs = (
-      subst (λ (d : D × D). Finds (device_left (state d.0)) (device_left (state d.1)) rs) (over.others (shard s) (no_shard s)),
-      subst (λ (d : D × D). Finds (device_left (state d.0)) (device_left (state d.1)) rs) (sym (over.others (shard s) (no_shard s))),
-    )
-
     pub refuses_it : (now : Moment) (e : Refusal) → RefusesCoordinator store shards before after e now.nodes (behind_refusal now.nodes e)
     refuses_it now e = record {
       now = refl;
       unchanged = λ s. refl;
       open_writes = refl;
-      same = elsewhere;
-      here = λ rs finds. let at = to_node rs finds in was_or_reopened at.0 at.1 rs at.4 (each at.0 at.1 at.2 at.3);
+      same = elsewhere state honest moment left_since store shards old new new_a new_b over.over;
+      here = λ rs finds. let at = to_node state honest moment left_since store shards old new new_a new_b over.over rs finds in was_or_reopened at.0 at.1 rs at.4 (each at.0 at.1 at.2 at.3);
     }
 
   -- Given that it answered Ok
@@ -124,10 +127,10 @@ module _ {D : Type 0} (state : D → State) (honest : D → Type 0) (moment : D 
       unchanged = λ s. refl;
       open_writes = refl;
       given = fresh.given;
-      same = elsewhere v.a v.b over;
+      same = elsewhere state honest moment left_since store shards old new v.a v.b over.over;
       here = λ rs. (
-        λ finds. let at = to_node v.a v.b over rs finds in same_Some rs found_with (sym at.4 ∙ opened.running.rest at.0 at.1 at.2 at.3 ∙ ap Some opened.durable),
-        λ is. from_node v.a v.b over rs ((state v.a).durable, (state v.b).durable, last_sync (state v.a), last_sync (state v.b), durable_there ∙ ap Some (opened.durable ∙ sym is)),
+        λ finds. let at = to_node state honest moment left_since store shards old new v.a v.b over.over rs finds in same_Some rs found_with (sym at.4 ∙ opened.running.rest at.0 at.1 at.2 at.3 ∙ ap Some opened.durable),
+        λ is. from_node state honest moment left_since store shards old new v.a v.b over.over rs ((state v.a).durable, (state v.b).durable, last_sync (state v.a), last_sync (state v.b), durable_there ∙ ap Some (opened.durable ∙ sym is)),
       );
     }
 
@@ -169,3 +172,46 @@ module _ {D : Type 0} (state : D → State) (honest : D → Type 0) (moment : D 
   no_coordinator_is_damaged old a b log kept h revived rests readable damaged =
       let reads = readable (state a).seen (state b).seen revived.first.found revived.second.found in
       damaged reads.0 reads.1 (rests.each reads.0 (was_left state honest moment left_since counts_now store shards old old a b revived reads.0 reads.1)).3.image
+
+  pub flushes_over_devices : FlushesOverDevices state honest moment left_since store shards
+  flushes_over_devices old new now was v seen running flushes keeps over = (
+    record { at = refl; open_writes = seen.open_writes ∙ sym keeps.open_ids; given = refl },
+    record {
+      durable = was.durable;
+      staged = was.staged;
+      was = seen.at;
+      now = ap (λ (l : List Record). up l v.staged) flushes.durable ∙ ap (up (was.durable ++ was.staged)) flushes.staged;
+      shards = λ s. refl;
+      open_writes = refl;
+      given = keeps.given ∙ sym seen.given;
+      same = elsewhere state honest moment left_since store shards old new v.a v.b over;
+      here = λ rs. (
+        λ finds. let at = to_node state honest moment left_since store shards old new v.a v.b over rs finds in same_Some rs (was.durable ++ was.staged) (sym at.4 ∙ running.rest at.0 at.1 at.2 at.3 ∙ ap Some flushes.durable),
+        λ is. from_node state honest moment left_since store shards old new v.a v.b over rs (
+          (state v.a).durable,
+          (state v.b).durable,
+          last_sync (state v.a),
+          last_sync (state v.b),
+          running.rest (state v.a).durable (state v.b).durable (last_sync (state v.a)) (last_sync (state v.b)) ∙ ap Some (flushes.durable ∙ sym is),
+        ),
+      );
+    },
+  )
+
+  pub fails_over_devices : FailsOverDevices state honest moment left_since store shards
+  fails_over_devices old new now was v seen fails = record {
+    durable = was.durable;
+    staged = was.staged;
+    was = seen.at;
+    now = refl;
+    unchanged = λ s. refl;
+    open_writes = refl;
+    given = refl;
+    same = elsewhere state honest moment left_since store shards old new v.a v.b fails.over;
+    here = λ rs finds.
+        let at = to_node state honest moment left_since store shards old new v.a v.b fails.over rs finds in
+        ⊎_elim
+        (λ older. inl (same_Some rs was.durable (sym at.4 ∙ older)))
+        (λ newer. inr (same_Some rs (was.durable ++ was.staged) (sym at.4 ∙ newer)))
+        (fails.any_moment.each at.0 at.1 (counts_now v.a (moment was.a) at.0 fails.honest_a fails.any_moment.later_a at.2) (counts_now v.b (moment was.b) at.1 fails.honest_b fails.any_moment.later_b at.3));
+  }

@@ -13,7 +13,7 @@ use Rattle.decisions.specs.Standing.{DecidedValue, HeadsValue}
 use Rattle.laws.specs.Machines.{Machine}
 use Rattle.laws.specs.Nodes.{CoordinatorKnows, NodeName, down, refused, up}
 use Rattle.turns.specs.Causes.{IsUnsure}
-use Rattle.turns.specs.CoordinatorSeamLaws.{AwayIsForgotten, BatchTurns, HasDecided, HeadsTurn, IsForgotten, KeptAnswers, ResolvingTurns, TurnsTo, UnsureAnswers, VerdictsTurn, verdict_with, with_heads, with_resolved}
+use Rattle.turns.specs.CoordinatorSeamLaws.{AwayIsForgotten, BatchTurns, HasDecided, HeadsTurn, IsForgotten, KeptAnswers, ResolvingTurns, StillTurns, TurnsTo, UnsureAnswers, VerdictsTurn, verdict_with, with_heads, with_resolved}
 use Rattle.turns.specs.Flows.{Asked, HeadsHeld, Holds, Resolved, WriteHolds, aborted, checking, collecting, committed, flushing, id_of, learning, raising, reading, resolving, to_check, to_collect, to_flush, to_learn, to_raise, to_read, to_resolve, to_watch, to_write, undecided, watching, writing}
 use Rattle.turns.specs.Held.{AreHeldHeads, AreRightHeads, IfHeld, IsRight, IsRightDecision, IsRightResolve, IsRightResolved, IsRightVerdict, IsRightWrite, own_write}
 use Rattle.turns.specs.Moments.{Moment, Running}
@@ -88,6 +88,9 @@ module _ (store shards : ℕ) (left : NodeName → List Record → Type 0) (now 
 
   pub turns_to : (holds : Holds) → id_of holds ≡ id_of r.holds → IsRight shards left now (with_call r holds r.met now.machine) r.asked holds → TurnsTo store shards left now r (with_call r holds r.met now.machine)
   turns_to holds same right = quiet_calls_turn store shards left left now now.nodes now.machine r holds r.met (record { call = nothing_changes store shards left now st; running = running; same_id = same; right = right }) (inl refl)
+
+pub still_turns : (store shards : ℕ) (left : NodeName → List Record → Type 0) → StillTurns store shards left
+still_turns store shards left now r st running = turns_to store shards left now r st running r.holds refl (later_right store shards left now r st running r.holds)
 
 pub heads_turn : (store shards : ℕ) (left : NodeName → List Record → Type 0) (D : Type 0) → HeadsTurn store shards left D
 heads_turn store shards left D now v r st seen running =

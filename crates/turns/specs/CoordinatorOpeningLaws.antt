@@ -1,6 +1,6 @@
--- The seam between the contract of the coordinator's opening, over the devices of a store, and a step of a run. Of the premises, the records of the
--- call's contract and its clauses at every moment are the opening's; that both devices were revived is the device's contract; and that the store stands,
--- the store's.
+-- The seams between the contracts of the coordinator's opening and of its flush, over the devices of a store, and steps of a run. Of the premises, the
+-- records of a call's contract and its clauses at every moment are the coordinator's; that both devices were revived is the device's contract; and that
+-- the store stands, the store's.
 use Rattle.std.specs.Prelude.{◌≡◌, ◌≢◌, ◌⊎◌, ℕ, List, [], ◌∷◌, Some}
 use Rattle.refusal.specs.declared.refusal.Refusal.{Refusal}
 use Rattle.tuples.specs.declared.entry.Entry.{Entry}
@@ -8,10 +8,11 @@ use Rattle.records.specs.declared.record.Record.{Record}
 use Rattle.records.specs.Coordinators.{IsCoordinatorImage, coordinator_state}
 use Rattle.records.specs.Replays.{greatest_number}
 use Rattle.device.specs.Device.{HasFailed, State, left}
-use Rattle.journal.specs.Records.{LeavesBoth, found}
-use Rattle.decisions.specs.Coordinators.{CoordinatorView, IsOpenedCoordinator, WasLeftOrReopened}
-use Rattle.laws.specs.Nodes.{IsOfRefusedOpening, NodeName, Nodes, coordinator, epoch_of, refused}
+use Rattle.journal.specs.Records.{HasOldOrNew, LeavesBoth, found}
+use Rattle.decisions.specs.Coordinators.{CoordinatorView, FlushesAll, IsOpenedCoordinator, IsRunning, KeepsOpen, WasLeftOrReopened}
+use Rattle.laws.specs.Nodes.{IsOfRefusedOpening, NodeName, Nodes, coordinator, down, epoch_of, refused}
 use Rattle.laws.specs.Worlds.{Rests, coordinator_node}
+use Rattle.turns.specs.FlushLaws.{FailsFlush, FlushesCoordinator}
 use Rattle.turns.specs.Moments.{Moment}
 use Rattle.turns.specs.Promises.{ComesUp, HasDeviceCause}
 use Rattle.turns.specs.RestartLaws.{cut_to, with_restart}
@@ -34,15 +35,35 @@ behind_refusal nodes e = record { at = at_coordinator (refused e) nodes.at; open
 -- Given what a device holds and whether it is honest, how often a stop may have come at it, what a stop since then may have left, and a store's id
 -- and number of shards
 module _ {D : Type 0} (state : D → State) (honest : D → Type 0) (moment : D → ℕ) (left_since : D → ℕ → List ℕ → Type 0) (store shards : ℕ) where
-  -- The coordinator's devices are these, which its opening left, at every moment of which a stop leaves what its contract says; no other node's have
-  -- changed.
-  pub record OpensOverDevices (old : NodeName → D × D) (a b new_a new_b : D) (new : NodeName → D × D) : Type 0 where
+  -- the coordinator's devices are these, and no other node's have changed
+  pub record IsOverDevices (old : NodeName → D × D) (a b : D) (new : NodeName → D × D) : Type 0 where
+    pub first : (new coordinator).0 ≡ a
+    pub second : (new coordinator).1 ≡ b
+    pub others : (n : NodeName) → n ≢ coordinator → new n ≡ old n
+
+  -- they are honest, and at every moment since these a stop leaves what has P
+  pub record AreLeft (old : NodeName → D × D) (a b new_a new_b : D) (new : NodeName → D × D) (P : List ℕ → List ℕ → Type 0) : Type 0 where
+    pub over : IsOverDevices old new_a new_b new
     pub honest_a : honest new_a
     pub honest_b : honest new_b
-    pub first : (new coordinator).0 ≡ new_a
-    pub second : (new coordinator).1 ≡ new_b
-    pub others : (n : NodeName) → n ≢ coordinator → new n ≡ old n
-    pub any_moment : LeavesBoth moment left_since a b new_a new_b (WasLeftOrReopened (coordinator_node store shards) (state a) (state b))
+    pub any_moment : LeavesBoth moment left_since a b new_a new_b P
+
+  -- the coordinator's opening left them
+  abbrev pub OpensOverDevices : (NodeName → D × D) → D → D → D → D → (NodeName → D × D) → Type 0
+  OpensOverDevices old a b new_a new_b new = AreLeft old a b new_a new_b new (WasLeftOrReopened (coordinator_node store shards) (state a) (state b))
+
+  -- a flush that answers Ok is one of a coordinator of the store
+  abbrev pub FlushesOverDevices : Type 0
+  FlushesOverDevices = (old new : NodeName → D × D) (now : Moment) (was v : CoordinatorView D) → IsSeen now.nodes was → IsRunning state honest v → FlushesAll was v → KeepsOpen was v
+      → IsOverDevices old v.a v.b new
+      → let next = behind now.nodes v now.nodes.open_writes in
+      IsSeen next v × FlushesCoordinator (stops state honest store shards old) (stops state honest store shards new) now.nodes next
+
+  -- and so is one that fails, and takes the coordinator down
+  abbrev pub FailsOverDevices : Type 0
+  FailsOverDevices = (old new : NodeName → D × D) (now : Moment) (was v : CoordinatorView D) → IsSeen now.nodes was
+      → AreLeft old was.a was.b v.a v.b new (HasOldOrNew was.durable was.staged)
+      → FailsFlush (stops state honest store shards old) (stops state honest store shards new) now.nodes (record now.nodes { at = at_coordinator down now.nodes.at })
 
   -- an opening that answers Ok is a step of a run: the coordinator comes up, and the machine is cut to what was found
   abbrev pub CoordinatorOpeningsStep : Type 0

@@ -102,6 +102,10 @@ module _ (store shards : ℕ) (left : NodeName → List Record → Type 0) where
       let ran = going_on now now.nodes now.machine later in
       Stands store shards left ran × Turns shards (IsHorizonIn store shards left now.nodes) now r (told_unless r.is_cancelled) ran
 
+  -- a flow that learned nothing, as a write whose decision is staged still, goes on with what it holds, in a turn
+  abbrev pub StillTurns : Type 0
+  StillTurns = (now : Moment) (r : Running) → Stands store shards left now → Contains now.running r → TurnsTo now r (with_call r r.holds r.met now.machine)
+
   -- a resolution notes what became of a write, in a turn
   abbrev pub ResolvingTurns : Type 0
   ResolvingTurns = (now : Moment) (r : Running) (s : ℕ) (h : ResolveHolds) (x : Resolved) → Stands store shards left now → Contains now.running r

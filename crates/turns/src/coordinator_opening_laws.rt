@@ -1,6 +1,6 @@
-// The seam between the contract of the coordinator's opening and a step of a run, the clause of a function with an empty body.
+// The seams between contracts of the coordinator's opening and flush, over its devices, and steps of a run, each the clause of a function with an empty body.
 ghost use Rattle.std.specs.Prelude.{ℕ};
-ghost use Rattle.turns.specs.CoordinatorOpeningLaws.{CoordinatorOpeningsStep, FailedOpeningsHaveCause, FullCoordinatorsWereOpened, NoCoordinatorIsDamaged, RefusedOpeningsStep};
+ghost use Rattle.turns.specs.CoordinatorOpeningLaws.{CoordinatorOpeningsStep, FailedOpeningsHaveCause, FailsOverDevices, FlushesOverDevices, FullCoordinatorsWereOpened, NoCoordinatorIsDamaged, RefusedOpeningsStep};
 
 use device::Device;
 
@@ -12,4 +12,10 @@ pub fn coordinator_opening_is_a_step<D: Device>()
     ensures full { (store shards : ℕ) → FullCoordinatorsWereOpened D.state D.honest D.moment D.left_since store shards }
     ensures failed { (store shards : ℕ) → FailedOpeningsHaveCause D.state D.honest D.moment D.left_since store shards }
     ensures damaged { (store shards : ℕ) → NoCoordinatorIsDamaged D.state D.honest D.moment D.left_since store shards }
+{}
+
+/// A flush of the coordinator over its devices, by the contract of the call alone, is one of a coordinator of the store, whether it answers Ok or fails.
+pub fn coordinator_flushes_over_its_devices<D: Device>()
+    ensures ok { (store shards : ℕ) → FlushesOverDevices D.state D.honest D.moment D.left_since store shards }
+    ensures failed { (store shards : ℕ) → FailsOverDevices D.state D.honest D.moment D.left_since store shards }
 {}

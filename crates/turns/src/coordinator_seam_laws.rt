@@ -1,6 +1,6 @@
 // The seams between contracts of the coordinator's calls that give and close no id, and turns of a run, each the clause of a function with an empty body.
 ghost use Rattle.std.specs.Prelude.{ℕ};
-ghost use Rattle.turns.specs.CoordinatorSeamLaws.{AwayIsForgotten, BatchAnswers, BatchHasCause, BatchTurns, DecideHasCause, DecisionsAreForgotten, HeadsAnswer, HeadsHaveCause, HeadsTurn, InquiriesAnswer, KeptAnswers, PlacesAreFound, RaiseHasCause, RaisesTurn, ResolvingTurns, UndecidedAreNotFound, UnsureAnswers, VerdictsTurn};
+ghost use Rattle.turns.specs.CoordinatorSeamLaws.{AwayIsForgotten, BatchAnswers, BatchHasCause, BatchTurns, DecideHasCause, DecisionsAreForgotten, HeadsAnswer, HeadsHaveCause, HeadsTurn, InquiriesAnswer, KeptAnswers, PlacesAreFound, RaiseHasCause, RaisesTurn, ResolvingTurns, StillTurns, UndecidedAreNotFound, UnsureAnswers, VerdictsTurn};
 
 use device::Device;
 use laws::Leavings;
@@ -35,9 +35,11 @@ pub fn inquire_takes_its_turn<W: Leavings, D: Device>()
     ensures undecided { (store shards : ℕ) → UndecidedAreNotFound store shards W.left D }
 {}
 
-/// A write whose decision is kept ends with its place in a turn of a run; and with `Unsure` where the coordinator failed or was opened since.
+/// A write whose decision is kept ends with its place in a turn of a run; with `Unsure` where the coordinator failed or was opened since; and it goes on
+/// with what it holds where the decision is staged still.
 pub fn outcome_takes_its_turn<W: Leavings, D: Device>()
     ensures kept { (store shards : ℕ) → KeptAnswers store shards W.left D }
+    ensures later { (store shards : ℕ) → StillTurns store shards W.left }
     ensures unsure { (store shards : ℕ) → UnsureAnswers store shards W.left }
     ensures forgotten { (store shards : ℕ) → DecisionsAreForgotten store shards W.left D }
     ensures away { AwayIsForgotten }

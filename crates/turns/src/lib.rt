@@ -36,7 +36,9 @@ pub use abort_laws::{
 };
 pub use answer_laws::{answers_agree, cares_agree, coordinator_flushes_are_quiet};
 pub use checking_laws::{check_replies_select, checks_agree, checks_walk};
-pub use coordinator_opening_laws::coordinator_opening_is_a_step;
+pub use coordinator_opening_laws::{
+    coordinator_flushes_over_its_devices, coordinator_opening_is_a_step,
+};
 pub use coordinator_seam_laws::{
     batch_takes_its_turn, decide_has_cause, heads_take_their_turn, inquire_takes_its_turn,
     outcome_takes_its_turn, raise_takes_its_turn,
