@@ -1,0 +1,156 @@
+-- What each reply makes of a write flow.
+use Rattle.std.specs.Prelude.{◌≡◌, ◌≢◌, ◌⊎◌, ◌++◌, ℕ, Bool, true, false, List, [], ◌∷◌, Option, Some, None, Result, Ok, Err}
+use Rattle.tuples.specs.declared.entry.WriteId.{WriteId}
+use Rattle.tuples.specs.Parts.{takes_part}
+use Rattle.refusal.specs.declared.refusal.Refusal.{Refusal}
+use Rattle.refusal.specs.declared.refusal.Refusal.TheVariants.{Aborted, Full, Unsure}
+use Rattle.decisions.specs.Coordinators.{HaveVoted}
+use Rattle.decisions.specs.Standing.{DecidedValue}
+use Rattle.decisions.specs.Values.{IntentValue, TicketValue, VerdictValue, VoteValue}
+use Rattle.coordinator.specs.declared.decided.NotDecided.{NotDecided}
+use Rattle.coordinator.specs.declared.telling.Outcome as outcomes
+use Rattle.coordinator.specs.declared.telling.Outcome.TheVariants.{Kept, Later, Unsure as is_unsure}
+use Rattle.coordinator.specs.declared.telling.Inquiry as inquiries
+use Rattle.coordinator.specs.declared.telling.Inquiry.TheVariants.{Commit, Abort as is_aborted, Undecided}
+use Rattle.shard.specs.declared.replies.VoteReply.{VoteReply}
+use Rattle.shard.specs.declared.replies.VoteReply.TheVariants.{Yes, Later as votes_later, No}
+use Rattle.calls.specs.declared.reply.Reply.{Reply}
+use Rattle.calls.specs.declared.reply.Reply.TheVariants.{Coordinator, Shard}
+use Rattle.calls.specs.declared.reply.CoordinatorReply.{CoordinatorReply}
+use Rattle.calls.specs.declared.reply.CoordinatorReply.TheVariants as told
+use Rattle.calls.specs.declared.reply.ShardReply.{ShardReply}
+use Rattle.calls.specs.declared.reply.ShardReply.TheVariants as told_by
+use Rattle.catch_up.specs.Held.{CatchUpCallValue}
+use Rattle.catch_up.specs.CatchingUp as catching
+use Rattle.catch_up.specs.declared.caught.Progress as progresses
+use Rattle.catch_up.specs.declared.caught.Progress.TheVariants.{Next, There, Refused as is_refused}
+use Rattle.commit_flow.specs.declared.end.WriteEnd.{WriteEnd}
+use Rattle.commit_flow.specs.declared.end.WriteEnd.TheVariants.{Wrote, Refused, Cancelled}
+use Rattle.commit_flow.specs.WriteHolds.{Way, WriteAwaited, WriteHolds, onward, outward}
+use Rattle.commit_flow.specs.WriteHolds as waits
+use Rattle.commit_flow.specs.Views.{WriteView, at_rest, ticket_value, view_ended}
+
+-- it goes on, and holds this
+abbrev pub GoesOn : WriteHolds → WriteView → Type 0
+GoesOn holds after = after ≡ at_rest holds
+
+-- it goes out, with this refusal, and holds this
+abbrev pub GoesOut : WriteHolds → Refusal → WriteView → Type 0
+GoesOut holds e after = after ≡ at_rest (record holds { way = outward (Some e); batch = None })
+
+-- it goes on to its decision; where all tickets are spent and the votes are not exactly those of its shards, it goes out
+abbrev pub GoesToDecision : ℕ → IntentValue → WriteHolds → WriteView → Type 0
+GoesToDecision shards intent holds after = GoesOn holds after ⊎ ((holds.tickets ≡ []) × (HaveVoted shards intent.write holds.votes → ⊥) × GoesOut holds Aborted after)
+
+-- how a write ends that went out
+abbrev pub end_of : Way → WriteEnd
+end_of onward = Cancelled
+end_of (outward None) = Cancelled
+end_of (outward (Some e)) = Refused e
+
+-- with a verdict it goes on to drop the write where a shard gave something, and ends where none did
+abbrev pub GoesToDrop : WriteView → WriteId → WriteView → Type 0
+GoesToDrop v id after = GoesOn (record v.holds { verdict = Some id }) after ⊎ ((v.holds.tickets ≡ []) × (v.holds.votes ≡ []) × (after ≡ view_ended (end_of v.holds.way)))
+
+abbrev pub BeginGives : ℕ → WriteView → Result IntentValue Refusal → WriteView → Type 0
+BeginGives shards v (Ok i) after = GoesToDecision shards i (record v.holds { id = Some i.write.id; intent = Some i }) after
+BeginGives shards v (Err e) after = after ≡ view_ended (Refused e)
+
+-- what progress of the catch-up makes of it
+abbrev pub ProgressGives : WriteView → progresses.Progress → WriteView → Type 0
+ProgressGives v (Next c) after = GoesOn (record v.holds { batch = c.batch }) after
+ProgressGives v There after = GoesOn (record v.holds { batch = None }) after
+ProgressGives v (is_refused e) after = GoesOut v.holds e after
+
+-- The reply belongs to the catch-up of a shard.
+pub record CatchUpGives (v : WriteView) (awaited : _) (reply : Reply) (after : WriteView) : Type 0 where
+  pub call : CatchUpCallValue
+  pub is_awaited : call.awaited ≡ awaited
+  pub holds : call.held.batch ≡ v.holds.batch
+  pub progress : progresses.Progress
+  pub gives : catching.Gives call reply progress
+  pub then_gives : ProgressGives v progress after
+
+abbrev pub PrepareGives : ℕ → WriteView → ℕ → Bool → IntentValue → Result TicketValue Refusal → WriteView → Type 0
+PrepareGives shards v s again i (Ok t) after = GoesToDecision shards i (record v.holds { intent = Some i; tickets = v.holds.tickets ++ ticket_value (s, t) ∷ [] }) after
+PrepareGives shards v s again i (Err e) after = (e ≡ Full → again ≡ false → GoesOn (record v.holds { intent = Some i }) after)
+    × ((e ≢ Full) ⊎ (again ≡ true) → GoesOut (record v.holds { intent = Some i }) e after)
+
+-- a flush before a decision is refused as the call behind it would be
+abbrev pub FlushGives : WriteView → Result (Unit {0}) Refusal → WriteView → Type 0
+FlushGives v (Ok done) after = GoesOn v.holds after
+FlushGives v (Err e) after = GoesOut v.holds e after
+
+abbrev pub VoteGives : ℕ → WriteView → ℕ → VoteReply → WriteView → Type 0
+VoteGives shards v s (Yes vote) after = (i : IntentValue) → v.holds.intent ≡ Some i → GoesToDecision shards i (record v.holds { votes = v.holds.votes ++ vote ∷ [] }) after
+VoteGives shards v s (votes_later t) after = GoesOn (record v.holds { tickets = ticket_value (s, t) ∷ v.holds.tickets }) after
+VoteGives shards v s (No e) after = GoesOut v.holds e after
+
+-- what there is to do where a write was not decided
+abbrev pub NotDecidedGives : ℕ → WriteView → Bool → Refusal → Option IntentValue → List VoteValue → WriteView → Type 0
+NotDecidedGives shards v again e None votes after = GoesOut (record v.holds { votes = votes }) e after
+NotDecidedGives shards v again e (Some i) votes after = (e ≡ Full → again ≡ false → HaveVoted shards i.write votes → GoesOn (record v.holds { intent = Some i; votes = votes }) after)
+    × ((e ≢ Full) ⊎ (again ≡ true) → GoesOut (record v.holds { intent = Some i; votes = votes }) e after)
+
+abbrev pub DecideGives : ℕ → WriteView → Bool → Result DecidedValue NotDecided → WriteView → Type 0
+DecideGives shards v again (Ok d) after = GoesOn (record v.holds { decided = Some d }) after
+DecideGives shards v again (Err r) after = NotDecidedGives shards v again r.refusal r.intent r.votes.items after
+
+abbrev pub OutcomeGives : WriteView → outcomes.Outcome → WriteView → Type 0
+OutcomeGives v (Kept place) after = after ≡ view_ended (Wrote place)
+OutcomeGives v (Later d) after = GoesOn (record v.holds { decided = Some d }) after
+OutcomeGives v is_unsure after = after ≡ view_ended (Refused Unsure)
+
+abbrev pub AbortGives : WriteView → Result VerdictValue Refusal → WriteView → Type 0
+AbortGives v (Ok verdict) after = GoesToDrop v verdict.id after
+AbortGives v (Err e) after = after ≡ view_ended (end_of v.holds.way)
+
+abbrev pub InquireGives : WriteView → Result inquiries.Inquiry Refusal → WriteView → Type 0
+InquireGives v (Ok (is_aborted verdict)) after = GoesToDrop v verdict.id after
+InquireGives v (Ok (Commit place)) after = after ≡ view_ended (end_of v.holds.way)
+InquireGives v (Ok Undecided) after = after ≡ view_ended (end_of v.holds.way)
+InquireGives v (Err e) after = after ≡ view_ended (end_of v.holds.way)
+
+-- What a reply makes of a flow that waits for it.
+abbrev pub GivesTo : ℕ → WriteView → WriteAwaited → Reply → WriteView → Type 0
+GivesTo shards v waits.begin (Coordinator (told.Begin r)) after = BeginGives shards v r after
+GivesTo shards v (waits.catch_up awaited) reply after = CatchUpGives v awaited reply after
+GivesTo shards v (waits.prepare s again) (Shard (told_by.StagePrepare i r)) after = PrepareGives shards v s again i r after
+GivesTo shards v (waits.flush_to_prepare s) (Shard (told_by.Flush r)) after = FlushGives v r after
+GivesTo shards v (waits.vote s) (Shard (told_by.Vote r)) after = VoteGives shards v s r after
+GivesTo shards v (waits.flush_to_vote s) (Shard (told_by.Flush r)) after = FlushGives v r after
+GivesTo shards v (waits.decide again) (Coordinator (told.Decide r)) after = DecideGives shards v again r after
+GivesTo shards v waits.flush_to_decide (Coordinator (told.Flush r)) after = FlushGives v r after
+GivesTo shards v waits.outcome (Coordinator (told.Outcome r)) after = OutcomeGives v r after
+GivesTo shards v waits.flush_to_outcome (Coordinator (told.Flush r)) after = GoesOn v.holds after
+GivesTo shards v waits.abort (Coordinator (told.Abort r)) after = AbortGives v r after
+GivesTo shards v waits.inquire (Coordinator (told.Inquire r)) after = InquireGives v r after
+GivesTo shards v waits.drop_write (Shard (told_by.DropWrite verdict r)) after = GoesToDrop v verdict.id after
+GivesTo shards v awaited reply after = ⊥
+
+-- an intent that comes back is that of the flow's write
+abbrev pub IfBack : Option IntentValue → (IntentValue → Type 0) → Type 0
+IfBack None P = Unit {0}
+IfBack (Some i) P = P i
+
+-- an intent that comes back undecided is that of the write with this id
+abbrev pub RefusedBack : WriteId → Result DecidedValue NotDecided → Type 0
+RefusedBack id (Ok d) = Unit {0}
+RefusedBack id (Err r) = IfBack r.intent (λ i. i.write.id ≡ id)
+
+-- the reply is one to the call that is out, and gives back the intent that was handed in
+abbrev pub Fits : ℕ → WriteView → WriteAwaited → Reply → Type 0
+Fits shards v waits.begin (Coordinator (told.Begin r)) = Unit {0}
+Fits shards v (waits.catch_up awaited) reply = catching.Fits awaited reply
+Fits shards v (waits.prepare s again) (Shard (told_by.StagePrepare i r)) = ((id : WriteId) → v.holds.id ≡ Some id → i.write.id ≡ id) × (takes_part shards s i.write ≡ true)
+Fits shards v (waits.flush_to_prepare s) (Shard (told_by.Flush r)) = Unit {0}
+Fits shards v (waits.vote s) (Shard (told_by.Vote r)) = Unit {0}
+Fits shards v (waits.flush_to_vote s) (Shard (told_by.Flush r)) = Unit {0}
+Fits shards v (waits.decide again) (Coordinator (told.Decide r)) = (id : WriteId) → v.holds.id ≡ Some id → RefusedBack id r
+Fits shards v waits.flush_to_decide (Coordinator (told.Flush r)) = Unit {0}
+Fits shards v waits.outcome (Coordinator (told.Outcome r)) = Unit {0}
+Fits shards v waits.flush_to_outcome (Coordinator (told.Flush r)) = Unit {0}
+Fits shards v waits.abort (Coordinator (told.Abort r)) = Unit {0}
+Fits shards v waits.inquire (Coordinator (told.Inquire r)) = Unit {0}
+Fits shards v waits.drop_write (Shard (told_by.DropWrite verdict r)) = Unit {0}
+Fits shards v awaited reply = ⊥

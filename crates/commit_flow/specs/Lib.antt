@@ -1,0 +1,9 @@
+pub mod WriteHolds
+pub mod Participants
+pub mod Stages
+pub mod Views
+pub mod Kept
+pub mod Writing
+pub mod Answering
+pub mod Flows
+pub mod Cancelling

@@ -1,0 +1,122 @@
+// The decision of a write, and what became of it.
+ghost use Rattle.std.specs.Prelude.{◌≡◌, ◌⊎◌, ◌≢◌, ◌≤◌, ◌++◌, [], Some, None, true, false, ℕ};
+ghost use Rattle.records.specs.Identity.{max_shards};
+ghost use Rattle.commit_flow.specs.Answering.{DecideGives, FlushGives, IfBack, NotDecidedGives, OutcomeGives, RefusedBack};
+ghost use Rattle.commit_flow.specs.Kept.{IsReadyOf, IsStageOf};
+ghost use Rattle.commit_flow.specs.Views.{at_rest, holds_onward, view_of, view_out, view_ready};
+ghost use Rattle.commit_flow.specs.WriteHolds.{outward};
+ghost use Rattle.commit_flow.specs.declared.stage.Out.TheVariants.{Decide as decide_out, FlushToDecide as flush_decide_out, Outcome as outcome_out};
+
+use crate::ballot::Ballot;
+use crate::end::WriteEnd;
+use crate::stage::{Leaving, Ready, Stage};
+use coordinator::{Decided, NotDecided, Outcome};
+use decisions::{Intent, Vote};
+use std::alloc::Global;
+use tuples::{Refusal, WriteId};
+
+// The write goes out with all of its votes.
+pub(crate) fn go_out_voted(
+    alloc: Global,
+    met: Option<Refusal>,
+    intent: Intent,
+    votes: Vec<Vote>,
+) -> Ready
+    ensures goes { view_ready result ≡ at_rest (record (holds_onward intent.write.id (Some intent) [] votes.items None) { way = outward met }) }
+    ensures kept { (shards : ℕ) → IsReadyOf shards result }
+{
+    let id = intent.id();
+    let leaving = Leaving {
+        id,
+        met,
+        votes,
+        hand: None,
+        tickets: Vec::new(alloc),
+    };
+    Ready::Abort(intent, leaving)
+}
+
+// The write is not decided, and its intent has come back; a full coordinator is flushed once.
+fn come_back(
+    alloc: Global,
+    shards: u8,
+    is_again: bool,
+    refusal: Refusal,
+    intent: Intent,
+    votes: Vec<Vote>,
+) -> Ready
+    requires some { 1 ≤ shards }
+    requires few { shards ≤ max_shards }
+    ensures gives { NotDecidedGives shards (view_out (decide_out shards intent.write.id is_again)) is_again refusal (Some intent) votes.items (view_ready result) }
+    ensures kept { IsReadyOf shards result }
+{
+    if refusal != Refusal::Full || is_again {
+        return go_out_voted(alloc, Some(refusal), intent, votes);
+    }
+    match Ballot::new(shards, intent, votes) {
+        Ok(ballot) => Ready::FlushToDecide(ballot),
+        Err((intent, votes)) => go_out_voted(alloc, Some(refusal), intent, votes),
+    }
+}
+
+/// The decision is staged, or not.
+pub(crate) fn decided(
+    alloc: Global,
+    shards: u8,
+    id: WriteId,
+    is_again: bool,
+    answer: Result<Decided, NotDecided>,
+) -> Ready
+    requires some { 1 ≤ shards }
+    requires few { shards ≤ max_shards }
+    requires back { RefusedBack id answer }
+    ensures gives { DecideGives shards (view_out (decide_out shards id is_again)) is_again answer (view_ready result) }
+    ensures kept { IsReadyOf shards result }
+{
+    match answer {
+        Ok(decided) => Ready::Outcome(id, decided),
+        Err(refused) => {
+            let NotDecided {
+                refusal,
+                intent,
+                votes,
+            } = refused;
+            match intent {
+                Some(intent) => come_back(alloc, shards, is_again, refusal, intent, votes),
+                None => Ready::Inquire(Leaving {
+                    id,
+                    met: Some(refusal),
+                    votes,
+                    hand: None,
+                    tickets: Vec::new(alloc),
+                }),
+            }
+        }
+    }
+}
+
+/// The coordinator was flushed, and is asked again to decide.
+pub(crate) fn flushed_to_decide(alloc: Global, ballot: Ballot, answer: Result<(), Refusal>) -> Ready
+    ensures gives { FlushGives (view_out (flush_decide_out ballot)) answer (view_ready result) }
+    ensures kept { IsReadyOf ballot.shards result }
+{
+    match answer {
+        Ok(()) => Ready::Decide(ballot, true),
+        Err(refusal) => {
+            let (_shards, intent, votes) = ballot.into_parts();
+            go_out_voted(alloc, Some(refusal), intent, votes)
+        }
+    }
+}
+
+/// What became of the decision: it is kept, or has to be flushed first, or nobody knows.
+pub(crate) fn told(id: WriteId, outcome: Outcome) -> Stage
+    ensures gives { OutcomeGives (view_out (outcome_out id)) outcome (view_of result) }
+    ensures kept { (shards : ℕ) → IsStageOf shards result }
+{
+    match outcome {
+        Outcome::Kept(place) => Stage::Ended(WriteEnd::Wrote(place)),
+        Outcome::Later(decided) => Stage::Ready(Ready::FlushToOutcome(id, decided)),
+        Outcome::Unsure => Stage::Ended(WriteEnd::Refused(Refusal::Unsure)),
+    }
+}

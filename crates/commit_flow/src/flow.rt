@@ -1,0 +1,147 @@
+// A write flow: one call a turn.
+ghost use Rattle.std.specs.Prelude.{◌≡◌, ◌≤◌, ◌≢◌, Some, None, ℕ, IfOk, IfErr, MatchOption};
+ghost use Rattle.records.specs.Identity.{max_shards};
+ghost use Rattle.commit_flow.specs.Answering.{Fits, GivesTo};
+ghost use Rattle.commit_flow.specs.Cancelling.{Cancels};
+ghost use Rattle.commit_flow.specs.Views.{WriteView};
+ghost use Rattle.commit_flow.specs.WriteHolds.{nothing_begun};
+ghost use Rattle.commit_flow.specs.Writing.{Asks};
+
+use crate::cancelling::cancel;
+use crate::end::WriteEnd;
+use crate::giving::give;
+use crate::load::Load;
+use crate::next::next;
+use crate::stage::{Ready, Stage};
+use calls::{NodeCall, Reply};
+use std::alloc::Global;
+use std::marker::Model;
+use std::mem;
+use tuples::{Refusal, Write};
+
+/// A write on its way: `begin`; each participant is caught up to the intent's place and prepares; each votes; `decide`; `outcome`. A refusal before the
+/// decision takes it out: `abort`, or `inquire` where the intent is spent, and with a verdict `drop_write` at each shard that gave something.
+///
+/// It has no `Drop`, since it holds what has to be spent: `finish` spends it.
+#[must_use]
+pub struct WriteFlow {
+    alloc: Global,
+    shards: u8,
+    stage: Stage,
+}
+
+impl Model for WriteFlow {
+    ghost use Rattle.std.specs.Prelude.{◌≤◌};
+    ghost use Rattle.records.specs.Identity.{max_shards};
+    ghost use Rattle.commit_flow.specs.Flows.{WriteFlowValue};
+
+    ghost Value = { WriteFlowValue };
+
+    ghost use Rattle.commit_flow.specs.Views.{view_of};
+    ghost use Rattle.commit_flow.specs.Kept.{IsStageOf};
+
+    ghost view = { λ f. record { shards = f.shards; seen = view_of f.stage } };
+
+    ghost invariant = { λ f. (1 ≤ f.shards) × (f.shards ≤ max_shards) × IsStageOf f.shards f.stage };
+}
+
+// Puts a stage in the place of one that was taken out.
+fn put(place: &mut Stage, stage: Stage)
+    ensures { place.new ≡ stage }
+{
+    let taken = mem::replace(place, stage);
+    taken.leave();
+}
+
+impl WriteFlow {
+    /// To make this write in a store of so many shards. It takes all the room that the flow needs; `NoMemory`.
+    pub fn new(alloc: Global, shards: u8, write: Write) -> Result<WriteFlow, Refusal>
+        requires some { 1 ≤ shards }
+        requires few { shards ≤ max_shards }
+        ensures ok { IfOk result (λ f. f ≡ record { shards = shards; seen = record { write = Some write; holds = nothing_begun; awaited = None; ended = None } }) }
+        ensures err { IfErr result (λ e. e ≡ Refusal.NoMemory) }
+    {
+        let load = Load::new(alloc, shards)?;
+        Ok(WriteFlow {
+            alloc,
+            shards,
+            stage: Stage::Ready(Ready::Begin(write, load)),
+        })
+    }
+
+    /// Its next call, which has to be made, and the reply given. None where it has ended, and while a call is out.
+    pub fn next_call(&mut self) -> Option<NodeCall>
+        ensures shards { self.new.shards ≡ self.old.shards }
+        ensures call { MatchOption result (self.new ≡ self.old) (λ call. Asks self.old.shards self.old.seen call self.new.seen) }
+        ensures ended { (end : _) → self.old.seen.ended ≡ Some end → result ≡ None }
+        ensures out { (awaited : _) → self.old.seen.awaited ≡ Some awaited → result ≡ None }
+        ensures some { self.old.seen.ended ≡ None → self.old.seen.awaited ≡ None → result ≢ None }
+    {
+        let stage = mem::replace(&mut self.stage, Stage::Ended(WriteEnd::Cancelled));
+        match stage {
+            Stage::Ready(ready) => {
+                let (call, out) = next(self.shards, ready);
+                put(&mut self.stage, Stage::Out(out));
+                Some(call)
+            }
+            other => {
+                put(&mut self.stage, other);
+                None
+            }
+        }
+    }
+
+    /// What the reply to its call makes of it. It takes no memory.
+    pub fn give(&mut self, reply: Reply)
+        requires { MatchOption self.old.seen.awaited ⊥ (λ awaited. Fits self.old.shards self.old.seen awaited reply) }
+        ensures shards { self.new.shards ≡ self.old.shards }
+        ensures gives { MatchOption self.old.seen.awaited ⊥ (λ awaited. GivesTo self.old.shards self.old.seen awaited reply self.new.seen) }
+    {
+        let stage = mem::replace(&mut self.stage, Stage::Ended(WriteEnd::Cancelled));
+        match stage {
+            Stage::Out(out) => {
+                put(&mut self.stage, give(self.alloc, self.shards, out, reply));
+            }
+            other => {
+                reply.leave();
+                put(&mut self.stage, other);
+            }
+        }
+    }
+
+    /// Takes it out before its decision. After that, and while a call is out, nothing changes.
+    pub fn cancel(&mut self)
+        ensures shards { self.new.shards ≡ self.old.shards }
+        ensures cancels { Cancels self.old.seen self.new.seen }
+    {
+        let stage = mem::replace(&mut self.stage, Stage::Ended(WriteEnd::Cancelled));
+        put(&mut self.stage, cancel(self.alloc, stage));
+    }
+
+    /// How it ended, where it has.
+    pub fn end(&self) -> Option<WriteEnd>
+        ensures { result ≡ self.now.seen.ended }
+    {
+        match &self.stage {
+            Stage::Ended(end) => Some(*end),
+            Stage::Ready(_) | Stage::Out(_) => None,
+        }
+    }
+
+    /// How it ended, where it has; what it holds is spent. A write that was begun and not decided stays open, and one that is prepared stays in doubt.
+    pub fn finish(self) -> Option<WriteEnd>
+        ensures { result ≡ self.seen.ended }
+    {
+        let WriteFlow {
+            alloc: _,
+            shards: _,
+            stage,
+        } = self;
+        let end = match &stage {
+            Stage::Ended(end) => Some(*end),
+            Stage::Ready(_) | Stage::Out(_) => None,
+        };
+        stage.leave();
+        end
+    }
+}

@@ -1,0 +1,232 @@
+// What a reply makes of the stage that waits for it.
+ghost use Rattle.std.specs.Prelude.{ℕ, ◌≤◌};
+ghost use Rattle.records.specs.Identity.{max_shards};
+ghost use Rattle.catch_up.specs.CatchingUp.{Fits as FitsCatchUp};
+ghost use Rattle.commit_flow.specs.Answering.{Fits, GivesTo};
+ghost use Rattle.commit_flow.specs.Kept.{IsFresh, IsOutOf, IsStageOf};
+ghost use Rattle.commit_flow.specs.Views.{awaited_of, view_of, view_out};
+ghost use Rattle.commit_flow.specs.declared.stage.Out.TheVariants as out_of;
+
+use crate::ballot::Ballot;
+use crate::deciding::{decided as decide, flushed_to_decide, told};
+use crate::dropping::{aborted, dropped, inquired};
+use crate::end::WriteEnd;
+use crate::leaving::{leave_asked, leave_preparing, leave_voting, leave_with};
+use crate::load::Load;
+use crate::preparing::{begun, caught_up, flushed_to_prepare, prepared};
+use crate::stage::{AskedPrepare, Leaving, Out, Preparing, Ready, Stage, Voting};
+use crate::voting::{flushed_to_vote, voted};
+use calls::{CoordinatorReply, Reply, ShardReply};
+use coordinator::Decided;
+use decisions::Ticket;
+use std::alloc::Global;
+use tuples::{Refusal, WriteId};
+
+// Nobody gives the reply to another call, but what it carries has to be spent.
+fn foreign(reply: Reply) -> Stage {
+    reply.leave();
+    Stage::Ended(WriteEnd::Refused(Refusal::Damaged))
+}
+
+fn give_decide(alloc: Global, shards: u8, id: WriteId, is_again: bool, reply: Reply) -> Stage
+    requires some { 1 ≤ shards }
+    requires few { shards ≤ max_shards }
+    requires fits { Fits shards (view_out (out_of.Decide shards id is_again)) (awaited_of (out_of.Decide shards id is_again)) reply }
+    ensures gives { GivesTo shards (view_out (out_of.Decide shards id is_again)) (awaited_of (out_of.Decide shards id is_again)) reply (view_of result) }
+    ensures kept { IsStageOf shards result }
+{
+    match reply {
+        Reply::Coordinator(CoordinatorReply::Decide(answer)) => {
+            Stage::Ready(decide(alloc, shards, id, is_again, answer))
+        }
+        other => foreign(other),
+    }
+}
+
+fn give_begin(load: Load, reply: Reply) -> Stage
+    requires fresh { IsFresh load.shards load }
+    requires fits { Fits load.shards (view_out (out_of.Begin load)) (awaited_of (out_of.Begin load)) reply }
+    ensures gives { GivesTo load.shards (view_out (out_of.Begin load)) (awaited_of (out_of.Begin load)) reply (view_of result) }
+    ensures kept { IsStageOf load.shards result }
+{
+    match reply {
+        Reply::Coordinator(CoordinatorReply::Begin(answer)) => begun(load, answer),
+        other => {
+            load.leave();
+            foreign(other)
+        }
+    }
+}
+
+fn give_prepare(asked: AskedPrepare, is_again: bool, reply: Reply) -> Stage
+    requires fits { Fits asked.load.shards (view_out (out_of.Prepare asked is_again)) (awaited_of (out_of.Prepare asked is_again)) reply }
+    ensures gives { GivesTo asked.load.shards (view_out (out_of.Prepare asked is_again)) (awaited_of (out_of.Prepare asked is_again)) reply (view_of result) }
+    ensures kept { IsStageOf asked.load.shards result }
+{
+    match reply {
+        Reply::Shard(ShardReply::StagePrepare(intent, answer)) => Stage::Ready(prepared(
+            asked, is_again, intent, answer,
+        )),
+        other => {
+            leave_asked(asked);
+            foreign(other)
+        }
+    }
+}
+
+fn give_flush_to_prepare(preparing: Preparing, reply: Reply) -> Stage
+    requires fits { Fits preparing.load.shards (view_out (out_of.FlushToPrepare preparing)) (awaited_of (out_of.FlushToPrepare preparing)) reply }
+    ensures gives { GivesTo preparing.load.shards (view_out (out_of.FlushToPrepare preparing)) (awaited_of (out_of.FlushToPrepare preparing)) reply (view_of result) }
+    ensures kept { IsStageOf preparing.load.shards result }
+{
+    match reply {
+        Reply::Shard(ShardReply::Flush(answer)) => Stage::Ready(flushed_to_prepare(
+            preparing, answer,
+        )),
+        other => {
+            leave_preparing(preparing);
+            foreign(other)
+        }
+    }
+}
+
+fn give_vote(voting: Voting, reply: Reply) -> Stage
+    requires fits { Fits voting.load.shards (view_out (out_of.Vote voting)) (awaited_of (out_of.Vote voting)) reply }
+    ensures gives { GivesTo voting.load.shards (view_out (out_of.Vote voting)) (awaited_of (out_of.Vote voting)) reply (view_of result) }
+    ensures kept { IsStageOf voting.load.shards result }
+{
+    match reply {
+        Reply::Shard(ShardReply::Vote(answer)) => Stage::Ready(voted(voting, answer)),
+        other => {
+            leave_voting(voting);
+            foreign(other)
+        }
+    }
+}
+
+fn give_flush_to_vote(voting: Voting, ticket: Ticket, reply: Reply) -> Stage
+    requires fits { Fits voting.load.shards (view_out (out_of.FlushToVote voting ticket)) (awaited_of (out_of.FlushToVote voting ticket)) reply }
+    ensures gives { GivesTo voting.load.shards (view_out (out_of.FlushToVote voting ticket)) (awaited_of (out_of.FlushToVote voting ticket)) reply (view_of result) }
+    ensures kept { IsStageOf voting.load.shards result }
+{
+    match reply {
+        Reply::Shard(ShardReply::Flush(answer)) => Stage::Ready(flushed_to_vote(
+            voting, ticket, answer,
+        )),
+        other => {
+            leave_with(voting, ticket);
+            foreign(other)
+        }
+    }
+}
+
+fn give_flush_to_decide(alloc: Global, ballot: Ballot, reply: Reply) -> Stage
+    requires fits { Fits ballot.shards (view_out (out_of.FlushToDecide ballot)) (awaited_of (out_of.FlushToDecide ballot)) reply }
+    ensures gives { GivesTo ballot.shards (view_out (out_of.FlushToDecide ballot)) (awaited_of (out_of.FlushToDecide ballot)) reply (view_of result) }
+    ensures kept { IsStageOf ballot.shards result }
+{
+    match reply {
+        Reply::Coordinator(CoordinatorReply::Flush(answer)) => Stage::Ready(flushed_to_decide(
+            alloc, ballot, answer,
+        )),
+        other => {
+            ballot.leave();
+            foreign(other)
+        }
+    }
+}
+
+fn give_outcome(id: WriteId, reply: Reply) -> Stage
+    requires fits { Fits 0 (view_out (out_of.Outcome id)) (awaited_of (out_of.Outcome id)) reply }
+    ensures gives { (shards : ℕ) → GivesTo shards (view_out (out_of.Outcome id)) (awaited_of (out_of.Outcome id)) reply (view_of result) }
+    ensures kept { (shards : ℕ) → IsStageOf shards result }
+{
+    match reply {
+        Reply::Coordinator(CoordinatorReply::Outcome(outcome)) => told(id, outcome),
+        other => { foreign(other) }
+    }
+}
+
+fn give_flush_to_outcome(id: WriteId, decided: Decided, reply: Reply) -> Stage
+    requires fits { Fits 0 (view_out (out_of.FlushToOutcome id decided)) (awaited_of (out_of.FlushToOutcome id decided)) reply }
+    ensures gives { (shards : ℕ) → GivesTo shards (view_out (out_of.FlushToOutcome id decided)) (awaited_of (out_of.FlushToOutcome id decided)) reply (view_of result) }
+    ensures kept { (shards : ℕ) → IsStageOf shards result }
+{
+    match reply {
+        Reply::Coordinator(CoordinatorReply::Flush(_answer)) => Stage::Ready(Ready::Outcome(
+            id, decided,
+        )),
+        other => {
+            decided.leave();
+            foreign(other)
+        }
+    }
+}
+
+fn give_abort(leaving: Leaving, reply: Reply) -> Stage
+    requires fits { Fits 0 (view_out (out_of.Abort leaving)) (awaited_of (out_of.Abort leaving)) reply }
+    ensures gives { (shards : ℕ) → GivesTo shards (view_out (out_of.Abort leaving)) (awaited_of (out_of.Abort leaving)) reply (view_of result) }
+    ensures kept { (shards : ℕ) → IsStageOf shards result }
+{
+    match reply {
+        Reply::Coordinator(CoordinatorReply::Abort(answer)) => aborted(leaving, answer),
+        other => {
+            leaving.leave();
+            foreign(other)
+        }
+    }
+}
+
+fn give_inquire(leaving: Leaving, reply: Reply) -> Stage
+    requires fits { Fits 0 (view_out (out_of.Inquire leaving)) (awaited_of (out_of.Inquire leaving)) reply }
+    ensures gives { (shards : ℕ) → GivesTo shards (view_out (out_of.Inquire leaving)) (awaited_of (out_of.Inquire leaving)) reply (view_of result) }
+    ensures kept { (shards : ℕ) → IsStageOf shards result }
+{
+    match reply {
+        Reply::Coordinator(CoordinatorReply::Inquire(answer)) => inquired(leaving, answer),
+        other => {
+            leaving.leave();
+            foreign(other)
+        }
+    }
+}
+
+fn give_drop_write(leaving: Leaving, reply: Reply) -> Stage
+    requires fits { Fits 0 (view_out (out_of.DropWrite leaving)) (awaited_of (out_of.DropWrite leaving)) reply }
+    ensures gives { (shards : ℕ) → GivesTo shards (view_out (out_of.DropWrite leaving)) (awaited_of (out_of.DropWrite leaving)) reply (view_of result) }
+    ensures kept { (shards : ℕ) → IsStageOf shards result }
+{
+    match reply {
+        Reply::Shard(ShardReply::DropWrite(verdict, _)) => dropped(leaving, verdict),
+        other => {
+            leaving.leave();
+            foreign(other)
+        }
+    }
+}
+
+/// What a reply makes of it.
+pub(crate) fn give(alloc: Global, shards: u8, out: Out, reply: Reply) -> Stage
+    requires some { 1 ≤ shards }
+    requires few { shards ≤ max_shards }
+    requires fits { Fits shards (view_out out) (awaited_of out) reply }
+    requires kept { IsOutOf shards out }
+    ensures gives { GivesTo shards (view_out out) (awaited_of out) reply (view_of result) }
+    ensures kept { IsStageOf shards result }
+{
+    match out {
+        Out::Begin(load) => give_begin(load, reply),
+        Out::CatchUp(preparing, call) => Stage::Ready(caught_up(preparing, call, reply)),
+        Out::Prepare(asked, is_again) => give_prepare(asked, is_again, reply),
+        Out::FlushToPrepare(preparing) => give_flush_to_prepare(preparing, reply),
+        Out::Vote(voting) => give_vote(voting, reply),
+        Out::FlushToVote(voting, ticket) => give_flush_to_vote(voting, ticket, reply),
+        Out::Decide(_, id, is_again) => give_decide(alloc, shards, id, is_again, reply),
+        Out::FlushToDecide(ballot) => give_flush_to_decide(alloc, ballot, reply),
+        Out::Outcome(id) => give_outcome(id, reply),
+        Out::FlushToOutcome(id, decided) => give_flush_to_outcome(id, decided, reply),
+        Out::Abort(leaving) => give_abort(leaving, reply),
+        Out::Inquire(leaving) => give_inquire(leaving, reply),
+        Out::DropWrite(leaving) => give_drop_write(leaving, reply),
+    }
+}

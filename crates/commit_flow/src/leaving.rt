@@ -1,0 +1,111 @@
+// What a flow holds is only spent.
+use crate::load::{leave_tickets, leave_votes};
+use crate::stage::{AskedPrepare, Leaving, Out, Preparing, Ready, Stage, Voting};
+use decisions::Ticket;
+
+pub(crate) fn leave_preparing(preparing: Preparing) {
+    let Preparing {
+        intent,
+        load,
+        shard: _,
+    } = preparing;
+    intent.leave();
+    load.leave();
+}
+
+pub(crate) fn leave_asked(asked: AskedPrepare) {
+    let AskedPrepare {
+        id: _,
+        load,
+        shard: _,
+    } = asked;
+    load.leave();
+}
+
+pub(crate) fn leave_voting(voting: Voting) {
+    let Voting {
+        intent,
+        load,
+        shard: _,
+    } = voting;
+    intent.leave();
+    load.leave();
+}
+
+pub(crate) fn leave_with(voting: Voting, ticket: Ticket) {
+    ticket.leave();
+    leave_voting(voting);
+}
+
+impl Leaving {
+    pub(crate) fn leave(self) {
+        let Leaving {
+            id: _,
+            met: _,
+            votes,
+            hand,
+            tickets,
+        } = self;
+        leave_votes(votes);
+        if let Some((_, ticket)) = hand {
+            ticket.leave();
+        }
+        leave_tickets(tickets);
+    }
+}
+
+impl Ready {
+    pub(crate) fn leave(self) {
+        match self {
+            Ready::Begin(_, load) => load.leave(),
+            Ready::CatchUp(preparing, _) => leave_preparing(preparing),
+            Ready::Prepare(preparing, _) => leave_preparing(preparing),
+            Ready::FlushToPrepare(preparing) => leave_preparing(preparing),
+            Ready::Vote(voting, ticket) => leave_with(voting, ticket),
+            Ready::FlushToVote(voting, ticket) => leave_with(voting, ticket),
+            Ready::Decide(ballot, _) => ballot.leave(),
+            Ready::FlushToDecide(ballot) => ballot.leave(),
+            Ready::Outcome(_, decided) => decided.leave(),
+            Ready::FlushToOutcome(_, decided) => decided.leave(),
+            Ready::Abort(intent, leaving) => {
+                intent.leave();
+                leaving.leave();
+            }
+            Ready::Inquire(leaving) => leaving.leave(),
+            Ready::DropWrite(_, leaving, _, held) => {
+                held.leave();
+                leaving.leave();
+            }
+        }
+    }
+}
+
+impl Out {
+    pub(crate) fn leave(self) {
+        match self {
+            Out::Begin(load) => load.leave(),
+            Out::CatchUp(preparing, _) => leave_preparing(preparing),
+            Out::Prepare(asked, _) => leave_asked(asked),
+            Out::FlushToPrepare(preparing) => leave_preparing(preparing),
+            Out::Vote(voting) => leave_voting(voting),
+            Out::FlushToVote(voting, ticket) => leave_with(voting, ticket),
+            Out::Decide(_, _, _) => {}
+            Out::FlushToDecide(ballot) => ballot.leave(),
+            Out::Outcome(_) => {}
+            Out::FlushToOutcome(_, decided) => decided.leave(),
+            Out::Abort(leaving) => leaving.leave(),
+            Out::Inquire(leaving) => leaving.leave(),
+            Out::DropWrite(leaving) => leaving.leave(),
+        }
+    }
+}
+
+impl Stage {
+    pub(crate) fn leave(self) {
+        match self {
+            Stage::Ready(ready) => ready.leave(),
+            Stage::Out(out) => out.leave(),
+            Stage::Ended(_) => {}
+        }
+    }
+}

@@ -1,0 +1,114 @@
+// The next call of each stage.
+ghost use Rattle.std.specs.Prelude.{ℕ, ◌≡◌};
+ghost use Rattle.commit_flow.specs.Kept.{IsOutOf, IsReadyOf};
+ghost use Rattle.commit_flow.specs.Views.{view_out, view_ready};
+ghost use Rattle.commit_flow.specs.Writing.{Asks};
+ghost use Rattle.commit_flow.specs.declared.stage.Ready.TheVariants.{CatchUp as ready_catch_up, Decide as ready_decide, Prepare as ready_prepare, Vote as ready_vote};
+
+use crate::ballot::Ballot;
+use crate::stage::{AskedPrepare, Out, Preparing, Ready, Voting};
+use calls::{CoordinatorCall, NodeCall, ShardCall};
+use catch_up::CatchUp;
+use decisions::Ticket;
+
+fn catch_up(preparing: Preparing, catch_up: CatchUp) -> (NodeCall, Out)
+    requires { catch_up.shard ≡ preparing.shard }
+    ensures asks { Asks preparing.load.shards (view_ready (ready_catch_up preparing catch_up)) result.0 (view_out result.1) }
+    ensures kept { IsOutOf preparing.load.shards result.1 }
+{
+    let (call, awaited) = catch_up.next_call();
+    (call, Out::CatchUp(preparing, awaited))
+}
+
+fn prepare(preparing: Preparing, is_again: bool) -> (NodeCall, Out)
+    ensures asks { Asks preparing.load.shards (view_ready (ready_prepare preparing is_again)) result.0 (view_out result.1) }
+    ensures kept { IsOutOf preparing.load.shards result.1 }
+{
+    let Preparing {
+        intent,
+        load,
+        shard,
+    } = preparing;
+    let id = intent.id();
+    let asked = AskedPrepare { id, load, shard };
+    (
+        NodeCall::Shard(shard, ShardCall::StagePrepare(intent)),
+        Out::Prepare(asked, is_again),
+    )
+}
+
+fn vote(voting: Voting, ticket: Ticket) -> (NodeCall, Out)
+    ensures asks { Asks voting.load.shards (view_ready (ready_vote voting ticket)) result.0 (view_out result.1) }
+    ensures kept { IsOutOf voting.load.shards result.1 }
+{
+    let call = NodeCall::Shard(voting.shard, ShardCall::Vote(ticket));
+    (call, Out::Vote(voting))
+}
+
+fn decide(ballot: Ballot, is_again: bool) -> (NodeCall, Out)
+    ensures asks { Asks ballot.shards (view_ready (ready_decide ballot is_again)) result.0 (view_out result.1) }
+    ensures kept { IsOutOf ballot.shards result.1 }
+{
+    let (shards, intent, votes) = ballot.into_parts();
+    let id = intent.id();
+    (
+        NodeCall::Coordinator(CoordinatorCall::Decide(intent, votes)),
+        Out::Decide(shards, id, is_again),
+    )
+}
+
+fn flush_shard(shard: u8, out: Out) -> (NodeCall, Out)
+    ensures { (result.0 ≡ NodeCall.Shard shard ShardCall.Flush) × (result.1 ≡ out) }
+{
+    (NodeCall::Shard(shard, ShardCall::Flush), out)
+}
+
+fn ask_coordinator(call: CoordinatorCall, out: Out) -> (NodeCall, Out)
+    ensures { (result.0 ≡ NodeCall.Coordinator call) × (result.1 ≡ out) }
+{
+    (NodeCall::Coordinator(call), out)
+}
+
+/// The call of a stage, and the stage while it is out.
+pub(crate) fn next(shards: u8, ready: Ready) -> (NodeCall, Out)
+    requires { IsReadyOf shards ready }
+    ensures asks { Asks shards (view_ready ready) result.0 (view_out result.1) }
+    ensures kept { IsOutOf shards result.1 }
+{
+    let _shards = shards;
+    match ready {
+        Ready::Begin(write, load) => {
+            ask_coordinator(CoordinatorCall::Begin(write), Out::Begin(load))
+        }
+        Ready::CatchUp(preparing, progress) => catch_up(preparing, progress),
+        Ready::Prepare(preparing, is_again) => prepare(preparing, is_again),
+        Ready::FlushToPrepare(preparing) => {
+            flush_shard(preparing.shard, Out::FlushToPrepare(preparing))
+        }
+        Ready::Vote(voting, ticket) => vote(voting, ticket),
+        Ready::FlushToVote(voting, ticket) => {
+            flush_shard(voting.shard, Out::FlushToVote(voting, ticket))
+        }
+        Ready::Decide(ballot, is_again) => decide(ballot, is_again),
+        Ready::FlushToDecide(ballot) => {
+            ask_coordinator(CoordinatorCall::Flush, Out::FlushToDecide(ballot))
+        }
+        Ready::Outcome(id, decided) => {
+            ask_coordinator(CoordinatorCall::Outcome(decided), Out::Outcome(id))
+        }
+        Ready::FlushToOutcome(id, decided) => {
+            ask_coordinator(CoordinatorCall::Flush, Out::FlushToOutcome(id, decided))
+        }
+        Ready::Abort(intent, leaving) => {
+            ask_coordinator(CoordinatorCall::Abort(intent), Out::Abort(leaving))
+        }
+        Ready::Inquire(leaving) => (
+            NodeCall::Coordinator(CoordinatorCall::Inquire(leaving.id)),
+            Out::Inquire(leaving),
+        ),
+        Ready::DropWrite(verdict, leaving, shard, held) => (
+            NodeCall::Shard(shard, ShardCall::DropWrite(verdict, Some(held))),
+            Out::DropWrite(leaving),
+        ),
+    }
+}

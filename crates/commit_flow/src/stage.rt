@@ -1,0 +1,94 @@
+// Where a write is between two of its calls, and while one is out.
+ghost use Rattle.std.specs.Prelude.{◌≡◌, ◌≤◌, ◌<◌, ◌+◌, true};
+ghost use Rattle.std.specs.Vec.{vec_len};
+ghost use Rattle.tuples.specs.Parts.{takes_part};
+
+use crate::ballot::Ballot;
+use crate::end::WriteEnd;
+use crate::load::Load;
+use catch_up::{CatchUp, CatchUpCall};
+use coordinator::Decided;
+use decisions::{Held, Intent, Ticket, Verdict, Vote};
+use tuples::{Refusal, Write, WriteId};
+
+/// The shards prepare their parts, one after another. This one's turn has come.
+pub(crate) struct Preparing {
+    pub(crate) intent: Intent,
+    pub(crate) load: Load,
+    pub(crate) shard: u8,
+    ghost takes: { takes_part load.shards shard intent.write ≡ true },
+    ghost there: { shard < load.shards },
+    ghost few: { vec_len load.tickets ≤ shard },
+    ghost no_votes: { vec_len load.votes ≡ 0 },
+}
+
+/// The same, while the intent is out.
+pub(crate) struct AskedPrepare {
+    pub(crate) id: WriteId,
+    pub(crate) load: Load,
+    pub(crate) shard: u8,
+    ghost there: { shard < load.shards },
+    ghost few: { vec_len load.tickets ≤ shard },
+    ghost no_votes: { vec_len load.votes ≡ 0 },
+}
+
+/// The shards vote, one after another. The ticket of this one was taken from the others.
+pub(crate) struct Voting {
+    pub(crate) intent: Intent,
+    pub(crate) load: Load,
+    pub(crate) shard: u8,
+    ghost room: { vec_len load.tickets + vec_len load.votes < load.shards },
+}
+
+/// The write goes out undecided, with the refusal that it met, or cancelled. What the shards gave is listed by rising shard: the votes, the ticket that
+/// was to become the next vote, and the other tickets.
+pub(crate) struct Leaving {
+    pub(crate) id: WriteId,
+    pub(crate) met: Option<Refusal>,
+    pub(crate) votes: Vec<Vote>,
+    pub(crate) hand: Option<(u8, Ticket)>,
+    pub(crate) tickets: Vec<(u8, Ticket)>,
+}
+
+/// Its next call.
+pub(crate) enum Ready {
+    Begin(Write, Load),
+    CatchUp(Preparing, CatchUp),
+    /// Whether the shard was flushed for it already.
+    Prepare(Preparing, bool),
+    FlushToPrepare(Preparing),
+    Vote(Voting, Ticket),
+    FlushToVote(Voting, Ticket),
+    /// Whether the coordinator was flushed for it already.
+    Decide(Ballot, bool),
+    FlushToDecide(Ballot),
+    Outcome(WriteId, Decided),
+    FlushToOutcome(WriteId, Decided),
+    Abort(Intent, Leaving),
+    Inquire(Leaving),
+    /// At this shard, with what it gave.
+    DropWrite(Verdict, Leaving, u8, Held),
+}
+
+/// The call that is out, with what stays here.
+pub(crate) enum Out {
+    Begin(Load),
+    CatchUp(Preparing, CatchUpCall),
+    Prepare(AskedPrepare, bool),
+    FlushToPrepare(Preparing),
+    Vote(Voting),
+    FlushToVote(Voting, Ticket),
+    Decide(u8, WriteId, bool),
+    FlushToDecide(Ballot),
+    Outcome(WriteId),
+    FlushToOutcome(WriteId, Decided),
+    Abort(Leaving),
+    Inquire(Leaving),
+    DropWrite(Leaving),
+}
+
+pub(crate) enum Stage {
+    Ready(Ready),
+    Out(Out),
+    Ended(WriteEnd),
+}
