@@ -12,8 +12,6 @@ mod lock_laws;
 mod log_laws;
 mod shard_laws;
 mod stop_laws;
-#[cfg(test)]
-mod tests;
 
 pub use contents::{Contents, Leavings};
 pub use coordinator_laws::{

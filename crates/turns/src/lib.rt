@@ -26,8 +26,6 @@ mod shard_opening_laws;
 mod shard_seam_laws;
 mod staging_laws;
 mod store_laws;
-#[cfg(test)]
-mod tests;
 
 pub use abort_laws::{
     aborts_leave_the_store_standing, decisions_that_are_found_are_kept,

@@ -3,7 +3,7 @@ ghost use Rattle.std.specs.Prelude.{◌≡◌, ℕ, List, []};
 ghost use Rattle.records.specs.declared.record.Record.{Record};
 ghost use Rattle.laws.specs.Nodes.{NodeName};
 
-use crate::{
+use turns::{
     aborts_leave_the_store_standing, busy_shards_have_cause, chains_run, closed_stores_rest,
     closed_stores_stand, deciders_take_their_turn, decisions_leave_the_store_standing,
     failed_flushes_leave_the_store_standing, flushes_of_the_coordinator_leave_the_store_standing,

@@ -2,7 +2,7 @@
 ghost use Rattle.std.specs.Prelude.{◌≡◌, ℕ, List, []};
 ghost use Rattle.records.specs.declared.record.Record.{Record};
 
-use crate::{Contents, an_empty_store_rests, decisions_leave_all_at_rest};
+use laws::{Contents, an_empty_store_rests, decisions_leave_all_at_rest};
 
 struct Unmade;
 
