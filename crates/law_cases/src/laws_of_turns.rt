@@ -3,6 +3,8 @@ ghost use Rattle.std.specs.Prelude.{◌≡◌, ℕ, List, []};
 ghost use Rattle.records.specs.declared.record.Record.{Record};
 ghost use Rattle.laws.specs.Nodes.{NodeName};
 
+use device::SimDisk;
+use laws::Leavings;
 use turns::{
     aborts_leave_the_store_standing, busy_shards_have_cause, chains_run, closed_stores_rest,
     closed_stores_stand, deciders_take_their_turn, decisions_leave_the_store_standing,
@@ -10,8 +12,6 @@ use turns::{
     openings_of_the_coordinator_leave_the_store_standing, replies_select, stopped_steps_rest,
     stops_within_a_step_leave_all_at_rest, tickets_are_refused_with_cause,
 };
-use device::SimDisk;
-use laws::Leavings;
 
 struct Unmade;
 
