@@ -5,7 +5,7 @@ use Rattle.tuples.specs.Log.{same_id}
 use Rattle.tuples.specs.declared.entry.WriteId.{WriteId}
 use Rattle.holds.proofs.Doubts.{same_id_refl, same_id_true}
 use Rattle.decisions.specs.Values.{VoteValue}
-use Rattle.decisions.specs.Coordinators.{HaveVoted, IsVoteFor}
+use Rattle.decisions.specs.Coordinators.{IsVoteFor}
 use Rattle.coordinator.proofs.CountedVotes.{AreCounted, all_counted, next_is_own, next_was_missing, none_missing, one_counted}
 use Rattle.coordinator.proofs.votes.votes_match.Goals.{then-ne-via-then-ne, then-ne-via-else-ne+then-shard-shards, then-ne-via-else-ne+else-shard-shards+then-not-is_set}
 use Rattle.coordinator.proofs.votes.votes_match.Goals as goal

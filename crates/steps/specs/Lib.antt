@@ -1,0 +1,2 @@
+pub mod CoordinatorSteps
+pub mod TellingSteps
