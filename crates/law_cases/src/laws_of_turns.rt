@@ -9,7 +9,8 @@ use turns::{
     aborts_leave_the_store_standing, busy_shards_have_cause, chains_run, closed_stores_rest,
     closed_stores_stand, deciders_take_their_turn, decisions_leave_the_store_standing,
     failed_flushes_leave_the_store_standing, flushes_of_the_coordinator_leave_the_store_standing,
-    openings_of_the_coordinator_leave_the_store_standing, replies_select, stopped_steps_rest,
+    openings_of_the_coordinator_leave_the_store_standing, prepare_takes_its_turn, quiet_calls_keep,
+    replies_select, shard_opening_takes_its_step, stopped_steps_rest,
     stops_within_a_step_leave_all_at_rest, tickets_are_refused_with_cause,
 };
 
@@ -37,4 +38,7 @@ fn the_laws_speak_of_a_store() {
     aborts_leave_the_store_standing::<Unmade>();
     tickets_are_refused_with_cause::<Unmade>();
     replies_select::<Unmade>();
+    quiet_calls_keep::<Unmade>();
+    prepare_takes_its_turn::<Unmade, SimDisk>();
+    shard_opening_takes_its_step::<SimDisk>();
 }
