@@ -22,7 +22,7 @@ pub(crate) fn measure(
     let turned = Timing {
         amount: u64::from(TURNS),
         elapsed: start.elapsed(rt)?,
-        answer: holds.writes().len() as u64,
+        answer: holds.len() as u64,
     };
     turned.print(rt, "holds")?;
     Ok(())
@@ -39,7 +39,7 @@ fn held(alloc: Global, writes: u32) -> Result<Holds, Refusal> {
 fn take_and_release(alloc: Global, holds: &mut Holds, writes: u32) -> Result<(), Refusal> {
     for _ in 0..TURNS {
         holds.take(write(alloc, writes)?)?;
-        holds.release(id(writes));
+        let _write = holds.release(id(writes));
     }
     Ok(())
 }

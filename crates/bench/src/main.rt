@@ -8,6 +8,7 @@
 #![tactic(auto)]
 
 mod codec;
+mod crowd;
 mod doubts;
 mod flush;
 mod latest;
@@ -54,7 +55,7 @@ fn run<R: Runtime + Threads + Wait + Sync>(
 ) -> anyhow::Result<()> {
     if words.len() <= 1 {
         println!(rt;
-            "measures: texts COUNT, codec ROUNDS, flush RECORDS, versions ROWS, holds WRITES, pairs-by-one COUNT, pairs-by-two COUNT, latest-by-one, latest-by-four, called-by-one, called-by-four"
+            "measures: texts COUNT, codec ROUNDS, flush RECORDS, versions ROWS, holds WRITES, crowd USERS, pairs-by-one COUNT, pairs-by-two COUNT, latest-by-one, latest-by-four, called-by-one, called-by-four"
         )?;
         return Ok(());
     }

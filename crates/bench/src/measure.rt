@@ -1,6 +1,6 @@
 // What can be measured.
 use crate::latest::Way;
-use crate::{codec, doubts, flush, latest, pairs, rows, texts};
+use crate::{codec, crowd, doubts, flush, latest, pairs, rows, texts};
 use std::alloc::Global;
 use std::rt::Clock;
 use std::sync::Wait;
@@ -19,6 +19,8 @@ pub(crate) enum Measure {
     Versions(u32),
     /// So many writes in doubt, and one more that is held and released.
     Holds(u32),
+    /// So many plain users of a userset, beside ten usersets, of which a check asks.
+    Crowd(u32),
     /// Looks at the safe place.
     LatestByOne(Way),
     /// Looks by four threads at once.
@@ -62,6 +64,7 @@ impl Measure {
             "flush" => Some(Measure::Flush(u16::try_from(count).ok()?)),
             "versions" => Some(Measure::Versions(count)),
             "holds" => Some(Measure::Holds(count)),
+            "crowd" => Some(Measure::Crowd(count)),
             "pairs-by-one" => Some(Measure::PairsByOne(count)),
             "pairs-by-two" => Some(Measure::PairsByTwo(count)),
             _ => None,
@@ -80,6 +83,7 @@ impl Measure {
             Measure::Flush(count) => flush::measure(rt, alloc, count)?,
             Measure::Versions(rows) => rows::measure(rt, alloc, rows)?,
             Measure::Holds(writes) => doubts::measure(rt, alloc, writes)?,
+            Measure::Crowd(users) => crowd::measure(rt, alloc, users)?,
             Measure::LatestByOne(way) => latest::by_one(rt, alloc, way)?,
             Measure::LatestByFour(way) => latest::by_four(rt, alloc, way)?,
             Measure::PairsByOne(count) => pairs::by_one(rt, alloc, count)?,

@@ -9,10 +9,7 @@ use Rattle.std.proofs.lemmas.Cmp.{eq_by_cmp_equiv, on_total, then_total, nat_cmp
 use Rattle.tuples.specs.declared.entry.WriteId.{WriteId}
 use Rattle.tuples.specs.Log.{same_id}
 use Rattle.holds.proofs.Doubts.{same_id_refl, same_id_true}
-use Rattle.holds.specs.Holds.{AreAscendingIds}
-
-abbrev pub id_cmp : WriteId → WriteId → Ordering
-id_cmp a b = ordering_then (nat_cmp a.epoch b.epoch) (nat_cmp a.number b.number)
+use Rattle.holds.specs.Holds.{AreAscendingIds, id_cmp}
 
 pub id_total : IsTotalOrder id_cmp
 id_total = then_total (on_total (λ (a : WriteId). a.epoch) nat_cmp_total) (on_total (λ (a : WriteId). a.number) nat_cmp_total)

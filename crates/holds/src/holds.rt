@@ -1,13 +1,12 @@
 // The writes that hold their tuples.
-ghost use Rattle.std.specs.Prelude.{◌≡◌, ◌≢◌, ◌↔◌, ◌⊎◌, ◌∷◌, ◌++◌, [], None, Some, Contains, OnOk, OnErr, IfOk, IfErr, IsErrOf, IsTrue, MatchOption};
+ghost use Rattle.std.specs.Prelude.{◌≡◌, ◌≢◌, ◌↔◌, ◌⊎◌, ◌∷◌, ◌++◌, [], None, Contains, length, OnOk, OnErr, IfOk, IfErr, IsErrOf, IsTrue, MatchOption};
 ghost use Rattle.records.specs.Replays.{find_in_doubt, is_held, without, without_placed_ids};
 ghost use Rattle.holds.specs.Holds.{AreApart, AreAscendingIds, IsFree, IsHolding, ids, is_in};
 ghost use Rattle.tuples.specs.declared.entry.WriteId.{WriteId as AnyId};
 ghost use Rattle.tuples.specs.declared.tuple.Tuple.{Tuple as AnyTuple};
 
-use crate::ascending::sorted_ids;
-use crate::entries::{self, take_out};
 use crate::held::{hold, holds_change, holds_condition, let_go};
+use crate::numbered::Numbered;
 use records::PlacedId;
 use std::alloc::{AllocError, Global};
 use std::collections::BTreeSet;
@@ -18,7 +17,7 @@ use tuples::{Entry, Refusal, Tuple, WriteId};
 /// order in which they were taken.
 #[derive(Drop)]
 pub struct Holds {
-    writes: Vec<Entry>,
+    writes: Numbered,
     held: BTreeSet<Tuple>,
 }
 
@@ -29,9 +28,9 @@ impl Model for Holds {
 
     ghost Value = { List Entry };
 
-    ghost view = { λ h. h.writes.items };
+    ghost view = { λ h. h.writes };
 
-    ghost invariant = { λ h. IsHolding h.writes.items h.held.keys };
+    ghost invariant = { λ h. IsHolding h.writes h.held.keys };
 }
 
 impl Holds {
@@ -40,7 +39,7 @@ impl Holds {
         ensures { result ≡ [] }
     {
         Holds {
-            writes: Vec::new(alloc),
+            writes: Numbered::new(alloc),
             held: BTreeSet::new(alloc),
         }
     }
@@ -63,20 +62,28 @@ impl Holds {
         if !is_free(&self.writes, &self.held, &write) {
             return Err(Refusal::Busy);
         }
-        self.writes.reserve(1)?;
         hold_free(&self.writes, &mut self.held, &write)?;
-        self.writes.push_reserved(write);
-        Ok(())
+        match self.writes.put(write) {
+            Ok(()) => Ok(()),
+            Err(write) => {
+                let_go(&mut self.held, &write);
+                Err(Refusal::NoMemory)
+            }
+        }
     }
 
-    /// Holds the write with this id no longer, which takes no memory.
-    pub fn release(&mut self, id: WriteId)
+    /// Holds the write with this id no longer, and gives it back; it takes no memory.
+    pub fn release(&mut self, id: WriteId) -> Option<Entry>
+        ensures found { result ≡ find_in_doubt id self.old }
         ensures left { self.new ≡ without id self.old }
         ensures gone { find_in_doubt id self.new ≡ None }
         ensures others { (j : AnyId) → j ≢ id → find_in_doubt j self.new ≡ find_in_doubt j self.old }
     {
-        let_go_of(&self.writes, &mut self.held, id);
-        take_out(&mut self.writes, id);
+        let Some(write) = self.writes.take_out(id) else {
+            return None;
+        };
+        let_go(&mut self.held, &write);
+        Some(write)
     }
 
     /// Holds the writes of these placed_ids no longer, which takes no memory.
@@ -84,7 +91,7 @@ impl Holds {
         ensures { self.new ≡ without_placed_ids placed_ids.now self.old }
     {
         for placed_id in placed_ids {
-            self.release(placed_id.id);
+            let _write = self.release(placed_id.id);
         }
     }
 
@@ -92,7 +99,7 @@ impl Holds {
     pub fn find(&self, id: WriteId) -> Option<&Entry>
         ensures { MatchOption result (find_in_doubt id self.now ≡ None) (λ w. find_in_doubt id self.now ≡ Some w.now) }
     {
-        entries::find(&self.writes, id)
+        self.writes.find(id)
     }
 
     /// Whether one of the writes names the tuple, changed or conditioned.
@@ -102,12 +109,12 @@ impl Holds {
         self.held.contains(tuple)
     }
 
-    /// The writes, in the order in which they were taken.
-    pub fn writes(&self) -> &[Entry]
-        ensures same { result.now ≡ self.now }
+    /// How many writes there are, of which no two name one tuple or have one id.
+    pub fn len(&self) -> usize
+        ensures len { result ≡ length self.now }
         ensures apart { AreApart self.now }
     {
-        &self.writes
+        self.writes.len()
     }
 
     /// The ids of the writes, ascending.
@@ -115,15 +122,15 @@ impl Holds {
         ensures ascending { IfOk result (λ v. AreAscendingIds v.items) }
         ensures exact { IfOk result (λ v. (id : _) → Contains v.items id ↔ Contains (ids self.now) id) }
     {
-        sorted_ids(alloc, &self.writes)
+        self.writes.ids(alloc)
     }
 }
 
-fn is_free(writes: &[Entry], held: &BTreeSet<Tuple>, write: &Entry) -> bool
+fn is_free(writes: &Numbered, held: &BTreeSet<Tuple>, write: &Entry) -> bool
     requires { IsHolding writes.now held.now.keys }
     ensures { IsTrue result ↔ IsFree writes.now write.now }
 {
-    if entries::find(writes, write.id).is_some() {
+    if writes.find(write.id).is_some() {
         return false;
     }
     if holds_change(held, write.changes.as_slice()) {
@@ -133,7 +140,7 @@ fn is_free(writes: &[Entry], held: &BTreeSet<Tuple>, write: &Entry) -> bool
 }
 
 // Holds the tuples of a write that is free, or none of them.
-fn hold_free(writes: &[Entry], held: &mut BTreeSet<Tuple>, write: &Entry) -> Result<(), Refusal>
+fn hold_free(writes: &Numbered, held: &mut BTreeSet<Tuple>, write: &Entry) -> Result<(), Refusal>
     requires holding { IsHolding writes.now held.old.keys }
     requires free { IsFree writes.now write.now }
     ensures ok { OnOk result ((t : AnyTuple) → is_in held.new.keys t ≡ is_held t (writes.now ++ write.now ∷ [])) }
@@ -145,15 +152,4 @@ fn hold_free(writes: &[Entry], held: &mut BTreeSet<Tuple>, write: &Entry) -> Res
         return Err(Refusal::NoMemory);
     }
     Ok(())
-}
-
-// Holds the tuples of the write with this id no longer.
-fn let_go_of(writes: &[Entry], held: &mut BTreeSet<Tuple>, id: WriteId)
-    requires { IsHolding writes.now held.old.keys }
-    ensures { (t : AnyTuple) → is_in held.new.keys t ≡ is_held t (without id writes.now) }
-{
-    let Some(write) = entries::find(writes, id) else {
-        return;
-    };
-    let_go(held, write);
 }

@@ -7,12 +7,12 @@
 //! Start at `specs/Holds.antt` and `holds.rt`.
 #![tactic(auto)]
 
-mod ascending;
-mod entries;
 mod held;
 mod holds;
+mod numbered;
+mod same;
 #[cfg(test)]
 mod tests;
 
-pub use entries::is_same;
 pub use holds::Holds;
+pub use same::is_same;

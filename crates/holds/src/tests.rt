@@ -41,12 +41,13 @@ fn a_write_is_held_from_its_take_to_its_release(rt: HostRuntime) -> Result<(), F
         let busy = matches!(holds.take(next), Err(Refusal::Busy));
         assert_eq!(rt; busy, !free, "{number} {touched} {absent}");
     }
-    assert_eq!(rt; holds.writes().len(), 2);
+    assert_eq!(rt; holds.len(), 2);
     assert_eq!(rt;
         holds.in_doubt(alloc)?.as_slice(),
         [id(3), id(7)].as_slice()
     );
-    holds.release(id(7));
+    assert!(rt; holds.release(id(7)).is_some());
+    assert!(rt; holds.release(id(7)).is_none());
     assert!(rt; holds.find(id(7)).is_none());
     assert!(rt; !holds.is_held(&Tuple::parse(alloc, b"doc:c#owner@u1")?));
     let placed_id = PlacedId {
@@ -54,6 +55,6 @@ fn a_write_is_held_from_its_take_to_its_release(rt: HostRuntime) -> Result<(), F
         place: 1,
     };
     holds.release_placed_ids(&[placed_id]);
-    assert_eq!(rt; holds.writes().len(), 0);
+    assert_eq!(rt; holds.len(), 0);
     Ok(())
 }

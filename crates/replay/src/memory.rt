@@ -1,6 +1,6 @@
 // What a shard knows, as the replay of its records.
 ghost use Rattle.std.specs.Prelude.{◌≡◌, ◌⊎◌, ◌↔◌, ◌≤◌, Contains, OnOk, OnErr, IfOk, IfErr, IsErrOf, IsTrue, Some, None, MatchOption};
-ghost use Rattle.holds.specs.Holds.{AreApart, AreAscendingIds, IsFree, ids};
+ghost use Rattle.holds.specs.Holds.{AreAscendingIds, IsFree, ids};
 ghost use Rattle.records.specs.declared.record.Record.TheVariants.{Dropped as dropped_record, Epoch as epoch_record, Horizon as horizon_record, Learned as learned_record, Prepare as prepare_record};
 ghost use Rattle.records.specs.Replays.{MayCollect, MayCome, MayDrop, MayLearn, MayOpen, MayPrepare, empty_shard, find_in_doubt, is_held, shard_step};
 ghost use Rattle.tuples.specs.Log.{meets_want};
@@ -10,7 +10,7 @@ ghost use Rattle.tuples.specs.Versions.{last_version, there_at};
 ghost use Rattle.versions.specs.Rows.{AreRows};
 ghost use Rattle.replay.specs.Alike.{IsAlike};
 
-use crate::learning::learned_versions;
+use crate::learning::apply_learned;
 use crate::rules::{may_collect, may_drop, may_learn, may_open, may_prepare};
 use holds::Holds;
 use records::{Identity, PlacedId, Record};
@@ -182,8 +182,7 @@ impl Memory {
         ensures ok { OnOk result (IsAlike self.new (shard_step self.old (learned_record to placed_ids.now))) }
         ensures err { OnErr result (self.new ≡ self.old) }
     {
-        let rows = learned_versions(alloc, placed_ids, &self.in_doubt)?;
-        self.versions.append(rows)?;
+        apply_learned(&mut self.versions, alloc, placed_ids, &self.in_doubt)?;
         // Nothing is refused from here on.
         self.learned = to;
         self.in_doubt.release_placed_ids(placed_ids);
@@ -195,7 +194,7 @@ impl Memory {
     pub fn drop_write(&mut self, id: WriteId)
         ensures { self.new ≡ shard_step self.old (dropped_record id) }
     {
-        self.in_doubt.release(id);
+        let _write = self.in_doubt.release(id);
     }
 
     /// Sets the horizon and forgets the versions under it, which takes no memory.
@@ -285,14 +284,6 @@ impl Memory {
         ensures { IfOk result (λ v. AreRows self.now.rows v.items) }
     {
         self.versions.rows(alloc)
-    }
-
-    /// The writes in doubt, in the order of their prepares.
-    pub fn in_doubt(&self) -> &[Entry]
-        ensures same { result.now ≡ self.now.in_doubt }
-        ensures apart { AreApart self.now.in_doubt }
-    {
-        self.in_doubt.writes()
     }
 
     /// The ids of the writes in doubt, ascending.

@@ -1,5 +1,5 @@
 -- A table of tuples, read tuple by tuple.
-use Rattle.std.proofs.Common.{◌≡◌, ⊎_elim, ℕ, zero, suc, ◌+◌, ◌-◌, Bool, true, false, cond, List, [], ◌∷◌, ◌++◌, length, take, drop, append_assoc, Option, None, Some, inl, inr, Result, Ok, Err, refl, sym, ◌∙◌, ap, subst, append-nil, rules, arith}
+use Rattle.std.proofs.Common.{◌≡◌, ⊎_elim, ℕ, zero, suc, ◌+◌, ◌-◌, Bool, true, false, cond, List, [], ◌∷◌, ◌++◌, length, take, Option, None, Some, inl, inr, Result, Ok, Err, refl, sym, ◌∙◌, ap, subst, append-nil, rules, arith}
 use Rattle.std.specs.Global.{Vec}
 use Rattle.std.specs.Prelude.{OnErr}
 use Rattle.std.specs.List.{AllByRecursion, flat_map}
@@ -317,54 +317,6 @@ on_err (Err e) p = p
 pub take_none : {X : Type 0} (n : ℕ) → take {A = X} n [] ≡ []
 take_none zero = refl
 take_none (suc n) = refl
-
--- ---- the entries of another table, one by one
-
--- the first entry of those that are left
-pub take_next : {X : Type 0} (n : ℕ) (xs : List X) (x : X) (rest : List X) → drop n xs ≡ x ∷ rest → (take (suc n) xs ≡ take n xs ++ x ∷ []) × (drop (suc n) xs ≡ rest)
-take_next zero [] x rest is = absurd cc
-take_next zero (y ∷ xs) x rest is = let one : y ≡ x = cc in let more : xs ≡ rest = cc in (ap (λ (z : _). z ∷ []) one, more)
-take_next (suc n) [] x rest is = absurd cc
-take_next (suc n) (y ∷ xs) x rest is = let more = take_next n xs x rest is in (ap (λ (l : List _). y ∷ l) more.0, more.1)
-
-listed-append : (es fs : Entries) → listed (es ++ fs) ≡ listed es ++ listed fs
-listed-append [] fs = refl
-listed-append ((t, h) ∷ es) fs = ap (λ (l : List Version). versions_of t h.items ++ l) (listed-append es fs) ∙ sym (append_assoc (versions_of t h.items) (listed es) (listed fs))
-
--- the versions of one entry more
-pub listed_next : (n : ℕ) (es rest : Entries) (t : Tuple) (h : Vec Row) → drop n es ≡ (t, h) ∷ rest → listed (take (suc n) es) ≡ listed (take n es) ++ versions_of t h.items
-listed_next n es rest t h is =
-    ap listed (take_next n es (t, h) rest is).0
-    ∙ listed-append (take n es) ((t, h) ∷ [])
-    ∙ ap (λ (l : List Version). listed (take n es) ++ l) (append-nil (versions_of t h.items))
-
-above_take : (t : Tuple) (n : ℕ) (es : Entries) → AllByRecursion (λ y. ghosts.cmp t y ≡ Less) (keys_of es) → AllByRecursion (λ y. ghosts.cmp t y ≡ Less) (keys_of (take n es))
-above_take t zero es above = tt
-above_take t (suc n) [] above = tt
-above_take t (suc n) (e ∷ es) above = (above.0, above_take t n es above.1)
-
--- of different tuples, the versions of the first may stand last
-pub first_last : (n : ℕ) (t : Tuple) (h : Vec Row) (rest : Entries) → AreSorted ((t, h) ∷ rest) → AreAlike (listed (take (suc n) ((t, h) ∷ rest))) (listed (take n rest) ++ versions_of t h.items)
-unfolding IsStrictlySortedBy
-first_last n t h rest sorted = record {
-  each = λ q. elim (cases_Bool (tuple_eq q t)) [
-    | inl is ↦
-        let none : of_tuple q (listed (take n rest)) ≡ [] = ap (λ (x : Tuple). of_tuple x (listed (take n rest))) (tuple_same q t is) ∙ above_head t (take n rest) (above_take t n rest sorted.0) in
-        filter-append _ (versions_of t h.items) (listed (take n rest))
-        ∙ ap (λ (l : List Version). of_tuple q (versions_of t h.items) ++ l) none
-        ∙ append-nil (of_tuple q (versions_of t h.items))
-        ∙ sym (filter-append _ (listed (take n rest)) (versions_of t h.items) ∙ ap (λ (l : List Version). l ++ of_tuple q (versions_of t h.items)) none)
-    | inr apart ↦
-        let none : of_tuple q (versions_of t h.items) ≡ [] = of_other_rows q t h.items apart in
-        filter-append _ (versions_of t h.items) (listed (take n rest))
-        ∙ ap (λ (l : List Version). l ++ of_tuple q (listed (take n rest))) none
-        ∙ sym (filter-append _ (listed (take n rest)) (versions_of t h.items) ∙ ap (λ (l : List Version). of_tuple q (listed (take n rest)) ++ l) none ∙ append-nil (of_tuple q (listed (take n rest))))
-  ];
-}
-
-pub sorted_rest : (t : Tuple) (h : Vec Row) (rest : Entries) → AreSorted ((t, h) ∷ rest) → AreSorted rest
-unfolding IsStrictlySortedBy
-sorted_rest t h rest sorted = sorted.1
 
 -- ---- what stays of the grammar
 

@@ -3,8 +3,10 @@ ghost use Rattle.std.specs.Prelude.{◌≡◌, ◌≤◌, ◌++◌, List, ℕ, t
 ghost use Rattle.tuples.specs.Versions.{placed};
 ghost use Rattle.tuples.specs.declared.version.Version.{Version as AnyVersion};
 ghost use Rattle.versions.specs.Alike.{AreAlike};
+ghost use Rattle.versions.specs.Placed.{all_placed};
 ghost use Rattle.versions.specs.Rows.{IsTable, listed};
 
+use crate::PlacedChanges;
 use crate::history::Row;
 use crate::table::{add, take_back};
 use std::alloc::{AllocError, Global};
@@ -66,60 +68,54 @@ fn take_back_changes(table: &mut BTreeMap<Tuple, Vec<Row>>, changes: &[Change])
     }
 }
 
-/// Adds the versions of another table. Where memory is refused, nothing has changed.
-pub(crate) fn append(
+/// Adds the changes of these writes, each at its place. Where memory is refused, nothing has changed.
+pub(crate) fn apply_all(
     table: &mut BTreeMap<Tuple, Vec<Row>>,
     alloc: Global,
-    more: &BTreeMap<Tuple, Vec<Row>>,
+    writes: &[PlacedChanges],
 ) -> Result<(), AllocError>
     requires { IsTable table.old.entries }
     ensures table { IsTable table.new.entries }
-    ensures ok { OnOk result (AreAlike (listed table.new.entries) (listed table.old.entries ++ listed more.now.entries)) }
+    ensures ok { OnOk result (AreAlike (listed table.new.entries) (listed table.old.entries ++ all_placed writes.now)) }
     ensures err { OnErr result (listed table.new.entries ≡ listed table.old.entries) }
 {
-    if let Err(added) = add_entries(table, alloc, more) {
-        take_back_entries(table, more, added);
+    if let Err(applied) = apply_each(table, alloc, writes) {
+        take_back_each(table, &writes[..applied]);
         return Err(AllocError);
     }
     Ok(())
 }
 
-// Where memory is refused, the versions of so many of the first tuples were added.
-fn add_entries(
+// Where memory is refused, so many of the first writes were applied.
+fn apply_each(
     table: &mut BTreeMap<Tuple, Vec<Row>>,
     alloc: Global,
-    more: &BTreeMap<Tuple, Vec<Row>>,
+    writes: &[PlacedChanges],
 ) -> Result<(), usize>
     requires { IsTable table.old.entries }
     ensures table { IsTable table.new.entries }
-    ensures ok { OnOk result (AreAlike (listed table.new.entries) (listed table.old.entries ++ listed more.now.entries)) }
-    ensures err { IfErr result (λ n. AreAlike (listed table.new.entries) (listed table.old.entries ++ listed (take n more.now.entries))) }
+    ensures ok { OnOk result (AreAlike (listed table.new.entries) (listed table.old.entries ++ all_placed writes.now)) }
+    ensures few { IfErr result (λ n. n ≤ length writes.now) }
+    ensures err { IfErr result (λ n. AreAlike (listed table.new.entries) (listed table.old.entries ++ all_placed (take n writes.now))) }
 {
-    let mut added = 0;
-    for (tuple, rows) in more {
-        if add(table, alloc, tuple, rows).is_err() {
-            return Err(added);
+    let mut applied = 0;
+    for write in writes {
+        if apply(table, alloc, write.place, write.changes).is_err() {
+            return Err(applied);
         }
-        added += 1;
+        applied += 1;
     }
     Ok(())
 }
 
-fn take_back_entries(
-    table: &mut BTreeMap<Tuple, Vec<Row>>,
-    more: &BTreeMap<Tuple, Vec<Row>>,
-    added: usize,
-)
+fn take_back_each(table: &mut BTreeMap<Tuple, Vec<Row>>, writes: &[PlacedChanges])
     requires { IsTable table.old.entries }
     ensures table { IsTable table.new.entries }
-    ensures versions { (before : List AnyVersion) → AreAlike (listed table.old.entries) (before ++ listed (take added more.now.entries)) → AreAlike (listed table.new.entries) before }
+    ensures versions { (before : List AnyVersion) → AreAlike (listed table.old.entries) (before ++ all_placed writes.now) → AreAlike (listed table.new.entries) before }
 {
-    let mut left = added;
-    for (tuple, rows) in more {
-        if left == 0 {
-            return;
-        }
-        take_back(table, tuple, rows.len());
+    let mut left = writes.len();
+    while left > 0 {
         left -= 1;
+        take_back_changes(table, writes[left].changes);
     }
 }

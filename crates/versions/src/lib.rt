@@ -10,6 +10,7 @@
 mod applying;
 mod asks;
 mod checking;
+mod decided;
 mod first;
 mod history;
 mod kept;
@@ -19,4 +20,5 @@ mod table;
 mod tests;
 mod versions;
 
+pub use decided::PlacedChanges;
 pub use versions::{Versions, newest_is_last, read_alike};

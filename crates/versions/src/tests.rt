@@ -1,8 +1,8 @@
 // What is read of versions at each place.
-use crate::Versions;
+use crate::{PlacedChanges, Versions};
 use std::alloc::Global;
 use std::test::Fail;
-use tuples::{Change, Tuple, Tupleset};
+use tuples::{Change, Tuple, Tupleset, Userset};
 
 /// The versions of these lines: a place, and a tuple that is touched, or deleted behind a `-`.
 fn versions_of(alloc: Global, lines: &[(u64, &str)]) -> Result<Versions, Fail> {
@@ -69,6 +69,60 @@ fn each_kind_of_tupleset_is_read_at_each_place(rt: HostRuntime) -> Result<(), Fa
     Ok(())
 }
 
+/// The text of each tuple that a check asks for, a line each: those of the userset of this tuple, for its user.
+fn asked(alloc: Global, versions: &Versions, place: u64, text: &str) -> Result<Vec<u8>, Fail> {
+    let Tuple {
+        object,
+        relation,
+        user,
+    } = Tuple::parse(alloc, text.as_bytes())?;
+    let mut text = Vec::new(alloc);
+    let tuples = versions.asked_at(alloc, place, &Userset { object, relation }, &user)?;
+    for tuple in &tuples {
+        tuple.write_to(&mut text)?;
+        text.push(b'\n')?;
+    }
+    Ok(text)
+}
+
+#[test]
+fn a_check_asks_for_its_user_and_for_usersets(rt: HostRuntime) -> Result<(), Fail> {
+    let alloc = rt.alloc();
+    let lines = [
+        (1, "doc:a#viewer@u2"),
+        (1, "doc:a#viewer@u1"),
+        (1, "doc:a#viewer@group:g#member"),
+        (1, "doc:a#owner@group:h#member"),
+        (1, "doc:b#viewer@group:h#member"),
+        (2, "doc:a#viewer@0:!#0"),
+        (2, "-doc:a#viewer@u1"),
+    ];
+    let versions = versions_of(alloc, &lines)?;
+    for (place, text, wanted) in [
+        (
+            1,
+            "doc:a#viewer@u1",
+            "doc:a#viewer@u1\ndoc:a#viewer@group:g#member\n",
+        ),
+        (
+            2,
+            "doc:a#viewer@u1",
+            "doc:a#viewer@0:!#0\ndoc:a#viewer@group:g#member\n",
+        ),
+        (1, "doc:a#viewer@u3", "doc:a#viewer@group:g#member\n"),
+        (
+            1,
+            "doc:a#viewer@group:g#member",
+            "doc:a#viewer@group:g#member\n",
+        ),
+        (0, "doc:a#viewer@u1", ""),
+    ] {
+        let found = asked(alloc, &versions, place, text)?;
+        assert_eq!(rt; found.as_slice(), wanted.as_bytes(), "{text} at {place}");
+    }
+    Ok(())
+}
+
 /// The place of each version, as they are listed.
 fn listed_places(alloc: Global, versions: &Versions) -> Result<Vec<u64>, Fail> {
     let mut places = Vec::new(alloc);
@@ -83,8 +137,18 @@ fn listed_places(alloc: Global, versions: &Versions) -> Result<Vec<u64>, Fail> {
 fn what_lies_under_a_horizon_is_forgotten(rt: HostRuntime) -> Result<(), Fail> {
     let alloc = rt.alloc();
     let mut versions = versions_of(alloc, &[(1, "doc:b#viewer@u1"), (1, "doc:a#viewer@u1")])?;
-    let more = [(2, "-doc:a#viewer@u1"), (3, "doc:a#viewer@u1")];
-    versions.append(versions_of(alloc, &more)?)?;
+    let gone = [change_of(alloc, "-doc:a#viewer@u1")?];
+    let back = [change_of(alloc, "doc:a#viewer@u1")?];
+    versions.apply_all(&[
+        PlacedChanges {
+            place: 2,
+            changes: &gone,
+        },
+        PlacedChanges {
+            place: 3,
+            changes: &back,
+        },
+    ])?;
     let tuple = Tuple::parse(alloc, b"doc:a#viewer@u1")?;
     assert_eq!(rt; versions.last(&tuple), 3);
     for (horizon, wanted) in [

@@ -5,12 +5,13 @@ ghost use Rattle.tuples.specs.Reads.{IsSelection};
 ghost use Rattle.tuples.specs.Walking.{IsCheckSelection};
 ghost use Rattle.versions.specs.Alike.{AlikeReadsAlike, AreAlike};
 ghost use Rattle.versions.specs.Last.{NewestIsLast};
+ghost use Rattle.versions.specs.Placed.{all_placed};
 ghost use Rattle.versions.specs.Rows.{AreRows};
 
 use crate::history::{Row, is_there_at, last_place};
 use crate::kept::kept_at;
 use crate::listing::list;
-use crate::{applying, checking, table};
+use crate::{PlacedChanges, applying, checking, table};
 use std::alloc::{AllocError, Global};
 use std::collections::BTreeMap;
 use std::marker::Model;
@@ -63,12 +64,12 @@ impl Versions {
         last_place(table::rows_of(&self.rows, tuple))
     }
 
-    /// Adds these versions after its own. Where memory is refused, nothing has changed.
-    pub fn append(&mut self, more: Versions) -> Result<(), AllocError>
-        ensures ok { OnOk result (AreAlike self.new (self.old ++ more)) }
+    /// Adds the changes of these writes, each at its place. Where memory is refused, nothing has changed.
+    pub fn apply_all(&mut self, writes: &[PlacedChanges]) -> Result<(), AllocError>
+        ensures ok { OnOk result (AreAlike self.new (self.old ++ all_placed writes.now)) }
         ensures err { OnErr result (self.new ≡ self.old) }
     {
-        applying::append(&mut self.rows, self.alloc, &more.rows)
+        applying::apply_all(&mut self.rows, self.alloc, writes)
     }
 
     /// Forgets what lies under the horizon: versions at or below it that another such version of their tuple follows, and deletions.

@@ -1,4 +1,4 @@
-use Rattle.std.proofs.Common.{◌≡◌, ◌↔◌, List, Contains, subst, rules}
+use Rattle.std.proofs.Common.{◌↔◌, List, Contains, subst}
 use Rattle.std.specs.Prelude.{IfOk}
 use Rattle.tuples.specs.declared.entry.Entry.{Entry}
 use Rattle.tuples.specs.declared.entry.WriteId.{WriteId}
@@ -7,5 +7,4 @@ use Rattle.holds.proofs.holds.Holds.in_doubt.Goals as goal
 
 pub returns-clause-exact : goal.returns-clause-exact
 returns-clause-exact c =
-    let same : c.deref.result.now ≡ c.args.self.now = search rules in
-    subst (λ (ws : List Entry). IfOk c.sorted_ids.result (λ v. (id : WriteId) → Contains v.items id ↔ Contains (ids ws) id)) same c.sorted_ids.ensures.same
+    subst (λ (ws : List Entry). IfOk c.ids.result (λ v. (id : WriteId) → Contains v.items id ↔ Contains (ids ws) id)) c.self.view_is c.ids.ensures.same

@@ -1,0 +1,66 @@
+// How long a check takes to look into a userset of many plain users.
+ghost use Rattle.std.specs.Prelude.{IfOk};
+ghost use Rattle.bench.specs.Reads.{FoundForCheck};
+
+use crate::timing::Timing;
+use std::alloc::{AllocError, Global};
+use std::rt::Clock;
+use std::time::Instant;
+use tuples::{Change, Refusal, Tuple, Userset};
+use versions::Versions;
+
+// How many usersets the userset holds.
+const USERSETS: u32 = 10;
+
+// How often it is asked.
+const READS: u64 = 1000;
+
+/// Gives a userset so many plain users and ten usersets, and asks of it what a check asks, for one of the users (`check`), and prints how
+/// long it took. What it answers is how many tuples were found.
+pub(crate) fn measure(rt: &(impl Clock + Eprint), alloc: Global, users: u32) -> anyhow::Result<()> {
+    let versions = crowd(alloc, users)?;
+    let asked = Tuple::parse(alloc, b"doc:d#viewer@u0")?;
+    let mut tuples = 0;
+    let start = Instant::now(rt)?;
+    for _ in 0..READS {
+        tuples = found(alloc, &versions, &asked)?;
+    }
+    let checked = Timing {
+        amount: READS,
+        elapsed: start.elapsed(rt)?,
+        answer: tuples as u64,
+    };
+    checked.print(rt, "check")?;
+    Ok(())
+}
+
+// How many tuples a check finds at the userset of this tuple, for its user.
+fn found(alloc: Global, versions: &Versions, asked: &Tuple) -> Result<usize, AllocError>
+    ensures { IfOk result (λ n. FoundForCheck versions.now 1 asked.now n) }
+{
+    let userset = Userset {
+        object: asked.object.clone()?,
+        relation: asked.relation.clone()?,
+    };
+    let tuples = versions.asked_at(alloc, 1, &userset, &asked.user)?;
+    Ok(tuples.len())
+}
+
+fn crowd(alloc: Global, users: u32) -> Result<Versions, Refusal> {
+    let mut versions = Versions::new(alloc);
+    for user in 0..users {
+        let text = format!(in alloc; "doc:d#viewer@u{user}")?;
+        touch(alloc, &mut versions, &text)?;
+    }
+    for userset in 0..USERSETS {
+        let text = format!(in alloc; "doc:d#viewer@group:g{userset}#member")?;
+        touch(alloc, &mut versions, &text)?;
+    }
+    Ok(versions)
+}
+
+fn touch(alloc: Global, versions: &mut Versions, text: &str) -> Result<(), Refusal> {
+    let change = Change::Touch(Tuple::parse(alloc, text.as_bytes())?);
+    versions.apply(1, &[change])?;
+    Ok(())
+}
