@@ -37,7 +37,7 @@ abbrev pub AsksCoordinator : WriteView → CoordinatorCall → WriteView → Typ
 AsksCoordinator v (calls.Begin write) after = (v.write ≡ Some write) × (after ≡ record v { write = None; awaited = Some waits.begin })
 AsksCoordinator v calls.Heads after = ⊥
 AsksCoordinator v (calls.Batch from to) after = (v.holds.way ≡ onward) × ((awaited : _) × Waits v v.holds (waits.catch_up awaited) after)
-AsksCoordinator v (calls.Decide intent votes) after = (v.holds.way ≡ onward) × (v.holds.intent ≡ Some intent) × (v.holds.votes ≡ votes.items) × (v.holds.decided ≡ None)
+AsksCoordinator v (calls.Decide intent votes) after = (v.holds.way ≡ onward) × (v.holds.intent ≡ Some intent) × (v.holds.id ≡ Some intent.write.id) × (v.holds.votes ≡ votes.items) × (v.holds.decided ≡ None)
     × ((again : Bool) × Waits v (record v.holds { intent = None; votes = [] }) (waits.decide again) after)
 AsksCoordinator v (calls.Outcome decided) after = (v.holds.decided ≡ Some decided) × Waits v (record v.holds { decided = None }) waits.outcome after
 AsksCoordinator v (calls.Abort intent) after = ((met : Option Refusal) × (v.holds.way ≡ outward met)) × (v.holds.intent ≡ Some intent) × Waits v (record v.holds { intent = None }) waits.abort after
@@ -49,7 +49,7 @@ AsksCoordinator v calls.Flush after = (v.holds.way ≡ onward) × (Waits v v.hol
 abbrev pub AsksShard : WriteView → ℕ → ShardCall → WriteView → Type 0
 AsksShard v s shard_calls.Learned after = (v.holds.way ≡ onward) × ((awaited : _) × Waits v v.holds (waits.catch_up awaited) after)
 AsksShard v s (shard_calls.Learn batch) after = (v.holds.way ≡ onward) × (v.holds.batch ≡ Some batch) × ((awaited : _) × Waits v (record v.holds { batch = None }) (waits.catch_up awaited) after)
-AsksShard v s (shard_calls.StagePrepare intent) after = (v.holds.way ≡ onward) × (v.holds.intent ≡ Some intent) × ((again : Bool) × Waits v (record v.holds { intent = None }) (waits.prepare s again) after)
+AsksShard v s (shard_calls.StagePrepare intent) after = (v.holds.way ≡ onward) × (v.holds.intent ≡ Some intent) × (v.holds.id ≡ Some intent.write.id) × ((again : Bool) × Waits v (record v.holds { intent = None }) (waits.prepare s again) after)
 AsksShard v s (shard_calls.Vote ticket) after = (v.holds.way ≡ onward)
     × ((others : List HeldTicket) × (v.holds.tickets ≡ ticket_value (s, ticket) ∷ others) × Waits v (record v.holds { tickets = others }) (waits.vote s) after)
 AsksShard v s (shard_calls.DropWrite verdict None) after = ⊥
