@@ -1,0 +1,5 @@
+pub mod Errors
+pub mod Feeds
+pub mod Gathering
+pub mod Going
+pub mod Writing

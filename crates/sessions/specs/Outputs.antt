@@ -1,0 +1,16 @@
+-- What a write that failed leaves.
+use Rattle.std.specs.Prelude.{◌≡◌, ℕ, List, ◌++◌, Option}
+use Rattle.std.specs.Io.KnownBytes.{Appends}
+
+-- a beginning of the bytes was written
+pub record HasBegun (before after : Option (List ℕ)) (bytes : List ℕ) : Type 0 where
+  pub sent : List ℕ
+  pub unsent : List ℕ
+  pub whole : bytes ≡ sent ++ unsent
+  pub written : Appends before after sent
+
+-- of what waited, the beginning was written, and the rest waits still
+pub record Sends (before after : Option (List ℕ)) (old new : List ℕ) : Type 0 where
+  pub sent : List ℕ
+  pub whole : old ≡ sent ++ new
+  pub written : Appends before after sent

@@ -1,0 +1,23 @@
+//! Sessions: request lines from a reader, answer lines to a writer.
+//!
+//! Keeps: each line gets one answer, in the order of the lines; what is written is the session of what was read, or a beginning of it
+//! where a read, a write or memory for an answer failed.
+//! Never: answers a line twice, or holds more than one line and the answers that wait to be written.
+//! Callers rely on: nothing is asked of `Answers` but the requests of the lines, each once and in order.
+//!
+//! Start at `specs/Sessions.antt`.
+#![tactic(auto)]
+
+mod asking;
+mod block;
+mod held;
+mod input;
+mod line;
+mod output;
+mod reply;
+mod serve;
+#[cfg(test)]
+mod tests;
+
+pub use asking::Answers;
+pub use serve::serve_stream;

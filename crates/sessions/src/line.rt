@@ -1,0 +1,84 @@
+// A line while it is read.
+ghost use Rattle.std.specs.Prelude.{◌≡◌, ◌++◌, [], List, ℕ, MatchOption};
+ghost use Rattle.sessions.specs.Lines.{Holds, IsUnheld, IsWhole, unended_refusal};
+
+use std::alloc::Global;
+use tuples::Refusal;
+
+/// The most bytes of a line, its line feed left out.
+const MAX_LINE: usize = 262_144;
+
+/// The bytes of a line, for as long as it is within the limit and there is memory for it.
+#[derive(Drop)]
+pub(crate) struct Line {
+    bytes: Vec<u8>,
+    // how many bytes it has, kept or not
+    len: usize,
+    is_refused: bool,
+}
+
+impl Line {
+    pub(crate) fn new(alloc: Global) -> Line
+        ensures { Holds result [] }
+    {
+        Line {
+            bytes: Vec::new(alloc),
+            len: 0,
+            is_refused: false,
+        }
+    }
+
+    /// Begins the next line, in the same memory.
+    pub(crate) fn clear(&mut self)
+        ensures { Holds self.new [] }
+    {
+        self.bytes.clear();
+        self.len = 0;
+        self.is_refused = false;
+    }
+
+    pub(crate) fn add(&mut self, part: &[u8])
+        ensures { (front : List ℕ) → Holds self.old front → Holds self.new (front ++ part.now) }
+    {
+        self.len = self.len.saturating_add(part.len());
+        if self.len > MAX_LINE || self.is_refused {
+            return;
+        }
+        match self.bytes.extend_from_slice(part) {
+            Ok(()) => {}
+            Err(_) => self.is_refused = true,
+        }
+    }
+
+    /// Why it is not read, if it is not: it is too long, or there was no memory for it.
+    pub(crate) fn refusal(&self) -> Option<Refusal>
+        ensures { (front : List ℕ) → Holds self.now front → MatchOption result (IsWhole self.now front) (IsUnheld front) }
+    {
+        if self.len > MAX_LINE {
+            Some(Refusal::TooLarge)
+        } else if self.is_refused {
+            Some(Refusal::NoMemory)
+        } else {
+            None
+        }
+    }
+
+    /// Why it is refused where no line feed ends it; `None` where it is empty.
+    pub(crate) fn unended(&self) -> Option<Refusal>
+        ensures { (front : List ℕ) → Holds self.now front → result ≡ unended_refusal front }
+    {
+        if self.len > MAX_LINE {
+            Some(Refusal::TooLarge)
+        } else if self.len > 0 {
+            Some(Refusal::BadRequest)
+        } else {
+            None
+        }
+    }
+
+    pub(crate) fn as_bytes(&self) -> &[u8]
+        ensures { result.now ≡ self.now.bytes.items }
+    {
+        &self.bytes
+    }
+}
