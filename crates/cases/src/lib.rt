@@ -7,6 +7,8 @@
 #[cfg(test)]
 mod batch_bytes;
 #[cfg(test)]
+mod held_writes;
+#[cfg(test)]
 mod journal_bytes;
 #[cfg(test)]
 mod log_bytes;
@@ -26,3 +28,5 @@ mod token_texts;
 mod tuple_order;
 #[cfg(test)]
 mod tuple_texts;
+#[cfg(test)]
+mod version_rows;

@@ -11,8 +11,6 @@ mod held;
 mod holds;
 mod numbered;
 mod same;
-#[cfg(test)]
-mod tests;
 
 pub use holds::Holds;
 pub use same::is_same;

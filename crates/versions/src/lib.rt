@@ -16,8 +16,6 @@ mod history;
 mod kept;
 mod listing;
 mod table;
-#[cfg(test)]
-mod tests;
 mod versions;
 
 pub use decided::PlacedChanges;

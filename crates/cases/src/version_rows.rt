@@ -1,8 +1,8 @@
 // What is read of versions at each place.
-use crate::{PlacedChanges, Versions};
 use std::alloc::Global;
 use std::test::Fail;
-use tuples::{Change, Tuple, Tupleset, Userset};
+use tuples::{Change, Tuple, Tupleset, User, Userset};
+use versions::{PlacedChanges, Versions};
 
 /// The versions of these lines: a place, and a tuple that is touched, or deleted behind a `-`.
 fn versions_of(alloc: Global, lines: &[(u64, &str)]) -> Result<Versions, Fail> {
@@ -23,9 +23,22 @@ fn change_of(alloc: Global, text: &str) -> Result<Change, Fail> {
 /// The text of each tuple of a read, a line each.
 fn read(alloc: Global, versions: &Versions, place: u64, set: &str) -> Result<Vec<u8>, Fail> {
     let set = Tupleset::parse(alloc, set.as_bytes())?;
+    read_set(alloc, versions, place, &set)
+}
+
+fn read_set(
+    alloc: Global,
+    versions: &Versions,
+    place: u64,
+    set: &Tupleset,
+) -> Result<Vec<u8>, Fail> {
+    let tuples = versions.at(alloc, place, set)?;
+    text_of(alloc, &tuples)
+}
+
+fn text_of(alloc: Global, tuples: &[Tuple]) -> Result<Vec<u8>, Fail> {
     let mut text = Vec::new(alloc);
-    let tuples = versions.at(alloc, place, &set)?;
-    for tuple in &tuples {
+    for tuple in tuples {
         tuple.write_to(&mut text)?;
         text.push(b'\n')?;
     }
@@ -76,13 +89,18 @@ fn asked(alloc: Global, versions: &Versions, place: u64, text: &str) -> Result<V
         relation,
         user,
     } = Tuple::parse(alloc, text.as_bytes())?;
-    let mut text = Vec::new(alloc);
-    let tuples = versions.asked_at(alloc, place, &Userset { object, relation }, &user)?;
-    for tuple in &tuples {
-        tuple.write_to(&mut text)?;
-        text.push(b'\n')?;
-    }
-    Ok(text)
+    asked_of(alloc, versions, place, &Userset { object, relation }, &user)
+}
+
+fn asked_of(
+    alloc: Global,
+    versions: &Versions,
+    place: u64,
+    userset: &Userset,
+    user: &User,
+) -> Result<Vec<u8>, Fail> {
+    let tuples = versions.asked_at(alloc, place, userset, user)?;
+    text_of(alloc, &tuples)
 }
 
 #[test]

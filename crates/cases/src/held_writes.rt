@@ -1,9 +1,10 @@
 // Writes that are taken, refused and released.
-use crate::Holds;
+use holds::Holds;
 use records::PlacedId;
+use refusal::Refusal;
 use std::alloc::Global;
 use std::test::Fail;
-use tuples::{Change, Changes, Condition, Conditions, Entry, Refusal, Tuple, Want, WriteId};
+use tuples::{Change, Changes, Condition, Conditions, Entry, Tuple, Want, WriteId};
 
 fn id(number: u64) -> WriteId {
     WriteId { epoch: 1, number }
