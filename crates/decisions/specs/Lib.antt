@@ -2,3 +2,6 @@ pub mod Values
 pub mod Held
 pub mod Standing
 pub mod Coordinators
+pub mod Flows
+pub mod Walks
+pub mod Merging

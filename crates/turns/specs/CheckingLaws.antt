@@ -13,6 +13,7 @@ use Rattle.tuples.specs.Walking.{IsCheckSelection}
 use Rattle.records.specs.declared.record.Record.{Record}
 use Rattle.records.specs.Replays.{ShardState}
 use Rattle.laws.specs.Nodes.{NodeName, ShardKnows, coordinator}
+pub use Rattle.decisions.specs.Walks.{IsOneMore, Walks}
 use Rattle.turns.specs.Causes.{IsCause}
 use Rattle.turns.specs.Flows.{CheckHolds, Freshness, most_walked, to_check}
 use Rattle.turns.specs.Held.{IsRightCheck}
@@ -27,26 +28,6 @@ pub record IsCheckReply (now : Moment) (s place : ℕ) (y : Userset) (u : User) 
   pub learned : place ≤ memory.learned
   pub above : memory.horizon ≤ place
   pub selected : IsCheckSelection (there_at memory.rows place) y u rows
-
--- one userset more, each once
-pub record IsOneMore (old : List Userset) (y : Userset) (new : List Userset) : Type 0 where
-  pub once : AreOnce new
-  pub has : (z : Userset) → Contains new z ↔ (Contains old z ⊎ (z ≡ y))
-
--- A check has walked the first userset that waits, and lets those wait too that this one holds and that it has not met yet.
-pub record Walks (y : Userset) (rows : List Tuple) (h next : CheckHolds) : Type 0 where
-  pub heads : next.heads ≡ h.heads
-  pub place : next.place ≡ h.place
-  pub batch : next.batch ≡ h.batch
-  pub rest : List Userset
-  pub first : h.waiting ≡ y ∷ rest
-  pub walked : IsOneMore h.walked y next.walked
-  pub more : List Userset
-  pub waiting : next.waiting ≡ rest ++ more
-  pub once : AreOnce more
-  pub held : (z : Userset) → Contains more z → Contains rows (holding y (Set z))
-  pub new : (z : Userset) → Contains more z → Contains (h.walked ++ h.waiting) z → ⊥
-  pub all : (z : Userset) → Contains rows (holding y (Set z)) → Contains (h.walked ++ h.waiting) z ⊎ Contains more z
 
 -- The store has this id and so many shards, and a stop may leave this of each node, but for what is staged. Of the premises, that the store stands, and
 -- that a stop leaves some records of the coordinator, are the store's; the shard's answer is the call's; what a check holds, what it makes of an answer,

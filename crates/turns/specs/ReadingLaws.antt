@@ -10,6 +10,7 @@ use Rattle.tuples.specs.Reads.{AreAscending, IsSelection}
 use Rattle.tuples.specs.Versions.{there_at}
 use Rattle.records.specs.declared.record.Record.{Record}
 use Rattle.records.specs.Replays.{ShardState}
+pub use Rattle.decisions.specs.Merging.{IsMerged, NeedsOnly}
 use Rattle.laws.specs.Shards.{ShardMeans}
 use Rattle.laws.specs.Worlds.{IsLog}
 use Rattle.laws.specs.Nodes.{NodeName, ShardKnows, coordinator}
@@ -28,21 +29,10 @@ abbrev pub ShardRowsShowSnapshots : Type 0
 ShardRowsShowSnapshots = (shards s : ℕ) (log : List Entry) (hc h : ℕ) (state : ShardState) (place : ℕ) (t : Tuple) → IsLog log → ShardMeans shards s log hc h state
     → state.horizon ≤ place → place ≤ state.learned → there_at state.rows place t ≡ there_of shards s log place t
 
--- all tuples that meet the tupleset have one shard, this one
-abbrev pub NeedsOnly : ℕ → Tupleset → ℕ → Type 0
-NeedsOnly shards (Key t) s = s ≡ shard_of shards t.object
-NeedsOnly shards (OfObject o relation) s = s ≡ shard_of shards o
-NeedsOnly shards (OfUser n u relation) s = ⊥
-
 -- what that shard's tuples are selected is what all are
 abbrev pub OneShardIsEnough : Type 0
 OneShardIsEnough = (shards s : ℕ) (log : List Entry) (place : ℕ) (q : Tupleset) (rows : List Tuple) → NeedsOnly shards q s
     → IsSelection (there_of shards s log place) q rows → IsSelection (is_at log place) q rows
-
--- the tuples of two lists, ascending
-pub record IsMerged (rows more merged : List Tuple) : Type 0 where
-  pub ascending : AreAscending merged
-  pub has : (t : Tuple) → Contains merged t ↔ (Contains rows t ⊎ Contains more t)
 
 -- a shard that is up selects rows at a place that it has learned, and that is not below its horizon
 pub record IsShardReply (now : Moment) (s place : ℕ) (q : Tupleset) (rows : List Tuple) : Type 0 where
