@@ -6,3 +6,4 @@ pub mod CoordinatorAnswers
 pub mod ShardAnswers
 pub mod Asking
 pub mod Opening
+pub mod Belonging

@@ -1,9 +1,11 @@
 // A node: opened, or known by the refusal of its opening.
-ghost use Rattle.std.specs.Prelude.{◌≡◌, ◌<◌};
+ghost use Rattle.std.specs.Prelude.{◌≡◌, ◌<◌, ◌↔◌, IsTrue};
 ghost use Rattle.records.specs.Identity.{coordinator_number};
+ghost use Rattle.calls.specs.Belonging.{IsNodeOf};
 ghost use Rattle.calls.specs.Opening.{CoordinatorOpens, ShardOpens, refusal_of};
 ghost use Rattle.calls.specs.Views.{devices_of};
 
+use crate::NodeName;
 use coordinator::Coordinator;
 use device::Device;
 use journal::Refused;
@@ -24,6 +26,8 @@ pub(crate) enum Opened<D: Device> {
 #[derive(Drop)]
 pub struct Node<D: Device> {
     pub(crate) alloc: Global,
+    // the identity with which it was opened
+    me: Identity,
     pub(crate) opened: Opened<D>,
 }
 
@@ -32,9 +36,11 @@ impl<D: Device> Model for Node<D> {
 
     ghost Value = { NodeView D };
 
-    ghost use Rattle.calls.specs.Seen.{seen};
+    ghost use Rattle.calls.specs.Seen.{IsKeptBeside, seen};
 
     ghost view = { λ n. seen n.opened };
+
+    ghost invariant = { λ n. IsKeptBeside n.me n.opened };
 }
 
 impl<D: Device> Node<D> {
@@ -46,10 +52,12 @@ impl<D: Device> Node<D> {
         match Coordinator::open(alloc, a, b, me) {
             Ok(coordinator) => Node {
                 alloc,
+                me,
                 opened: Opened::Coordinator(coordinator),
             },
             Err(refused) => Node {
                 alloc,
+                me,
                 opened: Opened::Refused(refused),
             },
         }
@@ -63,10 +71,12 @@ impl<D: Device> Node<D> {
         match Shard::open(alloc, a, b, me) {
             Ok(shard) => Node {
                 alloc,
+                me,
                 opened: Opened::Shard(shard),
             },
             Err(refused) => Node {
                 alloc,
+                me,
                 opened: Opened::Refused(refused),
             },
         }
@@ -83,11 +93,31 @@ impl<D: Device> Node<D> {
         }
     }
 
+    /// Whether it is the node of this name in a store of so many shards. One whose opening was refused may be any.
+    pub fn is_node(&self, shards: u8, name: NodeName) -> bool
+        ensures { IsTrue result ↔ IsNodeOf shards name self.now }
+    {
+        match (&self.opened, name) {
+            (Opened::Coordinator(coordinator), NodeName::Coordinator) => {
+                coordinator.identity().shards() == shards
+            }
+            (Opened::Shard(_), NodeName::Shard(shard)) => {
+                self.me.node() == shard && self.me.shards() == shards
+            }
+            (Opened::Refused(_), _) => true,
+            _ => false,
+        }
+    }
+
     /// Gives the devices back.
     pub fn into_devices(self) -> (D, D)
         ensures { result ≡ devices_of self }
     {
-        let Node { alloc: _, opened } = self;
+        let Node {
+            alloc: _,
+            me: _,
+            opened,
+        } = self;
         match opened {
             Opened::Coordinator(coordinator) => coordinator.into_devices(),
             Opened::Shard(shard) => shard.into_devices(),

@@ -1,5 +1,5 @@
 -- What each reply makes of a write flow.
-use Rattle.std.specs.Prelude.{◌≡◌, ◌≢◌, ◌⊎◌, ◌++◌, ℕ, Bool, true, false, List, [], ◌∷◌, Option, Some, None, Result, Ok, Err}
+use Rattle.std.specs.Prelude.{◌≡◌, ◌≢◌, ◌⊎◌, ◌++◌, ℕ, Bool, true, false, List, [], ◌∷◌, Option, Some, None, Result, Ok, Err, MatchOption}
 use Rattle.tuples.specs.declared.entry.WriteId.{WriteId}
 use Rattle.tuples.specs.Parts.{takes_part}
 use Rattle.refusal.specs.declared.refusal.Refusal.{Refusal}
@@ -154,3 +154,7 @@ Fits shards v waits.abort (Coordinator (told.Abort r)) = Unit {0}
 Fits shards v waits.inquire (Coordinator (told.Inquire r)) = Unit {0}
 Fits shards v waits.drop_write (Shard (told_by.DropWrite verdict r)) = Unit {0}
 Fits shards v awaited reply = ⊥
+
+-- a reply may be given: a call is out, and it is one to that call
+abbrev pub MayGive : ℕ → WriteView → Reply → Type 0
+MayGive shards v reply = MatchOption v.awaited ⊥ (λ awaited. Fits shards v awaited reply)

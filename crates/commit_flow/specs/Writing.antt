@@ -22,6 +22,7 @@ use Rattle.calls.specs.declared.call.CoordinatorCall.{CoordinatorCall}
 use Rattle.calls.specs.declared.call.CoordinatorCall.TheVariants as calls
 use Rattle.calls.specs.declared.call.ShardCall.{ShardCall}
 use Rattle.calls.specs.declared.call.ShardCall.TheVariants as shard_calls
+use Rattle.catch_up.specs.Held.{decisions, flushing, learned, learning}
 use Rattle.commit_flow.specs.declared.end.WriteEnd.TheVariants.{Wrote, Refused, Cancelled}
 use Rattle.commit_flow.specs.WriteHolds.{HeldTicket, Way, WriteAwaited, WriteHolds, onward, outward}
 use Rattle.commit_flow.specs.WriteHolds as waits
@@ -36,7 +37,7 @@ Waits v holds awaited after = after ≡ record v { holds = holds; awaited = Some
 abbrev pub AsksCoordinator : WriteView → CoordinatorCall → WriteView → Type 0
 AsksCoordinator v (calls.Begin write) after = (v.write ≡ Some write) × (after ≡ record v { write = None; awaited = Some waits.begin })
 AsksCoordinator v calls.Heads after = ⊥
-AsksCoordinator v (calls.Batch from to) after = (v.holds.way ≡ onward) × ((awaited : _) × Waits v v.holds (waits.catch_up awaited) after)
+AsksCoordinator v (calls.Batch from to) after = (v.holds.way ≡ onward) × Waits v v.holds (waits.catch_up decisions) after
 AsksCoordinator v (calls.Decide intent votes) after = (v.holds.way ≡ onward) × (v.holds.intent ≡ Some intent) × (v.holds.id ≡ Some intent.write.id) × (v.holds.votes ≡ votes.items) × (v.holds.decided ≡ None)
     × ((again : Bool) × Waits v (record v.holds { intent = None; votes = [] }) (waits.decide again) after)
 AsksCoordinator v (calls.Outcome decided) after = (v.holds.decided ≡ Some decided) × Waits v (record v.holds { decided = None }) waits.outcome after
@@ -47,8 +48,8 @@ AsksCoordinator v calls.Flush after = (v.holds.way ≡ onward) × (Waits v v.hol
 
 -- A call of a shard, by what it may be handed.
 abbrev pub AsksShard : WriteView → ℕ → ShardCall → WriteView → Type 0
-AsksShard v s shard_calls.Learned after = (v.holds.way ≡ onward) × ((awaited : _) × Waits v v.holds (waits.catch_up awaited) after)
-AsksShard v s (shard_calls.Learn batch) after = (v.holds.way ≡ onward) × (v.holds.batch ≡ Some batch) × ((awaited : _) × Waits v (record v.holds { batch = None }) (waits.catch_up awaited) after)
+AsksShard v s shard_calls.Learned after = (v.holds.way ≡ onward) × Waits v v.holds (waits.catch_up learned) after
+AsksShard v s (shard_calls.Learn batch) after = (v.holds.way ≡ onward) × (v.holds.batch ≡ Some batch) × ((again : Bool) × Waits v (record v.holds { batch = None }) (waits.catch_up (learning again)) after)
 AsksShard v s (shard_calls.StagePrepare intent) after = (v.holds.way ≡ onward) × (v.holds.intent ≡ Some intent) × (v.holds.id ≡ Some intent.write.id) × ((again : Bool) × Waits v (record v.holds { intent = None }) (waits.prepare s again) after)
 AsksShard v s (shard_calls.Vote ticket) after = (v.holds.way ≡ onward)
     × ((others : List HeldTicket) × (v.holds.tickets ≡ ticket_value (s, ticket) ∷ others) × Waits v (record v.holds { tickets = others }) (waits.vote s) after)
@@ -61,7 +62,8 @@ AsksShard v s (shard_calls.Read place set) after = ⊥
 AsksShard v s (shard_calls.ReadForCheck place x u) after = ⊥
 AsksShard v s shard_calls.Settle after = ⊥
 AsksShard v s (shard_calls.Collect heads) after = ⊥
-AsksShard v s shard_calls.Flush after = (v.holds.way ≡ onward) × ((awaited : WriteAwaited) × Waits v v.holds awaited after)
+AsksShard v s shard_calls.Flush after = (v.holds.way ≡ onward)
+    × (Waits v v.holds (waits.catch_up flushing) after ⊎ (Waits v v.holds (waits.flush_to_prepare s) after ⊎ Waits v v.holds (waits.flush_to_vote s) after))
 
 -- the shard is there that a call names to which no ticket or vote belongs
 abbrev pub IsThereFor : ℕ → ℕ → ShardCall → Type 0

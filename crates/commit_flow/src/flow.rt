@@ -1,7 +1,7 @@
 // A write flow: one call a turn.
 ghost use Rattle.std.specs.Prelude.{◌≡◌, ◌≤◌, ◌≢◌, Some, None, ℕ, IfOk, IfErr, MatchOption};
 ghost use Rattle.records.specs.Identity.{max_shards};
-ghost use Rattle.commit_flow.specs.Answering.{Fits, GivesTo};
+ghost use Rattle.commit_flow.specs.Answering.{GivesTo, MayGive};
 ghost use Rattle.commit_flow.specs.Cancelling.{Cancels};
 ghost use Rattle.commit_flow.specs.Views.{WriteView};
 ghost use Rattle.commit_flow.specs.WriteHolds.{nothing_begun};
@@ -93,7 +93,7 @@ impl WriteFlow {
 
     /// What the reply to its call makes of it. It takes no memory.
     pub fn give(&mut self, reply: Reply)
-        requires { MatchOption self.old.seen.awaited ⊥ (λ awaited. Fits self.old.shards self.old.seen awaited reply) }
+        requires { MayGive self.old.shards self.old.seen reply }
         ensures shards { self.new.shards ≡ self.old.shards }
         ensures gives { MatchOption self.old.seen.awaited ⊥ (λ awaited. GivesTo self.old.shards self.old.seen awaited reply self.new.seen) }
     {
