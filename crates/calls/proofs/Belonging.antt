@@ -1,13 +1,15 @@
 -- A reply that was answered belongs to its call, a node that a call names may be asked it, and a shard stays the shard that it is.
-use Rattle.std.proofs.Common.{◌≡◌, inl, inr, ℕ, List, Option, Some, None, Result, Ok, Err, refl, sym, ap, subst, ◌∙◌}
+use Rattle.std.proofs.Common.{◌≡◌, inl, inr, ℕ, List, Option, Some, None, Result, Ok, Err, IfOk, refl, sym, ap, subst, ◌∙◌}
 use Rattle.refusal.specs.declared.refusal.Refusal.{Refusal}
 use Rattle.device.specs.Device.{State}
 use Rattle.decisions.specs.Coordinators.{CoordinatorView}
 use Rattle.decisions.specs.Standing.{DecidedValue}
-use Rattle.decisions.specs.Values.{IntentValue, SettledValue, VoteValue}
+use Rattle.decisions.specs.Values.{IntentValue, SettledValue, TicketValue, VoteValue}
 use Rattle.coordinator.specs.declared.decided.NotDecided.{NotDecided}
 use Rattle.coordinator.specs.declared.raising.NotRaised.{NotRaised}
 use Rattle.shard.specs.Shards.{ShardView}
+use Rattle.shard.specs.declared.replies.VoteReply.{VoteReply}
+use Rattle.shard.specs.declared.replies.VoteReply.TheVariants.{Yes, Later as votes_later, No}
 use Rattle.calls.specs.declared.call.NodeName.TheVariants.{Coordinator as name_coordinator, Shard as name_shard}
 use Rattle.calls.specs.declared.call.NodeCall.{NodeCall}
 use Rattle.calls.specs.declared.call.NodeCall.TheVariants.{Coordinator, Shard}
@@ -28,8 +30,9 @@ use Rattle.calls.specs.Names.{node_of}
 use Rattle.calls.specs.Seen.{IsKeptBeside, seen}
 use Rattle.calls.specs.Views.{NodeView, coordinator, shard, refused}
 use Rattle.calls.specs.CoordinatorAnswers.{DecideAnswers, RaiseAnswers}
+use Rattle.calls.specs.ShardAnswers.{VoteAnswers}
 use Rattle.calls.specs.Asking.{Answered, CoordinatorAnswers, CoordinatorRefuses, MayAsk, MayAskCoordinator, MayAskShard, MayBeMade, Refuses, ShardAnswers, ShardRefuses}
-use Rattle.calls.specs.Belonging.{GivesBallotBack, GivesSettledBack, IsCoordinatorReplyTo, IsIntentBack, IsNodeOf, IsOwed, IsReplyTo, IsShardReplyTo, IsSameShard}
+use Rattle.calls.specs.Belonging.{GivesBallotBack, GivesSettledBack, GivesVote, IsCoordinatorReplyTo, IsIntentBack, IsNodeOf, IsOwed, IsReplyTo, IsShardReplyTo, IsSameShard}
 
 none_back : (intent : IntentValue) (back : Option IntentValue) → back ≡ None → IsIntentBack intent back
 none_back intent back is = subst (IsIntentBack intent) (sym is) tt
@@ -50,23 +53,23 @@ refused_coordinator e (Raise place settled) (told.Raise (Err back)) h = h.1
 refused_coordinator e Flush (told.Flush r) h = tt
 refused_coordinator e call reply h = absurd h
 
-refused_shard : (e : Refusal) (call : ShardCall) (reply : shards.ShardReply) → ShardRefuses e call reply → IsShardReplyTo call reply
-refused_shard e Learned (told_by.Learned r) h = tt
-refused_shard e (Learn batch) (told_by.Learn back r) h = h.0
-refused_shard e (StagePrepare intent) (told_by.StagePrepare back r) h = h.0
-refused_shard e (Vote ticket) (told_by.Vote r) h = tt
-refused_shard e (DropWrite verdict held) (told_by.DropWrite back r) h = h.0
-refused_shard e InDoubt (told_by.InDoubt r) h = tt
-refused_shard e (Read place set) (told_by.Read back r) h = h.0
-refused_shard e (ReadForCheck place x u) (told_by.ReadForCheck back_x back_u r) h = (h.0, h.1)
-refused_shard e Settle (told_by.Settle r) h = tt
-refused_shard e (Collect heads) (told_by.Collect back r) h = h.0
-refused_shard e flush_shard (told_by.Flush r) h = tt
-refused_shard e call reply h = absurd h
+refused_shard : (e : Refusal) (s : ℕ) (call : ShardCall) (reply : shards.ShardReply) → ShardRefuses e call reply → IsShardReplyTo s call reply
+refused_shard e s Learned (told_by.Learned r) h = tt
+refused_shard e s (Learn batch) (told_by.Learn back r) h = h.0
+refused_shard e s (StagePrepare intent) (told_by.StagePrepare back r) h = (h.0, subst (λ (r : Result TicketValue Refusal). IfOk r (λ t. t.id ≡ intent.write.id)) (sym h.1) tt)
+refused_shard e s (Vote ticket) (told_by.Vote r) h = subst (GivesVote s ticket) (sym h) tt
+refused_shard e s (DropWrite verdict held) (told_by.DropWrite back r) h = h.0
+refused_shard e s InDoubt (told_by.InDoubt r) h = tt
+refused_shard e s (Read place set) (told_by.Read back r) h = h.0
+refused_shard e s (ReadForCheck place x u) (told_by.ReadForCheck back_x back_u r) h = (h.0, h.1)
+refused_shard e s Settle (told_by.Settle r) h = tt
+refused_shard e s (Collect heads) (told_by.Collect back r) h = h.0
+refused_shard e s flush_shard (told_by.Flush r) h = tt
+refused_shard e s call reply h = absurd h
 
 pub refused_belongs : (e : Refusal) (call : NodeCall) (reply : Reply) → Refuses e call reply → IsReplyTo call reply
 refused_belongs e (Coordinator call) (from_coordinator reply) h = refused_coordinator e call reply h
-refused_belongs e (Shard s call) (from_shard reply) h = refused_shard e call reply h
+refused_belongs e (Shard s call) (from_shard reply) h = refused_shard e s call reply h
 refused_belongs e call reply h = absurd h
 
 -- the node that a call names may be asked it
@@ -107,28 +110,33 @@ module _ {D : Type 0} (state : D → State) (honest : D → Type 0) (moment : D 
   answered_coordinator old new Flush (told.Flush r) h = tt
   answered_coordinator old new call reply h = absurd h
 
-  answered_shard : (old new : ShardView D) (call : ShardCall) (reply : shards.ShardReply)
-      → ShardAnswers state honest moment left_since old call reply new → IsShardReplyTo call reply
-  answered_shard old new Learned (told_by.Learned r) h = tt
-  answered_shard old new (Learn batch) (told_by.Learn back r) h = h.0
-  answered_shard old new (StagePrepare intent) (told_by.StagePrepare back r) h = h.0
-  answered_shard old new (Vote ticket) (told_by.Vote r) h = tt
-  answered_shard old new (DropWrite verdict held) (told_by.DropWrite back r) h = h.0
-  answered_shard old new InDoubt (told_by.InDoubt r) h = tt
-  answered_shard old new (Read place set) (told_by.Read back r) h = h.1
-  answered_shard old new (ReadForCheck place x u) (told_by.ReadForCheck back_x back_u r) h = (h.1, h.2)
-  answered_shard old new Settle (told_by.Settle r) h = tt
-  answered_shard old new (Collect heads) (told_by.Collect back r) h = h.0
-  answered_shard old new flush_shard (told_by.Flush r) h = tt
-  answered_shard old new call reply h = absurd h
+  vote_of : (s : ℕ) (v : ShardView D) (ticket : TicketValue) (r : VoteReply) → v.me.node ≡ s → VoteAnswers state honest v ticket r → GivesVote s ticket r
+  vote_of s v ticket (Yes vote) is h = let own = h.own vote refl in (own.0, own.1 ∙ is)
+  vote_of s v ticket (votes_later back) is h = h.back back refl
+  vote_of s v ticket (No e) is h = tt
+
+  answered_shard : (s : ℕ) (old new : ShardView D) (call : ShardCall) (reply : shards.ShardReply)
+      → old.me.node ≡ s → ShardAnswers state honest moment left_since old call reply new → IsShardReplyTo s call reply
+  answered_shard s old new Learned (told_by.Learned r) is h = tt
+  answered_shard s old new (Learn batch) (told_by.Learn back r) is h = h.0
+  answered_shard s old new (StagePrepare intent) (told_by.StagePrepare back r) is h = (h.0, h.1.id)
+  answered_shard s old new (Vote ticket) (told_by.Vote r) is h = vote_of s old ticket r is h.1
+  answered_shard s old new (DropWrite verdict held) (told_by.DropWrite back r) is h = h.0
+  answered_shard s old new InDoubt (told_by.InDoubt r) is h = tt
+  answered_shard s old new (Read place set) (told_by.Read back r) is h = h.1
+  answered_shard s old new (ReadForCheck place x u) (told_by.ReadForCheck back_x back_u r) is h = (h.1, h.2)
+  answered_shard s old new Settle (told_by.Settle r) is h = tt
+  answered_shard s old new (Collect heads) (told_by.Collect back r) is h = h.0
+  answered_shard s old new flush_shard (told_by.Flush r) is h = tt
+  answered_shard s old new call reply is h = absurd h
 
   -- whatever a node has answered belongs to the call
   pub answered_belongs : (old : NodeView D) (call : NodeCall) (reply : Reply) (new : NodeView D)
-      → Answered state honest moment left_since old call reply new → IsReplyTo call reply
-  answered_belongs (coordinator old) (Coordinator call) (from_coordinator reply) (coordinator new) h = answered_coordinator old new call reply h
-  answered_belongs (shard old) (Shard s call) (from_shard reply) (shard new) h = answered_shard old new call reply h
-  answered_belongs (refused e a b) call reply new h = refused_belongs e call reply h.1
-  answered_belongs old call reply new h = absurd h
+      → MayAsk old call → Answered state honest moment left_since old call reply new → IsReplyTo call reply
+  answered_belongs (coordinator old) (Coordinator call) (from_coordinator reply) (coordinator new) may h = answered_coordinator old new call reply h
+  answered_belongs (shard old) (Shard s call) (from_shard reply) (shard new) may h = answered_shard s old new call reply may.0 h
+  answered_belongs (refused e a b) call reply new may h = refused_belongs e call reply h.1
+  answered_belongs old call reply new may h = absurd h
 
   stays : (old new : ShardView D) (call : ShardCall) (reply : shards.ShardReply)
       → ShardAnswers state honest moment left_since old call reply new → new.me ≡ old.me

@@ -1,9 +1,11 @@
 -- Which replies belong to which call, and which node may be asked it.
-use Rattle.std.specs.Prelude.{◌≡◌, ℕ, List, Option, Some, None, Result, Ok, Err}
+use Rattle.std.specs.Prelude.{◌≡◌, ℕ, List, Option, Some, None, Result, Ok, Err, IfOk}
 use Rattle.decisions.specs.Standing.{DecidedValue}
-use Rattle.decisions.specs.Values.{IntentValue, SettledValue, VoteValue}
+use Rattle.decisions.specs.Values.{IntentValue, SettledValue, TicketValue, VoteValue}
 use Rattle.coordinator.specs.declared.decided.NotDecided.{NotDecided}
 use Rattle.coordinator.specs.declared.raising.NotRaised.{NotRaised}
+use Rattle.shard.specs.declared.replies.VoteReply.{VoteReply}
+use Rattle.shard.specs.declared.replies.VoteReply.TheVariants.{Yes, Later as votes_later, No}
 use Rattle.calls.specs.Asking.{MayAskCoordinator, MayAskShard}
 use Rattle.calls.specs.declared.call.NodeName.{NodeName}
 use Rattle.calls.specs.declared.call.NodeName.TheVariants.{Coordinator as name_coordinator, Shard as name_shard}
@@ -48,24 +50,31 @@ IsCoordinatorReplyTo (Raise place settled) (told.Raise r) = GivesSettledBack set
 IsCoordinatorReplyTo Flush (told.Flush r) = Unit {0}
 IsCoordinatorReplyTo call reply = ⊥
 
-abbrev pub IsShardReplyTo : ShardCall → shards.ShardReply → Type 0
-IsShardReplyTo Learned (told_by.Learned r) = Unit {0}
-IsShardReplyTo (Learn batch) (told_by.Learn back r) = back ≡ batch
-IsShardReplyTo (StagePrepare intent) (told_by.StagePrepare back r) = back ≡ intent
-IsShardReplyTo (Vote ticket) (told_by.Vote r) = Unit {0}
-IsShardReplyTo (DropWrite verdict held) (told_by.DropWrite back r) = back ≡ verdict
-IsShardReplyTo InDoubt (told_by.InDoubt r) = Unit {0}
-IsShardReplyTo (Read place set) (told_by.Read back r) = back ≡ set
-IsShardReplyTo (ReadForCheck place x u) (told_by.ReadForCheck back_x back_u r) = (back_x ≡ x) × (back_u ≡ u)
-IsShardReplyTo Settle (told_by.Settle r) = Unit {0}
-IsShardReplyTo (Collect heads) (told_by.Collect back r) = back ≡ heads
-IsShardReplyTo flush_shard (told_by.Flush r) = Unit {0}
-IsShardReplyTo call reply = ⊥
+-- A vote is that of the shard, for the write of the ticket; a ticket that comes back is the one that was handed in.
+abbrev pub GivesVote : ℕ → TicketValue → VoteReply → Type 0
+GivesVote s ticket (Yes vote) = (vote.id ≡ ticket.id) × (vote.shard ≡ s)
+GivesVote s ticket (votes_later back) = back ≡ ticket
+GivesVote s ticket (No e) = Unit {0}
+
+-- what the shard of this number replies
+abbrev pub IsShardReplyTo : ℕ → ShardCall → shards.ShardReply → Type 0
+IsShardReplyTo s Learned (told_by.Learned r) = Unit {0}
+IsShardReplyTo s (Learn batch) (told_by.Learn back r) = back ≡ batch
+IsShardReplyTo s (StagePrepare intent) (told_by.StagePrepare back r) = (back ≡ intent) × IfOk r (λ t. t.id ≡ intent.write.id)
+IsShardReplyTo s (Vote ticket) (told_by.Vote r) = GivesVote s ticket r
+IsShardReplyTo s (DropWrite verdict held) (told_by.DropWrite back r) = back ≡ verdict
+IsShardReplyTo s InDoubt (told_by.InDoubt r) = Unit {0}
+IsShardReplyTo s (Read place set) (told_by.Read back r) = back ≡ set
+IsShardReplyTo s (ReadForCheck place x u) (told_by.ReadForCheck back_x back_u r) = (back_x ≡ x) × (back_u ≡ u)
+IsShardReplyTo s Settle (told_by.Settle r) = Unit {0}
+IsShardReplyTo s (Collect heads) (told_by.Collect back r) = back ≡ heads
+IsShardReplyTo s flush_shard (told_by.Flush r) = Unit {0}
+IsShardReplyTo s call reply = ⊥
 
 -- The reply is one to this call, and what was lent comes back as it was, also where the call was refused.
 abbrev pub IsReplyTo : NodeCall → Reply → Type 0
 IsReplyTo (Coordinator call) (from_coordinator reply) = IsCoordinatorReplyTo call reply
-IsReplyTo (Shard s call) (from_shard reply) = IsShardReplyTo call reply
+IsReplyTo (Shard s call) (from_shard reply) = IsShardReplyTo s call reply
 IsReplyTo call reply = ⊥
 
 -- the node of this name in a store of so many shards; one whose opening was refused may be any
