@@ -137,7 +137,7 @@ write_of (ready.DropWrite v l s h) = None
 abbrev pub awaited_of : Out → WriteAwaited
 awaited_of (out.Begin load) = waits.begin
 awaited_of (out.CatchUp p c) = waits.catch_up c.awaited
-awaited_of (out.Prepare p again) = waits.prepare p.shard again
+awaited_of (out.Prepare p again) = waits.prepare p.shard again p.participants
 awaited_of (out.FlushToPrepare p) = waits.flush_to_prepare p.shard
 awaited_of (out.Vote v) = waits.vote v.shard
 awaited_of (out.FlushToVote v t) = waits.flush_to_vote v.shard

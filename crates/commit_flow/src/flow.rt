@@ -95,7 +95,7 @@ impl WriteFlow {
     pub fn give(&mut self, reply: Reply)
         requires { MayGive self.old.shards self.old.seen reply }
         ensures shards { self.new.shards ≡ self.old.shards }
-        ensures gives { MatchOption self.old.seen.awaited ⊥ (λ awaited. GivesTo self.old.shards self.old.seen awaited reply self.new.seen) }
+        ensures gives { MatchOption self.old.seen.awaited ⊥ (λ awaited. GivesTo self.old.seen awaited reply self.new.seen) }
     {
         let stage = mem::replace(&mut self.stage, Stage::Ended(WriteEnd::Cancelled));
         match stage {

@@ -30,7 +30,13 @@ fn prepare(preparing: Preparing, is_again: bool) -> (NodeCall, Out)
         shard,
     } = preparing;
     let id = intent.id();
-    let asked = AskedPrepare { id, load, shard };
+    let participants = intent.participants(load.shards);
+    let asked = AskedPrepare {
+        id,
+        load,
+        shard,
+        participants,
+    };
     (
         NodeCall::Shard(shard, ShardCall::StagePrepare(intent)),
         Out::Prepare(asked, is_again),
@@ -38,6 +44,7 @@ fn prepare(preparing: Preparing, is_again: bool) -> (NodeCall, Out)
 }
 
 fn vote(voting: Voting, ticket: Ticket) -> (NodeCall, Out)
+    requires { ticket.id ≡ voting.intent.write.id }
     ensures asks { Asks voting.load.shards (view_ready (ready_vote voting ticket)) result.0 (view_out result.1) }
     ensures kept { IsOutOf voting.load.shards result.1 }
 {
