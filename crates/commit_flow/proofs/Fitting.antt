@@ -65,8 +65,8 @@ fits_shard : (shards s : ℕ) (v : WriteView) (call : ShardCall) (reply : ShardR
 fits_shard shards s v shard_calls.Learned (told_by.Learned r) after may h b = waits_for shards (from_shard (told_by.Learned r)) after _ h.1 tt
 fits_shard shards s v (shard_calls.Learn batch) (told_by.Learn back r) after may h b = waits_for shards (from_shard (told_by.Learn back r)) after _ h.2.1 tt
 fits_shard shards s v (shard_calls.StagePrepare intent) (told_by.StagePrepare back r) after may h b =
-    waits_for shards (from_shard (told_by.StagePrepare back r)) after _ h.3.1 (
-      λ (id : WriteId) at. ap (λ (i : IntentValue). i.write.id) b ∙ same_id v.holds.id intent.write.id id h.2 at,
+    waits_for shards (from_shard (told_by.StagePrepare back r)) after _ h.4.1 (
+      λ (id : WriteId) at. ap (λ (i : IntentValue). i.write.id) b ∙ same_id v.holds.id intent.write.id id h.3 at,
       subst (λ (i : IntentValue). takes_part shards s i.write ≡ true) (sym b) may,
     )
 fits_shard shards s v (shard_calls.Vote ticket) (told_by.Vote r) after may h b = waits_for shards (from_shard (told_by.Vote r)) after _ h.1.2 tt

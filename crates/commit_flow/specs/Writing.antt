@@ -46,11 +46,12 @@ AsksCoordinator v (calls.Inquire id) after = ((met : Option Refusal) × (v.holds
 AsksCoordinator v (calls.Raise place settled) after = ⊥
 AsksCoordinator v calls.Flush after = (v.holds.way ≡ onward) × (Waits v v.holds waits.flush_to_decide after ⊎ ((v.holds.decided ≢ None) × Waits v v.holds waits.flush_to_outcome after))
 
--- A call of a shard, by what it may be handed.
+-- A call of a shard, by what it may be handed. It prepares its part only where it is caught up.
 abbrev pub AsksShard : WriteView → ℕ → ShardCall → WriteView → Type 0
 AsksShard v s shard_calls.Learned after = (v.holds.way ≡ onward) × Waits v v.holds (waits.catch_up learned) after
 AsksShard v s (shard_calls.Learn batch) after = (v.holds.way ≡ onward) × (v.holds.batch ≡ Some batch) × ((again : Bool) × Waits v (record v.holds { batch = None }) (waits.catch_up (learning again)) after)
-AsksShard v s (shard_calls.StagePrepare intent) after = (v.holds.way ≡ onward) × (v.holds.intent ≡ Some intent) × (v.holds.id ≡ Some intent.write.id) × ((again : Bool) × Waits v (record v.holds { intent = None }) (waits.prepare s again) after)
+AsksShard v s (shard_calls.StagePrepare intent) after = (v.holds.way ≡ onward) × (v.caught ≡ Some s) × (v.holds.intent ≡ Some intent) × (v.holds.id ≡ Some intent.write.id)
+    × ((again : Bool) × Waits (record v { caught = None }) (record v.holds { intent = None }) (waits.prepare s again) after)
 AsksShard v s (shard_calls.Vote ticket) after = (v.holds.way ≡ onward)
     × ((others : List HeldTicket) × (v.holds.tickets ≡ ticket_value (s, ticket) ∷ others) × Waits v (record v.holds { tickets = others }) (waits.vote s) after)
 AsksShard v s (shard_calls.DropWrite verdict None) after = ⊥
