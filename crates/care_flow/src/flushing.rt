@@ -1,0 +1,116 @@
+// A node's flush.
+ghost use Rattle.std.specs.Prelude.{◌≡◌, ◌<◌, ℕ, None, Some, MatchOption};
+ghost use Rattle.calls.specs.Asking.{MayBeMade};
+ghost use Rattle.care_flow.specs.Flushing.{Fits, Gives, IsThere, flush, flush_of};
+ghost use Rattle.care_flow.specs.Ends.{ended_by};
+ghost use Rattle.care_flow.specs.Views.{out, over, ready};
+
+use crate::end::CareEnd;
+use calls::{CoordinatorCall, CoordinatorReply, NodeCall, NodeName, Reply, ShardCall, ShardReply};
+use std::marker::Model;
+use std::mem;
+use tuples::Refusal;
+
+#[derive(Drop)]
+pub(crate) enum Stage {
+    Flush,
+    Flushing,
+    Ended(CareEnd),
+}
+
+/// Makes all durable that a node has staged: one call.
+#[derive(Drop)]
+#[must_use]
+pub struct FlushFlow {
+    node: NodeName,
+    stage: Stage,
+}
+
+impl Model for FlushFlow {
+    ghost use Rattle.care_flow.specs.Flushing.{FlushFlowValue};
+
+    ghost Value = { FlushFlowValue };
+
+    ghost use Rattle.care_flow.specs.FlushStages.{view_of};
+
+    ghost view = { λ f. record { node = f.node; seen = view_of f.stage } };
+}
+
+fn call_of(node: NodeName) -> NodeCall
+    ensures { result ≡ flush_of node }
+{
+    match node {
+        NodeName::Coordinator => NodeCall::Coordinator(CoordinatorCall::Flush),
+        NodeName::Shard(shard) => NodeCall::Shard(shard, ShardCall::Flush),
+    }
+}
+
+/// How a care ends by the answer to its last call.
+pub(crate) fn end_by(answer: Result<(), Refusal>) -> CareEnd
+    ensures { result ≡ ended_by answer }
+{
+    match answer {
+        Ok(()) => CareEnd::Done,
+        Err(refusal) => CareEnd::Refused(refusal),
+    }
+}
+
+fn give(node: NodeName, reply: Reply) -> CareEnd
+    requires { Fits node reply }
+    ensures { Gives node reply result }
+{
+    let _node = node;
+    match reply {
+        Reply::Coordinator(CoordinatorReply::Flush(answer)) => end_by(answer),
+        Reply::Shard(ShardReply::Flush(answer)) => end_by(answer),
+        // Nobody gives the reply to another call, but what it carries has to be spent.
+        other => {
+            other.leave();
+            CareEnd::Refused(Refusal::Damaged)
+        }
+    }
+}
+
+impl FlushFlow {
+    /// Of this node.
+    pub fn new(node: NodeName) -> FlushFlow
+        ensures { result ≡ record { node = node; seen = ready tt flush } }
+    {
+        FlushFlow {
+            node,
+            stage: Stage::Flush,
+        }
+    }
+
+    /// Its next call, which has to be made, and the reply given. None where it has ended, and while a call is out.
+    pub fn next_call(&mut self) -> Option<NodeCall>
+        ensures node { self.new.node ≡ self.old.node }
+        ensures call { MatchOption self.old.seen.next ((result ≡ None) × (self.new ≡ self.old)) (λ step. (result ≡ Some (flush_of self.old.node)) × (self.new.seen ≡ out tt flush)) }
+        ensures owed { (shards : ℕ) (call : _) → IsThere shards self.old.node → result ≡ Some call → MayBeMade shards call }
+    {
+        if let Stage::Flush = &self.stage {
+            self.stage = Stage::Flushing;
+            return Some(call_of(self.node));
+        }
+        None
+    }
+
+    /// What the reply to its call makes of it.
+    pub fn give(&mut self, reply: Reply)
+        requires { MatchOption self.old.seen.awaited ⊥ (λ step. Fits self.old.node reply) }
+        ensures node { self.new.node ≡ self.old.node }
+        ensures gives { (end : CareEnd) × Gives self.old.node reply end × (self.new.seen ≡ over tt end) }
+    {
+        self.stage = Stage::Ended(give(self.node, reply));
+    }
+
+    /// How it ended, where it has.
+    pub fn finish(self) -> Option<CareEnd>
+        ensures { result ≡ self.seen.ended }
+    {
+        match self.stage {
+            Stage::Ended(end) => Some(end),
+            Stage::Flush | Stage::Flushing => None,
+        }
+    }
+}
