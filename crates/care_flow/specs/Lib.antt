@@ -5,3 +5,5 @@ pub mod Flushing
 pub mod FlushStages
 pub mod Learning
 pub mod LearnStages
+pub mod Collecting
+pub mod CollectStages

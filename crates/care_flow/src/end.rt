@@ -1,4 +1,7 @@
 // How a care ends.
+ghost use Rattle.std.specs.Prelude.{◌≡◌};
+ghost use Rattle.care_flow.specs.Ends.{ended_by};
+
 use tuples::{Refusal, WriteId};
 
 /// What became of a write that was in doubt.
@@ -20,4 +23,14 @@ pub enum CareEnd {
     /// What became of each write that was in doubt, in their order.
     Resolved(Vec<Resolved>),
     Refused(Refusal),
+}
+
+/// How a care ends by the answer to its last call.
+pub(crate) fn end_by(answer: Result<(), Refusal>) -> CareEnd
+    ensures { result ≡ ended_by answer }
+{
+    match answer {
+        Ok(()) => CareEnd::Done,
+        Err(refusal) => CareEnd::Refused(refusal),
+    }
 }

@@ -2,13 +2,11 @@
 ghost use Rattle.std.specs.Prelude.{◌≡◌, ◌<◌, ℕ, None, Some, MatchOption};
 ghost use Rattle.calls.specs.Asking.{MayBeMade};
 ghost use Rattle.care_flow.specs.Flushing.{Fits, Gives, IsThere, flush, flush_of};
-ghost use Rattle.care_flow.specs.Ends.{ended_by};
 ghost use Rattle.care_flow.specs.Views.{out, over, ready};
 
-use crate::end::CareEnd;
+use crate::end::{CareEnd, end_by};
 use calls::{CoordinatorCall, CoordinatorReply, NodeCall, NodeName, Reply, ShardCall, ShardReply};
 use std::marker::Model;
-use std::mem;
 use tuples::Refusal;
 
 #[derive(Drop)]
@@ -42,16 +40,6 @@ fn call_of(node: NodeName) -> NodeCall
     match node {
         NodeName::Coordinator => NodeCall::Coordinator(CoordinatorCall::Flush),
         NodeName::Shard(shard) => NodeCall::Shard(shard, ShardCall::Flush),
-    }
-}
-
-/// How a care ends by the answer to its last call.
-pub(crate) fn end_by(answer: Result<(), Refusal>) -> CareEnd
-    ensures { result ≡ ended_by answer }
-{
-    match answer {
-        Ok(()) => CareEnd::Done,
-        Err(refusal) => CareEnd::Refused(refusal),
     }
 }
 

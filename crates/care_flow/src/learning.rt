@@ -155,7 +155,7 @@ impl LearnFlow {
     {
         match self.stage {
             Stage::Ended(end) => Some(end),
-            Stage::Ask | Stage::Asked | Stage::CatchUp(_, _) | Stage::CatchingUp(_, _) => None,
+            _ => None,
         }
     }
 }

@@ -1,10 +1,12 @@
 //! The care of a store's nodes, one call a turn: a flush, a shard's learning, the resolution of its writes in doubt, a raise of the horizon, a collection.
 #![tactic(auto)]
 
+mod collecting;
 mod end;
 mod flushing;
 mod learning;
 
+pub use collecting::CollectFlow;
 pub use end::{CareEnd, Resolved};
 pub use flushing::FlushFlow;
 pub use learning::LearnFlow;
