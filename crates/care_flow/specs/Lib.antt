@@ -7,3 +7,5 @@ pub mod Learning
 pub mod LearnStages
 pub mod Collecting
 pub mod CollectStages
+pub mod Resolving
+pub mod ResolveStages

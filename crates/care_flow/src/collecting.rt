@@ -49,7 +49,7 @@ impl Model for CollectFlow {
 
 // Its next call, and the stage while that is out.
 fn next(shard: u8, stage: Stage) -> (Stage, Option<NodeCall>)
-    ensures call { MatchOption (view_of stage).next ((result.1 ≡ None) × (result.0 ≡ stage))
+    ensures call { MatchOption (view_of stage).next ((result.1 ≡ None) × (view_of result.0 ≡ view_of stage))
         (λ step. MatchOption result.1 ⊥ (λ call. Asks shard (view_of stage).holds step call (view_of result.0))) }
     ensures owed { (shards : ℕ) (call : _) → shard < shards → result.1 ≡ Some call → MayBeMade shards call }
 {
@@ -151,7 +151,7 @@ impl CollectFlow {
     /// Its next call, which has to be made, and the reply given. None where it has ended, and while a call is out.
     pub fn next_call(&mut self) -> Option<NodeCall>
         ensures shard { self.new.shard ≡ self.old.shard }
-        ensures call { MatchOption self.old.seen.next ((result ≡ None) × (self.new ≡ self.old))
+        ensures call { MatchOption self.old.seen.next ((result ≡ None) × (self.new.seen ≡ self.old.seen))
             (λ step. MatchOption result ⊥ (λ call. Asks self.old.shard self.old.seen.holds step call self.new.seen)) }
         ensures owed { (shards : ℕ) (call : _) → self.old.shard < shards → result ≡ Some call → MayBeMade shards call }
     {

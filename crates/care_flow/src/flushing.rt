@@ -73,7 +73,7 @@ impl FlushFlow {
     /// Its next call, which has to be made, and the reply given. None where it has ended, and while a call is out.
     pub fn next_call(&mut self) -> Option<NodeCall>
         ensures node { self.new.node ≡ self.old.node }
-        ensures call { MatchOption self.old.seen.next ((result ≡ None) × (self.new ≡ self.old)) (λ step. (result ≡ Some (flush_of self.old.node)) × (self.new.seen ≡ out tt flush)) }
+        ensures call { MatchOption self.old.seen.next ((result ≡ None) × (self.new.seen ≡ self.old.seen)) (λ step. (result ≡ Some (flush_of self.old.node)) × (self.new.seen ≡ out tt flush)) }
         ensures owed { (shards : ℕ) (call : _) → IsThere shards self.old.node → result ≡ Some call → MayBeMade shards call }
     {
         if let Stage::Flush = &self.stage {

@@ -3,10 +3,13 @@
 
 mod collecting;
 mod end;
+mod findings;
 mod flushing;
 mod learning;
+mod resolving;
 
 pub use collecting::CollectFlow;
 pub use end::{CareEnd, Resolved};
 pub use flushing::FlushFlow;
 pub use learning::LearnFlow;
+pub use resolving::ResolveFlow;
