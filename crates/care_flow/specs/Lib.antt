@@ -9,3 +9,6 @@ pub mod Collecting
 pub mod CollectStages
 pub mod Resolving
 pub mod ResolveStages
+pub mod Gatherings
+pub mod Raising
+pub mod RaiseStages

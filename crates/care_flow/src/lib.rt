@@ -5,11 +5,16 @@ mod collecting;
 mod end;
 mod findings;
 mod flushing;
+mod gathering;
 mod learning;
+mod raise_calls;
+mod raise_replies;
+mod raising;
 mod resolving;
 
 pub use collecting::CollectFlow;
 pub use end::{CareEnd, Resolved};
 pub use flushing::FlushFlow;
 pub use learning::LearnFlow;
+pub use raising::RaiseFlow;
 pub use resolving::ResolveFlow;
