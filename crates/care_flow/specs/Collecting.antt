@@ -1,5 +1,5 @@
 -- The calls of a shard's collection, and what each reply makes of it.
-use Rattle.std.specs.Prelude.{◌≡◌, ◌≢◌, ◌⊎◌, ℕ, Bool, true, false, Some, None, Result, Ok, Err, MatchOption}
+use Rattle.std.specs.Prelude.{◌≡◌, ◌≢◌, ◌⊎◌, ℕ, Bool, true, false, Option, Some, None, Result, Ok, Err, MatchOption}
 use Rattle.refusal.specs.declared.refusal.Refusal.{Refusal}
 use Rattle.refusal.specs.declared.refusal.Refusal.TheVariants.{Full}
 use Rattle.decisions.specs.Values.{HeadsValue}
@@ -69,3 +69,15 @@ Gives h (collect again) (from_shard (told_by.Collect heads r)) after = CollectGi
 Gives h flush_to_collect (from_shard (told_by.Flush r)) after = FlushGives h r after
 Gives h flush (from_shard (told_by.Flush r)) after = after ≡ over no_heads (ended_by r)
 Gives h step reply after = ⊥
+
+-- Its next call, if there is one.
+abbrev pub NextCall : CollectFlowValue → Option NodeCall → CollectFlowValue → Type 0
+NextCall old result new = MatchOption old.seen.next ((result ≡ None) × (new.seen ≡ old.seen)) (λ step. MatchOption result ⊥ (λ call. Asks old.shard old.seen.holds step call new.seen))
+
+-- It waits for such a reply.
+abbrev pub Awaits : CollectFlowValue → Reply → Type 0
+Awaits v reply = MatchOption v.seen.awaited ⊥ (λ step. Fits step reply)
+
+-- What the reply makes of it.
+abbrev pub Answered : CollectFlowValue → Reply → CollectFlowValue → Type 0
+Answered old reply new = MatchOption old.seen.awaited ⊥ (λ step. Gives old.seen.holds step reply new.seen)

@@ -1,5 +1,5 @@
 -- The one call of a flush, and what its reply makes of it.
-use Rattle.std.specs.Prelude.{◌≡◌, ◌<◌, ℕ}
+use Rattle.std.specs.Prelude.{◌≡◌, ◌<◌, ℕ, Option, Some, None, MatchOption}
 use Rattle.calls.specs.declared.call.NodeName.{NodeName}
 use Rattle.calls.specs.declared.call.NodeName.TheVariants.{Coordinator, Shard}
 use Rattle.calls.specs.declared.call.NodeCall.{NodeCall}
@@ -12,7 +12,7 @@ use Rattle.calls.specs.declared.reply.CoordinatorReply.TheVariants as told
 use Rattle.calls.specs.declared.reply.ShardReply.TheVariants as told_by
 use Rattle.care_flow.specs.declared.end.CareEnd.{CareEnd}
 use Rattle.care_flow.specs.Ends.{ended_by}
-use Rattle.care_flow.specs.Views.{CareView}
+use Rattle.care_flow.specs.Views.{CareView, out, over}
 
 -- its one call
 pub data FlushStep : Type 0 where
@@ -48,3 +48,15 @@ abbrev pub Gives : NodeName → Reply → CareEnd → Type 0
 Gives Coordinator (from_coordinator (told.Flush r)) end = end ≡ ended_by r
 Gives (Shard s) (from_shard (told_by.Flush r)) end = end ≡ ended_by r
 Gives node reply end = ⊥
+
+-- Its next call, if there is one.
+abbrev pub NextCall : FlushFlowValue → Option NodeCall → FlushFlowValue → Type 0
+NextCall old result new = MatchOption old.seen.next ((result ≡ None) × (new.seen ≡ old.seen)) (λ step. (result ≡ Some (flush_of old.node)) × (new.seen ≡ out tt flush))
+
+-- It waits for such a reply.
+abbrev pub Awaits : FlushFlowValue → Reply → Type 0
+Awaits v reply = MatchOption v.seen.awaited ⊥ (λ step. Fits v.node reply)
+
+-- What the reply makes of it.
+abbrev pub Answered : FlushFlowValue → Reply → FlushFlowValue → Type 0
+Answered old reply new = (end : CareEnd) × Gives old.node reply end × (new.seen ≡ over tt end)

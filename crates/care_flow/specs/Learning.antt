@@ -58,3 +58,15 @@ abbrev pub Gives : ℕ → HeadsHeld → LearnStep → Reply → LearnView → T
 Gives s h ask (from_coordinator (told.Heads r)) after = HeadsGive h r after
 Gives s h (catch_up (Some awaited)) reply after = MatchOption h.heads ⊥ (λ heads. CatchUpGives (on_its_way s heads.kept h.batch) awaited reply (λ progress. ProgressGives h progress after))
 Gives s h step reply after = ⊥
+
+-- Its next call, if there is one.
+abbrev pub NextCall : LearnFlowValue → Option NodeCall → LearnFlowValue → Type 0
+NextCall old result new = MatchOption old.seen.next ((result ≡ None) × (new.seen ≡ old.seen)) (λ step. MatchOption result ⊥ (λ call. Asks old.shard old.seen.holds step call new.seen))
+
+-- It waits for such a reply.
+abbrev pub Awaits : LearnFlowValue → Reply → Type 0
+Awaits v reply = MatchOption v.seen.awaited ⊥ (λ step. Fits step reply)
+
+-- What the reply makes of it.
+abbrev pub Answered : LearnFlowValue → Reply → LearnFlowValue → Type 0
+Answered old reply new = MatchOption old.seen.awaited ⊥ (λ step. Gives old.shard old.seen.holds step reply new.seen)

@@ -12,3 +12,4 @@ pub mod ResolveStages
 pub mod Gatherings
 pub mod Raising
 pub mod RaiseStages
+pub mod Cares

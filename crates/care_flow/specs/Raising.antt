@@ -46,7 +46,8 @@ pub record RaiseFlowValue : Type 0 where
   pub place : ℕ
   pub seen : RaiseView
 
--- Which call is made, with what is held. The horizon is raised only by what each shard has settled, at or above the place.
+-- Which call is made, with what is held. The horizon is raised only by what each shard has settled, at or above the place, and the
+-- last flush comes only behind the raise.
 abbrev pub Asks : ℕ → ℕ → RaiseHolds → RaiseStep → NodeCall → RaiseView → Type 0
 Asks shards place h ask call after = (call ≡ of_coordinator Heads) × (after ≡ out h ask)
 Asks shards place h flush_to_ask call after = (call ≡ of_coordinator Flush) × (after ≡ out h flush_to_ask)
@@ -57,7 +58,7 @@ Asks shards place h (settle s) call after = (call ≡ of_shard s Settle) × (aft
 Asks shards place h (raise again) call after = HaveSettled shards place h.settled
     × ((all : Vec SettledValue) × (all.items ≡ h.settled) × (call ≡ of_coordinator (Raise place all)) × (after ≡ out (record h { settled = [] }) (raise again)))
 Asks shards place h flush_to_raise call after = (call ≡ of_coordinator Flush) × (after ≡ out h flush_to_raise)
-Asks shards place h flush_raised call after = (call ≡ of_coordinator Flush) × (after ≡ out h flush_raised)
+Asks shards place h flush_raised call after = (h.is_raised ≡ true) × (call ≡ of_coordinator Flush) × (after ≡ out h flush_raised)
 
 -- the reply is one to the call that is out, and gives back what was handed in
 abbrev pub Fits : ℕ → ℕ → RaiseStep → Reply → Type 0
@@ -126,3 +127,15 @@ Gives shards place h (raise again) (from_coordinator (told.Raise r)) after = Rai
 Gives shards place h flush_to_raise (from_coordinator (told.Flush r)) after = FlushGives r (ready h (raise true)) after
 Gives shards place h flush_raised (from_coordinator (told.Flush r)) after = after ≡ over nothing_raised (ended_by r)
 Gives shards place h step reply after = ⊥
+
+-- Its next call, if there is one.
+abbrev pub NextCall : RaiseFlowValue → Option NodeCall → RaiseFlowValue → Type 0
+NextCall old result new = MatchOption old.seen.next ((result ≡ None) × (new.seen ≡ old.seen)) (λ step. MatchOption result ⊥ (λ call. Asks old.shards old.place old.seen.holds step call new.seen))
+
+-- It waits for such a reply.
+abbrev pub Awaits : RaiseFlowValue → Reply → Type 0
+Awaits v reply = MatchOption v.seen.awaited ⊥ (λ step. Fits v.shards v.place step reply)
+
+-- What the reply makes of it.
+abbrev pub Answered : RaiseFlowValue → Reply → RaiseFlowValue → Type 0
+Answered old reply new = MatchOption old.seen.awaited ⊥ (λ step. Gives old.shards old.place old.seen.holds step reply new.seen)

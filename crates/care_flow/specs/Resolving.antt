@@ -1,5 +1,5 @@
 -- The calls of a resolution, and what each reply makes of it.
-use Rattle.std.specs.Prelude.{◌≡◌, ◌⊎◌, ◌++◌, ℕ, List, [], ◌∷◌, map, length, slice_get, Option, Some, None, Result, Ok, Err, MatchOption}
+use Rattle.std.specs.Prelude.{◌≡◌, ◌⊎◌, ◌++◌, ℕ, List, [], ◌∷◌, map, length, slice_get, Option, Some, None, Result, Ok, Err, MatchOption, Contains}
 use Rattle.std.specs.Global.{Vec}
 use Rattle.tuples.specs.declared.entry.WriteId.{WriteId}
 use Rattle.refusal.specs.declared.refusal.Refusal.{Refusal}
@@ -48,12 +48,16 @@ pub record ResolveFlowValue : Type 0 where
 abbrev pub nothing_found : ResolveHolds
 nothing_found = record { found = []; verdict = None; batch = None }
 
--- Which call is made, with what is held. A write is dropped only by the verdict on it.
+-- a write was found that is decided at this place
+abbrev pub HasCommitted : List flows.Resolved → ℕ → Type 0
+HasCommitted found place = (id : WriteId) × Contains found (committed id place)
+
+-- Which call is made, with what is held. The shard is caught up only to the place of a write that is decided, and drops one only by the verdict on it.
 abbrev pub Asks : ℕ → ResolveHolds → ResolveStep → NodeCall → ResolveView → Type 0
 Asks s h in_doubt call after = (call ≡ of_shard s InDoubt) × (after ≡ out h in_doubt)
 Asks s h (inquire id) call after = (call ≡ of_coordinator (Inquire id)) × (after ≡ out h (inquire id))
-Asks s h (catch_up to is_out) call after = AsksToCatchUp (on_its_way s to h.batch) call
-    (λ batch awaited. after ≡ out (record h { batch = batch }) (catch_up to (Some awaited)))
+Asks s h (catch_up to is_out) call after = HasCommitted h.found to
+    × AsksToCatchUp (on_its_way s to h.batch) call (λ batch awaited. after ≡ out (record h { batch = batch }) (catch_up to (Some awaited)))
 Asks s h drop_write call after = (verdict : VerdictValue) × (h.verdict ≡ Some verdict.id) × (call ≡ of_shard s (DropWrite verdict None))
     × (after ≡ out (record h { verdict = None }) drop_write)
 
@@ -112,3 +116,15 @@ Gives s doubts h (catch_up to (Some awaited)) reply ids after = (ids ≡ doubts)
     × CatchUpGives (on_its_way s to h.batch) awaited reply (λ progress. ProgressGives doubts h to progress after)
 Gives s doubts h drop_write (from_shard (told_by.DropWrite verdict r)) ids after = (ids ≡ doubts) × DropGives doubts h r after
 Gives s doubts h step reply ids after = ⊥
+
+-- Its next call, if there is one.
+abbrev pub NextCall : ResolveFlowValue → Option NodeCall → ResolveFlowValue → Type 0
+NextCall old result new = MatchOption old.seen.next ((result ≡ None) × (new.seen ≡ old.seen)) (λ step. MatchOption result ⊥ (λ call. Asks old.shard old.seen.holds step call new.seen))
+
+-- It waits for such a reply.
+abbrev pub Awaits : ResolveFlowValue → Reply → Type 0
+Awaits v reply = MatchOption v.seen.awaited ⊥ (λ step. Fits step reply)
+
+-- What the reply makes of it.
+abbrev pub Answered : ResolveFlowValue → Reply → ResolveFlowValue → Type 0
+Answered old reply new = MatchOption old.seen.awaited ⊥ (λ step. Gives old.shard old.doubts old.seen.holds step reply new.doubts new.seen)

@@ -2,11 +2,11 @@
 ghost use Rattle.std.specs.Prelude.{◌≡◌, ◌<◌, ℕ, false, None, Some, MatchOption};
 ghost use Rattle.decisions.specs.Flows.{no_heads};
 ghost use Rattle.calls.specs.Asking.{MayBeMade};
-ghost use Rattle.care_flow.specs.Collecting.{Asks, CollectGives, Fits, FlushGives, Gives, HeadsGive, ask};
+ghost use Rattle.care_flow.specs.Collecting.{Answered, Awaits, NextCall, Asks, CollectGives, Fits, FlushGives, Gives, HeadsGive, ask};
 ghost use Rattle.care_flow.specs.CollectStages.{having, view_of};
 ghost use Rattle.care_flow.specs.Views.{ready};
 
-use crate::end::{CareEnd, end_by};
+use crate::end::{CareEnd, end_by, foreign};
 use calls::{CoordinatorCall, CoordinatorReply, NodeCall, Reply, ShardCall, ShardReply};
 use decisions::Heads;
 use std::marker::Model;
@@ -74,12 +74,18 @@ fn next(shard: u8, stage: Stage) -> (Stage, Option<NodeCall>)
     }
 }
 
+fn refused(refusal: Refusal) -> Stage
+    ensures { result ≡ Stage.Ended (CareEnd.Refused refusal) }
+{
+    Stage::Ended(CareEnd::Refused(refusal))
+}
+
 fn answered(answer: Result<Heads, Refusal>) -> Stage
     ensures { HeadsGive no_heads answer (view_of result) }
 {
     match answer {
         Ok(heads) => Stage::Collect(heads, false),
-        Err(refusal) => Stage::Ended(CareEnd::Refused(refusal)),
+        Err(refusal) => refused(refusal),
     }
 }
 
@@ -92,7 +98,7 @@ fn collected(is_again: bool, heads: Heads, answer: Result<(), Refusal>) -> Stage
             if refusal == Refusal::Full && !is_again {
                 return Stage::FlushToCollect(heads);
             }
-            Stage::Ended(CareEnd::Refused(refusal))
+            refused(refusal)
         }
     }
 }
@@ -102,14 +108,8 @@ fn flushed(heads: Heads, answer: Result<(), Refusal>) -> Stage
 {
     match answer {
         Ok(()) => Stage::Collect(heads, true),
-        Err(refusal) => Stage::Ended(CareEnd::Refused(refusal)),
+        Err(refusal) => refused(refusal),
     }
-}
-
-// Nobody gives the reply to another call, but what it carries has to be spent.
-fn foreign(reply: Reply) -> Stage {
-    reply.leave();
-    Stage::Ended(CareEnd::Refused(Refusal::Damaged))
 }
 
 fn give(stage: Stage, reply: Reply) -> Stage
@@ -119,21 +119,21 @@ fn give(stage: Stage, reply: Reply) -> Stage
     match stage {
         Stage::Asked => match reply {
             Reply::Coordinator(CoordinatorReply::Heads(answer)) => answered(answer),
-            other => foreign(other),
+            other => refused(foreign(other)),
         },
         Stage::Collecting(is_again) => match reply {
             Reply::Shard(ShardReply::Collect(heads, answer)) => collected(is_again, heads, answer),
-            other => foreign(other),
+            other => refused(foreign(other)),
         },
         Stage::FlushingToCollect(heads) => match reply {
             Reply::Shard(ShardReply::Flush(answer)) => flushed(heads, answer),
-            other => foreign(other),
+            other => refused(foreign(other)),
         },
         Stage::Flushing => match reply {
             Reply::Shard(ShardReply::Flush(answer)) => Stage::Ended(end_by(answer)),
-            other => foreign(other),
+            other => refused(foreign(other)),
         },
-        _other => foreign(reply),
+        _other => refused(foreign(reply)),
     }
 }
 
@@ -151,8 +151,7 @@ impl CollectFlow {
     /// Its next call, which has to be made, and the reply given. None where it has ended, and while a call is out.
     pub fn next_call(&mut self) -> Option<NodeCall>
         ensures shard { self.new.shard ≡ self.old.shard }
-        ensures call { MatchOption self.old.seen.next ((result ≡ None) × (self.new.seen ≡ self.old.seen))
-            (λ step. MatchOption result ⊥ (λ call. Asks self.old.shard self.old.seen.holds step call self.new.seen)) }
+        ensures call { NextCall self.old result self.new }
         ensures owed { (shards : ℕ) (call : _) → self.old.shard < shards → result ≡ Some call → MayBeMade shards call }
     {
         let stage = mem::replace(&mut self.stage, Stage::Asked);
@@ -163,9 +162,9 @@ impl CollectFlow {
 
     /// What the reply to its call makes of it.
     pub fn give(&mut self, reply: Reply)
-        requires { MatchOption self.old.seen.awaited ⊥ (λ step. Fits step reply) }
+        requires { Awaits self.old reply }
         ensures shard { self.new.shard ≡ self.old.shard }
-        ensures gives { MatchOption self.old.seen.awaited ⊥ (λ step. Gives self.old.seen.holds step reply self.new.seen) }
+        ensures gives { Answered self.old reply self.new }
     {
         let stage = mem::replace(&mut self.stage, Stage::Asked);
         self.stage = give(stage, reply);

@@ -1,13 +1,12 @@
 // A node's flush.
 ghost use Rattle.std.specs.Prelude.{◌≡◌, ◌<◌, ℕ, None, Some, MatchOption};
 ghost use Rattle.calls.specs.Asking.{MayBeMade};
-ghost use Rattle.care_flow.specs.Flushing.{Fits, Gives, IsThere, flush, flush_of};
+ghost use Rattle.care_flow.specs.Flushing.{Answered, Awaits, NextCall, Fits, Gives, IsThere, flush, flush_of};
 ghost use Rattle.care_flow.specs.Views.{out, over, ready};
 
-use crate::end::{CareEnd, end_by};
+use crate::end::{CareEnd, end_by, foreign};
 use calls::{CoordinatorCall, CoordinatorReply, NodeCall, NodeName, Reply, ShardCall, ShardReply};
 use std::marker::Model;
-use tuples::Refusal;
 
 #[derive(Drop)]
 pub(crate) enum Stage {
@@ -51,11 +50,7 @@ fn give(node: NodeName, reply: Reply) -> CareEnd
     match reply {
         Reply::Coordinator(CoordinatorReply::Flush(answer)) => end_by(answer),
         Reply::Shard(ShardReply::Flush(answer)) => end_by(answer),
-        // Nobody gives the reply to another call, but what it carries has to be spent.
-        other => {
-            other.leave();
-            CareEnd::Refused(Refusal::Damaged)
-        }
+        other => CareEnd::Refused(foreign(other)),
     }
 }
 
@@ -73,7 +68,7 @@ impl FlushFlow {
     /// Its next call, which has to be made, and the reply given. None where it has ended, and while a call is out.
     pub fn next_call(&mut self) -> Option<NodeCall>
         ensures node { self.new.node ≡ self.old.node }
-        ensures call { MatchOption self.old.seen.next ((result ≡ None) × (self.new.seen ≡ self.old.seen)) (λ step. (result ≡ Some (flush_of self.old.node)) × (self.new.seen ≡ out tt flush)) }
+        ensures call { NextCall self.old result self.new }
         ensures owed { (shards : ℕ) (call : _) → IsThere shards self.old.node → result ≡ Some call → MayBeMade shards call }
     {
         if let Stage::Flush = &self.stage {
@@ -85,9 +80,9 @@ impl FlushFlow {
 
     /// What the reply to its call makes of it.
     pub fn give(&mut self, reply: Reply)
-        requires { MatchOption self.old.seen.awaited ⊥ (λ step. Fits self.old.node reply) }
+        requires { Awaits self.old reply }
         ensures node { self.new.node ≡ self.old.node }
-        ensures gives { (end : CareEnd) × Gives self.old.node reply end × (self.new.seen ≡ over tt end) }
+        ensures gives { Answered self.old reply self.new }
     {
         self.stage = Stage::Ended(give(self.node, reply));
     }

@@ -3,11 +3,11 @@ ghost use Rattle.std.specs.Prelude.{◌≡◌, ◌<◌, ℕ, None, Some, MatchOp
 ghost use Rattle.decisions.specs.Flows.{no_heads};
 ghost use Rattle.calls.specs.Asking.{MayBeMade};
 ghost use Rattle.catch_up.specs.CatchingUp.{Fits as FitsCatchUp};
-ghost use Rattle.care_flow.specs.Learning.{Asks, Fits, Gives, HeadsGive, ask, catch_up as catching};
+ghost use Rattle.care_flow.specs.Learning.{Answered, Awaits, NextCall, Asks, Fits, Gives, HeadsGive, ask, catch_up as catching};
 ghost use Rattle.care_flow.specs.LearnStages.{IsOf, view_of};
 ghost use Rattle.care_flow.specs.Views.{ready};
 
-use crate::end::CareEnd;
+use crate::end::{CareEnd, foreign};
 use calls::{CoordinatorCall, CoordinatorReply, NodeCall, Reply};
 use catch_up::{CatchUp, CatchUpCall, Progress};
 use decisions::Heads;
@@ -67,10 +67,10 @@ fn next(shard: u8, stage: Stage) -> (Stage, Option<NodeCall>)
     }
 }
 
-// Nobody gives the reply to another call, but what it carries has to be spent.
-fn foreign(reply: Reply) -> Stage {
-    reply.leave();
-    Stage::Ended(CareEnd::Refused(Refusal::Damaged))
+fn refused(refusal: Refusal) -> Stage
+    ensures { result ≡ Stage.Ended (CareEnd.Refused refusal) }
+{
+    Stage::Ended(CareEnd::Refused(refusal))
 }
 
 fn answered(shard: u8, answer: Result<Heads, Refusal>) -> Stage
@@ -82,7 +82,7 @@ fn answered(shard: u8, answer: Result<Heads, Refusal>) -> Stage
             let catch_up = CatchUp::new(shard, heads.kept());
             Stage::CatchUp(heads, catch_up)
         }
-        Err(refusal) => Stage::Ended(CareEnd::Refused(refusal)),
+        Err(refusal) => refused(refusal),
     }
 }
 
@@ -95,7 +95,7 @@ fn caught_up(heads: Heads, call: CatchUpCall, reply: Reply) -> Stage
     match call.give(reply) {
         Progress::Next(catch_up) => Stage::CatchUp(heads, catch_up),
         Progress::There => Stage::Ended(CareEnd::Done),
-        Progress::Refused(refusal) => Stage::Ended(CareEnd::Refused(refusal)),
+        Progress::Refused(refusal) => refused(refusal),
     }
 }
 
@@ -108,10 +108,10 @@ fn give(shard: u8, stage: Stage, reply: Reply) -> Stage
     match stage {
         Stage::Asked => match reply {
             Reply::Coordinator(CoordinatorReply::Heads(answer)) => answered(shard, answer),
-            other => foreign(other),
+            other => refused(foreign(other)),
         },
         Stage::CatchingUp(heads, call) => caught_up(heads, call, reply),
-        _ => foreign(reply),
+        _ => refused(foreign(reply)),
     }
 }
 
@@ -129,8 +129,7 @@ impl LearnFlow {
     /// Its next call, which has to be made, and the reply given. None where it has ended, and while a call is out.
     pub fn next_call(&mut self) -> Option<NodeCall>
         ensures shard { self.new.shard ≡ self.old.shard }
-        ensures call { MatchOption self.old.seen.next ((result ≡ None) × (self.new.seen ≡ self.old.seen))
-            (λ step. MatchOption result ⊥ (λ call. Asks self.old.shard self.old.seen.holds step call self.new.seen)) }
+        ensures call { NextCall self.old result self.new }
         ensures owed { (shards : ℕ) (call : _) → self.old.shard < shards → result ≡ Some call → MayBeMade shards call }
     {
         let stage = mem::replace(&mut self.stage, Stage::Asked);
@@ -141,9 +140,9 @@ impl LearnFlow {
 
     /// What the reply to its call makes of it.
     pub fn give(&mut self, reply: Reply)
-        requires { MatchOption self.old.seen.awaited ⊥ (λ step. Fits step reply) }
+        requires { Awaits self.old reply }
         ensures shard { self.new.shard ≡ self.old.shard }
-        ensures gives { MatchOption self.old.seen.awaited ⊥ (λ step. Gives self.old.shard self.old.seen.holds step reply self.new.seen) }
+        ensures gives { Answered self.old reply self.new }
     {
         let stage = mem::replace(&mut self.stage, Stage::Asked);
         self.stage = give(self.shard, stage, reply);

@@ -7,7 +7,7 @@ ghost use Rattle.care_flow.specs.Raising.{Fits, FlushGives, Gives, GoesRound, He
 ghost use Rattle.care_flow.specs.Views.{ready};
 ghost use Rattle.care_flow.specs.RaiseStages.{IsOf, IsRoundOf, gathering as held_by, handed_in, view_of};
 
-use crate::end::{CareEnd, end_by};
+use crate::end::{CareEnd, end_by, foreign};
 use crate::gathering::{Gathered, Gathering};
 use crate::raising::Stage;
 use calls::{CoordinatorReply, Reply, ShardReply};
@@ -132,12 +132,6 @@ fn raised(
     }
 }
 
-// Nobody gives the reply to another call, but what it carries has to be spent.
-fn foreign(reply: Reply) -> Stage {
-    reply.leave();
-    refused(Refusal::Damaged)
-}
-
 /// What a reply makes of the stage that waits for it.
 pub(crate) fn give(alloc: Global, shards: u8, place: u64, stage: Stage, reply: Reply) -> Stage
     requires fits { MatchOption (view_of stage).awaited ⊥ (λ step. Fits shards place step reply) }
@@ -150,37 +144,37 @@ pub(crate) fn give(alloc: Global, shards: u8, place: u64, stage: Stage, reply: R
             Reply::Coordinator(CoordinatorReply::Heads(answer)) => {
                 answered(alloc, shards, place, answer)
             }
-            other => foreign(other),
+            other => refused(foreign(other)),
         },
         Stage::FlushingToAsk => match reply {
             Reply::Coordinator(CoordinatorReply::Flush(answer)) => flushed(Stage::Ask, answer),
-            other => foreign(other),
+            other => refused(foreign(other)),
         },
         Stage::CatchingUp(gathering, call) => caught_up(gathering, call, reply),
         Stage::Flushing(gathering) => match reply {
             Reply::Shard(ShardReply::Flush(answer)) => flushed(Stage::Settle(gathering), answer),
-            other => foreign(other),
+            other => refused(foreign(other)),
         },
         Stage::Settling(gathering) => match reply {
             Reply::Shard(ShardReply::Settle(answer)) => settled(gathering, answer),
-            other => foreign(other),
+            other => refused(foreign(other)),
         },
         Stage::Raising(heads, is_again) => match reply {
             Reply::Coordinator(CoordinatorReply::Raise(answer)) => {
                 raised(shards, place, heads, is_again, answer)
             }
-            other => foreign(other),
+            other => refused(foreign(other)),
         },
         Stage::FlushingToRaise(gathered) => match reply {
             Reply::Coordinator(CoordinatorReply::Flush(answer)) => {
                 flushed(Stage::Raise(gathered, true), answer)
             }
-            other => foreign(other),
+            other => refused(foreign(other)),
         },
         Stage::FlushingRaised(_heads) => match reply {
             Reply::Coordinator(CoordinatorReply::Flush(answer)) => Stage::Ended(end_by(answer)),
-            other => foreign(other),
+            other => refused(foreign(other)),
         },
-        _other => foreign(reply),
+        _other => refused(foreign(reply)),
     }
 }

@@ -2,7 +2,7 @@
 ghost use Rattle.std.specs.Prelude.{◌≡◌, ◌<◌, ℕ, None, Some, MatchOption};
 ghost use Rattle.calls.specs.Asking.{MayBeMade};
 ghost use Rattle.decisions.specs.Flows.{nothing_raised};
-ghost use Rattle.care_flow.specs.Raising.{Asks, Fits, Gives, ask};
+ghost use Rattle.care_flow.specs.Raising.{Answered, Awaits, NextCall, Asks, Fits, Gives, ask};
 ghost use Rattle.care_flow.specs.RaiseStages.{IsOf, view_of};
 ghost use Rattle.care_flow.specs.Views.{ready};
 
@@ -82,8 +82,7 @@ impl RaiseFlow {
     /// Its next call, which has to be made, and the reply given. None where it has ended, and while a call is out.
     pub fn next_call(&mut self) -> Option<NodeCall>
         ensures same { (self.new.shards ≡ self.old.shards) × (self.new.place ≡ self.old.place) }
-        ensures call { MatchOption self.old.seen.next ((result ≡ None) × (self.new.seen ≡ self.old.seen))
-            (λ step. MatchOption result ⊥ (λ call. Asks self.old.shards self.old.place self.old.seen.holds step call self.new.seen)) }
+        ensures call { NextCall self.old result self.new }
         ensures owed { (call : _) → result ≡ Some call → MayBeMade self.old.shards call }
     {
         let stage = mem::replace(&mut self.stage, Stage::Asked);
@@ -94,9 +93,9 @@ impl RaiseFlow {
 
     /// What the reply to its call makes of it. It takes memory for what the shards have settled as soon as the heads reach the place.
     pub fn give(&mut self, reply: Reply)
-        requires { MatchOption self.old.seen.awaited ⊥ (λ step. Fits self.old.shards self.old.place step reply) }
+        requires { Awaits self.old reply }
         ensures same { (self.new.shards ≡ self.old.shards) × (self.new.place ≡ self.old.place) }
-        ensures gives { MatchOption self.old.seen.awaited ⊥ (λ step. Gives self.old.shards self.old.place self.old.seen.holds step reply self.new.seen) }
+        ensures gives { Answered self.old reply self.new }
     {
         let stage = mem::replace(&mut self.stage, Stage::Asked);
         self.stage = give(self.alloc, self.shards, self.place, stage, reply);

@@ -4,12 +4,12 @@ ghost use Rattle.calls.specs.Asking.{MayBeMade};
 ghost use Rattle.catch_up.specs.CatchingUp.{Fits as FitsCatchUp};
 ghost use Rattle.care_flow.specs.declared.end.CareEnd.TheVariants.{Resolved as all_resolved};
 ghost use Rattle.decisions.specs.Flows.{ResolveHolds};
-ghost use Rattle.care_flow.specs.Ends.{id_of, next_of};
-ghost use Rattle.care_flow.specs.Resolving.{Asks, DoubtsGive, DropGives, Fits, Gives, GoesThrough, InquiryGives, catch_up as catching, in_doubt, nothing_found};
+ghost use Rattle.care_flow.specs.Ends.{id_of, next_of, resolved_value};
+ghost use Rattle.care_flow.specs.Resolving.{Answered, Awaits, NextCall, Asks, DoubtsGive, DropGives, Fits, Gives, GoesThrough, HasCommitted, InquiryGives, catch_up as catching, in_doubt, nothing_found};
 ghost use Rattle.care_flow.specs.ResolveStages.{IsOf, holding, view_of};
 ghost use Rattle.care_flow.specs.Views.{ready};
 
-use crate::end::{CareEnd, Resolved};
+use crate::end::{CareEnd, Resolved, foreign};
 use crate::findings::Findings;
 use calls::{CoordinatorCall, CoordinatorReply, NodeCall, Reply, ShardCall, ShardReply};
 use catch_up::{CatchUp, CatchUpCall, Progress};
@@ -157,6 +157,7 @@ fn inquired(
 fn caught_up(shard: u8, findings: &Findings, call: CatchUpCall, reply: Reply) -> Stage
     requires fits { FitsCatchUp call.awaited reply }
     requires shard { call.held.shard ≡ shard }
+    requires committed { HasCommitted (map resolved_value findings.now.found.items) call.held.to }
     ensures gives { Gives shard findings.now.doubts.items (view_of findings.now (Stage.CatchingUp call)).holds (catching call.held.to (Some call.awaited)) reply findings.now.doubts.items (view_of findings.now result) }
     ensures kept { IsOf shard findings.now result }
 {
@@ -177,12 +178,6 @@ fn dropped(shard: u8, findings: &Findings, answer: Result<(), Refusal>) -> Stage
     }
 }
 
-// Nobody gives the reply to another call, but what it carries has to be spent.
-fn foreign(reply: Reply) -> Stage {
-    reply.leave();
-    Stage::Refused(Refusal::Damaged)
-}
-
 fn give(alloc: Global, shard: u8, findings: &mut Findings, stage: Stage, reply: Reply) -> Stage
     requires fits { MatchOption (view_of findings.old stage).awaited ⊥ (λ step. Fits step reply) }
     requires kept { IsOf shard findings.old stage }
@@ -193,20 +188,20 @@ fn give(alloc: Global, shard: u8, findings: &mut Findings, stage: Stage, reply: 
     match stage {
         Stage::AskedDoubts => match reply {
             Reply::Shard(ShardReply::InDoubt(answer)) => told(alloc, shard, findings, answer),
-            other => foreign(other),
+            other => Stage::Refused(foreign(other)),
         },
         Stage::Inquired(id) => match reply {
             Reply::Coordinator(CoordinatorReply::Inquire(answer)) => {
                 inquired(shard, findings, id, answer)
             }
-            other => foreign(other),
+            other => Stage::Refused(foreign(other)),
         },
         Stage::CatchingUp(call) => caught_up(shard, findings, call, reply),
         Stage::Dropping => match reply {
             Reply::Shard(ShardReply::DropWrite(_, answer)) => dropped(shard, findings, answer),
-            other => foreign(other),
+            other => Stage::Refused(foreign(other)),
         },
-        _other => foreign(reply),
+        _other => Stage::Refused(foreign(reply)),
     }
 }
 
@@ -227,8 +222,7 @@ impl ResolveFlow {
     pub fn next_call(&mut self) -> Option<NodeCall>
         ensures shard { self.new.shard ≡ self.old.shard }
         ensures doubts { self.new.doubts ≡ self.old.doubts }
-        ensures call { MatchOption self.old.seen.next ((result ≡ None) × (self.new.seen ≡ self.old.seen))
-            (λ step. MatchOption result ⊥ (λ call. Asks self.old.shard self.old.seen.holds step call self.new.seen)) }
+        ensures call { NextCall self.old result self.new }
         ensures owed { (shards : ℕ) (call : _) → self.old.shard < shards → result ≡ Some call → MayBeMade shards call }
     {
         let stage = mem::replace(&mut self.stage, Stage::AskedDoubts);
@@ -239,10 +233,9 @@ impl ResolveFlow {
 
     /// What the reply to its call makes of it. It takes memory for what it finds as soon as it knows of how many writes.
     pub fn give(&mut self, reply: Reply)
-        requires { MatchOption self.old.seen.awaited ⊥ (λ step. Fits step reply) }
+        requires { Awaits self.old reply }
         ensures shard { self.new.shard ≡ self.old.shard }
-        ensures gives { MatchOption self.old.seen.awaited ⊥
-            (λ step. Gives self.old.shard self.old.doubts self.old.seen.holds step reply self.new.doubts self.new.seen) }
+        ensures gives { Answered self.old reply self.new }
     {
         let stage = mem::replace(&mut self.stage, Stage::AskedDoubts);
         self.stage = give(self.alloc, self.shard, &mut self.findings, stage, reply);

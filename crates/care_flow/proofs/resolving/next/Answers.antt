@@ -10,6 +10,6 @@ returns-in-CatchUp-clause-call c =
     let v = c.in-CatchUp.catch_up in
     let r = c.next_call-call.result in
     let kept = asking_keeps v r.0 r.1 c.next_call-call.ensures in
-    let own : v.shard ≡ c.args.shard = rw c.in-CatchUp.is at c.requires in
-    let asks = subst (λ (s : ℕ). catching.Asks (on_its_way s v.to v.batch) r.0 r.1) own c.next_call-call.ensures in
-    rw c.in-CatchUp.is (r.1, asks, rw kept.1 refl)
+    let own = rw c.in-CatchUp.is at c.requires in
+    let asks = subst (λ (s : ℕ). catching.Asks (on_its_way s v.to v.batch) r.0 r.1) own.0 c.next_call-call.ensures in
+    rw c.in-CatchUp.is (own.1, (r.1, asks, rw kept.1 refl))
