@@ -7,3 +7,4 @@ pub mod ShardAnswers
 pub mod Asking
 pub mod Opening
 pub mod Belonging
+pub mod Failing

@@ -2,13 +2,14 @@
 ghost use Rattle.std.specs.Prelude.{◌≡◌, ◌<◌, ◌↔◌, IsTrue};
 ghost use Rattle.records.specs.Identity.{coordinator_number};
 ghost use Rattle.calls.specs.Belonging.{IsNodeOf};
+ghost use Rattle.calls.specs.Failing.{NodeIsSet};
 ghost use Rattle.calls.specs.Opening.{CoordinatorOpens, ShardOpens, refusal_of};
 ghost use Rattle.calls.specs.Views.{devices_of};
 
 use crate::NodeName;
 use coordinator::Coordinator;
-use device::Device;
-use journal::Refused;
+use device::{Device, Tear};
+use journal::{Bank, Refused};
 use records::Identity;
 use shard::Shard;
 use std::alloc::Global;
@@ -106,6 +107,31 @@ impl<D: Device> Node<D> {
             }
             (Opened::Refused(_), _) => true,
             _ => false,
+        }
+    }
+
+    /// Sets the script of one device, and changes nothing else.
+    pub fn fail(&mut self, bank: Bank, n: u64, tear: Tear)
+        ensures { NodeIsSet D.set_to_fail D.state D.honest D.moment D.left_since bank n tear self.old self.new }
+    {
+        match &mut self.opened {
+            Opened::Coordinator(coordinator) => coordinator.fail(bank, n, tear),
+            Opened::Shard(shard) => shard.fail(bank, n, tear),
+            Opened::Refused(refused) => match bank {
+                Bank::A => refused.a.fail(n, tear),
+                Bank::B => refused.b.fail(n, tear),
+            },
+        }
+    }
+
+    /// Its devices.
+    pub fn devices(&self) -> (&D, &D)
+        ensures { (result.0.now, result.1.now) ≡ devices_of self.now }
+    {
+        match &self.opened {
+            Opened::Coordinator(coordinator) => coordinator.devices(),
+            Opened::Shard(shard) => shard.devices(),
+            Opened::Refused(refused) => (&refused.a, &refused.b),
         }
     }
 

@@ -35,6 +35,10 @@ use Rattle.commit_flow.specs.Views.{WriteView, at_rest, ticket_value, view_ended
 abbrev pub GoesOn : WriteHolds → WriteView → Type 0
 GoesOn holds after = after ≡ at_rest holds
 
+-- it goes on to the prepare of this shard, which is caught up, and holds this
+abbrev pub GoesToPrepare : ℕ → WriteHolds → WriteView → Type 0
+GoesToPrepare s holds after = after ≡ record (at_rest holds) { caught = Some s }
+
 -- it goes out, with this refusal, and holds this
 abbrev pub GoesOut : WriteHolds → Refusal → WriteView → Type 0
 GoesOut holds e after = after ≡ at_rest (record holds { way = outward (Some e); batch = None })
@@ -53,29 +57,30 @@ abbrev pub BeginGives : WriteView → Result IntentValue Refusal → WriteView �
 BeginGives v (Ok i) after = GoesOn (record v.holds { id = Some i.write.id; intent = Some i }) after
 BeginGives v (Err e) after = after ≡ view_ended (Refused e)
 
--- what progress of the catch-up makes of it
-abbrev pub ProgressGives : WriteView → progresses.Progress → WriteView → Type 0
-ProgressGives v (Next c) after = GoesOn (record v.holds { batch = c.batch }) after
-ProgressGives v There after = GoesOn (record v.holds { batch = None }) after
-ProgressGives v (is_refused e) after = GoesOut v.holds e after
+-- what progress of the catch-up of a shard makes of it: only behind it the shard is to prepare
+abbrev pub ProgressGives : WriteView → ℕ → progresses.Progress → WriteView → Type 0
+ProgressGives v s (Next c) after = GoesOn (record v.holds { batch = c.batch }) after
+ProgressGives v s There after = GoesToPrepare s (record v.holds { batch = None }) after
+ProgressGives v s (is_refused e) after = GoesOut v.holds e after
 
--- The reply belongs to the catch-up of a shard.
+-- The reply belongs to the catch-up of a shard to the place that was kept when the write was begun.
 pub record CatchUpGives (v : WriteView) (awaited : _) (reply : Reply) (after : WriteView) : Type 0 where
   pub call : CatchUpCallValue
   pub is_awaited : call.awaited ≡ awaited
   pub holds : call.held.batch ≡ v.holds.batch
+  pub to : (i : IntentValue) → v.holds.intent ≡ Some i → call.held.to ≡ i.kept
   pub progress : progresses.Progress
   pub gives : catching.Gives call reply progress
-  pub then_gives : ProgressGives v progress after
+  pub then_gives : ProgressGives v call.held.shard progress after
 
 abbrev pub PrepareGives : WriteView → ℕ → Bool → IntentValue → Result TicketValue Refusal → WriteView → Type 0
 PrepareGives v s again i (Ok t) after = GoesOn (record v.holds { intent = Some i; tickets = v.holds.tickets ++ ticket_value (s, t) ∷ [] }) after
-PrepareGives v s again i (Err e) after = (e ≡ Full → again ≡ false → GoesOn (record v.holds { intent = Some i }) after)
+PrepareGives v s again i (Err e) after = (e ≡ Full → again ≡ false → GoesToPrepare s (record v.holds { intent = Some i }) after)
     × ((e ≢ Full) ⊎ (again ≡ true) → GoesOut (record v.holds { intent = Some i }) e after)
 
 -- a flush before a decision is refused as the call behind it would be
 abbrev pub FlushGives : WriteView → Result (Unit {0}) Refusal → WriteView → Type 0
-FlushGives v (Ok done) after = GoesOn v.holds after
+FlushGives v (Ok done) after = after ≡ record (at_rest v.holds) { caught = v.caught }
 FlushGives v (Err e) after = GoesOut v.holds e after
 
 abbrev pub VoteGives : WriteView → ℕ → VoteReply → WriteView → Type 0

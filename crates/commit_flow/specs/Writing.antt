@@ -59,13 +59,14 @@ AsksCoordinator v (calls.Inquire id) after = IsOnItsWayOut v × (v.holds.intent 
 AsksCoordinator v (calls.Raise place settled) after = ⊥
 AsksCoordinator v calls.Flush after = (IsOnItsWay v × Waits v v.holds waits.flush_to_decide after) ⊎ ((v.holds.way ≡ onward) × (v.holds.decided ≢ None) × Waits v v.holds waits.flush_to_outcome after)
 
--- A call of a shard, by what it may be handed: on its way one that takes part in the write, and on its way out one that gave a ticket or a vote.
+-- A call of a shard, by what it may be handed: on its way one that takes part in the write, which prepares its part only where it is caught up; on its
+-- way out one that gave a ticket or a vote.
 abbrev pub AsksShard : ℕ → WriteView → ℕ → ShardCall → WriteView → Type 0
 AsksShard shards v s shard_calls.Learned after = IsOnItsWay v × HasShard shards v s × Waits v v.holds (waits.catch_up learned) after
 AsksShard shards v s (shard_calls.Learn batch) after = IsOnItsWay v × HasShard shards v s × (v.holds.batch ≡ Some batch)
     × ((again : Bool) × Waits v (record v.holds { batch = None }) (waits.catch_up (learning again)) after)
-AsksShard shards v s (shard_calls.StagePrepare intent) after = IsOnItsWay v × (s < shards) × (v.holds.intent ≡ Some intent) × (v.holds.id ≡ Some intent.write.id)
-    × ((again : Bool) × (bits : ℕ) × ArePartsOf bits shards intent.write × Waits v (record v.holds { intent = None }) (waits.prepare s again bits) after)
+AsksShard shards v s (shard_calls.StagePrepare intent) after = IsOnItsWay v × (v.caught ≡ Some s) × (s < shards) × (v.holds.intent ≡ Some intent) × (v.holds.id ≡ Some intent.write.id)
+    × ((again : Bool) × (bits : ℕ) × ArePartsOf bits shards intent.write × Waits (record v { caught = None }) (record v.holds { intent = None }) (waits.prepare s again bits) after)
 AsksShard shards v s (shard_calls.Vote ticket) after = IsOnItsWay v × (v.holds.id ≡ Some ticket.id)
     × ((others : List HeldTicket) × (v.holds.tickets ≡ ticket_value (s, ticket) ∷ others) × Waits v (record v.holds { tickets = others }) (waits.vote s) after)
 AsksShard shards v s (shard_calls.DropWrite verdict None) after = ⊥

@@ -58,7 +58,7 @@ impl WriteFlow {
     pub fn new(alloc: Global, shards: u8, write: Write) -> Result<WriteFlow, Refusal>
         requires some { 1 ≤ shards }
         requires few { shards ≤ max_shards }
-        ensures ok { IfOk result (λ f. f ≡ record { shards = shards; seen = record { write = Some write; holds = nothing_begun; awaited = None; ended = None } }) }
+        ensures ok { IfOk result (λ f. f ≡ record { shards = shards; seen = record { write = Some write; holds = nothing_begun; caught = None; awaited = None; ended = None } }) }
         ensures err { IfErr result (λ e. e ≡ Refusal.NoMemory) }
     {
         let load = Load::new(alloc, shards)?;

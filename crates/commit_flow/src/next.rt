@@ -12,7 +12,8 @@ use catch_up::CatchUp;
 use decisions::Ticket;
 
 fn catch_up(preparing: Preparing, catch_up: CatchUp) -> (NodeCall, Out)
-    requires { catch_up.shard ≡ preparing.shard }
+    requires shard { catch_up.shard ≡ preparing.shard }
+    requires to { catch_up.to ≡ preparing.intent.kept }
     ensures asks { Asks preparing.load.shards (view_ready (ready_catch_up preparing catch_up)) result.0 (view_out result.1) }
     ensures kept { IsOutOf preparing.load.shards result.1 }
 {

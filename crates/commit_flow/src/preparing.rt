@@ -63,6 +63,7 @@ pub(crate) fn begun(load: Load, answer: Result<Intent, Refusal>) -> Stage
 pub(crate) fn caught_up(preparing: Preparing, call: CatchUpCall, reply: Reply) -> Ready
     requires fits { FitsCatchUp call.awaited reply }
     requires shard { call.held.shard ≡ preparing.shard }
+    requires to { call.held.to ≡ preparing.intent.kept }
     ensures gives { CatchUpGives (view_out (catch_up_out preparing call)) call.awaited reply (view_ready result) }
     ensures kept { IsReadyOf preparing.load.shards result }
 {

@@ -4,7 +4,7 @@ use Rattle.commit_flow.specs.Views.{in_hand, ticket_value, tickets_of}
 use Rattle.commit_flow.proofs.next.next.Goals as goal
 
 pub catch_up-requires : goal.catch_up-requires
-catch_up-requires c = let kept = rw c.in-CatchUp.is at c.requires in kept.1
+catch_up-requires c = let kept = rw c.in-CatchUp.is at c.requires in record { shard = kept.1; to = kept.2 }
 
 pub returns-in-Inquire-clause-asks : goal.returns-in-Inquire-clause-asks
 returns-in-Inquire-clause-asks c = rw c.in-Inquire.is (tt, ((c.in-Inquire.leaving.met, refl), refl, refl, refl))
