@@ -1,6 +1,6 @@
 // Devices over files in memory and of the operating system.
-use crate::{Broken, FileDevice, RawFile, open};
 use device::{Device, SimDisk, Stopped};
+use files::{Broken, FileDevice, RawFile, open};
 use refusal::Refusal;
 use std::fs;
 use std::test::Fail;

@@ -1,7 +1,7 @@
 // Sessions over a plain list of tuples; the lines and their answers are those of the rules of the lines.
-use crate::{Answers, serve_stream};
 use answers::{Events, Membership, Rows, Written};
 use requests::Freshness;
+use sessions::{Answers, serve_stream};
 use std::alloc::{AllocError, Global};
 use std::io::{self, ErrorKind, Read};
 use std::test::Fail;

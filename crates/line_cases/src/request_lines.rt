@@ -1,5 +1,5 @@
 // Lines and what they are read as; another program's base64 gave the zookies.
-use crate::{Freshness, Request};
+use requests::{Freshness, Request};
 use std::alloc::Global;
 use tuples::{Refusal, Want};
 
