@@ -10,6 +10,10 @@
 #[cfg(test)]
 mod call_names;
 #[cfg(test)]
+mod cares;
+#[cfg(test)]
+mod caring;
+#[cfg(test)]
 mod plays;
 #[cfg(test)]
 mod refused_writes;

@@ -1,8 +1,10 @@
 // What a row does with a store, and what comes of it.
+use crate::caring::Caring;
 use crate::stores::{Store, new_disks};
 use crate::turning::Turning;
 use crate::wide_writes::wide_line;
 use calls::{CoordinatorCall, NodeCall, NodeName, ShardCall, Told};
+use care_flow::{Care, CareEnd, Resolved};
 use commit_flow::WriteEnd;
 use device::{Device, Tear};
 use script::Command;
@@ -25,6 +27,8 @@ pub(crate) enum Step {
     Turn(usize, usize),
     /// The flow goes to its end.
     Run(usize),
+    /// A care goes to its end.
+    Care(Care),
     /// The flow is cancelled.
     Cancel(usize),
     /// The node is flushed.
@@ -58,6 +62,50 @@ fn log_end(log: &mut String, end: Option<WriteEnd>) -> Result<(), Refusal> {
         }
         Some(WriteEnd::Cancelled) => log.push_str("cancelled; ")?,
         None => log.push_str("not at its end; ")?,
+    }
+    Ok(())
+}
+
+// Numbers of one digit are told, and greater ones as `-`.
+fn push_digit(log: &mut String, number: u64) -> Result<(), Refusal> {
+    let digit = match number {
+        0 => "0",
+        1 => "1",
+        2 => "2",
+        3 => "3",
+        _ => "-",
+    };
+    Ok(log.push_str(digit)?)
+}
+
+fn log_resolved(log: &mut String, resolved: &Resolved) -> Result<(), Refusal> {
+    let (what, id) = match resolved {
+        Resolved::Committed(id, _) => ("commit ", *id),
+        Resolved::Aborted(id) => ("abort ", *id),
+        Resolved::Undecided(id) => ("undecided ", *id),
+    };
+    log.push_str(what)?;
+    push_digit(log, id.epoch)?;
+    log.push_str(".")?;
+    push_digit(log, id.number)?;
+    if let Resolved::Committed(_, place) = resolved {
+        log.push_str(" ")?;
+        push_digit(log, *place)?;
+    }
+    Ok(log.push_str(", ")?)
+}
+
+fn log_care(log: &mut String, end: Option<CareEnd>) -> Result<(), Refusal> {
+    match end {
+        Some(CareEnd::Done) => log.push_str("done; ")?,
+        Some(CareEnd::Resolved(all)) => {
+            for resolved in &all {
+                log_resolved(log, resolved)?;
+            }
+            log.push_str("done; ")?;
+        }
+        Some(CareEnd::Refused(refusal)) => log_end(log, Some(WriteEnd::Refused(refusal)))?,
+        None => log_end(log, None)?,
     }
     Ok(())
 }
@@ -129,6 +177,19 @@ impl<D: Device> Playing<D> {
         }
     }
 
+    fn care(&mut self, alloc: Global, care: Care) -> Result<(), Refusal> {
+        let Some(mut caring) = Caring::new(alloc, care) else {
+            return Err(Refusal::BadRequest);
+        };
+        for _ in 0..MOST_TURNS {
+            match caring.turn(&mut self.store, &mut self.told) {
+                Some(named) => named.write_to(&mut self.log)?,
+                None => return log_care(&mut self.log, caring.finish()),
+            }
+        }
+        log_care(&mut self.log, None)
+    }
+
     fn cancel(&mut self, flow: usize) {
         if let Some(flow) = self.flows.get_mut(flow) {
             flow.cancel();
@@ -150,6 +211,7 @@ impl<D: Device> Playing<D> {
             Step::StartWide(write) => self.start_wide(alloc, write),
             Step::Turn(flow, turns) => self.turn(flow, turns),
             Step::Run(flow) => self.run(flow),
+            Step::Care(care) => self.care(alloc, care),
             Step::Cancel(flow) => {
                 self.cancel(flow);
                 Ok(())

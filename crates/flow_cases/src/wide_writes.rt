@@ -11,17 +11,19 @@ fn fill(line: &mut Vec<u8>, byte: u8, count: u8) -> Result<(), AllocError> {
     Ok(())
 }
 
-/// A tuple of the greatest length. The sum of the object's bytes is even, so it is shard 0's.
+/// A tuple of the greatest length. The sum of its object's bytes is even, so it is shard 0's.
 fn write_tuple(line: &mut Vec<u8>, write: u8, change: u8) -> Result<(), AllocError> {
+    let (write, low, high) = (write % 50, change % 8, change / 8 % 8);
     line.extend_from_slice(b" +doc:")?;
-    fill(line, b'a', 128)?;
+    line.push(b'A' + write)?;
+    line.push(b'A' + low)?;
+    line.push(b'A' + high)?;
+    line.push(b'a' + (write + low + high) % 2)?;
+    fill(line, b'a', 124)?;
     line.push(b'#')?;
     fill(line, b'r', 64)?;
     line.push(b'@')?;
-    fill(line, b'u', 125)?;
-    line.push(b'A' + write % 50)?;
-    line.push(b'A' + change % 8)?;
-    line.push(b'A' + change / 8 % 8)
+    fill(line, b'u', 128)
 }
 
 /// The line of the write with this number: it touches 64 tuples.
