@@ -1,7 +1,6 @@
 -- Any care, as the flow that it is.
-use Rattle.std.specs.Prelude.{◌≡◌, ◌<◌, ℕ, [], Option, Some, None}
+use Rattle.std.specs.Prelude.{◌≡◌, ◌<◌, ℕ, [], Option}
 use Rattle.decisions.specs.Flows.{no_heads, nothing_raised}
-use Rattle.calls.specs.declared.call.NodeName.TheVariants as nodes
 use Rattle.calls.specs.declared.call.NodeCall.{NodeCall}
 use Rattle.calls.specs.declared.reply.Reply.{Reply}
 use Rattle.care_flow.specs.declared.end.CareEnd.{CareEnd}

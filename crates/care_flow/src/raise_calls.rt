@@ -1,5 +1,5 @@
 // The next call of a raise.
-ghost use Rattle.std.specs.Prelude.{◌≡◌, ◌<◌, ℕ, None, Some, MatchOption};
+ghost use Rattle.std.specs.Prelude.{◌≡◌, ◌<◌, None, Some, MatchOption};
 ghost use Rattle.calls.specs.Asking.{MayBeMade};
 ghost use Rattle.care_flow.specs.Raising.{Asks, catch_up as catching, raise as raising};
 ghost use Rattle.care_flow.specs.RaiseStages.{IsOf, IsRoundOf, view_of};

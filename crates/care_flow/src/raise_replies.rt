@@ -1,5 +1,5 @@
 // What each reply makes of a raise.
-ghost use Rattle.std.specs.Prelude.{◌≡◌, ◌≤◌, ◌<◌, ℕ, None, Some, IfErr, MatchOption};
+ghost use Rattle.std.specs.Prelude.{◌≡◌, ◌<◌, ℕ, None, Some, IfErr, MatchOption};
 ghost use Rattle.decisions.specs.Coordinators.{HaveSettled};
 ghost use Rattle.decisions.specs.Flows.{nothing_raised};
 ghost use Rattle.catch_up.specs.CatchingUp.{Fits as FitsCatchUp};

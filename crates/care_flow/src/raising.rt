@@ -1,8 +1,8 @@
 // The horizon is raised.
-ghost use Rattle.std.specs.Prelude.{◌≡◌, ◌<◌, ℕ, None, Some, MatchOption};
+ghost use Rattle.std.specs.Prelude.{◌≡◌, ◌<◌, None, Some};
 ghost use Rattle.calls.specs.Asking.{MayBeMade};
 ghost use Rattle.decisions.specs.Flows.{nothing_raised};
-ghost use Rattle.care_flow.specs.Raising.{Answered, Awaits, NextCall, Asks, Fits, Gives, ask};
+ghost use Rattle.care_flow.specs.Raising.{Answered, Awaits, NextCall, ask};
 ghost use Rattle.care_flow.specs.RaiseStages.{IsOf, view_of};
 ghost use Rattle.care_flow.specs.Views.{ready};
 

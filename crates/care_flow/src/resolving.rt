@@ -1,5 +1,5 @@
 // What became of each write that is in doubt at a shard.
-ghost use Rattle.std.specs.Prelude.{◌≡◌, ◌≢◌, ◌<◌, ◌++◌, ◌∷◌, [], ℕ, List, None, Some, MatchOption, map};
+ghost use Rattle.std.specs.Prelude.{◌≡◌, ◌<◌, [], ℕ, List, None, Some, MatchOption, map};
 ghost use Rattle.calls.specs.Asking.{MayBeMade};
 ghost use Rattle.catch_up.specs.CatchingUp.{Fits as FitsCatchUp};
 ghost use Rattle.care_flow.specs.declared.end.CareEnd.TheVariants.{Resolved as all_resolved};

@@ -1,5 +1,5 @@
 -- The catch-up stays of its shard, up to its place.
-use Rattle.std.proofs.Common.{◌≡◌, ℕ, refl, subst}
+use Rattle.std.proofs.Common.{ℕ, refl, subst}
 use Rattle.catch_up.specs.CatchingUp as catching
 use Rattle.care_flow.specs.CatchUps.{on_its_way}
 use Rattle.care_flow.proofs.Asking.{asking_keeps}

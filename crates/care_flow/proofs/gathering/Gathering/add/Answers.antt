@@ -1,6 +1,5 @@
 -- One shard more has settled, and there was room for it.
-use Rattle.std.proofs.Common.{◌≡◌, ◌≤◌, ◌<◌, ◌+◌, ap, arith}
-use Rattle.std.specs.Vec.{vec_capacity, vec_len}
+use Rattle.std.proofs.Common.{◌≡◌, ◌≤◌, ◌<◌, arith}
 use Rattle.care_flow.proofs.Settling.{one_more_has_settled}
 use Rattle.care_flow.proofs.gathering.Gathering.add.Goals as goal
 

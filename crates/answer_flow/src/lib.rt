@@ -1,0 +1,20 @@
+//! The answers of a store at one place: reads, checks and watches, one call a turn.
+//!
+//! Keeps: the place, once it is found, and what was gathered there so far.
+//! Never: calls a node itself or waits; reads at another place than the one that it answers.
+//! Callers rely on: an answer is what the replies at its place gave, all of it; a refusal was in a reply, or has its very cause.
+//!
+//! Start at `specs/Finding.antt`, at which place an answer is, and then `specs/Watching.antt`, `specs/Reading.antt` and `specs/Checking.antt`, which
+//! calls are made and what each reply makes of it.
+#![tactic(auto)]
+
+mod events;
+mod finding;
+mod freshness;
+mod watch_flow;
+mod watch_stage;
+mod watching;
+
+pub use freshness::Freshness;
+pub use watch_flow::WatchFlow;
+pub use watch_stage::WatchEnd;

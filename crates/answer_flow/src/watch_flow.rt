@@ -1,0 +1,119 @@
+// A watch: one call a turn.
+ghost use Rattle.std.specs.Prelude.{◌≡◌, ◌≢◌, Some, None, ℕ, MatchOption, is_some, option_map};
+ghost use Rattle.decisions.specs.Flows.{no_heads};
+ghost use Rattle.answer_flow.specs.Watching.{Asks, Fits, GivesTo};
+ghost use Rattle.answer_flow.specs.WatchViews.{at_rest, ending_of, heads};
+
+use crate::watch_stage::{Ready, Stage, WatchEnd};
+use crate::watching::{give, next};
+use calls::{NodeCall, Reply};
+use std::alloc::Global;
+use std::marker::Model;
+use std::mem;
+use tuples::Namespace;
+
+/// A watch on its way: `heads`, until the cursor is kept, and the decisions behind it. It holds nothing that has to be spent, so who cancels it drops it.
+#[derive(Drop)]
+#[must_use]
+pub struct WatchFlow {
+    alloc: Global,
+    cursor: u64,
+    limit: u64,
+    namespaces: Vec<Namespace>,
+    stage: Stage,
+}
+
+impl Model for WatchFlow {
+    ghost use Rattle.answer_flow.specs.WatchViews.{WatchFlowValue};
+
+    ghost Value = { WatchFlowValue };
+
+    ghost use Rattle.answer_flow.specs.WatchViews.{IsStageOf, view_of};
+
+    ghost view = { λ f. record { cursor = f.cursor; limit = f.limit; namespaces = f.namespaces.items; seen = view_of f.stage } };
+
+    ghost invariant = { λ f. IsStageOf f.cursor f.stage };
+}
+
+impl WatchFlow {
+    /// The changes in these namespaces behind a place, of so many places at most.
+    pub fn new(alloc: Global, cursor: u64, limit: u64, namespaces: Vec<Namespace>) -> WatchFlow
+        ensures { result ≡ record { cursor = cursor; limit = limit; namespaces = namespaces.items; seen = at_rest heads no_heads } }
+    {
+        WatchFlow {
+            alloc,
+            cursor,
+            limit,
+            namespaces,
+            stage: Stage::Ready(Ready::Heads),
+        }
+    }
+
+    /// Its next call, which has to be made, and the reply given. None where it has ended, and while a call is out.
+    pub fn next_call(&mut self) -> Option<NodeCall>
+        ensures asked { self.new ≡ record self.old { seen = self.new.seen } }
+        ensures call { MatchOption result (self.new ≡ self.old) (λ call. Asks self.old.cursor self.old.limit self.old.seen call self.new.seen) }
+        ensures ended { (end : _) → self.old.seen.ended ≡ Some end → result ≡ None }
+        ensures out { (awaited : _) → self.old.seen.awaited ≡ Some awaited → result ≡ None }
+        ensures some { self.old.seen.ended ≡ None → self.old.seen.awaited ≡ None → result ≢ None }
+    {
+        let stage = mem::replace(&mut self.stage, Stage::Ready(Ready::Heads));
+        match stage {
+            Stage::Ready(ready) => {
+                let (call, out) = next(self.cursor, self.limit, ready);
+                self.stage = Stage::Out(out);
+                Some(call)
+            }
+            other => {
+                self.stage = other;
+                None
+            }
+        }
+    }
+
+    /// What the reply to its call makes of it.
+    pub fn give(&mut self, reply: Reply)
+        requires { MatchOption self.old.seen.awaited ⊥ (λ awaited. Fits awaited reply) }
+        ensures asked { self.new ≡ record self.old { seen = self.new.seen } }
+        ensures gives { MatchOption self.old.seen.awaited ⊥ (λ awaited. GivesTo self.old.cursor self.old.limit self.old.namespaces self.old.seen awaited reply self.new.seen) }
+    {
+        let stage = mem::replace(&mut self.stage, Stage::Ready(Ready::Heads));
+        match stage {
+            Stage::Out(out) => {
+                let namespaces = &self.namespaces;
+                self.stage = give(self.alloc, self.cursor, self.limit, namespaces, out, reply);
+            }
+            other => {
+                reply.leave();
+                self.stage = other;
+            }
+        }
+    }
+
+    /// Whether it has ended.
+    pub fn has_ended(&self) -> bool
+        ensures { result ≡ is_some self.now.seen.ended }
+    {
+        match &self.stage {
+            Stage::Ended(_) => true,
+            Stage::Ready(_) | Stage::Out(_) => false,
+        }
+    }
+
+    /// How it ended, where it has.
+    pub fn finish(self) -> Option<WatchEnd>
+        ensures { option_map ending_of result ≡ self.seen.ended }
+    {
+        let WatchFlow {
+            alloc: _,
+            cursor: _,
+            limit: _,
+            namespaces: _,
+            stage,
+        } = self;
+        match stage {
+            Stage::Ended(end) => Some(end),
+            Stage::Ready(_) | Stage::Out(_) => None,
+        }
+    }
+}

@@ -1,0 +1,125 @@
+// The calls of a watch, and what each reply makes of it.
+ghost use Rattle.std.specs.Prelude.{◌≡◌};
+ghost use Rattle.answer_flow.specs.Watching.{Asks, BatchGives, Fits, FlushGives, GivesTo, HeadsGive, heartbeat as heartbeat_of};
+ghost use Rattle.answer_flow.specs.WatchViews.{IsOutOf, IsReadyOf, IsStageOf, awaited_of, view_of, view_out, view_ready};
+ghost use Rattle.answer_flow.specs.declared.watch_stage.Out.TheVariants as out_of;
+
+use crate::events::events_of;
+use crate::finding::{Found, find};
+use crate::freshness::Freshness;
+use crate::watch_stage::{Out, Ready, Stage, WatchEnd};
+use calls::{CoordinatorCall, CoordinatorReply, NodeCall, Reply};
+use decisions::{Batch, Heads};
+use std::alloc::Global;
+use tuples::{Namespace, Refusal};
+
+// The place up to which all is listed.
+fn heartbeat(cursor: u64, limit: u64, heads: &Heads) -> u64
+    ensures { result ≡ heartbeat_of cursor limit heads.now }
+{
+    cursor.saturating_add(limit).min(heads.kept())
+}
+
+/// The call of a stage, and the stage while it is out.
+pub(crate) fn next(cursor: u64, limit: u64, ready: Ready) -> (NodeCall, Out)
+    requires { IsReadyOf cursor ready }
+    ensures asks { Asks cursor limit (view_ready ready) result.0 (view_out result.1) }
+    ensures kept { IsOutOf cursor result.1 }
+{
+    match ready {
+        Ready::Heads => (NodeCall::Coordinator(CoordinatorCall::Heads), Out::Heads),
+        Ready::Flush => (NodeCall::Coordinator(CoordinatorCall::Flush), Out::Flush),
+        Ready::Batch(heads) => {
+            let to = heartbeat(cursor, limit, &heads);
+            let call = CoordinatorCall::Batch(cursor, to);
+            (NodeCall::Coordinator(call), Out::Batch(heads))
+        }
+    }
+}
+
+// The coordinator has told its heads.
+fn told(cursor: u64, answer: Result<Heads, Refusal>) -> Stage
+    ensures gives { HeadsGive cursor answer (view_of result) }
+    ensures kept { IsStageOf cursor result }
+{
+    match answer {
+        Ok(heads) => match find(Freshness::Exact(cursor), &heads) {
+            Found::At(_) => Stage::Ready(Ready::Batch(heads)),
+            Found::Later => Stage::Ready(Ready::Flush),
+            Found::Refused(refusal) => Stage::Ended(WatchEnd::Refused(refusal)),
+        },
+        Err(refusal) => Stage::Ended(WatchEnd::Refused(refusal)),
+    }
+}
+
+// The coordinator was flushed, and is asked again.
+fn flushed(answer: Result<(), Refusal>) -> Stage
+    ensures gives { FlushGives answer (view_of result) }
+    ensures kept { (cursor : _) → IsStageOf cursor result }
+{
+    match answer {
+        Ok(()) => Stage::Ready(Ready::Heads),
+        Err(refusal) => Stage::Ended(WatchEnd::Refused(refusal)),
+    }
+}
+
+// The decisions behind the cursor have come.
+fn fetched(
+    alloc: Global,
+    cursor: u64,
+    limit: u64,
+    namespaces: &[Namespace],
+    heads: Heads,
+    answer: Result<Batch, Refusal>,
+) -> Stage
+    ensures gives { BatchGives cursor limit namespaces.now (view_out (out_of.Batch heads)) answer (view_of result) }
+    ensures kept { IsStageOf cursor result }
+{
+    match answer {
+        Ok(batch) => match events_of(alloc, namespaces, &batch) {
+            Ok(events) => {
+                let place = heartbeat(cursor, limit, &heads);
+                Stage::Ended(WatchEnd::Answered(place, events))
+            }
+            Err(_) => Stage::Ended(WatchEnd::Refused(Refusal::NoMemory)),
+        },
+        Err(refusal) => Stage::Ended(WatchEnd::Refused(refusal)),
+    }
+}
+
+// Nobody gives the reply to another call, but what it carries has to be spent.
+fn foreign(reply: Reply) -> Stage {
+    reply.leave();
+    Stage::Ended(WatchEnd::Refused(Refusal::Damaged))
+}
+
+/// What a reply makes of it.
+pub(crate) fn give(
+    alloc: Global,
+    cursor: u64,
+    limit: u64,
+    namespaces: &[Namespace],
+    out: Out,
+    reply: Reply,
+) -> Stage
+    requires { Fits (awaited_of out) reply }
+    ensures gives { GivesTo cursor limit namespaces.now (view_out out) (awaited_of out) reply (view_of result) }
+    ensures kept { IsStageOf cursor result }
+{
+    match out {
+        Out::Heads => match reply {
+            Reply::Coordinator(CoordinatorReply::Heads(answer)) => told(cursor, answer),
+            other => foreign(other),
+        },
+        Out::Flush => match reply {
+            Reply::Coordinator(CoordinatorReply::Flush(answer)) => flushed(answer),
+            other => foreign(other),
+        },
+        Out::Batch(heads) => match reply {
+            Reply::Coordinator(CoordinatorReply::Batch(answer)) => {
+                fetched(alloc, cursor, limit, namespaces, heads, answer)
+            }
+            other => foreign(other),
+        },
+    }
+}
