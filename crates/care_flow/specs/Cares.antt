@@ -1,13 +1,15 @@
 -- Any care, as the flow that it is.
-use Rattle.std.specs.Prelude.{◌≡◌, ◌<◌, ℕ, [], Option}
+use Rattle.std.specs.Prelude.{◌≡◌, ◌<◌, ℕ, [], map, Option, Some}
 use Rattle.decisions.specs.Flows.{no_heads, nothing_raised}
 use Rattle.calls.specs.declared.call.NodeCall.{NodeCall}
 use Rattle.calls.specs.declared.reply.Reply.{Reply}
 use Rattle.care_flow.specs.declared.end.CareEnd.{CareEnd}
+use Rattle.care_flow.specs.declared.end.CareEnd.TheVariants.{Resolved as all_resolved}
 use Rattle.care_flow.specs.declared.care.Care.{Care}
 use Rattle.care_flow.specs.declared.care.Care.TheVariants as cares
 use Rattle.care_flow.specs.declared.care.CareFlow.{CareFlow}
 use Rattle.care_flow.specs.declared.care.CareFlow.TheVariants.{Flush, Learn, Resolve, Raise, Collect}
+use Rattle.care_flow.specs.Ends.{id_of}
 use Rattle.care_flow.specs.Flushing as flushing
 use Rattle.care_flow.specs.Learning as learning
 use Rattle.care_flow.specs.Resolving as resolving
@@ -64,3 +66,8 @@ end_of (Learn v) = v.seen.ended
 end_of (Resolve v) = v.seen.ended
 end_of (Raise v) = v.seen.ended
 end_of (Collect v) = v.seen.ended
+
+-- what a resolution tells is of each write that was in doubt, in their order
+abbrev pub TellsOfEach : CareFlow → Option CareEnd → Type 0
+TellsOfEach (Resolve v) (Some (all_resolved all)) = map id_of all.items ≡ v.doubts
+TellsOfEach flow end = Unit {0}

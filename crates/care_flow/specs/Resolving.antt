@@ -86,15 +86,15 @@ abbrev pub DoubtsGive : ResolveHolds → Result (Vec WriteId) Refusal → List W
 DoubtsGive h (Ok ids) doubts after = ((doubts ≡ ids.items) × GoesThrough doubts h after) ⊎ EndsRefused h NoMemory after
 DoubtsGive h (Err e) doubts after = EndsRefused h e after
 
--- this was found of a write
-abbrev pub finding : flows.Resolved → ResolveHolds → ResolveHolds
-finding x h = record h { found = h.found ++ x ∷ [] }
+-- this was found of a write, with a verdict on it or none
+abbrev pub finding : flows.Resolved → Option WriteId → ResolveHolds → ResolveHolds
+finding x verdict h = record h { found = h.found ++ x ∷ []; verdict = verdict }
 
 -- A write that was decided is learned, one that was aborted is dropped, and an undecided one stays as it is.
 abbrev pub InquiryGives : List WriteId → ResolveHolds → WriteId → Result Inquiry Refusal → ResolveView → Type 0
-InquiryGives doubts h id (Ok (Commit place)) after = after ≡ ready (finding (committed id place) h) (catch_up place None)
-InquiryGives doubts h id (Ok (Abort verdict)) after = after ≡ ready (record (finding (aborted id) h) { verdict = Some verdict.id }) drop_write
-InquiryGives doubts h id (Ok Undecided) after = GoesThrough doubts (finding (undecided id) h) after
+InquiryGives doubts h id (Ok (Commit place)) after = after ≡ ready (finding (committed id place) None h) (catch_up place None)
+InquiryGives doubts h id (Ok (Abort verdict)) after = after ≡ ready (finding (aborted id) (Some verdict.id) h) drop_write
+InquiryGives doubts h id (Ok Undecided) after = GoesThrough doubts (finding (undecided id) None h) after
 InquiryGives doubts h id (Err e) after = EndsRefused h e after
 
 -- it goes on to the next write where the shard is there

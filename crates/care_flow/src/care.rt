@@ -1,7 +1,7 @@
 // Any care.
 ghost use Rattle.std.specs.Prelude.{◌≡◌, ℕ, Some};
 ghost use Rattle.calls.specs.Asking.{MayBeMade};
-ghost use Rattle.care_flow.specs.Cares.{Answered, Awaits, IsThere, NextCall, begun, end_of};
+ghost use Rattle.care_flow.specs.Cares.{Answered, Awaits, IsThere, NextCall, TellsOfEach, begun, end_of};
 
 use crate::collecting::CollectFlow;
 use crate::end::CareEnd;
@@ -82,7 +82,8 @@ impl CareFlow {
 
     /// How it ended, where it has.
     pub fn finish(self) -> Option<CareEnd>
-        ensures { result ≡ end_of self }
+        ensures end { result ≡ end_of self }
+        ensures each { TellsOfEach self result }
     {
         match self {
             CareFlow::Flush(flow) => flow.finish(),

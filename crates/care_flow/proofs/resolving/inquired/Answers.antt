@@ -10,4 +10,4 @@ returns-in-Ok-Undecided-clause-gives c =
     let s = c.in-Ok-Undecided in
     let f = c.args.findings.now in
     let note = c.note-in-Ok-Undecided.ensures in
-    rw (s.is, s.field-0-is) (c.go_on.ensures.goes f.doubts.items (finding (undecided c.args.id) (holding f None None)) (rw note.doubts refl) (rw note.values refl))
+    rw (s.is, s.field-0-is) (c.go_on.ensures.goes f.doubts.items (finding (undecided c.args.id) None (holding f None None)) (rw note.doubts refl) (rw note.values refl))
