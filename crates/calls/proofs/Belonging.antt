@@ -8,7 +8,6 @@ use Rattle.decisions.specs.Values.{IntentValue, SettledValue, VoteValue}
 use Rattle.coordinator.specs.declared.decided.NotDecided.{NotDecided}
 use Rattle.coordinator.specs.declared.raising.NotRaised.{NotRaised}
 use Rattle.shard.specs.Shards.{ShardView}
-use Rattle.calls.specs.declared.call.NodeName.TheVariants.{Coordinator as name_coordinator, Shard as name_shard}
 use Rattle.calls.specs.declared.call.NodeCall.{NodeCall}
 use Rattle.calls.specs.declared.call.NodeCall.TheVariants.{Coordinator, Shard}
 use Rattle.calls.specs.declared.call.CoordinatorCall.{CoordinatorCall}

@@ -5,7 +5,7 @@ use Rattle.tuples.specs.Parts.{takes_part}
 use Rattle.decisions.specs.Standing.{DecidedValue}
 use Rattle.decisions.specs.Values.{IntentValue, VoteValue}
 use Rattle.coordinator.specs.declared.decided.NotDecided.{NotDecided}
-use Rattle.calls.specs.Asking.{MayAskCoordinator, MayAskShard}
+use Rattle.calls.specs.Asking.{MayAskShard}
 use Rattle.calls.specs.Belonging.{GivesBallotBack, IsCoordinatorReplyTo, IsIntentBack, IsOwed, IsReplyTo, IsShardReplyTo}
 use Rattle.calls.specs.declared.call.NodeCall.{NodeCall}
 use Rattle.calls.specs.declared.call.NodeCall.TheVariants.{Coordinator, Shard}
