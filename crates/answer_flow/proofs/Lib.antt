@@ -1,1 +1,2 @@
 pub mod EventLists
+pub mod Fitting

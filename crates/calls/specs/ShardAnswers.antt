@@ -1,5 +1,5 @@
 -- What each call of a shard answers, in the words of the shard's own contracts.
-use Rattle.std.specs.Prelude.{◌≡◌, ◌⊎◌, ◌↔◌, ◌≤◌, ◌<◌, ◌+◌, ◌++◌, ℕ, Bool, true, false, List, [], length, Result, Some, None, Contains, IfOk, IfErr, IsErr, IsErrOf, OnOk, OnErr}
+use Rattle.std.specs.Prelude.{◌≡◌, ◌⊎◌, ◌↔◌, ◌≤◌, ◌<◌, ℕ, Bool, true, List, [], Result, None, IfOk, IfErr, IsErr, IsErrOf, OnOk, OnErr}
 use Rattle.std.specs.Global.{Vec}
 use Rattle.tuples.specs.declared.entry.WriteId.{WriteId}
 use Rattle.tuples.specs.declared.tuple.Tuple.{Tuple}

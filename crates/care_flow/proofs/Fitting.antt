@@ -175,7 +175,7 @@ module _ (n place : ℕ) where
   raise_fits h (raising.settle s) call after reply a b = waits (raising.Fits n place) after h (raising.settle s) reply a.1 (settle_fits s reply (to_call call _ reply a.0 b))
   raise_fits h (raising.raise again) call after reply a b =
       waits (raising.Fits n place) after (record h { settled = [] }) (raising.raise again) reply a.1.3 (
-        raises_fits again a.1.0 reply (subst (HaveSettled n place) (sym a.1.1) a.0) (to_call call _ reply a.1.2 b)
+      raises_fits again a.1.0 reply (subst (HaveSettled n place) (sym a.1.1) a.0) (to_call call _ reply a.1.2 b)
       )
   raise_fits h raising.flush_to_raise call after reply a b =
       let fit = raise_flushed reply (to_call call (of_coordinator coordinator_calls.Flush) reply a.0 b) in waits (raising.Fits n place) after h raising.flush_to_raise reply a.1 fit.1

@@ -1,5 +1,5 @@
 -- A node that is called by a catch-up has what it is owed, and its reply is one to the call that is out.
-use Rattle.std.proofs.Common.{◌≡◌, ℕ, sym, subst, arith}
+use Rattle.std.proofs.Common.{ℕ, sym, subst, arith}
 use Rattle.catch_up.specs.Held.{Awaited, CatchUpCallValue, CatchUpValue}
 use Rattle.catch_up.specs.CatchingUp.{Asks, Fits, FitsCoordinator, FitsShard}
 use Rattle.calls.specs.Belonging.{IsOwed, IsReplyTo}

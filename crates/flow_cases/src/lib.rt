@@ -14,6 +14,8 @@ mod cares;
 #[cfg(test)]
 mod caring;
 #[cfg(test)]
+mod logging;
+#[cfg(test)]
 mod plays;
 #[cfg(test)]
 mod refused_writes;
@@ -21,6 +23,10 @@ mod refused_writes;
 mod stores;
 #[cfg(test)]
 mod turning;
+#[cfg(test)]
+mod watches;
+#[cfg(test)]
+mod watching;
 #[cfg(test)]
 mod whole_writes;
 #[cfg(test)]

@@ -1,24 +1,27 @@
 // What a row does with a store, and what comes of it.
-use crate::caring::Caring;
+use crate::caring::{self, begin_care};
+use crate::logging::{log_care, log_watch, log_write};
 use crate::stores::{Store, new_disks};
 use crate::turning::Turning;
+use crate::watching::{self, begin_watch};
 use crate::wide_writes::wide_line;
 use calls::{CoordinatorCall, NodeCall, NodeName, ShardCall, Told};
-use care_flow::{Care, CareEnd, Resolved};
-use commit_flow::WriteEnd;
+use care_flow::Care;
 use device::{Device, Tear};
 use script::Command;
 use std::alloc::Global;
 use tuples::{Refusal, Write};
 
 /// More turns than any flow of a row needs: one that is not at its end behind them has none.
-const MOST_TURNS: usize = 64;
+pub(crate) const MOST_TURNS: usize = 64;
 
 /// What is done with a store. Flows are numbered in the order in which they were begun, from 0 on.
 #[derive(Clone, Copy)]
 pub(crate) enum Step {
     /// A flow makes this write, by its line in a script. It makes no call yet.
     Start(&'static str),
+    /// A flow makes this write, and goes to its end. It is not logged.
+    Write(&'static str),
     /// So many wide writes are begun, and each makes so many calls.
     Crowd(u8, usize),
     /// A flow makes the wide write of this number.
@@ -29,6 +32,8 @@ pub(crate) enum Step {
     Run(usize),
     /// A care goes to its end.
     Care(Care),
+    /// A watch of `doc` behind a place, of so many places, goes to its end.
+    Watch(u64, u64),
     /// The flow is cancelled.
     Cancel(usize),
     /// The node is flushed.
@@ -44,70 +49,6 @@ fn write_of(alloc: Global, line: &[u8]) -> Result<Write, Refusal> {
         Command::WriteAll(write) => Ok(write),
         _ => Err(Refusal::BadRequest),
     }
-}
-
-fn log_end(log: &mut String, end: Option<WriteEnd>) -> Result<(), Refusal> {
-    match end {
-        Some(WriteEnd::Wrote(place)) => log.push_str(match place {
-            1 => "wrote 1; ",
-            2 => "wrote 2; ",
-            3 => "wrote 3; ",
-            50 => "wrote 50; ",
-            _ => "wrote; ",
-        })?,
-        Some(WriteEnd::Refused(refusal)) => {
-            log.push_str("refused ")?;
-            log.push_str(refusal.name())?;
-            log.push_str("; ")?;
-        }
-        Some(WriteEnd::Cancelled) => log.push_str("cancelled; ")?,
-        None => log.push_str("not at its end; ")?,
-    }
-    Ok(())
-}
-
-// Numbers of one digit are told, and greater ones as `-`.
-fn push_digit(log: &mut String, number: u64) -> Result<(), Refusal> {
-    let digit = match number {
-        0 => "0",
-        1 => "1",
-        2 => "2",
-        3 => "3",
-        _ => "-",
-    };
-    Ok(log.push_str(digit)?)
-}
-
-fn log_resolved(log: &mut String, resolved: &Resolved) -> Result<(), Refusal> {
-    let (what, id) = match resolved {
-        Resolved::Committed(id, _) => ("commit ", *id),
-        Resolved::Aborted(id) => ("abort ", *id),
-        Resolved::Undecided(id) => ("undecided ", *id),
-    };
-    log.push_str(what)?;
-    push_digit(log, id.epoch)?;
-    log.push_str(".")?;
-    push_digit(log, id.number)?;
-    if let Resolved::Committed(_, place) = resolved {
-        log.push_str(" ")?;
-        push_digit(log, *place)?;
-    }
-    Ok(log.push_str(", ")?)
-}
-
-fn log_care(log: &mut String, end: Option<CareEnd>) -> Result<(), Refusal> {
-    match end {
-        Some(CareEnd::Done) => log.push_str("done; ")?,
-        Some(CareEnd::Resolved(all)) => {
-            for resolved in &all {
-                log_resolved(log, resolved)?;
-            }
-            log.push_str("done; ")?;
-        }
-        Some(CareEnd::Refused(refusal)) => log_end(log, Some(WriteEnd::Refused(refusal)))?,
-        None => log_end(log, None)?,
-    }
-    Ok(())
 }
 
 /// A store, its flows, and what they did.
@@ -139,7 +80,13 @@ impl<D: Device> Playing<D> {
         self.start(alloc, &line)
     }
 
-    // What a crowd does is not logged.
+    fn write(&mut self, alloc: Global, line: &[u8]) -> Result<(), Refusal> {
+        self.start(alloc, line)?;
+        self.turn_quietly(MOST_TURNS);
+        Ok(())
+    }
+
+    // The flow that was begun last makes so many calls, which are not logged.
     fn turn_quietly(&mut self, turns: usize) {
         if let Some(flow) = self.flows.last_mut() {
             for _ in 0..turns {
@@ -172,22 +119,23 @@ impl<D: Device> Playing<D> {
     fn run(&mut self, flow: usize) -> Result<(), Refusal> {
         self.turn(flow, MOST_TURNS)?;
         match self.flows.get(flow) {
-            Some(flow) => log_end(&mut self.log, flow.end()),
+            Some(flow) => log_write(&mut self.log, flow.end()),
             None => Err(Refusal::BadRequest),
         }
     }
 
     fn care(&mut self, alloc: Global, care: Care) -> Result<(), Refusal> {
-        let Some(mut caring) = Caring::new(alloc, care) else {
+        let Some(mut flow) = begin_care(alloc, care) else {
             return Err(Refusal::BadRequest);
         };
-        for _ in 0..MOST_TURNS {
-            match caring.turn(&mut self.store, &mut self.told) {
-                Some(named) => named.write_to(&mut self.log)?,
-                None => return log_care(&mut self.log, caring.finish()),
-            }
-        }
-        log_care(&mut self.log, None)
+        caring::turn_all(&mut flow, &mut self.store, &mut self.told, &mut self.log)?;
+        log_care(&mut self.log, flow.finish())
+    }
+
+    fn watch(&mut self, alloc: Global, cursor: u64, limit: u64) -> Result<(), Refusal> {
+        let mut flow = begin_watch(alloc, cursor, limit)?;
+        watching::turn_all(&mut flow, &mut self.store, &mut self.told, &mut self.log)?;
+        log_watch(&mut self.log, flow.finish())
     }
 
     fn cancel(&mut self, flow: usize) {
@@ -207,11 +155,13 @@ impl<D: Device> Playing<D> {
     fn step(&mut self, alloc: Global, step: Step) -> Result<(), Refusal> {
         match step {
             Step::Start(line) => self.start(alloc, line.as_bytes()),
+            Step::Write(line) => self.write(alloc, line.as_bytes()),
             Step::Crowd(writes, turns) => self.crowd(alloc, writes, turns),
             Step::StartWide(write) => self.start_wide(alloc, write),
             Step::Turn(flow, turns) => self.turn(flow, turns),
             Step::Run(flow) => self.run(flow),
             Step::Care(care) => self.care(alloc, care),
+            Step::Watch(cursor, limit) => self.watch(alloc, cursor, limit),
             Step::Cancel(flow) => {
                 self.cancel(flow);
                 Ok(())
