@@ -1,3 +1,4 @@
 pub mod Found
 pub mod Asking
 pub mod Settling
+pub mod Ending
