@@ -1,5 +1,5 @@
 -- The calls of a shard's learning, and what each reply makes of it.
-use Rattle.std.specs.Prelude.{◌≡◌, ℕ, Option, Some, None, Result, Ok, Err, MatchOption}
+use Rattle.std.specs.Prelude.{◌≡◌, ◌≤◌, ℕ, Option, Some, None, Result, Ok, Err, MatchOption}
 use Rattle.refusal.specs.declared.refusal.Refusal.{Refusal}
 use Rattle.decisions.specs.Values.{HeadsValue}
 use Rattle.decisions.specs.Flows.{HeadsHeld, no_heads}
@@ -11,8 +11,9 @@ use Rattle.calls.specs.declared.call.NodeCall.{NodeCall}
 use Rattle.calls.specs.declared.call.NodeCall.TheVariants.{Coordinator as of_coordinator}
 use Rattle.calls.specs.declared.call.CoordinatorCall.TheVariants.{Heads}
 use Rattle.calls.specs.declared.reply.Reply.{Reply}
-use Rattle.calls.specs.declared.reply.Reply.TheVariants.{Coordinator as from_coordinator}
+use Rattle.calls.specs.declared.reply.Reply.TheVariants.{Coordinator as from_coordinator, Shard as from_shard}
 use Rattle.calls.specs.declared.reply.CoordinatorReply.TheVariants as told
+use Rattle.calls.specs.declared.reply.ShardReply.TheVariants as told_by
 use Rattle.care_flow.specs.declared.end.CareEnd.TheVariants.{Done, Refused}
 use Rattle.care_flow.specs.CatchUps.{AsksToCatchUp, CatchUpGives, on_its_way}
 use Rattle.care_flow.specs.Views.{CareView, out, over, ready}
@@ -70,3 +71,15 @@ Awaits v reply = MatchOption v.seen.awaited ⊥ (λ step. Fits step reply)
 -- What the reply makes of it.
 abbrev pub Answered : LearnFlowValue → Reply → LearnFlowValue → Type 0
 Answered old reply new = MatchOption old.seen.awaited ⊥ (λ step. Gives old.shard old.seen.holds step reply new.seen)
+
+-- the shard has answered that it has learned up to the place
+abbrev pub AnswersSoFar : ℕ → Reply → Type 0
+AnswersSoFar to reply = (n : ℕ) × (reply ≡ from_shard (told_by.Learned (Ok n))) × (to ≤ n)
+
+-- the shard has answered that it has learned up to the kept place of the heads
+abbrev pub HasLearned : HeadsHeld → Reply → Type 0
+HasLearned h reply = MatchOption h.heads ⊥ (λ heads. AnswersSoFar heads.kept reply)
+
+-- it is done
+abbrev pub IsDone : LearnView → Type 0
+IsDone v = v ≡ over no_heads Done

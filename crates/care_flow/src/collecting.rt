@@ -2,7 +2,7 @@
 ghost use Rattle.std.specs.Prelude.{◌≡◌, ◌<◌, ℕ, false, None, Some, MatchOption};
 ghost use Rattle.decisions.specs.Flows.{no_heads};
 ghost use Rattle.calls.specs.Asking.{MayBeMade};
-ghost use Rattle.care_flow.specs.Collecting.{Answered, Awaits, NextCall, Asks, CollectGives, Fits, FlushGives, Gives, HeadsGive, ask};
+ghost use Rattle.care_flow.specs.Collecting.{Answered, Asks, Awaits, CollectGives, Fits, FlushGives, Gives, HeadsGive, NextCall, ask};
 ghost use Rattle.care_flow.specs.CollectStages.{having, view_of};
 ghost use Rattle.care_flow.specs.Views.{ready};
 

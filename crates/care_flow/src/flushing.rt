@@ -1,7 +1,7 @@
 // A node's flush.
 ghost use Rattle.std.specs.Prelude.{◌≡◌, ◌<◌, ℕ, None, Some};
 ghost use Rattle.calls.specs.Asking.{MayBeMade};
-ghost use Rattle.care_flow.specs.Flushing.{Answered, Awaits, NextCall, Fits, Gives, IsThere, flush, flush_of};
+ghost use Rattle.care_flow.specs.Flushing.{Answered, Awaits, Fits, Gives, IsThere, NextCall, flush, flush_of};
 ghost use Rattle.care_flow.specs.Views.{out, ready};
 
 use crate::end::{CareEnd, end_by, foreign};

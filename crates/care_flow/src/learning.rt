@@ -3,7 +3,7 @@ ghost use Rattle.std.specs.Prelude.{◌≡◌, ◌<◌, ℕ, None, Some, MatchOp
 ghost use Rattle.decisions.specs.Flows.{no_heads};
 ghost use Rattle.calls.specs.Asking.{MayBeMade};
 ghost use Rattle.catch_up.specs.CatchingUp.{Fits as FitsCatchUp};
-ghost use Rattle.care_flow.specs.Learning.{Answered, Awaits, NextCall, Asks, Fits, Gives, HeadsGive, ask, catch_up as catching};
+ghost use Rattle.care_flow.specs.Learning.{Answered, Asks, Awaits, Fits, Gives, HasLearned, HeadsGive, IsDone, NextCall, ask, catch_up as catching};
 ghost use Rattle.care_flow.specs.LearnStages.{IsOf, view_of};
 ghost use Rattle.care_flow.specs.Views.{ready};
 
@@ -138,11 +138,12 @@ impl LearnFlow {
         call
     }
 
-    /// What the reply to its call makes of it.
+    /// What the reply to its call makes of it. It is done only where the shard has answered that it has learned up to the kept place.
     pub fn give(&mut self, reply: Reply)
         requires { Awaits self.old reply }
         ensures shard { self.new.shard ≡ self.old.shard }
         ensures gives { Answered self.old reply self.new }
+        ensures done { IsDone self.new.seen → HasLearned self.old.seen.holds reply }
     {
         let stage = mem::replace(&mut self.stage, Stage::Asked);
         self.stage = give(self.shard, stage, reply);

@@ -5,7 +5,7 @@ ghost use Rattle.catch_up.specs.CatchingUp.{Fits as FitsCatchUp};
 ghost use Rattle.care_flow.specs.declared.end.CareEnd.TheVariants.{Resolved as all_resolved};
 ghost use Rattle.decisions.specs.Flows.{ResolveHolds};
 ghost use Rattle.care_flow.specs.Ends.{id_of, next_of, resolved_value};
-ghost use Rattle.care_flow.specs.Resolving.{Answered, Awaits, NextCall, Asks, DoubtsGive, DropGives, Fits, Gives, GoesThrough, HasCommitted, InquiryGives, catch_up as catching, in_doubt, nothing_found};
+ghost use Rattle.care_flow.specs.Resolving.{Answered, Asks, Awaits, DoubtsGive, DropGives, Fits, Gives, GoesThrough, HasCommitted, InquiryGives, NextCall, catch_up as catching, in_doubt, nothing_found};
 ghost use Rattle.care_flow.specs.ResolveStages.{IsOf, holding, view_of};
 ghost use Rattle.care_flow.specs.Views.{ready};
 
