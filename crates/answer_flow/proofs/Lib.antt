@@ -1,1 +1,4 @@
 pub mod EventLists
+pub mod CatchUps
+pub mod MergedRows
+pub mod RowsGiven
