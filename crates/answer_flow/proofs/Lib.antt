@@ -1,2 +1,5 @@
 pub mod EventLists
+pub mod CatchUps
+pub mod MergedRows
+pub mod RowsGiven
 pub mod Fitting

@@ -1,3 +1,6 @@
 pub mod Finding
 pub mod WatchViews
 pub mod Watching
+pub mod Merges
+pub mod ReadViews
+pub mod Reading

@@ -11,10 +11,17 @@
 mod events;
 mod finding;
 mod freshness;
+mod merging;
+mod read_flow;
+mod read_stage;
+mod read_turns;
+mod reading;
 mod watch_flow;
 mod watch_stage;
 mod watching;
 
 pub use freshness::Freshness;
+pub use read_flow::ReadFlow;
+pub use read_stage::ReadEnd;
 pub use watch_flow::WatchFlow;
 pub use watch_stage::WatchEnd;

@@ -1,0 +1,126 @@
+// A read: one call a turn.
+ghost use Rattle.std.specs.Prelude.{◌≡◌, ◌≢◌, ◌≤◌, Some, None, MatchOption, is_some, option_map};
+ghost use Rattle.records.specs.Identity.{max_shards};
+ghost use Rattle.decisions.specs.Flows.{nothing_read};
+ghost use Rattle.answer_flow.specs.Finding.{fresh_of};
+ghost use Rattle.answer_flow.specs.Reading.{Asks, Fits, GivesTo};
+ghost use Rattle.answer_flow.specs.ReadViews.{at_rest, ending_of, heads};
+
+use crate::freshness::Freshness;
+use crate::read_stage::{AskedRead, ReadEnd, Ready, Stage};
+use crate::read_turns::{give, next};
+use calls::{NodeCall, Reply};
+use std::alloc::Global;
+use std::marker::Model;
+use std::mem;
+use tuples::Tupleset;
+
+/// A read on its way: `heads`, until it has its place; then for each tupleset each shard that it needs is brought up to the place, and reads. It holds
+/// nothing that has to be spent, so who cancels it drops it.
+#[derive(Drop)]
+#[must_use]
+pub struct ReadFlow {
+    asked: AskedRead,
+    stage: Stage,
+}
+
+impl Model for ReadFlow {
+    ghost use Rattle.answer_flow.specs.Finding.{fresh_of};
+    ghost use Rattle.answer_flow.specs.ReadViews.{ReadFlowValue};
+
+    ghost Value = { ReadFlowValue };
+
+    ghost use Rattle.answer_flow.specs.ReadViews.{IsStageOf, view_of};
+
+    ghost view = { λ f. record { shards = f.asked.shards; fresh = fresh_of f.asked.freshness; sets = f.asked.sets.items; seen = view_of f.stage } };
+
+    ghost invariant = { λ f. IsStageOf f.asked.shards f.asked.sets.items f.stage };
+}
+
+// Puts a stage in the place of one that was taken out.
+fn put(place: &mut Stage, stage: Stage)
+    ensures { place.new ≡ stage }
+{
+    drop(mem::replace(place, stage));
+}
+
+impl ReadFlow {
+    /// To read these tuplesets in a store of so many shards.
+    pub fn new(alloc: Global, shards: u8, freshness: Freshness, sets: Vec<Tupleset>) -> ReadFlow
+        requires some { 1 ≤ shards }
+        requires few { shards ≤ max_shards }
+        ensures { result ≡ record { shards = shards; fresh = fresh_of freshness; sets = sets.items; seen = at_rest heads nothing_read } }
+    {
+        ReadFlow {
+            asked: AskedRead {
+                alloc,
+                shards,
+                freshness,
+                sets,
+            },
+            stage: Stage::Ready(Ready::Heads),
+        }
+    }
+
+    /// Its next call, which has to be made, and the reply given. None where it has ended, and while a call is out.
+    pub fn next_call(&mut self) -> Option<NodeCall>
+        ensures asked { self.new ≡ record self.old { seen = self.new.seen } }
+        ensures call { MatchOption result (self.new ≡ self.old) (λ call. Asks self.old.shards self.old.sets self.old.seen call self.new.seen) }
+        ensures ended { (end : _) → self.old.seen.ended ≡ Some end → result ≡ None }
+        ensures out { (awaited : _) → self.old.seen.awaited ≡ Some awaited → result ≡ None }
+        ensures some { self.old.seen.ended ≡ None → self.old.seen.awaited ≡ None → result ≢ None }
+    {
+        let stage = mem::replace(&mut self.stage, Stage::Ready(Ready::Heads));
+        match stage {
+            Stage::Ready(ready) => {
+                let (call, out) = next(&self.asked, ready);
+                put(&mut self.stage, Stage::Out(out));
+                Some(call)
+            }
+            other => {
+                put(&mut self.stage, other);
+                None
+            }
+        }
+    }
+
+    /// What the reply to its call makes of it. Where memory is refused it ends with `NoMemory`.
+    pub fn give(&mut self, reply: Reply)
+        requires { MatchOption self.old.seen.awaited ⊥ (λ awaited. Fits self.old.sets self.old.seen awaited reply) }
+        ensures asked { self.new ≡ record self.old { seen = self.new.seen } }
+        ensures gives { MatchOption self.old.seen.awaited ⊥ (λ awaited. GivesTo self.old.shards self.old.fresh self.old.sets self.old.seen awaited reply self.new.seen) }
+    {
+        let stage = mem::replace(&mut self.stage, Stage::Ready(Ready::Heads));
+        match stage {
+            Stage::Out(out) => {
+                let stage = give(&self.asked, out, reply);
+                put(&mut self.stage, stage);
+            }
+            other => {
+                reply.leave();
+                put(&mut self.stage, other);
+            }
+        }
+    }
+
+    /// Whether it has ended.
+    pub fn has_ended(&self) -> bool
+        ensures { result ≡ is_some self.now.seen.ended }
+    {
+        match &self.stage {
+            Stage::Ended(_) => true,
+            Stage::Ready(_) | Stage::Out(_) => false,
+        }
+    }
+
+    /// How it ended, where it has.
+    pub fn finish(self) -> Option<ReadEnd>
+        ensures { option_map ending_of result ≡ self.seen.ended }
+    {
+        let ReadFlow { asked: _, stage } = self;
+        match stage {
+            Stage::Ended(end) => Some(end),
+            Stage::Ready(_) | Stage::Out(_) => None,
+        }
+    }
+}

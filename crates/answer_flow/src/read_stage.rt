@@ -1,0 +1,61 @@
+// Where a read is between two of its calls, and while one is out.
+ghost use Rattle.std.specs.Prelude.{◌≤◌};
+ghost use Rattle.records.specs.Identity.{max_shards};
+
+use crate::freshness::Freshness;
+use catch_up::{CatchUp, CatchUpCall};
+use std::alloc::Global;
+use tuples::{Refusal, Tuple, Tupleset};
+
+/// What a read is asked, in a store of so many shards.
+#[derive(Drop)]
+pub(crate) struct AskedRead {
+    pub(crate) alloc: Global,
+    pub(crate) shards: u8,
+    pub(crate) freshness: Freshness,
+    pub(crate) sets: Vec<Tupleset>,
+    ghost some: { 1 ≤ shards },
+    ghost few: { shards ≤ max_shards },
+}
+
+/// What was gathered at the place: the rows of each tupleset that is done, and of the next one those of the shards below a number.
+#[derive(Drop)]
+pub(crate) struct Gathered {
+    pub(crate) place: u64,
+    pub(crate) done: Vec<Vec<Tuple>>,
+    pub(crate) below: u8,
+    pub(crate) rows: Vec<Tuple>,
+}
+
+/// How a read ended.
+#[derive(Drop)]
+pub enum ReadEnd {
+    /// The place, and the rows of each tupleset there.
+    Answered(u64, Vec<Vec<Tuple>>),
+    Refused(Refusal),
+}
+
+/// Its next call.
+#[derive(Drop)]
+pub(crate) enum Ready {
+    Heads,
+    Flush,
+    CatchUp(Gathered, Tupleset, CatchUp),
+    Read(Gathered, Tupleset),
+}
+
+/// The call that is out, with what stays here.
+#[derive(Drop)]
+pub(crate) enum Out {
+    Heads,
+    Flush,
+    CatchUp(Gathered, Tupleset, CatchUpCall),
+    Read(Gathered),
+}
+
+#[derive(Drop)]
+pub(crate) enum Stage {
+    Ready(Ready),
+    Out(Out),
+    Ended(ReadEnd),
+}
