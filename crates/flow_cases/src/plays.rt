@@ -7,6 +7,7 @@ use crate::watching::{self, begin_watch};
 use crate::wide_writes::wide_line;
 use calls::{CoordinatorCall, NodeCall, NodeName, ShardCall, Told};
 use care_flow::Care;
+use commit_flow::WriteEnd;
 use device::{Device, Tear};
 use script::Command;
 use std::alloc::Global;
@@ -118,10 +119,17 @@ impl<D: Device> Playing<D> {
 
     fn run(&mut self, flow: usize) -> Result<(), Refusal> {
         self.turn(flow, MOST_TURNS)?;
-        match self.flows.get(flow) {
-            Some(flow) => log_write(&mut self.log, flow.end()),
-            None => Err(Refusal::BadRequest),
+        let Some(flow) = self.flows.get(flow) else {
+            return Err(Refusal::BadRequest);
+        };
+        let end = flow.end();
+        if let Some(WriteEnd::Refused(refusal)) = end {
+            // Each refusal of a write was in a reply.
+            if !self.told.has(refusal) {
+                self.log.push_str("untold, ")?;
+            }
         }
+        log_write(&mut self.log, end)
     }
 
     fn care(&mut self, alloc: Global, care: Care) -> Result<(), Refusal> {
