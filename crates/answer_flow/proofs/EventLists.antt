@@ -1,5 +1,5 @@
 -- The events of one write more.
-use Rattle.std.proofs.Common.{◌≡◌, ◌<◌, ◌+◌, ◌++◌, ◌∷◌, ◌∙◌, ℕ, List, [], length, filter, take, refl, sym, ap, arith, append_assoc, add-zero, append-nil}
+use Rattle.std.proofs.Common.{◌≡◌, ◌<◌, ◌+◌, ◌++◌, ◌∷◌, ◌∙◌, ℕ, List, [], length, filter, take, sym, ap, arith, append_assoc, add-zero, append-nil}
 use Rattle.std.proofs.Math.ListN.{get_or}
 use Rattle.std.proofs.lemmas.List.{take_more, length-take-le}
 use Rattle.tuples.specs.declared.entry.Entry.{Entry}

@@ -1,5 +1,5 @@
 -- Two ascending lists whose last tuples are taken one after another become one.
-use Rattle.std.proofs.Common.{◌≡◌, ◌⊎◌, inl, inr, ⊎_elim, ◌<◌, ◌+◌, ◌-◌, ◌∷◌, ◌++◌, [], ℕ, suc, Bool, true, false, true≢false, List, Option, Some, None, refl, sym, ◌∙◌, ap, arith, subst, slice_get, length, append_assoc, Contains, ◌↔◌}
+use Rattle.std.proofs.Common.{◌≡◌, ◌⊎◌, inl, inr, ⊎_elim, ◌<◌, ◌+◌, ◌-◌, ◌∷◌, ◌++◌, [], ℕ, suc, false, true≢false, List, Option, Some, None, refl, sym, ◌∙◌, ap, arith, subst, slice_get, length, append_assoc, Contains, ◌↔◌}
 use Rattle.std.specs.Prelude.{IsSome, option_to_list, reverse}
 use Rattle.std.proofs.lemmas.List.{reverse-append, get_or_at, length-append, append-nil}
 use Rattle.std.proofs.lemmas.List.Elements.{Contains-append_left, Contains-append_right, Contains-append_cases}

@@ -1,5 +1,5 @@
 -- What a read is seen as.
-use Rattle.std.specs.Prelude.{◌≡◌, ◌<◌, ℕ, List, [], length, map, Option, Some, None, slice_get}
+use Rattle.std.specs.Prelude.{◌≡◌, ◌<◌, ℕ, List, length, map, Option, Some, None, slice_get}
 use Rattle.refusal.specs.declared.refusal.Refusal.{Refusal}
 use Rattle.std.specs.Global.{Vec}
 use Rattle.tuples.specs.declared.tuple.Tuple.{Tuple}

@@ -1,5 +1,5 @@
 -- One write more.
-use Rattle.std.proofs.Common.{◌≡◌, ◌<◌, ◌+◌, ◌++◌, ◌∙◌, length, arith}
+use Rattle.std.proofs.Common.{◌≡◌, ◌<◌, ◌+◌, length, arith}
 use Rattle.std.proofs.Math.ListN.{get_or}
 use Rattle.answer_flow.proofs.EventLists.{events-more}
 use Rattle.answer_flow.proofs.events.events_of.Goals as goal

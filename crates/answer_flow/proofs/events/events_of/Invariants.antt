@@ -1,5 +1,5 @@
 -- The events of the writes so far, and the place of the last of them.
-use Rattle.std.proofs.Common.{◌≡◌, ◌++◌, ◌+◌, take, drop}
+use Rattle.std.proofs.Common.{◌≡◌, ◌+◌, take}
 use Rattle.tuples.specs.Watching.{events_from}
 use Rattle.answer_flow.proofs.events.events_of.Given as goal
 

@@ -1,8 +1,8 @@
 -- One tuple more is taken; in the end none is left.
-use Rattle.std.proofs.Common.{◌≡◌, ◌++◌, ◌∷◌, [], List, sym, subst}
+use Rattle.std.proofs.Common.{List, sym, subst}
 use Rattle.tuples.specs.declared.tuple.Tuple.{Tuple}
 use Rattle.decisions.specs.Merging.{IsMerged}
-use Rattle.answer_flow.proofs.MergedRows.{Merging, begins, ends, goes_on, shorter}
+use Rattle.answer_flow.proofs.MergedRows.{Merging, ends, goes_on}
 use Rattle.answer_flow.proofs.merging.merge.Goals as goal
 
 pub loop-tuple-preserved : goal.loop-tuple-preserved
