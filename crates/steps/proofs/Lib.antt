@@ -1,3 +1,4 @@
 pub mod Running
 pub mod Told
 pub mod Turned
+pub mod Flushed

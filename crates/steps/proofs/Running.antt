@@ -1,5 +1,5 @@
 -- A coordinator of a store that stands runs, and a stop leaves some records of each shard.
-use Rattle.std.proofs.Common.{ℕ, ◌≤◌, ◌<◌, List, [], ◌∷◌, length, Some, Result, Ok, Err, IfOk, refl, ◌∙◌, ap, subst, arith}
+use Rattle.std.proofs.Common.{ℕ, ◌≤◌, ◌<◌, List, [], ◌∷◌, length, Some, Result, Ok, Err, IfOk, OnOk, OnErr, refl, ◌∙◌, ap, subst, arith}
 use Rattle.device.specs.Device.{State, left, reach}
 use Rattle.journal.specs.Records.{HasRecords}
 use Rattle.records.specs.declared.record.Record.{Record}
@@ -13,6 +13,15 @@ use Rattle.steps.specs.CoordinatorSteps.{IsAt}
 pub within_ok : {T E : Type 0} (r : Result T E) (R : Type 0) (P Q : T → Type 0) → (R → IfOk r P) → ((x : T) → (R → P x) → Q x) → IfOk r Q
 within_ok (Ok x) R P Q told more = more x told
 within_ok (Err e) R P Q told more = tt
+
+-- and of an Ok that tells no value
+pub within_ok_unit : {T E : Type 0} (r : Result T E) (R P Q : Type 0) → (R → OnOk r P) → ((R → P) → Q) → OnOk r Q
+within_ok_unit (Ok x) R P Q told more = more told
+within_ok_unit (Err e) R P Q told more = tt
+
+pub on_err : {T E : Type 0} (r : Result T E) (Q : Type 0) → Q → OnErr r Q
+on_err (Ok x) Q q = tt
+on_err (Err e) Q q = q
 
 reaches : (ranges : List (ℕ × ℕ)) (n : ℕ) → n ≤ reach ranges n
 reaches [] n = omega arith

@@ -1,15 +1,16 @@
 -- Calls of the coordinator of a store that stands, each a turn by its own contract.
-use Rattle.std.proofs.Common.{◌≡◌, ℕ, ◌+◌, List, length, refl, sym, ◌∙◌, ap, subst}
+use Rattle.std.proofs.Common.{◌≡◌, ◌⊎◌, inl, inr, ℕ, ◌+◌, ◌++◌, List, [], ◌∷◌, length, refl, sym, ◌∙◌, ap, subst}
 use Rattle.tuples.specs.declared.change.Change.{Change}
 use Rattle.tuples.specs.declared.change.Condition.{Condition}
 use Rattle.tuples.specs.declared.entry.Entry.{Entry}
 use Rattle.tuples.specs.declared.entry.WriteId.{WriteId}
 use Rattle.device.specs.Device.{State}
 use Rattle.records.specs.declared.record.Record.{Record}
+use Rattle.records.specs.declared.record.Record.TheVariants.{Horizon}
 use Rattle.records.specs.Coordinators.{coordinator_state}
-use Rattle.decisions.specs.Coordinators.{AbortsAt, BeginsAt, CoordinatorView, DecidesAt, HaveVoted, IsRunning, memory_of}
+use Rattle.decisions.specs.Coordinators.{AbortsAt, BeginsAt, CoordinatorView, DecidesAt, HaveSettled, HaveVoted, IsRising, IsRunning, RaisesAt, StagesOne, memory_of}
 use Rattle.decisions.specs.Standing.{DecidedValue}
-use Rattle.decisions.specs.Values.{IntentValue, VerdictValue, VoteValue}
+use Rattle.decisions.specs.Values.{IntentValue, SettledValue, VerdictValue, VoteValue}
 use Rattle.laws.specs.Nodes.{CoordinatorKnows, NodeName}
 use Rattle.turns.specs.DecidingLaws.{with_place}
 use Rattle.turns.specs.Flows.{writing}
@@ -20,7 +21,8 @@ use Rattle.turns.specs.Stores.{stops}
 use Rattle.turns.proofs.AbortSeam.{abort_turns}
 use Rattle.turns.proofs.BeginSeam.{begin_turns}
 use Rattle.turns.proofs.DecideSeam.{decide_turns}
-use Rattle.steps.specs.CoordinatorSteps.{AbortsInTurn, BeginsInTurn, DecidesInTurn, IsAt}
+use Rattle.turns.proofs.RaiseSeam.{raises_turn}
+use Rattle.steps.specs.CoordinatorSteps.{AbortsInTurn, BeginsInTurn, DecidesInTurn, IsAt, RaisesInTurn}
 use Rattle.steps.proofs.Running.{running_now, some_left}
 
 module _ {D : Type 0} (state : D → State) (honest : D → Type 0) (old new : CoordinatorView D) where
@@ -73,3 +75,17 @@ module _ {D : Type 0} (state : D → State) (honest : D → Type 0) (old new : C
       let t = told (running_now state honest devices old now at) in
       let law = abort_turns old.me.store old.me.shards (stops state honest old.me.store old.me.shards devices) D now old new r h w at.stands at.seen t.1 own in
       (t.0, record { at = still_at devices now _ _ _ _ at t.1.new_is law.0 law.1; turns = law.2 })
+
+  pub raised_in_turn : (place : ℕ) (settled : List SettledValue) → HaveSettled old.me.shards place settled → (IsRunning state honest old → RaisesAt old place new) → RaisesInTurn state honest old new place settled
+  unfolding RaisesInTurn
+  raised_in_turn place settled have told devices now r h at there asked holds same =
+      let raises = told (running_now state honest devices old now at) in
+      let law = raises_turn old.me.store old.me.shards (stops state honest old.me.store old.me.shards devices) D now old new r place h at.stands at.seen there asked holds raises
+      (subst (HaveSettled old.me.shards place) (sym same) have) in
+      record { at = raised_at devices now _ at raises.new_is law.0 law.1; turns = law.2 }
+    where
+      raised_at : (devices : NodeName → D × D) (now after : Moment) → IsAt state honest devices old now
+          → ((IsRising old place → ⊥) × StagesOne old (Horizon place) new) ⊎ (IsRising old place × (new ≡ old)) → IsSeen after.nodes new
+          → Stands old.me.store old.me.shards (stops state honest old.me.store old.me.shards devices) after → IsAt state honest devices new after
+      raised_at devices now after at (inl one) seen stands = still_at devices now after (old.staged ++ Horizon place ∷ []) old.open_ids old.given at one.1 seen stands
+      raised_at devices now after at (inr none) seen stands = still_at devices now after old.staged old.open_ids old.given at none.1 seen stands

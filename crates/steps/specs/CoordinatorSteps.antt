@@ -1,5 +1,5 @@
 -- What one call of the coordinator makes of a store that stands.
-use Rattle.std.specs.Prelude.{◌≡◌, ◌≤◌, List, [], ◌∷◌, Some, false}
+use Rattle.std.specs.Prelude.{◌≡◌, ◌≤◌, ℕ, List, [], ◌∷◌, Some, Contains, true, false}
 use Rattle.tuples.specs.declared.change.Change.{Change}
 use Rattle.tuples.specs.declared.change.Condition.{Condition}
 use Rattle.tuples.specs.declared.entry.Entry.{Entry}
@@ -7,13 +7,14 @@ use Rattle.device.specs.Device.{State}
 use Rattle.records.specs.Replays.{without}
 use Rattle.decisions.specs.Coordinators.{CoordinatorView}
 use Rattle.decisions.specs.Standing.{DecidedValue}
-use Rattle.decisions.specs.Values.{IntentValue, VerdictValue, VoteValue}
+use Rattle.decisions.specs.Values.{IntentValue, SettledValue, VerdictValue, VoteValue}
 use Rattle.laws.specs.Nodes.{NodeName, coordinator}
 use Rattle.turns.specs.AbortLaws.{IsUndecidedFlow, with_closed, with_verdict}
 use Rattle.turns.specs.DecidingLaws.{IsDecider, with_decided, with_decision, with_place}
 use Rattle.turns.specs.FlowLaws.{with_intent, with_open}
-use Rattle.turns.specs.Flows.{WriteHolds, writing}
+use Rattle.turns.specs.Flows.{RaiseHolds, WriteHolds, raising, to_raise, writing}
 use Rattle.turns.specs.Moments.{Moment, Running, replaced}
+use Rattle.turns.specs.QuietTurns.{going_on, with_call}
 use Rattle.turns.specs.Runs.{Told, Turns, goes_on}
 use Rattle.turns.specs.SeamLaws.{IsBeginner, IsSeen, behind, told_unless}
 use Rattle.turns.specs.Stands.{IsHorizonIn, Stands}
@@ -65,3 +66,11 @@ module _ {D : Type 0} (state : D → State) (honest : D → Type 0) where
       → IsAt devices old now → IsUndecidedFlow now r h w
       → let after = record now { nodes = with_closed now.nodes w.id; running = replaced (with_verdict now r h w) now.running } in
       (v.id ≡ w.id) × IsTurn devices old new now r (told_unless r.is_cancelled) after
+
+  -- A horizon that the coordinator takes, with what the shards have settled: the flow has given that, and goes on to the flush.
+  unfoldable pub RaisesInTurn : CoordinatorView D → CoordinatorView D → ℕ → List SettledValue → Type 0
+  RaisesInTurn old new place settled = (devices : NodeName → D × D) (now : Moment) (r : Running) (h : RaiseHolds)
+      → IsAt devices old now → Contains now.running r → r.asked ≡ to_raise place → r.holds ≡ raising h → h.settled ≡ settled
+      → let next = behind now.nodes new now.nodes.open_writes in
+      let later = with_call r (raising (record h { settled = []; is_raised = true })) r.met now.machine in
+      IsTurn devices old new now r (told_unless r.is_cancelled) (going_on now next now.machine later)

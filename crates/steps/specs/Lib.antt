@@ -1,2 +1,3 @@
 pub mod CoordinatorSteps
 pub mod TellingSteps
+pub mod FlushSteps

@@ -1,17 +1,21 @@
 -- What a call that the coordinator only answers makes of a store that stands.
-use Rattle.std.specs.Prelude.{◌≡◌, ◌-◌, ℕ, min, List, length, Some, Contains}
+use Rattle.std.specs.Prelude.{◌≡◌, ◌-◌, ℕ, min, false, List, [], ◌∷◌, length, Some, Contains}
 use Rattle.tuples.specs.declared.change.Change.{Change}
 use Rattle.tuples.specs.declared.change.Condition.{Condition}
 use Rattle.tuples.specs.declared.entry.WriteId.{WriteId}
+use Rattle.refusal.specs.declared.refusal.Refusal.TheVariants.{Unsure}
 use Rattle.device.specs.Device.{State}
 use Rattle.decisions.specs.Coordinators.{CoordinatorView}
+use Rattle.decisions.specs.Standing.{DecidedValue}
 use Rattle.decisions.specs.Values.{BatchValue, HeadsValue, max_batch}
 use Rattle.laws.specs.Nodes.{NodeName}
-use Rattle.turns.specs.CoordinatorSeamLaws.{with_heads, with_resolved}
+use Rattle.turns.specs.CoordinatorSeamLaws.{HasDecided, with_heads, with_resolved}
 use Rattle.turns.specs.Flows.{ResolveHolds, WriteHolds, aborted, committed, resolving, to_resolve, to_write, writing}
 use Rattle.turns.specs.Held.{AreRightHeads, IsRightBatch, IsRightResolved}
 use Rattle.turns.specs.Moments.{Moment, Running}
-use Rattle.turns.specs.QuietTurns.{going_on, with_batch, with_call}
+use Rattle.turns.specs.QuietTurns.{ending, going_on, with_batch, with_call}
+use Rattle.turns.specs.Replies.{wrote}
+use Rattle.turns.specs.Runs.{answered, refuses}
 use Rattle.turns.specs.SeamLaws.{told_unless}
 use Rattle.turns.specs.Stores.{stops}
 use Rattle.steps.specs.CoordinatorSteps.{IsAt, IsTurn}
@@ -49,3 +53,20 @@ module _ {D : Type 0} (state : D → State) (honest : D → Type 0) where
     pub own : (devices : NodeName → D × D) (now : Moment) (r : Running) (changes : List Change) (conditions : List Condition) (h : WriteHolds)
         → IsAt state honest devices v now → Contains now.running r → r.asked ≡ to_write changes conditions → r.holds ≡ writing h → h.id ≡ Some id
         → TellsInTurn devices v now r (with_call r (writing (record h { verdict = Some id })) r.met now.machine)
+
+  -- A decision that is kept: its flow ends with this place.
+  unfoldable pub KeptInTurn : CoordinatorView D → DecidedValue → ℕ → Type 0
+  KeptInTurn v d place = (devices : NodeName → D × D) (now : Moment) (r : Running) (changes : List Change) (conditions : List Condition) (h : WriteHolds)
+      → IsAt state honest devices v now → HasDecided now r changes conditions h d → r.is_cancelled ≡ false
+      → IsTurn state honest devices v v now r (answered (wrote place) ∷ []) (ending now now.nodes now.machine r [])
+
+  -- A decision that is staged still: its flow goes on with it.
+  unfoldable pub StillInTurn : CoordinatorView D → Type 0
+  StillInTurn v = (devices : NodeName → D × D) (now : Moment) (r : Running) → IsAt state honest devices v now → Contains now.running r
+      → TellsInTurn devices v now r (with_call r r.holds r.met now.machine)
+
+  -- A decision of an earlier opening: its flow ends with Unsure, which has its cause.
+  unfoldable pub UnsureInTurn : CoordinatorView D → DecidedValue → Type 0
+  UnsureInTurn v d = (devices : NodeName → D × D) (now : Moment) (r : Running) (changes : List Change) (conditions : List Condition) (h : WriteHolds)
+      → IsAt state honest devices v now → HasDecided now r changes conditions h d → r.is_cancelled ≡ false
+      → IsTurn state honest devices v v now r (refuses Unsure ∷ []) (ending now now.nodes now.machine r [])

@@ -1,10 +1,12 @@
 // Calls of the coordinator, each with the turn that it is.
-ghost use Rattle.std.specs.Prelude.{◌≡◌, ◌⊎◌, ◌↔◌, true, Some, None, All, Contains, IfOk, IfErr, OnErr, IsErrOf};
-ghost use Rattle.decisions.specs.Coordinators.{FirstIs, HasNoId, HasNoPlace, HaveVoted, IsDecidedAbove, IsGivenAt, IsInRange, IsRunning, NamesCollected, NamesFuture};
-ghost use Rattle.steps.specs.CoordinatorSteps.{AbortsInTurn, BeginsInTurn, DecidesInTurn};
+ghost use Rattle.std.specs.Prelude.{◌≡◌, ◌⊎◌, ◌↔◌, ◌<◌, true, Some, None, All, Contains, IfOk, IfErr, OnOk, OnErr, IsErrOf};
+ghost use Rattle.records.specs.Coordinators.{end_of};
+ghost use Rattle.decisions.specs.Coordinators.{FirstIs, HasNoId, HasNoPlace, HaveSettled, HaveVoted, IsDecidedAbove, IsGivenAt, IsInRange, IsRunning, NamesCollected, NamesFuture, kept_of};
+ghost use Rattle.steps.specs.CoordinatorSteps.{AbortsInTurn, BeginsInTurn, DecidesInTurn, RaisesInTurn};
+ghost use Rattle.steps.specs.FlushSteps.{FailsInTurn, FlushesInTurn};
 
-use coordinator::{Coordinator, Decided, NotDecided};
-use decisions::{Intent, Verdict, Vote};
+use coordinator::{Coordinator, Decided, NotDecided, NotRaised};
+use decisions::{Intent, Settled, Verdict, Vote};
 use device::Device;
 use tuples::{Refusal, Write};
 
@@ -49,4 +51,30 @@ pub fn abort<D: Device>(
     ensures err { IfErr result (λ e. (coordinator.new ≡ coordinator.old) × ((e ≡ Refusal.Down) ⊎ (e ≡ Refusal.Aborted))) }
 {
     coordinator.abort(intent)
+}
+
+/// Raises the horizon, with the refusals of `Coordinator::raise`.
+pub fn raise<D: Device>(
+    coordinator: &mut Coordinator<D>,
+    place: u64,
+    settled: Vec<Settled>,
+) -> Result<(), NotRaised>
+    requires settled { HaveSettled coordinator.old.me.shards place settled.items }
+    ensures turn { OnOk result (RaisesInTurn D.state D.honest coordinator.old coordinator.new place settled.items) }
+    ensures down { IfErr result (λ e. (e.refusal ≡ Refusal.Down) ↔ (coordinator.old.is_down ≡ true)) }
+    ensures collected { IsRunning D.state D.honest coordinator.old → IfErr result (λ e. (e.refusal ≡ Refusal.Collected) ↔ (place < (kept_of coordinator.old).horizon)) }
+    ensures future { IsRunning D.state D.honest coordinator.old → IfErr result (λ e. (e.refusal ≡ Refusal.Future) ↔ (end_of (kept_of coordinator.old) < place)) }
+    ensures same { OnErr result (coordinator.new ≡ coordinator.old) }
+    ensures back { IfErr result (λ e. e.settled.items ≡ settled.items) }
+{
+    coordinator.raise(place, settled)
+}
+
+/// Makes what is staged durable, with the refusal of `Coordinator::flush`.
+pub fn flush<D: Device>(coordinator: &mut Coordinator<D>) -> Result<(), Refusal>
+    ensures turn { OnOk result (FlushesInTurn D.state D.honest D.moment D.left_since coordinator.old coordinator.new) }
+    ensures failed { OnErr result (FailsInTurn D.state D.honest D.moment D.left_since coordinator.old coordinator.new) }
+    ensures err { IfErr result (λ e. (e ≡ Refusal.Down) × (coordinator.new.is_down ≡ true)) }
+{
+    coordinator.flush()
 }

@@ -10,5 +10,5 @@
 mod coordinator_steps;
 mod telling_steps;
 
-pub use coordinator_steps::{abort, begin, decide};
-pub use telling_steps::{batch, heads, inquire};
+pub use coordinator_steps::{abort, begin, decide, flush, raise};
+pub use telling_steps::{batch, heads, inquire, outcome};

@@ -3,9 +3,10 @@ ghost use Rattle.std.specs.Prelude.{◌≡◌, ◌⊎◌, ◌↔◌, ◌≤◌, 
 ghost use Rattle.records.specs.Coordinators.{end_of};
 ghost use Rattle.decisions.specs.Coordinators.{FindsNothingYet, IsRunning, kept_of};
 ghost use Rattle.coordinator.specs.declared.telling.Inquiry.TheVariants.{Commit, Abort, Undecided};
-ghost use Rattle.steps.specs.TellingSteps.{BatchInTurn, CommitInTurn, HeadsInTurn, VerdictInTurn};
+ghost use Rattle.coordinator.specs.declared.telling.Outcome.TheVariants.{Kept, Later, Unsure};
+ghost use Rattle.steps.specs.TellingSteps.{BatchInTurn, CommitInTurn, HeadsInTurn, KeptInTurn, StillInTurn, UnsureInTurn, VerdictInTurn};
 
-use coordinator::{Coordinator, Inquiry};
+use coordinator::{Coordinator, Decided, Inquiry, Outcome};
 use decisions::{Batch, Heads};
 use device::Device;
 use std::alloc::Global;
@@ -47,4 +48,15 @@ pub fn inquire<D: Device>(coordinator: &Coordinator<D>, id: WriteId) -> Result<I
     ensures err { IfErr result (λ e. e ≡ Refusal.Down) }
 {
     coordinator.inquire(id)
+}
+
+/// Tells what became of a decision, as `Coordinator::outcome` does.
+pub fn outcome<D: Device>(coordinator: &Coordinator<D>, decided: Decided) -> Outcome
+    ensures kept { (place : _) → result ≡ Kept place → KeptInTurn D.state D.honest coordinator.now decided place }
+    ensures back { (d : _) → IsRunning D.state D.honest coordinator.now → result ≡ Later d → d ≡ decided }
+    ensures later { (d : _) → result ≡ Later d → StillInTurn D.state D.honest coordinator.now }
+    ensures unsure { result ≡ Unsure → UnsureInTurn D.state D.honest coordinator.now decided }
+    ensures down { coordinator.now.is_down ≡ true → result ≡ Unsure }
+{
+    coordinator.outcome(decided)
 }
