@@ -1,3 +1,4 @@
 pub mod CoordinatorSteps
 pub mod TellingSteps
 pub mod FlushSteps
+pub mod OpeningSteps

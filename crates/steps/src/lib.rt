@@ -8,7 +8,9 @@
 #![tactic(auto)]
 
 mod coordinator_steps;
+mod opening_steps;
 mod telling_steps;
 
 pub use coordinator_steps::{abort, begin, decide, flush, raise};
+pub use opening_steps::open;
 pub use telling_steps::{batch, heads, inquire, outcome};
