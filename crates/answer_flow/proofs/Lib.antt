@@ -2,3 +2,4 @@ pub mod EventLists
 pub mod CatchUps
 pub mod MergedRows
 pub mod RowsGiven
+pub mod Fitting

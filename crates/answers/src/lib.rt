@@ -10,8 +10,6 @@
 mod answer;
 mod lists;
 mod strings;
-#[cfg(test)]
-mod tests;
 mod text;
 
 pub use answer::{Answer, Events, Membership, Rows, Written, write_refusal};

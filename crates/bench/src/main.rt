@@ -9,15 +9,18 @@
 
 mod codec;
 mod crowd;
+mod deciding;
 mod doubts;
 mod flush;
 mod latest;
 mod measure;
+mod openings;
 mod pairs;
 mod rows;
 mod sample;
 mod texts;
 mod timing;
+mod touches;
 
 use measure::Measure;
 use std::alloc::Global;
@@ -55,7 +58,7 @@ fn run<R: Runtime + Threads + Wait + Sync>(
 ) -> anyhow::Result<()> {
     if words.len() <= 1 {
         println!(rt;
-            "measures: texts COUNT, codec ROUNDS, flush RECORDS, versions ROWS, holds WRITES, crowd USERS, pairs-by-one COUNT, pairs-by-two COUNT, latest-by-one, latest-by-four, called-by-one, called-by-four"
+            "measures: texts COUNT, codec ROUNDS, flush RECORDS, versions ROWS, holds WRITES, crowd USERS, decisions GROUPS, log DECISIONS, opening DECISIONS, pairs-by-one COUNT, pairs-by-two COUNT, latest-by-one, latest-by-four, called-by-one, called-by-four"
         )?;
         return Ok(());
     }

@@ -1,6 +1,6 @@
 // What can be measured.
 use crate::latest::Way;
-use crate::{codec, crowd, doubts, flush, latest, pairs, rows, texts};
+use crate::{codec, crowd, deciding, doubts, flush, latest, openings, pairs, rows, texts};
 use std::alloc::Global;
 use std::rt::Clock;
 use std::sync::Wait;
@@ -21,6 +21,12 @@ pub(crate) enum Measure {
     Holds(u32),
     /// So many plain users of a userset, beside ten usersets, of which a check asks.
     Crowd(u32),
+    /// So many groups of writes, begun and decided by a coordinator.
+    Decisions(u32),
+    /// A log of so many decisions, made.
+    Log(u32),
+    /// The same, and a coordinator opened over it.
+    Opening(u32),
     /// Looks at the safe place.
     LatestByOne(Way),
     /// Looks by four threads at once.
@@ -65,6 +71,9 @@ impl Measure {
             "versions" => Some(Measure::Versions(count)),
             "holds" => Some(Measure::Holds(count)),
             "crowd" => Some(Measure::Crowd(count)),
+            "decisions" => Some(Measure::Decisions(count)),
+            "log" => Some(Measure::Log(count)),
+            "opening" => Some(Measure::Opening(count)),
             "pairs-by-one" => Some(Measure::PairsByOne(count)),
             "pairs-by-two" => Some(Measure::PairsByTwo(count)),
             _ => None,
@@ -84,6 +93,9 @@ impl Measure {
             Measure::Versions(rows) => rows::measure(rt, alloc, rows)?,
             Measure::Holds(writes) => doubts::measure(rt, alloc, writes)?,
             Measure::Crowd(users) => crowd::measure(rt, alloc, users)?,
+            Measure::Decisions(groups) => deciding::measure(rt, alloc, groups)?,
+            Measure::Log(decisions) => openings::log(rt, alloc, decisions)?,
+            Measure::Opening(decisions) => openings::opening(rt, alloc, decisions)?,
             Measure::LatestByOne(way) => latest::by_one(rt, alloc, way)?,
             Measure::LatestByFour(way) => latest::by_four(rt, alloc, way)?,
             Measure::PairsByOne(count) => pairs::by_one(rt, alloc, count)?,

@@ -16,7 +16,7 @@ use Rattle.decisions.specs.Values.{BatchValue}
 use Rattle.shard.specs.declared.replies.ReadReply.{ReadReply}
 use Rattle.shard.specs.declared.replies.ReadReply.TheVariants.{Rows}
 use Rattle.shard.specs.Shards.{AreLearnable, IsUp, ShardView, Stages, learning, memory, unlearned}
-use Rattle.shard.specs.Calls.{GoesOn, LearnRefused, LearnsAt, ReadsAt, ReadsForCheckAt}
+use Rattle.shard.specs.Calls.{LearnRefused, LearnsAt, ReadsAt, ReadsForCheckAt}
 
 same_error : (r : Result Bool Refusal) (d e : Refusal) → r ≡ Err d → r ≡ Err e → d ≡ e
 same_error r d e p q = cc

@@ -1,2 +1,3 @@
 mod Preparing
 mod Learning
+pub mod Belonging

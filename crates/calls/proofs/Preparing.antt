@@ -12,13 +12,14 @@ use Rattle.shard.specs.Calls.{PrepareRefused, PreparesAt}
 
 module _ {D : Type 0} (state : D → State) (honest : D → Type 0) (old new : ShardView D) (w : Entry) where
   pub prepares : (r : Result TicketValue Refusal)
-      → IfOk r (λ t. Stages old (Prepare (own_part old w)) new × IsUp state honest new × (t.id ≡ w.id) × (t.epoch ≡ (memory old).epoch))
+      → IfOk r (λ t. Stages old (Prepare (own_part old w)) new × IsUp state honest new × (t.epoch ≡ (memory old).epoch))
+      → IfOk r (λ t. t.id ≡ w.id)
       → OnOk r (AskBelow (memory old).horizon (own_part old w).conditions → ⊥)
       → OnOk r (AreFree (memory old) (own_part old w))
       → OnOk r (HoldHere (memory old) (own_part old w).conditions)
       → IfOk r (λ t. PreparesAt state honest old w t new)
-  prepares (Ok t) ok above free hold = record { preparable = record { above = above; free = free; hold = hold }; stages = ok.0; up = ok.1; id = ok.2; epoch = ok.3 }
-  prepares (Err e) ok above free hold = tt
+  prepares (Ok t) ok id above free hold = record { preparable = record { above = above; free = free; hold = hold }; stages = ok.0; up = ok.1; id = id; epoch = ok.2 }
+  prepares (Err e) ok id above free hold = tt
 
   pub prepare_refused : (r : Result TicketValue Refusal)
       → (IsErrOf r Collected ↔ AskBelow (memory old).horizon (own_part old w).conditions)

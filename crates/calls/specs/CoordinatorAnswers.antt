@@ -1,5 +1,5 @@
 -- What each call of a coordinator answers, in the words of the coordinator's own contracts.
-use Rattle.std.specs.Prelude.{◌≡◌, ◌⊎◌, ◌↔◌, ◌≤◌, ◌<◌, ◌++◌, ℕ, true, false, List, [], Result, Ok, Some, None, All, Contains, IfOk, IfErr, IsErr, IsErrOf, OnOk, OnErr}
+use Rattle.std.specs.Prelude.{◌≡◌, ◌⊎◌, ◌↔◌, ◌≤◌, ◌<◌, ℕ, true, false, List, [], Result, Ok, Some, None, All, Contains, IfOk, IfErr, IsErr, IsErrOf, OnOk, OnErr}
 use Rattle.refusal.specs.declared.refusal.Refusal.{Refusal}
 use Rattle.refusal.specs.declared.refusal.Refusal.TheVariants.{Aborted, Collected, Down, Full, Future, NoMemory}
 use Rattle.tuples.specs.declared.entry.WriteId.{WriteId}

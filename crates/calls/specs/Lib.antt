@@ -6,3 +6,5 @@ pub mod CoordinatorAnswers
 pub mod ShardAnswers
 pub mod Asking
 pub mod Opening
+pub mod Belonging
+pub mod Failing

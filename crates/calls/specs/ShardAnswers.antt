@@ -1,5 +1,5 @@
 -- What each call of a shard answers, in the words of the shard's own contracts.
-use Rattle.std.specs.Prelude.{◌≡◌, ◌⊎◌, ◌↔◌, ◌≤◌, ◌<◌, ◌+◌, ◌++◌, ℕ, Bool, true, false, List, [], length, Result, Some, None, Contains, IfOk, IfErr, IsErr, IsErrOf, OnOk, OnErr}
+use Rattle.std.specs.Prelude.{◌≡◌, ◌⊎◌, ◌↔◌, ◌≤◌, ◌<◌, ℕ, Bool, true, List, [], Result, None, IfOk, IfErr, IsErr, IsErrOf, OnOk, OnErr}
 use Rattle.std.specs.Global.{Vec}
 use Rattle.tuples.specs.declared.entry.WriteId.{WriteId}
 use Rattle.tuples.specs.declared.tuple.Tuple.{Tuple}
@@ -41,6 +41,7 @@ module _ {D : Type 0} (state : D → State) (honest : D → Type 0) where
   -- a prepare is staged, or not
   pub record PrepareAnswers (old : ShardView D) (intent : IntentValue) (r : Result TicketValue Refusal) (new : ShardView D) : Type 0 where
     pub ok : IsUp state honest old → IfOk r (λ t. PreparesAt state honest old intent.write t new)
+    pub id : IfOk r (λ t. t.id ≡ intent.write.id)
     pub refused : IsUp state honest old → IfErr r (PrepareRefused old intent.write)
     pub down : IsErrOf r Down ↔ (old.is_down ≡ true)
     pub stays : Stays old new
@@ -49,7 +50,9 @@ module _ {D : Type 0} (state : D → State) (honest : D → Type 0) where
   -- a prepare is durable, or not yet, or not there
   pub record VoteAnswers (v : ShardView D) (ticket : TicketValue) (r : VoteReply) : Type 0 where
     pub yes : (vote : VoteValue) → IsUp state honest v → r ≡ Yes vote → VotesAt state v ticket vote
-    pub later : (t : TicketValue) → IsUp state honest v → r ≡ Later t → (t ≡ ticket) × VotesLater v ticket
+    pub own : (vote : VoteValue) → r ≡ Yes vote → (vote.id ≡ ticket.id) × (vote.shard ≡ v.me.node)
+    pub back : (t : TicketValue) → r ≡ Later t → t ≡ ticket
+    pub later : (t : TicketValue) → IsUp state honest v → r ≡ Later t → VotesLater v ticket
     pub no : (e : Refusal) → r ≡ No e → ((e ≡ Down) × (v.is_down ≡ true)) ⊎ ((e ≡ Aborted) × (IsUp state honest v → find_in_doubt ticket.id (memory v).in_doubt ≡ None))
     pub down : v.is_down ≡ true → r ≡ No Down
 

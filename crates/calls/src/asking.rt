@@ -1,6 +1,7 @@
 // One call of one node.
 ghost use Rattle.std.specs.Prelude.{◌≡◌};
 ghost use Rattle.calls.specs.Asking.{Answered, CoordinatorAnswers, MayAsk, MayAskCoordinator, MayAskShard, Refuses, CoordinatorRefuses, ShardAnswers, ShardRefuses};
+ghost use Rattle.calls.specs.Belonging.{IsReplyTo};
 ghost use Rattle.calls.specs.Refusing.{Notes};
 ghost use Rattle.calls.specs.Seen.{seen};
 
@@ -152,8 +153,10 @@ fn refuse_for_shard(refusal: Refusal, call: ShardCall) -> ShardReply
     }
 }
 
-fn refuse(refusal: Refusal, call: NodeCall) -> Reply
-    ensures { Refuses refusal call result }
+/// What is answered for a node that is not there: a refusal, as by one whose opening was refused.
+pub fn refuse(refusal: Refusal, call: NodeCall) -> Reply
+    ensures refuses { Refuses refusal call result }
+    ensures belongs { IsReplyTo call result }
 {
     match call {
         NodeCall::Coordinator(call) => Reply::Coordinator(refuse_for_coordinator(refusal, call)),
@@ -186,6 +189,7 @@ fn make<D: Device>(alloc: Global, opened: &mut Opened<D>, call: NodeCall) -> Rep
 pub fn ask<D: Device>(node: &mut Node<D>, call: NodeCall, told: &mut Told) -> Reply
     requires { MayAsk node.old call }
     ensures answered { Answered D.state D.honest D.moment D.left_since node.old call result node.new }
+    ensures belongs { IsReplyTo call result }
     ensures told { Notes told.old result told.new }
 {
     let reply = make(node.alloc, &mut node.opened, call);

@@ -16,7 +16,7 @@ mod node;
 mod reply;
 mod told;
 
-pub use asking::ask;
+pub use asking::{ask, refuse};
 pub use call::{CoordinatorCall, NodeCall, NodeName, ShardCall};
 pub use node::Node;
 pub use reply::{CoordinatorReply, Reply, ShardReply};

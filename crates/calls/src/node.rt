@@ -1,12 +1,15 @@
 // A node: opened, or known by the refusal of its opening.
-ghost use Rattle.std.specs.Prelude.{◌≡◌, ◌<◌};
+ghost use Rattle.std.specs.Prelude.{◌≡◌, ◌<◌, ◌↔◌, IsTrue};
 ghost use Rattle.records.specs.Identity.{coordinator_number};
+ghost use Rattle.calls.specs.Belonging.{IsNodeOf};
+ghost use Rattle.calls.specs.Failing.{NodeIsSet};
 ghost use Rattle.calls.specs.Opening.{CoordinatorOpens, ShardOpens, refusal_of};
 ghost use Rattle.calls.specs.Views.{devices_of};
 
+use crate::NodeName;
 use coordinator::Coordinator;
-use device::Device;
-use journal::Refused;
+use device::{Device, Tear};
+use journal::{Bank, Refused};
 use records::Identity;
 use shard::Shard;
 use std::alloc::Global;
@@ -24,6 +27,8 @@ pub(crate) enum Opened<D: Device> {
 #[derive(Drop)]
 pub struct Node<D: Device> {
     pub(crate) alloc: Global,
+    // the identity with which it was opened
+    me: Identity,
     pub(crate) opened: Opened<D>,
 }
 
@@ -32,9 +37,11 @@ impl<D: Device> Model for Node<D> {
 
     ghost Value = { NodeView D };
 
-    ghost use Rattle.calls.specs.Seen.{seen};
+    ghost use Rattle.calls.specs.Seen.{IsKeptBeside, seen};
 
     ghost view = { λ n. seen n.opened };
+
+    ghost invariant = { λ n. IsKeptBeside n.me n.opened };
 }
 
 impl<D: Device> Node<D> {
@@ -46,10 +53,12 @@ impl<D: Device> Node<D> {
         match Coordinator::open(alloc, a, b, me) {
             Ok(coordinator) => Node {
                 alloc,
+                me,
                 opened: Opened::Coordinator(coordinator),
             },
             Err(refused) => Node {
                 alloc,
+                me,
                 opened: Opened::Refused(refused),
             },
         }
@@ -63,10 +72,12 @@ impl<D: Device> Node<D> {
         match Shard::open(alloc, a, b, me) {
             Ok(shard) => Node {
                 alloc,
+                me,
                 opened: Opened::Shard(shard),
             },
             Err(refused) => Node {
                 alloc,
+                me,
                 opened: Opened::Refused(refused),
             },
         }
@@ -83,11 +94,56 @@ impl<D: Device> Node<D> {
         }
     }
 
+    /// Whether it is the node of this name in a store of so many shards. One whose opening was refused may be any.
+    pub fn is_node(&self, shards: u8, name: NodeName) -> bool
+        ensures { IsTrue result ↔ IsNodeOf shards name self.now }
+    {
+        match (&self.opened, name) {
+            (Opened::Coordinator(coordinator), NodeName::Coordinator) => {
+                coordinator.identity().shards() == shards
+            }
+            (Opened::Shard(_), NodeName::Shard(shard)) => {
+                self.me.node() == shard && self.me.shards() == shards
+            }
+            (Opened::Refused(_), _) => true,
+            _ => false,
+        }
+    }
+
+    /// Sets the script of one device, and changes nothing else.
+    pub fn fail(&mut self, bank: Bank, n: u64, tear: Tear)
+        ensures { NodeIsSet D.set_to_fail D.state D.honest D.moment D.left_since bank n tear self.old self.new }
+    {
+        match &mut self.opened {
+            Opened::Coordinator(coordinator) => coordinator.fail(bank, n, tear),
+            Opened::Shard(shard) => shard.fail(bank, n, tear),
+            Opened::Refused(refused) => match bank {
+                Bank::A => refused.a.fail(n, tear),
+                Bank::B => refused.b.fail(n, tear),
+            },
+        }
+    }
+
+    /// Its devices.
+    pub fn devices(&self) -> (&D, &D)
+        ensures { (result.0.now, result.1.now) ≡ devices_of self.now }
+    {
+        match &self.opened {
+            Opened::Coordinator(coordinator) => coordinator.devices(),
+            Opened::Shard(shard) => shard.devices(),
+            Opened::Refused(refused) => (&refused.a, &refused.b),
+        }
+    }
+
     /// Gives the devices back.
     pub fn into_devices(self) -> (D, D)
         ensures { result ≡ devices_of self }
     {
-        let Node { alloc: _, opened } = self;
+        let Node {
+            alloc: _,
+            me: _,
+            opened,
+        } = self;
         match opened {
             Opened::Coordinator(coordinator) => coordinator.into_devices(),
             Opened::Shard(shard) => shard.into_devices(),

@@ -1,7 +1,7 @@
 -- What is seen of the steps.
-use Rattle.std.specs.Prelude.{◌<◌, ℕ, Bool, Option, Some, None}
+use Rattle.std.specs.Prelude.{◌<◌, ℕ, Option, Some, None}
 use Rattle.decisions.specs.Values.{BatchValue}
-use Rattle.catch_up.specs.Held.{Awaited, CatchUpCallValue, decisions, flushing, learned, learning}
+use Rattle.catch_up.specs.Held.{Awaited, decisions, flushing, learned, learning}
 use Rattle.catch_up.specs.declared.catch_up.Step.{Step}
 use Rattle.catch_up.specs.declared.catch_up.Step.TheVariants.{Learned, Batch, Learn, Flush}
 use Rattle.catch_up.specs.declared.caught.Asked.{Asked}

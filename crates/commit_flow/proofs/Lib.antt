@@ -1,0 +1,2 @@
+pub mod Fitting
+mod Ballots

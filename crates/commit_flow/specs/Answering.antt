@@ -1,5 +1,5 @@
 -- What each reply makes of a write flow.
-use Rattle.std.specs.Prelude.{◌≡◌, ◌≢◌, ◌⊎◌, ◌++◌, ℕ, Bool, true, false, List, [], ◌∷◌, Option, Some, None, Result, Ok, Err}
+use Rattle.std.specs.Prelude.{◌≡◌, ◌≢◌, ◌⊎◌, ◌++◌, ℕ, Bool, true, false, List, [], ◌∷◌, Option, Some, None, Result, Ok, Err, IfOk, MatchOption}
 use Rattle.tuples.specs.declared.entry.WriteId.{WriteId}
 use Rattle.tuples.specs.Parts.{takes_part}
 use Rattle.refusal.specs.declared.refusal.Refusal.{Refusal}
@@ -26,6 +26,7 @@ use Rattle.catch_up.specs.declared.caught.Progress as progresses
 use Rattle.catch_up.specs.declared.caught.Progress.TheVariants.{Next, There, Refused as is_refused}
 use Rattle.commit_flow.specs.declared.end.WriteEnd.{WriteEnd}
 use Rattle.commit_flow.specs.declared.end.WriteEnd.TheVariants.{Wrote, Refused, Cancelled}
+use Rattle.commit_flow.specs.Participants.{ArePartsOf}
 use Rattle.commit_flow.specs.WriteHolds.{Way, WriteAwaited, WriteHolds, onward, outward}
 use Rattle.commit_flow.specs.WriteHolds as waits
 use Rattle.commit_flow.specs.Views.{WriteView, at_rest, ticket_value, view_ended}
@@ -34,13 +35,13 @@ use Rattle.commit_flow.specs.Views.{WriteView, at_rest, ticket_value, view_ended
 abbrev pub GoesOn : WriteHolds → WriteView → Type 0
 GoesOn holds after = after ≡ at_rest holds
 
+-- it goes on to the prepare of this shard, which is caught up, and holds this
+abbrev pub GoesToPrepare : ℕ → WriteHolds → WriteView → Type 0
+GoesToPrepare s holds after = after ≡ record (at_rest holds) { caught = Some s }
+
 -- it goes out, with this refusal, and holds this
 abbrev pub GoesOut : WriteHolds → Refusal → WriteView → Type 0
 GoesOut holds e after = after ≡ at_rest (record holds { way = outward (Some e); batch = None })
-
--- it goes on to its decision; where all tickets are spent and the votes are not exactly those of its shards, it goes out
-abbrev pub GoesToDecision : ℕ → IntentValue → WriteHolds → WriteView → Type 0
-GoesToDecision shards intent holds after = GoesOn holds after ⊎ ((holds.tickets ≡ []) × (HaveVoted shards intent.write holds.votes → ⊥) × GoesOut holds Aborted after)
 
 -- how a write ends that went out
 abbrev pub end_of : Way → WriteEnd
@@ -52,49 +53,50 @@ end_of (outward (Some e)) = Refused e
 abbrev pub GoesToDrop : WriteView → WriteId → WriteView → Type 0
 GoesToDrop v id after = GoesOn (record v.holds { verdict = Some id }) after ⊎ ((v.holds.tickets ≡ []) × (v.holds.votes ≡ []) × (after ≡ view_ended (end_of v.holds.way)))
 
-abbrev pub BeginGives : ℕ → WriteView → Result IntentValue Refusal → WriteView → Type 0
-BeginGives shards v (Ok i) after = GoesToDecision shards i (record v.holds { id = Some i.write.id; intent = Some i }) after
-BeginGives shards v (Err e) after = after ≡ view_ended (Refused e)
+abbrev pub BeginGives : WriteView → Result IntentValue Refusal → WriteView → Type 0
+BeginGives v (Ok i) after = GoesOn (record v.holds { id = Some i.write.id; intent = Some i }) after
+BeginGives v (Err e) after = after ≡ view_ended (Refused e)
 
--- what progress of the catch-up makes of it
-abbrev pub ProgressGives : WriteView → progresses.Progress → WriteView → Type 0
-ProgressGives v (Next c) after = GoesOn (record v.holds { batch = c.batch }) after
-ProgressGives v There after = GoesOn (record v.holds { batch = None }) after
-ProgressGives v (is_refused e) after = GoesOut v.holds e after
+-- what progress of the catch-up of a shard makes of it: only behind it the shard is to prepare
+abbrev pub ProgressGives : WriteView → ℕ → progresses.Progress → WriteView → Type 0
+ProgressGives v s (Next c) after = GoesOn (record v.holds { batch = c.batch }) after
+ProgressGives v s There after = GoesToPrepare s (record v.holds { batch = None }) after
+ProgressGives v s (is_refused e) after = GoesOut v.holds e after
 
--- The reply belongs to the catch-up of a shard.
+-- The reply belongs to the catch-up of a shard to the place that was kept when the write was begun.
 pub record CatchUpGives (v : WriteView) (awaited : _) (reply : Reply) (after : WriteView) : Type 0 where
   pub call : CatchUpCallValue
   pub is_awaited : call.awaited ≡ awaited
   pub holds : call.held.batch ≡ v.holds.batch
+  pub to : (i : IntentValue) → v.holds.intent ≡ Some i → call.held.to ≡ i.kept
   pub progress : progresses.Progress
   pub gives : catching.Gives call reply progress
-  pub then_gives : ProgressGives v progress after
+  pub then_gives : ProgressGives v call.held.shard progress after
 
-abbrev pub PrepareGives : ℕ → WriteView → ℕ → Bool → IntentValue → Result TicketValue Refusal → WriteView → Type 0
-PrepareGives shards v s again i (Ok t) after = GoesToDecision shards i (record v.holds { intent = Some i; tickets = v.holds.tickets ++ ticket_value (s, t) ∷ [] }) after
-PrepareGives shards v s again i (Err e) after = (e ≡ Full → again ≡ false → GoesOn (record v.holds { intent = Some i }) after)
+abbrev pub PrepareGives : WriteView → ℕ → Bool → IntentValue → Result TicketValue Refusal → WriteView → Type 0
+PrepareGives v s again i (Ok t) after = GoesOn (record v.holds { intent = Some i; tickets = v.holds.tickets ++ ticket_value (s, t) ∷ [] }) after
+PrepareGives v s again i (Err e) after = (e ≡ Full → again ≡ false → GoesToPrepare s (record v.holds { intent = Some i }) after)
     × ((e ≢ Full) ⊎ (again ≡ true) → GoesOut (record v.holds { intent = Some i }) e after)
 
 -- a flush before a decision is refused as the call behind it would be
 abbrev pub FlushGives : WriteView → Result (Unit {0}) Refusal → WriteView → Type 0
-FlushGives v (Ok done) after = GoesOn v.holds after
+FlushGives v (Ok done) after = after ≡ record (at_rest v.holds) { caught = v.caught }
 FlushGives v (Err e) after = GoesOut v.holds e after
 
-abbrev pub VoteGives : ℕ → WriteView → ℕ → VoteReply → WriteView → Type 0
-VoteGives shards v s (Yes vote) after = (i : IntentValue) → v.holds.intent ≡ Some i → GoesToDecision shards i (record v.holds { votes = v.holds.votes ++ vote ∷ [] }) after
-VoteGives shards v s (votes_later t) after = GoesOn (record v.holds { tickets = ticket_value (s, t) ∷ v.holds.tickets }) after
-VoteGives shards v s (No e) after = GoesOut v.holds e after
+abbrev pub VoteGives : WriteView → ℕ → VoteReply → WriteView → Type 0
+VoteGives v s (Yes vote) after = GoesOn (record v.holds { votes = v.holds.votes ++ vote ∷ [] }) after
+VoteGives v s (votes_later t) after = GoesOn (record v.holds { tickets = ticket_value (s, t) ∷ v.holds.tickets }) after
+VoteGives v s (No e) after = GoesOut v.holds e after
 
 -- what there is to do where a write was not decided
-abbrev pub NotDecidedGives : ℕ → WriteView → Bool → Refusal → Option IntentValue → List VoteValue → WriteView → Type 0
-NotDecidedGives shards v again e None votes after = GoesOut (record v.holds { votes = votes }) e after
-NotDecidedGives shards v again e (Some i) votes after = (e ≡ Full → again ≡ false → HaveVoted shards i.write votes → GoesOn (record v.holds { intent = Some i; votes = votes }) after)
+abbrev pub NotDecidedGives : WriteView → Bool → Refusal → Option IntentValue → List VoteValue → WriteView → Type 0
+NotDecidedGives v again e None votes after = GoesOut (record v.holds { votes = votes }) e after
+NotDecidedGives v again e (Some i) votes after = (e ≡ Full → again ≡ false → GoesOn (record v.holds { intent = Some i; votes = votes }) after)
     × ((e ≢ Full) ⊎ (again ≡ true) → GoesOut (record v.holds { intent = Some i; votes = votes }) e after)
 
-abbrev pub DecideGives : ℕ → WriteView → Bool → Result DecidedValue NotDecided → WriteView → Type 0
-DecideGives shards v again (Ok d) after = GoesOn (record v.holds { decided = Some d }) after
-DecideGives shards v again (Err r) after = NotDecidedGives shards v again r.refusal r.intent r.votes.items after
+abbrev pub DecideGives : WriteView → Bool → Result DecidedValue NotDecided → WriteView → Type 0
+DecideGives v again (Ok d) after = GoesOn (record v.holds { decided = Some d }) after
+DecideGives v again (Err r) after = NotDecidedGives v again r.refusal r.intent r.votes.items after
 
 abbrev pub OutcomeGives : WriteView → outcomes.Outcome → WriteView → Type 0
 OutcomeGives v (Kept place) after = after ≡ view_ended (Wrote place)
@@ -112,41 +114,48 @@ InquireGives v (Ok Undecided) after = after ≡ view_ended (end_of v.holds.way)
 InquireGives v (Err e) after = after ≡ view_ended (end_of v.holds.way)
 
 -- What a reply makes of a flow that waits for it.
-abbrev pub GivesTo : ℕ → WriteView → WriteAwaited → Reply → WriteView → Type 0
-GivesTo shards v waits.begin (Coordinator (told.Begin r)) after = BeginGives shards v r after
-GivesTo shards v (waits.catch_up awaited) reply after = CatchUpGives v awaited reply after
-GivesTo shards v (waits.prepare s again) (Shard (told_by.StagePrepare i r)) after = PrepareGives shards v s again i r after
-GivesTo shards v (waits.flush_to_prepare s) (Shard (told_by.Flush r)) after = FlushGives v r after
-GivesTo shards v (waits.vote s) (Shard (told_by.Vote r)) after = VoteGives shards v s r after
-GivesTo shards v (waits.flush_to_vote s) (Shard (told_by.Flush r)) after = FlushGives v r after
-GivesTo shards v (waits.decide again) (Coordinator (told.Decide r)) after = DecideGives shards v again r after
-GivesTo shards v waits.flush_to_decide (Coordinator (told.Flush r)) after = FlushGives v r after
-GivesTo shards v waits.outcome (Coordinator (told.Outcome r)) after = OutcomeGives v r after
-GivesTo shards v waits.flush_to_outcome (Coordinator (told.Flush r)) after = GoesOn v.holds after
-GivesTo shards v waits.abort (Coordinator (told.Abort r)) after = AbortGives v r after
-GivesTo shards v waits.inquire (Coordinator (told.Inquire r)) after = InquireGives v r after
-GivesTo shards v waits.drop_write (Shard (told_by.DropWrite verdict r)) after = GoesToDrop v verdict.id after
-GivesTo shards v awaited reply after = ⊥
+abbrev pub GivesTo : WriteView → WriteAwaited → Reply → WriteView → Type 0
+GivesTo v waits.begin (Coordinator (told.Begin r)) after = BeginGives v r after
+GivesTo v (waits.catch_up awaited) reply after = CatchUpGives v awaited reply after
+GivesTo v (waits.prepare s again bits) (Shard (told_by.StagePrepare i r)) after = PrepareGives v s again i r after
+GivesTo v (waits.flush_to_prepare s) (Shard (told_by.Flush r)) after = FlushGives v r after
+GivesTo v (waits.vote s) (Shard (told_by.Vote r)) after = VoteGives v s r after
+GivesTo v (waits.flush_to_vote s) (Shard (told_by.Flush r)) after = FlushGives v r after
+GivesTo v (waits.decide again) (Coordinator (told.Decide r)) after = DecideGives v again r after
+GivesTo v waits.flush_to_decide (Coordinator (told.Flush r)) after = FlushGives v r after
+GivesTo v waits.outcome (Coordinator (told.Outcome r)) after = OutcomeGives v r after
+GivesTo v waits.flush_to_outcome (Coordinator (told.Flush r)) after = GoesOn v.holds after
+GivesTo v waits.abort (Coordinator (told.Abort r)) after = AbortGives v r after
+GivesTo v waits.inquire (Coordinator (told.Inquire r)) after = InquireGives v r after
+GivesTo v waits.drop_write (Shard (told_by.DropWrite verdict r)) after = GoesToDrop v verdict.id after
+GivesTo v awaited reply after = ⊥
 
 -- an intent that comes back is that of the flow's write
 abbrev pub IfBack : Option IntentValue → (IntentValue → Type 0) → Type 0
 IfBack None P = Unit {0}
 IfBack (Some i) P = P i
 
--- an intent that comes back undecided is that of the write with this id
-abbrev pub RefusedBack : WriteId → Result DecidedValue NotDecided → Type 0
-RefusedBack id (Ok d) = Unit {0}
-RefusedBack id (Err r) = IfBack r.intent (λ i. i.write.id ≡ id)
+-- an intent that comes back undecided is that of the write with this id, and all have voted for it
+abbrev pub RefusedBack : ℕ → WriteId → Result DecidedValue NotDecided → Type 0
+RefusedBack shards id (Ok d) = Unit {0}
+RefusedBack shards id (Err r) = IfBack r.intent (λ i. (i.write.id ≡ id) × HaveVoted shards i.write r.votes.items)
+
+-- a vote of this shard for the write of this id; or its ticket comes back
+abbrev pub IsVoteOf : ℕ → WriteId → VoteReply → Type 0
+IsVoteOf s id (Yes vote) = (vote.id ≡ id) × (vote.shard ≡ s)
+IsVoteOf s id (votes_later t) = t.id ≡ id
+IsVoteOf s id (No e) = Unit {0}
 
 -- the reply is one to the call that is out, and gives back the intent that was handed in
 abbrev pub Fits : ℕ → WriteView → WriteAwaited → Reply → Type 0
 Fits shards v waits.begin (Coordinator (told.Begin r)) = Unit {0}
 Fits shards v (waits.catch_up awaited) reply = catching.Fits awaited reply
-Fits shards v (waits.prepare s again) (Shard (told_by.StagePrepare i r)) = ((id : WriteId) → v.holds.id ≡ Some id → i.write.id ≡ id) × (takes_part shards s i.write ≡ true)
+Fits shards v (waits.prepare s again bits) (Shard (told_by.StagePrepare i r)) = ((id : WriteId) → v.holds.id ≡ Some id → i.write.id ≡ id) × (takes_part shards s i.write ≡ true)
+    × ArePartsOf bits shards i.write × IfOk r (λ t. t.id ≡ i.write.id)
 Fits shards v (waits.flush_to_prepare s) (Shard (told_by.Flush r)) = Unit {0}
-Fits shards v (waits.vote s) (Shard (told_by.Vote r)) = Unit {0}
+Fits shards v (waits.vote s) (Shard (told_by.Vote r)) = (id : WriteId) → v.holds.id ≡ Some id → IsVoteOf s id r
 Fits shards v (waits.flush_to_vote s) (Shard (told_by.Flush r)) = Unit {0}
-Fits shards v (waits.decide again) (Coordinator (told.Decide r)) = (id : WriteId) → v.holds.id ≡ Some id → RefusedBack id r
+Fits shards v (waits.decide again) (Coordinator (told.Decide r)) = (id : WriteId) → v.holds.id ≡ Some id → RefusedBack shards id r
 Fits shards v waits.flush_to_decide (Coordinator (told.Flush r)) = Unit {0}
 Fits shards v waits.outcome (Coordinator (told.Outcome r)) = Unit {0}
 Fits shards v waits.flush_to_outcome (Coordinator (told.Flush r)) = Unit {0}
@@ -154,3 +163,7 @@ Fits shards v waits.abort (Coordinator (told.Abort r)) = Unit {0}
 Fits shards v waits.inquire (Coordinator (told.Inquire r)) = Unit {0}
 Fits shards v waits.drop_write (Shard (told_by.DropWrite verdict r)) = Unit {0}
 Fits shards v awaited reply = ⊥
+
+-- a reply may be given: a call is out, and it is one to that call
+abbrev pub MayGive : ℕ → WriteView → Reply → Type 0
+MayGive shards v reply = MatchOption v.awaited ⊥ (λ awaited. Fits shards v awaited reply)

@@ -16,11 +16,11 @@ IsFresh n load = (load.shards ≡ n) × (load.tickets.items ≡ []) × (load.vot
 -- of a store of so many shards
 abbrev pub IsReadyOf : ℕ → Ready → Type 0
 IsReadyOf n (ready.Begin write load) = IsFresh n load
-IsReadyOf n (ready.CatchUp p c) = (p.load.shards ≡ n) × (c.shard ≡ p.shard)
+IsReadyOf n (ready.CatchUp p c) = (p.load.shards ≡ n) × (c.shard ≡ p.shard) × (c.to ≡ p.intent.kept)
 IsReadyOf n (ready.Prepare p again) = p.load.shards ≡ n
 IsReadyOf n (ready.FlushToPrepare p) = p.load.shards ≡ n
-IsReadyOf n (ready.Vote v t) = v.load.shards ≡ n
-IsReadyOf n (ready.FlushToVote v t) = v.load.shards ≡ n
+IsReadyOf n (ready.Vote v t) = (v.load.shards ≡ n) × (t.id ≡ v.intent.write.id)
+IsReadyOf n (ready.FlushToVote v t) = (v.load.shards ≡ n) × (t.id ≡ v.intent.write.id)
 IsReadyOf n (ready.Decide b again) = b.shards ≡ n
 IsReadyOf n (ready.FlushToDecide b) = b.shards ≡ n
 IsReadyOf n (ready.Outcome id d) = Unit {0}
@@ -31,11 +31,11 @@ IsReadyOf n (ready.DropWrite v l s h) = Unit {0}
 
 abbrev pub IsOutOf : ℕ → Out → Type 0
 IsOutOf n (out.Begin load) = IsFresh n load
-IsOutOf n (out.CatchUp p c) = (p.load.shards ≡ n) × (c.held.shard ≡ p.shard)
+IsOutOf n (out.CatchUp p c) = (p.load.shards ≡ n) × (c.held.shard ≡ p.shard) × (c.held.to ≡ p.intent.kept)
 IsOutOf n (out.Prepare p again) = p.load.shards ≡ n
 IsOutOf n (out.FlushToPrepare p) = p.load.shards ≡ n
 IsOutOf n (out.Vote v) = v.load.shards ≡ n
-IsOutOf n (out.FlushToVote v t) = v.load.shards ≡ n
+IsOutOf n (out.FlushToVote v t) = (v.load.shards ≡ n) × (t.id ≡ v.intent.write.id)
 IsOutOf n (out.Decide shards id again) = shards ≡ n
 IsOutOf n (out.FlushToDecide b) = b.shards ≡ n
 IsOutOf n (out.Outcome id) = Unit {0}

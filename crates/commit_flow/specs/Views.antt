@@ -23,10 +23,12 @@ use Rattle.commit_flow.specs.declared.stage.Stage.TheVariants as stages
 use Rattle.commit_flow.specs.WriteHolds.{HeldTicket, Way, WriteAwaited, WriteHolds, nothing_begun, onward, outward}
 use Rattle.commit_flow.specs.WriteHolds as waits
 
--- A write flow as its callers see it: the write, until a call takes it; what it holds; the call that is out; and how it ended.
+-- A write flow as its callers see it: the write, until a call takes it; what it holds; the shard that is caught up and prepares next; the call that is
+-- out; and how it ended.
 pub record WriteView : Type 0 where
   pub write : Option WriteValue
   pub holds : WriteHolds
+  pub caught : Option ℕ
   pub awaited : Option WriteAwaited
   pub ended : Option WriteEnd
 
@@ -137,7 +139,7 @@ write_of (ready.DropWrite v l s h) = None
 abbrev pub awaited_of : Out → WriteAwaited
 awaited_of (out.Begin load) = waits.begin
 awaited_of (out.CatchUp p c) = waits.catch_up c.awaited
-awaited_of (out.Prepare p again) = waits.prepare p.shard again
+awaited_of (out.Prepare p again) = waits.prepare p.shard again p.participants
 awaited_of (out.FlushToPrepare p) = waits.flush_to_prepare p.shard
 awaited_of (out.Vote v) = waits.vote v.shard
 awaited_of (out.FlushToVote v t) = waits.flush_to_vote v.shard
@@ -149,19 +151,51 @@ awaited_of (out.Abort l) = waits.abort
 awaited_of (out.Inquire l) = waits.inquire
 awaited_of (out.DropWrite l) = waits.drop_write
 
--- a write that was begun, between two calls
+-- the shard that is caught up, and prepares its part next
+abbrev pub caught_of : Ready → Option ℕ
+caught_of (ready.Begin write load) = None
+caught_of (ready.CatchUp p c) = None
+caught_of (ready.Prepare p again) = Some p.shard
+caught_of (ready.FlushToPrepare p) = Some p.shard
+caught_of (ready.Vote v t) = None
+caught_of (ready.FlushToVote v t) = None
+caught_of (ready.Decide b again) = None
+caught_of (ready.FlushToDecide b) = None
+caught_of (ready.Outcome id d) = None
+caught_of (ready.FlushToOutcome id d) = None
+caught_of (ready.Abort i l) = None
+caught_of (ready.Inquire l) = None
+caught_of (ready.DropWrite v l s h) = None
+
+-- the same while a call is out
+abbrev pub caught_out : Out → Option ℕ
+caught_out (out.Begin load) = None
+caught_out (out.CatchUp p c) = None
+caught_out (out.Prepare p again) = None
+caught_out (out.FlushToPrepare p) = Some p.shard
+caught_out (out.Vote v) = None
+caught_out (out.FlushToVote v t) = None
+caught_out (out.Decide shards id again) = None
+caught_out (out.FlushToDecide b) = None
+caught_out (out.Outcome id) = None
+caught_out (out.FlushToOutcome id d) = None
+caught_out (out.Abort l) = None
+caught_out (out.Inquire l) = None
+caught_out (out.DropWrite l) = None
+
+-- a write that was begun, between two calls, where no shard is to prepare
 abbrev pub at_rest : WriteHolds → WriteView
-at_rest holds = record { write = None; holds = holds; awaited = None; ended = None }
+at_rest holds = record { write = None; holds = holds; caught = None; awaited = None; ended = None }
 
 -- what is seen of each stage
 abbrev pub view_ready : Ready → WriteView
-view_ready r = record { write = write_of r; holds = holds_ready r; awaited = None; ended = None }
+view_ready r = record { write = write_of r; holds = holds_ready r; caught = caught_of r; awaited = None; ended = None }
 
 abbrev pub view_out : Out → WriteView
-view_out o = record { write = None; holds = holds_out o; awaited = Some (awaited_of o); ended = None }
+view_out o = record { write = None; holds = holds_out o; caught = caught_out o; awaited = Some (awaited_of o); ended = None }
 
 abbrev pub view_ended : WriteEnd → WriteView
-view_ended end = record { write = None; holds = holds_ended end; awaited = None; ended = Some end }
+view_ended end = record { write = None; holds = holds_ended end; caught = None; awaited = None; ended = Some end }
 
 abbrev pub view_of : Stage → WriteView
 view_of (stages.Ready r) = view_ready r

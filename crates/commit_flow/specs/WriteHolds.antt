@@ -3,11 +3,12 @@ use Rattle.std.specs.Prelude.{ℕ, Bool}
 pub use Rattle.decisions.specs.Flows.{HeldTicket, HeldVote, Way, onward, outward, WriteHolds, nothing_begun}
 use Rattle.catch_up.specs.Held.{Awaited}
 
--- The call that is out: each with the shard that it is of, and whether it is made again behind a flush.
+-- The call that is out: each with the shard that it is of, and whether it is made again behind a flush; a prepare with the bits of all shards that take
+-- part in the write.
 pub data WriteAwaited : Type 0 where
   begin : WriteAwaited
   catch_up : Awaited → WriteAwaited
-  prepare : ℕ → Bool → WriteAwaited
+  prepare : ℕ → Bool → ℕ → WriteAwaited
   flush_to_prepare : ℕ → WriteAwaited
   vote : ℕ → WriteAwaited
   flush_to_vote : ℕ → WriteAwaited

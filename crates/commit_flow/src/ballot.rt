@@ -1,10 +1,8 @@
 // All votes of a write.
-ghost use Rattle.std.specs.Prelude.{◌≡◌, MatchResult};
-ghost use Rattle.tuples.specs.Limits.{IsShardCount};
+ghost use Rattle.std.specs.Prelude.{◌≡◌};
 ghost use Rattle.decisions.specs.Coordinators.{HaveVoted};
 
 use crate::load::leave_votes;
-use coordinator::votes_match;
 use decisions::{Intent, Vote};
 use std::marker::Model;
 
@@ -27,24 +25,15 @@ impl Model for Ballot {
 }
 
 impl Ballot {
-    /// They come back where a vote is missing, or one is too many.
-    pub(crate) fn new(
-        shards: u8,
-        intent: Intent,
-        votes: Vec<Vote>,
-    ) -> Result<Ballot, (Intent, Vec<Vote>)>
-        requires { IsShardCount shards }
-        ensures { MatchResult result (λ b. b ≡ record { shards = shards; intent = intent; votes = votes.items })
-            (λ back. (back.0 ≡ intent) × (back.1.items ≡ votes.items) × (HaveVoted shards intent.write votes.items → ⊥)) }
+    pub(crate) fn new(shards: u8, intent: Intent, votes: Vec<Vote>) -> Ballot
+        requires { HaveVoted shards intent.write votes.items }
+        ensures { result ≡ record { shards = shards; intent = intent; votes = votes.items } }
     {
-        if votes_match(shards, &intent, &votes) {
-            return Ok(Ballot {
-                shards,
-                intent,
-                votes,
-            });
+        Ballot {
+            shards,
+            intent,
+            votes,
         }
-        Err((intent, votes))
     }
 
     /// What is handed to the decision.

@@ -1,6 +1,6 @@
 // The decision of a write, and what became of it.
 ghost use Rattle.std.specs.Prelude.{◌≡◌, ◌⊎◌, ◌≢◌, ◌≤◌, ◌++◌, [], Some, None, true, false, ℕ};
-ghost use Rattle.records.specs.Identity.{max_shards};
+ghost use Rattle.decisions.specs.Coordinators.{HaveVoted};
 ghost use Rattle.commit_flow.specs.Answering.{DecideGives, FlushGives, IfBack, NotDecidedGives, OutcomeGives, RefusedBack};
 ghost use Rattle.commit_flow.specs.Kept.{IsReadyOf, IsStageOf};
 ghost use Rattle.commit_flow.specs.Views.{at_rest, holds_onward, view_of, view_out, view_ready};
@@ -45,18 +45,14 @@ fn come_back(
     intent: Intent,
     votes: Vec<Vote>,
 ) -> Ready
-    requires some { 1 ≤ shards }
-    requires few { shards ≤ max_shards }
-    ensures gives { NotDecidedGives shards (view_out (decide_out shards intent.write.id is_again)) is_again refusal (Some intent) votes.items (view_ready result) }
+    requires voted { HaveVoted shards intent.write votes.items }
+    ensures gives { NotDecidedGives (view_out (decide_out shards intent.write.id is_again)) is_again refusal (Some intent) votes.items (view_ready result) }
     ensures kept { IsReadyOf shards result }
 {
     if refusal != Refusal::Full || is_again {
         return go_out_voted(alloc, Some(refusal), intent, votes);
     }
-    match Ballot::new(shards, intent, votes) {
-        Ok(ballot) => Ready::FlushToDecide(ballot),
-        Err((intent, votes)) => go_out_voted(alloc, Some(refusal), intent, votes),
-    }
+    Ready::FlushToDecide(Ballot::new(shards, intent, votes))
 }
 
 /// The decision is staged, or not.
@@ -67,10 +63,8 @@ pub(crate) fn decided(
     is_again: bool,
     answer: Result<Decided, NotDecided>,
 ) -> Ready
-    requires some { 1 ≤ shards }
-    requires few { shards ≤ max_shards }
-    requires back { RefusedBack id answer }
-    ensures gives { DecideGives shards (view_out (decide_out shards id is_again)) is_again answer (view_ready result) }
+    requires back { RefusedBack shards id answer }
+    ensures gives { DecideGives (view_out (decide_out shards id is_again)) is_again answer (view_ready result) }
     ensures kept { IsReadyOf shards result }
 {
     match answer {

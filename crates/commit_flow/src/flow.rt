@@ -1,7 +1,7 @@
 // A write flow: one call a turn.
 ghost use Rattle.std.specs.Prelude.{◌≡◌, ◌≤◌, ◌≢◌, Some, None, ℕ, IfOk, IfErr, MatchOption};
 ghost use Rattle.records.specs.Identity.{max_shards};
-ghost use Rattle.commit_flow.specs.Answering.{Fits, GivesTo};
+ghost use Rattle.commit_flow.specs.Answering.{GivesTo, MayGive};
 ghost use Rattle.commit_flow.specs.Cancelling.{Cancels};
 ghost use Rattle.commit_flow.specs.Views.{WriteView};
 ghost use Rattle.commit_flow.specs.WriteHolds.{nothing_begun};
@@ -58,7 +58,7 @@ impl WriteFlow {
     pub fn new(alloc: Global, shards: u8, write: Write) -> Result<WriteFlow, Refusal>
         requires some { 1 ≤ shards }
         requires few { shards ≤ max_shards }
-        ensures ok { IfOk result (λ f. f ≡ record { shards = shards; seen = record { write = Some write; holds = nothing_begun; awaited = None; ended = None } }) }
+        ensures ok { IfOk result (λ f. f ≡ record { shards = shards; seen = record { write = Some write; holds = nothing_begun; caught = None; awaited = None; ended = None } }) }
         ensures err { IfErr result (λ e. e ≡ Refusal.NoMemory) }
     {
         let load = Load::new(alloc, shards)?;
@@ -93,9 +93,9 @@ impl WriteFlow {
 
     /// What the reply to its call makes of it. It takes no memory.
     pub fn give(&mut self, reply: Reply)
-        requires { MatchOption self.old.seen.awaited ⊥ (λ awaited. Fits self.old.shards self.old.seen awaited reply) }
+        requires { MayGive self.old.shards self.old.seen reply }
         ensures shards { self.new.shards ≡ self.old.shards }
-        ensures gives { MatchOption self.old.seen.awaited ⊥ (λ awaited. GivesTo self.old.shards self.old.seen awaited reply self.new.seen) }
+        ensures gives { MatchOption self.old.seen.awaited ⊥ (λ awaited. GivesTo self.old.seen awaited reply self.new.seen) }
     {
         let stage = mem::replace(&mut self.stage, Stage::Ended(WriteEnd::Cancelled));
         match stage {

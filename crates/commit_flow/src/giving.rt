@@ -1,5 +1,5 @@
 // What a reply makes of the stage that waits for it.
-ghost use Rattle.std.specs.Prelude.{ℕ, ◌≤◌};
+ghost use Rattle.std.specs.Prelude.{ℕ, ◌≡◌, ◌≤◌};
 ghost use Rattle.records.specs.Identity.{max_shards};
 ghost use Rattle.catch_up.specs.CatchingUp.{Fits as FitsCatchUp};
 ghost use Rattle.commit_flow.specs.Answering.{Fits, GivesTo};
@@ -32,7 +32,7 @@ fn give_decide(alloc: Global, shards: u8, id: WriteId, is_again: bool, reply: Re
     requires some { 1 ≤ shards }
     requires few { shards ≤ max_shards }
     requires fits { Fits shards (view_out (out_of.Decide shards id is_again)) (awaited_of (out_of.Decide shards id is_again)) reply }
-    ensures gives { GivesTo shards (view_out (out_of.Decide shards id is_again)) (awaited_of (out_of.Decide shards id is_again)) reply (view_of result) }
+    ensures gives { GivesTo (view_out (out_of.Decide shards id is_again)) (awaited_of (out_of.Decide shards id is_again)) reply (view_of result) }
     ensures kept { IsStageOf shards result }
 {
     match reply {
@@ -46,7 +46,7 @@ fn give_decide(alloc: Global, shards: u8, id: WriteId, is_again: bool, reply: Re
 fn give_begin(load: Load, reply: Reply) -> Stage
     requires fresh { IsFresh load.shards load }
     requires fits { Fits load.shards (view_out (out_of.Begin load)) (awaited_of (out_of.Begin load)) reply }
-    ensures gives { GivesTo load.shards (view_out (out_of.Begin load)) (awaited_of (out_of.Begin load)) reply (view_of result) }
+    ensures gives { GivesTo (view_out (out_of.Begin load)) (awaited_of (out_of.Begin load)) reply (view_of result) }
     ensures kept { IsStageOf load.shards result }
 {
     match reply {
@@ -60,7 +60,7 @@ fn give_begin(load: Load, reply: Reply) -> Stage
 
 fn give_prepare(asked: AskedPrepare, is_again: bool, reply: Reply) -> Stage
     requires fits { Fits asked.load.shards (view_out (out_of.Prepare asked is_again)) (awaited_of (out_of.Prepare asked is_again)) reply }
-    ensures gives { GivesTo asked.load.shards (view_out (out_of.Prepare asked is_again)) (awaited_of (out_of.Prepare asked is_again)) reply (view_of result) }
+    ensures gives { GivesTo (view_out (out_of.Prepare asked is_again)) (awaited_of (out_of.Prepare asked is_again)) reply (view_of result) }
     ensures kept { IsStageOf asked.load.shards result }
 {
     match reply {
@@ -76,7 +76,7 @@ fn give_prepare(asked: AskedPrepare, is_again: bool, reply: Reply) -> Stage
 
 fn give_flush_to_prepare(preparing: Preparing, reply: Reply) -> Stage
     requires fits { Fits preparing.load.shards (view_out (out_of.FlushToPrepare preparing)) (awaited_of (out_of.FlushToPrepare preparing)) reply }
-    ensures gives { GivesTo preparing.load.shards (view_out (out_of.FlushToPrepare preparing)) (awaited_of (out_of.FlushToPrepare preparing)) reply (view_of result) }
+    ensures gives { GivesTo (view_out (out_of.FlushToPrepare preparing)) (awaited_of (out_of.FlushToPrepare preparing)) reply (view_of result) }
     ensures kept { IsStageOf preparing.load.shards result }
 {
     match reply {
@@ -92,7 +92,7 @@ fn give_flush_to_prepare(preparing: Preparing, reply: Reply) -> Stage
 
 fn give_vote(voting: Voting, reply: Reply) -> Stage
     requires fits { Fits voting.load.shards (view_out (out_of.Vote voting)) (awaited_of (out_of.Vote voting)) reply }
-    ensures gives { GivesTo voting.load.shards (view_out (out_of.Vote voting)) (awaited_of (out_of.Vote voting)) reply (view_of result) }
+    ensures gives { GivesTo (view_out (out_of.Vote voting)) (awaited_of (out_of.Vote voting)) reply (view_of result) }
     ensures kept { IsStageOf voting.load.shards result }
 {
     match reply {
@@ -105,8 +105,9 @@ fn give_vote(voting: Voting, reply: Reply) -> Stage
 }
 
 fn give_flush_to_vote(voting: Voting, ticket: Ticket, reply: Reply) -> Stage
+    requires own { ticket.id ≡ voting.intent.write.id }
     requires fits { Fits voting.load.shards (view_out (out_of.FlushToVote voting ticket)) (awaited_of (out_of.FlushToVote voting ticket)) reply }
-    ensures gives { GivesTo voting.load.shards (view_out (out_of.FlushToVote voting ticket)) (awaited_of (out_of.FlushToVote voting ticket)) reply (view_of result) }
+    ensures gives { GivesTo (view_out (out_of.FlushToVote voting ticket)) (awaited_of (out_of.FlushToVote voting ticket)) reply (view_of result) }
     ensures kept { IsStageOf voting.load.shards result }
 {
     match reply {
@@ -122,7 +123,7 @@ fn give_flush_to_vote(voting: Voting, ticket: Ticket, reply: Reply) -> Stage
 
 fn give_flush_to_decide(alloc: Global, ballot: Ballot, reply: Reply) -> Stage
     requires fits { Fits ballot.shards (view_out (out_of.FlushToDecide ballot)) (awaited_of (out_of.FlushToDecide ballot)) reply }
-    ensures gives { GivesTo ballot.shards (view_out (out_of.FlushToDecide ballot)) (awaited_of (out_of.FlushToDecide ballot)) reply (view_of result) }
+    ensures gives { GivesTo (view_out (out_of.FlushToDecide ballot)) (awaited_of (out_of.FlushToDecide ballot)) reply (view_of result) }
     ensures kept { IsStageOf ballot.shards result }
 {
     match reply {
@@ -138,7 +139,7 @@ fn give_flush_to_decide(alloc: Global, ballot: Ballot, reply: Reply) -> Stage
 
 fn give_outcome(id: WriteId, reply: Reply) -> Stage
     requires fits { Fits 0 (view_out (out_of.Outcome id)) (awaited_of (out_of.Outcome id)) reply }
-    ensures gives { (shards : ℕ) → GivesTo shards (view_out (out_of.Outcome id)) (awaited_of (out_of.Outcome id)) reply (view_of result) }
+    ensures gives { GivesTo (view_out (out_of.Outcome id)) (awaited_of (out_of.Outcome id)) reply (view_of result) }
     ensures kept { (shards : ℕ) → IsStageOf shards result }
 {
     match reply {
@@ -149,7 +150,7 @@ fn give_outcome(id: WriteId, reply: Reply) -> Stage
 
 fn give_flush_to_outcome(id: WriteId, decided: Decided, reply: Reply) -> Stage
     requires fits { Fits 0 (view_out (out_of.FlushToOutcome id decided)) (awaited_of (out_of.FlushToOutcome id decided)) reply }
-    ensures gives { (shards : ℕ) → GivesTo shards (view_out (out_of.FlushToOutcome id decided)) (awaited_of (out_of.FlushToOutcome id decided)) reply (view_of result) }
+    ensures gives { GivesTo (view_out (out_of.FlushToOutcome id decided)) (awaited_of (out_of.FlushToOutcome id decided)) reply (view_of result) }
     ensures kept { (shards : ℕ) → IsStageOf shards result }
 {
     match reply {
@@ -165,7 +166,7 @@ fn give_flush_to_outcome(id: WriteId, decided: Decided, reply: Reply) -> Stage
 
 fn give_abort(leaving: Leaving, reply: Reply) -> Stage
     requires fits { Fits 0 (view_out (out_of.Abort leaving)) (awaited_of (out_of.Abort leaving)) reply }
-    ensures gives { (shards : ℕ) → GivesTo shards (view_out (out_of.Abort leaving)) (awaited_of (out_of.Abort leaving)) reply (view_of result) }
+    ensures gives { GivesTo (view_out (out_of.Abort leaving)) (awaited_of (out_of.Abort leaving)) reply (view_of result) }
     ensures kept { (shards : ℕ) → IsStageOf shards result }
 {
     match reply {
@@ -179,7 +180,7 @@ fn give_abort(leaving: Leaving, reply: Reply) -> Stage
 
 fn give_inquire(leaving: Leaving, reply: Reply) -> Stage
     requires fits { Fits 0 (view_out (out_of.Inquire leaving)) (awaited_of (out_of.Inquire leaving)) reply }
-    ensures gives { (shards : ℕ) → GivesTo shards (view_out (out_of.Inquire leaving)) (awaited_of (out_of.Inquire leaving)) reply (view_of result) }
+    ensures gives { GivesTo (view_out (out_of.Inquire leaving)) (awaited_of (out_of.Inquire leaving)) reply (view_of result) }
     ensures kept { (shards : ℕ) → IsStageOf shards result }
 {
     match reply {
@@ -193,7 +194,7 @@ fn give_inquire(leaving: Leaving, reply: Reply) -> Stage
 
 fn give_drop_write(leaving: Leaving, reply: Reply) -> Stage
     requires fits { Fits 0 (view_out (out_of.DropWrite leaving)) (awaited_of (out_of.DropWrite leaving)) reply }
-    ensures gives { (shards : ℕ) → GivesTo shards (view_out (out_of.DropWrite leaving)) (awaited_of (out_of.DropWrite leaving)) reply (view_of result) }
+    ensures gives { GivesTo (view_out (out_of.DropWrite leaving)) (awaited_of (out_of.DropWrite leaving)) reply (view_of result) }
     ensures kept { (shards : ℕ) → IsStageOf shards result }
 {
     match reply {
@@ -211,7 +212,7 @@ pub(crate) fn give(alloc: Global, shards: u8, out: Out, reply: Reply) -> Stage
     requires few { shards ≤ max_shards }
     requires fits { Fits shards (view_out out) (awaited_of out) reply }
     requires kept { IsOutOf shards out }
-    ensures gives { GivesTo shards (view_out out) (awaited_of out) reply (view_of result) }
+    ensures gives { GivesTo (view_out out) (awaited_of out) reply (view_of result) }
     ensures kept { IsStageOf shards result }
 {
     match out {

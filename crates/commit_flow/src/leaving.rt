@@ -18,6 +18,7 @@ pub(crate) fn leave_asked(asked: AskedPrepare) {
         id: _,
         load,
         shard: _,
+        participants: _,
     } = asked;
     load.leave();
 }

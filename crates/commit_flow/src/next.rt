@@ -12,7 +12,8 @@ use catch_up::CatchUp;
 use decisions::Ticket;
 
 fn catch_up(preparing: Preparing, catch_up: CatchUp) -> (NodeCall, Out)
-    requires { catch_up.shard ≡ preparing.shard }
+    requires shard { catch_up.shard ≡ preparing.shard }
+    requires to { catch_up.to ≡ preparing.intent.kept }
     ensures asks { Asks preparing.load.shards (view_ready (ready_catch_up preparing catch_up)) result.0 (view_out result.1) }
     ensures kept { IsOutOf preparing.load.shards result.1 }
 {
@@ -30,7 +31,13 @@ fn prepare(preparing: Preparing, is_again: bool) -> (NodeCall, Out)
         shard,
     } = preparing;
     let id = intent.id();
-    let asked = AskedPrepare { id, load, shard };
+    let participants = intent.participants(load.shards);
+    let asked = AskedPrepare {
+        id,
+        load,
+        shard,
+        participants,
+    };
     (
         NodeCall::Shard(shard, ShardCall::StagePrepare(intent)),
         Out::Prepare(asked, is_again),
@@ -38,6 +45,7 @@ fn prepare(preparing: Preparing, is_again: bool) -> (NodeCall, Out)
 }
 
 fn vote(voting: Voting, ticket: Ticket) -> (NodeCall, Out)
+    requires { ticket.id ≡ voting.intent.write.id }
     ensures asks { Asks voting.load.shards (view_ready (ready_vote voting ticket)) result.0 (view_out result.1) }
     ensures kept { IsOutOf voting.load.shards result.1 }
 {

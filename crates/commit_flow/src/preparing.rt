@@ -1,10 +1,11 @@
 // The shards prepare their parts, one after another.
-ghost use Rattle.std.specs.Prelude.{◌≡◌, ◌⊎◌, ◌≢◌, ◌≤◌, ◌<◌, ◌+◌, ◌++◌, ◌∷◌, [], Some, None, true, false, length};
+ghost use Rattle.std.specs.Prelude.{◌≡◌, ◌⊎◌, ◌≢◌, ◌≤◌, ◌<◌, ◌+◌, ◌++◌, ◌∷◌, [], Some, None, true, false, length, IfOk};
 ghost use Rattle.std.specs.Vec.{vec_len};
 ghost use Rattle.tuples.specs.Parts.{takes_part};
 ghost use Rattle.catch_up.specs.CatchingUp.{Fits as FitsCatchUp};
-ghost use Rattle.commit_flow.specs.Answering.{BeginGives, CatchUpGives, FlushGives, GoesToDecision, PrepareGives};
+ghost use Rattle.commit_flow.specs.Answering.{BeginGives, CatchUpGives, FlushGives, GoesOn, PrepareGives};
 ghost use Rattle.commit_flow.specs.Kept.{IsFresh, IsReadyOf, IsStageOf};
+ghost use Rattle.commit_flow.specs.Participants.{ArePartsOf, AreTicketsFor, participants_below, ticket_shards};
 ghost use Rattle.commit_flow.specs.Views.{holds_onward, holds_preparing, tickets_of, view_of, view_out, view_ready};
 ghost use Rattle.commit_flow.specs.declared.stage.Out.TheVariants.{Begin as begin_out, CatchUp as catch_up_out, FlushToPrepare as flush_out, Prepare as prepare_out};
 
@@ -23,7 +24,10 @@ pub(crate) fn prepare_next(intent: Intent, load: Load, from: u8) -> Ready
     requires few { vec_len load.tickets ≤ from }
     requires within { from ≤ load.shards }
     requires no_votes { vec_len load.votes ≡ 0 }
-    ensures goes { GoesToDecision load.shards intent (holds_onward intent.write.id (Some intent) (tickets_of load) load.votes.items None) (view_ready result) }
+    requires none { load.votes.items ≡ [] }
+    requires asked { ticket_shards load.tickets.items ≡ participants_below load.shards intent.write from }
+    requires own { AreTicketsFor intent.write.id load.tickets.items }
+    ensures goes { GoesOn (holds_onward intent.write.id (Some intent) (tickets_of load) load.votes.items None) (view_ready result) }
     ensures kept { IsReadyOf load.shards result }
 {
     match next_shard(&intent, load.shards, from) {
@@ -43,7 +47,7 @@ pub(crate) fn prepare_next(intent: Intent, load: Load, from: u8) -> Ready
 /// The coordinator has begun the write, or not.
 pub(crate) fn begun(load: Load, answer: Result<Intent, Refusal>) -> Stage
     requires { IsFresh load.shards load }
-    ensures gives { BeginGives load.shards (view_out (begin_out load)) answer (view_of result) }
+    ensures gives { BeginGives (view_out (begin_out load)) answer (view_of result) }
     ensures kept { IsStageOf load.shards result }
 {
     match answer {
@@ -59,6 +63,7 @@ pub(crate) fn begun(load: Load, answer: Result<Intent, Refusal>) -> Stage
 pub(crate) fn caught_up(preparing: Preparing, call: CatchUpCall, reply: Reply) -> Ready
     requires fits { FitsCatchUp call.awaited reply }
     requires shard { call.held.shard ≡ preparing.shard }
+    requires to { call.held.to ≡ preparing.intent.kept }
     ensures gives { CatchUpGives (view_out (catch_up_out preparing call)) call.awaited reply (view_ready result) }
     ensures kept { IsReadyOf preparing.load.shards result }
 {
@@ -90,13 +95,16 @@ pub(crate) fn prepared(
 ) -> Ready
     requires own { intent.write.id ≡ asked.id }
     requires takes { takes_part asked.load.shards asked.shard intent.write ≡ true }
-    ensures gives { PrepareGives asked.load.shards (view_out (prepare_out asked is_again)) asked.shard is_again intent answer (view_ready result) }
+    requires parts { ArePartsOf asked.participants asked.load.shards intent.write }
+    requires ticket { IfOk answer (λ t. t.id ≡ intent.write.id) }
+    ensures gives { PrepareGives (view_out (prepare_out asked is_again)) asked.shard is_again intent answer (view_ready result) }
     ensures kept { IsReadyOf asked.load.shards result }
 {
     let AskedPrepare {
         id: _,
         mut load,
         shard,
+        participants: _,
     } = asked;
     match answer {
         Ok(ticket) => {

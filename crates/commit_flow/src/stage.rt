@@ -1,7 +1,9 @@
 // Where a write is between two of its calls, and while one is out.
-ghost use Rattle.std.specs.Prelude.{◌≡◌, ◌≤◌, ◌<◌, ◌+◌, true};
+ghost use Rattle.std.specs.Prelude.{◌≡◌, ◌≤◌, ◌<◌, ◌+◌, ◌++◌, ◌∷◌, [], true};
 ghost use Rattle.std.specs.Vec.{vec_len};
+ghost use Rattle.tuples.specs.declared.entry.Entry.{Entry as AnyEntry};
 ghost use Rattle.tuples.specs.Parts.{takes_part};
+ghost use Rattle.commit_flow.specs.Participants.{ArePartsOf, AreTicketsFor, AreVotesFor, participants_below, ticket_shards, vote_shards};
 
 use crate::ballot::Ballot;
 use crate::end::WriteEnd;
@@ -20,16 +22,23 @@ pub(crate) struct Preparing {
     ghost there: { shard < load.shards },
     ghost few: { vec_len load.tickets ≤ shard },
     ghost no_votes: { vec_len load.votes ≡ 0 },
+    ghost none: { load.votes.items ≡ [] },
+    ghost asked: { ticket_shards load.tickets.items ≡ participants_below load.shards intent.write shard },
+    ghost own: { AreTicketsFor intent.write.id load.tickets.items },
 }
 
-/// The same, while the intent is out.
+/// The same, while the intent is out: the bits of the shards that take part stay here, so that the intent is known when it comes back.
 pub(crate) struct AskedPrepare {
     pub(crate) id: WriteId,
     pub(crate) load: Load,
     pub(crate) shard: u8,
+    pub(crate) participants: u64,
     ghost there: { shard < load.shards },
     ghost few: { vec_len load.tickets ≤ shard },
     ghost no_votes: { vec_len load.votes ≡ 0 },
+    ghost none: { load.votes.items ≡ [] },
+    ghost asked: { (w : AnyEntry) → ArePartsOf participants load.shards w → ticket_shards load.tickets.items ≡ participants_below load.shards w shard },
+    ghost own: { AreTicketsFor id load.tickets.items },
 }
 
 /// The shards vote, one after another. The ticket of this one was taken from the others.
@@ -38,6 +47,9 @@ pub(crate) struct Voting {
     pub(crate) load: Load,
     pub(crate) shard: u8,
     ghost room: { vec_len load.tickets + vec_len load.votes < load.shards },
+    ghost all: { vote_shards load.votes.items ++ shard ∷ ticket_shards load.tickets.items ≡ participants_below load.shards intent.write load.shards },
+    ghost own_tickets: { AreTicketsFor intent.write.id load.tickets.items },
+    ghost own_votes: { AreVotesFor intent.write.id load.votes.items },
 }
 
 /// The write goes out undecided, with the refusal that it met, or cancelled. What the shards gave is listed by rising shard: the votes, the ticket that

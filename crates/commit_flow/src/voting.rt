@@ -2,8 +2,9 @@
 ghost use Rattle.std.specs.Prelude.{◌≡◌, ◌⊎◌, ◌≢◌, ◌≤◌, ◌<◌, ◌+◌, ◌++◌, ◌∷◌, [], Some, None, true, false, length, Option, map};
 ghost use Rattle.std.specs.Vec.{vec_len};
 ghost use Rattle.records.specs.Identity.{max_shards};
-ghost use Rattle.commit_flow.specs.Answering.{FlushGives, GoesToDecision, VoteGives};
+ghost use Rattle.commit_flow.specs.Answering.{FlushGives, GoesOn, IsVoteOf, VoteGives};
 ghost use Rattle.commit_flow.specs.Kept.{IsReadyOf};
+ghost use Rattle.commit_flow.specs.Participants.{AreTicketsFor, AreVotesFor, participants_below, ticket_shards, vote_shards};
 ghost use Rattle.commit_flow.specs.Views.{at_rest, holds_onward, in_hand, ticket_value, tickets_of, view_out, view_ready};
 ghost use Rattle.commit_flow.specs.WriteHolds.{outward};
 ghost use Rattle.commit_flow.specs.declared.stage.Out.TheVariants.{FlushToVote as flush_vote_out, Vote as vote_out};
@@ -44,7 +45,10 @@ pub(crate) fn go_out(
 /// The next ticket becomes a vote; behind the last one the write is decided.
 pub(crate) fn vote_next(intent: Intent, mut load: Load) -> Ready
     requires room { vec_len load.tickets + vec_len load.votes ≤ load.shards }
-    ensures goes { GoesToDecision load.shards intent (holds_onward intent.write.id (Some intent) (tickets_of load) load.votes.items None) (view_ready result) }
+    requires all { vote_shards load.votes.items ++ ticket_shards load.tickets.items ≡ participants_below load.shards intent.write load.shards }
+    requires own_tickets { AreTicketsFor intent.write.id load.tickets.items }
+    requires own_votes { AreVotesFor intent.write.id load.votes.items }
+    ensures goes { GoesOn (holds_onward intent.write.id (Some intent) (tickets_of load) load.votes.items None) (view_ready result) }
     ensures kept { IsReadyOf load.shards result }
 {
     match load.take_ticket() {
@@ -60,10 +64,12 @@ pub(crate) fn vote_next(intent: Intent, mut load: Load) -> Ready
     }
 }
 
-// All tickets are spent: the write is decided where the votes are those of its shards.
+// All tickets are spent: the write is decided by its votes.
 fn decide_next(intent: Intent, load: Load) -> Ready
-    requires { vec_len load.tickets ≡ 0 }
-    ensures goes { GoesToDecision load.shards intent (holds_onward intent.write.id (Some intent) [] load.votes.items None) (view_ready result) }
+    requires none { vec_len load.tickets ≡ 0 }
+    requires all { vote_shards load.votes.items ≡ participants_below load.shards intent.write load.shards }
+    requires own { AreVotesFor intent.write.id load.votes.items }
+    ensures goes { GoesOn (holds_onward intent.write.id (Some intent) [] load.votes.items None) (view_ready result) }
     ensures kept { IsReadyOf load.shards result }
 {
     let Load {
@@ -71,28 +77,14 @@ fn decide_next(intent: Intent, load: Load) -> Ready
         tickets,
         votes,
     } = load;
-    match Ballot::new(shards, intent, votes) {
-        Ok(ballot) => {
-            tickets.destroy_empty();
-            Ready::Decide(ballot, false)
-        }
-        Err((intent, votes)) => {
-            let id = intent.id();
-            let leaving = Leaving {
-                id,
-                met: Some(Refusal::Aborted),
-                votes,
-                hand: None,
-                tickets,
-            };
-            Ready::Abort(intent, leaving)
-        }
-    }
+    tickets.destroy_empty();
+    Ready::Decide(Ballot::new(shards, intent, votes), false)
 }
 
 /// The shard has voted, or has to be flushed before it does.
 pub(crate) fn voted(voting: Voting, answer: VoteReply) -> Ready
-    ensures gives { VoteGives voting.load.shards (view_out (vote_out voting)) voting.shard answer (view_ready result) }
+    requires { IsVoteOf voting.shard voting.intent.write.id answer }
+    ensures gives { VoteGives (view_out (vote_out voting)) voting.shard answer (view_ready result) }
     ensures kept { IsReadyOf voting.load.shards result }
 {
     match answer {
@@ -119,6 +111,7 @@ pub(crate) fn voted(voting: Voting, answer: VoteReply) -> Ready
 
 /// The shard was flushed, and is asked again for its vote.
 pub(crate) fn flushed_to_vote(voting: Voting, ticket: Ticket, answer: Result<(), Refusal>) -> Ready
+    requires { ticket.id ≡ voting.intent.write.id }
     ensures gives { FlushGives (view_out (flush_vote_out voting ticket)) answer (view_ready result) }
     ensures kept { IsReadyOf voting.load.shards result }
 {

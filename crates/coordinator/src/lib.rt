@@ -18,8 +18,6 @@ mod opening;
 mod raising;
 mod staging;
 mod telling;
-#[cfg(test)]
-mod tests;
 mod votes;
 
 pub use beginning::MAX_OPEN;

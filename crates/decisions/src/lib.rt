@@ -13,8 +13,6 @@ mod heads;
 mod held;
 mod intent;
 mod settled;
-#[cfg(test)]
-mod tests;
 mod ticket;
 mod verdict;
 mod vote;

@@ -12,8 +12,6 @@
 mod file_device;
 mod host_file;
 mod raw_file;
-#[cfg(test)]
-mod tests;
 
 pub use file_device::FileDevice;
 pub use host_file::{HostFile, open};

@@ -14,8 +14,6 @@ mod places;
 mod reading;
 mod request;
 mod shape;
-#[cfg(test)]
-mod tests;
 mod texts;
 
 pub use request::{Freshness, Request};

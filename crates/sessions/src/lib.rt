@@ -16,8 +16,6 @@ mod line;
 mod output;
 mod reply;
 mod serve;
-#[cfg(test)]
-mod tests;
 
 pub use asking::Answers;
 pub use serve::serve_stream;

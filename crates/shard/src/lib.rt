@@ -34,8 +34,6 @@ mod reading;
 mod replies;
 mod settling;
 mod shard;
-#[cfg(test)]
-mod tests;
 
 pub use replies::{ReadReply, VoteReply};
 pub use shard::Shard;

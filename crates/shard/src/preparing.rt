@@ -108,7 +108,8 @@ impl<D: Device> Shard<D> {
     pub fn stage_prepare(&mut self, alloc: Global, intent: &Intent) -> Result<Ticket, Refusal>
         requires part { takes_part self.old.me.shards self.old.me.node intent.now.write ≡ true }
         ensures ok { IsUp D.state D.honest self.old → IfOk result (λ t. Stages self.old (prepare_record (own_part_of self.old intent.now.write)) self.new
-            × IsUp D.state D.honest self.new × (t.id ≡ intent.now.write.id) × (t.epoch ≡ (memory_of self.old).epoch)) }
+            × IsUp D.state D.honest self.new × (t.epoch ≡ (memory_of self.old).epoch)) }
+        ensures id { IfOk result (λ t. t.id ≡ intent.now.write.id) }
         ensures above { IsUp D.state D.honest self.old → OnOk result (AskBelow (memory_of self.old).horizon (own_part_of self.old intent.now.write).conditions → ⊥) }
         ensures free { IsUp D.state D.honest self.old → OnOk result (AreFree (memory_of self.old) (own_part_of self.old intent.now.write)) }
         ensures conditions { IsUp D.state D.honest self.old → OnOk result (HoldHere (memory_of self.old) (own_part_of self.old intent.now.write).conditions) }

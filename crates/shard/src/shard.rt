@@ -90,11 +90,13 @@ impl<D: Device> Shard<D> {
 
     /// What became of a prepare: `Yes` only where it lies in whatever a stop leaves.
     pub fn vote(&self, ticket: Ticket) -> VoteReply
-        ensures yes { (v : _) → IsUp D.state D.honest self.now → result ≡ Yes v → (v.id ≡ ticket.id) × (v.shard ≡ self.now.me.node)
-            × ((p : AnyEntry) → find_in_doubt ticket.id (memory self.now).in_doubt ≡ Some p → IsDurable D.state self.now ticket.id p)
+        ensures own { (v : _) → result ≡ Yes v → (v.id ≡ ticket.id) × (v.shard ≡ self.now.me.node) }
+        ensures yes { (v : _) → IsUp D.state D.honest self.now → result ≡ Yes v
+            → ((p : AnyEntry) → find_in_doubt ticket.id (memory self.now).in_doubt ≡ Some p → IsDurable D.state self.now ticket.id p)
             × (is_some (find_in_doubt ticket.id (memory self.now).in_doubt) ≡ true) }
-        ensures later { (t : _) → IsUp D.state D.honest self.now → result ≡ Later t → (t ≡ ticket)
-            × (is_some (find_in_doubt ticket.id (memory self.now).in_doubt) ≡ true) × ((w : AnyEntry) × (w.id ≡ ticket.id) × Contains self.now.staged (prepare_record w)) }
+        ensures back { (t : _) → result ≡ Later t → t ≡ ticket }
+        ensures later { (t : _) → IsUp D.state D.honest self.now → result ≡ Later t
+            → (is_some (find_in_doubt ticket.id (memory self.now).in_doubt) ≡ true) × ((w : AnyEntry) × (w.id ≡ ticket.id) × Contains self.now.staged (prepare_record w)) }
         ensures no { (e : _) → result ≡ No e → ((e ≡ Refusal.Down) × (self.now.is_down ≡ true))
             ⊎ ((e ≡ Refusal.Aborted) × (IsUp D.state D.honest self.now → find_in_doubt ticket.id (memory self.now).in_doubt ≡ None)) }
         ensures down { self.now.is_down ≡ true → result ≡ No Refusal.Down }

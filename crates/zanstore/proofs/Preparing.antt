@@ -50,7 +50,7 @@ module _ {D : Type 0} (state : D → State) (honest : D → Type 0) (store : ℕ
 
   -- what the staging of a prepare leaves
   pub stage_is_running : (r : Result TicketValue Refusal) (old new : ShardView D) (w : Entry) (epoch : ℕ) → IsRunning state honest store log old → old.is_down ≡ false → IsNew w.id log
-      → IfOk r (λ t. Stages old (Prepare (own_part old w)) new × IsUp state honest new × (t.id ≡ w.id) × (t.epoch ≡ epoch))
+      → IfOk r (λ t. Stages old (Prepare (own_part old w)) new × IsUp state honest new × (t.epoch ≡ epoch))
       → OnOk r (AreFree (memory old) (own_part old w)) → IfErr r (λ e. (new ≡ old) × IsStageRefusal e) → IsRunning state honest store log new
   stage_is_running (Ok t) old new w epoch running up unlisted ok free err = let all = prepared old new w running up unlisted ok.0 ok.1 free in all.0
   stage_is_running (Err e) old new w epoch running up unlisted ok free err =
@@ -58,11 +58,11 @@ module _ {D : Type 0} (state : D → State) (honest : D → Type 0) (store : ℕ
       subst P (sym err.0) running
 
   pub stage_is_found : (r : Result TicketValue Refusal) (old new : ShardView D) (w : Entry) (epoch : ℕ) → IsRunning state honest store log old → old.is_down ≡ false → IsNew w.id log
-      → IfOk r (λ t. Stages old (Prepare (own_part old w)) new × IsUp state honest new × (t.id ≡ w.id) × (t.epoch ≡ epoch))
-      → OnOk r (AreFree (memory old) (own_part old w))
+      → IfOk r (λ t. Stages old (Prepare (own_part old w)) new × IsUp state honest new × (t.epoch ≡ epoch))
+      → IfOk r (λ t. t.id ≡ w.id) → OnOk r (AreFree (memory old) (own_part old w))
       → IfOk r (λ t. (new.is_down ≡ false) × (t.id ≡ w.id) × (find_in_doubt w.id (memory new).in_doubt ≡ Some w))
-  stage_is_found (Ok t) old new w epoch running up unlisted ok free = let all = prepared old new w running up unlisted ok.0 ok.1 free in (all.1, ok.2, all.2)
-  stage_is_found (Err e) old new w epoch running up unlisted ok free = tt
+  stage_is_found (Ok t) old new w epoch running up unlisted ok id free = let all = prepared old new w running up unlisted ok.0 ok.1 free in (all.1, id, all.2)
+  stage_is_found (Err e) old new w epoch running up unlisted ok id free = tt
 
   -- a vote for the prepare of a ticket: the write may be listed
   pub committed : (old new : ShardView D) (w : Entry) (id : WriteId) → IsRunning state honest store log old → old.is_down ≡ false → id ≡ w.id

@@ -20,7 +20,8 @@ pub returns-in-StagePrepare : goal.returns-in-StagePrepare
 returns-in-StagePrepare g c = let e = c.stage_prepare-answer.ensures in rw c.in-StagePrepare.is (
   refl,
   record {
-    ok = λ up. prepares g.D.Device.state g.D.Device.honest c.args.shard.now c.stage_prepare-answer.new.self c.in-StagePrepare.intent.write c.stage_prepare-answer.result (e.ok up) (e.above up) (e.free up) (e.conditions up);
+    ok = λ up. prepares g.D.Device.state g.D.Device.honest c.args.shard.now c.stage_prepare-answer.new.self c.in-StagePrepare.intent.write c.stage_prepare-answer.result (e.ok up) e.id (e.above up) (e.free up) (e.conditions up);
+    id = e.id;
     refused = λ up. prepare_refused g.D.Device.state g.D.Device.honest c.args.shard.now c.stage_prepare-answer.new.self c.in-StagePrepare.intent.write c.stage_prepare-answer.result (e.collected up) (e.busy up) (e.broken up) (e.full up) (e.memory up);
     down = e.down;
     stays = e.kept;
@@ -32,8 +33,10 @@ pub returns-in-Vote : goal.returns-in-Vote
 returns-in-Vote g c = let e = c.vote.ensures in rw c.in-Vote.is (
   refl,
   record {
-    yes = λ vote up is. let y = e.yes vote up is in record { id = y.0; shard = y.1; here = y.3; durable = y.2 };
-    later = λ t up is. let l = e.later t up is in (l.0, record { here = l.1; staged = l.2 });
+    own = e.own;
+    back = e.back;
+    yes = λ vote up is. let o = e.own vote is in let y = e.yes vote up is in record { id = o.0; shard = o.1; here = y.1; durable = y.0 };
+    later = λ t up is. let l = e.later t up is in record { here = l.0; staged = l.1 };
     no = e.no;
     down = e.down;
   },

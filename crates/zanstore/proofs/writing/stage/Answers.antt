@@ -20,7 +20,7 @@ returns-clause-ok g c =
     let e = c.stage_prepare.ensures in
     let up = r.running.up r.up in
     stage_is_found g.D.Device.state g.D.Device.honest c.args.store c.args.log.now c.stage_prepare.result c.args.shard.now c.stage_prepare.new.self c.args.intent.now.write
-    (memory c.args.shard.now).epoch r.running r.up r.new (e.ok up) (e.free up)
+    (memory c.args.shard.now).epoch r.running r.up r.new (e.ok up) e.id (e.free up)
 
 pub returns-clause-hold : goal.returns-clause-hold
 returns-clause-hold g c =

@@ -68,7 +68,6 @@ returns-clause-ok g c = λ up.
     subst (λ (p : Entry). Stages v (prepare_record p) (view_of c.prepare.new.journal me)) own (stages s.journal c.prepare.new.journal me (prepare_record (part s.me.shards s.me.node w)) e.staged v c.self.view_is) in (
       staged,
       still_up g.D.Device.state g.D.Device.honest v (view_of c.prepare.new.journal me) (prepare_record (own_part v c.args.intent.now.write)) up may_now staged,
-      ap (λ (t : TicketValue). t.id) c.new.ensures ∙ ap (λ (x : Entry). x.id) c.entry-write.ensures.value,
       ap (λ (t : TicketValue). t.epoch) c.new.ensures ∙ c.epoch.ensures ∙ ap (λ (m : ShardState). m.epoch) e.held ∙ prepare_same_epoch s.memory (part s.me.shards s.me.node w) ∙ now.epoch,
     )
 

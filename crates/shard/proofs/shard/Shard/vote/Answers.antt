@@ -33,7 +33,6 @@ pub returns-clause-yes : goal.returns-clause-yes
 returns-clause-yes g c = λ v up is.
     let s = c.self.inside in
     let kept = c.self.invariant in
-    let here : c.new.result ≡ v = cc in
     let now = memory_is g.D.Device.state g.D.Device.honest s.journal _ s.memory s.unflushed.items s.settled kept c.args.self.now c.self.view_is up in
     let one = found_one c.id-id.result s.memory.in_doubt c.find.result c.find.ensures c.is_none.ensures c.if-is_none.false in
     let there : find_in_doubt c.id-id.result (memory c.args.self.now).in_doubt ≡ Some one.0 = ap (find_in_doubt c.id-id.result) (sym now.in_doubt) ∙ one.1 in
@@ -42,11 +41,13 @@ returns-clause-yes g c = λ v up is.
     ∙ ap (has_id c.id-id.result) (sym (c.deref.ensures.value ∙ kept.unflushed_are cc)) ∙ sym c.contains.ensures.value ∙ c.if-contains.false in
     let IsVoted : WriteId → Type 0 = λ i. ((p : Entry) → find_in_doubt i (memory c.args.self.now).in_doubt ≡ Some p → IsDurable g.D.Device.state c.args.self.now i p) × (is_some (find_in_doubt i (memory c.args.self.now).in_doubt) ≡ true) in
     let voted : IsVoted c.id-id.result = (λ p found. is_durable g.D.Device.state g.D.Device.honest c.args.self.now c.id-id.result p up none found, ap (λ o. is_some o) there) in
-    let whole = subst IsVoted c.id-id.ensures voted in (
+    subst IsVoted c.id-id.ensures voted
+
+pub returns-clause-own : goal.returns-clause-own
+returns-clause-own g c = λ v is.
+    let here : c.new.result ≡ v = cc in (
       ap (λ w. w.id) (sym here) ∙ c.new.ensures.id ∙ c.id-id.ensures,
       ap (λ w. w.shard) (sym here) ∙ c.new.ensures.shard ∙ c.node.ensures ∙ ap (λ (w : ShardView g.row.D.Denot). w.me.node) c.self.view_is,
-      whole.0,
-      whole.1,
     )
 
 pub returns-then-contains-clause-later : goal.returns-then-contains-clause-later
@@ -61,4 +62,4 @@ returns-then-contains-clause-later g c = λ t up is.
     ∙ ap (has_id c.id-id.result) (sym (c.deref.ensures.value ∙ kept.unflushed_are cc)) ∙ sym c.contains.ensures.value ∙ c.if-contains.true in
     let IsStaged : WriteId → Type 0 = λ i. (is_some (find_in_doubt i (memory c.args.self.now).in_doubt) ≡ true) × ((w : Entry) × (w.id ≡ i) × Contains c.args.self.now.staged (Prepare w)) in
     let waits : IsStaged c.id-id.result = (ap (λ o. is_some o) there, waiting c.args.self.now.staged c.id-id.result has) in
-    let whole = subst IsStaged c.id-id.ensures waits in (cc, whole.0, whole.1)
+    subst IsStaged c.id-id.ensures waits

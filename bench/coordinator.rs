@@ -1,0 +1,406 @@
+// The measures of crates/bench/src/deciding.rt and openings.rt in plain Rust: the same decisions in the same journal, with the same
+// tests, and the decisions by place in a queue and by id in a map.
+mod log;
+
+use log::{Change, Condition, Disk, Entry, Journal, Object, Record, Tuple, User, Want, WriteId, decode_batch};
+use std::collections::{BTreeMap, BTreeSet, VecDeque};
+use std::env;
+use std::hint::black_box;
+use std::process::ExitCode;
+use std::time::{Duration, Instant};
+
+const GROUP: u64 = 100;
+const MAX_OPEN: usize = 1_024;
+const MAX_NUMBER: u64 = (1 << 63) - 1;
+const SHARDS: u8 = 1;
+const COORDINATOR: u8 = 255;
+
+// ---- writes
+
+fn tuple(number: u64) -> Tuple {
+    Tuple {
+        object: Object {
+            namespace: b"doc".to_vec(),
+            id: format!("d{number}").into_bytes(),
+        },
+        relation: b"viewer".to_vec(),
+        user: User::Id(b"u1".to_vec()),
+    }
+}
+
+struct Write {
+    changes: Vec<Change>,
+    conditions: Vec<Condition>,
+}
+
+fn write(number: u64) -> Write {
+    Write {
+        changes: vec![Change::Touch(tuple(number))],
+        conditions: Vec::new(),
+    }
+}
+
+fn shard_of(object: &Object, shards: u8) -> u8 {
+    let sum = |text: &[u8]| text.iter().map(|byte| u64::from(*byte)).sum::<u64>();
+    ((sum(&object.namespace) + u64::from(b':') + sum(&object.id)) % u64::from(shards)) as u8
+}
+
+fn participants(entry: &Entry, shards: u8) -> u64 {
+    let changed = entry.changes.iter().map(Change::tuple);
+    let conditioned = entry.conditions.iter().map(|condition| &condition.tuple);
+    changed.chain(conditioned).fold(0, |bits, tuple| bits | 1 << shard_of(&tuple.object, shards))
+}
+
+struct Intent {
+    entry: Entry,
+}
+
+struct Vote {
+    id: WriteId,
+    shard: u8,
+}
+
+fn votes_match(shards: u8, intent: &Intent, votes: &[Vote]) -> bool {
+    let mut missing = participants(&intent.entry, shards);
+    for vote in votes {
+        if vote.id != intent.entry.id || vote.shard >= shards || missing & 1 << vote.shard == 0 {
+            return false;
+        }
+        missing &= !(1 << vote.shard);
+    }
+    missing == 0
+}
+
+// ---- a shard that only prepares: what it holds, and its journal
+
+struct Shard {
+    journal: Journal,
+    held: BTreeSet<Tuple>,
+}
+
+impl Shard {
+    fn vote(&mut self, intent: &Intent) -> Option<Vote> {
+        for change in &intent.entry.changes {
+            if !self.held.insert(change.tuple().clone()) {
+                return None;
+            }
+        }
+        let part = copied(&intent.entry);
+        if !self.journal.stage(&Record::Prepare(part)) {
+            return None;
+        }
+        self.journal.flush();
+        Some(Vote {
+            id: intent.entry.id,
+            shard: 0,
+        })
+    }
+}
+
+fn copied(entry: &Entry) -> Entry {
+    Entry {
+        id: entry.id,
+        changes: entry.changes.iter().map(|change| Change::Touch(change.tuple().clone())).collect(),
+        conditions: Vec::new(),
+    }
+}
+
+// ---- the coordinator
+
+#[derive(Default)]
+struct Ledger {
+    base: u64,
+    decisions: VecDeque<Entry>,
+    places: BTreeMap<WriteId, u64>,
+}
+
+impl Ledger {
+    fn end(&self) -> u64 {
+        self.base + self.decisions.len() as u64
+    }
+
+    fn push(&mut self, entry: Entry) {
+        self.places.insert(entry.id, self.end() + 1);
+        self.decisions.push_back(entry);
+    }
+}
+
+struct LastChange {
+    place: u64,
+    is_there: bool,
+}
+
+struct Decided {
+    place: u64,
+    epoch: u64,
+}
+
+struct Coordinator {
+    journal: Journal,
+    epoch: u64,
+    open_numbers: Vec<u64>,
+    given: u64,
+    ledger: Ledger,
+    kept: u64,
+    horizon: u64,
+}
+
+fn holds(latest: &BTreeMap<Tuple, LastChange>, condition: &Condition) -> bool {
+    let last = latest.get(&condition.tuple);
+    match condition.want {
+        Want::NotAfter(place) => last.is_none_or(|change| change.place <= place),
+        Want::Exists => last.is_some_and(|change| change.is_there),
+        Want::Absent => !last.is_some_and(|change| change.is_there),
+    }
+}
+
+#[derive(Default)]
+struct Recovery {
+    ledger: Ledger,
+    latest: BTreeMap<Tuple, LastChange>,
+    epoch: u64,
+    horizon: u64,
+}
+
+impl Recovery {
+    fn replay(&mut self, record: Record) -> Option<()> {
+        match record {
+            Record::Decision { place, entry } => {
+                let is_next = place == self.ledger.end() + 1 && !self.ledger.places.contains_key(&entry.id);
+                if !is_next || !entry.conditions.iter().all(|condition| holds(&self.latest, condition)) {
+                    return None;
+                }
+                for change in &entry.changes {
+                    let is_there = matches!(change, Change::Touch(_));
+                    self.latest.insert(change.tuple().clone(), LastChange { place, is_there });
+                }
+                self.ledger.push(entry);
+                Some(())
+            }
+            Record::Epoch { epoch, .. } => {
+                self.epoch = epoch;
+                Some(())
+            }
+            Record::Horizon(place) => {
+                self.horizon = place;
+                Some(())
+            }
+            _ => None,
+        }
+    }
+}
+
+fn replayed(disk: &Disk) -> Option<(Recovery, usize)> {
+    let (bodies, end) = disk.bodies()?;
+    let mut records = Vec::new();
+    for body in &bodies {
+        records.extend(decode_batch(body)?);
+    }
+    let mut so_far = Recovery::default();
+    for record in records {
+        so_far.replay(record)?;
+    }
+    Some((so_far, end))
+}
+
+impl Coordinator {
+    fn open(mut disk: Disk) -> Option<Coordinator> {
+        if disk.seen.len() <= 1 {
+            disk.make();
+        }
+        let (so_far, end) = replayed(&disk)?;
+        let mut journal = Journal::over(disk, end);
+        let epoch = so_far.epoch + 1;
+        journal.stage(&Record::Epoch {
+            epoch,
+            store: 1,
+            shards: SHARDS,
+            node: COORDINATOR,
+        });
+        journal.flush();
+        let kept = so_far.ledger.end();
+        Some(Coordinator {
+            journal,
+            epoch,
+            open_numbers: Vec::new(),
+            given: 0,
+            ledger: so_far.ledger,
+            kept,
+            horizon: so_far.horizon,
+        })
+    }
+
+    fn begin(&mut self, write: Write) -> Option<Intent> {
+        for condition in &write.conditions {
+            if let Want::NotAfter(place) = condition.want {
+                if place > self.ledger.end() || place < self.horizon {
+                    return None;
+                }
+            }
+        }
+        if self.open_numbers.len() >= MAX_OPEN || self.given >= MAX_NUMBER {
+            return None;
+        }
+        self.given += 1;
+        self.open_numbers.push(self.given);
+        let id = WriteId {
+            epoch: self.epoch,
+            number: self.given,
+        };
+        Some(Intent {
+            entry: Entry {
+                id,
+                changes: write.changes,
+                conditions: write.conditions,
+            },
+        })
+    }
+
+    fn decide(&mut self, intent: Intent, votes: Vec<Vote>) -> Option<Decided> {
+        let id = intent.entry.id;
+        if id.epoch != self.epoch || !self.open_numbers.contains(&id.number) || self.ledger.places.contains_key(&id) {
+            return None;
+        }
+        drop(votes);
+        let place = self.ledger.end() + 1;
+        let decision = Record::Decision {
+            place,
+            entry: intent.entry,
+        };
+        if !self.journal.stage(&decision) {
+            return None;
+        }
+        self.open_numbers.retain(|number| *number != id.number);
+        if let Record::Decision { entry, .. } = decision {
+            self.ledger.push(entry);
+        }
+        Some(Decided {
+            place,
+            epoch: self.epoch,
+        })
+    }
+
+    fn flush(&mut self) {
+        self.journal.flush();
+        self.kept = self.ledger.end();
+    }
+
+    fn outcome(&self, decided: &Decided) -> Option<u64> {
+        (decided.epoch == self.epoch && decided.place <= self.kept).then_some(decided.place)
+    }
+}
+
+// ---- the measures
+
+fn decide_each(coordinator: &mut Coordinator, voted: &mut Vec<(Intent, Vec<Vote>)>) -> Option<Vec<Decided>> {
+    let mut decided = Vec::new();
+    while let Some((intent, votes)) = voted.pop() {
+        if !votes_match(SHARDS, &intent, &votes) {
+            return None;
+        }
+        decided.push(coordinator.decide(intent, votes)?);
+    }
+    Some(decided)
+}
+
+fn decide(groups: u64) -> Option<()> {
+    let mut coordinator = Coordinator::open(Disk::default())?;
+    let mut shard = Shard {
+        journal: Journal::new(),
+        held: BTreeSet::new(),
+    };
+    let (mut beginning, mut deciding) = (Duration::ZERO, Duration::ZERO);
+    let mut sum = 0u64;
+    for group in 0..groups {
+        let mut writes: Vec<Write> = (0..GROUP).map(|i| write(group * GROUP + i)).collect();
+
+        let start = Instant::now();
+        let mut intents = Vec::new();
+        while let Some(write) = writes.pop() {
+            intents.push(coordinator.begin(black_box(write))?);
+        }
+        beginning += start.elapsed();
+
+        let mut voted = Vec::new();
+        while let Some(intent) = intents.pop() {
+            let vote = shard.vote(&intent)?;
+            voted.push((intent, vec![vote]));
+        }
+
+        let start = Instant::now();
+        let decided = decide_each(&mut coordinator, &mut voted)?;
+        coordinator.flush();
+        for one in &decided {
+            sum = sum.wrapping_add(coordinator.outcome(one)?);
+        }
+        deciding += start.elapsed();
+    }
+    let amount = groups * GROUP;
+    eprintln!("begin {amount} {} {}", beginning.as_nanos(), coordinator.given);
+    eprintln!("decide {amount} {} {sum}", deciding.as_nanos());
+    Some(())
+}
+
+/// A disk with the first opening of a coordinator, and so many decisions.
+fn log_of(decisions: u64) -> Option<Disk> {
+    let mut journal = Journal::new();
+    journal.stage(&Record::Epoch {
+        epoch: 1,
+        store: 1,
+        shards: SHARDS,
+        node: COORDINATOR,
+    });
+    for number in 1..=decisions {
+        let Write {
+            changes,
+            conditions,
+        } = write(number);
+        let id = WriteId { epoch: 1, number };
+        let entry = Entry {
+            id,
+            changes,
+            conditions,
+        };
+        let decision = Record::Decision {
+            place: number,
+            entry,
+        };
+        if !journal.stage(&decision) {
+            journal.flush();
+            journal.stage(&decision).then_some(())?;
+        }
+    }
+    journal.flush();
+    Some(journal.disk)
+}
+
+fn log(decisions: u64) -> Option<()> {
+    let start = Instant::now();
+    let disk = black_box(log_of(decisions)?);
+    eprintln!("log {decisions} {} {}", start.elapsed().as_nanos(), disk.seen.len());
+    Some(())
+}
+
+fn opening(decisions: u64) -> Option<()> {
+    let disk = log_of(decisions)?;
+    let start = Instant::now();
+    let coordinator = black_box(Coordinator::open(disk)?);
+    eprintln!("opening {decisions} {} {}", start.elapsed().as_nanos(), coordinator.kept);
+    Some(())
+}
+
+fn main() -> ExitCode {
+    let words: Vec<String> = env::args().collect();
+    let number = words.get(2).and_then(|word| word.parse::<u64>().ok());
+    let done = match (words.get(1).map(String::as_str), number) {
+        (Some("decisions"), Some(groups)) => decide(groups),
+        (Some("log"), Some(count)) => log(count),
+        (Some("opening"), Some(count)) => opening(count),
+        _ => None,
+    };
+    if done.is_some() {
+        ExitCode::SUCCESS
+    } else {
+        ExitCode::FAILURE
+    }
+}

@@ -1,0 +1,125 @@
+// How long an opening of a coordinator takes over a log of so many decisions, and how much memory.
+ghost use Rattle.std.specs.Prelude.{◌≤◌, IfOk};
+ghost use Rattle.decisions.specs.Values.{IsIntent};
+
+use crate::timing::Timing;
+use crate::touches::{STORE, open_coordinator, touch, two_disks};
+use decisions::Intent;
+use device::Device;
+use journal::Journal;
+use records::{COORDINATOR, Record};
+use std::alloc::Global;
+use std::rt::Clock;
+use std::time::Instant;
+use tuples::{Entry, Refusal, WriteId};
+
+/// Makes a log of so many decisions (`log`), and prints how long that took; its answer is the bytes of the log. Until it opens a coordinator,
+/// `opening` takes the same memory.
+pub(crate) fn log(rt: &(impl Clock + Eprint), alloc: Global, decisions: u32) -> anyhow::Result<()> {
+    let (a, b) = two_disks(alloc)?;
+    let start = Instant::now(rt)?;
+    let made = made_in(rt, start, made(alloc, a, b, decisions)?, decisions)?;
+    made.print(rt, "log")?;
+    Ok(())
+}
+
+/// Opens a coordinator over such a log (`opening`), and prints how long that took. What it answers is the place of the last decision.
+pub(crate) fn opening(
+    rt: &(impl Clock + Eprint),
+    alloc: Global,
+    decisions: u32,
+) -> anyhow::Result<()> {
+    let (a, b) = two_disks(alloc)?;
+    let (a, b) = made(alloc, a, b, decisions)?;
+    let opened = opened(rt, alloc, a, b, decisions)?;
+    opened.print(rt, "opening")?;
+    Ok(())
+}
+
+// Devices with a log of so many decisions.
+fn made<D: Device>(alloc: Global, a: D, b: D, decisions: u32) -> Result<(D, D), Refusal> {
+    let mut journal = new_journal(alloc, a, b)?;
+    stage_all(alloc, &mut journal, decisions)?;
+    Ok(journal.into_devices())
+}
+
+// What making these devices took since then.
+fn made_in<D: Device>(
+    rt: &impl Clock,
+    start: Instant,
+    (mut a, _b): (D, D),
+    decisions: u32,
+) -> anyhow::Result<Timing> {
+    let elapsed = start.elapsed(rt)?;
+    Ok(Timing {
+        amount: u64::from(decisions),
+        elapsed,
+        answer: a.len().unwrap_or(0) as u64,
+    })
+}
+
+// What opening a coordinator over these devices takes.
+fn opened<D: Device>(
+    rt: &impl Clock,
+    alloc: Global,
+    a: D,
+    b: D,
+    decisions: u32,
+) -> anyhow::Result<Timing> {
+    let start = Instant::now(rt)?;
+    let coordinator = open_coordinator(alloc, a, b)?;
+    let elapsed = start.elapsed(rt)?;
+    Ok(Timing {
+        amount: u64::from(decisions),
+        elapsed,
+        answer: coordinator.kept(),
+    })
+}
+
+fn new_journal<D: Device>(alloc: Global, a: D, b: D) -> Result<Journal<D>, Refusal> {
+    match Journal::open(alloc, a, b) {
+        Ok((journal, _)) => Ok(journal),
+        Err(refused) => Err(refused.refusal),
+    }
+}
+
+// Makes a first opening and so many decisions durable.
+fn stage_all<D: Device>(
+    alloc: Global,
+    journal: &mut Journal<D>,
+    decisions: u32,
+) -> Result<(), Refusal> {
+    journal.stage(&Record::Epoch {
+        epoch: 1,
+        store: STORE,
+        shards: 1,
+        node: COORDINATOR,
+    })?;
+    for before in 0..decisions {
+        let place = u64::from(before) + 1;
+        let entry = entry(alloc, place)?;
+        stage(journal, place, entry)?;
+    }
+    journal.flush()
+}
+
+// Stages a decision; a full batch goes out first.
+fn stage<D: Device>(journal: &mut Journal<D>, place: u64, entry: Entry) -> Result<(), Refusal>
+    requires { IsIntent entry }
+{
+    let decision = Record::Decision { place, entry };
+    if !journal.has_room(&decision) {
+        journal.flush()?;
+    }
+    journal.stage(&decision)
+}
+
+// The write with this number of the first epoch.
+fn entry(alloc: Global, number: u64) -> Result<Entry, Refusal>
+    requires some { 1 ≤ number }
+    requires fits { number ≤ 4294967296 }
+    ensures { IfOk result IsIntent }
+{
+    let write = touch(alloc, number)?;
+    Ok(Intent::new(WriteId { epoch: 1, number }, write, 0).into_entry())
+}

@@ -1,0 +1,73 @@
+-- Any care, as the flow that it is.
+use Rattle.std.specs.Prelude.{◌≡◌, ◌<◌, ℕ, [], map, Option, Some}
+use Rattle.decisions.specs.Flows.{no_heads, nothing_raised}
+use Rattle.calls.specs.declared.call.NodeCall.{NodeCall}
+use Rattle.calls.specs.declared.reply.Reply.{Reply}
+use Rattle.care_flow.specs.declared.end.CareEnd.{CareEnd}
+use Rattle.care_flow.specs.declared.end.CareEnd.TheVariants.{Resolved as all_resolved}
+use Rattle.care_flow.specs.declared.care.Care.{Care}
+use Rattle.care_flow.specs.declared.care.Care.TheVariants as cares
+use Rattle.care_flow.specs.declared.care.CareFlow.{CareFlow}
+use Rattle.care_flow.specs.declared.care.CareFlow.TheVariants.{Flush, Learn, Resolve, Raise, Collect}
+use Rattle.care_flow.specs.Ends.{id_of}
+use Rattle.care_flow.specs.Flushing as flushing
+use Rattle.care_flow.specs.Learning as learning
+use Rattle.care_flow.specs.Resolving as resolving
+use Rattle.care_flow.specs.Raising as raising
+use Rattle.care_flow.specs.Collecting as collecting
+use Rattle.care_flow.specs.Views.{ready}
+
+-- the flow before its first call
+abbrev pub begun : ℕ → Care → CareFlow
+begun shards (cares.Flush node) = Flush (record { node = node; seen = ready tt flushing.flush })
+begun shards (cares.Learn s) = Learn (record { shard = s; seen = ready no_heads learning.ask })
+begun shards (cares.Resolve s) = Resolve (record { shard = s; doubts = []; seen = ready resolving.nothing_found resolving.in_doubt })
+begun shards (cares.Raise place) = Raise (record { shards = shards; place = place; seen = ready nothing_raised raising.ask })
+begun shards (cares.Collect s) = Collect (record { shard = s; seen = ready no_heads collecting.ask })
+
+-- the node that is cared for is there in a store of so many shards, and a raise is for that many
+abbrev pub IsThere : ℕ → CareFlow → Type 0
+IsThere shards (Flush v) = flushing.IsThere shards v.node
+IsThere shards (Learn v) = v.shard < shards
+IsThere shards (Resolve v) = v.shard < shards
+IsThere shards (Raise v) = v.shards ≡ shards
+IsThere shards (Collect v) = v.shard < shards
+
+-- Its next call, if there is one.
+abbrev pub NextCall : CareFlow → Option NodeCall → CareFlow → Type 0
+NextCall (Flush old) call (Flush new) = (new.node ≡ old.node) × flushing.NextCall old call new
+NextCall (Learn old) call (Learn new) = (new.shard ≡ old.shard) × learning.NextCall old call new
+NextCall (Resolve old) call (Resolve new) = (new.shard ≡ old.shard) × (new.doubts ≡ old.doubts) × resolving.NextCall old call new
+NextCall (Raise old) call (Raise new) = (new.shards ≡ old.shards) × (new.place ≡ old.place) × raising.NextCall old call new
+NextCall (Collect old) call (Collect new) = (new.shard ≡ old.shard) × collecting.NextCall old call new
+NextCall old call new = ⊥
+
+-- It waits for such a reply.
+abbrev pub Awaits : CareFlow → Reply → Type 0
+Awaits (Flush v) reply = flushing.Awaits v reply
+Awaits (Learn v) reply = learning.Awaits v reply
+Awaits (Resolve v) reply = resolving.Awaits v reply
+Awaits (Raise v) reply = raising.Awaits v reply
+Awaits (Collect v) reply = collecting.Awaits v reply
+
+-- What the reply makes of it.
+abbrev pub Answered : CareFlow → Reply → CareFlow → Type 0
+Answered (Flush old) reply (Flush new) = (new.node ≡ old.node) × flushing.Answered old reply new
+Answered (Learn old) reply (Learn new) = (new.shard ≡ old.shard) × learning.Answered old reply new
+Answered (Resolve old) reply (Resolve new) = (new.shard ≡ old.shard) × resolving.Answered old reply new
+Answered (Raise old) reply (Raise new) = (new.shards ≡ old.shards) × (new.place ≡ old.place) × raising.Answered old reply new
+Answered (Collect old) reply (Collect new) = (new.shard ≡ old.shard) × collecting.Answered old reply new
+Answered old reply new = ⊥
+
+-- how it ended
+abbrev pub end_of : CareFlow → Option CareEnd
+end_of (Flush v) = v.seen.ended
+end_of (Learn v) = v.seen.ended
+end_of (Resolve v) = v.seen.ended
+end_of (Raise v) = v.seen.ended
+end_of (Collect v) = v.seen.ended
+
+-- what a resolution tells is of each write that was in doubt, in their order
+abbrev pub TellsOfEach : CareFlow → Option CareEnd → Type 0
+TellsOfEach (Resolve v) (Some (all_resolved all)) = map id_of all.items ≡ v.doubts
+TellsOfEach flow end = Unit {0}

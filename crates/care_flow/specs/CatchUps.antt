@@ -1,0 +1,20 @@
+-- A care that brings a shard up to a place: its calls are those of the catch-up.
+use Rattle.std.specs.Prelude.{ℕ, Option}
+use Rattle.decisions.specs.Values.{BatchValue}
+use Rattle.catch_up.specs.Held.{Awaited, CatchUpCallValue, CatchUpValue}
+use Rattle.catch_up.specs.CatchingUp as catching
+use Rattle.catch_up.specs.declared.caught.Progress.{Progress}
+use Rattle.calls.specs.declared.call.NodeCall.{NodeCall}
+use Rattle.calls.specs.declared.reply.Reply.{Reply}
+
+-- a shard on its way to a place, with these decisions
+abbrev pub on_its_way : ℕ → ℕ → Option BatchValue → CatchUpValue
+on_its_way shard to batch = record { shard = shard; to = to; batch = batch }
+
+-- the call is one of the catch-up, and what is held while it is out, and which call it is, is so
+abbrev pub AsksToCatchUp : CatchUpValue → NodeCall → (Option BatchValue → Awaited → Type 0) → Type 0
+AsksToCatchUp v call P = (then : CatchUpCallValue) × catching.Asks v call then × P then.held.batch then.awaited
+
+-- the reply belongs to the catch-up, and the progress that it makes of it is so
+abbrev pub CatchUpGives : CatchUpValue → Awaited → Reply → (Progress → Type 0) → Type 0
+CatchUpGives v awaited reply P = (progress : Progress) × catching.Gives (record { held = v; awaited = awaited }) reply progress × P progress

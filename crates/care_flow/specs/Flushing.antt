@@ -1,0 +1,62 @@
+-- The one call of a flush, and what its reply makes of it.
+use Rattle.std.specs.Prelude.{◌≡◌, ◌<◌, ℕ, Option, Some, None, MatchOption}
+use Rattle.calls.specs.declared.call.NodeName.{NodeName}
+use Rattle.calls.specs.declared.call.NodeName.TheVariants.{Coordinator, Shard}
+use Rattle.calls.specs.declared.call.NodeCall.{NodeCall}
+use Rattle.calls.specs.declared.call.NodeCall.TheVariants.{Coordinator as of_coordinator, Shard as of_shard}
+use Rattle.calls.specs.declared.call.CoordinatorCall.TheVariants as coordinator_calls
+use Rattle.calls.specs.declared.call.ShardCall.TheVariants as shard_calls
+use Rattle.calls.specs.declared.reply.Reply.{Reply}
+use Rattle.calls.specs.declared.reply.Reply.TheVariants.{Coordinator as from_coordinator, Shard as from_shard}
+use Rattle.calls.specs.declared.reply.CoordinatorReply.TheVariants as told
+use Rattle.calls.specs.declared.reply.ShardReply.TheVariants as told_by
+use Rattle.care_flow.specs.declared.end.CareEnd.{CareEnd}
+use Rattle.care_flow.specs.Ends.{ended_by}
+use Rattle.care_flow.specs.Views.{CareView, out, over}
+
+-- its one call
+pub data FlushStep : Type 0 where
+  flush : FlushStep
+
+-- it holds nothing
+abbrev pub FlushView : Type 0
+FlushView = CareView (Unit {0}) FlushStep
+
+-- of this node
+pub record FlushFlowValue : Type 0 where
+  pub node : NodeName
+  pub seen : FlushView
+
+-- the node is there in a store of so many shards
+abbrev pub IsThere : ℕ → NodeName → Type 0
+IsThere shards Coordinator = Unit {0}
+IsThere shards (Shard s) = s < shards
+
+-- the node's flush
+abbrev pub flush_of : NodeName → NodeCall
+flush_of Coordinator = of_coordinator coordinator_calls.Flush
+flush_of (Shard s) = of_shard s shard_calls.Flush
+
+-- the reply is one to the flush of the node
+abbrev pub Fits : NodeName → Reply → Type 0
+Fits Coordinator (from_coordinator (told.Flush r)) = Unit {0}
+Fits (Shard s) (from_shard (told_by.Flush r)) = Unit {0}
+Fits node reply = ⊥
+
+-- it ends by the answer
+abbrev pub Gives : NodeName → Reply → CareEnd → Type 0
+Gives Coordinator (from_coordinator (told.Flush r)) end = end ≡ ended_by r
+Gives (Shard s) (from_shard (told_by.Flush r)) end = end ≡ ended_by r
+Gives node reply end = ⊥
+
+-- Its next call, if there is one.
+abbrev pub NextCall : FlushFlowValue → Option NodeCall → FlushFlowValue → Type 0
+NextCall old result new = MatchOption old.seen.next ((result ≡ None) × (new.seen ≡ old.seen)) (λ step. (result ≡ Some (flush_of old.node)) × (new.seen ≡ out tt flush))
+
+-- It waits for such a reply.
+abbrev pub Awaits : FlushFlowValue → Reply → Type 0
+Awaits v reply = MatchOption v.seen.awaited ⊥ (λ step. Fits v.node reply)
+
+-- What the reply makes of it.
+abbrev pub Answered : FlushFlowValue → Reply → FlushFlowValue → Type 0
+Answered old reply new = (end : CareEnd) × Gives old.node reply end × (new.seen ≡ over tt end)

@@ -1,0 +1,22 @@
+-- What is seen of the stages of a learning.
+use Rattle.std.specs.Prelude.{◌≡◌, ℕ, Some, None}
+use Rattle.decisions.specs.Flows.{no_heads}
+use Rattle.care_flow.specs.declared.learning.Stage.{Stage}
+use Rattle.care_flow.specs.declared.learning.Stage.TheVariants.{Ask, Asked, CatchUp, CatchingUp, Ended}
+use Rattle.care_flow.specs.Learning.{LearnView, ask, catch_up}
+use Rattle.care_flow.specs.Views.{out, over, ready}
+
+abbrev pub view_of : Stage → LearnView
+view_of Ask = ready no_heads ask
+view_of Asked = out no_heads ask
+view_of (CatchUp heads c) = ready (record { heads = Some heads; batch = c.batch }) (catch_up None)
+view_of (CatchingUp heads c) = out (record { heads = Some heads; batch = c.held.batch }) (catch_up (Some c.awaited))
+view_of (Ended end) = over no_heads end
+
+-- the shard is on its way to the kept place of the heads
+abbrev pub IsOf : ℕ → Stage → Type 0
+IsOf s Ask = Unit {0}
+IsOf s Asked = Unit {0}
+IsOf s (CatchUp heads c) = (c.shard ≡ s) × (c.to ≡ heads.kept)
+IsOf s (CatchingUp heads c) = (c.held.shard ≡ s) × (c.held.to ≡ heads.kept)
+IsOf s (Ended end) = Unit {0}

@@ -1,0 +1,15 @@
+pub mod Ends
+pub mod Views
+pub mod CatchUps
+pub mod Flushing
+pub mod FlushStages
+pub mod Learning
+pub mod LearnStages
+pub mod Collecting
+pub mod CollectStages
+pub mod Resolving
+pub mod ResolveStages
+pub mod Gatherings
+pub mod Raising
+pub mod RaiseStages
+pub mod Cares

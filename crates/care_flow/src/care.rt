@@ -1,0 +1,96 @@
+// Any care.
+ghost use Rattle.std.specs.Prelude.{◌≡◌, ℕ, Some};
+ghost use Rattle.calls.specs.Asking.{MayBeMade};
+ghost use Rattle.care_flow.specs.Cares.{Answered, Awaits, IsThere, NextCall, TellsOfEach, begun, end_of};
+
+use crate::collecting::CollectFlow;
+use crate::end::CareEnd;
+use crate::flushing::FlushFlow;
+use crate::learning::LearnFlow;
+use crate::raising::RaiseFlow;
+use crate::resolving::ResolveFlow;
+use calls::{NodeCall, NodeName, Reply};
+use std::alloc::Global;
+
+/// What a node needs from time to time.
+#[derive(Clone, Copy, Debug, PartialEq, Eq)]
+pub enum Care {
+    /// All that the node has staged becomes durable.
+    Flush(NodeName),
+    /// The shard learns what is kept.
+    Learn(u8),
+    /// What became of each write in doubt at the shard is found out, and done there.
+    Resolve(u8),
+    /// The horizon is raised to the place.
+    Raise(u64),
+    /// The shard forgets what no read from the horizon on needs.
+    Collect(u8),
+}
+
+/// A care on its way. It can be let go between two calls, and nothing is lost by that.
+#[derive(Drop)]
+#[must_use]
+pub enum CareFlow {
+    Flush(FlushFlow),
+    Learn(LearnFlow),
+    Resolve(ResolveFlow),
+    Raise(RaiseFlow),
+    Collect(CollectFlow),
+}
+
+impl CareFlow {
+    /// In a store of so many shards. It takes no memory.
+    pub fn new(alloc: Global, shards: u8, care: Care) -> CareFlow
+        ensures { result ≡ begun shards care }
+    {
+        match care {
+            Care::Flush(node) => CareFlow::Flush(FlushFlow::new(node)),
+            Care::Learn(shard) => CareFlow::Learn(LearnFlow::new(shard)),
+            Care::Resolve(shard) => CareFlow::Resolve(ResolveFlow::new(alloc, shard)),
+            Care::Raise(place) => CareFlow::Raise(RaiseFlow::new(alloc, shards, place)),
+            Care::Collect(shard) => CareFlow::Collect(CollectFlow::new(shard)),
+        }
+    }
+
+    /// Its next call, which has to be made, and the reply given. None where it has ended, and while a call is out.
+    pub fn next_call(&mut self) -> Option<NodeCall>
+        ensures call { NextCall self.old result self.new }
+        ensures owed { (shards : ℕ) (call : _) → IsThere shards self.old → result ≡ Some call → MayBeMade shards call }
+    {
+        match self {
+            CareFlow::Flush(flow) => flow.next_call(),
+            CareFlow::Learn(flow) => flow.next_call(),
+            CareFlow::Resolve(flow) => flow.next_call(),
+            CareFlow::Raise(flow) => flow.next_call(),
+            CareFlow::Collect(flow) => flow.next_call(),
+        }
+    }
+
+    /// What the reply to its call makes of it.
+    pub fn give(&mut self, reply: Reply)
+        requires { Awaits self.old reply }
+        ensures { Answered self.old reply self.new }
+    {
+        match self {
+            CareFlow::Flush(flow) => flow.give(reply),
+            CareFlow::Learn(flow) => flow.give(reply),
+            CareFlow::Resolve(flow) => flow.give(reply),
+            CareFlow::Raise(flow) => flow.give(reply),
+            CareFlow::Collect(flow) => flow.give(reply),
+        }
+    }
+
+    /// How it ended, where it has.
+    pub fn finish(self) -> Option<CareEnd>
+        ensures end { result ≡ end_of self }
+        ensures each { TellsOfEach self result }
+    {
+        match self {
+            CareFlow::Flush(flow) => flow.finish(),
+            CareFlow::Learn(flow) => flow.finish(),
+            CareFlow::Resolve(flow) => flow.finish(),
+            CareFlow::Raise(flow) => flow.finish(),
+            CareFlow::Collect(flow) => flow.finish(),
+        }
+    }
+}

@@ -1,0 +1,161 @@
+// A shard learns all that is kept.
+ghost use Rattle.std.specs.Prelude.{◌≡◌, ◌<◌, ℕ, None, Some, MatchOption};
+ghost use Rattle.decisions.specs.Flows.{no_heads};
+ghost use Rattle.calls.specs.Asking.{MayBeMade};
+ghost use Rattle.catch_up.specs.CatchingUp.{Fits as FitsCatchUp};
+ghost use Rattle.care_flow.specs.Learning.{Answered, Asks, Awaits, Fits, Gives, HasLearned, HeadsGive, IsDone, NextCall, ask, catch_up as catching};
+ghost use Rattle.care_flow.specs.LearnStages.{IsOf, view_of};
+ghost use Rattle.care_flow.specs.Views.{ready};
+
+use crate::end::{CareEnd, foreign};
+use calls::{CoordinatorCall, CoordinatorReply, NodeCall, Reply};
+use catch_up::{CatchUp, CatchUpCall, Progress};
+use decisions::Heads;
+use std::marker::Model;
+use std::mem;
+use tuples::Refusal;
+
+#[derive(Drop)]
+pub(crate) enum Stage {
+    // what is kept?
+    Ask,
+    Asked,
+    CatchUp(Heads, CatchUp),
+    CatchingUp(Heads, CatchUpCall),
+    Ended(CareEnd),
+}
+
+/// Brings a shard up to the place that was kept when the coordinator was asked.
+#[derive(Drop)]
+#[must_use]
+pub struct LearnFlow {
+    shard: u8,
+    stage: Stage,
+}
+
+impl Model for LearnFlow {
+    ghost use Rattle.care_flow.specs.Learning.{LearnFlowValue};
+
+    ghost Value = { LearnFlowValue };
+
+    ghost use Rattle.care_flow.specs.LearnStages.{IsOf, view_of};
+
+    ghost view = { λ f. record { shard = f.shard; seen = view_of f.stage } };
+
+    ghost invariant = { λ f. IsOf f.shard f.stage };
+}
+
+// Its next call, and the stage while that is out.
+fn next(shard: u8, stage: Stage) -> (Stage, Option<NodeCall>)
+    requires { IsOf shard stage }
+    ensures call { MatchOption (view_of stage).next ((result.1 ≡ None) × (view_of result.0 ≡ view_of stage))
+        (λ step. MatchOption result.1 ⊥ (λ call. Asks shard (view_of stage).holds step call (view_of result.0))) }
+    ensures owed { (shards : ℕ) (call : _) → shard < shards → result.1 ≡ Some call → MayBeMade shards call }
+    ensures kept { IsOf shard result.0 }
+{
+    let _shard = shard;
+    match stage {
+        Stage::Ask => {
+            let call = NodeCall::Coordinator(CoordinatorCall::Heads);
+            (Stage::Asked, Some(call))
+        }
+        Stage::CatchUp(heads, catch_up) => {
+            let (call, out) = catch_up.next_call();
+            (Stage::CatchingUp(heads, out), Some(call))
+        }
+        other => (other, None),
+    }
+}
+
+fn refused(refusal: Refusal) -> Stage
+    ensures { result ≡ Stage.Ended (CareEnd.Refused refusal) }
+{
+    Stage::Ended(CareEnd::Refused(refusal))
+}
+
+fn answered(shard: u8, answer: Result<Heads, Refusal>) -> Stage
+    ensures gives { HeadsGive no_heads answer (view_of result) }
+    ensures kept { IsOf shard result }
+{
+    match answer {
+        Ok(heads) => {
+            let catch_up = CatchUp::new(shard, heads.kept());
+            Stage::CatchUp(heads, catch_up)
+        }
+        Err(refusal) => refused(refusal),
+    }
+}
+
+fn caught_up(heads: Heads, call: CatchUpCall, reply: Reply) -> Stage
+    requires fits { FitsCatchUp call.awaited reply }
+    requires to { call.held.to ≡ heads.kept }
+    ensures gives { Gives call.held.shard (view_of (Stage.CatchingUp heads call)).holds (catching (Some call.awaited)) reply (view_of result) }
+    ensures kept { IsOf call.held.shard result }
+{
+    match call.give(reply) {
+        Progress::Next(catch_up) => Stage::CatchUp(heads, catch_up),
+        Progress::There => Stage::Ended(CareEnd::Done),
+        Progress::Refused(refusal) => refused(refusal),
+    }
+}
+
+fn give(shard: u8, stage: Stage, reply: Reply) -> Stage
+    requires fits { MatchOption (view_of stage).awaited ⊥ (λ step. Fits step reply) }
+    requires kept { IsOf shard stage }
+    ensures gives { MatchOption (view_of stage).awaited ⊥ (λ step. Gives shard (view_of stage).holds step reply (view_of result)) }
+    ensures kept { IsOf shard result }
+{
+    match stage {
+        Stage::Asked => match reply {
+            Reply::Coordinator(CoordinatorReply::Heads(answer)) => answered(shard, answer),
+            other => refused(foreign(other)),
+        },
+        Stage::CatchingUp(heads, call) => caught_up(heads, call, reply),
+        _ => refused(foreign(reply)),
+    }
+}
+
+impl LearnFlow {
+    /// Of this shard.
+    pub fn new(shard: u8) -> LearnFlow
+        ensures { result ≡ record { shard = shard; seen = ready no_heads ask } }
+    {
+        LearnFlow {
+            shard,
+            stage: Stage::Ask,
+        }
+    }
+
+    /// Its next call, which has to be made, and the reply given. None where it has ended, and while a call is out.
+    pub fn next_call(&mut self) -> Option<NodeCall>
+        ensures shard { self.new.shard ≡ self.old.shard }
+        ensures call { NextCall self.old result self.new }
+        ensures owed { (shards : ℕ) (call : _) → self.old.shard < shards → result ≡ Some call → MayBeMade shards call }
+    {
+        let stage = mem::replace(&mut self.stage, Stage::Asked);
+        let (stage, call) = next(self.shard, stage);
+        self.stage = stage;
+        call
+    }
+
+    /// What the reply to its call makes of it. It is done only where the shard has answered that it has learned up to the kept place.
+    pub fn give(&mut self, reply: Reply)
+        requires { Awaits self.old reply }
+        ensures shard { self.new.shard ≡ self.old.shard }
+        ensures gives { Answered self.old reply self.new }
+        ensures done { IsDone self.new.seen → HasLearned self.old.seen.holds reply }
+    {
+        let stage = mem::replace(&mut self.stage, Stage::Asked);
+        self.stage = give(self.shard, stage, reply);
+    }
+
+    /// How it ended, where it has.
+    pub fn finish(self) -> Option<CareEnd>
+        ensures { result ≡ self.seen.ended }
+    {
+        match self.stage {
+            Stage::Ended(end) => Some(end),
+            _ => None,
+        }
+    }
+}

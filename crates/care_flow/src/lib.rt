@@ -1,0 +1,29 @@
+//! The care of a store's nodes, one call a turn: a flush; a shard learns what is kept; what became of the writes in doubt at a shard; a raise of the
+//! horizon; a shard's collection.
+//!
+//! Keeps: what it found of each write in doubt, and what each shard has settled, until it ends.
+//! Never: calls a node itself or waits; drops a write without a verdict on it; raises the horizon above what a shard has settled.
+//! Callers rely on: `next_call` asks only for what may be asked, and a care is done only behind the very answers that say so.
+//!
+//! Start at `specs/Cares.antt`, any care, and then at `Learning.antt`, the shortest of them that holds something.
+#![tactic(auto)]
+
+mod care;
+mod collecting;
+mod end;
+mod findings;
+mod flushing;
+mod gathering;
+mod learning;
+mod raise_calls;
+mod raise_replies;
+mod raising;
+mod resolving;
+
+pub use care::{Care, CareFlow};
+pub use collecting::CollectFlow;
+pub use end::{CareEnd, Resolved};
+pub use flushing::FlushFlow;
+pub use learning::LearnFlow;
+pub use raising::RaiseFlow;
+pub use resolving::ResolveFlow;

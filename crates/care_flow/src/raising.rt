@@ -1,0 +1,113 @@
+// The horizon is raised.
+ghost use Rattle.std.specs.Prelude.{◌≡◌, ◌<◌, None, Some};
+ghost use Rattle.calls.specs.Asking.{MayBeMade};
+ghost use Rattle.decisions.specs.Flows.{nothing_raised};
+ghost use Rattle.care_flow.specs.Raising.{Answered, Awaits, NextCall, ask};
+ghost use Rattle.care_flow.specs.RaiseStages.{IsOf, view_of};
+ghost use Rattle.care_flow.specs.Views.{ready};
+
+use crate::end::CareEnd;
+use crate::gathering::{Gathered, Gathering};
+use crate::raise_calls::next;
+use crate::raise_replies::give;
+use calls::{NodeCall, Reply};
+use catch_up::{CatchUp, CatchUpCall};
+use decisions::Heads;
+use std::alloc::Global;
+use std::marker::Model;
+use std::mem;
+
+#[derive(Drop)]
+pub(crate) enum Stage {
+    // is the place kept?
+    Ask,
+    Asked,
+    // it is decided, and not kept yet
+    FlushToAsk,
+    FlushingToAsk,
+    // one shard after another
+    CatchUp(Gathering, CatchUp),
+    CatchingUp(Gathering, CatchUpCall),
+    Flush(Gathering),
+    Flushing(Gathering),
+    Settle(Gathering),
+    Settling(Gathering),
+    // whether the coordinator was flushed for it already
+    Raise(Gathered, bool),
+    Raising(Heads, bool),
+    // the coordinator has no room for the record
+    FlushToRaise(Gathered),
+    FlushingToRaise(Gathered),
+    // the horizon counts once it is durable
+    FlushRaised(Heads),
+    FlushingRaised(Heads),
+    Ended(CareEnd),
+}
+
+/// Raises the horizon to a place, once each shard has learned so far for good.
+#[derive(Drop)]
+#[must_use]
+pub struct RaiseFlow {
+    alloc: Global,
+    shards: u8,
+    place: u64,
+    stage: Stage,
+}
+
+impl Model for RaiseFlow {
+    ghost use Rattle.care_flow.specs.Raising.{RaiseFlowValue};
+
+    ghost Value = { RaiseFlowValue };
+
+    ghost use Rattle.care_flow.specs.RaiseStages.{IsOf, view_of};
+
+    ghost view = { λ f. record { shards = f.shards; place = f.place; seen = view_of f.stage } };
+
+    ghost invariant = { λ f. IsOf f.shards f.place f.stage };
+}
+
+impl RaiseFlow {
+    /// To this place, in a store of so many shards.
+    pub fn new(alloc: Global, shards: u8, place: u64) -> RaiseFlow
+        ensures { result ≡ record { shards = shards; place = place; seen = ready nothing_raised ask } }
+    {
+        RaiseFlow {
+            alloc,
+            shards,
+            place,
+            stage: Stage::Ask,
+        }
+    }
+
+    /// Its next call, which has to be made, and the reply given. None where it has ended, and while a call is out.
+    pub fn next_call(&mut self) -> Option<NodeCall>
+        ensures same { (self.new.shards ≡ self.old.shards) × (self.new.place ≡ self.old.place) }
+        ensures call { NextCall self.old result self.new }
+        ensures owed { (call : _) → result ≡ Some call → MayBeMade self.old.shards call }
+    {
+        let stage = mem::replace(&mut self.stage, Stage::Asked);
+        let (stage, call) = next(self.shards, self.place, stage);
+        self.stage = stage;
+        call
+    }
+
+    /// What the reply to its call makes of it. It takes memory for what the shards have settled as soon as the heads reach the place.
+    pub fn give(&mut self, reply: Reply)
+        requires { Awaits self.old reply }
+        ensures same { (self.new.shards ≡ self.old.shards) × (self.new.place ≡ self.old.place) }
+        ensures gives { Answered self.old reply self.new }
+    {
+        let stage = mem::replace(&mut self.stage, Stage::Asked);
+        self.stage = give(self.alloc, self.shards, self.place, stage, reply);
+    }
+
+    /// How it ended, where it has.
+    pub fn finish(self) -> Option<CareEnd>
+        ensures { result ≡ self.seen.ended }
+    {
+        match self.stage {
+            Stage::Ended(end) => Some(end),
+            _ => None,
+        }
+    }
+}

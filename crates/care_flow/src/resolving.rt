@@ -1,0 +1,255 @@
+// What became of each write that is in doubt at a shard.
+ghost use Rattle.std.specs.Prelude.{◌≡◌, ◌<◌, [], ℕ, List, None, Some, MatchOption, map};
+ghost use Rattle.calls.specs.Asking.{MayBeMade};
+ghost use Rattle.catch_up.specs.CatchingUp.{Fits as FitsCatchUp};
+ghost use Rattle.care_flow.specs.declared.end.CareEnd.TheVariants.{Resolved as all_resolved};
+ghost use Rattle.decisions.specs.Flows.{ResolveHolds};
+ghost use Rattle.care_flow.specs.Ends.{id_of, next_of, resolved_value};
+ghost use Rattle.care_flow.specs.Resolving.{Answered, Asks, Awaits, DoubtsGive, DropGives, Fits, Gives, GoesThrough, HasCommitted, InquiryGives, NextCall, catch_up as catching, in_doubt, nothing_found};
+ghost use Rattle.care_flow.specs.ResolveStages.{IsOf, holding, view_of};
+ghost use Rattle.care_flow.specs.Views.{ready};
+
+use crate::end::{CareEnd, Resolved, foreign};
+use crate::findings::Findings;
+use calls::{CoordinatorCall, CoordinatorReply, NodeCall, Reply, ShardCall, ShardReply};
+use catch_up::{CatchUp, CatchUpCall, Progress};
+use coordinator::Inquiry;
+use decisions::Verdict;
+use std::alloc::Global;
+use std::marker::Model;
+use std::mem;
+use tuples::{Refusal, WriteId};
+
+#[derive(Drop)]
+pub(crate) enum Stage {
+    // what is in doubt?
+    AskDoubts,
+    AskedDoubts,
+    // what became of this one?
+    Inquire(WriteId),
+    Inquired(WriteId),
+    // it is decided
+    CatchUp(CatchUp),
+    CatchingUp(CatchUpCall),
+    // it is aborted
+    Drop(Verdict),
+    Dropping,
+    Done,
+    Refused(Refusal),
+}
+
+/// Asks the coordinator for each write that is in doubt at a shard: one that is decided is learned there, one that was aborted is dropped, and one that is
+/// undecided stays in doubt.
+#[derive(Drop)]
+#[must_use]
+pub struct ResolveFlow {
+    alloc: Global,
+    shard: u8,
+    findings: Findings,
+    stage: Stage,
+}
+
+impl Model for ResolveFlow {
+    ghost use Rattle.care_flow.specs.Resolving.{ResolveFlowValue};
+
+    ghost Value = { ResolveFlowValue };
+
+    ghost use Rattle.care_flow.specs.ResolveStages.{IsOf, view_of};
+
+    ghost view = { λ f. record { shard = f.shard; doubts = f.findings.doubts.items; seen = view_of f.findings f.stage } };
+
+    ghost invariant = { λ f. IsOf f.shard f.findings f.stage };
+}
+
+// Its next call, and the stage while that is out.
+fn next(shard: u8, findings: &Findings, stage: Stage) -> (Stage, Option<NodeCall>)
+    requires { IsOf shard findings.now stage }
+    ensures call { MatchOption (view_of findings.now stage).next ((result.1 ≡ None) × (view_of findings.now result.0 ≡ view_of findings.now stage))
+        (λ step. MatchOption result.1 ⊥ (λ call. Asks shard (view_of findings.now stage).holds step call (view_of findings.now result.0))) }
+    ensures owed { (shards : ℕ) (call : _) → shard < shards → result.1 ≡ Some call → MayBeMade shards call }
+    ensures kept { IsOf shard findings.now result.0 }
+{
+    let _findings = findings;
+    match stage {
+        Stage::AskDoubts => {
+            let call = NodeCall::Shard(shard, ShardCall::InDoubt);
+            (Stage::AskedDoubts, Some(call))
+        }
+        Stage::Inquire(id) => {
+            let call = NodeCall::Coordinator(CoordinatorCall::Inquire(id));
+            (Stage::Inquired(id), Some(call))
+        }
+        Stage::CatchUp(catch_up) => {
+            let (call, out) = catch_up.next_call();
+            (Stage::CatchingUp(out), Some(call))
+        }
+        Stage::Drop(verdict) => {
+            let call = NodeCall::Shard(shard, ShardCall::DropWrite(verdict, None));
+            (Stage::Dropping, Some(call))
+        }
+        other => (other, None),
+    }
+}
+
+// It goes on to the next write.
+fn go_on(shard: u8, findings: &Findings) -> Stage
+    ensures goes { (doubts : List WriteId) (h : ResolveHolds) → doubts ≡ findings.now.doubts.items → h ≡ holding findings.now None None → GoesThrough doubts h (view_of findings.now result) }
+    ensures kept { IsOf shard findings.now result }
+{
+    let _shard = shard;
+    match findings.next() {
+        Some(id) => Stage::Inquire(id),
+        None => Stage::Done,
+    }
+}
+
+fn told(
+    alloc: Global,
+    shard: u8,
+    findings: &mut Findings,
+    answer: Result<Vec<WriteId>, Refusal>,
+) -> Stage
+    requires { findings.old.found.items ≡ [] }
+    ensures gives { DoubtsGive (holding findings.old None None) answer findings.new.doubts.items (view_of findings.new result) }
+    ensures kept { IsOf shard findings.new result }
+{
+    match answer {
+        Ok(doubts) => match Findings::new(alloc, doubts) {
+            Ok(known) => {
+                *findings = known;
+                go_on(shard, findings)
+            }
+            Err(_) => Stage::Refused(Refusal::NoMemory),
+        },
+        Err(refusal) => Stage::Refused(refusal),
+    }
+}
+
+fn inquired(
+    shard: u8,
+    findings: &mut Findings,
+    id: WriteId,
+    answer: Result<Inquiry, Refusal>,
+) -> Stage
+    requires { next_of findings.old.doubts.items findings.old.found.items ≡ Some id }
+    ensures doubts { findings.new.doubts ≡ findings.old.doubts }
+    ensures gives { InquiryGives findings.old.doubts.items (holding findings.old None None) id answer (view_of findings.new result) }
+    ensures kept { IsOf shard findings.new result }
+{
+    match answer {
+        Ok(Inquiry::Commit(place)) => {
+            findings.note(Resolved::Committed(id, place));
+            Stage::CatchUp(CatchUp::new(shard, place))
+        }
+        Ok(Inquiry::Abort(verdict)) => {
+            findings.note(Resolved::Aborted(id));
+            Stage::Drop(verdict)
+        }
+        // Whoever decides it still needs its prepare.
+        Ok(Inquiry::Undecided) => {
+            findings.note(Resolved::Undecided(id));
+            go_on(shard, findings)
+        }
+        Err(refusal) => Stage::Refused(refusal),
+    }
+}
+
+fn caught_up(shard: u8, findings: &Findings, call: CatchUpCall, reply: Reply) -> Stage
+    requires fits { FitsCatchUp call.awaited reply }
+    requires shard { call.held.shard ≡ shard }
+    requires committed { HasCommitted (map resolved_value findings.now.found.items) call.held.to }
+    ensures gives { Gives shard findings.now.doubts.items (view_of findings.now (Stage.CatchingUp call)).holds (catching call.held.to (Some call.awaited)) reply findings.now.doubts.items (view_of findings.now result) }
+    ensures kept { IsOf shard findings.now result }
+{
+    match call.give(reply) {
+        Progress::Next(catch_up) => Stage::CatchUp(catch_up),
+        Progress::There => go_on(shard, findings),
+        Progress::Refused(refusal) => Stage::Refused(refusal),
+    }
+}
+
+fn dropped(shard: u8, findings: &Findings, answer: Result<(), Refusal>) -> Stage
+    ensures gives { DropGives findings.now.doubts.items (holding findings.now None None) answer (view_of findings.now result) }
+    ensures kept { IsOf shard findings.now result }
+{
+    match answer {
+        Ok(()) => go_on(shard, findings),
+        Err(refusal) => Stage::Refused(refusal),
+    }
+}
+
+fn give(alloc: Global, shard: u8, findings: &mut Findings, stage: Stage, reply: Reply) -> Stage
+    requires fits { MatchOption (view_of findings.old stage).awaited ⊥ (λ step. Fits step reply) }
+    requires kept { IsOf shard findings.old stage }
+    ensures gives { MatchOption (view_of findings.old stage).awaited ⊥
+        (λ step. Gives shard findings.old.doubts.items (view_of findings.old stage).holds step reply findings.new.doubts.items (view_of findings.new result)) }
+    ensures kept { IsOf shard findings.new result }
+{
+    match stage {
+        Stage::AskedDoubts => match reply {
+            Reply::Shard(ShardReply::InDoubt(answer)) => told(alloc, shard, findings, answer),
+            other => Stage::Refused(foreign(other)),
+        },
+        Stage::Inquired(id) => match reply {
+            Reply::Coordinator(CoordinatorReply::Inquire(answer)) => {
+                inquired(shard, findings, id, answer)
+            }
+            other => Stage::Refused(foreign(other)),
+        },
+        Stage::CatchingUp(call) => caught_up(shard, findings, call, reply),
+        Stage::Dropping => match reply {
+            Reply::Shard(ShardReply::DropWrite(_, answer)) => dropped(shard, findings, answer),
+            other => Stage::Refused(foreign(other)),
+        },
+        _other => Stage::Refused(foreign(reply)),
+    }
+}
+
+impl ResolveFlow {
+    /// Of this shard.
+    pub fn new(alloc: Global, shard: u8) -> ResolveFlow
+        ensures { result ≡ record { shard = shard; doubts = []; seen = ready nothing_found in_doubt } }
+    {
+        ResolveFlow {
+            alloc,
+            shard,
+            findings: Findings::none(alloc),
+            stage: Stage::AskDoubts,
+        }
+    }
+
+    /// Its next call, which has to be made, and the reply given. None where it has ended, and while a call is out.
+    pub fn next_call(&mut self) -> Option<NodeCall>
+        ensures shard { self.new.shard ≡ self.old.shard }
+        ensures doubts { self.new.doubts ≡ self.old.doubts }
+        ensures call { NextCall self.old result self.new }
+        ensures owed { (shards : ℕ) (call : _) → self.old.shard < shards → result ≡ Some call → MayBeMade shards call }
+    {
+        let stage = mem::replace(&mut self.stage, Stage::AskedDoubts);
+        let (stage, call) = next(self.shard, &self.findings, stage);
+        self.stage = stage;
+        call
+    }
+
+    /// What the reply to its call makes of it. It takes memory for what it finds as soon as it knows of how many writes.
+    pub fn give(&mut self, reply: Reply)
+        requires { Awaits self.old reply }
+        ensures shard { self.new.shard ≡ self.old.shard }
+        ensures gives { Answered self.old reply self.new }
+    {
+        let stage = mem::replace(&mut self.stage, Stage::AskedDoubts);
+        self.stage = give(self.alloc, self.shard, &mut self.findings, stage, reply);
+    }
+
+    /// How it ended, where it has. What it found is of each write that was in doubt, in their order.
+    pub fn finish(self) -> Option<CareEnd>
+        ensures end { result ≡ self.seen.ended }
+        ensures each { (all : _) → result ≡ Some (all_resolved all) → map id_of all.items ≡ self.doubts }
+    {
+        match self.stage {
+            Stage::Done => Some(CareEnd::Resolved(self.findings.found)),
+            Stage::Refused(refusal) => Some(CareEnd::Refused(refusal)),
+            _ => None,
+        }
+    }
+}

@@ -1,0 +1,65 @@
+// Cares of the nodes, turn by turn.
+ghost use Rattle.std.specs.Prelude.{◌≡◌, true, IfSome};
+ghost use Rattle.care_flow.specs.Cares.{IsThere, begun};
+
+use crate::call_names::Named;
+use crate::plays::MOST_TURNS;
+use crate::stores::{SHARDS, Store};
+use calls::{NodeName, Told};
+use care_flow::{Care, CareFlow};
+use device::Device;
+use std::alloc::{AllocError, Global};
+
+// Whether the node that it cares for is there.
+fn is_there(care: Care) -> bool
+    ensures { result ≡ true → IsThere 2 (begun 2 care) }
+{
+    match care {
+        Care::Flush(NodeName::Coordinator) => true,
+        Care::Flush(NodeName::Shard(shard)) => shard < SHARDS,
+        Care::Learn(shard) => shard < SHARDS,
+        Care::Resolve(shard) => shard < SHARDS,
+        Care::Raise(_) => true,
+        Care::Collect(shard) => shard < SHARDS,
+    }
+}
+
+/// A care of a store of two shards; none where its node is not there.
+pub(crate) fn begin_care(alloc: Global, care: Care) -> Option<CareFlow>
+    ensures { IfSome result (λ f. IsThere 2 f) }
+{
+    if !is_there(care) {
+        return None;
+    }
+    Some(CareFlow::new(alloc, SHARDS, care))
+}
+
+// Makes its next call, and gives it the reply; none where it has ended.
+fn turn<D: Device>(flow: &mut CareFlow, store: &mut Store<D>, told: &mut Told) -> Option<Named>
+    requires { IsThere 2 flow.old }
+    ensures { IsThere 2 flow.new }
+{
+    let call = flow.next_call()?;
+    let named = Named::of(&call);
+    let reply = store.ask(call, told);
+    flow.give(reply);
+    Some(named)
+}
+
+/// Turns it to its end, and logs its calls. One that is not at its end behind so many turns has none.
+pub(crate) fn turn_all<D: Device>(
+    flow: &mut CareFlow,
+    store: &mut Store<D>,
+    told: &mut Told,
+    log: &mut String,
+) -> Result<(), AllocError>
+    requires { IsThere 2 flow.old }
+{
+    for _turn in 0..MOST_TURNS {
+        match turn(flow, store, told) {
+            Some(named) => named.write_to(log)?,
+            None => return Ok(()),
+        }
+    }
+    Ok(())
+}

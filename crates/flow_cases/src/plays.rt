@@ -1,0 +1,223 @@
+// What a row does with a store, and what comes of it.
+use crate::caring::{self, begin_care};
+use crate::logging::{log_care, log_watch, log_write};
+use crate::stores::{Store, new_disks};
+use crate::turning::Turning;
+use crate::watching::{self, begin_watch};
+use crate::wide_writes::wide_line;
+use calls::{CoordinatorCall, NodeCall, NodeName, ShardCall, Told};
+use care_flow::Care;
+use commit_flow::WriteEnd;
+use device::{Device, Tear};
+use script::Command;
+use std::alloc::Global;
+use tuples::{Refusal, Write};
+
+/// More turns than any flow of a row needs: one that is not at its end behind them has none.
+pub(crate) const MOST_TURNS: usize = 64;
+
+/// What is done with a store. Flows are numbered in the order in which they were begun, from 0 on.
+#[derive(Clone, Copy)]
+pub(crate) enum Step {
+    /// A flow makes this write, by its line in a script. It makes no call yet.
+    Start(&'static str),
+    /// A flow makes this write, and goes to its end. It is not logged.
+    Write(&'static str),
+    /// So many wide writes are begun, and each makes so many calls.
+    Crowd(u8, usize),
+    /// A flow makes the wide write of this number.
+    StartWide(u8),
+    /// The flow makes so many calls.
+    Turn(usize, usize),
+    /// The flow goes to its end.
+    Run(usize),
+    /// A care goes to its end.
+    Care(Care),
+    /// A watch of `doc` behind a place, of so many places, goes to its end.
+    Watch(u64, u64),
+    /// The flow is cancelled.
+    Cancel(usize),
+    /// The node is flushed.
+    Flush(NodeName),
+    /// The node is opened again, over what its devices are found with.
+    Restart(NodeName),
+    /// The n-th call from now on of a node's first device fails, and this is found then.
+    Fail(NodeName, u64, Tear),
+}
+
+fn write_of(alloc: Global, line: &[u8]) -> Result<Write, Refusal> {
+    match Command::parse(alloc, line)? {
+        Command::WriteAll(write) => Ok(write),
+        _ => Err(Refusal::BadRequest),
+    }
+}
+
+/// A store, its flows, and what they did.
+pub(crate) struct Playing<D: Device> {
+    store: Store<D>,
+    flows: Vec<Turning>,
+    told: Told,
+    log: String,
+}
+
+fn leave_flows(mut flows: Vec<Turning>) {
+    while let Some(flow) = flows.pop() {
+        flow.leave();
+    }
+    flows.destroy_empty();
+}
+
+impl<D: Device> Playing<D> {
+    fn start(&mut self, alloc: Global, line: &[u8]) -> Result<(), Refusal> {
+        let write = write_of(alloc, line)?;
+        self.flows.reserve(1)?;
+        let flow = Turning::new(alloc, write)?;
+        self.flows.push_reserved(flow);
+        Ok(())
+    }
+
+    fn start_wide(&mut self, alloc: Global, write: u8) -> Result<(), Refusal> {
+        let line = wide_line(alloc, write)?;
+        self.start(alloc, &line)
+    }
+
+    fn write(&mut self, alloc: Global, line: &[u8]) -> Result<(), Refusal> {
+        self.start(alloc, line)?;
+        self.turn_quietly(MOST_TURNS);
+        Ok(())
+    }
+
+    // The flow that was begun last makes so many calls, which are not logged.
+    fn turn_quietly(&mut self, turns: usize) {
+        if let Some(flow) = self.flows.last_mut() {
+            for _ in 0..turns {
+                let _ = flow.turn(&mut self.store, &mut self.told);
+            }
+        }
+    }
+
+    fn crowd(&mut self, alloc: Global, writes: u8, turns: usize) -> Result<(), Refusal> {
+        for write in 0..writes {
+            self.start_wide(alloc, write)?;
+            self.turn_quietly(turns);
+        }
+        Ok(())
+    }
+
+    fn turn(&mut self, flow: usize, turns: usize) -> Result<(), Refusal> {
+        let Some(flow) = self.flows.get_mut(flow) else {
+            return Err(Refusal::BadRequest);
+        };
+        for _ in 0..turns {
+            match flow.turn(&mut self.store, &mut self.told) {
+                Some(named) => named.write_to(&mut self.log)?,
+                None => return Ok(()),
+            }
+        }
+        Ok(())
+    }
+
+    fn run(&mut self, flow: usize) -> Result<(), Refusal> {
+        self.turn(flow, MOST_TURNS)?;
+        let Some(flow) = self.flows.get(flow) else {
+            return Err(Refusal::BadRequest);
+        };
+        let end = flow.end();
+        if let Some(WriteEnd::Refused(refusal)) = end {
+            // Each refusal of a write was in a reply.
+            if !self.told.has(refusal) {
+                self.log.push_str("untold, ")?;
+            }
+        }
+        log_write(&mut self.log, end)
+    }
+
+    fn care(&mut self, alloc: Global, care: Care) -> Result<(), Refusal> {
+        let Some(mut flow) = begin_care(alloc, care) else {
+            return Err(Refusal::BadRequest);
+        };
+        caring::turn_all(&mut flow, &mut self.store, &mut self.told, &mut self.log)?;
+        log_care(&mut self.log, flow.finish())
+    }
+
+    fn watch(&mut self, alloc: Global, cursor: u64, limit: u64) -> Result<(), Refusal> {
+        let mut flow = begin_watch(alloc, cursor, limit)?;
+        watching::turn_all(&mut flow, &mut self.store, &mut self.told, &mut self.log)?;
+        log_watch(&mut self.log, flow.finish())
+    }
+
+    fn cancel(&mut self, flow: usize) {
+        if let Some(flow) = self.flows.get_mut(flow) {
+            flow.cancel();
+        }
+    }
+
+    fn flush(&mut self, node: NodeName) {
+        let call = match node {
+            NodeName::Coordinator => NodeCall::Coordinator(CoordinatorCall::Flush),
+            NodeName::Shard(shard) => NodeCall::Shard(shard, ShardCall::Flush),
+        };
+        self.store.ask(call, &mut self.told).leave();
+    }
+
+    fn step(&mut self, alloc: Global, step: Step) -> Result<(), Refusal> {
+        match step {
+            Step::Start(line) => self.start(alloc, line.as_bytes()),
+            Step::Write(line) => self.write(alloc, line.as_bytes()),
+            Step::Crowd(writes, turns) => self.crowd(alloc, writes, turns),
+            Step::StartWide(write) => self.start_wide(alloc, write),
+            Step::Turn(flow, turns) => self.turn(flow, turns),
+            Step::Run(flow) => self.run(flow),
+            Step::Care(care) => self.care(alloc, care),
+            Step::Watch(cursor, limit) => self.watch(alloc, cursor, limit),
+            Step::Cancel(flow) => {
+                self.cancel(flow);
+                Ok(())
+            }
+            Step::Flush(node) => {
+                self.flush(node);
+                Ok(())
+            }
+            Step::Restart(node) => {
+                self.store.restart(node);
+                Ok(())
+            }
+            Step::Fail(node, n, tear) => {
+                self.store.fail(node, n, tear);
+                Ok(())
+            }
+        }
+    }
+
+    fn steps(&mut self, alloc: Global, steps: &[Step]) -> Result<(), Refusal> {
+        for step in steps {
+            self.step(alloc, *step)?;
+        }
+        Ok(())
+    }
+}
+
+/// The calls that the flows made, and how each ended that was run to its end.
+pub(crate) fn played(alloc: Global, steps: &[Step]) -> Result<String, Refusal> {
+    play(alloc, new_disks(alloc, 6)?, steps)
+}
+
+fn play<D: Device>(alloc: Global, devices: Vec<D>, steps: &[Step]) -> Result<String, Refusal> {
+    let store = Store::open(alloc, devices)?;
+    let mut playing = Playing {
+        store,
+        flows: Vec::new(alloc),
+        told: Told::new(),
+        log: String::new(alloc),
+    };
+    let done = playing.steps(alloc, steps);
+    let Playing {
+        store: _,
+        flows,
+        told: _,
+        log,
+    } = playing;
+    leave_flows(flows);
+    done?;
+    Ok(log)
+}

@@ -1,0 +1,147 @@
+// Stores of two shards over disks in memory.
+ghost use Rattle.std.specs.Prelude.{◌≤◌, ◌<◌};
+ghost use Rattle.calls.specs.Belonging.{IsOwed, IsReplyTo};
+
+use calls::{Node, NodeCall, NodeName, Reply, Told, ask, refuse};
+use device::{Device, SimDisk, Tear};
+use journal::Bank;
+use records::Identity;
+use std::alloc::Global;
+use tuples::Refusal;
+
+/// The number of each store.
+const STORE: u64 = 1;
+
+/// How many shards each store has.
+pub(crate) const SHARDS: u8 = 2;
+
+/// The nodes of a store. One is not there while it is opened again.
+#[derive(Drop)]
+pub(crate) struct Store<D: Device> {
+    alloc: Global,
+    coordinator: Option<Node<D>>,
+    first: Option<Node<D>>,
+    second: Option<Node<D>>,
+}
+
+/// So many new disks; each node takes two.
+pub(crate) fn new_disks(alloc: Global, count: usize) -> Result<Vec<SimDisk>, Refusal> {
+    let mut disks = Vec::new(alloc);
+    for _ in 0..count {
+        match SimDisk::new(alloc, Vec::new(alloc)) {
+            Ok(disk) => {
+                disks.reserve(1)?;
+                disks.push_reserved(disk);
+            }
+            Err(_) => return Err(Refusal::NoMemory),
+        }
+    }
+    Ok(disks)
+}
+
+fn two_of<D: Device>(devices: &mut Vec<D>) -> Result<(D, D), Refusal> {
+    match (devices.pop(), devices.pop()) {
+        (Some(a), Some(b)) => Ok((a, b)),
+        _ => Err(Refusal::Full),
+    }
+}
+
+fn open_coordinator<D: Device>(alloc: Global, a: D, b: D) -> Node<D> {
+    Node::open_coordinator(alloc, a, b, Identity::coordinator(STORE, SHARDS))
+}
+
+fn open_shard<D: Device>(alloc: Global, a: D, b: D, shard: u8) -> Node<D>
+    requires { shard < 2 }
+{
+    Node::open_shard(alloc, a, b, Identity::shard(STORE, SHARDS, shard))
+}
+
+// What its devices are found with.
+fn revived<D: Device>(node: Node<D>) -> (D, D) {
+    let (mut a, mut b) = node.into_devices();
+    let _ = a.revive();
+    let _ = b.revive();
+    (a, b)
+}
+
+// Makes the call at a node, where it is the one that is named.
+fn ask_at<D: Device>(node: &mut Option<Node<D>>, call: NodeCall, told: &mut Told) -> Reply
+    requires { IsOwed 2 call }
+    ensures { IsReplyTo call result }
+{
+    match node {
+        Some(node) => {
+            if node.is_node(SHARDS, call.node()) {
+                return ask(node, call, told);
+            }
+            refuse(Refusal::Damaged, call)
+        }
+        None => refuse(Refusal::Damaged, call),
+    }
+}
+
+impl<D: Device> Store<D> {
+    /// Over these devices, two for each node.
+    pub(crate) fn open(alloc: Global, mut devices: Vec<D>) -> Result<Store<D>, Refusal> {
+        let (a, b) = two_of(&mut devices)?;
+        let coordinator = open_coordinator(alloc, a, b);
+        let (a, b) = two_of(&mut devices)?;
+        let first = open_shard(alloc, a, b, 0);
+        let (a, b) = two_of(&mut devices)?;
+        let second = open_shard(alloc, a, b, 1);
+        Ok(Store {
+            alloc,
+            coordinator: Some(coordinator),
+            first: Some(first),
+            second: Some(second),
+        })
+    }
+
+    /// Makes the call at the node that it names.
+    pub(crate) fn ask(&mut self, call: NodeCall, told: &mut Told) -> Reply
+        requires { IsOwed 2 call }
+        ensures { IsReplyTo call result }
+    {
+        match call.node() {
+            NodeName::Coordinator => ask_at(&mut self.coordinator, call, told),
+            NodeName::Shard(0) => ask_at(&mut self.first, call, told),
+            NodeName::Shard(_) => ask_at(&mut self.second, call, told),
+        }
+    }
+
+    /// Sets the script of a node's first device.
+    pub(crate) fn fail(&mut self, name: NodeName, n: u64, tear: Tear) {
+        let node = match name {
+            NodeName::Coordinator => &mut self.coordinator,
+            NodeName::Shard(0) => &mut self.first,
+            NodeName::Shard(_) => &mut self.second,
+        };
+        if let Some(node) = node {
+            node.fail(Bank::A, n, tear);
+        }
+    }
+
+    /// Opens a node again, over what its devices are found with.
+    pub(crate) fn restart(&mut self, name: NodeName) {
+        match name {
+            NodeName::Coordinator => {
+                if let Some(node) = self.coordinator.take() {
+                    let (a, b) = revived(node);
+                    self.coordinator = Some(open_coordinator(self.alloc, a, b));
+                }
+            }
+            NodeName::Shard(0) => {
+                if let Some(node) = self.first.take() {
+                    let (a, b) = revived(node);
+                    self.first = Some(open_shard(self.alloc, a, b, 0));
+                }
+            }
+            NodeName::Shard(_) => {
+                if let Some(node) = self.second.take() {
+                    let (a, b) = revived(node);
+                    self.second = Some(open_shard(self.alloc, a, b, 1));
+                }
+            }
+        }
+    }
+}

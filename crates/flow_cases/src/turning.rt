@@ -1,0 +1,50 @@
+// Flows, turn by turn.
+ghost use Rattle.std.specs.Prelude.{◌≡◌};
+
+use crate::call_names::Named;
+use crate::stores::{SHARDS, Store};
+use calls::Told;
+use commit_flow::{WriteEnd, WriteFlow};
+use device::Device;
+use std::alloc::Global;
+use tuples::{Refusal, Write};
+
+/// A write of a store of two shards. It has no `Drop`, as its flow.
+pub(crate) struct Turning {
+    flow: WriteFlow,
+    ghost of_two: { flow.shards ≡ 2 },
+}
+
+impl Turning {
+    pub(crate) fn new(alloc: Global, write: Write) -> Result<Turning, Refusal> {
+        let flow = WriteFlow::new(alloc, SHARDS, write)?;
+        Ok(Turning { flow })
+    }
+
+    /// Makes its next call, and gives it the reply; none where it has ended.
+    pub(crate) fn turn<D: Device>(
+        &mut self,
+        store: &mut Store<D>,
+        told: &mut Told,
+    ) -> Option<Named> {
+        let call = self.flow.next_call()?;
+        let named = Named::of(&call);
+        let reply = store.ask(call, told);
+        self.flow.give(reply);
+        Some(named)
+    }
+
+    pub(crate) fn cancel(&mut self) {
+        self.flow.cancel();
+    }
+
+    pub(crate) fn end(&self) -> Option<WriteEnd> {
+        self.flow.end()
+    }
+
+    /// Only spends it.
+    pub(crate) fn leave(self) {
+        let Turning { flow } = self;
+        let _ = flow.finish();
+    }
+}

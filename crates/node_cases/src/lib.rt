@@ -1,0 +1,32 @@
+//! Tables of cases for the nodes: the coordinator and the shards of a store, by public calls alone, with values that were worked out from
+//! what they promise.
+//!
+//! Keeps: nothing at run time; it has tests alone.
+//! They stand here, since a crate with tests of its own is proved once more for them. Whatever calls a node is generic over its devices: a
+//! call at a disk in memory itself takes longer to prove.
+//!
+//! Start at `stores.rt`, how a store is made, and `writes.rt`, one write from its beginning to the shards.
+#![tactic(auto)]
+
+#[cfg(test)]
+mod batches;
+#[cfg(test)]
+mod horizons;
+#[cfg(test)]
+mod ids;
+#[cfg(test)]
+mod inquiries;
+#[cfg(test)]
+mod logs;
+#[cfg(test)]
+mod outcomes;
+#[cfg(test)]
+mod shard_bytes;
+#[cfg(test)]
+mod shard_states;
+#[cfg(test)]
+mod stores;
+#[cfg(test)]
+mod whole_writes;
+#[cfg(test)]
+mod writes;

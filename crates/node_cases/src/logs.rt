@@ -1,0 +1,147 @@
+// Nodes over devices that have the records of an earlier opening.
+ghost use Rattle.std.specs.Prelude.{◌≤◌, IfOk};
+ghost use Rattle.decisions.specs.Values.{IsIntent};
+
+use crate::stores::{STORE, Store, open_coordinator, open_shard, open_shards, two_of};
+use crate::writes::touch;
+use coordinator::Coordinator;
+use decisions::Intent;
+use device::Device;
+use journal::Journal;
+use records::{COORDINATOR, Identity, PlacedIds, Record};
+use shard::Shard;
+use std::alloc::Global;
+use tuples::{Entry, Refusal, WriteId};
+
+/// A journal over two of the devices.
+fn journal<D: Device>(alloc: Global, devices: &mut Vec<D>) -> Result<Journal<D>, Refusal> {
+    let (a, b) = two_of(devices)?;
+    match Journal::open(alloc, a, b) {
+        Ok((journal, _)) => Ok(journal),
+        Err(refused) => Err(refused.refusal),
+    }
+}
+
+/// The same with the first opening of a node of a store of one shard, which is staged.
+fn opened_once<D: Device>(
+    alloc: Global,
+    devices: &mut Vec<D>,
+    node: u8,
+) -> Result<Journal<D>, Refusal> {
+    let mut journal = journal(alloc, devices)?;
+    journal.stage(&Record::Epoch {
+        epoch: 1,
+        store: STORE,
+        shards: 1,
+        node,
+    })?;
+    Ok(journal)
+}
+
+/// The write with that number of the first epoch.
+fn entry(alloc: Global, number: u64) -> Result<Entry, Refusal>
+    requires some { 1 ≤ number }
+    requires fits { number ≤ 1000000 }
+    ensures { IfOk result IsIntent }
+{
+    let id = WriteId { epoch: 1, number };
+    let write = touch(alloc, "doc:a#viewer@u1")?;
+    Ok(Intent::new(id, write, 0).into_entry())
+}
+
+/// Stages a decision; a full batch goes out first.
+fn stage_decision<D: Device>(
+    journal: &mut Journal<D>,
+    place: u64,
+    entry: Entry,
+) -> Result<(), Refusal>
+    requires { IsIntent entry }
+{
+    let decision = Record::Decision { place, entry };
+    if !journal.has_room(&decision) {
+        journal.flush()?;
+    }
+    journal.stage(&decision)
+}
+
+/// Stages so many decisions: at each place the write with the number of the place.
+fn stage_decisions<D: Device>(
+    alloc: Global,
+    journal: &mut Journal<D>,
+    count: u64,
+) -> Result<(), Refusal>
+    requires fits { count ≤ 1000000 }
+{
+    for before in 0..count {
+        let entry = entry(alloc, before + 1)?;
+        stage_decision(journal, before + 1, entry)?;
+    }
+    Ok(())
+}
+
+/// Stages so many decisions and a horizon, and flushes.
+fn keep<D: Device>(
+    alloc: Global,
+    journal: &mut Journal<D>,
+    decisions: u64,
+    horizon: u64,
+) -> Result<(), Refusal>
+    requires fits { decisions ≤ 1000000 }
+{
+    stage_decisions(alloc, journal, decisions)?;
+    if horizon > 0 {
+        journal.stage(&Record::Horizon(horizon))?;
+    }
+    journal.flush()
+}
+
+/// The coordinator at its second opening, over so many decisions and a horizon.
+pub(crate) fn coordinator_with<D: Device>(
+    alloc: Global,
+    devices: &mut Vec<D>,
+    decisions: u64,
+    horizon: u64,
+) -> Result<Coordinator<D>, Refusal>
+    requires fits { decisions ≤ 1000000 }
+{
+    let mut journal = opened_once(alloc, devices, COORDINATOR)?;
+    keep(alloc, &mut journal, decisions, horizon)?;
+    let (a, b) = journal.into_devices();
+    open_coordinator(alloc, a, b, Identity::coordinator(STORE, 1))
+}
+
+/// Stages that all up to a place is learned, without a part of the shard, and flushes.
+fn learn<D: Device>(alloc: Global, journal: &mut Journal<D>, to: u64) -> Result<(), Refusal> {
+    let placed_ids = PlacedIds::from_vec(Vec::new(alloc));
+    journal.stage(&Record::Learned { to, placed_ids })?;
+    journal.flush()
+}
+
+/// The shard at its second opening, which took part in nothing and has learned up to a place.
+pub(crate) fn shard_with<D: Device>(
+    alloc: Global,
+    devices: &mut Vec<D>,
+    to: u64,
+) -> Result<Shard<D>, Refusal> {
+    let mut journal = opened_once(alloc, devices, 0)?;
+    learn(alloc, &mut journal, to)?;
+    let (a, b) = journal.into_devices();
+    open_shard(alloc, a, b, Identity::shard(STORE, 1, 0))
+}
+
+/// A store of one shard: its coordinator is that of `coordinator_with`, its shard is new.
+pub(crate) fn store_with<D: Device>(
+    alloc: Global,
+    devices: &mut Vec<D>,
+    decisions: u64,
+    horizon: u64,
+) -> Result<Store<D>, Refusal>
+    requires fits { decisions ≤ 1000000 }
+{
+    let shards = open_shards(alloc, 1, devices)?;
+    let coordinator = coordinator_with(alloc, devices, decisions, horizon)?;
+    Ok(Store {
+        coordinator,
+        shards,
+    })
+}
