@@ -1,13 +1,17 @@
-//! The answers of a store at one place: reads and watches, one call a turn.
+//! The answers of a store at one place: reads, checks and watches, one call a turn.
 //!
 //! Keeps: the place, once it is found, and what was gathered there so far.
 //! Never: calls a node itself or waits; reads at another place than the one that it answers.
 //! Callers rely on: an answer is what the replies at its place gave, all of it; a refusal was in a reply, or has its very cause.
 //!
-//! Start at `specs/Finding.antt`, at which place an answer is, and then `specs/Watching.antt` and `specs/Reading.antt`, which calls are made and what
-//! each reply makes of it.
+//! Start at `specs/Finding.antt`, at which place an answer is, and then `specs/Watching.antt`, `specs/Reading.antt` and `specs/Checking.antt`, which
+//! calls are made and what each reply makes of it.
 #![tactic(auto)]
 
+mod check_flow;
+mod check_stage;
+mod check_turns;
+mod checking;
 mod events;
 mod finding;
 mod freshness;
@@ -16,10 +20,13 @@ mod read_flow;
 mod read_stage;
 mod read_turns;
 mod reading;
+mod walk;
 mod watch_flow;
 mod watch_stage;
 mod watching;
 
+pub use check_flow::CheckFlow;
+pub use check_stage::CheckEnd;
 pub use freshness::Freshness;
 pub use read_flow::ReadFlow;
 pub use read_stage::ReadEnd;
