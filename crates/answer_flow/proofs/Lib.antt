@@ -3,3 +3,7 @@ pub mod CatchUps
 pub mod MergedRows
 pub mod RowsGiven
 pub mod Fitting
+pub mod OnceEach
+pub mod MetLists
+pub mod Walked
+pub mod Waiting

@@ -4,3 +4,6 @@ pub mod Watching
 pub mod Merges
 pub mod ReadViews
 pub mod Reading
+pub mod Walking
+pub mod CheckViews
+pub mod Checking

@@ -8,6 +8,10 @@
 //! calls are made and what each reply makes of it.
 #![tactic(auto)]
 
+mod check_flow;
+mod check_stage;
+mod check_turns;
+mod checking;
 mod events;
 mod finding;
 mod freshness;
@@ -16,10 +20,13 @@ mod read_flow;
 mod read_stage;
 mod read_turns;
 mod reading;
+mod walk;
 mod watch_flow;
 mod watch_stage;
 mod watching;
 
+pub use check_flow::CheckFlow;
+pub use check_stage::CheckEnd;
 pub use freshness::Freshness;
 pub use read_flow::ReadFlow;
 pub use read_stage::ReadEnd;

@@ -1,0 +1,137 @@
+// A check: one call a turn.
+ghost use Rattle.std.specs.Prelude.{◌≡◌, ◌≢◌, ◌≤◌, Some, None, IfOk, MatchOption, is_some, option_map};
+ghost use Rattle.records.specs.Identity.{max_shards};
+ghost use Rattle.answer_flow.specs.Finding.{fresh_of};
+ghost use Rattle.answer_flow.specs.Checking.{Asks, Fits, GivesTo};
+ghost use Rattle.answer_flow.specs.CheckViews.{at_rest, begins_at, ending_of, heads};
+
+use crate::check_stage::{AskedCheck, CheckEnd, Ready, Stage};
+use crate::check_turns::{give, next};
+use crate::freshness::Freshness;
+use crate::walk::Walk;
+use calls::{NodeCall, Reply};
+use std::alloc::{AllocError, Global};
+use std::marker::Model;
+use std::mem;
+use tuples::{Refusal, User, Userset};
+
+/// A check on its way: `heads`, until it has its place; then breadth first from the asked userset, each userset once: its shard is brought up to the
+/// place, and read. It holds nothing that has to be spent, so who cancels it drops it.
+#[derive(Drop)]
+#[must_use]
+pub struct CheckFlow {
+    asked: AskedCheck,
+    stage: Stage,
+}
+
+impl Model for CheckFlow {
+    ghost use Rattle.answer_flow.specs.Finding.{fresh_of};
+    ghost use Rattle.answer_flow.specs.CheckViews.{CheckFlowValue};
+
+    ghost Value = { CheckFlowValue };
+
+    ghost use Rattle.answer_flow.specs.CheckViews.{IsStageOf, view_of};
+
+    ghost view = { λ f. record { shards = f.asked.shards; fresh = fresh_of f.asked.freshness; user = f.asked.user; seen = view_of f.stage } };
+
+    ghost invariant = { λ f. IsStageOf f.asked.shards f.asked.user f.stage };
+}
+
+// What stands there while a stage is out.
+fn nowhere() -> Stage {
+    Stage::Ended(CheckEnd::Refused(Refusal::Damaged))
+}
+
+// Puts a stage in the place of one that was taken out.
+fn put(place: &mut Stage, stage: Stage)
+    ensures { place.new ≡ stage }
+{
+    drop(mem::replace(place, stage));
+}
+
+impl CheckFlow {
+    /// To ask whether the user is in the userset, in a store of so many shards.
+    pub fn new(
+        alloc: Global,
+        shards: u8,
+        freshness: Freshness,
+        userset: &Userset,
+        user: User,
+    ) -> Result<CheckFlow, AllocError>
+        requires some { 1 ≤ shards }
+        requires few { shards ≤ max_shards }
+        ensures { IfOk result (λ f. f ≡ record { shards = shards; fresh = fresh_of freshness; user = user; seen = at_rest heads (begins_at userset.now) }) }
+    {
+        let walk = Walk::new(alloc, userset)?;
+        Ok(CheckFlow {
+            asked: AskedCheck {
+                shards,
+                freshness,
+                user,
+            },
+            stage: Stage::Ready(Ready::Heads(walk)),
+        })
+    }
+
+    /// Its next call, which has to be made, and the reply given. None where it has ended, and while a call is out.
+    pub fn next_call(&mut self) -> Option<NodeCall>
+        ensures asked { self.new ≡ record self.old { seen = self.new.seen } }
+        ensures call { MatchOption result (self.new ≡ self.old) (λ call. Asks self.old.shards self.old.user self.old.seen call self.new.seen) }
+        ensures ended { (end : _) → self.old.seen.ended ≡ Some end → result ≡ None }
+        ensures out { (awaited : _) → self.old.seen.awaited ≡ Some awaited → result ≡ None }
+        ensures some { self.old.seen.ended ≡ None → self.old.seen.awaited ≡ None → result ≢ None }
+    {
+        let stage = mem::replace(&mut self.stage, nowhere());
+        match stage {
+            Stage::Ready(ready) => {
+                let (call, out) = next(&self.asked, ready);
+                put(&mut self.stage, Stage::Out(out));
+                Some(call)
+            }
+            other => {
+                put(&mut self.stage, other);
+                None
+            }
+        }
+    }
+
+    /// What the reply to its call makes of it. Where memory is refused it ends with `NoMemory`.
+    pub fn give(&mut self, reply: Reply)
+        requires { MatchOption self.old.seen.awaited ⊥ (λ awaited. Fits awaited reply) }
+        ensures asked { self.new ≡ record self.old { seen = self.new.seen } }
+        ensures gives { MatchOption self.old.seen.awaited ⊥ (λ awaited. GivesTo self.old.fresh self.old.user self.old.seen awaited reply self.new.seen) }
+    {
+        let stage = mem::replace(&mut self.stage, nowhere());
+        match stage {
+            Stage::Out(out) => {
+                let stage = give(&self.asked, out, reply);
+                put(&mut self.stage, stage);
+            }
+            other => {
+                reply.leave();
+                put(&mut self.stage, other);
+            }
+        }
+    }
+
+    /// Whether it has ended.
+    pub fn has_ended(&self) -> bool
+        ensures { result ≡ is_some self.now.seen.ended }
+    {
+        match &self.stage {
+            Stage::Ended(_) => true,
+            Stage::Ready(_) | Stage::Out(_) => false,
+        }
+    }
+
+    /// How it ended, where it has.
+    pub fn finish(self) -> Option<CheckEnd>
+        ensures { option_map ending_of result ≡ self.seen.ended }
+    {
+        let CheckFlow { asked: _, stage } = self;
+        match stage {
+            Stage::Ended(end) => Some(end),
+            Stage::Ready(_) | Stage::Out(_) => None,
+        }
+    }
+}

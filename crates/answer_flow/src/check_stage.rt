@@ -1,0 +1,51 @@
+// Where a check is between two of its calls, and while one is out.
+ghost use Rattle.std.specs.Prelude.{◌≤◌};
+ghost use Rattle.records.specs.Identity.{max_shards};
+
+use crate::freshness::Freshness;
+use crate::walk::Walk;
+use catch_up::{CatchUp, CatchUpCall};
+use tuples::{Refusal, User, Userset};
+
+/// About whom a check is asked, in a store of so many shards.
+#[derive(Drop)]
+pub(crate) struct AskedCheck {
+    pub(crate) shards: u8,
+    pub(crate) freshness: Freshness,
+    pub(crate) user: User,
+    ghost some: { 1 ≤ shards },
+    ghost few: { shards ≤ max_shards },
+}
+
+/// How a check ended.
+#[derive(Clone, Copy, Debug, PartialEq, Eq)]
+pub enum CheckEnd {
+    /// The place, and whether the user is a member there.
+    Answered(u64, bool),
+    Refused(Refusal),
+}
+
+/// Its next call. A read hands in the userset and the user.
+#[derive(Drop)]
+pub(crate) enum Ready {
+    Heads(Walk),
+    Flush(Walk),
+    CatchUp(u64, Walk, CatchUp),
+    Read(u64, Walk, Userset, User),
+}
+
+/// The call that is out, with what stays here.
+#[derive(Drop)]
+pub(crate) enum Out {
+    Heads(Walk),
+    Flush(Walk),
+    CatchUp(u64, Walk, CatchUpCall),
+    Read(u64, Walk),
+}
+
+#[derive(Drop)]
+pub(crate) enum Stage {
+    Ready(Ready),
+    Out(Out),
+    Ended(CheckEnd),
+}

@@ -1,0 +1,98 @@
+// The turns of a check: the call of each stage, and what the reply makes of it.
+ghost use Rattle.answer_flow.specs.Finding.{fresh_of};
+ghost use Rattle.answer_flow.specs.Checking.{Asks, Fits, GivesTo};
+ghost use Rattle.answer_flow.specs.CheckViews.{IsOutOf, IsReadyOf, IsStageOf, awaited_of, view_of, view_out, view_ready};
+ghost use Rattle.answer_flow.specs.declared.check_stage.Out.TheVariants as out_of;
+ghost use Rattle.answer_flow.specs.declared.check_stage.Ready.TheVariants as ready_of;
+
+use crate::check_stage::{AskedCheck, CheckEnd, Out, Ready, Stage};
+use crate::checking::{caught_up, flushed, have_read, shard_to_ask, told};
+use crate::walk::Walk;
+use calls::{CoordinatorCall, CoordinatorReply, NodeCall, Reply, ShardCall, ShardReply};
+use catch_up::CatchUp;
+use tuples::{Refusal, User, Userset};
+
+fn call_of_catch_up(
+    asked: &AskedCheck,
+    place: u64,
+    walk: Walk,
+    catch_up: CatchUp,
+) -> (NodeCall, Out)
+    requires { IsReadyOf asked.now.shards asked.now.user (ready_of.CatchUp place walk catch_up) }
+    ensures asks { Asks asked.now.shards asked.now.user (view_ready (ready_of.CatchUp place walk catch_up)) result.0 (view_out result.1) }
+    ensures kept { IsOutOf asked.now.shards result.1 }
+{
+    let _asked = asked;
+    let (call, awaited) = catch_up.next_call();
+    (call, Out::CatchUp(place, walk, awaited))
+}
+
+fn call_of_read(
+    asked: &AskedCheck,
+    place: u64,
+    walk: Walk,
+    userset: Userset,
+    user: User,
+) -> (NodeCall, Out)
+    requires { IsReadyOf asked.now.shards asked.now.user (ready_of.Read place walk userset user) }
+    ensures asks { Asks asked.now.shards asked.now.user (view_ready (ready_of.Read place walk userset user)) result.0 (view_out result.1) }
+    ensures kept { IsOutOf asked.now.shards result.1 }
+{
+    let shard = shard_to_ask(&userset, asked.shards);
+    let call = ShardCall::ReadForCheck(place, userset, user);
+    (NodeCall::Shard(shard, call), Out::Read(place, walk))
+}
+
+/// The call of a stage, and the stage while it is out.
+pub(crate) fn next(asked: &AskedCheck, ready: Ready) -> (NodeCall, Out)
+    requires { IsReadyOf asked.now.shards asked.now.user ready }
+    ensures asks { Asks asked.now.shards asked.now.user (view_ready ready) result.0 (view_out result.1) }
+    ensures kept { IsOutOf asked.now.shards result.1 }
+{
+    match ready {
+        Ready::Heads(walk) => (
+            NodeCall::Coordinator(CoordinatorCall::Heads),
+            Out::Heads(walk),
+        ),
+        Ready::Flush(walk) => (
+            NodeCall::Coordinator(CoordinatorCall::Flush),
+            Out::Flush(walk),
+        ),
+        Ready::CatchUp(place, walk, catch_up) => call_of_catch_up(asked, place, walk, catch_up),
+        Ready::Read(place, walk, userset, user) => {
+            call_of_read(asked, place, walk, userset, user)
+        }
+    }
+}
+
+// Nobody gives the reply to another call, but what it carries has to be spent.
+fn foreign(reply: Reply) -> Stage {
+    reply.leave();
+    Stage::Ended(CheckEnd::Refused(Refusal::Damaged))
+}
+
+/// What a reply makes of it.
+pub(crate) fn give(asked: &AskedCheck, out: Out, reply: Reply) -> Stage
+    requires kept { IsOutOf asked.now.shards out }
+    requires fits { Fits (awaited_of out) reply }
+    ensures gives { GivesTo (fresh_of asked.now.freshness) asked.now.user (view_out out) (awaited_of out) reply (view_of result) }
+    ensures kept { IsStageOf asked.now.shards asked.now.user result }
+{
+    match out {
+        Out::Heads(walk) => match reply {
+            Reply::Coordinator(CoordinatorReply::Heads(answer)) => told(asked, walk, answer),
+            other => foreign(other),
+        },
+        Out::Flush(walk) => match reply {
+            Reply::Coordinator(CoordinatorReply::Flush(answer)) => flushed(asked, walk, answer),
+            other => foreign(other),
+        },
+        Out::CatchUp(place, walk, call) => caught_up(asked, place, walk, call, reply),
+        Out::Read(place, walk) => match reply {
+            Reply::Shard(ShardReply::ReadForCheck(_, _, answer)) => {
+                have_read(asked, place, walk, answer)
+            }
+            other => foreign(other),
+        },
+    }
+}

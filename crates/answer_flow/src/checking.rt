@@ -1,0 +1,184 @@
+// What a check makes of the answers to its calls.
+ghost use Rattle.std.specs.Prelude.{◌≡◌, ◌≢◌, ◌⊎◌, ◌≤◌, ◌<◌, ◌↔◌, [], IfOk, IsTrue, Contains, MatchOption, Some, None, false};
+ghost use Rattle.records.specs.Identity.{max_shards};
+ghost use Rattle.tuples.specs.Checking.{holding};
+ghost use Rattle.tuples.specs.Parts.{shard_of as shard_number};
+ghost use Rattle.answer_flow.specs.Finding.{fresh_of};
+ghost use Rattle.answer_flow.specs.Checking.{CatchUpGives, Continues, FlushGives, HeadsGive, LacksMemory, ReadGives, RowsGive};
+ghost use Rattle.answer_flow.specs.CheckViews.{IsFirst, IsOutOf, IsStageOf, at_rest, catch_up as to_catch_up, checked, ended, holding_walk, read as to_read, view_of, view_out};
+ghost use Rattle.answer_flow.specs.declared.check_stage.Out.TheVariants as out_of;
+ghost use Rattle.catch_up.specs.CatchingUp.{Fits as FitsCatchUp};
+
+use crate::check_stage::{AskedCheck, CheckEnd, Ready, Stage};
+use crate::finding::{Found, find};
+use crate::walk::{Walk, has_user};
+use calls::Reply;
+use catch_up::{CatchUp, CatchUpCall, Progress};
+use decisions::Heads;
+use shard::ReadReply;
+use std::alloc::AllocError;
+use tuples::{Refusal, Tuple, User, Userset, shard_of};
+
+/// The most usersets that one check walks.
+const MOST_WALKED: usize = 4_096;
+
+fn refused(refusal: Refusal) -> Stage
+    ensures { result ≡ Stage.Ended (CheckEnd.Refused refusal) }
+{
+    Stage::Ended(CheckEnd::Refused(refusal))
+}
+
+fn answered(place: u64, is_member: bool) -> Stage
+    ensures { result ≡ Stage.Ended (CheckEnd.Answered place is_member) }
+{
+    Stage::Ended(CheckEnd::Answered(place, is_member))
+}
+
+/// The shard that keeps the rows of a userset.
+#[tactic(auto, using(tuples::proofs::Named::shard_below))]
+pub(crate) fn shard_to_ask(userset: &Userset, shards: u8) -> u8
+    requires some { 1 ≤ shards }
+    requires few { shards ≤ max_shards }
+    ensures value { result ≡ shard_number shards userset.now.object }
+    ensures there { result < shards }
+{
+    shard_of(&userset.object, shards)
+}
+
+// The shard of the first that waits is brought up to the place. Where none waits the user is no member.
+fn bring_up(asked: &AskedCheck, place: u64, walk: Walk) -> Stage
+    ensures none { walk.waiting ≡ [] → view_of result ≡ ended (checked place false) }
+    ensures more { walk.waiting ≢ [] → view_of result ≡ at_rest to_catch_up (holding_walk walk (Some place) None) }
+    ensures kept { IsStageOf asked.now.shards asked.now.user result }
+{
+    let Some(first) = walk.first() else {
+        return answered(place, false);
+    };
+    let shard = shard_to_ask(first, asked.shards);
+    let catch_up = CatchUp::new(shard, place);
+    Stage::Ready(Ready::CatchUp(place, walk, catch_up))
+}
+
+// It goes on, unless as many were walked as may be.
+fn go_on(asked: &AskedCheck, place: u64, walk: Walk) -> Stage
+    ensures goes { Continues place (holding_walk walk (Some place) None) (view_of result) }
+    ensures kept { IsStageOf asked.now.shards asked.now.user result }
+{
+    if walk.waits() && MOST_WALKED <= walk.walked() {
+        return refused(Refusal::Full);
+    }
+    bring_up(asked, place, walk)
+}
+
+/// The coordinator has told its heads.
+pub(crate) fn told(asked: &AskedCheck, walk: Walk, answer: Result<Heads, Refusal>) -> Stage
+    ensures gives { HeadsGive (fresh_of asked.now.freshness) (view_out (out_of.Heads walk)) answer (view_of result) }
+    ensures kept { IsStageOf asked.now.shards asked.now.user result }
+{
+    match answer {
+        Ok(heads) => match find(asked.freshness, &heads) {
+            Found::At(place) => go_on(asked, place, walk),
+            Found::Later => Stage::Ready(Ready::Flush(walk)),
+            Found::Refused(refusal) => refused(refusal),
+        },
+        Err(refusal) => refused(refusal),
+    }
+}
+
+/// The coordinator was flushed, and is asked again.
+pub(crate) fn flushed(asked: &AskedCheck, walk: Walk, answer: Result<(), Refusal>) -> Stage
+    ensures gives { FlushGives (view_out (out_of.Flush walk)) answer (view_of result) }
+    ensures kept { IsStageOf asked.now.shards asked.now.user result }
+{
+    let _asked = asked;
+    match answer {
+        Ok(()) => Stage::Ready(Ready::Heads(walk)),
+        Err(refusal) => refused(refusal),
+    }
+}
+
+// What the first that waits is asked.
+fn question(walk: &Walk, user: &User) -> Result<Option<(Userset, User)>, AllocError>
+    ensures { IfOk result (λ asks. MatchOption asks (walk.now.waiting ≡ []) (λ q. IsFirst walk.now q.0 × (q.1 ≡ user.now))) }
+{
+    let Some(first) = walk.first() else {
+        return Ok(None);
+    };
+    let user = user.clone()?;
+    let first = first.clone()?;
+    Ok(Some((first, user)))
+}
+
+// The shard has learned so far, and is read.
+fn ask(asked: &AskedCheck, place: u64, walk: Walk) -> Stage
+    requires { walk.waiting ≢ [] }
+    ensures gives { (view_of result ≡ at_rest to_read (holding_walk walk (Some place) None)) ⊎ LacksMemory (view_of result) }
+    ensures kept { IsStageOf asked.now.shards asked.now.user result }
+{
+    match question(&walk, &asked.user) {
+        Ok(Some((userset, user))) => Stage::Ready(Ready::Read(place, walk, userset, user)),
+        Ok(None) => answered(place, false),
+        Err(_) => refused(Refusal::NoMemory),
+    }
+}
+
+/// A call of the catch-up was answered.
+pub(crate) fn caught_up(
+    asked: &AskedCheck,
+    place: u64,
+    walk: Walk,
+    call: CatchUpCall,
+    reply: Reply,
+) -> Stage
+    requires kept { IsOutOf asked.now.shards (out_of.CatchUp place walk call) }
+    requires fits { FitsCatchUp call.awaited reply }
+    ensures gives { CatchUpGives (view_out (out_of.CatchUp place walk call)) call.awaited reply (view_of result) }
+    ensures kept { IsStageOf asked.now.shards asked.now.user result }
+{
+    match call.give(reply) {
+        Progress::Next(catch_up) => Stage::Ready(Ready::CatchUp(place, walk, catch_up)),
+        Progress::There => ask(asked, place, walk),
+        Progress::Refused(refusal) => refused(refusal),
+    }
+}
+
+// Whether the first that waits holds the user.
+fn is_found(walk: &Walk, rows: &[Tuple], user: &User) -> bool
+    ensures { (y : _) → IsFirst walk.now y → (IsTrue result ↔ Contains rows.now (holding y user.now)) }
+{
+    match walk.first() {
+        Some(first) => has_user(rows, first, user),
+        None => false,
+    }
+}
+
+// The rows of the first that waits.
+fn gather(asked: &AskedCheck, place: u64, walk: Walk, rows: Vec<Tuple>) -> Stage
+    ensures goes { (y : _) → IsFirst walk y → RowsGive asked.now.user place (holding_walk walk (Some place) None) y rows.items (view_of result) }
+    ensures kept { IsStageOf asked.now.shards asked.now.user result }
+{
+    if is_found(&walk, &rows, &asked.user) {
+        return answered(place, true);
+    }
+    match walk.walk_first(&rows) {
+        Ok(walk) => go_on(asked, place, walk),
+        Err(_) => refused(Refusal::NoMemory),
+    }
+}
+
+/// The shard has read, or has not learned so far.
+pub(crate) fn have_read(
+    asked: &AskedCheck,
+    place: u64,
+    walk: Walk,
+    answer: Result<ReadReply, Refusal>,
+) -> Stage
+    ensures gives { ReadGives asked.now.user (view_out (out_of.Read place walk)) answer (view_of result) }
+    ensures kept { IsStageOf asked.now.shards asked.now.user result }
+{
+    match answer {
+        Ok(ReadReply::Rows(rows)) => gather(asked, place, walk, rows),
+        Ok(ReadReply::Behind) => bring_up(asked, place, walk),
+        Err(refusal) => refused(refusal),
+    }
+}

@@ -1,0 +1,154 @@
+// The usersets that a check meets: those that it has walked, and those that wait.
+ghost use Rattle.std.specs.Prelude.{◌≡◌, ◌≢◌, ◌↔◌, ◌∷◌, ◌++◌, [], List, length, Some, IfOk, OnOk, IsTrue, Contains, slice_get, option_copied};
+ghost use Rattle.tuples.specs.declared.object.Userset.{Userset as AnyUserset};
+ghost use Rattle.tuples.specs.declared.user.User.TheVariants.{Set};
+ghost use Rattle.tuples.specs.Checking.{holding};
+ghost use Rattle.answer_flow.specs.Walking.{IsWalk, IsWalked, LetsWait, Meets};
+
+use std::alloc::{AllocError, Global};
+use std::collections::{BTreeSet, VecDeque};
+use std::marker::Model;
+use tuples::{Tuple, User, Userset};
+
+/// Each userset was met once. A set of all makes it cheap to tell whether one was met.
+#[derive(Drop)]
+pub(crate) struct Walk {
+    walked: Vec<Userset>,
+    waiting: VecDeque<Userset>,
+    met: BTreeSet<Userset>,
+}
+
+impl Model for Walk {
+    ghost use Rattle.std.specs.Prelude.{◌++◌};
+    ghost use Rattle.answer_flow.specs.Walking.{IsWalk, WalkValue};
+
+    ghost Value = { WalkValue };
+
+    ghost view = { λ w. record { walked = w.walked.items; waiting = w.waiting.items } };
+
+    ghost invariant = { λ w. IsWalk w.met.keys (w.walked.items ++ w.waiting.items) };
+}
+
+fn copied(userset: &Userset) -> Result<Userset, AllocError>
+    ensures { IfOk result (λ copy. copy ≡ userset.now) }
+{
+    userset.clone()
+}
+
+// Lets it wait, unless it was met before.
+fn meet(
+    met: &mut BTreeSet<Userset>,
+    waiting: &mut VecDeque<Userset>,
+    userset: &Userset,
+) -> Result<(), AllocError>
+    ensures { OnOk result (Meets met.old.keys waiting.old.items userset.now met.new.keys waiting.new.items) }
+{
+    if met.contains(userset) {
+        return Ok(());
+    }
+    let copy = copied(userset)?;
+    waiting.push_back(copied(userset)?)?;
+    met.insert(copy)?;
+    Ok(())
+}
+
+/// Whether the row is of the userset and the user.
+fn is_holding(userset: &Userset, user: &User, row: &Tuple) -> bool
+    ensures { IsTrue result ↔ (row.now ≡ holding userset.now user.now) }
+{
+    if !row.object.cmp(&userset.object).is_eq() {
+        return false;
+    }
+    if !row.relation.cmp(&userset.relation).is_eq() {
+        return false;
+    }
+    row.user.cmp(user).is_eq()
+}
+
+/// Whether one of the rows is of the userset and the user.
+pub(crate) fn has_user(rows: &[Tuple], userset: &Userset, user: &User) -> bool
+    ensures { IsTrue result ↔ Contains rows.now (holding userset.now user.now) }
+{
+    for row in rows {
+        if is_holding(userset, user, row) {
+            return true;
+        }
+    }
+    false
+}
+
+// Lets the usersets wait that the rows of this one name.
+fn meet_rows(
+    met: &mut BTreeSet<Userset>,
+    waiting: &mut VecDeque<Userset>,
+    userset: &Userset,
+    rows: &[Tuple],
+) -> Result<(), AllocError>
+    ensures { OnOk result ((known : List AnyUserset) → IsWalk met.old.keys known → LetsWait userset.now rows.now known met.new.keys waiting.new.items waiting.old.items) }
+{
+    for row in rows {
+        if let User::Set(held) = &row.user {
+            if is_holding(userset, &row.user, row) {
+                meet(met, waiting, held)?;
+            }
+        }
+    }
+    Ok(())
+}
+
+impl Walk {
+    /// Of a check that begins at this userset.
+    pub(crate) fn new(alloc: Global, userset: &Userset) -> Result<Walk, AllocError>
+        ensures { IfOk result (λ w. w ≡ record { walked = []; waiting = userset.now ∷ [] }) }
+    {
+        let mut waiting = VecDeque::new(alloc);
+        let mut met = BTreeSet::new(alloc);
+        meet(&mut met, &mut waiting, userset)?;
+        Ok(Walk {
+            walked: Vec::new(alloc),
+            waiting,
+            met,
+        })
+    }
+
+    /// The first that waits.
+    pub(crate) fn first(&self) -> Option<&Userset>
+        ensures { option_copied result ≡ slice_get self.now.waiting 0 }
+    {
+        self.waiting.front()
+    }
+
+    /// Whether one waits.
+    pub(crate) fn waits(&self) -> bool
+        ensures { IsTrue result ↔ (self.now.waiting ≢ []) }
+    {
+        !self.waiting.is_empty()
+    }
+
+    /// How many were walked.
+    pub(crate) fn walked(&self) -> usize
+        ensures { result ≡ length self.now.walked }
+    {
+        self.walked.len()
+    }
+
+    /// Walks the first that waits, whose rows these are.
+    pub(crate) fn walk_first(self, rows: &[Tuple]) -> Result<Walk, AllocError>
+        ensures { IfOk result (λ w. (y : AnyUserset) (rest : List AnyUserset) → self.waiting ≡ y ∷ rest → IsWalked y rest rows.now self w) }
+    {
+        let Walk {
+            mut walked,
+            mut waiting,
+            mut met,
+        } = self;
+        if let Some(first) = waiting.pop_front() {
+            meet_rows(&mut met, &mut waiting, &first, rows)?;
+            walked.push(first)?;
+        }
+        Ok(Walk {
+            walked,
+            waiting,
+            met,
+        })
+    }
+}
