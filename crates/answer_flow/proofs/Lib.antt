@@ -3,3 +3,4 @@ pub mod CatchUps
 pub mod MergedRows
 pub mod RowsGiven
 pub mod Fitting
+pub mod ReadFitting
