@@ -7,3 +7,4 @@ pub mod OnceEach
 pub mod MetLists
 pub mod Walked
 pub mod Waiting
+pub mod ReadFitting

@@ -18,6 +18,10 @@ mod logging;
 #[cfg(test)]
 mod plays;
 #[cfg(test)]
+mod reading;
+#[cfg(test)]
+mod reads;
+#[cfg(test)]
 mod refused_writes;
 #[cfg(test)]
 mod stores;

@@ -1,8 +1,9 @@
 // How flows ended, as texts.
-use answer_flow::WatchEnd;
+use answer_flow::{ReadEnd, WatchEnd};
 use care_flow::{CareEnd, Resolved};
 use commit_flow::WriteEnd;
-use tuples::{Change, Refusal, Version};
+use std::alloc::Global;
+use tuples::{Change, Refusal, Tuple, Version};
 
 // Numbers of one digit are told, and greater ones as `-`, but for 50.
 fn push_number(log: &mut String, number: u64) -> Result<(), Refusal> {
@@ -98,6 +99,50 @@ pub(crate) fn log_watch(log: &mut String, end: Option<WatchEnd>) -> Result<(), R
             log.push_str("; ")?;
         }
         Some(WatchEnd::Refused(refusal)) => log_refusal(log, refusal)?,
+        None => log_none(log)?,
+    }
+    Ok(())
+}
+
+// A tuple behind the number of its tupleset.
+fn log_row(alloc: Global, log: &mut String, number: u64, row: &Tuple) -> Result<(), Refusal> {
+    log.push_str(", ")?;
+    push_number(log, number)?;
+    log.push_str(" ")?;
+    let mut text = Vec::new(alloc);
+    row.write_to(&mut text)?;
+    match std::str::from_utf8(&text) {
+        Ok(text) => log.push_str(text)?,
+        Err(_) => return Err(Refusal::Damaged),
+    }
+    Ok(())
+}
+
+fn log_rows(alloc: Global, log: &mut String, number: u64, rows: &[Tuple]) -> Result<(), Refusal> {
+    for row in rows {
+        log_row(alloc, log, number, row)?;
+    }
+    Ok(())
+}
+
+// Tuplesets are numbered from 1 on.
+pub(crate) fn log_read(
+    alloc: Global,
+    log: &mut String,
+    end: Option<ReadEnd>,
+) -> Result<(), Refusal> {
+    match end {
+        Some(ReadEnd::Answered(place, done)) => {
+            log.push_str("at ")?;
+            push_number(log, place)?;
+            let mut number: u64 = 0;
+            for rows in &done {
+                number = number.saturating_add(1);
+                log_rows(alloc, log, number, rows)?;
+            }
+            log.push_str("; ")?;
+        }
+        Some(ReadEnd::Refused(refusal)) => log_refusal(log, refusal)?,
         None => log_none(log)?,
     }
     Ok(())

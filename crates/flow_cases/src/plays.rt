@@ -1,10 +1,12 @@
 // What a row does with a store, and what comes of it.
 use crate::caring::{self, begin_care};
-use crate::logging::{log_care, log_watch, log_write};
+use crate::logging::{log_care, log_read, log_watch, log_write};
+use crate::reading::Reading;
 use crate::stores::{Store, new_disks};
 use crate::turning::Turning;
 use crate::watching::{self, begin_watch};
 use crate::wide_writes::wide_line;
+use answer_flow::Freshness;
 use calls::{CoordinatorCall, NodeCall, NodeName, ShardCall, Told};
 use care_flow::Care;
 use commit_flow::WriteEnd;
@@ -35,6 +37,14 @@ pub(crate) enum Step {
     Care(Care),
     /// A watch of `doc` behind a place, of so many places, goes to its end.
     Watch(u64, u64),
+    /// A read of the tuplesets of these texts goes to its end.
+    Read(Freshness, &'static str),
+    /// Such a read is begun. It makes no call yet.
+    StartRead(Freshness, &'static str),
+    /// The read that was begun last makes so many calls.
+    TurnRead(usize),
+    /// The read that was begun last goes to its end.
+    RunRead,
     /// The flow is cancelled.
     Cancel(usize),
     /// The node is flushed.
@@ -56,6 +66,7 @@ fn write_of(alloc: Global, line: &[u8]) -> Result<Write, Refusal> {
 pub(crate) struct Playing<D: Device> {
     store: Store<D>,
     flows: Vec<Turning>,
+    reads: Vec<Reading>,
     told: Told,
     log: String,
 }
@@ -146,6 +157,44 @@ impl<D: Device> Playing<D> {
         log_watch(&mut self.log, flow.finish())
     }
 
+    fn start_read(
+        &mut self,
+        alloc: Global,
+        freshness: Freshness,
+        texts: &[u8],
+    ) -> Result<(), Refusal> {
+        self.reads.reserve(1)?;
+        let read = Reading::new(alloc, freshness, texts)?;
+        self.reads.push_reserved(read);
+        Ok(())
+    }
+
+    fn turn_read(&mut self, turns: usize) -> Result<(), Refusal> {
+        let Some(read) = self.reads.last_mut() else {
+            return Err(Refusal::BadRequest);
+        };
+        for _ in 0..turns {
+            match read.turn(&mut self.store, &mut self.told) {
+                Some(named) => named.write_to(&mut self.log)?,
+                None => return Ok(()),
+            }
+        }
+        Ok(())
+    }
+
+    fn run_read(&mut self, alloc: Global) -> Result<(), Refusal> {
+        self.turn_read(MOST_TURNS)?;
+        let Some(read) = self.reads.pop() else {
+            return Err(Refusal::BadRequest);
+        };
+        log_read(alloc, &mut self.log, read.finish())
+    }
+
+    fn read(&mut self, alloc: Global, freshness: Freshness, texts: &[u8]) -> Result<(), Refusal> {
+        self.start_read(alloc, freshness, texts)?;
+        self.run_read(alloc)
+    }
+
     fn cancel(&mut self, flow: usize) {
         if let Some(flow) = self.flows.get_mut(flow) {
             flow.cancel();
@@ -170,6 +219,12 @@ impl<D: Device> Playing<D> {
             Step::Run(flow) => self.run(flow),
             Step::Care(care) => self.care(alloc, care),
             Step::Watch(cursor, limit) => self.watch(alloc, cursor, limit),
+            Step::Read(freshness, texts) => self.read(alloc, freshness, texts.as_bytes()),
+            Step::StartRead(freshness, texts) => {
+                self.start_read(alloc, freshness, texts.as_bytes())
+            }
+            Step::TurnRead(turns) => self.turn_read(turns),
+            Step::RunRead => self.run_read(alloc),
             Step::Cancel(flow) => {
                 self.cancel(flow);
                 Ok(())
@@ -207,6 +262,7 @@ fn play<D: Device>(alloc: Global, devices: Vec<D>, steps: &[Step]) -> Result<Str
     let mut playing = Playing {
         store,
         flows: Vec::new(alloc),
+        reads: Vec::new(alloc),
         told: Told::new(),
         log: String::new(alloc),
     };
@@ -214,6 +270,7 @@ fn play<D: Device>(alloc: Global, devices: Vec<D>, steps: &[Step]) -> Result<Str
     let Playing {
         store: _,
         flows,
+        reads: _,
         told: _,
         log,
     } = playing;

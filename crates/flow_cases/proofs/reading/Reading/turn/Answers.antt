@@ -1,0 +1,6 @@
+-- A read waits for the reply to its call.
+use Rattle.answer_flow.proofs.ReadFitting.{read_fits}
+use Rattle.flow_cases.proofs.reading.Reading.turn.Goals as goal
+
+pub give-requires : goal.give-requires
+give-requires g c = read_fits _ _ c.in_ok-call.call c.ask-reply.result c.in_ok-call.ensures.asked c.in_ok-call.ensures.call c.ask-reply.ensures
