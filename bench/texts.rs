@@ -48,7 +48,7 @@ fn id(bytes: &[u8]) -> Option<Vec<u8>> {
 }
 
 impl Object {
-    fn parse(text: &[u8]) -> Option<Object> {
+    pub fn parse(text: &[u8]) -> Option<Object> {
         let (namespace, rest) = split_first(text, b':')?;
         Some(Object {
             namespace: name(namespace)?,
@@ -80,7 +80,7 @@ impl Userset {
 }
 
 impl User {
-    fn parse(text: &[u8]) -> Option<User> {
+    pub fn parse(text: &[u8]) -> Option<User> {
         if text.contains(&b':') {
             Some(User::Set(Userset::parse(text)?))
         } else {

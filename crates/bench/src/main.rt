@@ -7,12 +7,14 @@
 //! Start at `measure.rt`, what can be asked for. Each measure has a file; `sample.rt` has the records of two.
 #![tactic(auto)]
 
+mod appends;
 mod codec;
 mod crowd;
 mod deciding;
 mod doubts;
 mod flush;
 mod latest;
+mod lines;
 mod measure;
 mod openings;
 mod pairs;
@@ -40,7 +42,11 @@ fn main(rt: HostRuntime) -> ExitCode {
     let Ok(words) = args.collect::<Vec<String>>(rt.alloc()) else {
         return ExitCode::from(FAILED);
     };
-    match run(&rt, rt.alloc(), &words) {
+    let done = match appends::count_of(&words) {
+        Some(count) => append(&rt, rt.alloc(), count),
+        None => run(&rt, rt.alloc(), &words),
+    };
+    match done {
         Ok(()) => ExitCode::SUCCESS,
         Err(error) => {
             // A text that can't be printed changes nothing of the status.
@@ -48,6 +54,12 @@ fn main(rt: HostRuntime) -> ExitCode {
             ExitCode::from(FAILED)
         }
     }
+}
+
+// The one measure over a file of the system, which only the host's own runtime opens.
+fn append(rt: &HostRuntime, alloc: Global, count: u32) -> anyhow::Result<()> {
+    appends::measure(rt, alloc, count)?;
+    Ok(())
 }
 
 // The words of the command line, the program's own first.
@@ -58,7 +70,7 @@ fn run<R: Runtime + Threads + Wait + Sync>(
 ) -> anyhow::Result<()> {
     if words.len() <= 1 {
         println!(rt;
-            "measures: texts COUNT, codec ROUNDS, flush RECORDS, versions ROWS, holds WRITES, crowd USERS, decisions GROUPS, log DECISIONS, opening DECISIONS, pairs-by-one COUNT, pairs-by-two COUNT, latest-by-one, latest-by-four, called-by-one, called-by-four"
+            "measures: texts COUNT, codec ROUNDS, flush RECORDS, versions ROWS, holds WRITES, crowd USERS, decisions GROUPS, log DECISIONS, opening DECISIONS, lines-write COUNT, lines-read COUNT, lines-check COUNT, lines-watch COUNT, appends COUNT, pairs-by-one COUNT, pairs-by-two COUNT, latest-by-one, latest-by-four, called-by-one, called-by-four"
         )?;
         return Ok(());
     }

@@ -1,6 +1,7 @@
 // What can be measured.
 use crate::latest::Way;
-use crate::{codec, crowd, deciding, doubts, flush, latest, openings, pairs, rows, texts};
+use crate::lines::Kind;
+use crate::{codec, crowd, deciding, doubts, flush, latest, lines, openings, pairs, rows, texts};
 use std::alloc::Global;
 use std::rt::Clock;
 use std::sync::Wait;
@@ -27,6 +28,8 @@ pub(crate) enum Measure {
     Log(u32),
     /// The same, and a coordinator opened over it.
     Opening(u32),
+    /// So many lines of a session, of one kind, answered over memory.
+    Lines(Kind, u32),
     /// Looks at the safe place.
     LatestByOne(Way),
     /// Looks by four threads at once.
@@ -74,6 +77,10 @@ impl Measure {
             "decisions" => Some(Measure::Decisions(count)),
             "log" => Some(Measure::Log(count)),
             "opening" => Some(Measure::Opening(count)),
+            "lines-write" => Some(Measure::Lines(Kind::Write, count)),
+            "lines-read" => Some(Measure::Lines(Kind::Read, count)),
+            "lines-check" => Some(Measure::Lines(Kind::Check, count)),
+            "lines-watch" => Some(Measure::Lines(Kind::Watch, count)),
             "pairs-by-one" => Some(Measure::PairsByOne(count)),
             "pairs-by-two" => Some(Measure::PairsByTwo(count)),
             _ => None,
@@ -96,6 +103,7 @@ impl Measure {
             Measure::Decisions(groups) => deciding::measure(rt, alloc, groups)?,
             Measure::Log(decisions) => openings::log(rt, alloc, decisions)?,
             Measure::Opening(decisions) => openings::opening(rt, alloc, decisions)?,
+            Measure::Lines(kind, count) => lines::measure(rt, alloc, kind, count)?,
             Measure::LatestByOne(way) => latest::by_one(rt, alloc, way)?,
             Measure::LatestByFour(way) => latest::by_four(rt, alloc, way)?,
             Measure::PairsByOne(count) => pairs::by_one(rt, alloc, count)?,
