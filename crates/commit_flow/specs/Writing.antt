@@ -25,13 +25,21 @@ use Rattle.calls.specs.declared.call.ShardCall.TheVariants as shard_calls
 use Rattle.catch_up.specs.Held.{decisions, flushing, learned, learning}
 use Rattle.commit_flow.specs.declared.end.WriteEnd.TheVariants.{Wrote, Refused, Cancelled}
 use Rattle.commit_flow.specs.Participants.{ArePartsOf}
-use Rattle.commit_flow.specs.WriteHolds.{HeldTicket, Way, WriteAwaited, WriteHolds, onward, outward}
+use Rattle.commit_flow.specs.WriteHolds.{HeldTicket, Way, WriteAwaited, WriteHolds, nothing_begun, onward, outward}
 use Rattle.commit_flow.specs.WriteHolds as waits
 use Rattle.commit_flow.specs.Views.{WriteView, as_tickets, as_votes, holds_ended, ticket_value, view_ended}
 
--- on its way to the decision, which is not made yet
+-- it holds the intent of its write
+abbrev pub HasIntent : WriteView → Type 0
+HasIntent v = (i : IntentValue) × (v.holds.intent ≡ Some i) × (v.holds.id ≡ Some i.write.id)
+
+-- on its way to the decision, which is not made yet: its intent is not spent
 abbrev pub IsOnItsWay : WriteView → Type 0
-IsOnItsWay v = (v.holds.way ≡ onward) × (v.holds.decided ≡ None)
+IsOnItsWay v = (v.holds.way ≡ onward) × (v.holds.decided ≡ None) × HasIntent v
+
+-- a shard is brought up to the place that was kept when its write was begun
+abbrev pub IsCaughtUpTo : WriteView → ℕ → Type 0
+IsCaughtUpTo v to = (i : IntentValue) × (v.holds.intent ≡ Some i) × (to ≡ i.kept)
 
 -- on its way out
 abbrev pub IsOnItsWayOut : WriteView → Type 0
@@ -48,9 +56,9 @@ HasShard shards v s = (i : IntentValue) × (v.holds.intent ≡ Some i) × (s < s
 -- A call of the coordinator, by what it may be handed. A write is decided only on its way, by its intent and its votes, and never one that is decided; it is
 -- aborted only on its way out.
 abbrev pub AsksCoordinator : WriteView → CoordinatorCall → WriteView → Type 0
-AsksCoordinator v (calls.Begin write) after = (v.write ≡ Some write) × (after ≡ record v { write = None; awaited = Some waits.begin })
+AsksCoordinator v (calls.Begin write) after = ((v.write ≡ Some write) × (v.holds ≡ nothing_begun)) × (after ≡ record v { write = None; awaited = Some waits.begin })
 AsksCoordinator v calls.Heads after = ⊥
-AsksCoordinator v (calls.Batch from to) after = IsOnItsWay v × Waits v v.holds (waits.catch_up decisions) after
+AsksCoordinator v (calls.Batch from to) after = (IsOnItsWay v × IsCaughtUpTo v to) × Waits v v.holds (waits.catch_up decisions) after
 AsksCoordinator v (calls.Decide intent votes) after = IsOnItsWay v × (v.holds.intent ≡ Some intent) × (v.holds.id ≡ Some intent.write.id) × (v.holds.votes ≡ votes.items)
     × ((again : Bool) × Waits v (record v.holds { intent = None; votes = [] }) (waits.decide again) after)
 AsksCoordinator v (calls.Outcome decided) after = (v.holds.decided ≡ Some decided) × Waits v (record v.holds { decided = None }) waits.outcome after

@@ -1,7 +1,8 @@
 -- Flows that end: their answers agree.
-use Rattle.std.proofs.Common.{◌≡◌, inl, ⊎_elim, ◌≤◌, ℕ, false, List, [], ◌∷◌, ◌++◌, All, Contains, Some, None, refl, sym, ◌∙◌, ap, subst, arith}
+use Rattle.std.proofs.Common.{◌≡◌, ◌≢◌, inl, ⊎_elim, ◌≤◌, ℕ, false, List, [], ◌∷◌, ◌++◌, All, Contains, Some, None, refl, sym, ◌∙◌, ap, subst, arith}
 use Rattle.std.proofs.lemmas.List.Elements.{All-cons, All-head, All-nil, All-tail}
 use Rattle.refusal.specs.declared.refusal.Refusal.{Refusal}
+use Rattle.refusal.specs.declared.refusal.Refusal.TheVariants.{Unsure}
 use Rattle.records.specs.declared.record.Record.{Record}
 use Rattle.records.specs.Coordinators.{coordinator_state}
 use Rattle.laws.specs.Machines.{Machine}
@@ -108,10 +109,10 @@ module _ (store shards : ℕ) (left after : NodeName → List Record → Type 0)
 
   pub refused_writes_end : RefusedWritesEnd store shards left after
   refused_writes_end now next m r changes conditions h e call running asked holds way sure told =
-      quiet_calls_refuse store shards left after now next m r e call running told (λ none. sure) (λ other. met.0) (inl (sym (met.1 e refl)))
+      quiet_calls_refuse store shards left after now next m r e call running told (λ none. sure) (λ other. met.0) (inl (sym (met.1 e refl).0))
     where
       right : IsRightWrite shards after (behind_call now next m) r changes conditions h
       right = subst (λ (a : Asked). IsRight shards after (behind_call now next m) r a (writing h)) asked (subst (λ (k : Holds). IsRight shards after (behind_call now next m) r r.asked k) holds (call.stands.flows.held r running))
 
-      met : (r.decided ≡ None) × ((f : Refusal) → Some e ≡ Some f → r.met ≡ Some f)
+      met : (r.decided ≡ None) × ((f : Refusal) → Some e ≡ Some f → (r.met ≡ Some f) × (f ≢ Unsure))
       met = right.out (Some e) way

@@ -80,7 +80,7 @@ unfolding part
 part_condition shards s w c has = let is = filtered (λ (d : Condition). shard_of shards d.tuple.object == s) w.conditions c has in (is.0, eqb-true (shard_of shards c.tuple.object) s is.1)
 
 -- a tuple that a shard's part names is named by the write, and the shard's
-part_named : (shards s : ℕ) (w : Entry) (t : Tuple) → Contains (named (part shards s w)) t → Contains (changed w.changes ++ conditioned w.conditions) t × (shard_of shards t.object ≡ s)
+pub part_named : (shards s : ℕ) (w : Entry) (t : Tuple) → Contains (named (part shards s w)) t → Contains (changed w.changes ++ conditioned w.conditions) t × (shard_of shards t.object ≡ s)
 unfolding part
 part_named shards s w t has = ⊎_elim
     (λ of_changes.
@@ -103,7 +103,7 @@ some_named [] [] is = absurd cc
 some_named [] (c ∷ conditions) is = (c.tuple, (zero, omega arith, refl))
 some_named (c ∷ changes) conditions is = (tuple_of c, (zero, omega arith, refl))
 
-part_has : (shards s : ℕ) (w : Entry) → takes_part shards s w ≡ true → (t : Tuple) × Contains (named (part shards s w)) t
+pub part_has : (shards s : ℕ) (w : Entry) → takes_part shards s w ≡ true → (t : Tuple) × Contains (named (part shards s w)) t
 unfolding takes_part
 part_has shards s w takes = some_named (part shards s w).changes (part shards s w).conditions takes
 

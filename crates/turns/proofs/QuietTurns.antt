@@ -1,6 +1,6 @@
 -- A quiet call makes a turn of a run, whatever node it called.
-use Rattle.std.proofs.Common.{◌≡◌, ◌≢◌, ◌⊎◌, inl, inr, ⊎_elim, ℕ, true, false, List, [], ◌∷◌, ◌++◌, Option, Some, None, Contains, All, slice_index_or, refl, sym, ◌∙◌, ap, subst, arith}
-use Rattle.std.proofs.lemmas.Bool.{cases_Bool}
+use Rattle.std.proofs.Common.{◌≡◌, ◌≢◌, ◌⊎◌, inl, inr, ⊎_elim, ℕ, true, false, List, [], ◌∷◌, ◌++◌, Option, Some, None, Contains, All, slice_index_or, ◌==◌, refl, sym, ◌∙◌, ap, subst, arith}
+use Rattle.std.proofs.lemmas.Bool.{cases_Bool, eq-eqb, eqb-true}
 use Rattle.std.proofs.lemmas.List.Elements.{All-append, All-cons, All-contains, All-nil, Contains-append_right}
 use Rattle.tuples.specs.declared.change.Change.{Change}
 use Rattle.tuples.specs.declared.change.Condition.{Condition}
@@ -11,8 +11,8 @@ use Rattle.refusal.specs.declared.refusal.Refusal.TheVariants.{Down, Full, NoMem
 use Rattle.records.specs.declared.record.Record.{Record}
 use Rattle.records.specs.declared.record.Record.TheVariants.{Epoch}
 use Rattle.laws.specs.Machines.{Machine}
-use Rattle.laws.specs.Nodes.{IsOfRefusedOpening, NodeName, Nodes, coordinator}
-use Rattle.turns.specs.Causes.{HasItsCause}
+use Rattle.laws.specs.Nodes.{IsOfRefusedOpening, NodeName, NodeState, NodeTurns, Nodes, coordinator, refused, shard, up}
+use Rattle.turns.specs.Causes.{HasItsCause, IsCause}
 use Rattle.turns.specs.Flows.{Holds, WriteHolds, id_of, outward, to_write, writing}
 use Rattle.turns.specs.Held.{HoldsNothing, IsRight, IsRightOwn, IsRightTicket, IsRightVerdict, IsRightVote, IsRightWrite, own_write}
 use Rattle.turns.specs.Moments.{Moment, Running, ended, replaced}
@@ -82,9 +82,35 @@ own_less shards left now r holds met m w h k less old = record {
   not_reopened = λ i is. old.not_reopened i (less.intent i is);
 }
 
+is_same_node : (n k : NodeName) → (n ≡ k) ⊎ (n ≢ k)
+is_same_node coordinator coordinator = inl refl
+is_same_node coordinator (shard t) = inr (λ is. cc)
+is_same_node (shard s) coordinator = inr (λ is. cc)
+is_same_node (shard s) (shard t) = ⊎_elim (λ same. inl (ap shard (eqb-true s t same))) (λ other. inr (λ is. let same : s ≡ t = cc in let both : true ≡ false = sym (eq-eqb s t same) ∙ other in cc)) (cases_Bool (s == t))
+
+-- no call opens a node whose opening was refused
+still_refused : (old new : NodeState) (e : Refusal) → NodeTurns old new → old ≡ refused e → new ≡ refused e
+still_refused old new e (inl same) is = same ∙ is
+still_refused old new e (inr (inl more)) is = let both : up more.durable more.staged ≡ refused e = sym more.was ∙ is in absurd cc
+still_refused old new e (inr (inr (inl all))) is = let both : up all.durable all.staged ≡ refused e = sym all.was ∙ is in absurd cc
+still_refused old new e (inr (inr (inr down))) is = let both : up down.durable down.staged ≡ refused e = sym down.was ∙ is in absurd cc
+
+-- nor is any refused for Unsure
+not_unsure : (e : Refusal) → IsOfRefusedOpening e → e ≢ Unsure
+not_unsure e (inl is) same_as = let both : Down ≡ Unsure = sym is ∙ same_as in cc
+not_unsure e (inr (inl is)) same_as = let both : NoMemory ≡ Unsure = sym is ∙ same_as in cc
+not_unsure e (inr (inr is)) same_as = let both : Full ≡ Unsure = sym is ∙ same_as in cc
+
 module _ (store shards : ℕ) (left after : NodeName → List Record → Type 0) (now : Moment) (next : Nodes) (m : Machine) (call : IsQuietCall store shards left after now next m) where
   abbrev found_before : ℕ → Type 0
   found_before = IsHorizonIn store shards left now.nodes
+
+  -- each node turned as a call may turn it
+  turns_at : (n : NodeName) → NodeTurns (now.nodes.at n) (next.at n)
+  turns_at n = ⊎_elim
+      (λ same. subst (λ (k : NodeName). NodeTurns (now.nodes.at k) (next.at k)) (sym same) call.called)
+      (λ other. inl (call.others.others n other))
+      (is_same_node n call.node)
 
   module _ (r : Running) (running : Contains now.running r) where
     turned : (holds : Holds) (met : Option Refusal) (ran : Moment) → ran.machine ≡ m → id_of holds ≡ id_of r.holds → HasMet shards now ran r met
@@ -188,6 +214,13 @@ module _ (store shards : ℕ) (left after : NodeName → List Record → Type 0)
           refused_or_cancelled = λ is. old.refused_or_cancelled (sym same_way ∙ is);
         })
 
+    -- a refusal with its cause, of a flow that has not decided, is not Unsure
+    sure_of : (ran : Moment) (e : Refusal) → r.decided ≡ None → HasItsCause shards now ran r e → e ≢ Unsure
+    sure_of ran e none cause is = ⊎_elim
+        (λ own. let d = subst (IsCause shards now ran r) is own in let both : None ≡ Some d.0 = sym none ∙ d.1 in cc)
+        (λ away. not_unsure e (call.stands.nodes.sound away.0 e (still_refused (now.nodes.at away.0) (next.at away.0) e (turns_at away.0) away.2)) is)
+        cause
+
     pub go_out : (h k : WriteHolds) (changes : List Change) (conditions : List Condition) (e : Refusal) → r.asked ≡ to_write changes conditions → r.holds ≡ writing h → HoldsLess h k → k.way ≡ outward (Some e)
         → r.decided ≡ None → HasItsCause shards now (going_on now next m (with_call r (writing k) (Some e) m)) r e
         → Stands store shards after (going_on now next m (with_call r (writing k) (Some e) m)) × Turns shards found_before now r (told_unless r.is_cancelled) (going_on now next m (with_call r (writing k) (Some e) m))
@@ -195,6 +228,9 @@ module _ (store shards : ℕ) (left after : NodeName → List Record → Type 0)
         (record { call = call; running = running; same_id = less.id ∙ sym (ap id_of holds); right = right })
         (inr (e, refl, cause))
       where
+        sure : (f : Refusal) → HasItsCause shards now (going_on now next m (with_call r (writing k) (Some e) m)) r f → f ≢ Unsure
+        sure f its = sure_of (going_on now next m (with_call r (writing k) (Some e) m)) f none its
+
         old : IsRightWrite shards after (behind_call now next m) r changes conditions h
         old = was h changes conditions asked holds
 
@@ -204,7 +240,13 @@ module _ (store shards : ℕ) (left after : NodeName → List Record → Type 0)
           own = λ id is. own_less shards after (behind_call now next m) r (writing k) (Some e) m (own_write id changes conditions) h k less (old.own id (sym less.id ∙ is));
           same_decision = less.decided ∙ old.same_decision;
           batch = λ b is. old.batch b (less.batch b is);
-          out = λ met is. (none, λ f is_f. let both : outward (Some e) ≡ outward (Some f) = sym goes_out ∙ is ∙ ap outward is_f in cc);
+          out = λ met is. (
+            none,
+            λ f is_f.
+                let both : outward (Some e) ≡ outward (Some f) = sym goes_out ∙ is ∙ ap outward is_f in
+                let same : e ≡ f = cc in
+                (ap (λ (x : Refusal). Some x) same, λ unsure. sure e cause (same ∙ unsure)),
+          );
           cancelled = λ is undecided. (Some e, goes_out);
           refused_or_cancelled = λ is. let both : outward (Some e) ≡ outward None = sym goes_out ∙ is in absurd cc;
         })
@@ -249,13 +291,8 @@ away_nodes_have_cause store shards left after now behind r n e st same calls awa
       subst (HasItsCause shards now behind r) (sym gone.1) (inl (n, calls, inl (ap (λ (nodes : Nodes). nodes.at n) same ∙ gone.0))),
       λ is. let both : Down ≡ Unsure = sym gone.1 ∙ is in cc,
     ))
-    (λ refused_is. (inr (n, calls, refused_is), λ is. sure e (st.nodes.sound n e refused_is) is))
+    (λ refused_is. (inr (n, calls, refused_is), λ is. not_unsure e (st.nodes.sound n e refused_is) is))
     away
-  where
-    sure : (f : Refusal) → IsOfRefusedOpening f → f ≢ Unsure
-    sure f (inl is) same_as = let both : Down ≡ Unsure = sym is ∙ same_as in cc
-    sure f (inr (inl is)) same_as = let both : NoMemory ≡ Unsure = sym is ∙ same_as in cc
-    sure f (inr (inr is)) same_as = let both : Full ≡ Unsure = sym is ∙ same_as in cc
 
 -- a call that changes nothing is quiet, of whatever node
 pub nothing_changes : (store shards : ℕ) (left : NodeName → List Record → Type 0) (now : Moment) → Stands store shards left now → IsQuietCall store shards left left now now.nodes now.machine

@@ -6,6 +6,7 @@ use Rattle.tuples.specs.declared.entry.Entry.{Entry}
 use Rattle.tuples.specs.declared.entry.WriteId.{WriteId}
 use Rattle.tuples.specs.declared.object.Userset.{Userset}
 use Rattle.refusal.specs.declared.refusal.Refusal.{Refusal}
+use Rattle.refusal.specs.declared.refusal.Refusal.TheVariants.{Unsure}
 use Rattle.tuples.specs.declared.tuple.Tuple.{Tuple}
 use Rattle.tuples.specs.declared.tupleset.Tupleset.{Tupleset}
 use Rattle.tuples.specs.declared.user.User.{User}
@@ -129,13 +130,13 @@ module _ (shards : ℕ) (left : NodeName → List Record → Type 0) where
     pub verdict : h.verdict ≡ None
 
   -- What a write flow holds. It holds a decision where it has made one. On its way out it has made none, and has met the refusal that it will
-  -- answer; it goes out where it was cancelled before the decision.
+  -- answer, which is not Unsure; it goes out where it was cancelled before the decision.
   pub record IsRightWrite (now : Moment) (r : Running) (changes : List Change) (conditions : List Condition) (h : WriteHolds) : Type 0 where
     pub nothing : h.id ≡ None → HoldsNothing h
     pub own : (id : WriteId) → h.id ≡ Some id → IsRightOwn now r (own_write id changes conditions) h
     pub same_decision : h.decided ≡ r.decided
     pub batch : IfHeld h.batch (IsRightBatch now.machine)
-    pub out : (met : Option Refusal) → h.way ≡ outward met → (r.decided ≡ None) × ((e : Refusal) → met ≡ Some e → r.met ≡ Some e)
+    pub out : (met : Option Refusal) → h.way ≡ outward met → (r.decided ≡ None) × ((e : Refusal) → met ≡ Some e → (r.met ≡ Some e) × (e ≢ Unsure))
     pub cancelled : r.is_cancelled ≡ true → r.decided ≡ None → (met : Option Refusal) × (h.way ≡ outward met)
     pub refused_or_cancelled : h.way ≡ outward None → r.is_cancelled ≡ true
 

@@ -1,5 +1,5 @@
 -- An inquiry is for the id that is held; a drop hands in what a shard gave, and the rest stays.
-use Rattle.std.proofs.Common.{◌++◌, inr, map, refl}
+use Rattle.std.proofs.Common.{◌++◌, inl, inr, map, refl}
 use Rattle.commit_flow.specs.Views.{in_hand, ticket_value, tickets_of}
 use Rattle.commit_flow.proofs.next.next.Goals as goal
 
@@ -17,4 +17,10 @@ pub returns-in-FlushToVote-clause-asks : goal.returns-in-FlushToVote-clause-asks
 returns-in-FlushToVote-clause-asks c =
     let v = c.in-FlushToVote.voting in
     let asked = c.flush_shard-in-FlushToVote.ensures in
-    rw (c.in-FlushToVote.is, asked.0, asked.1) (tt, ((refl, refl), inr (c.in-FlushToVote.ticket, tickets_of v.load, refl, refl)))
+    rw (c.in-FlushToVote.is, asked.0, asked.1) (tt, ((refl, refl, (v.intent, refl, refl)), inr (c.in-FlushToVote.ticket, tickets_of v.load, refl, refl)))
+
+pub returns-in-FlushToDecide-clause-asks : goal.returns-in-FlushToDecide-clause-asks
+returns-in-FlushToDecide-clause-asks c =
+    let asked = c.ask_coordinator-in-FlushToDecide.ensures in
+    let b = c.in-FlushToDecide.ballot in
+    rw (c.in-FlushToDecide.is, asked.0, asked.1) (tt, inl ((refl, refl, (b.intent, refl, refl)), refl))

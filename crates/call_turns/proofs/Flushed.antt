@@ -1,0 +1,304 @@
+-- A flush of a node of a store that stands is quiet, whether it answers Ok or fails.
+use Rattle.std.proofs.Common.{◌≡◌, ◌≢◌, ◌⊎◌, inl, inr, ⊎_elim, ◌≤◌, ℕ, true, false, true≢false, List, [], ◌++◌, Some, Ok, Err, Result, refl, sym, ◌∙◌, ap, subst, if◌then◌else◌}
+use Rattle.std.proofs.lemmas.Bool.{cases_Bool}
+use Rattle.std.proofs.lemmas.List.{append-nil}
+use Rattle.refusal.specs.declared.refusal.Refusal.{Refusal}
+use Rattle.refusal.specs.declared.refusal.Refusal.TheVariants.{Down, Unsure}
+use Rattle.device.specs.Device.{State, left}
+use Rattle.journal.specs.Records.{HasOldOrNew, LeavesBoth, found}
+use Rattle.records.specs.declared.record.Record.{Record}
+use Rattle.decisions.specs.Coordinators.{CoordinatorView, FlushesAll, IsRunning, KeepsOpen}
+use Rattle.shard.specs.Calls.{FlushesAt}
+use Rattle.shard.specs.Shards.{IsUp, ShardView}
+use Rattle.calls.specs.Asking.{Answered}
+use Rattle.calls.specs.Views as views
+use Rattle.calls.specs.Views.{NodeView}
+use Rattle.calls.specs.declared.call.NodeCall.TheVariants.{Coordinator as of_coordinator, Shard as of_shard}
+use Rattle.calls.specs.declared.call.CoordinatorCall.TheVariants as coordinator_calls
+use Rattle.calls.specs.declared.call.ShardCall.TheVariants as shard_calls
+use Rattle.calls.specs.declared.reply.Reply.TheVariants.{Coordinator as from_coordinator, Shard as from_shard}
+use Rattle.calls.specs.declared.reply.CoordinatorReply.TheVariants as told
+use Rattle.calls.specs.declared.reply.ShardReply.TheVariants as told_by
+use Rattle.laws.specs.Machines.{Machine}
+use Rattle.laws.specs.Nodes.{NodeName, NodeState, Nodes, coordinator, down, leaves, refused, shard, staged_of, up}
+use Rattle.turns.specs.CoordinatorOpeningLaws.{IsOverDevices}
+use Rattle.turns.specs.FlushLaws.{FailsFlush, FlushesCoordinator, all_kept}
+use Rattle.turns.specs.Moments.{Moment}
+use Rattle.turns.specs.QuietTurns.{IsAway}
+use Rattle.turns.specs.SeamLaws.{IsSeen, at_coordinator, behind}
+use Rattle.turns.specs.ShardOpeningLaws.{IsOver, put_at}
+use Rattle.turns.specs.ShardSeamLaws.{ShardIsSeen, behind_shard}
+use Rattle.turns.specs.Stores.{AreSound, ShowsNodes, StandsOver, Store}
+use Rattle.turns.proofs.CoordinatorOpeningSeam.{fails_over_devices, flushes_over_devices}
+use Rattle.turns.proofs.FailedFlushTurn.{failed_flushes_are_quiet}
+use Rattle.turns.proofs.FlushTurn.{flushes_are_quiet}
+use Rattle.turns.proofs.QuietTurns.{away_nodes_have_cause}
+use Rattle.turns.proofs.ShardFailedSeam.{failed_shard_flushes_are_quiet}
+use Rattle.turns.proofs.ShardOpeningSeam.{left_elsewhere, shard_flushes_are_quiet}
+use Rattle.turns.proofs.ShardSeam.{elsewhere, here, put_elsewhere, put_here}
+use Rattle.call_turns.specs.StoreCalls.{IsCalled, IsMade}
+use Rattle.call_turns.proofs.Made.{Comes, FailsQuietly, IsQuietlyMade, IsWithin, after, before, fails_by, inside_by, named_less, node_cases, shows_nodes, still_at, still_made}
+use Rattle.call_turns.proofs.Standing.{coordinator_is_away, is_seen, runs_now, shard_is_away, shard_is_seen, shard_is_up}
+
+module _ {D : Type 0} (state : D → State) (honest : D → Type 0) (moment : D → ℕ) (left_since : D → ℕ → List ℕ → Type 0)
+    (counts_now : (d : D) (t : ℕ) (c : List ℕ) → honest d → t ≤ moment d → left (state d) c → left_since d t c) (only_now : (d : D) (c : List ℕ) → honest d → left_since d (moment d) c → left (state d) c)
+    (store shards : ℕ) (old new : Store D) (now : Moment) (standing : StandsOver state honest store shards old now) where
+  -- the devices of one node, behind its flush
+  module _ (n : NodeName) (durable staged : List Record) (a b new_a new_b : D) (at : now.nodes.at n ≡ up durable staged) (was_devices : old.devices n ≡ (a, b)) (is_devices : new.devices n ≡ (new_a, new_b))
+      (others : (k : NodeName) → k ≢ n → new.devices k ≡ old.devices k) (honest_a : honest new_a) (honest_b : honest new_b) (moments : LeavesBoth moment left_since a b new_a new_b (HasOldOrNew durable staged)) where
+    found_one : (x y : List ℕ) → HasOldOrNew durable staged x y → (rs : List Record) × (found x y ≡ Some rs) × leaves (before state honest moment left_since store shards old new now standing) now.nodes n rs
+    found_one x y (inl is) = (durable, is, (durable, (standing.stands.nodes.durable n durable staged durable at).1 refl, inl refl))
+    found_one x y (inr is) =
+        (durable ++ staged, is, (durable, (standing.stands.nodes.durable n durable staged durable at).1 refl, inr (ap (λ (l : List Record). durable ++ l) (sym (ap staged_of at)))))
+
+    flush_within : IsWithin state honest moment left_since store shards old new now standing
+    flush_within k x y there in_x in_y = ⊎_elim
+        (λ here.
+        let new_is = ap new.devices here ∙ is_devices in
+        let old_is = ap old.devices here ∙ was_devices in
+        let in_x_then = subst (λ (p : D × D). left_since new_a (moment p.0) x) old_is (subst (λ (p : D × D). left_since p.0 (moment (old.devices k).0) x) new_is in_x) in
+        let in_y_then = subst (λ (p : D × D). left_since new_b (moment p.1) y) old_is (subst (λ (p : D × D). left_since p.1 (moment (old.devices k).1) y) new_is in_y) in
+        let one = found_one x y (moments.each x y in_x_then in_y_then) in
+        (one.0, one.1, subst (λ (m : NodeName). leaves (before state honest moment left_since store shards old new now standing) now.nodes m one.0) (sym here) one.2))
+        (λ other. still_at state honest moment left_since store shards old new now standing only_now k (others k other) x y there in_x in_y)
+        (node_cases k n)
+
+    flush_sound : AreSound state honest store shards new.devices
+    flush_sound = record {
+      honest_a = λ k there. ⊎_elim
+          (λ here. subst (λ (p : D × D). honest p.0) (sym (ap new.devices here ∙ is_devices)) honest_a)
+          (λ other. subst (λ (p : D × D). honest p.0) (sym (others k other)) (standing.sound.honest_a k there))
+          (node_cases k n);
+      honest_b = λ k there. ⊎_elim
+          (λ here. subst (λ (p : D × D). honest p.1) (sym (ap new.devices here ∙ is_devices)) honest_b)
+          (λ other. subst (λ (p : D × D). honest p.1) (sym (others k other)) (standing.sound.honest_b k there))
+          (node_cases k n);
+      readable = λ k x y there in_x in_y. ⊎_elim
+          (λ here.
+          let new_is = ap new.devices here ∙ is_devices in
+          let in_x_then = counts_now new_a (moment a) x honest_a moments.later_a (subst (λ (p : D × D). left (state p.0) x) new_is in_x) in
+          let in_y_then = counts_now new_b (moment b) y honest_b moments.later_b (subst (λ (p : D × D). left (state p.1) y) new_is in_y) in
+          let one = found_one x y (moments.each x y in_x_then in_y_then) in
+          (one.0, one.1))
+          (λ other. standing.sound.readable k x y there (subst (λ (p : D × D). left (state p.0) x) (others k other) in_x) (subst (λ (p : D × D). left (state p.1) y) (others k other) in_y))
+          (node_cases k n);
+    }
+
+  not_a_shard : (s : ℕ) → coordinator ≢ shard s
+  not_a_shard s is = cc
+
+  abbrev FailsHere : NodeName → Refusal → Type 0
+  FailsHere = FailsQuietly state honest moment left_since store shards old new now standing
+
+  abbrev ComesHere : {X : Type 0} → NodeName → Result X Refusal → (X → Type 0) → Type 0
+  ComesHere n r P = Comes state honest moment left_since store shards old new now standing n r P
+
+  pub away_fails : (n : NodeName) (was is : NodeView D) (e : Refusal) → IsCalled state honest moment left_since store shards n was is old new → is ≡ was → IsAway now.nodes n e → FailsHere n e
+  away_fails n was is e called same away = (
+    now.nodes,
+    still_made state honest moment left_since store shards old new now standing n was is called only_now same,
+    λ r ran is_then calls. away_nodes_have_cause store shards (before state honest moment left_since store shards old new now standing) (before state honest moment left_since store shards old new now standing) now ran r n e standing.stands is_then calls away,
+  )
+
+  no_down_is_unsure : Down ≢ Unsure
+  no_down_is_unsure is = cc
+
+  -- a flush of the coordinator that answered Ok is quiet, and keeps the whole log
+  abbrev pub FlushesWell : Type 0
+  FlushesWell = (next : Nodes) × (flush : FlushesCoordinator (before state honest moment left_since store shards old new now standing) (after state honest moment left_since store shards old new now standing) now.nodes next)
+      × IsQuietlyMade state honest moment left_since store shards old new now standing next (all_kept now.machine (flush.durable ++ flush.staged))
+
+  -- and one of a shard
+  abbrev pub ShardFlushesWell : Type 0
+  ShardFlushesWell = (next : Nodes) × IsQuietlyMade state honest moment left_since store shards old new now standing next now.machine
+
+  -- the coordinator's
+  module _ (v w : CoordinatorView D) (called : IsCalled state honest moment left_since store shards coordinator (views.coordinator v) (views.coordinator w) old new) (is_up : v.is_down ≡ false)
+      (keeps : KeepsOpen v w) (moments : IsRunning state honest v → LeavesBoth moment left_since v.a v.b w.a w.b (HasOldOrNew v.durable v.staged)) (honest_a : honest w.a) (honest_b : honest w.b) where
+    over : IsOverDevices state honest moment left_since store shards old.devices w.a w.b new.devices
+    over = record { first = ap (λ (p : D × D). p.0) called.after.devices; second = ap (λ (p : D × D). p.1) called.after.devices; others = called.devices }
+
+    seen : IsSeen now.nodes v
+    seen = is_seen state honest store shards old now standing v called.before is_up
+
+    runs : IsRunning state honest v
+    runs = runs_now state honest store shards old now standing v called.before is_up
+
+    others_stay : (state_then : NodeState) (k : NodeName) → k ≢ coordinator → at_coordinator state_then now.nodes.at k ≡ now.nodes.at k
+    others_stay state_then coordinator ne = absurd (ne refl)
+    others_stay state_then (shard t) ne = refl
+
+    made : (next : Nodes) (m : Machine) → ShowsNodes next new → ((rs : List Record) → leaves (after state honest moment left_since store shards old new now standing) next coordinator rs → leaves (before state honest moment left_since store shards old new now standing) now.nodes coordinator rs)
+        → IsMade state honest moment left_since store shards old new now next m
+    made next m shows less = record {
+      sound = flush_sound coordinator v.durable v.staged v.a v.b w.a w.b seen.at called.before.devices called.after.devices called.devices honest_a honest_b (moments runs);
+      nodes = shows;
+      named = named_less state honest moment left_since store shards old new now standing next less;
+      fails = fails_by state honest moment left_since store shards old new now standing coordinator (views.coordinator v) (views.coordinator w) called next shows;
+      inside = inside_by state honest moment left_since store shards old new now standing
+          (flush_within coordinator v.durable v.staged v.a v.b w.a w.b seen.at called.before.devices called.after.devices called.devices honest_a honest_b (moments runs)) m;
+    }
+
+    -- with nothing staged a stop leaves the durable records alone
+    none_staged : (n : NodeState) (rs was : List Record) → staged_of n ≡ [] → (rs ≡ was) ⊎ (rs ≡ was ++ staged_of n) → rs ≡ was
+    none_staged n rs was none = ⊎_elim (λ plain. plain) (λ more. more ∙ ap (λ (l : List Record). was ++ l) none ∙ append-nil was)
+
+    durable_left : before state honest moment left_since store shards old new now standing coordinator v.durable
+    durable_left = (standing.stands.nodes.durable coordinator v.durable v.staged v.durable seen.at).1 refl
+
+    among : (rs : List Record) → (rs ≡ v.durable) ⊎ (rs ≡ v.durable ++ v.staged) → leaves (before state honest moment left_since store shards old new now standing) now.nodes coordinator rs
+    among rs (inl plain) = (v.durable, durable_left, inl plain)
+    among rs (inr more) = (v.durable, durable_left, inr (more ∙ ap (λ (l : List Record). v.durable ++ l) (sym (ap staged_of seen.at))))
+
+    flushed_well : IsRunning state honest w × FlushesAll v w → FlushesWell
+    flushed_well all =
+        let law = flushes_over_devices state honest moment left_since counts_now store shards old.devices new.devices now v w seen all.0 all.1 keeps over in
+        let next = behind now.nodes w now.nodes.open_writes in
+        let shows = shows_nodes state honest moment left_since store shards old new now standing coordinator (views.coordinator v) (views.coordinator w) called next
+        (record { others = others_stay (up w.durable w.staged); open_writes = λ ne. absurd (ne refl); given = λ ne. absurd (ne refl) })
+        (sym (ap (λ b. if b then down else up w.durable w.staged) all.0.up)) (law.0.open_writes ∙ sym called.after.memory.0) (law.0.given ∙ sym called.after.memory.1) in
+        let m = all_kept now.machine (law.1.durable ++ law.1.staged) in (
+          next,
+          law.1,
+          (
+            flushes_are_quiet store shards _ _ now next standing.stands law.1,
+            made next m shows (λ rs is.
+                let flush_is = (law.1.here is.0).0 is.1 in
+                let was : up law.1.durable law.1.staged ≡ up v.durable v.staged = sym law.1.was ∙ seen.at in
+                let whole : law.1.durable ++ law.1.staged ≡ v.durable ++ v.staged = cc in
+                among rs (inr (none_staged (next.at coordinator) rs is.0 (ap staged_of law.1.now) is.2 ∙ flush_is ∙ whole))),
+          ),
+        )
+
+    flushed_ill : w.is_down ≡ true → FailsHere coordinator Down
+    flushed_ill is_down =
+        let fails = fails_over_devices state honest moment left_since counts_now store shards old.devices new.devices now v w seen (record { over = over; honest_a = honest_a; honest_b = honest_b; any_moment = moments runs }) in
+        let next = record now.nodes { at = at_coordinator down now.nodes.at } in
+        let law = failed_flushes_are_quiet store shards _ _ now next standing.stands fails in
+        let shows = shows_nodes state honest moment left_since store shards old new now standing coordinator (views.coordinator v) (views.coordinator w) called next
+        (record { others = others_stay down; open_writes = λ ne. absurd (ne refl); given = λ ne. absurd (ne refl) })
+        (sym (ap (λ b. if b then down else up w.durable w.staged) is_down))
+        (seen.open_writes ∙ sym keeps.open_ids ∙ sym called.after.memory.0) (seen.given ∙ sym keeps.given ∙ sym called.after.memory.1) in (
+          next,
+          (
+            law.0,
+            made next now.machine shows (λ rs is.
+                among rs (⊎_elim
+                (λ plain. inl (none_staged down rs is.0 refl is.2 ∙ plain ∙ same_durable fails))
+                (λ more. inr (none_staged down rs is.0 refl is.2 ∙ more ∙ same_whole fails))
+                (fails.here is.0 is.1))),
+          ),
+          λ r ran is_then calls. (law.1 r ran is_then calls, no_down_is_unsure),
+        )
+      where
+        same_durable : (fails : FailsFlush (before state honest moment left_since store shards old new now standing) (after state honest moment left_since store shards old new now standing) now.nodes (record now.nodes { at = at_coordinator down now.nodes.at })) → fails.durable ≡ v.durable
+        same_durable fails = let both : up fails.durable fails.staged ≡ up v.durable v.staged = sym fails.was ∙ seen.at in cc
+
+        same_whole : (fails : FailsFlush (before state honest moment left_since store shards old new now standing) (after state honest moment left_since store shards old new now standing) now.nodes (record now.nodes { at = at_coordinator down now.nodes.at })) → fails.durable ++ fails.staged ≡ v.durable ++ v.staged
+        same_whole fails = let both : up fails.durable fails.staged ≡ up v.durable v.staged = sym fails.was ∙ seen.at in cc
+
+  -- a shard's
+  module _ (s : ℕ) (v w : ShardView D) (called : IsCalled state honest moment left_since store shards (shard s) (views.shard v) (views.shard w) old new) (is_up : v.is_down ≡ false)
+      (moments : IsUp state honest v → LeavesBoth moment left_since v.a v.b w.a w.b (HasOldOrNew v.durable v.staged)) (honest_a : honest w.a) (honest_b : honest w.b) where
+    shard_over : IsOver state honest moment left_since store shards old.devices s w.a w.b new.devices
+    shard_over = record { first = ap (λ (p : D × D). p.0) called.after.devices; second = ap (λ (p : D × D). p.1) called.after.devices; others = called.devices }
+
+    shard_seen : ShardIsSeen store shards s now.nodes v
+    shard_seen = shard_is_seen state honest store shards old now standing s v called.before is_up
+
+    shard_up : IsUp state honest v
+    shard_up = shard_is_up state honest store shards old now standing s v called.before is_up
+
+    shard_made : (next : Nodes) → ShowsNodes next new → next.at coordinator ≡ now.nodes.at coordinator → IsMade state honest moment left_since store shards old new now next now.machine
+    shard_made next shows same = record {
+      sound = flush_sound (shard s) v.durable v.staged v.a v.b w.a w.b shard_seen.at called.before.devices called.after.devices called.devices honest_a honest_b (moments shard_up);
+      nodes = shows;
+      named = named_less state honest moment left_since store shards old new now standing next (λ rs is. (
+        is.0,
+        (left_elsewhere state honest moment left_since store shards old.devices new.devices s w.a w.b shard_over coordinator is.0 (not_a_shard s)).0 is.1,
+        ⊎_elim (λ plain. inl plain) (λ more. inr (more ∙ ap (λ (n : NodeState). is.0 ++ staged_of n) same)) is.2,
+      ));
+      fails = fails_by state honest moment left_since store shards old new now standing (shard s) (views.shard v) (views.shard w) called next shows;
+      inside = inside_by state honest moment left_since store shards old new now standing
+          (flush_within (shard s) v.durable v.staged v.a v.b w.a w.b shard_seen.at called.before.devices called.after.devices called.devices honest_a honest_b (moments shard_up)) now.machine;
+    }
+
+    shard_flushed_well : w.me ≡ v.me → FlushesAt state honest v w → ShardFlushesWell
+    shard_flushed_well me all =
+        let next = behind_shard s now.nodes w in
+        let law = shard_flushes_are_quiet state honest moment left_since store shards old.devices new.devices now s v w standing.stands shard_seen shard_up all me shard_over in
+        let shows = shows_nodes state honest moment left_since store shards old new now standing (shard s) (views.shard v) (views.shard w) called next
+        (record { others = elsewhere s now.nodes w; open_writes = λ ne. refl; given = λ ne. refl })
+        (here s now.nodes w ∙ sym (ap (λ b. if b then down else up w.durable w.staged) all.up.up))
+        (standing.nodes.open_ids ∙ sym called.memory.0) (standing.nodes.given ∙ sym called.memory.1) in
+        (next, (law.1, shard_made next shows refl))
+
+    shard_flushed_ill : w.is_down ≡ true → FailsHere (shard s) Down
+    shard_flushed_ill is_down =
+        let next = put_at s down now.nodes in
+        let law = failed_shard_flushes_are_quiet state honest moment left_since counts_now store shards old.devices new.devices now s v w standing.stands shard_seen shard_up honest_a honest_b (moments shard_up) shard_over in
+        let shows = shows_nodes state honest moment left_since store shards old new now standing (shard s) (views.shard v) (views.shard w) called next
+        (record { others = put_elsewhere s down now.nodes.at; open_writes = λ ne. refl; given = λ ne. refl })
+        (put_here s down now.nodes.at ∙ sym (ap (λ b. if b then down else up w.durable w.staged) is_down))
+        (standing.nodes.open_ids ∙ sym called.memory.0) (standing.nodes.given ∙ sym called.memory.1) in (
+          next,
+          (law, shard_made next shows refl),
+          λ r ran is_then calls. (inl (shard s, calls, inl (ap (λ (nodes : Nodes). nodes.at (shard s)) is_then ∙ put_here s down now.nodes.at)), no_down_is_unsure),
+        )
+
+  -- a node whose opening was refused answers that, and nothing has changed
+  pub refused_fails : (n : NodeName) (e f : Refusal) (a b : D) (is : NodeView D) → IsCalled state honest moment left_since store shards n (views.refused e a b) is old new → is ≡ views.refused e a b → f ≡ e → FailsHere n f
+  refused_fails n e f a b is called same is_f = away_fails n (views.refused e a b) is f called same (inr (standing.nodes.at n ∙ called.before.at ∙ ap refused (sym is_f)))
+
+  -- one that is down answers Down
+  pub down_coordinator_fails : (v w : CoordinatorView D) (e : Refusal) → IsCalled state honest moment left_since store shards coordinator (views.coordinator v) (views.coordinator w) old new → w ≡ v → v.is_down ≡ true → e ≡ Down
+      → FailsHere coordinator e
+  down_coordinator_fails v w e called same gone is_down = away_fails coordinator (views.coordinator v) (views.coordinator w) e called (ap views.coordinator same)
+      (subst (IsAway now.nodes coordinator) (sym is_down) (coordinator_is_away state honest store shards old now standing v called.before gone))
+
+  pub down_shard_fails : (s : ℕ) (v w : ShardView D) (e : Refusal) → IsCalled state honest moment left_since store shards (shard s) (views.shard v) (views.shard w) old new → w ≡ v → v.is_down ≡ true → e ≡ Down
+      → FailsHere (shard s) e
+  down_shard_fails s v w e called same gone is_down = away_fails (shard s) (views.shard v) (views.shard w) e called (ap views.shard same)
+      (subst (IsAway now.nodes (shard s)) (sym is_down) (shard_is_away state honest store shards old now standing s v called.before gone))
+
+  -- whatever the coordinator was before
+  pub coordinator_flushed : (was is : NodeView D) (r : Result (Unit {0}) Refusal) → IsCalled state honest moment left_since store shards coordinator was is old new
+      → Answered state honest moment left_since was (of_coordinator coordinator_calls.Flush) (from_coordinator (told.Flush r)) is → ComesHere coordinator r (λ done. FlushesWell)
+  coordinator_flushed (views.coordinator v) (views.coordinator w) (Ok done) called so = ⊎_elim
+      (λ gone. absurd (true≢false (sym (so.down gone).0)))
+      (λ is_up.
+      let runs = runs_now state honest store shards old now standing v called.before is_up in
+      flushed_well v w called is_up so.keeps so.any_moment (so.still_honest.0.0 runs.honest_a) (so.still_honest.1.0 runs.honest_b) (so.ok runs))
+      (cases_Bool v.is_down)
+  coordinator_flushed (views.coordinator v) (views.coordinator w) (Err e) called so = ⊎_elim
+      (λ gone. down_coordinator_fails v w e called (so.down gone).1 gone so.err.0)
+      (λ is_up.
+      let runs = runs_now state honest store shards old now standing v called.before is_up in
+      subst (FailsHere coordinator) (sym so.err.0) (flushed_ill v w called is_up so.keeps so.any_moment (so.still_honest.0.0 runs.honest_a) (so.still_honest.1.0 runs.honest_b) so.err.1))
+      (cases_Bool v.is_down)
+  coordinator_flushed (views.coordinator v) (views.shard w) r called so = absurd so
+  coordinator_flushed (views.coordinator v) (views.refused e a b) r called so = absurd so
+  coordinator_flushed (views.shard v) is r called so = absurd called.before.named
+  coordinator_flushed (views.refused e a b) is (Ok done) called so = absurd (let bad : Ok done ≡ Err e = so.1 in cc)
+  coordinator_flushed (views.refused e a b) is (Err f) called so = refused_fails coordinator e f a b is called so.0 (let both : Err f ≡ Err e = so.1 in cc)
+
+  -- whatever the shard was before
+  pub shard_flushed : (s : ℕ) (was is : NodeView D) (r : Result (Unit {0}) Refusal) → IsCalled state honest moment left_since store shards (shard s) was is old new
+      → Answered state honest moment left_since was (of_shard s shard_calls.Flush) (from_shard (told_by.Flush r)) is → ComesHere (shard s) r (λ done. ShardFlushesWell)
+  shard_flushed s (views.shard v) (views.shard w) (Ok done) called so = ⊎_elim
+      (λ gone. absurd (true≢false (sym (so.down gone))))
+      (λ is_up.
+      let stands = shard_is_up state honest store shards old now standing s v called.before is_up in
+      shard_flushed_well s v w called is_up so.any_moment (so.still_honest.0.0 stands.honest_a) (so.still_honest.1.0 stands.honest_b) so.me (so.ok stands))
+      (cases_Bool v.is_down)
+  shard_flushed s (views.shard v) (views.shard w) (Err e) called so = ⊎_elim
+      (λ gone. down_shard_fails s v w e called (so.quiet (inl gone)) gone so.err.0)
+      (λ is_up.
+      let stands = shard_is_up state honest store shards old now standing s v called.before is_up in
+      subst (FailsHere (shard s)) (sym so.err.0) (shard_flushed_ill s v w called is_up so.any_moment (so.still_honest.0.0 stands.honest_a) (so.still_honest.1.0 stands.honest_b) so.err.1))
+      (cases_Bool v.is_down)
+  shard_flushed s (views.shard v) (views.coordinator w) r called so = absurd so
+  shard_flushed s (views.shard v) (views.refused e a b) r called so = absurd so
+  shard_flushed s (views.coordinator v) is r called so = absurd called.before.named
+  shard_flushed s (views.refused e a b) is (Ok done) called so = absurd (let bad : Ok done ≡ Err e = so.1 in cc)
+  shard_flushed s (views.refused e a b) is (Err f) called so = refused_fails (shard s) e f a b is called so.0 (let both : Err f ≡ Err e = so.1 in cc)

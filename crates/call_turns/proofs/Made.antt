@@ -1,0 +1,201 @@
+-- What is known of a store behind a call of one of its nodes.
+use Rattle.std.proofs.Common.{◌≡◌, ◌≢◌, ◌⊎◌, inl, inr, ⊎_elim, ◌==◌, ℕ, true≢false, List, [], map, Result, Ok, Err, Some, Contains, refl, sym, ◌∙◌, ap, subst, arith}
+use Rattle.std.proofs.Math.Path.{fun_ext}
+use Rattle.std.proofs.lemmas.Bool.{cases_Bool, eq-eqb, eqb-true}
+use Rattle.std.proofs.lemmas.Option.{same_Some}
+use Rattle.tuples.specs.declared.entry.Entry.{Entry}
+use Rattle.refusal.specs.declared.refusal.Refusal.{Refusal}
+use Rattle.refusal.specs.declared.refusal.Refusal.TheVariants.{Unsure}
+use Rattle.device.specs.Device.{State, left}
+use Rattle.journal.specs.Records.{found}
+use Rattle.records.specs.declared.record.Record.{Record}
+use Rattle.records.specs.declared.record.Record.TheVariants.{Epoch}
+use Rattle.records.specs.Coordinators.{CoordinatorState, coordinator_state}
+use Rattle.calls.specs.Views as views
+use Rattle.calls.specs.Views.{NodeView, devices_of}
+use Rattle.laws.specs.Machines.{Machine}
+use Rattle.laws.specs.Nodes.{IsThere, NodeName, NodeState, Nodes, SameBut, coordinator, down, leaves, refused, shard, staged_of, up}
+use Rattle.laws.specs.Stops.{MeansOne}
+use Rattle.turns.specs.Causes.{Calls, HasItsCause}
+use Rattle.turns.specs.Moments.{Moment, Running}
+use Rattle.turns.specs.Promises.{HasDeviceCause, StopsBetween, stops_since}
+use Rattle.turns.specs.QuietTurns.{IsQuietCall}
+use Rattle.turns.specs.Stands.{IsHorizonIn, at_shards}
+use Rattle.turns.specs.Stores.{AreSound, NamesHorizon, ShowsNodes, StandsOver, Store, stops}
+use Rattle.turns.proofs.Answers.{replays}
+use Rattle.turns.proofs.DecisionNodes.{epoch_stays}
+use Rattle.turns.proofs.QuietTurns.{nothing_changes}
+use Rattle.turns.proofs.StopInside.{stops_within_steps}
+use Rattle.call_turns.specs.StoreCalls.{IsCalled, IsMade, KeepsMemory, ShowsMemory, shown}
+
+-- two nodes are one, or not
+pub node_cases : (m n : NodeName) → (m ≡ n) ⊎ (m ≢ n)
+node_cases coordinator coordinator = inl refl
+node_cases coordinator (shard s) = inr (λ is. cc)
+node_cases (shard s) coordinator = inr (λ is. cc)
+node_cases (shard s) (shard t) = ⊎_elim
+    (λ same. inl (ap shard (eqb-true s t same)))
+    (λ other. inr (λ is. let e : s ≡ t = cc in true≢false (sym (eq-eqb s t e) ∙ other)))
+    (cases_Bool (s == t))
+
+module _ {D : Type 0} (state : D → State) (honest : D → Type 0) (moment : D → ℕ) (left_since : D → ℕ → List ℕ → Type 0) (store shards : ℕ) (old new : Store D) (now : Moment)
+    (standing : StandsOver state honest store shards old now) where
+  abbrev pub before : NodeName → List Record → Type 0
+  before = stops state honest store shards old.devices
+
+  abbrev pub after : NodeName → List Record → Type 0
+  after = stops state honest store shards new.devices
+
+  abbrev since : NodeName → List Record → Type 0
+  since = stops_since state honest moment left_since store shards old.devices new.devices
+
+  -- a call that is quiet, with what is known of the store behind it
+  abbrev pub IsQuietlyMade : Nodes → Machine → Type 0
+  IsQuietlyMade next m = IsQuietCall store shards before after now next m × IsMade state honest moment left_since store shards old new now next m
+
+  -- a call that failed, or found its node away: it is quiet, and has its cause for each flow that calls the node
+  abbrev pub FailsQuietly : NodeName → Refusal → Type 0
+  FailsQuietly n e = (next : Nodes) × IsQuietlyMade next now.machine
+      × ((r : Running) (ran : Moment) → ran.nodes ≡ next → Calls shards r.asked n → HasItsCause shards now ran r e × (e ≢ Unsure))
+
+  -- what an answer comes to: what its value tells, or that the call failed
+  abbrev pub Comes : {X : Type 0} → NodeName → Result X Refusal → (X → Type 0) → Type 0
+  Comes n (Ok x) P = P x
+  Comes n (Err e) P = FailsQuietly n e
+
+  no_epoch : (n : NodeState) → now.nodes.at coordinator ≡ n → (a b c d : ℕ) → Contains (staged_of n) (Epoch a b c d) → ⊥
+  no_epoch (up durable staged) is a b c d has = standing.stands.nodes.no_opening coordinator durable staged a b c d is has
+  no_epoch down is a b c d has = omega (arith, has.1)
+  no_epoch (refused e) is a b c d has = omega (arith, has.1)
+
+  -- with what is staged the coordinator is of no other epoch
+  same_epoch : (rs : List Record) → leaves before now.nodes coordinator rs → (was : List Record) × before coordinator was × ((coordinator_state rs).epoch ≡ (coordinator_state was).epoch)
+  same_epoch rs (was, is_left, inl same) = (was, is_left, ap (λ (l : List Record). (coordinator_state l).epoch) same)
+  same_epoch rs (was, is_left, inr more) = (
+    was,
+    is_left,
+    ap (λ (l : List Record). (coordinator_state l).epoch) more
+        ∙ ap (λ (c : CoordinatorState). c.epoch) (replays was (staged_of (now.nodes.at coordinator)))
+        ∙ epoch_stays (coordinator_state was) (staged_of (now.nodes.at coordinator)) (no_epoch (now.nodes.at coordinator) refl),
+  )
+
+  -- where a stop inside the call leaves of each node what it could leave before, with what is staged or without, all is well inside
+  abbrev pub IsWithin : Type 0
+  IsWithin = (k : NodeName) (a b : List ℕ) → IsThere shards k → left_since (new.devices k).0 (moment (old.devices k).0) a → left_since (new.devices k).1 (moment (old.devices k).1) b
+      → (rs : List Record) × (found a b ≡ Some rs) × leaves before now.nodes k rs
+
+  -- a node that is there, and what a stop inside the call may leave of it
+  abbrev there_since : NodeName → List Record → Type 0
+  there_since k rs = since k rs × IsThere shards k
+
+  at_node : IsWithin → (k : NodeName) (rs : List Record) → there_since k rs → leaves before now.nodes k rs
+  at_node all k rs ((a, b, in_a, in_b, is), there) =
+      let x = all k a b there in_a in_b in
+      subst (leaves before now.nodes k) (same_Some x.0 rs (sym x.1 ∙ is)) x.2
+
+  wider : (log : List Entry) (rs : List Record) → MeansOne store shards log now.machine.kept now.machine.horizon rs (at_shards there_since)
+      → MeansOne store shards log now.machine.kept now.machine.horizon rs (at_shards since)
+  wider log rs one = record {
+    n = one.n;
+    holds = one.holds;
+    within = one.within;
+    means = record { image = one.means.image; decided = one.means.decided; each_shard = λ s c lt is. one.means.each_shard s c lt (is, lt) };
+  }
+
+  pub inside_by : IsWithin → (m : Machine) → StopsBetween state honest moment left_since store shards old.devices new.devices now.machine m
+  inside_by all m = record {
+    rests = λ rs is. ⊎_elim
+        (λ one. inl (wider now.machine.log rs one))
+        (λ one. inr (wider m.log rs one))
+        (stops_within_steps store shards before there_since now m standing.stands (λ c w. inl (at_node all coordinator c w)) (λ s c w. inl (at_node all (shard s) c w)) rs (is, tt));
+    readable = λ k a b there in_a in_b. let x = all k a b there in_a in_b in (x.0, x.1);
+    given = λ id given rs is.
+        let e = same_epoch rs (at_node all coordinator rs (is, tt)) in
+        let low = given e.0 e.1 in
+        omega (arith, low, e.2);
+  }
+
+  -- of a node whose devices have not changed a stop inside the call leaves what it could leave before
+  pub still_at : ((d : D) (c : List ℕ) → honest d → left_since d (moment d) c → left (state d) c) → (k : NodeName) → new.devices k ≡ old.devices k → (a b : List ℕ) → IsThere shards k
+      → left_since (new.devices k).0 (moment (old.devices k).0) a → left_since (new.devices k).1 (moment (old.devices k).1) b → (rs : List Record) × (found a b ≡ Some rs) × leaves before now.nodes k rs
+  still_at only_now k same a b there in_a in_b =
+      let d = old.devices k in
+      let in_a_then = only_now d.0 a (standing.sound.honest_a k there) (subst (λ (p : D × D). left_since p.0 (moment d.0) a) same in_a) in
+      let in_b_then = only_now d.1 b (standing.sound.honest_b k there) (subst (λ (p : D × D). left_since p.1 (moment d.1) b) same in_b) in
+      let rs = standing.sound.readable k a b there in_a_then in_b_then in
+      (rs.0, rs.1, (rs.0, (a, b, in_a_then, in_b_then, rs.1), inl refl))
+
+  -- where a stop may leave no more of the coordinator, with what is staged or without, each horizon was named before
+  pub named_less : (next : Nodes) → ((rs : List Record) → leaves after next coordinator rs → leaves before now.nodes coordinator rs) → (x : ℕ) → IsHorizonIn store shards after next x
+      → Contains now.named x ⊎ NamesHorizon state honest store shards old now x
+  named_less next less x (some, (rs, there, high)) = inr (some, (rs, less rs there, high))
+
+  -- no device has changed
+  module _ (only_now : (d : D) (c : List ℕ) → honest d → left_since d (moment d) c → left (state d) c) (same : new.devices ≡ old.devices) where
+    pub still_sound : AreSound state honest store shards new.devices
+    still_sound = subst (AreSound state honest store shards) (sym same) standing.sound
+
+    pub still_within : IsWithin
+    still_within k = still_at only_now k (ap (λ (f : NodeName → D × D). f k) same)
+
+    -- and the coordinator has staged nothing more: each horizon was named before
+    pub still_named : (next : Nodes) → next.at coordinator ≡ now.nodes.at coordinator → (x : ℕ) → IsHorizonIn store shards after next x → Contains now.named x ⊎ NamesHorizon state honest store shards old now x
+    still_named next is x (some, (rs, there, high)) = inr (
+      some,
+      (
+        rs,
+        subst (λ (n : NodeState). leaves before (record { at = λ k. n; open_writes = []; given = 0 }) coordinator rs) is
+            (subst (λ (f : NodeName → D × D). leaves (stops state honest store shards f) next coordinator rs) same there),
+        high,
+      ),
+    )
+
+  module _ (n : NodeName) (was is : NodeView D) (called : IsCalled state honest moment left_since store shards n was is old new) where
+    pub same_devices : devices_of is ≡ devices_of was → new.devices ≡ old.devices
+    same_devices same = fun_ext (λ m. ⊎_elim
+        (λ here. ap new.devices here ∙ called.after.devices ∙ same ∙ sym called.before.devices ∙ ap old.devices (sym here))
+        (λ other. called.devices m other)
+        (node_cases m n))
+
+    pub shows_nodes : (next : Nodes) → SameBut n now.nodes next → next.at n ≡ shown is → map (λ (w : Entry). w.id) next.open_writes ≡ new.open_ids → next.given ≡ new.given → ShowsNodes next new
+    shows_nodes next others at ids given = record {
+      at = λ m. ⊎_elim
+          (λ here. ap next.at here ∙ at ∙ sym called.after.at ∙ ap new.at (sym here))
+          (λ other. others.others m other ∙ standing.nodes.at m ∙ sym (called.at m other))
+          (node_cases m n);
+      open_ids = ids;
+      given = given;
+    }
+
+    pub fails_by : (next : Nodes) → ShowsNodes next new → (k : NodeName) → IsThere shards k → next.at k ≡ down → now.nodes.at k ≢ down
+        → HasDeviceCause state honest moment left_since store shards old.devices new.devices k
+    fails_by next shows k there is_down not_down = ⊎_elim
+        (λ here. subst (HasDeviceCause state honest moment left_since store shards old.devices new.devices) (sym here) (called.fails
+        (sym called.after.at ∙ ap new.at (sym here) ∙ sym (shows.at k) ∙ is_down)
+        (λ was_down. not_down (standing.nodes.at k ∙ ap old.at here ∙ called.before.at ∙ was_down))))
+        (λ other. absurd (not_down (standing.nodes.at k ∙ sym (called.at k other) ∙ sym (shows.at k) ∙ is_down)))
+        (node_cases k n)
+
+    memory_stays : (w i : NodeView D) → i ≡ w → ShowsMemory w old → ShowsMemory i new → KeepsMemory w old new → (new.open_ids ≡ old.open_ids) × (new.given ≡ old.given)
+    memory_stays (views.coordinator v) i same first then keeps =
+        let last : ShowsMemory (views.coordinator v) new = subst (λ (x : NodeView D). ShowsMemory x new) same then in
+        (last.0 ∙ sym first.0, last.1 ∙ sym first.1)
+    memory_stays (views.shard v) i same first then keeps = keeps
+    memory_stays (views.refused e a b) i same first then keeps = keeps
+
+    -- a call that left its node as it was is quiet
+    pub still_made : ((d : D) (c : List ℕ) → honest d → left_since d (moment d) c → left (state d) c) → is ≡ was → IsQuietlyMade now.nodes now.machine
+    still_made only_now same =
+        let devices = same_devices (ap devices_of same) in
+        let memory = memory_stays was is same called.before.memory called.after.memory called.memory in
+        let shows = shows_nodes now.nodes (record { others = λ m ne. refl; open_writes = λ ne. refl; given = λ ne. refl }) (standing.nodes.at n ∙ called.before.at ∙ ap shown (sym same))
+        (standing.nodes.open_ids ∙ sym memory.0) (standing.nodes.given ∙ sym memory.1) in (
+          subst (λ (f : NodeName → D × D). IsQuietCall store shards before (stops state honest store shards f) now now.nodes now.machine) (sym devices) (nothing_changes store shards before now standing.stands),
+          record {
+            sound = still_sound only_now devices;
+            nodes = shows;
+            named = still_named only_now devices now.nodes refl;
+            fails = fails_by now.nodes shows;
+            inside = inside_by (still_within only_now devices) now.machine;
+          },
+        )

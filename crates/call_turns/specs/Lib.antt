@@ -1,0 +1,3 @@
+pub mod StoreCalls
+pub mod StoreTurns
+pub mod CallLaws

@@ -1,0 +1,18 @@
+// Laws of calls that a store shows, each the clause of a function with an empty body.
+ghost use Rattle.std.specs.Prelude.{ℕ};
+ghost use Rattle.call_turns.specs.CallLaws.{QuietTurnsAnswer, QuietTurnsGoOn, QuietTurnsRefuse, StillCallsAreQuiet};
+
+use device::Device;
+
+/// A call that left its node as it was, up, down or refused, is quiet.
+pub fn still_calls_are_quiet<D: Device>()
+    ensures { (store shards : ℕ) → StillCallsAreQuiet D.state D.honest D.moment D.left_since store shards }
+{}
+
+/// Behind a quiet call a turn of a flow that is no write keeps the promise of a step: it goes on with what is right in its hands, ends with an answer
+/// that agrees, or with a refusal that has its cause.
+pub fn quiet_turns_run<D: Device>()
+    ensures goes_on { (store shards : ℕ) → QuietTurnsGoOn D.state D.honest D.moment D.left_since store shards }
+    ensures answers { (store shards : ℕ) → QuietTurnsAnswer D.state D.honest D.moment D.left_since store shards }
+    ensures refuses { (store shards : ℕ) → QuietTurnsRefuse D.state D.honest D.moment D.left_since store shards }
+{}
