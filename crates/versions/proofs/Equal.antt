@@ -23,7 +23,7 @@ same_relation a b = relation_law a b
 pub same_object : (a b : Object) → object.eq a b ≡ is_eq (object_cmp a b)
 same_object a b = object_law a b
 
-user_order_is : (a b : User) → user_order.cmp a b ≡ user_cmp a b
+pub user_order_is : (a b : User) → user_order.cmp a b ≡ user_cmp a b
 user_order_is a b = search rules
 
 pub same_user : (a b : User) → user.eq a b ≡ is_eq (user_cmp a b)

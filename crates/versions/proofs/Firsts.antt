@@ -17,8 +17,9 @@ use Rattle.tuples.specs.Order.{name_cmp, object_cmp, tuple_cmp, user_cmp, userse
 use Rattle.tuples.specs.Reads.{has_relation, meets, same_name}
 use Rattle.tuples.specs.Walking.{is_set}
 use Rattle.tuples.specs.Texts.{IsUser, IsUserset}
-use Rattle.tuples.proofs.Ordered.{object_total, tuple_total}
-use Rattle.tuples.proofs.Same.{name_same, object_same, tuple_same}
+use Rattle.tuples.proofs.Ordered.{object_total, tuple_total, user_total}
+use Rattle.tuples.proofs.Same.{name_same, object_same, tuple_same, user_same}
+use Rattle.versions.specs.Index.{IsFirstOf, by_user_cmp}
 use Rattle.versions.specs.Rows.{IsFirst, first_relation, is_set_of, lowest_userset}
 
 -- ---- orders
@@ -201,3 +202,42 @@ set_first_is x = record {
       (joined (same_name t.relation x.relation) (is_set t.user) relation
       (user_is_set t.user (le_next (name_cmp x.relation t.relation) (user_cmp (Set lowest_userset) t.user) after rest)));
 }
+
+-- ---- the first tuple of a namespace that names a user
+
+abbrev pub first_named : List ℕ → User → Tuple
+first_named n u = record { object = record { namespace = n; id = 33 ∷ [] }; relation = 48 ∷ []; user = u }
+
+-- what decides behind the namespace, and behind the user
+abbrev ends : Tuple → Tuple → Ordering
+ends a b = ordering_then (name_cmp a.object.id b.object.id) (name_cmp a.relation b.relation)
+
+abbrev rest : Tuple → Tuple → Ordering
+rest a b = ordering_then (user_cmp a.user b.user) (ends a b)
+
+pub user_first_is : (n : List ℕ) (u : User) → IsFirstOf n u (first_named n u)
+user_first_is n u =
+    let first = first_named n u in
+    record {
+      before = λ t spelled has.
+          let parts = both (same_name t.object.namespace n) (is_eq (user_cmp t.user u)) has in
+          le_then (name_cmp n t.object.namespace) (rest first t)
+          (eq_le (name_cmp n t.object.namespace) (eq_back (name_cmp n t.object.namespace) (name_cmp t.object.namespace n) (nat_list_cmp_total.antisymm n t.object.namespace) parts.0))
+          (le_then (user_cmp u t.user) (ends first t)
+          (eq_le (user_cmp u t.user) (eq_back (user_cmp u t.user) (user_cmp t.user u) (user_total.antisymm u t.user) parts.1))
+          (le_then (name_cmp (33 ∷ []) t.object.id) (name_cmp (48 ∷ []) t.relation) (id_le t.object.id spelled.object.id) (name_le t.relation spelled.relation)));
+      within = λ t v low less has.
+          let parts = both (same_name v.object.namespace n) (is_eq (user_cmp v.user u)) has in
+          let high : is_le (by_user_cmp t v) ≡ true = less_le (by_user_cmp t v) less in
+          let namespace : is_eq (name_cmp t.object.namespace n) ≡ true =
+          squeezed (name_cmp n t.object.namespace) (name_cmp t.object.namespace n) (nat_list_cmp_total.antisymm n t.object.namespace) (le_first (name_cmp n t.object.namespace) (rest first t) low)
+          (subst (λ (x : List ℕ). is_le (name_cmp t.object.namespace x) ≡ true) (name_same v.object.namespace n parts.0) (le_first (name_cmp t.object.namespace v.object.namespace) (rest t v) high))
+          in
+          let from : is_eq (name_cmp n t.object.namespace) ≡ true = eq_back (name_cmp n t.object.namespace) (name_cmp t.object.namespace n) (nat_list_cmp_total.antisymm n t.object.namespace) namespace in
+          let to : is_eq (name_cmp t.object.namespace v.object.namespace) ≡ true = ap (λ (x : List ℕ). is_eq (name_cmp t.object.namespace x)) (name_same v.object.namespace n parts.0) ∙ namespace in
+          let user : is_eq (user_cmp t.user u) ≡ true =
+          squeezed (user_cmp u t.user) (user_cmp t.user u) (user_total.antisymm u t.user) (le_first (user_cmp u t.user) (ends first t) (le_next (name_cmp n t.object.namespace) (rest first t) from low))
+          (subst (λ (x : User). is_le (user_cmp t.user x) ≡ true) (user_same v.user u parts.1) (le_first (user_cmp t.user v.user) (ends t v) (le_next (name_cmp t.object.namespace v.object.namespace) (rest t v) to high)))
+          in
+          joined (same_name t.object.namespace n) (is_eq (user_cmp t.user u)) namespace user;
+    }

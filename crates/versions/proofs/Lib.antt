@@ -8,3 +8,6 @@ pub mod Firsts
 pub mod Selected
 pub mod Asked
 pub mod Newest
+pub mod Index
+pub mod Counted
+pub mod OfUser

@@ -47,14 +47,14 @@ ascending place q ((u, h) ∷ es) sorted = elim (cases_Bool (q u && there_at (ve
 ]
 
 -- whether the tuple's own entry is there
-there_in : ℕ → Tuple → Entries → Bool
+unfoldable pub there_in : ℕ → Tuple → Entries → Bool
 there_in place t es = there_at (versions_of t (rows_in (found t es))) place t
 
 found_above : (t : Tuple) (es : Entries) → AllByRecursion (λ y. ghosts.cmp t y ≡ Less) (keys_of es) → found t es ≡ None
 found_above t [] above = refl
 found_above t ((u, h) ∷ es) above = ap (λ (b : Bool). cond b (Some h) (found t es)) (same_tie t u ∙ tuple_lt_apart t u (before t u above.0)) ∙ found_above t es above.1
 
-never : (place : ℕ) (t : Tuple) → there_at (versions_of t []) place t ≡ false
+pub never : (place : ℕ) (t : Tuple) → there_at (versions_of t []) place t ≡ false
 unfolding there_at
 never place t = refl
 
@@ -183,14 +183,14 @@ keys_filtered p ((t, h) ∷ es) = elim (cases_Bool (p t)) [
   | inr apart ↦ rw apart (keys_filtered p es)
 ]
 
-all_filtered : (p : Tuple → Bool) (ts : List Tuple) → AllByRecursion (λ (t : Tuple). p t ≡ true) (filter p ts)
+pub all_filtered : (p : Tuple → Bool) (ts : List Tuple) → AllByRecursion (λ (t : Tuple). p t ≡ true) (filter p ts)
 all_filtered p [] = tt
 all_filtered p (t ∷ ts) = elim (cases_Bool (p t)) [
   | inl is ↦ rw is (is, all_filtered p ts)
   | inr apart ↦ rw apart (all_filtered p ts)
 ]
 
-all_weaker : (P Q : Tuple → Type 0) → ((t : Tuple) → P t → Q t) → (ts : List Tuple) → AllByRecursion P ts → AllByRecursion Q ts
+pub all_weaker : (P Q : Tuple → Type 0) → ((t : Tuple) → P t → Q t) → (ts : List Tuple) → AllByRecursion P ts → AllByRecursion Q ts
 all_weaker P Q f [] all = tt
 all_weaker P Q f (t ∷ ts) all = (f t all.0, all_weaker P Q f ts all.1)
 

@@ -1,5 +1,5 @@
 -- A table of tuples, read tuple by tuple.
-use Rattle.std.proofs.Common.{◌≡◌, ⊎_elim, ℕ, zero, suc, ◌+◌, ◌-◌, Bool, true, false, cond, List, [], ◌∷◌, ◌++◌, length, take, Option, None, Some, inl, inr, Result, Ok, Err, refl, sym, ◌∙◌, ap, subst, append-nil, rules, arith}
+use Rattle.std.proofs.Common.{◌≡◌, ◌≤◌, ⊎_elim, ℕ, zero, suc, ◌+◌, ◌-◌, Bool, true, false, cond, List, [], ◌∷◌, ◌++◌, length, take, Option, None, Some, inl, inr, Result, Ok, Err, refl, sym, ◌∙◌, ap, subst, append-nil, rules, arith}
 use Rattle.std.specs.Global.{Vec}
 use Rattle.std.specs.Prelude.{OnErr}
 use Rattle.std.specs.List.{AllByRecursion, flat_map}
@@ -350,3 +350,23 @@ all_retained P T f ((t, v) ∷ es) kept all (b, w, next, rest, called, more, is)
     put : (b : Bool) → AllByRecursion P (keys_of rest) → AllByRecursion P (keys_of (cond b ((t, w) ∷ rest) rest))
     put true more = (all.0, more)
     put false more = more
+
+-- ---- what stays of the keys
+
+few_kept : {F : Type 0} (T : F → Tuple → Vec Row → Bool → Vec Row → F → Type 0) (f : F) (es kept : Entries) → RetainsPairs T f es kept → length kept ≤ length es
+few_kept T f [] kept is = subst (λ (l : Entries). length l ≤ 0) (sym is) (omega arith)
+few_kept T f ((t, v) ∷ es) kept (b, w, next, rest, called, more, is) = subst (λ (l : Entries). length l ≤ suc (length es)) (sym is) (put b (few_kept T next es rest more))
+  where
+    put : (b : Bool) → length rest ≤ length es → length (cond b ((t, w) ∷ rest) rest) ≤ suc (length es)
+    put true few = omega (arith, few)
+    put false few = omega (arith, few)
+
+-- a walk that drops no entry leaves the keys as they were
+pub kept_keys : {F : Type 0} (T : F → Tuple → Vec Row → Bool → Vec Row → F → Type 0) (f : F) (es kept : Entries) → length es ≤ length kept → RetainsPairs T f es kept → keys_of kept ≡ keys_of es
+kept_keys T f [] kept many is = ap keys_of is
+kept_keys T f ((t, v) ∷ es) kept many (b, w, next, rest, called, more, is) =
+    ap keys_of is ∙ put b (few_kept T next es rest more) (subst (λ (l : Entries). suc (length es) ≤ length l) is many) (λ long. kept_keys T next es rest long more)
+  where
+    put : (b : Bool) → length rest ≤ length es → suc (length es) ≤ length (cond b ((t, w) ∷ rest) rest) → (length es ≤ length rest → keys_of rest ≡ keys_of es) → keys_of (cond b ((t, w) ∷ rest) rest) ≡ t ∷ keys_of es
+    put true few long same = ap (λ (l : List Tuple). t ∷ l) (same (omega (arith, long)))
+    put false few long same = absurd (omega (arith, few, long))

@@ -50,9 +50,9 @@ impl Asks for Userset {
     }
 }
 
-// whether the tuple has the relation, where one is given
+/// Whether the tuple has the relation, where one is given
 #[tactic(auto, using(crate::proofs::Equal::same_relation))]
-fn has_given(relation: &Option<Relation>, tuple: &Tuple) -> bool
+pub(crate) fn has_given(relation: &Option<Relation>, tuple: &Tuple) -> bool
     ensures { result ≡ has_relation relation.now tuple.now }
 {
     match relation {

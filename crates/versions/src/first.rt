@@ -1,8 +1,9 @@
-// Where a walk over the tuples of an object begins.
+// Where a walk over the tuples of an object, or over those of a user, begins.
 ghost use Rattle.std.specs.Prelude.{◌≡◌, ◌∷◌, [], IfOk};
 ghost use Rattle.tuples.specs.Texts.{IsTuple, IsUser};
 ghost use Rattle.tuples.specs.declared.tupleset.Tupleset.TheVariants.{OfObject as of_object};
 ghost use Rattle.tuples.specs.Reads.{meets};
+ghost use Rattle.versions.specs.Index.{IsFirstOf};
 ghost use Rattle.versions.specs.Rows.{IsFirst, first_relation, is_set_of, lowest_userset};
 
 use std::alloc::{AllocError, Global};
@@ -37,6 +38,25 @@ pub(crate) fn first_set_of(alloc: Global, userset: &Userset) -> Result<Tuple, Al
         object,
         relation,
         user: User::Set(lowest),
+    })
+}
+
+/// A tuple before which none of the namespace stands that names the user, in the order of the index.
+pub(crate) fn first_of_user(
+    alloc: Global,
+    namespace: &Namespace,
+    user: &User,
+) -> Result<Tuple, AllocError>
+    ensures { IfOk result (λ first. IsFirstOf namespace.now user.now first) }
+{
+    let namespace = namespace.clone()?;
+    let id = first_id(alloc)?;
+    let relation = relation_or_first(alloc, &None)?;
+    let user = user.clone()?;
+    Ok(Tuple {
+        object: Object { namespace, id },
+        relation,
+        user,
     })
 }
 

@@ -1,11 +1,13 @@
 // The versions of one tuple, in the order in which they were applied.
-ghost use Rattle.std.specs.Prelude.{◌≡◌, IfOk};
+ghost use Rattle.std.specs.Prelude.{◌≡◌, ◌+◌, IfOk, length};
 ghost use Rattle.tuples.specs.Changes.{tuple_of};
 ghost use Rattle.tuples.specs.Versions.{last_version, there_at};
 ghost use Rattle.tuples.specs.declared.tuple.Tuple.{Tuple as AnyTuple};
 ghost use Rattle.versions.specs.Rows.{newest_under, rows_left, version_of, versions_of};
 
+use crate::Steps;
 use std::alloc::AllocError;
+use std::sync::ledger::Ledger;
 use tuples::{Change, Tuple, Version};
 
 /// A version of a tuple: the place of the change, and whether it touches the tuple or deletes it.
@@ -54,12 +56,14 @@ pub(crate) fn last_place(rows: &[Row]) -> u64
     last
 }
 
-/// Whether the tuple is there at a place.
-pub(crate) fn is_there_at(rows: &[Row], place: u64) -> bool
-    ensures { (t : AnyTuple) → result ≡ there_at (versions_of t rows.now) place t }
+/// Whether the tuple is there at a place; each row that is looked at is counted.
+pub(crate) fn is_there_at<L: Ledger>(rows: &[Row], place: u64, steps: &mut Steps<L>) -> bool
+    ensures there { (t : AnyTuple) → result ≡ there_at (versions_of t rows.now) place t }
+    ensures steps { steps.new ≡ steps.old + length rows.now }
 {
     let mut there = false;
     for row in rows {
+        steps.tick();
         if row.place <= place {
             there = row.is_touch;
         }

@@ -9,14 +9,19 @@
 
 mod applying;
 mod asks;
+mod by_user;
 mod checking;
 mod decided;
 mod first;
 mod history;
 mod kept;
 mod listing;
+mod of_user;
+mod steps;
 mod table;
+mod uncounted;
 mod versions;
 
 pub use decided::PlacedChanges;
+pub use steps::Steps;
 pub use versions::{Versions, newest_is_last, read_alike};

@@ -1,26 +1,31 @@
-// A table of tuples, each with its versions.
-ghost use Rattle.std.specs.Prelude.{◌≡◌, ◌++◌, [], false, List, None, length, IfOk, OnOk, OnErr};
+// A table of tuples, each with its versions, and the index by user of its tuples.
+ghost use Rattle.std.specs.Prelude.{◌≡◌, ◌++◌, [], false, List, None, filter, is_some, length, IfOk, OnOk, OnErr};
 ghost use Rattle.tuples.specs.Versions.{collected};
 ghost use Rattle.tuples.specs.declared.version.Version.{Version as AnyVersion};
 ghost use Rattle.versions.specs.Alike.{AreAlike, of_tuple};
+ghost use Rattle.versions.specs.Index.{HasSame, IsIndex};
 ghost use Rattle.versions.specs.Rows.{IsTable, found, listed, rows_in, rows_left, versions_of};
 ghost use Rattle.versions.specs.declared.history.Row.{Row as AnyRow};
 
+use crate::by_user::ByUser;
 use crate::first::see_spelled;
 use crate::history::{self, Row};
 use std::alloc::{AllocError, Global};
-use std::collections::BTreeMap;
+use std::collections::{BTreeMap, BTreeSet};
 use tuples::Tuple;
 
 /// Adds versions of a tuple. Where memory is refused, nothing has changed.
 pub(crate) fn add(
     table: &mut BTreeMap<Tuple, Vec<Row>>,
+    users: &mut BTreeSet<ByUser>,
     alloc: Global,
     tuple: &Tuple,
     rows: &[Row],
 ) -> Result<(), AllocError>
-    requires { IsTable table.old.entries }
+    requires table { IsTable table.old.entries }
+    requires index { IsIndex users.old.keys table.old.entries }
     ensures table { IsTable table.new.entries }
+    ensures index { IsIndex users.new.keys table.new.entries }
     ensures ok { OnOk result (AreAlike (listed table.new.entries) (listed table.old.entries ++ versions_of tuple.now rows.now)) }
     ensures err { OnErr result (listed table.new.entries ≡ listed table.old.entries) }
 {
@@ -28,25 +33,36 @@ pub(crate) fn add(
         own.extend_from_slice(rows)?;
         return Ok(());
     }
-    insert(table, alloc, tuple, rows)
+    insert(table, users, alloc, tuple, rows)
 }
 
 fn insert(
     table: &mut BTreeMap<Tuple, Vec<Row>>,
+    users: &mut BTreeSet<ByUser>,
     alloc: Global,
     tuple: &Tuple,
     rows: &[Row],
 ) -> Result<(), AllocError>
     requires table { IsTable table.old.entries }
+    requires index { IsIndex users.old.keys table.old.entries }
     requires new { found tuple.now table.old.entries ≡ None }
     ensures table { IsTable table.new.entries }
+    ensures index { IsIndex users.new.keys table.new.entries }
     ensures ok { OnOk result (AreAlike (listed table.new.entries) (listed table.old.entries ++ versions_of tuple.now rows.now)) }
     ensures err { OnErr result (listed table.new.entries ≡ listed table.old.entries) }
 {
     see_spelled(tuple);
     let own = Vec::from_slice(alloc, rows)?;
-    table.insert(copy(tuple)?, own)?;
-    Ok(())
+    let key = copy(tuple)?;
+    users.insert(ByUser::new(copy(tuple)?))?;
+    match table.insert(key, own) {
+        Ok(_) => Ok(()),
+        Err(refused) => {
+            let (key, _rows) = refused.value;
+            users.remove(&ByUser::new(key));
+            Err(AllocError)
+        }
+    }
 }
 
 pub(crate) fn copy(tuple: &Tuple) -> Result<Tuple, AllocError>
@@ -68,18 +84,26 @@ pub(crate) fn rows_of<'a>(table: &'a BTreeMap<Tuple, Vec<Row>>, tuple: &Tuple) -
 }
 
 /// Takes back so many versions of a tuple, which were added last.
-pub(crate) fn take_back(table: &mut BTreeMap<Tuple, Vec<Row>>, tuple: &Tuple, count: usize)
-    requires { IsTable table.old.entries }
+pub(crate) fn take_back(
+    table: &mut BTreeMap<Tuple, Vec<Row>>,
+    users: &mut BTreeSet<ByUser>,
+    tuple: &Tuple,
+    count: usize,
+)
+    requires table { IsTable table.old.entries }
+    requires index { IsIndex users.old.keys table.old.entries }
     ensures table { IsTable table.new.entries }
+    ensures index { IsIndex users.new.keys table.new.entries }
     ensures versions { (before : List AnyVersion) (rows : List AnyRow) → length rows ≡ count → AreAlike (listed table.old.entries) (before ++ versions_of tuple.now rows) → AreAlike (listed table.new.entries) before }
 {
     shorten(table, tuple, count);
-    remove_empty(table, tuple);
+    remove_empty(table, users, tuple);
 }
 
 fn shorten(table: &mut BTreeMap<Tuple, Vec<Row>>, tuple: &Tuple, count: usize)
     requires { IsTable table.old.entries }
     ensures table { IsTable table.new.entries }
+    ensures entries { HasSame table.old.entries table.new.entries }
     ensures versions { (before : List AnyVersion) (rows : List AnyRow) → length rows ≡ count → AreAlike (listed table.old.entries) (before ++ versions_of tuple.now rows) → AreAlike (listed table.new.entries) before }
 {
     let Some(own) = table.get_mut(tuple) else {
@@ -90,23 +114,51 @@ fn shorten(table: &mut BTreeMap<Tuple, Vec<Row>>, tuple: &Tuple, count: usize)
 }
 
 // A tuple without versions has no entry.
-fn remove_empty(table: &mut BTreeMap<Tuple, Vec<Row>>, tuple: &Tuple)
-    requires { IsTable table.old.entries }
+fn remove_empty(table: &mut BTreeMap<Tuple, Vec<Row>>, users: &mut BTreeSet<ByUser>, tuple: &Tuple)
+    requires table { IsTable table.old.entries }
+    requires index { IsIndex users.old.keys table.old.entries }
     ensures table { IsTable table.new.entries }
+    ensures index { IsIndex users.new.keys table.new.entries }
     ensures versions { listed table.new.entries ≡ listed table.old.entries }
 {
-    if rows_of(table, tuple).is_empty() {
-        table.remove(tuple);
+    if !rows_of(table, tuple).is_empty() {
+        return;
+    }
+    if let Some((key, _)) = table.remove_entry(tuple) {
+        users.remove(&ByUser::new(key));
     }
 }
 
 /// Forgets what lies under the horizon.
-pub(crate) fn collect(table: &mut BTreeMap<Tuple, Vec<Row>>, horizon: u64)
-    requires { IsTable table.old.entries }
+pub(crate) fn collect(
+    table: &mut BTreeMap<Tuple, Vec<Row>>,
+    users: &mut BTreeSet<ByUser>,
+    horizon: u64,
+)
+    requires table { IsTable table.old.entries }
+    requires index { IsIndex users.old.keys table.old.entries }
     ensures table { IsTable table.new.entries }
+    ensures index { IsIndex users.new.keys table.new.entries }
     ensures versions { AreAlike (listed table.new.entries) (collected horizon (listed table.old.entries)) }
 {
+    let count = table.len();
     table.retain(|_, rows| has_left(rows, horizon));
+    if table.len() < count {
+        forget_gone(users, table);
+    }
+}
+
+// Leaves in the index what has an entry.
+fn forget_gone(users: &mut BTreeSet<ByUser>, table: &BTreeMap<Tuple, Vec<Row>>)
+    ensures { users.new.keys ≡ filter (λ t. is_some (found t table.now.entries)) users.old.keys }
+{
+    users.retain(|named| has_entry(table, named));
+}
+
+fn has_entry(table: &BTreeMap<Tuple, Vec<Row>>, named: &ByUser) -> bool
+    ensures { result ≡ is_some (found named.now table.now.entries) }
+{
+    table.contains_key(named.tuple())
 }
 
 // Whether versions of a tuple are left under the horizon, once the others are forgotten.

@@ -1,41 +1,47 @@
 // The versions of tuples, as a table of tuples.
-ghost use Rattle.std.specs.Prelude.{◌≡◌, ◌++◌, [], OnOk, OnErr, IfOk};
+ghost use Rattle.std.specs.Prelude.{◌≡◌, ◌≤◌, ◌+◌, ◌++◌, [], OnOk, OnErr, IfOk};
 ghost use Rattle.tuples.specs.Versions.{collected, last_version, placed, there_at};
 ghost use Rattle.tuples.specs.Reads.{IsSelection};
 ghost use Rattle.tuples.specs.Walking.{IsCheckSelection};
 ghost use Rattle.versions.specs.Alike.{AlikeReadsAlike, AreAlike};
+ghost use Rattle.versions.specs.Index.{count_met};
 ghost use Rattle.versions.specs.Last.{NewestIsLast};
 ghost use Rattle.versions.specs.Placed.{all_placed};
 ghost use Rattle.versions.specs.Rows.{AreRows};
 
-use crate::history::{Row, is_there_at, last_place};
+use crate::by_user::ByUser;
+use crate::history::{Row, last_place};
 use crate::kept::kept_at;
 use crate::listing::list;
-use crate::{PlacedChanges, applying, checking, table};
+use crate::{PlacedChanges, Steps, applying, table, uncounted};
 use std::alloc::{AllocError, Global};
-use std::collections::BTreeMap;
-use std::marker::Model;
+use std::collections::{BTreeMap, BTreeSet};
+use std::marker::{Brand, Model};
+use std::sync::ledger::{Blank, Ledger};
 use tuples::{Change, Tuple, Tupleset, User, Userset, Version};
 
 /// The versions of tuples, which contracts see as a list. Of it only the order within one tuple is promised.
 ///
-/// A tuple, an object, and an object with a relation are found in logarithmic time; a set by user is looked for among all tuples.
+/// A tuple, an object, an object with a relation, and the tuples of a namespace that name a user are found in logarithmic time.
 #[derive(Drop)]
 pub struct Versions {
     alloc: Global,
     rows: BTreeMap<Tuple, Vec<Row>>,
+    // the same tuples, in the order of namespaces and users
+    users: BTreeSet<ByUser>,
 }
 
 impl Model for Versions {
     ghost use Rattle.std.specs.Prelude.{List};
     ghost use Rattle.tuples.specs.declared.version.Version.{Version};
+    ghost use Rattle.versions.specs.Index.{IsIndex};
     ghost use Rattle.versions.specs.Rows.{IsTable, listed};
 
     ghost Value = { List Version };
 
     ghost view = { λ v. listed v.rows.entries };
 
-    ghost invariant = { λ v. IsTable v.rows.entries };
+    ghost invariant = { λ v. IsTable v.rows.entries × IsIndex v.users.keys v.rows.entries };
 }
 
 impl Versions {
@@ -46,6 +52,7 @@ impl Versions {
         Versions {
             alloc,
             rows: BTreeMap::new(alloc),
+            users: BTreeSet::new(alloc),
         }
     }
 
@@ -54,7 +61,7 @@ impl Versions {
         ensures ok { OnOk result (AreAlike self.new (self.old ++ placed place changes.now)) }
         ensures err { OnErr result (self.new ≡ self.old) }
     {
-        applying::apply(&mut self.rows, self.alloc, place, changes)
+        applying::apply(&mut self.rows, &mut self.users, self.alloc, place, changes)
     }
 
     /// The place of the newest version of the tuple, or 0.
@@ -69,28 +76,42 @@ impl Versions {
         ensures ok { OnOk result (AreAlike self.new (self.old ++ all_placed writes.now)) }
         ensures err { OnErr result (self.new ≡ self.old) }
     {
-        applying::apply_all(&mut self.rows, self.alloc, writes)
+        applying::apply_all(&mut self.rows, &mut self.users, self.alloc, writes)
     }
 
     /// Forgets what lies under the horizon: versions at or below it that another such version of their tuple follows, and deletions.
     pub fn collect(&mut self, horizon: u64)
         ensures { AreAlike self.new (collected horizon self.old) }
     {
-        table::collect(&mut self.rows, horizon);
+        table::collect(&mut self.rows, &mut self.users, horizon);
     }
 
     /// Whether the tuple is there at a place.
     pub fn is_there(&self, place: u64, tuple: &Tuple) -> bool
         ensures { result ≡ there_at self.now place tuple.now }
     {
-        is_there_at(table::rows_of(&self.rows, tuple), place)
+        uncounted::is_there::<Brand>(&self.rows, place, tuple, Blank::new(1))
     }
 
     /// The tuples that are there at a place and meet the tupleset, ascending.
     pub fn at(&self, alloc: Global, place: u64, set: &Tupleset) -> Result<Vec<Tuple>, AllocError>
         ensures { IfOk result (λ tuples. IsSelection (there_at self.now place) set.now tuples.items) }
     {
-        kept_at(&self.rows, alloc, place, set)
+        uncounted::kept::<Brand>(&self.rows, &self.users, alloc, place, set, Blank::new(1))
+    }
+
+    /// What `at` gives, with one step counted for each row that is looked at: those of the tuples that meet the tupleset, and no others.
+    pub fn at_counted<L: Ledger>(
+        &self,
+        alloc: Global,
+        place: u64,
+        set: &Tupleset,
+        steps: &mut Steps<L>,
+    ) -> Result<Vec<Tuple>, AllocError>
+        ensures rows { IfOk result (λ tuples. IsSelection (there_at self.now place) set.now tuples.items) }
+        ensures steps { steps.new ≤ steps.old + count_met set.now self.now }
+    {
+        kept_at(&self.rows, &self.users, alloc, place, set, steps)
     }
 
     /// The tuples that are there at a place and that a check asks of a userset, ascending: that of the user, and those of usersets.
@@ -103,7 +124,7 @@ impl Versions {
     ) -> Result<Vec<Tuple>, AllocError>
         ensures { IfOk result (λ tuples. IsCheckSelection (there_at self.now place) userset.now user.now tuples.items) }
     {
-        checking::asked_at(&self.rows, alloc, place, userset, user)
+        uncounted::asked::<Brand>(&self.rows, alloc, place, userset, user, Blank::new(1))
     }
 
     /// Copies of all versions, by tuple and then by place.

@@ -27,4 +27,5 @@ loop-left-preserved c = (
       ∙ ap (λ (w : PlacedChanges). (front ++ first) ++ placed one.place w.changes.now) c.index-writes-left.is
       in
       c.take_back_changes.ensures.versions (front ++ first) one.place (subst (AreAlike (listed c.loop-left.table.entries)) ends (c.loop-left.invariant.2 front whole)),
+  c.take_back_changes.ensures.index,
 )

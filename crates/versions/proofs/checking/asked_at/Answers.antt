@@ -11,11 +11,11 @@ use Rattle.versions.proofs.Asked.{of_user}
 use Rattle.versions.proofs.checking.asked_at.Goals as goal
 
 pub returns-in_ok-holding-in-Id : goal.returns-in_ok-holding-in-Id
-returns-in_ok-holding-in-Id c =
+returns-in_ok-holding-in-Id g c =
     let there = there_at (listed c.args.table.now.entries) c.args.place in
     let x = c.args.userset.now in
     let sets : List Tuple = c.in_ok-sets.sets.items in
-    let picked : IsPicked there (is_set_of x) sets = c.in_ok-sets.ensures in
+    let picked : IsPicked there (is_set_of x) sets = c.in_ok-sets.ensures.rows in
     let h : c.in_ok-holding-in-Id.field-0 ≡ holding x c.args.user.now = c.in_ok-holding-in-Id.ensures in
     let user : c.args.user.now ≡ Id c.in-Id.field-0 = c.in-Id.is in
     IfOk-weaker c.with_user.result _ _

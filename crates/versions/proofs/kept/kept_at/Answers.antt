@@ -3,6 +3,6 @@ use Rattle.versions.proofs.Firsts.{key_first}
 use Rattle.versions.proofs.kept.kept_at.Goals as goal
 
 pub kept_from-requires-clause-first : goal.kept_from-requires-clause-first
-kept_from-requires-clause-first c =
+kept_from-requires-clause-first g c =
     let copy : c.in_ok-copy-in-Key.field-0 ≡ c.in-Key.key = search rules in
     rw c.in-Key.is (rw copy (key_first c.in-Key.key))

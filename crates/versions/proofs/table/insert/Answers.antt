@@ -1,4 +1,4 @@
-use Rattle.std.proofs.Common.{◌≡◌, ◌++◌, Some, cond, sym, subst, ap, ◌∙◌, rules}
+use Rattle.std.proofs.Common.{◌≡◌, ◌++◌, List, Some, cond, sym, subst, ap, ◌∙◌, rules}
 use Rattle.std.specs.List.{AllByRecursion}
 use Rattle.std.specs.Map.{keys_of}
 use Rattle.tuples.specs.Texts.{IsTuple}
@@ -6,26 +6,46 @@ use Rattle.std.specs.BTreeMap.{is_at}
 use Rattle.tuples.specs.declared.tuple.Tuple.{Tuple}
 use Rattle.tuples.specs.contracts.tuple.TupleOrd.TheImpl.{ghosts}
 use Rattle.versions.specs.Rows.{found, rows_in}
+use Rattle.versions.proofs.Index.{index_back, index_changed}
 use Rattle.versions.proofs.Tables.{Entries, all_inserted, more_alike}
 use Rattle.versions.proofs.table.insert.Goals as goal
 
-pub returns-clause-table : goal.returns-clause-table
-returns-clause-table c =
+pub returns-in-Ok-clause-table : goal.returns-in-Ok-clause-table
+returns-in-Ok-clause-table c =
     let es : Entries = c.args.table.now.entries in
-    let key : c.in_ok-copy.field-0 ≡ c.args.tuple.now = search rules in
+    let key : c.in_ok-key.key ≡ c.args.tuple.now = search rules in
     record {
-      in_order = c.insert.ensures.ordered;
-      spelled = subst (λ (l : Entries). AllByRecursion IsTuple (keys_of l)) (sym c.in_ok-insert.ensures.entries)
-          (all_inserted IsTuple c.in_ok-copy.field-0 c.in_ok-own.own es (subst IsTuple (sym key) c.see_spelled.ensures) c.requires.table.spelled);
+      in_order = c.insert-2.ensures.ordered;
+      spelled = subst (λ (l : Entries). AllByRecursion IsTuple (keys_of l)) (sym c.in-Ok.ensures.entries)
+          (all_inserted IsTuple c.in_ok-key.key c.in_ok-own.own es (subst IsTuple (sym key) c.see_spelled.ensures) c.requires.table.spelled);
     }
 
-pub returns-clause-ok : goal.returns-clause-ok
-returns-clause-ok c =
+pub returns-in-Ok-clause-index : goal.returns-in-Ok-clause-index
+returns-in-Ok-clause-index c =
     let t = c.args.tuple.now in
     let es : Entries = c.args.table.now.entries in
-    let new : Entries = c.insert.new.self.entries in
-    let key : c.in_ok-copy.field-0 ≡ t = search rules in
+    let key : c.in_ok-key.key ≡ t = search rules in
+    let named : c.new.result ≡ t = search rules in
+    index_changed c.new.result t named (Some c.in_ok-own.own) c.args.users.now.keys c.insert.new.self.keys es c.insert-2.new.self.entries c.requires.index
+    (c.in_ok-insert.ensures.updates).0
+    (λ q. (c.in-Ok.ensures.updates).0 q ∙ ap (λ (k : Tuple). cond (is_at (ghosts.cmp k) q) (Some c.in_ok-own.own) (found q es)) key)
+
+pub returns-in-Ok-clause-ok : goal.returns-in-Ok-clause-ok
+returns-in-Ok-clause-ok c =
+    let t = c.args.tuple.now in
+    let es : Entries = c.args.table.now.entries in
+    let new : Entries = c.insert-2.new.self.entries in
+    let key : c.in_ok-key.key ≡ t = search rules in
     let own = c.in_ok-own.own in
     let grown : own.items ≡ rows_in (found t es) ++ c.args.rows.now = c.in_ok-own.ensures.items ∙ sym (ap (λ o. rows_in o ++ c.args.rows.now) c.requires.new) in
-    let changed : (q : Tuple) → found q new ≡ cond (is_at (ghosts.cmp t) q) (Some own) (found q es) = λ q. (c.in_ok-insert.ensures.updates).0 q ∙ ap (λ (k : Tuple). cond (is_at (ghosts.cmp k) q) (Some own) (found q es)) key in
-    more_alike t (Some own) c.args.rows.now es new c.insert.ensures.was_ordered c.insert.ensures.ordered changed grown
+    let changed : (q : Tuple) → found q new ≡ cond (is_at (ghosts.cmp t) q) (Some own) (found q es) = λ q. (c.in-Ok.ensures.updates).0 q ∙ ap (λ (k : Tuple). cond (is_at (ghosts.cmp k) q) (Some own) (found q es)) key in
+    more_alike t (Some own) c.args.rows.now es new c.insert-2.ensures.was_ordered c.insert-2.ensures.ordered changed grown
+
+pub returns-clause-index : goal.returns-clause-index
+returns-clause-index c =
+    let t = c.args.tuple.now in
+    let es : Entries = c.args.table.now.entries in
+    let named : c.new.result ≡ t = search rules in
+    let again : c.new-in-Err.result ≡ t = search rules in
+    index_back c.new.result c.new-in-Err.result t named again c.args.users.now.keys c.insert.new.self.keys c.remove-in-Err.new.self.keys es c.insert-2.new.self.entries c.requires.index c.requires.new (search rules)
+    (c.in_ok-insert.ensures.updates).0 (c.remove-in-Err.ensures.updates).0

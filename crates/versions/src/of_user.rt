@@ -1,0 +1,62 @@
+// The tuples of a namespace that name a user, by the index.
+ghost use Rattle.std.specs.Prelude.{◌≡◌, ◌≤◌, ◌+◌, IfOk};
+ghost use Rattle.tuples.specs.Reads.{IsSelection};
+ghost use Rattle.tuples.specs.Versions.{there_at};
+ghost use Rattle.tuples.specs.declared.tupleset.Tupleset.TheVariants.{OfUser as of_user};
+ghost use Rattle.versions.specs.Index.{IsFirstOf, IsIndex, count_met, is_of_user};
+ghost use Rattle.versions.specs.Rows.{IsTable, listed};
+
+use crate::Steps;
+use crate::asks::has_given;
+use crate::by_user::ByUser;
+use crate::first::first_of_user;
+use crate::history::{Row, is_there_at};
+use crate::table::{copy, rows_of};
+use std::alloc::{AllocError, Global};
+use std::collections::{BTreeMap, BTreeSet};
+use std::sync::ledger::Ledger;
+use tuples::{Namespace, Relation, Tuple, User};
+
+/// Which tuples are asked for: those in a namespace that name a user, with a relation where one is given.
+#[derive(Clone, Copy)]
+pub(crate) struct OfUser<'a> {
+    pub namespace: &'a Namespace,
+    pub user: &'a User,
+    pub relation: &'a Option<Relation>,
+}
+
+/// Copies of those that are there at a place, ascending. Each row that is looked at is counted.
+pub(crate) fn kept_of_user<L: Ledger>(
+    table: &BTreeMap<Tuple, Vec<Row>>,
+    users: &BTreeSet<ByUser>,
+    alloc: Global,
+    place: u64,
+    asked: OfUser,
+    steps: &mut Steps<L>,
+) -> Result<Vec<Tuple>, AllocError>
+    requires table { IsTable table.now.entries }
+    requires index { IsIndex users.now.keys table.now.entries }
+    ensures rows { IfOk result (λ tuples. IsSelection (there_at (listed table.now.entries) place) (of_user asked.entry.namespace.now asked.entry.user.now asked.entry.relation.now) tuples.items) }
+    ensures steps { steps.new ≤ steps.old + count_met (of_user asked.entry.namespace.now asked.entry.user.now asked.entry.relation.now) (listed table.now.entries) }
+{
+    let first = first_of_user(alloc, asked.namespace, asked.user)?;
+    let mut tuples = Vec::new(alloc);
+    for named in users.range(ByUser::new(first)..) {
+        let tuple = named.tuple();
+        if !is_of(asked.namespace, asked.user, tuple) {
+            return Ok(tuples);
+        }
+        if has_given(asked.relation, tuple) && is_there_at(rows_of(table, tuple), place, steps) {
+            tuples.push(copy(tuple)?)?;
+        }
+    }
+    Ok(tuples)
+}
+
+// Whether the tuple is of the namespace and names the user.
+#[tactic(auto, using(crate::proofs::Equal::same_namespace, crate::proofs::Equal::same_user))]
+fn is_of(namespace: &Namespace, user: &User, tuple: &Tuple) -> bool
+    ensures { result ≡ is_of_user namespace.now user.now tuple.now }
+{
+    tuple.object.namespace == *namespace && tuple.user == *user
+}
