@@ -1,0 +1,11 @@
+//! A turn of a write flow is a turn of a run: laws that join what the flow asks, what the node answers and what the flow makes of it.
+//!
+//! Keeps: nothing at run time; each law is the contract of a function with an empty body.
+//! Callers rely on: from whatever moment a store stands for, such a turn leads to one for which it then stands.
+//!
+//! Start at `specs/Turning.antt`, what a turn is and where it leads.
+#![tactic(auto)]
+
+mod catch_up_turns;
+
+pub use catch_up_turns::learned_takes_its_turn;
