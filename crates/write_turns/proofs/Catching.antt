@@ -53,21 +53,21 @@ use Rattle.write_turns.specs.Turning.{MakesCall, TurnsBy}
 use Rattle.write_turns.proofs.Going.{IsFlow, Promises, asked_is, asks_own, calls_coordinator, calls_shard, fails_out, flow_there, goes_out, holds_is, keeps, right}
 
 -- a node that is there may be asked what it is owed
-may_ask_coordinator : {D : Type 0} (store shards : ℕ) (v : NodeView D) (call : CoordinatorCall) → IsNamed store shards v coordinator → MayAskCoordinator shards call → MayAsk v (of_coordinator call)
+pub may_ask_coordinator : {D : Type 0} (store shards : ℕ) (v : NodeView D) (call : CoordinatorCall) → IsNamed store shards v coordinator → MayAskCoordinator shards call → MayAsk v (of_coordinator call)
 may_ask_coordinator store shards (views.coordinator v) call is owed = subst (λ (i : Identity). MayAskCoordinator i.shards call) (sym is) owed
 may_ask_coordinator store shards (views.shard v) call is owed = absurd is
 may_ask_coordinator store shards (views.refused e a b) call is owed = tt
 
-may_ask_shard : {D : Type 0} (store shards s : ℕ) (v : NodeView D) (call : ShardCall) → IsNamed store shards v (shard s) → MayAskShard shards s call → MayAsk v (of_shard s call)
+pub may_ask_shard : {D : Type 0} (store shards s : ℕ) (v : NodeView D) (call : ShardCall) → IsNamed store shards v (shard s) → MayAskShard shards s call → MayAsk v (of_shard s call)
 may_ask_shard store shards s (views.coordinator v) call is owed = absurd is
 may_ask_shard store shards s (views.shard v) call is owed = (ap (λ (i : Identity). i.node) is, subst (λ (i : Identity). MayAskShard i.shards s call) (sym is) owed)
 may_ask_shard store shards s (views.refused e a b) call is owed = tt
 
-no_batch : (m : Machine) → IfHeld None (IsRightBatch m)
+pub no_batch : (m : Machine) → IfHeld None (IsRightBatch m)
 no_batch m b is = absurd cc
 
 -- on its way out it holds no decisions for a shard
-less_out : (h : WriteHolds) (e : Refusal) → HoldsLess h (record h { way = outward (Some e); batch = None })
+pub less_out : (h : WriteHolds) (e : Refusal) → HoldsLess h (record h { way = outward (Some e); batch = None })
 less_out h e = record { id = refl; intent = λ i is. is; tickets = λ t has. has; votes = λ v has. has; decided = refl; batch = λ b is. absurd cc; verdict = λ id is. is }
 
 module _ {D : Type 0} (state : D → State) (honest : D → Type 0) (moment : D → ℕ) (left_since : D → ℕ → List ℕ → Type 0)
@@ -84,28 +84,28 @@ module _ {D : Type 0} (state : D → State) (honest : D → Type 0) (moment : D 
 
   module _ (r : Running) (flow : IsFlow state honest moment left_since store shards old new now standing number slot is_cancelled v r) (way : IsOnItsWay v) where
     -- the catch-up goes on, with decisions for the shard or without
-    goes_next : (next : Nodes) (m : Machine) (held : CatchUpValue) → Made next m → IfHeld held.batch (IsRightBatch m) → GoesOn (record v.holds { batch = held.batch }) later → Goal later
+    pub goes_next : (next : Nodes) (m : Machine) (held : CatchUpValue) → Made next m → IfHeld held.batch (IsRightBatch m) → GoesOn (record v.holds { batch = held.batch }) later → Goal later
     goes_next next m held quiet right_batch is = subst Goal (sym is)
         (keeps state honest moment left_since store shards old new now standing number slot is_cancelled v r flow next m quiet held.batch None way.2.0.write.id way.2.2 right_batch)
 
     -- the shard is caught up, and prepares its part next
-    is_there : (next : Nodes) (m : Machine) (s : ℕ) → Made next m → GoesToPrepare s (record v.holds { batch = None }) later → Goal later
+    pub is_there : (next : Nodes) (m : Machine) (s : ℕ) → Made next m → GoesToPrepare s (record v.holds { batch = None }) later → Goal later
     is_there next m s quiet is = subst Goal (sym is)
         (keeps state honest moment left_since store shards old new now standing number slot is_cancelled v r flow next m quiet None (Some s) way.2.0.write.id way.2.2 (no_batch m))
 
     -- a call failed, and the write goes out
-    fails_at : (n : NodeName) (e : Refusal) → Fails n e → Calls shards r.asked n → GoesOut v.holds e later → Goal later
+    pub fails_at : (n : NodeName) (e : Refusal) → Fails n e → Calls shards r.asked n → GoesOut v.holds e later → Goal later
     fails_at n e failed calls is = subst Goal (sym is)
         (fails_out state honest moment left_since store shards old new now standing number slot is_cancelled v r flow n e (record v.holds { way = outward (Some e); batch = None }) way.2.0.write.id failed calls way.2.2 way.1
         (less_out v.holds e) refl)
 
     -- or one was refused
-    refused_at : (next : Nodes) (m : Machine) (e : Refusal) → Made next m → ((ran : Moment) → ran.nodes ≡ next → HasItsCause shards now ran r e) → GoesOut v.holds e later → Goal later
+    pub refused_at : (next : Nodes) (m : Machine) (e : Refusal) → Made next m → ((ran : Moment) → ran.nodes ≡ next → HasItsCause shards now ran r e) → GoesOut v.holds e later → Goal later
     refused_at next m e quiet cause is = subst Goal (sym is)
         (goes_out state honest moment left_since store shards old new now standing number slot is_cancelled v r flow next m quiet (record v.holds { way = outward (Some e); batch = None }) way.2.0.write.id e way.2.2 way.1
         (less_out v.holds e) refl cause)
 
-    calls_this : (s : ℕ) → s < shards → HasShard shards v s → Calls shards r.asked (shard s)
+    pub calls_this : (s : ℕ) → s < shards → HasShard shards v s → Calls shards r.asked (shard s)
     calls_this s there has = calls_shard shards s r.asked has.0.write (asks_own state honest moment left_since store shards old new now standing number slot is_cancelled v r flow has.0 has.1 own_id) there has.3
       where
         same_intent : way.2.0 ≡ has.0

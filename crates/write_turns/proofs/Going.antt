@@ -74,6 +74,10 @@ module _ {D : Type 0} (state : D → State) (honest : D → Type 0) (moment : D 
   Promises later = SlotTurns slot (shown v is_cancelled) (shown_until later.ended later is_cancelled) old new
       → Ran state honest moment left_since store shards old now number (turn slot) (events_of number (told_of is_cancelled later.ended)) new
 
+  -- where no device has changed, a stop leaves what it left before
+  pub moved : new.devices ≡ old.devices → (at : Moment) → Stands store shards left_before at → Stands store shards left_after at
+  moved same at stands = subst (λ (f : NodeName → D × D). Stands store shards (stops state honest store shards f) at) (sym same) stands
+
   -- a running flow that is shown so
   pub record IsFlow (r : Running) : Type 0 where
     pub there : flow_at slot now.running ≡ Some r
@@ -151,10 +155,19 @@ module _ {D : Type 0} (state : D → State) (honest : D → Type 0) (moment : D 
 
     -- behind a quiet call
     module _ (next : Nodes) (m : Machine) (quiet : IsQuietlyMade state honest moment left_since store shards old new now standing next m) where
+      -- the decisions that it held on their way are still right
+      pub batch_stays : IfHeld v.holds.batch (IsRightBatch m)
+      batch_stays = (of_write shards left_after (behind_call now next m) r r.asked v.holds
+          (subst (λ (x : Holds). IsRight shards left_after (behind_call now next m) r r.asked x) holds_is (quiet.0.stands.flows.held r is_flow.running))).3.batch
+
       -- it goes on with other decisions on their way, or none
       pub keeps : (b : Option BatchValue) (caught : Option ℕ) (id : WriteId) → v.holds.id ≡ Some id → IfHeld b (IsRightBatch m) → Promises (record (at_rest (record v.holds { batch = b })) { caught = caught })
       keeps b caught id has_id right_batch = going next m (record v.holds { batch = b }) caught id (with_call r (with_batch b r.holds) r.met m) quiet.1 has_id refl (ap (with_batch b) holds_is) refl
           (quiet_calls_keep store shards left_before left_after now next m r b quiet.0 is_flow.running right_batch)
+
+      -- it goes on with what it held
+      pub stays_so : (later : WriteView) (caught : Option ℕ) (id : WriteId) → v.holds.id ≡ Some id → later ≡ record (at_rest v.holds) { caught = caught } → Promises later
+      stays_so later caught id has_id is = subst Promises (sym is) (keeps v.holds.batch caught id has_id batch_stays)
 
       -- it goes on, and has spent some of what it held
       pub spends : (k : WriteHolds) (id : WriteId) → v.holds.id ≡ Some id → HoldsLess v.holds k → k.way ≡ v.holds.way → Promises (at_rest k)
@@ -185,6 +198,16 @@ module _ {D : Type 0} (state : D → State) (honest : D → Type 0) (moment : D 
       ends_quietly : (end : WriteEnd) → r.is_cancelled ≡ true → Promises (view_ended end)
       ends_quietly end gone = ends next m end [] quiet.1 (ap (λ (b : Bool). told_end b end) (sym gone ∙ cancelled_is))
           (quiet_calls_end store shards left_before left_after now next m r quiet.0 is_flow.running gone)
+
+      -- it ends as a law says, or with nothing where it was cancelled
+      pub ends_as : (end : WriteEnd) → (r.is_cancelled ≡ false
+          → Stands store shards left_after (ending now next m r []) × Turns shards (NamesHorizon state honest store shards old now) now r (told_end false end) (ending now next m r []))
+          → Promises (view_ended end)
+      ends_as end law = by_bool r.is_cancelled refl
+        where
+          by_bool : (b : Bool) → r.is_cancelled ≡ b → Promises (view_ended end)
+          by_bool true is = ends_quietly end is
+          by_bool false is = ends next m end (told_end false end) quiet.1 (ap (λ (b : Bool). told_end b end) (sym is ∙ cancelled_is)) (law is)
 
       by_cancel : (b : Bool) → r.is_cancelled ≡ b → (met : Option Refusal) → v.holds.way ≡ outward met → Promises (view_ended (end_of (outward met)))
       by_cancel true is met way = ends_quietly (end_of (outward met)) is

@@ -1,7 +1,9 @@
 // A shard is caught up for a write: laws of each call, the clause of a function with an empty body.
 ghost use Rattle.std.specs.Prelude.{ℕ};
-ghost use Rattle.calls.specs.declared.call.NodeCall.TheVariants.{Shard};
-ghost use Rattle.calls.specs.declared.call.ShardCall.TheVariants.{Learned};
+ghost use Rattle.decisions.specs.Values.{BatchValue};
+ghost use Rattle.calls.specs.declared.call.NodeCall.TheVariants.{Coordinator, Shard};
+ghost use Rattle.calls.specs.declared.call.CoordinatorCall.TheVariants.{Batch};
+ghost use Rattle.calls.specs.declared.call.ShardCall.TheVariants.{Learn, Learned};
 ghost use Rattle.write_turns.specs.Turning.{TurnsBy};
 
 use device::Device;
@@ -9,4 +11,14 @@ use device::Device;
 /// To ask a shard how far it has learned is a turn of a run.
 pub fn learned_takes_its_turn<D: Device>()
     ensures { (store shards s : ℕ) → TurnsBy D.state D.honest D.moment D.left_since store shards (Shard s Learned) }
+{}
+
+/// And so is to ask the coordinator for decisions: those behind the place up to which all was kept when the write was begun.
+pub fn batch_takes_its_turn<D: Device>()
+    ensures { (store shards from to : ℕ) → TurnsBy D.state D.honest D.moment D.left_since store shards (Coordinator (Batch from to)) }
+{}
+
+/// And so is to let a shard learn them.
+pub fn learn_takes_its_turn<D: Device>()
+    ensures { (store shards s : ℕ) (batch : BatchValue) → TurnsBy D.state D.honest D.moment D.left_since store shards (Shard s (Learn batch)) }
 {}

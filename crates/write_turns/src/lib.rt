@@ -7,5 +7,11 @@
 #![tactic(auto)]
 
 mod catch_up_turns;
+mod decision_turns;
+mod flush_turns;
+mod vote_turns;
 
-pub use catch_up_turns::learned_takes_its_turn;
+pub use catch_up_turns::{batch_takes_its_turn, learn_takes_its_turn, learned_takes_its_turn};
+pub use decision_turns::outcome_takes_its_turn;
+pub use flush_turns::{coordinator_flush_takes_its_turn, shard_flush_takes_its_turn};
+pub use vote_turns::vote_takes_its_turn;

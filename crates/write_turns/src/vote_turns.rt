@@ -1,0 +1,13 @@
+// Shards prepare and vote for a write: laws of each call, the clause of a function with an empty body.
+ghost use Rattle.std.specs.Prelude.{ℕ};
+ghost use Rattle.decisions.specs.Values.{TicketValue};
+ghost use Rattle.calls.specs.declared.call.NodeCall.TheVariants.{Shard};
+ghost use Rattle.calls.specs.declared.call.ShardCall.TheVariants.{Vote};
+ghost use Rattle.write_turns.specs.Turning.{TurnsBy};
+
+use device::Device;
+
+/// To ask a shard for its vote is a turn of a run.
+pub fn vote_takes_its_turn<D: Device>()
+    ensures { (store shards s : ℕ) (ticket : TicketValue) → TurnsBy D.state D.honest D.moment D.left_since store shards (Shard s (Vote ticket)) }
+{}
