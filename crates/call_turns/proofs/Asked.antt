@@ -49,23 +49,23 @@ module _ {D : Type 0} (state : D → State) (honest : D → Type 0) (moment : D 
   FromShard s P = IsStill × ((v : ShardView D) × ShardIsSeen store shards s now.nodes v × IsUp state honest v × P v)
 
   module _ (v w : CoordinatorView D) (called : IsCalled state honest moment left_since store shards coordinator (views.coordinator v) (views.coordinator w) old new) (same : w ≡ v) where
-    coordinator_tells : (P : CoordinatorView D → Type 0) → v.is_down ≡ false → P v → FromCoordinator P
+    pub coordinator_tells : (P : CoordinatorView D → Type 0) → v.is_down ≡ false → P v → FromCoordinator P
     coordinator_tells P is_up p = (
       still_made state honest moment left_since store shards old new now standing coordinator (views.coordinator v) (views.coordinator w) called only_now (ap views.coordinator same),
       (v, is_seen state honest store shards old now standing v called.before is_up, p),
     )
 
-    coordinator_gone : (e : Refusal) → v.is_down ≡ true → e ≡ Down → Fails coordinator e
+    pub coordinator_gone : (e : Refusal) → v.is_down ≡ true → e ≡ Down → Fails coordinator e
     coordinator_gone e gone is = down_coordinator_fails state honest moment left_since counts_now only_now store shards old new now standing v w e called same gone is
 
   module _ (s : ℕ) (v w : ShardView D) (called : IsCalled state honest moment left_since store shards (shard s) (views.shard v) (views.shard w) old new) where
-    shard_tells : (P : ShardView D → Type 0) → w ≡ v → v.is_down ≡ false → P v → FromShard s P
+    pub shard_tells : (P : ShardView D → Type 0) → w ≡ v → v.is_down ≡ false → P v → FromShard s P
     shard_tells P same is_up p = (
       still_made state honest moment left_since store shards old new now standing (shard s) (views.shard v) (views.shard w) called only_now (ap views.shard same),
       (v, shard_is_seen state honest store shards old now standing s v called.before is_up, shard_is_up state honest store shards old now standing s v called.before is_up, p),
     )
 
-    shard_gone : (e : Refusal) → w ≡ v → v.is_down ≡ true → e ≡ Down → Fails (shard s) e
+    pub shard_gone : (e : Refusal) → w ≡ v → v.is_down ≡ true → e ≡ Down → Fails (shard s) e
     shard_gone e same gone is = down_shard_fails state honest moment left_since counts_now only_now store shards old new now standing s v w e called same gone is
 
     -- a shard that staged a record, or not, and is as quiet as the laws say
@@ -89,7 +89,7 @@ module _ {D : Type 0} (state : D → State) (honest : D → Type 0) (moment : D 
           },
         )
 
-  away : (n : NodeName) (e f : Refusal) (a b : D) (is : NodeView D) → IsCalled state honest moment left_since store shards n (views.refused e a b) is old new → is ≡ views.refused e a b → f ≡ e → Fails n f
+  pub away : (n : NodeName) (e f : Refusal) (a b : D) (is : NodeView D) → IsCalled state honest moment left_since store shards n (views.refused e a b) is old new → is ≡ views.refused e a b → f ≡ e → Fails n f
   away n e f a b is called same is_f = refused_fails state honest moment left_since counts_now only_now store shards old new now standing n e f a b is called same is_f
 
   -- its heads

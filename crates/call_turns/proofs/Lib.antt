@@ -5,3 +5,6 @@ pub mod Turned
 pub mod Flushed
 pub mod Told
 pub mod Asked
+pub mod Belongs
+pub mod CaughtUp
+pub mod AskedMore

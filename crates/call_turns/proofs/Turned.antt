@@ -20,6 +20,7 @@ use Rattle.turns.specs.Runs.{IfRunning, Told, Turns, answered, goes_on, refuses,
 use Rattle.turns.specs.SeamLaws.{told_unless}
 use Rattle.turns.specs.Stands.{Stands}
 use Rattle.turns.specs.Stores.{FlowView, NamesHorizon, ShowsFlow, ShowsSlot, StandsOver, Store, stops}
+use Rattle.turns.proofs.CoordinatorTurns.{seen_on}
 use Rattle.turns.proofs.QuietTurns.{quiet_calls_answer, quiet_calls_turn, refused_flows_end}
 use Rattle.call_turns.specs.StoreCalls.{IsMade}
 use Rattle.call_turns.specs.StoreTurns.{SlotTurns}
@@ -133,6 +134,11 @@ module _ {D : Type 0} (state : D → State) (honest : D → Type 0) (moment : D 
 
       pub not_cancelled : r.is_cancelled ≡ false
       not_cancelled = (standing.stands.flows.quiet r runs is_no_write).1
+
+      -- what it held is right still, behind the call, once it has seen the machine there
+      pub held_on : (h : Holds) → f.holds ≡ h → (holds : Holds) → IsRight shards left_after (behind_call now next m) (with_call r holds r.met m) asked h
+      held_on h is holds = seen_on shards left_after (behind_call now next m) r holds m asked h (subst (λ (a : Asked). IsRight shards left_after (behind_call now next m) r a h) asked_is
+          (subst (λ (x : Holds). IsRight shards left_after (behind_call now next m) r r.asked x) (sym shows.holds ∙ is) (quiet.0.stands.flows.held r runs)))
 
       -- it goes on, and holds this
       pub goes : (holds : Holds) → IsRight shards left_after (behind_call now next m) (with_call r holds r.met m) asked holds → g ≡ Some (record f { holds = holds }) → Runs (goes_on ∷ [])

@@ -10,7 +10,8 @@ use Rattle.refusal.specs.declared.refusal.Refusal.{Refusal}
 use Rattle.refusal.specs.declared.refusal.Refusal.TheVariants.{Aborted, Busy, Collected, Damaged, Down, Full, NoMemory, Precondition}
 use Rattle.records.specs.Replays.{find_in_doubt}
 use Rattle.device.specs.Device.{State}
-use Rattle.journal.specs.Records.{HasCause, HasOldOrNew, LeavesBoth}
+use Rattle.records.specs.declared.record.Record.TheVariants.{Horizon}
+use Rattle.journal.specs.Records.{HasCause, HasNoRoom, HasOldOrNew, LeavesBoth}
 use Rattle.decisions.specs.Values.{BatchValue, HeadsValue, IntentValue, SettledValue, TicketValue, VerdictValue, VoteValue}
 use Rattle.shard.specs.declared.replies.VoteReply.{VoteReply}
 use Rattle.shard.specs.declared.replies.VoteReply.TheVariants.{Yes, Later, No}
@@ -94,6 +95,7 @@ module _ {D : Type 0} (state : D → State) (honest : D → Type 0) where
   -- its horizon is raised to that of the coordinator, or not
   pub record CollectAnswers (old : ShardView D) (heads : HeadsValue) (r : Result (Unit {0}) Refusal) (new : ShardView D) : Type 0 where
     pub ok : IsUp state honest old → OnOk r (CollectsAt state honest old heads.horizon new)
+    pub full : IsUp state honest old → IsErrOf r Full → (heads.horizon ≤ (memory old).learned) × HasNoRoom old.staged (Horizon heads.horizon)
     pub down : IsErrOf r Down ↔ (old.is_down ≡ true)
     pub stays : Stays old new
     pub err : IfErr r (λ e. (new ≡ old) × ((e ≡ Down) ⊎ (e ≡ Full)))

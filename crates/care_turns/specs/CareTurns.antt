@@ -69,3 +69,11 @@ module _ {D : Type 0} (state : D → State) (honest : D → Type 0) (moment : D 
   -- so is that of a flush of a node
   abbrev pub FlushesTurn : Type 0
   FlushesTurn = (v w : FlushFlowValue) → IsRunTurn (Flush v) (Flush w)
+
+  -- of a shard's learning
+  abbrev pub LearnsTurn : Type 0
+  LearnsTurn = (v w : LearnFlowValue) → IsRunTurn (Learn v) (Learn w)
+
+  -- and of a shard's collection
+  abbrev pub CollectsTurn : Type 0
+  CollectsTurn = (v w : CollectFlowValue) → IsRunTurn (Collect v) (Collect w)

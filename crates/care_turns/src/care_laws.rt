@@ -1,10 +1,21 @@
 // Laws of the turns of cares, each the clause of a function with an empty body.
 ghost use Rattle.std.specs.Prelude.{ℕ};
-ghost use Rattle.care_turns.specs.CareTurns.{FlushesTurn};
+ghost use Rattle.care_turns.specs.CareTurns.{CollectsTurn, FlushesTurn, LearnsTurn};
 
 use device::Device;
 
 /// A flush of a node answers that it is done, or ends with the refusal of a node that is away or whose flush failed.
 pub fn flushes_take_their_turn<D: Device>()
     ensures { (store shards : ℕ) → FlushesTurn D.state D.honest D.moment D.left_since store shards }
+{}
+
+/// A shard's learning goes on with heads and decisions that are right, is done where the shard has learned up to the kept place of its heads, or ends with
+/// a refusal that has its cause.
+pub fn shards_learn_in_turn<D: Device>()
+    ensures { (store shards : ℕ) → LearnsTurn D.state D.honest D.moment D.left_since store shards }
+{}
+
+/// A shard's collection goes on with heads that are right, is done, or ends with a refusal that has its cause.
+pub fn collections_take_their_turn<D: Device>()
+    ensures { (store shards : ℕ) → CollectsTurn D.state D.honest D.moment D.left_since store shards }
 {}

@@ -8,4 +8,4 @@
 
 mod care_laws;
 
-pub use care_laws::flushes_take_their_turn;
+pub use care_laws::{collections_take_their_turn, flushes_take_their_turn, shards_learn_in_turn};

@@ -165,7 +165,7 @@ module _ (store shards : ℕ) (left : NodeName → List Record → Type 0) {D : 
       )
 
   -- a collection up to a place that is not above the horizon is quiet
-  collects_quietly : (new : ShardView D) (place : ℕ) → place ≤ now.machine.horizon → CollectsAt state honest old place new
+  pub collects_quietly : (new : ShardView D) (place : ℕ) → place ≤ now.machine.horizon → CollectsAt state honest old place new
       → ShardIsSeen store shards s (behind_shard s now.nodes new) new × IsQuietCall store shards left left now (behind_shard s now.nodes new) now.machine
   collects_quietly new place low call = ⊎_elim
       (λ above. unchanged store shards left now old s seen new st (call.nothing (inl above)))

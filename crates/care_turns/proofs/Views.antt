@@ -1,0 +1,73 @@
+-- Where a turn leads a care, as its view says it: it goes on, or has ended.
+use Rattle.std.proofs.Common.{◌≡◌, ◌≢◌, ℕ, false, List, [], ◌∷◌, Option, Some, None, Contains, refl, sym, ◌∙◌, subst}
+use Rattle.std.proofs.lemmas.List.Elements.{All-nil}
+use Rattle.refusal.specs.declared.refusal.Refusal.{Refusal}
+use Rattle.refusal.specs.declared.refusal.Refusal.TheVariants.{Unsure}
+use Rattle.device.specs.Device.{State}
+use Rattle.care_flow.specs.Views.{CareView, over, ready}
+use Rattle.care_flow.specs.declared.end.CareEnd.TheVariants.{Done, Refused}
+use Rattle.laws.specs.Machines.{Machine}
+use Rattle.laws.specs.Nodes.{NodeName, Nodes}
+use Rattle.turns.specs.Causes.{Calls, HasItsCause}
+use Rattle.turns.specs.Flows.{Asked, Holds}
+use Rattle.turns.specs.Held.{IsRight}
+use Rattle.turns.specs.Moments.{Moment, Running, is_write}
+use Rattle.turns.specs.QuietTurns.{behind_call, ending, with_call}
+use Rattle.turns.specs.Replies.{Agrees, done}
+use Rattle.turns.specs.Stores.{StandsOver, Store, stops}
+use Rattle.call_turns.specs.StoreTurns.{SlotTurns, TurnRuns}
+use Rattle.call_turns.proofs.Made.{FailsQuietly, IsQuietlyMade}
+use Rattle.call_turns.proofs.Turned.{answers, asked_is, fails_with, goes, held_on, refused_by, runs, the_flow}
+use Rattle.care_turns.specs.CareTurns.{in_slot, shown_care, tells}
+
+module _ {D : Type 0} (state : D → State) (honest : D → Type 0) (moment : D → ℕ) (left_since : D → ℕ → List ℕ → Type 0) (store shards : ℕ) (old new : Store D) (slot : ℕ)
+    (asked : Asked) (no_write : is_write asked ≡ false) {H : Type 0} (S : Type 0) (hold : H → Holds) (h : H) where
+  -- in a slot behind its turn, or out of it, the care tells this, and the promise of a step is kept
+  abbrev pub LeadsTo : CareView H S → Type 0
+  LeadsTo a = SlotTurns slot (shown_care asked (hold h)) (in_slot (shown_care asked (hold a.holds)) a.ended) old new → TurnRuns state honest moment left_since store shards old slot (tells a.ended ∷ []) new
+
+  -- the flow of a moment for which the store stands
+  pub record IsFlow (now : Moment) (r : Running) : Type 0 where
+    pub runs : Contains now.running r
+    pub asked_is : r.asked ≡ asked
+    pub holds_are : r.holds ≡ hold h
+
+  -- at each moment for which the store stands, the call was quiet, and leads to what has P
+  abbrev pub Quietly : ((now : Moment) → StandsOver state honest store shards old now → Running → Nodes → Machine → Type 0) → Type 0
+  Quietly P = (now : Moment) (standing : StandsOver state honest store shards old now) (r : Running) → IsFlow now r
+      → (next : Nodes) × (m : Machine) × IsQuietlyMade state honest moment left_since store shards old new now standing next m × P now standing r next m
+
+  -- it goes on with what is right, by what was so
+  pub goes_to : (k : H) (step : S) → Quietly (λ now standing r next m.
+      IsRight shards (stops state honest store shards new.devices) (behind_call now next m) (with_call r (hold k) r.met m) asked (hold h)
+      → IsRight shards (stops state honest store shards new.devices) (behind_call now next m) (with_call r (hold k) r.met m) asked (hold k)) → LeadsTo (ready k step)
+  goes_to k step quietly turns number now standing =
+      let f = shown_care asked (hold h) in
+      let flow = the_flow state honest moment left_since store shards old new now standing number slot f (Some (shown_care asked (hold k))) turns in
+      let it = quietly now standing flow.0 (record { runs = runs state honest moment left_since store shards old new now standing number slot f (Some (shown_care asked (hold k))) turns flow.0 flow.1; asked_is = sym (flow.2.asked asked refl); holds_are = sym flow.2.holds }) in
+      goes state honest moment left_since store shards old new now standing number slot f (Some (shown_care asked (hold k))) turns flow.0 flow.1 asked flow.2 refl no_write it.0 it.1 it.2 (hold k)
+      (it.3 (held_on state honest moment left_since store shards old new now standing number slot f (Some (shown_care asked (hold k))) turns flow.0 flow.1 asked flow.2 refl no_write it.0 it.1 it.2 (hold h) refl (hold k))) refl
+
+  -- it ends with a refusal that has its cause
+  pub refuses_to : (nothing : H) (e : Refusal) → Quietly (λ now standing r next m. HasItsCause shards now (ending now next m r []) r e × (e ≢ Unsure)) → LeadsTo (over nothing (Refused e))
+  refuses_to nothing e quietly turns number now standing =
+      let f = shown_care asked (hold h) in
+      let flow = the_flow state honest moment left_since store shards old new now standing number slot f None turns in
+      let it = quietly now standing flow.0 (record { runs = runs state honest moment left_since store shards old new now standing number slot f None turns flow.0 flow.1; asked_is = sym (flow.2.asked asked refl); holds_are = sym flow.2.holds }) in
+      refused_by state honest moment left_since store shards old new now standing number slot f None turns flow.0 flow.1 asked flow.2 refl no_write it.0 it.1 it.2 e refl it.3
+
+  -- as where a node is away, or its flush failed
+  pub fails_to : (nothing : H) (n : NodeName) (e : Refusal) → Calls shards asked n → ((now : Moment) (standing : StandsOver state honest store shards old now) → FailsQuietly state honest moment left_since store shards old new now standing n e)
+      → LeadsTo (over nothing (Refused e))
+  fails_to nothing n e calls fails turns number now standing =
+      let f = shown_care asked (hold h) in
+      let flow = the_flow state honest moment left_since store shards old new now standing number slot f None turns in
+      fails_with state honest moment left_since store shards old new now standing number slot f None turns flow.0 flow.1 asked flow.2 refl no_write n e calls refl (fails now standing)
+
+  -- it is done
+  pub done_to : (nothing : H) → Quietly (λ now standing r next m. Agrees (with_call r r.holds r.met m) (ending now next m r []) asked done) → LeadsTo (over nothing Done)
+  done_to nothing quietly turns number now standing =
+      let f = shown_care asked (hold h) in
+      let flow = the_flow state honest moment left_since store shards old new now standing number slot f None turns in
+      let it = quietly now standing flow.0 (record { runs = runs state honest moment left_since store shards old new now standing number slot f None turns flow.0 flow.1; asked_is = sym (flow.2.asked asked refl); holds_are = sym flow.2.holds }) in
+      answers state honest moment left_since store shards old new now standing number slot f None turns flow.0 flow.1 asked flow.2 refl no_write it.0 it.1 it.2 done refl it.3 (All-nil _)
