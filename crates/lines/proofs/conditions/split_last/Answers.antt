@@ -1,0 +1,12 @@
+use Rattle.std.proofs.Common.{rules}
+use Rattle.std.proofs.lemmas.List.{take_rest}
+use Rattle.lines.proofs.Asking.{cut_at_last, lacks_everywhere}
+use Rattle.lines.proofs.conditions.split_last.Goals as goal
+
+pub returns-in-None : goal.returns-in-None
+returns-in-None c = lacks_everywhere c.args.mark c.args.text.now (search rules)
+
+pub returns-in-Some : goal.returns-in-Some
+returns-in-Some c =
+    let cut = cut_at_last c.args.mark c.args.text.now c.in-Some.at (search rules) (search rules) (search rules) in
+    rw take_rest cut

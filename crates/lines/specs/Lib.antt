@@ -1,0 +1,5 @@
+pub mod Texts
+pub mod Words
+pub mod Shapes
+pub mod Lines
+pub mod Causes
