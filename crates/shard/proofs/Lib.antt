@@ -3,6 +3,8 @@ pub mod Waiting
 pub mod Tested
 mod Below
 mod Prepared
+mod Ids
+mod Undone
 pub mod Given
 pub mod Parts
 mod Openings

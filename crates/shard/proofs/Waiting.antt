@@ -1,7 +1,6 @@
 -- Prepares that are staged, and those that are durable.
 use Rattle.std.proofs.Common.{◌≡◌, ⊎_elim, Bool, true, false, not, List, [], ◌∷◌, ◌++◌, Option, Some, None, MatchOption, Contains, refl, sym, ◌∙◌, ap, arith, Bor}
 use Rattle.std.specs.Option.{is_some}
-use Rattle.std.specs.List.{list_any}
 use Rattle.std.proofs.lemmas.Bool.{or_parts, or_cases, both_ways}
 use Rattle.std.proofs.lemmas.List.Elements.{Contains-append_right}
 use Rattle.tuples.specs.declared.entry.Entry.{Entry}
@@ -15,12 +14,9 @@ use Rattle.replay.proofs.Doubts.{cases_id, find_push, find_without_other, find_w
 use Rattle.replay.proofs.States.{shard_from-append}
 use Rattle.device.specs.Device.{State, left}
 use Rattle.journal.specs.Records.{Finds, HasRecords}
+pub use Rattle.shard.specs.Keeping.{has_id}
 use Rattle.shard.specs.Keeping.{prepared_ids}
 use Rattle.shard.specs.Shards.{IsDurable, IsUp, ShardView, memory}
-
--- the id is one of these
-abbrev pub has_id : WriteId → List WriteId → Bool
-has_id id = list_any (λ (y : WriteId). same_id y id)
 
 pub still_without : (id other : WriteId) (ws : List Entry) (p : Entry) → find_in_doubt id (without other ws) ≡ Some p → find_in_doubt id ws ≡ Some p
 still_without id other ws p is = ⊎_elim

@@ -1,6 +1,8 @@
 -- What a shard keeps beside its journal: in memory the replay of its records, and the ids whose prepares are not flushed.
-use Rattle.std.specs.Prelude.{◌≡◌, ◌⊎◌, ◌≤◌, ◌<◌, ℕ, false, Some, List, [], ◌∷◌, ◌++◌}
+use Rattle.std.specs.Prelude.{◌≡◌, ◌⊎◌, ◌≤◌, ◌<◌, ℕ, Bool, false, Some, List, [], ◌∷◌, ◌++◌}
+use Rattle.std.specs.List.{list_any}
 use Rattle.tuples.specs.declared.entry.WriteId.{WriteId}
+use Rattle.tuples.specs.Log.{same_id}
 use Rattle.records.specs.declared.record.Record.{Record}
 use Rattle.records.specs.declared.record.Record.TheVariants.{Prepare, Learned, Dropped, Epoch, Decision, Horizon}
 use Rattle.records.specs.Identity.{max_shards}
@@ -21,6 +23,10 @@ prepared_ids (Epoch epoch store shards node ∷ rs) = prepared_ids rs
 prepared_ids (Decision place w ∷ rs) = prepared_ids rs
 prepared_ids (Horizon place ∷ rs) = prepared_ids rs
 
+-- the id is one of these
+abbrev pub has_id : WriteId → List WriteId → Bool
+has_id id = list_any (λ (y : WriteId). same_id y id)
+
 -- over honest devices the records are the durable and the staged ones, and every stop leaves the durable ones
 pub record IsBacked {D : Type 0} (state : D → State) (journal : View D) (rs : List Record) : Type 0 where
   pub rest : HasRecords (state journal.a) (state journal.b) journal.durable
@@ -38,7 +44,7 @@ pub record IsKept {D : Type 0} (state : D → State) (honest : D → Type 0) (jo
   pub node : me.node < me.shards
   pub backed : journal.is_down ≡ false → honest journal.a → honest journal.b → IsBacked state journal rs
   pub named : journal.is_down ≡ false → honest journal.a → honest journal.b → NamesNode journal.durable me.node
-  pub unflushed_are : journal.is_down ≡ false → unflushed ≡ prepared_ids journal.staged
+  pub unflushed_are : journal.is_down ≡ false → (id : WriteId) → has_id id unflushed ≡ has_id id (prepared_ids journal.staged)
   pub settled_is : journal.is_down ≡ false → honest journal.a → honest journal.b → settled ≡ (shard_state journal.durable).learned
 
 -- the contents have the records that were found, or those of a shard with one opening more

@@ -34,6 +34,7 @@ mod reading;
 mod replies;
 mod settling;
 mod shard;
+mod unflushed;
 
 pub use replies::{ReadReply, VoteReply};
 pub use shard::Shard;

@@ -12,6 +12,7 @@ ghost use Rattle.shard.specs.Shards.{IsOpenedShard, IsUp, LacksRoomToOpen, WasLe
 
 use crate::Shard;
 use crate::preparing::stage_fitting;
+use crate::unflushed::Unflushed;
 use device::Device;
 use journal::{Journal, Refused};
 use records::{Identity, Record};
@@ -125,7 +126,7 @@ fn start<D: Device>(
                 journal,
                 me,
                 memory,
-                unflushed: Vec::new(alloc),
+                unflushed: Unflushed::new(alloc),
                 settled,
             })
         }

@@ -1,23 +1,27 @@
 // Preparing a write: its part is tested, staged and held in doubt.
-ghost use Rattle.std.specs.Prelude.{◌≡◌, ◌⊎◌, ◌≤◌, ◌↔◌, ◌++◌, ◌∷◌, [], true, false, OnOk, OnErr, IfOk, IfErr, IsErrOf};
+ghost use Rattle.std.specs.Prelude.{◌≡◌, ◌||◌, ◌⊎◌, ◌≤◌, ◌↔◌, ◌++◌, ◌∷◌, [], true, false, OnOk, OnErr, IfOk, IfErr, IsErrOf};
 ghost use Rattle.decisions.specs.Values.{IsIntent};
 ghost use Rattle.holds.specs.Holds.{IsFree};
 ghost use Rattle.journal.specs.Records.{HasNoRoom};
 ghost use Rattle.records.specs.Format.{IsPrepared, IsRecord};
 ghost use Rattle.records.specs.Replays.{shard_step};
 ghost use Rattle.records.specs.declared.record.Record.TheVariants.{Prepare as prepare_record};
+ghost use Rattle.tuples.specs.Log.{same_id};
 ghost use Rattle.tuples.specs.Parts.{part, takes_part};
+ghost use Rattle.tuples.specs.declared.entry.WriteId.{WriteId as AnyId};
+ghost use Rattle.shard.specs.Keeping.{has_id};
 ghost use Rattle.shard.specs.Shards.{AreFree, AskBelow, HoldHere, IsBroken, IsBusy, IsPreparable, IsUp, Stages, memory as memory_of, own_part as own_part_of};
 
 use crate::Shard;
 use crate::own::{holds, is_collected, is_free, own_part};
+use crate::unflushed::Unflushed;
 use decisions::{Intent, Ticket};
 use device::Device;
 use journal::Journal;
 use records::{Identity, Record, prepare_len};
 use replay::Memory;
 use std::alloc::Global;
-use tuples::{Entry, Refusal, WriteId};
+use tuples::{Entry, Refusal};
 
 // Stages a record that has room.
 pub(crate) fn stage_fitting<D: Device>(journal: &mut Journal<D>, next: &Record)
@@ -35,7 +39,7 @@ pub(crate) fn stage_fitting<D: Device>(journal: &mut Journal<D>, next: &Record)
 fn hold<D: Device>(
     journal: &mut Journal<D>,
     memory: &mut Memory,
-    unflushed: &mut Vec<WriteId>,
+    unflushed: &mut Unflushed,
     part: Entry,
 ) -> Result<(), Refusal>
     requires spelled { IsPrepared part }
@@ -43,14 +47,16 @@ fn hold<D: Device>(
     requires room { HasNoRoom journal.old.staged (prepare_record part) → ⊥ }
     ensures staged { OnOk result (journal.new ≡ record journal.old { staged = journal.old.staged ++ prepare_record part ∷ [] }) }
     ensures held { OnOk result (memory.new ≡ shard_step memory.old (prepare_record part)) }
-    ensures waits { OnOk result (unflushed.new.items ≡ unflushed.old.items ++ part.id ∷ []) }
-    ensures err { IfErr result (λ e. (e ≡ Refusal.NoMemory) × (journal.new ≡ journal.old) × (memory.new ≡ memory.old) × (unflushed.new.items ≡ unflushed.old.items)) }
+    ensures waits { OnOk result ((j : AnyId) → has_id j unflushed.new ≡ (has_id j unflushed.old || same_id part.id j)) }
+    ensures err { IfErr result (λ e. (e ≡ Refusal.NoMemory) × (journal.new ≡ journal.old) × (memory.new ≡ memory.old) × (unflushed.new ≡ unflushed.old)) }
 {
     let id = part.id;
     let kept = part.clone()?;
-    unflushed.reserve(1)?;
     memory.prepare(kept)?;
-    unflushed.push_reserved(id);
+    if unflushed.put(id).is_err() {
+        memory.drop_write(id);
+        return Err(Refusal::NoMemory);
+    }
     stage_fitting(journal, &Record::Prepare(part));
     Ok(())
 }
@@ -60,7 +66,7 @@ fn hold<D: Device>(
 fn prepare<D: Device>(
     journal: &mut Journal<D>,
     memory: &mut Memory,
-    unflushed: &mut Vec<WriteId>,
+    unflushed: &mut Unflushed,
     alloc: Global,
     write: &Entry,
     me: Identity,
@@ -69,7 +75,7 @@ fn prepare<D: Device>(
     requires part { takes_part me.shards me.node write.now ≡ true }
     ensures staged { OnOk result (journal.new ≡ record journal.old { staged = journal.old.staged ++ prepare_record (part me.shards me.node write.now) ∷ [] }) }
     ensures held { OnOk result (memory.new ≡ shard_step memory.old (prepare_record (part me.shards me.node write.now))) }
-    ensures waits { OnOk result (unflushed.new.items ≡ unflushed.old.items ++ write.now.id ∷ []) }
+    ensures waits { OnOk result ((j : AnyId) → has_id j unflushed.new ≡ (has_id j unflushed.old || same_id write.now.id j)) }
     ensures up { OnOk result (journal.old.is_down ≡ false) }
     ensures ok { OnOk result (IsPreparable memory.old (part me.shards me.node write.now)) }
     ensures down { IsErrOf result Refusal.Down ↔ (journal.old.is_down ≡ true) }
@@ -78,7 +84,7 @@ fn prepare<D: Device>(
     ensures broken { journal.old.is_down ≡ false → IsErrOf result Refusal.Precondition ↔ IsBroken memory.old (part me.shards me.node write.now) }
     ensures full { journal.old.is_down ≡ false → IsErrOf result Refusal.Full ↔ (IsPreparable memory.old (part me.shards me.node write.now) × HasNoRoom journal.old.staged (prepare_record (part me.shards me.node write.now))) }
     ensures memory { IsErrOf result Refusal.NoMemory → IsPreparable memory.old (part me.shards me.node write.now) × (HasNoRoom journal.old.staged (prepare_record (part me.shards me.node write.now)) → ⊥) }
-    ensures err { IfErr result (λ e. ((e ≡ Refusal.Down) ⊎ ((e ≡ Refusal.Collected) ⊎ ((e ≡ Refusal.Busy) ⊎ ((e ≡ Refusal.Precondition) ⊎ ((e ≡ Refusal.Full) ⊎ (e ≡ Refusal.NoMemory)))))) × (journal.new ≡ journal.old) × (memory.new ≡ memory.old) × (unflushed.new.items ≡ unflushed.old.items)) }
+    ensures err { IfErr result (λ e. ((e ≡ Refusal.Down) ⊎ ((e ≡ Refusal.Collected) ⊎ ((e ≡ Refusal.Busy) ⊎ ((e ≡ Refusal.Precondition) ⊎ ((e ≡ Refusal.Full) ⊎ (e ≡ Refusal.NoMemory)))))) × (journal.new ≡ journal.old) × (memory.new ≡ memory.old) × (unflushed.new ≡ unflushed.old)) }
 {
     if journal.is_down() {
         return Err(Refusal::Down);

@@ -9,13 +9,14 @@ ghost use Rattle.shard.specs.declared.replies.VoteReply.TheVariants.{Yes, Later,
 ghost use Rattle.shard.specs.Shards.{IsDurable, IsUp, ShardView, journal_of, memory};
 
 use crate::VoteReply;
+use crate::unflushed::Unflushed;
 use decisions::{Ticket, Vote};
 use device::{Device, Tear};
 use journal::{Bank, Journal};
 use records::Identity;
 use replay::Memory;
 use std::marker::Model;
-use tuples::{Refusal, WriteId};
+use tuples::Refusal;
 
 /// A shard over two devices.
 ///
@@ -30,8 +31,8 @@ pub struct Shard<D: Device> {
     pub(crate) me: Identity,
     // what the records stand for, but for the order of rows of different tuples; opened at least once
     pub(crate) memory: Memory,
-    // the ids of the staged prepares, in their order
-    pub(crate) unflushed: Vec<WriteId>,
+    // the ids of the staged prepares
+    pub(crate) unflushed: Unflushed,
     // the place that the durable records have learned
     pub(crate) settled: u64,
 }
@@ -45,7 +46,7 @@ impl<D: Device> Model for Shard<D> {
 
     ghost view = { λ s. record { a = s.journal.a; b = s.journal.b; end = s.journal.end; durable = s.journal.durable; staged = s.journal.staged; is_down = s.journal.is_down; me = s.me } };
 
-    ghost invariant = { λ s. IsKept D.state D.honest s.journal s.me s.memory s.unflushed.items s.settled };
+    ghost invariant = { λ s. IsKept D.state D.honest s.journal s.me s.memory s.unflushed s.settled };
 }
 
 impl<D: Device> Shard<D> {
@@ -110,7 +111,7 @@ impl<D: Device> Shard<D> {
             ticket.leave();
             return VoteReply::No(Refusal::Aborted);
         }
-        if self.unflushed.contains(&id) {
+        if self.unflushed.has(id) {
             return VoteReply::Later(ticket);
         }
         ticket.leave();

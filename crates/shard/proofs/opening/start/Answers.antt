@@ -12,7 +12,7 @@ invariant_of-result g c =
     let below : (shard_state records).epoch < greatest_number = omega (arith, c.in-Ok.ensures.memory.1, epochs) in
     let next : c.epoch-epoch.result + 1 ≡ (shard_state records).epoch + 1 = omega (arith, c.epoch-epoch.ensures, epochs) in
     opened_kept me records c.in-Ok.ensures.image (c.epoch-epoch.result + 1) below next g.D.Device.state g.D.Device.honest c.args.journal c.begin.new.journal (λ ha hb. (c.requires.found ha hb).0)
-    c.in-Ok-begin.ensures.ok c.in-Ok-begin.ensures.fresh.0 m c.open_epoch.new.self c.new.result.items c.learned-settled.result c.in-Ok.ensures.memory.0 c.open_epoch.ensures c.new.ensures.items c.learned-settled.ensures
+    c.in-Ok-begin.ensures.ok c.in-Ok-begin.ensures.fresh.0 m c.open_epoch.new.self c.new.result c.learned-settled.result c.in-Ok.ensures.memory.0 c.open_epoch.ensures c.new.ensures c.learned-settled.ensures
     c.begin.ensures.whole.some c.begin.ensures.whole.few c.requires.node c.begin.ensures.honest.0.1 c.begin.ensures.honest.1.1
 
 pub returns-in-Ok-begin-clause-ok : goal.returns-in-Ok-begin-clause-ok

@@ -1,9 +1,8 @@
 use Rattle.std.proofs.Common.{◌≤◌, ℕ, sym, subst, arith}
-use Rattle.std.proofs.lemmas.List.{append-nil}
 use Rattle.records.specs.Replays.{Identity, MayCollect}
 use Rattle.records.specs.declared.record.Record.TheVariants.{Horizon as horizon_record}
 use Rattle.shard.specs.Shards.{Stages}
-use Rattle.shard.proofs.Kept.{horizon_epoch, kept_push, staged_up, view_of}
+use Rattle.shard.proofs.Kept.{horizon_epoch, kept_push, no_more, staged_up, view_of}
 use Rattle.shard.proofs.shard.Shard.collect.Goals as goal
 
 pub invariant_of-self-2 : goal.invariant_of-self-2
@@ -17,8 +16,8 @@ invariant_of-self-2 g c =
       within = omega (arith, c.if-place-learned.false, c.learned.ensures);
     } in
     let opened : 1 ≤ c.collect.new.self.epoch = subst (λ (n : ℕ). 1 ≤ n) (sym c.collect.ensures.epoch) (horizon_epoch s.memory place c.self.invariant.opened) in
-    kept_push g.D.Device.state g.D.Device.honest s.journal c.stage.new.self me s.memory c.collect.new.self s.unflushed.items s.unflushed.items s.settled (horizon_record place)
-    c.self.invariant may c.in_ok-stage.ensures.ok c.collect.ensures opened (sym (append-nil s.unflushed.items))
+    kept_push g.D.Device.state g.D.Device.honest s.journal c.stage.new.self me s.memory c.collect.new.self s.unflushed s.unflushed s.settled (horizon_record place)
+    c.self.invariant may c.in_ok-stage.ensures.ok c.collect.ensures opened (λ i. no_more i s.unflushed)
 
 pub returns-clause-ok : goal.returns-clause-ok
 returns-clause-ok g c = λ up above within.
@@ -32,5 +31,5 @@ returns-clause-ok g c = λ up above within.
       on = omega (arith, c.if-place-horizon.false, c.horizon.ensures);
       within = omega (arith, c.if-place-learned.false, c.learned.ensures);
     } in
-    let both = staged_up g.D.Device.state g.D.Device.honest s.journal c.stage.new.self me s.memory s.unflushed.items s.settled (horizon_record place) c.self.invariant may c.in_ok-stage.ensures.ok v c.self.view_is up in
+    let both = staged_up g.D.Device.state g.D.Device.honest s.journal c.stage.new.self me s.memory s.unflushed s.settled (horizon_record place) c.self.invariant may c.in_ok-stage.ensures.ok v c.self.view_is up in
     (subst (λ n. Stages v (horizon_record n) k) c.horizon-place.ensures both.0, both.1)

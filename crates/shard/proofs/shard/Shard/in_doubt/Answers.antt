@@ -8,5 +8,5 @@ use Rattle.shard.proofs.shard.Shard.in_doubt.Goals as goal
 pub returns-in-Ok-clause-ok : goal.returns-in-Ok-clause-ok
 returns-in-Ok-clause-ok g c = λ up.
     let s = c.self.inside in
-    let now = memory_is g.D.Device.state g.D.Device.honest s.journal _ s.memory s.unflushed.items s.settled c.self.invariant c.args.self.now c.self.view_is up in
+    let now = memory_is g.D.Device.state g.D.Device.honest s.journal _ s.memory s.unflushed s.settled c.self.invariant c.args.self.now c.self.view_is up in
     subst (λ (ws : List Entry). AreAscendingIds c.in-Ok.ids.items × ((id : WriteId) → Contains c.in-Ok.ids.items id ↔ Contains (ids ws) id)) now.in_doubt (c.in-Ok.ensures.ascending, c.in-Ok.ensures.exact)

@@ -1,5 +1,4 @@
 use Rattle.std.proofs.Common.{◌≡◌, ◌≤◌, ◌<◌, ◌+◌, ◌-◌, ℕ, List, length, drop, refl, sym, ◌∙◌, ap, subst, arith}
-use Rattle.std.proofs.lemmas.List.{append-nil}
 use Rattle.std.proofs.lemmas.Bool.{both_ways}
 use Rattle.tuples.specs.declared.entry.Entry.{Entry}
 use Rattle.records.specs.Format.{IsLearned}
@@ -11,7 +10,7 @@ use Rattle.replay.specs.Alike.{IsAlike}
 use Rattle.replay.proofs.Alike.{may_come_alike, same_but_rows}
 use Rattle.shard.specs.Shards.{AreLearnable, ShardView, Stages, learning, memory, placed_ids_from, unlearned}
 use Rattle.shard.proofs.Given.{AllGiven, given_image}
-use Rattle.shard.proofs.Kept.{kept_push, learned_epoch, memory_is, stages, still_up, view_of}
+use Rattle.shard.proofs.Kept.{kept_push, no_more, learned_epoch, memory_is, stages, still_up, view_of}
 use Rattle.shard.proofs.Parts.{all_prepared, learned_spelled, may_learn}
 use Rattle.shard.proofs.shard.Shard.learn.Goals as goal
 
@@ -38,7 +37,7 @@ returns-then-not-are_learnable-clause-damaged g c = λ up from_le learned_lt.
     let s = c.self.inside in
     let v = c.args.self.now in
     let b = c.args.batch.now in
-    let now : IsAlike s.memory (memory v) = memory_is g.D.Device.state g.D.Device.honest s.journal _ s.memory s.unflushed.items s.settled c.self.invariant v c.self.view_is up in (
+    let now : IsAlike s.memory (memory v) = memory_is g.D.Device.state g.D.Device.honest s.journal _ s.memory s.unflushed s.settled c.self.invariant v c.self.view_is up in (
       λ is are. both_ways c.are_learnable.result c.if-not-are_learnable.true
           (c.are_learnable.ensures.1 (learnable_was v s.me s.memory c.learned-learned.result b.from b.writes c.behind-writes.result.now (ap (λ (x : ShardView g.row.D.Denot). x.me) c.self.view_is) now c.learned-learned.ensures c.behind-writes.ensures.writes are)),
       λ none. refl,
@@ -82,15 +81,15 @@ invariant_of-self-2 g c =
     subst (λ (n : ℕ). MayLearn s.memory n c.in_ok-placed_ids.placed_ids.items) (sym c.to-2.ensures.value)
     (may_learn s.me.shards s.me.node s.memory b.from b.writes le lt (omega (arith, c.to.ensures.greatest, c.to.ensures.value)) c.in_ok-placed_ids.placed_ids.items placed_ids (subst (λ (l : List PlacedId). ArePrepared l s.memory.in_doubt) (sym c.in_ok-placed_ids.ensures) (all_prepared s.me s.memory (c.learned-learned.result + 1) c.behind-writes.result.now (c.are_learnable.ensures.0 c.if-not-are_learnable.false))) c.self.invariant.opened)) in
     let opened : 1 ≤ c.apply.new.memory.epoch = subst (λ (n : ℕ). 1 ≤ n) (sym c.in_ok-apply.ensures.applied.epoch) (learned_epoch s.memory c.to-2.result c.in_ok-placed_ids.placed_ids.items c.self.invariant.opened) in
-    kept_push g.D.Device.state g.D.Device.honest s.journal c.apply.new.journal me s.memory c.apply.new.memory s.unflushed.items s.unflushed.items s.settled r c.self.invariant may
-    c.in_ok-apply.ensures.staged c.in_ok-apply.ensures.applied opened (sym (append-nil s.unflushed.items))
+    kept_push g.D.Device.state g.D.Device.honest s.journal c.apply.new.journal me s.memory c.apply.new.memory s.unflushed s.unflushed s.settled r c.self.invariant may
+    c.in_ok-apply.ensures.staged c.in_ok-apply.ensures.applied opened (λ i. no_more i s.unflushed)
 
 pub returns-clause-learnable : goal.returns-clause-learnable
 returns-clause-learnable g c = λ up from_le learned_lt.
     let s = c.self.inside in
     let v = c.args.self.now in
     let b = c.args.batch.now in
-    let now : IsAlike s.memory (memory v) = memory_is g.D.Device.state g.D.Device.honest s.journal _ s.memory s.unflushed.items s.settled c.self.invariant v c.self.view_is up in
+    let now : IsAlike s.memory (memory v) = memory_is g.D.Device.state g.D.Device.honest s.journal _ s.memory s.unflushed s.settled c.self.invariant v c.self.view_is up in
     learnable_now v s.me s.memory c.learned-learned.result b.from b.writes c.behind-writes.result.now (ap (λ (x : ShardView g.row.D.Denot). x.me) c.self.view_is) now c.learned-learned.ensures c.behind-writes.ensures.writes
     (c.are_learnable.ensures.0 c.if-not-are_learnable.false)
 
@@ -100,7 +99,7 @@ returns-clause-ok g c = λ up from_le learned_lt.
     let v = c.args.self.now in
     let b = c.args.batch.now in
     let me : Identity = s.me in
-    let now : IsAlike s.memory (memory v) = memory_is g.D.Device.state g.D.Device.honest s.journal me s.memory s.unflushed.items s.settled c.self.invariant v c.self.view_is up in
+    let now : IsAlike s.memory (memory v) = memory_is g.D.Device.state g.D.Device.honest s.journal me s.memory s.unflushed s.settled c.self.invariant v c.self.view_is up in
     let placed_ids : c.in_ok-placed_ids.placed_ids.items ≡ placed_ids_from s.me.shards s.me.node (s.memory.learned + 1) (unlearned s.memory b.from b.writes) =
     placed_ids_are s.me.shards s.me.node c.learned-learned.result s.memory b.from b.writes c.behind-writes.result.now c.in_ok-placed_ids.placed_ids.items c.in_ok-placed_ids.ensures c.learned-learned.ensures c.behind-writes.ensures.writes in
     let same : learned_record c.to-2.result c.in_ok-placed_ids.placed_ids.items ≡ learning v.me (memory v) b.from b.writes =

@@ -10,7 +10,7 @@ use Rattle.shard.proofs.shard.Shard.read_for_check.Goals as goal
 pub returns-in-Ok-clause-rows : goal.returns-in-Ok-clause-rows
 returns-in-Ok-clause-rows g c = λ ts up is.
     let s = c.self.inside in
-    let now = memory_is g.D.Device.state g.D.Device.honest s.journal _ s.memory s.unflushed.items s.settled c.self.invariant c.args.self.now c.self.view_is up in
+    let now = memory_is g.D.Device.state g.D.Device.honest s.journal _ s.memory s.unflushed s.settled c.self.invariant c.args.self.now c.self.view_is up in
     let same : c.in-Ok.tuples.items ≡ ts.items = cc in (
       omega (arith, now.learned, c.if-learned-place.false, c.learned.ensures),
       omega (arith, now.horizon, c.if-place-horizon.false, c.horizon.ensures),

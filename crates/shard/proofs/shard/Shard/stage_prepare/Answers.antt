@@ -26,7 +26,7 @@ new-requires-clause-held g c = λ ha hb.
     let whole : IsIntent w = subst IsIntent (sym c.entry-write.ensures.value) c.entry-write.ensures.whole in
     let e = c.in_ok-prepare.ensures in
     let up : c.prepare.new.journal.is_down ≡ false = ap (λ (j : View g.row.D.Denot). j.is_down) e.staged ∙ e.up in
-    held_after g.D.Device.state g.D.Device.honest s.journal c.prepare.new.journal me s.memory c.prepare.new.memory s.unflushed.items c.prepare.new.unflushed.items s.settled w
+    held_after g.D.Device.state g.D.Device.honest s.journal c.prepare.new.journal me s.memory c.prepare.new.memory s.unflushed c.prepare.new.unflushed s.settled w
     c.self.invariant whole e.ok e.staged e.held e.waits up ha hb
 
 pub new-requires-clause-epoch : goal.new-requires-clause-epoch
@@ -37,7 +37,7 @@ new-requires-clause-epoch g c = λ ha hb.
     let whole : IsIntent w = subst IsIntent (sym c.entry-write.ensures.value) c.entry-write.ensures.whole in
     let e = c.in_ok-prepare.ensures in
     let up : c.prepare.new.journal.is_down ≡ false = ap (λ (j : View g.row.D.Denot). j.is_down) e.staged ∙ e.up in
-    c.epoch.ensures ∙ epoch_after g.D.Device.state g.D.Device.honest s.journal c.prepare.new.journal me s.memory c.prepare.new.memory s.unflushed.items c.prepare.new.unflushed.items s.settled w
+    c.epoch.ensures ∙ epoch_after g.D.Device.state g.D.Device.honest s.journal c.prepare.new.journal me s.memory c.prepare.new.memory s.unflushed c.prepare.new.unflushed s.settled w
     c.self.invariant whole e.ok e.staged e.held e.waits up ha hb
 
 pub invariant_of-self-2 : goal.invariant_of-self-2
@@ -47,7 +47,7 @@ invariant_of-self-2 g c =
     let w = c.entry-write.result.now in
     let whole : IsIntent w = subst IsIntent (sym c.entry-write.ensures.value) c.entry-write.ensures.whole in
     let e = c.in_ok-prepare.ensures in
-    kept_after g.D.Device.state g.D.Device.honest s.journal c.prepare.new.journal me s.memory c.prepare.new.memory s.unflushed.items c.prepare.new.unflushed.items s.settled w
+    kept_after g.D.Device.state g.D.Device.honest s.journal c.prepare.new.journal me s.memory c.prepare.new.memory s.unflushed c.prepare.new.unflushed s.settled w
     c.self.invariant whole e.ok e.staged e.held e.waits
 
 pub returns-clause-ok : goal.returns-clause-ok
@@ -59,7 +59,7 @@ returns-clause-ok g c = λ up.
     let e = c.in_ok-prepare.ensures in
     let v = c.args.self.now in
     let kept = c.self.invariant in
-    let now : IsAlike s.memory (memory v) = memory_is g.D.Device.state g.D.Device.honest s.journal me s.memory s.unflushed.items s.settled kept v c.self.view_is up in
+    let now : IsAlike s.memory (memory v) = memory_is g.D.Device.state g.D.Device.honest s.journal me s.memory s.unflushed s.settled kept v c.self.view_is up in
     let own : part s.me.shards s.me.node w ≡ own_part v c.args.intent.now.write = ap (part s.me.shards s.me.node) c.entry-write.ensures.value ∙ ap (λ (x : ShardView g.row.D.Denot). part x.me.shards x.me.node c.args.intent.now.write) c.self.view_is in
     let may : MayPrepare me s.memory (part s.me.shards s.me.node w) = part_may_come me s.memory w kept.opened whole e.ok.free in
     let may_now : MayPrepare v.me (memory v) (own_part v c.args.intent.now.write) =
@@ -77,7 +77,7 @@ returns-clause-conditions g c = λ up.
     let v = c.args.self.now in
     let w = c.entry-write.result.now in
     let me : Identity = s.me in
-    let now : IsAlike s.memory (memory v) = memory_is g.D.Device.state g.D.Device.honest s.journal me s.memory s.unflushed.items s.settled c.self.invariant v c.self.view_is up in
+    let now : IsAlike s.memory (memory v) = memory_is g.D.Device.state g.D.Device.honest s.journal me s.memory s.unflushed s.settled c.self.invariant v c.self.view_is up in
     let own : part s.me.shards s.me.node w ≡ own_part v c.args.intent.now.write = ap (part s.me.shards s.me.node) c.entry-write.ensures.value ∙ ap (λ (x : ShardView g.row.D.Denot). part x.me.shards x.me.node c.args.intent.now.write) c.self.view_is in
     subst (λ (p : Entry). HoldHere (memory v) p.conditions) own (hold_alike now (part s.me.shards s.me.node w).conditions c.in_ok-prepare.ensures.ok.hold)
 
@@ -89,7 +89,7 @@ returns-clause-broken g c = λ up. (
       let v = c.args.self.now in
       let w = c.entry-write.result.now in
       let me : Identity = s.me in
-      let now : IsAlike s.memory (memory v) = memory_is g.D.Device.state g.D.Device.honest s.journal me s.memory s.unflushed.items s.settled c.self.invariant v c.self.view_is up in
+      let now : IsAlike s.memory (memory v) = memory_is g.D.Device.state g.D.Device.honest s.journal me s.memory s.unflushed s.settled c.self.invariant v c.self.view_is up in
       let own : part s.me.shards s.me.node w ≡ own_part v c.args.intent.now.write = ap (part s.me.shards s.me.node) c.entry-write.ensures.value ∙ ap (λ (x : ShardView g.row.D.Denot). part x.me.shards x.me.node c.args.intent.now.write) c.self.view_is in
       absurd (broken.broken (subst (λ (p : Entry). HoldHere (memory v) p.conditions) own (hold_alike now (part s.me.shards s.me.node w).conditions c.in_ok-prepare.ensures.ok.hold))),
 )
@@ -100,7 +100,7 @@ returns-in_err-prepare-clause-broken g c = λ up.
     let v = c.args.self.now in
     let w = c.entry-write.result.now in
     let me : Identity = s.me in
-    let now : IsAlike s.memory (memory v) = memory_is g.D.Device.state g.D.Device.honest s.journal me s.memory s.unflushed.items s.settled c.self.invariant v c.self.view_is up in
+    let now : IsAlike s.memory (memory v) = memory_is g.D.Device.state g.D.Device.honest s.journal me s.memory s.unflushed s.settled c.self.invariant v c.self.view_is up in
     let own : part s.me.shards s.me.node w ≡ own_part v c.args.intent.now.write = ap (part s.me.shards s.me.node) c.entry-write.ensures.value ∙ ap (λ (x : ShardView g.row.D.Denot). part x.me.shards x.me.node c.args.intent.now.write) c.self.view_is in
     let is_up : s.journal.is_down ≡ false = ap (λ (x : ShardView g.row.D.Denot). x.is_down) c.self.view_is ∙ up.up in
     let p = err_from_is_err_and c.from_residual.result c.from_residual.ensures.1 in
@@ -120,7 +120,7 @@ returns-in_err-prepare-clause-full g c = λ up.
     let v = c.args.self.now in
     let w = c.entry-write.result.now in
     let me : Identity = s.me in
-    let now : IsAlike s.memory (memory v) = memory_is g.D.Device.state g.D.Device.honest s.journal me s.memory s.unflushed.items s.settled c.self.invariant v c.self.view_is up in
+    let now : IsAlike s.memory (memory v) = memory_is g.D.Device.state g.D.Device.honest s.journal me s.memory s.unflushed s.settled c.self.invariant v c.self.view_is up in
     let own : part s.me.shards s.me.node w ≡ own_part v c.args.intent.now.write = ap (part s.me.shards s.me.node) c.entry-write.ensures.value ∙ ap (λ (x : ShardView g.row.D.Denot). part x.me.shards x.me.node c.args.intent.now.write) c.self.view_is in
     let staged : s.journal.staged ≡ v.staged = ap (λ (x : ShardView g.row.D.Denot). x.staged) c.self.view_is in
     let is_up : s.journal.is_down ≡ false = ap (λ (x : ShardView g.row.D.Denot). x.is_down) c.self.view_is ∙ up.up in
@@ -147,7 +147,7 @@ returns-in_err-prepare-clause-memory g c = λ up is.
     let v = c.args.self.now in
     let w = c.entry-write.result.now in
     let me : Identity = s.me in
-    let now : IsAlike s.memory (memory v) = memory_is g.D.Device.state g.D.Device.honest s.journal me s.memory s.unflushed.items s.settled c.self.invariant v c.self.view_is up in
+    let now : IsAlike s.memory (memory v) = memory_is g.D.Device.state g.D.Device.honest s.journal me s.memory s.unflushed s.settled c.self.invariant v c.self.view_is up in
     let own : part s.me.shards s.me.node w ≡ own_part v c.args.intent.now.write = ap (part s.me.shards s.me.node) c.entry-write.ensures.value ∙ ap (λ (x : ShardView g.row.D.Denot). part x.me.shards x.me.node c.args.intent.now.write) c.self.view_is in
     let staged : s.journal.staged ≡ v.staged = ap (λ (x : ShardView g.row.D.Denot). x.staged) c.self.view_is in
     let p = err_from_is_err_and c.from_residual.result c.from_residual.ensures.1 in
