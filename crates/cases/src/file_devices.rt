@@ -9,10 +9,11 @@ const FOLDER: &str = "files_tests";
 
 const NAME: &str = "0.a";
 
-// A file in memory, whose calls fail while it is broken.
+// A file in memory, whose calls fail while it is broken, on a disk with room for so many bytes; one with none can only be read.
 #[derive(Drop)]
 struct Kept {
     bytes: Vec<u8>,
+    room: usize,
     is_broken: bool,
 }
 
@@ -35,6 +36,9 @@ impl RawFile for Kept {
     }
 
     fn write_at(&mut self, at: usize, bytes: &[u8]) -> Result<(), Broken> {
+        if at.saturating_add(bytes.len()) > self.room {
+            return Err(Broken);
+        }
         for (i, byte) in bytes.iter().enumerate() {
             let place = at.saturating_add(i);
             if place < self.bytes.len() {
@@ -124,6 +128,7 @@ fn a_file_reads_as_a_disk_in_memory(rt: HostRuntime) -> Result<(), Fail> {
     assert!(rt; are_alike(&mut device, &mut disk)?);
     let kept = Kept {
         bytes: Vec::new(alloc),
+        room: 1_000,
         is_broken: false,
     };
     let mut recorded = FileDevice::recorded(alloc, kept, Vec::new(alloc))?;
@@ -138,6 +143,7 @@ fn a_record_tells_a_file_that_lies(rt: HostRuntime) -> Result<(), Fail> {
     let alloc = rt.alloc();
     let kept = Kept {
         bytes: Vec::from_slice(alloc, b"abcdefgX")?,
+        room: 8,
         is_broken: false,
     };
     let content = Vec::from_slice(alloc, b"abcdefgh")?;
@@ -145,6 +151,67 @@ fn a_record_tells_a_file_that_lies(rt: HostRuntime) -> Result<(), Fail> {
     let mut disk = SimDisk::new(alloc, Vec::from_slice(alloc, b"abcdefgh")?)?;
     assert!(rt; read_both(&mut recorded, &mut disk, 0) == Err(Stopped));
     assert!(rt; recorded.failures() == 1 && recorded.len() == Err(Stopped));
+    Ok(())
+}
+
+// Whether eight bytes there stop the device, which then fails each call until it is revived.
+fn stops<D: Device>(device: &mut D, at: usize) -> Result<bool, Stopped> {
+    let len = device.len()?;
+    if device.write_at(at.min(len), b"ABCDEFGH").is_ok() {
+        return Ok(false);
+    }
+    let is_stopped = device.len().is_err() && device.sync().is_err() && device.failures() == 3;
+    device.revive()?;
+    Ok(is_stopped)
+}
+
+// Whether these are its first bytes.
+fn begins_with<D: Device>(device: &mut D, bytes: &[u8; 8]) -> Result<bool, Stopped> {
+    let mut buf = [0; 8];
+    if device.len()? < 8 {
+        return Ok(false);
+    }
+    device.read_at(0, &mut buf)?;
+    Ok(buf == *bytes)
+}
+
+#[test]
+fn a_full_disk_stops_its_device_until_it_is_revived(rt: HostRuntime) -> Result<(), Fail> {
+    let alloc = rt.alloc();
+    // how much room the disk has, where eight bytes are written, and what is read afterwards
+    let rows = [
+        (0, 0, true, b"abcdefgh"),
+        (8, 8, true, b"abcdefgh"),
+        (15, 8, true, b"abcdefgh"),
+        (16, 8, false, b"abcdefgh"),
+        (8, 0, false, b"ABCDEFGH"),
+    ];
+    for (room, at, stopped, content) in rows {
+        let kept = Kept {
+            bytes: Vec::from_slice(alloc, b"abcdefgh")?,
+            room,
+            is_broken: false,
+        };
+        let mut device = FileDevice::new(alloc, kept)?;
+        assert!(rt; stops(&mut device, at)? == stopped, "{room} {at}");
+        assert!(rt; begins_with(&mut device, content)?, "{room} {at}");
+    }
+    Ok(())
+}
+
+#[test]
+fn a_file_longer_than_a_device_is_down(rt: HostRuntime) -> Result<(), Fail> {
+    const LONG: &str = "files_long";
+    let alloc = rt.alloc();
+    let _ = fs::remove_dir_all(&rt, LONG);
+    fs::create_dir(&rt, LONG)?;
+    for (len, opens) in [(1 << 40, true), ((1 << 40) + 1, false)] {
+        let file = fs::File::create(&rt, "files_long/0.a")?;
+        file.set_len(len)?;
+        let opened = open(&rt, alloc, LONG, NAME);
+        assert!(rt; opened.is_ok() == opens, "{len}");
+    }
+    fs::remove_dir_all(&rt, LONG)?;
     Ok(())
 }
 
