@@ -1,0 +1,11 @@
+use Rattle.std.proofs.Common.{ap, ◌∙◌}
+use Rattle.std.specs.Fmt.{decimal}
+use Rattle.answers.proofs.Growing.{grown_as, grown_then}
+use Rattle.printed.proofs.printed.push_refusal.Goals as goal
+
+pub returns : goal.returns
+returns c =
+    grown_then
+    (grown_then (grown_then c.push-is_full.ensures (grown_as (ap decimal (c.from.ensures ∙ c.number.ensures)) c.push_number-is_full.ensures))
+    (grown_then c.push-is_full-2.ensures (grown_as (c.as_bytes.ensures.value ∙ c.name.ensures) c.push-is_full-3.ensures)))
+    c.push.ensures

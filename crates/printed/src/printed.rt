@@ -1,0 +1,139 @@
+// What a line of a script prints.
+ghost use Rattle.std.specs.Prelude.{◌≡◌, ◌<◌, ◌≤◌, ◌+◌, ◌++◌, false, OnOk, OnErr, length, vec_capacity, vec_len};
+ghost use Rattle.answers.specs.Grown.{Grown};
+ghost use Rattle.printed.specs.Texts.{answer_text, membership_word, named_line, printed_text, refusal_line, resolved_line};
+
+use crate::lists::{push_sets, push_versions};
+use crate::parts::{push_id, push_told};
+use crate::text::{push, push_number};
+use answers::Answer;
+use std::alloc::AllocError;
+use tuples::{Refusal, Version, WriteId};
+
+/// What one line of a script prints. Most are one line; an answer, and a list of versions, has a line for each of its parts.
+#[derive(Clone, Copy)]
+pub enum Printed<'a> {
+    /// `ok Z`; `at Z`, and `1 doc:a#viewer@ann` with the number of its tupleset for each tuple; `yes Z` or `no Z`; or
+    /// `3 +doc:a#viewer@ann` for each event, and `heartbeat Z`
+    Answer(&'a Answer),
+    /// `started w`
+    Started(&'a [u8]),
+    /// `next decide`
+    Next(&'a [u8]),
+    /// `cancelled w`
+    Cancelled(&'a [u8]),
+    /// `done`
+    Done,
+    /// `commit 1.7 3`: a write that was in doubt is decided at this place.
+    Committed(WriteId, u64),
+    /// `abort 1.7`
+    Aborted(WriteId),
+    /// `undecided 1.7`
+    Undecided(WriteId),
+    /// `3 +doc:a#viewer@ann` or `3 -doc:a#viewer@ann` for each version
+    Versions(&'a [Version]),
+    /// `up`: a node was opened again.
+    Up,
+    /// `set`: a failure was set on a device.
+    Set,
+    /// `refused 13 Down`
+    Refused(Refusal),
+}
+
+impl Printed<'_> {
+    /// Appends the text, whose tokens are those of the store with this id. It is refused only where the vector had no room for
+    /// all of it, and then nothing is written.
+    pub fn write_to(&self, store: u64, out: &mut Vec<u8>) -> Result<(), AllocError>
+        ensures ok { OnOk result (out.new.items ≡ out.old.items ++ printed_text store self.now) }
+        ensures err { OnErr result (out.new.items ≡ out.old.items) }
+        ensures memory { OnErr result (vec_capacity out.old < vec_len out.old + length (printed_text store self.now)) }
+        ensures capacity { vec_capacity out.old ≤ vec_capacity out.new }
+    {
+        let start = out.len();
+        let is_full = push_printed(out, self, store);
+        if is_full {
+            out.truncate(start);
+            return Err(AllocError);
+        }
+        Ok(())
+    }
+}
+
+fn push_printed(out: &mut Vec<u8>, printed: &Printed<'_>, store: u64) -> bool
+    ensures { Grown false result out.old out.new (printed_text store printed.now) }
+{
+    match printed {
+        Printed::Answer(answer) => push_answer(out, answer, store),
+        Printed::Started(name) => push_named(out, b"started ", name),
+        Printed::Next(call) => push_named(out, b"next ", call),
+        Printed::Cancelled(name) => push_named(out, b"cancelled ", name),
+        Printed::Done => push(out, false, b"done\n"),
+        Printed::Committed(id, place) => {
+            let is_full = push(out, false, b"commit ");
+            let is_full = push_id(out, is_full, *id);
+            let is_full = push(out, is_full, b" ");
+            let is_full = push_number(out, is_full, *place);
+            push(out, is_full, b"\n")
+        }
+        Printed::Aborted(id) => push_resolved(out, b"abort ", *id),
+        Printed::Undecided(id) => push_resolved(out, b"undecided ", *id),
+        Printed::Versions(versions) => push_versions(out, false, versions),
+        Printed::Up => push(out, false, b"up\n"),
+        Printed::Set => push(out, false, b"set\n"),
+        Printed::Refused(refusal) => push_refusal(out, *refusal),
+    }
+}
+
+// A line of a word, with the space behind it, and a name.
+fn push_named(out: &mut Vec<u8>, word: &[u8], name: &[u8]) -> bool
+    ensures { Grown false result out.old out.new (named_line word.now name.now) }
+{
+    let is_full = push(out, false, word);
+    let is_full = push(out, is_full, name);
+    push(out, is_full, b"\n")
+}
+
+// A line of a word, with the space behind it, and the id of a write.
+fn push_resolved(out: &mut Vec<u8>, word: &[u8], id: WriteId) -> bool
+    ensures { Grown false result out.old out.new (resolved_line word.now id) }
+{
+    let is_full = push(out, false, word);
+    let is_full = push_id(out, is_full, id);
+    push(out, is_full, b"\n")
+}
+
+fn push_answer(out: &mut Vec<u8>, answer: &Answer, store: u64) -> bool
+    ensures { Grown false result out.old out.new (answer_text store answer.now) }
+{
+    match answer {
+        Answer::Written(written) => push_told(out, false, b"ok", store, written.place),
+        Answer::Rows(rows) => {
+            let is_full = push_told(out, false, b"at", store, rows.place);
+            push_sets(out, is_full, &rows.sets)
+        }
+        Answer::Membership(membership) => {
+            let word = membership_word(membership.is_member);
+            push_told(out, false, word, store, membership.place)
+        }
+        Answer::Events(events) => {
+            let is_full = push_versions(out, false, &events.events);
+            push_told(out, is_full, b"heartbeat", store, events.heartbeat)
+        }
+    }
+}
+
+fn membership_word(is_member: bool) -> &'static [u8]
+    ensures { result.now ≡ membership_word is_member }
+{
+    if is_member { b"yes" } else { b"no" }
+}
+
+fn push_refusal(out: &mut Vec<u8>, refusal: Refusal) -> bool
+    ensures { Grown false result out.old out.new (refusal_line refusal) }
+{
+    let is_full = push(out, false, b"refused ");
+    let is_full = push_number(out, is_full, u64::from(refusal.number()));
+    let is_full = push(out, is_full, b" ");
+    let is_full = push(out, is_full, refusal.name().as_bytes());
+    push(out, is_full, b"\n")
+}
