@@ -9,3 +9,5 @@ pub mod Leaving
 pub mod Beginning
 pub mod Deciding
 pub mod Preparing
+pub mod All
+pub mod Cancel

@@ -75,3 +75,13 @@ module _ {D : Type 0} (state : D → State) (honest : D → Type 0) (moment : D 
   PreparesBy s intent = (old new : Store D) (slot : ℕ) (is_cancelled : Bool) (v later : WriteView) → (call : MakesCall old new slot is_cancelled v later (Shard s (StagePrepare intent)))
       → (call.reply ≡ from_shard (told_by.StagePrepare intent (Err Busy)) → HasNot call.was intent.write.id)
       → TurnRuns state honest moment left_since store shards old slot (told_of is_cancelled later.ended) new
+
+  -- where a call is a prepare, and its refusal Busy, the shard has not prepared this very write
+  abbrev pub BusyIsAnothers : NodeCall → Reply → NodeView D → Type 0
+  BusyIsAnothers (Shard s (StagePrepare intent)) reply was = reply ≡ from_shard (told_by.StagePrepare intent (Err Busy)) → HasNot was intent.write.id
+  BusyIsAnothers call reply was = Unit {0}
+
+  -- whatever a write flow asks is a turn of it
+  abbrev pub AllTurn : Type 0
+  AllTurn = (call : NodeCall) (old new : Store D) (slot : ℕ) (is_cancelled : Bool) (v later : WriteView) → (makes : MakesCall old new slot is_cancelled v later call)
+      → BusyIsAnothers call makes.reply makes.was → TurnRuns state honest moment left_since store shards old slot (told_of is_cancelled later.ended) new
