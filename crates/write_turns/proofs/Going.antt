@@ -93,7 +93,7 @@ module _ {D : Type 0} (state : D → State) (honest : D → Type 0) (moment : D 
     pub holds_is : r.holds ≡ writing v.holds
     holds_is = sym is_flow.shows.holds
 
-    cancelled_is : r.is_cancelled ≡ is_cancelled
+    pub cancelled_is : r.is_cancelled ≡ is_cancelled
     cancelled_is = sym is_flow.shows.cancelled
 
     -- what it holds is right, of what it is asked

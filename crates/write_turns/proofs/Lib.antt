@@ -4,3 +4,10 @@ pub mod Learning
 pub mod Flushing
 pub mod Voting
 pub mod Outcome
+pub mod Memory
+pub mod Leaving
+pub mod Beginning
+pub mod Deciding
+pub mod Preparing
+pub mod All
+pub mod Cancel
