@@ -39,8 +39,9 @@ fn turn<D: Device>(flow: &mut CareFlow, store: &mut Store<D>, told: &mut Told) -
     requires { IsThere 2 flow.old }
     ensures { IsThere 2 flow.new }
 {
+    let name = flow.next_name()?;
     let call = flow.next_call()?;
-    let named = Named::of(&call);
+    let named = Named::new(name, call.node());
     let reply = store.ask(call, told);
     flow.give(reply);
     Some(named)

@@ -14,6 +14,12 @@ mod cares;
 #[cfg(test)]
 mod caring;
 #[cfg(test)]
+mod checking;
+#[cfg(test)]
+mod checks;
+#[cfg(test)]
+mod large_groups;
+#[cfg(test)]
 mod logging;
 #[cfg(test)]
 mod plays;
@@ -21,6 +27,8 @@ mod plays;
 mod reading;
 #[cfg(test)]
 mod reads;
+#[cfg(test)]
+mod refused_calls;
 #[cfg(test)]
 mod refused_writes;
 #[cfg(test)]

@@ -1,5 +1,5 @@
 // How flows ended, as texts.
-use answer_flow::{ReadEnd, WatchEnd};
+use answer_flow::{CheckEnd, ReadEnd, WatchEnd};
 use care_flow::{CareEnd, Resolved};
 use commit_flow::WriteEnd;
 use std::alloc::Global;
@@ -143,6 +143,19 @@ pub(crate) fn log_read(
             log.push_str("; ")?;
         }
         Some(ReadEnd::Refused(refusal)) => log_refusal(log, refusal)?,
+        None => log_none(log)?,
+    }
+    Ok(())
+}
+
+pub(crate) fn log_check(log: &mut String, end: Option<CheckEnd>) -> Result<(), Refusal> {
+    match end {
+        Some(CheckEnd::Answered(place, is_member)) => {
+            log.push_str(if is_member { "yes at " } else { "no at " })?;
+            push_number(log, place)?;
+            log.push_str("; ")?;
+        }
+        Some(CheckEnd::Refused(refusal)) => log_refusal(log, refusal)?,
         None => log_none(log)?,
     }
     Ok(())

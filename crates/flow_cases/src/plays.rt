@@ -1,6 +1,7 @@
 // What a row does with a store, and what comes of it.
 use crate::caring::{self, begin_care};
-use crate::logging::{log_care, log_read, log_watch, log_write};
+use crate::checking::Checking;
+use crate::logging::{log_care, log_check, log_read, log_watch, log_write};
 use crate::reading::Reading;
 use crate::stores::{Store, new_disks};
 use crate::turning::Turning;
@@ -45,6 +46,14 @@ pub(crate) enum Step {
     TurnRead(usize),
     /// The read that was begun last goes to its end.
     RunRead,
+    /// A check of the tuple with this text goes to its end.
+    Check(Freshness, &'static str),
+    /// Such a check is begun. It makes no call yet.
+    StartCheck(Freshness, &'static str),
+    /// The check that was begun last makes so many calls.
+    TurnCheck(usize),
+    /// The check that was begun last goes to its end.
+    RunCheck,
     /// The flow is cancelled.
     Cancel(usize),
     /// The node is flushed.
@@ -67,6 +76,7 @@ pub(crate) struct Playing<D: Device> {
     store: Store<D>,
     flows: Vec<Turning>,
     reads: Vec<Reading>,
+    checks: Vec<Checking>,
     told: Told,
     log: String,
 }
@@ -195,6 +205,44 @@ impl<D: Device> Playing<D> {
         self.run_read(alloc)
     }
 
+    fn start_check(
+        &mut self,
+        alloc: Global,
+        freshness: Freshness,
+        text: &[u8],
+    ) -> Result<(), Refusal> {
+        self.checks.reserve(1)?;
+        let check = Checking::new(alloc, freshness, text)?;
+        self.checks.push_reserved(check);
+        Ok(())
+    }
+
+    fn turn_check(&mut self, turns: usize) -> Result<(), Refusal> {
+        let Some(check) = self.checks.last_mut() else {
+            return Err(Refusal::BadRequest);
+        };
+        for _ in 0..turns {
+            match check.turn(&mut self.store, &mut self.told) {
+                Some(named) => named.write_to(&mut self.log)?,
+                None => return Ok(()),
+            }
+        }
+        Ok(())
+    }
+
+    fn run_check(&mut self) -> Result<(), Refusal> {
+        self.turn_check(MOST_TURNS)?;
+        let Some(check) = self.checks.pop() else {
+            return Err(Refusal::BadRequest);
+        };
+        log_check(&mut self.log, check.finish())
+    }
+
+    fn check(&mut self, alloc: Global, freshness: Freshness, text: &[u8]) -> Result<(), Refusal> {
+        self.start_check(alloc, freshness, text)?;
+        self.run_check()
+    }
+
     fn cancel(&mut self, flow: usize) {
         if let Some(flow) = self.flows.get_mut(flow) {
             flow.cancel();
@@ -225,6 +273,12 @@ impl<D: Device> Playing<D> {
             }
             Step::TurnRead(turns) => self.turn_read(turns),
             Step::RunRead => self.run_read(alloc),
+            Step::Check(freshness, text) => self.check(alloc, freshness, text.as_bytes()),
+            Step::StartCheck(freshness, text) => {
+                self.start_check(alloc, freshness, text.as_bytes())
+            }
+            Step::TurnCheck(turns) => self.turn_check(turns),
+            Step::RunCheck => self.run_check(),
             Step::Cancel(flow) => {
                 self.cancel(flow);
                 Ok(())
@@ -263,6 +317,7 @@ fn play<D: Device>(alloc: Global, devices: Vec<D>, steps: &[Step]) -> Result<Str
         store,
         flows: Vec::new(alloc),
         reads: Vec::new(alloc),
+        checks: Vec::new(alloc),
         told: Told::new(),
         log: String::new(alloc),
     };
@@ -271,6 +326,7 @@ fn play<D: Device>(alloc: Global, devices: Vec<D>, steps: &[Step]) -> Result<Str
         store: _,
         flows,
         reads: _,
+        checks: _,
         told: _,
         log,
     } = playing;

@@ -27,8 +27,9 @@ impl Turning {
         store: &mut Store<D>,
         told: &mut Told,
     ) -> Option<Named> {
+        let name = self.flow.next_name()?;
         let call = self.flow.next_call()?;
-        let named = Named::of(&call);
+        let named = Named::new(name, call.node());
         let reply = store.ask(call, told);
         self.flow.give(reply);
         Some(named)

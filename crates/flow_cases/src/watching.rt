@@ -21,8 +21,9 @@ pub(crate) fn begin_watch(alloc: Global, cursor: u64, limit: u64) -> Result<Watc
 
 // Makes its next call, and gives it the reply; none where it has ended.
 fn turn<D: Device>(flow: &mut WatchFlow, store: &mut Store<D>, told: &mut Told) -> Option<Named> {
+    let name = flow.next_name()?;
     let call = flow.next_call()?;
-    let named = Named::of(&call);
+    let named = Named::new(name, call.node());
     let reply = store.ask(call, told);
     flow.give(reply);
     Some(named)
