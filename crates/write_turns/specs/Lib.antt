@@ -1,3 +1,4 @@
 pub mod Seen
 pub mod Turning
 pub mod Cancelling
+pub mod Starting
