@@ -34,7 +34,7 @@ use Rattle.call_turns.proofs.Standing.{is_seen, runs_now, shard_is_seen, shard_i
 module _ {D : Type 0} (state : D → State) (honest : D → Type 0) (moment : D → ℕ) (left_since : D → ℕ → List ℕ → Type 0)
     (counts_now : (d : D) (t : ℕ) (c : List ℕ) → honest d → t ≤ moment d → left (state d) c → left_since d t c) (only_now : (d : D) (c : List ℕ) → honest d → left_since d (moment d) c → left (state d) c)
     (store shards : ℕ) (old new : Store D) (now : Moment) (standing : StandsOver state honest store shards old now) where
-  abbrev IsStill : Type 0
+  abbrev pub IsStill : Type 0
   IsStill = IsQuietlyMade state honest moment left_since store shards old new now standing now.nodes now.machine
 
   abbrev Fails : NodeName → Refusal → Type 0

@@ -8,3 +8,5 @@ pub mod Asked
 pub mod Belongs
 pub mod CaughtUp
 pub mod AskedMore
+pub mod RaiseTold
+pub mod ResolveTold

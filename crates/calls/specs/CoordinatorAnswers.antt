@@ -84,6 +84,7 @@ module _ {D : Type 0} (state : D → State) (honest : D → Type 0) where
     pub collected : IsRunning state honest old → IfErr r (λ e. (e.refusal ≡ Collected) ↔ (place < (kept_of old).horizon))
     pub future : IsRunning state honest old → IfErr r (λ e. (e.refusal ≡ Future) ↔ (end_of (kept_of old) < place))
     pub full : IsRunning state honest old → IfErr r (λ e. e.refusal ≡ Full → HasNoRoom old.staged (Horizon place) × (IsRising old place → ⊥))
+    pub was_up : old.is_down ≡ true → IsErr r
     pub err : IfErr r (λ e. (new ≡ old) × (e.settled.items ≡ settled) × ((e.refusal ≡ Down) ⊎ ((e.refusal ≡ Collected) ⊎ ((e.refusal ≡ Future) ⊎ (e.refusal ≡ Full)))))
 
   -- what was staged is durable; or a device failed, and it may be so or not

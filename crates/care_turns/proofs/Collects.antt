@@ -29,7 +29,7 @@ use Rattle.turns.specs.Causes.{Calls, HasItsCause}
 use Rattle.turns.specs.Flows.{Asked, Holds, collecting, to_collect}
 use Rattle.turns.specs.Held.{AreHeldHeads, AreRightHeads, IsRight}
 use Rattle.turns.specs.Moments.{Moment, Running}
-use Rattle.turns.specs.QuietTurns.{with_call}
+use Rattle.turns.specs.QuietTurns.{ending, with_call}
 use Rattle.turns.specs.Stores.{StandsOver, Store, stops}
 use Rattle.turns.proofs.CoordinatorCalls.{right_heads}
 use Rattle.turns.proofs.ShardLearnSeam.{collects_quietly, refused_collects_have_cause}
@@ -67,8 +67,8 @@ module _ {D : Type 0} (state : D → State) (honest : D → Type 0) (moment : D 
           now.machine,
           it.0,
           λ k. record {
-            heads = λ x same. subst (AreRightHeads (with_call r (collecting (record h { heads = Some heads })) r.met now.machine) now.machine) (sym it.3 ∙ same_Some heads x same)
-                (right_heads store shards (stops state honest store shards old.devices) now it.1 standing.stands it.2 r (collecting (record h { heads = Some heads })) flow.runs);
+            heads = λ x same. subst (AreRightHeads (with_call r (collecting (record h { heads = Some heads })) r.met now.machine) now.machine) (sym it.1.2 ∙ same_Some heads x same)
+                (right_heads store shards (stops state honest store shards old.devices) now it.1.0 standing.stands it.1.1 r (collecting (record h { heads = Some heads })) flow.runs);
             batch = k.batch;
           },
         )))
@@ -108,13 +108,13 @@ module _ {D : Type 0} (state : D → State) (honest : D → Type 0) (moment : D 
         refuses = refuses_to state honest moment left_since store shards old new slot (to_collect s) refl CollectStep collecting h no_heads e (λ now standing r flow.
             let it = (collect_told state honest moment left_since counts_now only_now store shards old new now standing s was is heads back (Err e) c so).1 in
             ⊎_elim
-            (λ fails. (fails.0, now.machine, fails.1, fails.2 r _ refl (subst (λ (a : Asked). Calls shards a (shard s)) (sym flow.asked_is) (c.before.there, refl))))
+            (λ fails. (fails.0, now.machine, fails.1, fails.2 r (ending now fails.0 now.machine r []) refl (subst (λ (a : Asked). Calls shards a (shard s)) (sym flow.asked_is) (c.before.there, refl))))
             (λ told_so. (
               now.nodes,
               now.machine,
               told_so.0,
-              subst (λ (f : Refusal). HasItsCause shards now _ r f × (f ≢ Unsure)) (sym told_so.1.3.0)
-                  (refused_collects_have_cause store shards (stops state honest store shards old.devices) state honest now _ told_so.1.0 s heads r standing.stands told_so.1.1 flow.asked_is told_so.1.2 told_so.1.3.1 told_so.1.3.2, no_full_is_unsure),
+              subst (λ (f : Refusal). HasItsCause shards now (ending now now.nodes now.machine r []) r f × (f ≢ Unsure)) (sym told_so.1.3.0)
+                  (refused_collects_have_cause store shards (stops state honest store shards old.devices) state honest now (ending now now.nodes now.machine r []) told_so.1.0 s heads r standing.stands told_so.1.1 flow.asked_is told_so.1.2 told_so.1.3.1 told_so.1.3.2, no_full_is_unsure),
             ))
             it)
 

@@ -31,7 +31,7 @@ use Rattle.turns.specs.Causes.{Calls, LetsLearn}
 use Rattle.turns.specs.Flows.{Asked, Holds, learning, to_flush, to_learn}
 use Rattle.turns.specs.Held.{AreHeldHeads, AreRightHeads, IsRight}
 use Rattle.turns.specs.Moments.{Moment, Running}
-use Rattle.turns.specs.QuietTurns.{batch_of, with_call}
+use Rattle.turns.specs.QuietTurns.{batch_of, ending, with_call}
 use Rattle.turns.specs.Stores.{StandsOver, Store, stops}
 use Rattle.turns.proofs.CoordinatorCalls.{right_heads}
 use Rattle.turns.proofs.SeesOn.{heads_on}
@@ -68,8 +68,8 @@ module _ {D : Type 0} (state : D → State) (honest : D → Type 0) (moment : D 
           now.machine,
           it.0,
           λ k. record {
-            heads = λ x same. subst (AreRightHeads (with_call r (learning (record h { heads = Some heads })) r.met now.machine) now.machine) (sym it.3 ∙ same_Some heads x same)
-                (right_heads store shards (stops state honest store shards old.devices) now it.1 standing.stands it.2 r (learning (record h { heads = Some heads })) flow.runs);
+            heads = λ x same. subst (AreRightHeads (with_call r (learning (record h { heads = Some heads })) r.met now.machine) now.machine) (sym it.1.2 ∙ same_Some heads x same)
+                (right_heads store shards (stops state honest store shards old.devices) now it.1.0 standing.stands it.1.1 r (learning (record h { heads = Some heads })) flow.runs);
             batch = k.batch;
           },
         )))
@@ -109,7 +109,7 @@ module _ {D : Type 0} (state : D → State) (honest : D → Type 0) (moment : D 
           let it = comes now standing r flow in
           (it.0, now.machine, it.1, record { kept = heads.kept; was = (heads_on r r.holds now.machine now.machine heads ((held now standing r flow).heads heads has)).was; memory = it.2.0; knows = it.2.1; learned = it.2.2 })))
       by_progress (is_refused e) batch after comes gives = subst Leads (sym gives) (refuses_to state honest moment left_since store shards old new slot (to_learn s) refl LearnStep learning h no_heads e
-          (λ now standing r flow. let it = comes now standing r flow in (it.0, now.machine, it.1, it.2 _ refl)))
+          (λ now standing r flow. let it = comes now standing r flow in (it.0, now.machine, it.1, it.2 (ending now it.0 now.machine r []) refl)))
 
     by_way : (o : Option HeadsValue) → h.heads ≡ o → (call : NodeCall) (mid : LearnView) (reply : Reply) (after : LearnView) (was is : NodeView D)
         → MatchOption o ⊥ (λ heads. AsksToCatchUp (on_its_way s heads.kept h.batch) call (λ batch awaited. mid ≡ out (record h { batch = batch }) (catch_up (Some awaited))))

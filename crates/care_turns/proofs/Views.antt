@@ -1,10 +1,11 @@
 -- Where a turn leads a care, as its view says it: it goes on, or has ended.
-use Rattle.std.proofs.Common.{◌≡◌, ◌≢◌, ℕ, false, List, [], ◌∷◌, Option, Some, None, Contains, refl, sym, ◌∙◌, subst}
+use Rattle.std.proofs.Common.{◌≡◌, ◌≢◌, ℕ, false, List, [], ◌∷◌, Option, Some, None, Contains, refl, sym, ◌∙◌, ap, subst}
 use Rattle.std.proofs.lemmas.List.Elements.{All-nil}
 use Rattle.refusal.specs.declared.refusal.Refusal.{Refusal}
 use Rattle.refusal.specs.declared.refusal.Refusal.TheVariants.{Unsure}
 use Rattle.device.specs.Device.{State}
 use Rattle.care_flow.specs.Views.{CareView, over, ready}
+use Rattle.care_flow.specs.declared.end.CareEnd.{CareEnd}
 use Rattle.care_flow.specs.declared.end.CareEnd.TheVariants.{Done, Refused}
 use Rattle.laws.specs.Machines.{Machine}
 use Rattle.laws.specs.Nodes.{NodeName, Nodes}
@@ -12,12 +13,16 @@ use Rattle.turns.specs.Causes.{Calls, HasItsCause}
 use Rattle.turns.specs.Flows.{Asked, Holds}
 use Rattle.turns.specs.Held.{IsRight}
 use Rattle.turns.specs.Moments.{Moment, Running, is_write}
-use Rattle.turns.specs.QuietTurns.{behind_call, ending, with_call}
-use Rattle.turns.specs.Replies.{Agrees, done}
-use Rattle.turns.specs.Stores.{StandsOver, Store, stops}
+use Rattle.turns.specs.QuietTurns.{behind_call, ending, going_on, with_call}
+use Rattle.turns.specs.Replies.{Agrees, Answer, done}
+use Rattle.turns.specs.Runs.{Told, Turns, answered, goes_on, told_by}
+use Rattle.turns.specs.SeamLaws.{told_unless}
+use Rattle.turns.specs.Stands.{Stands}
+use Rattle.turns.specs.Stores.{NamesHorizon, StandsOver, Store, stops}
+use Rattle.call_turns.specs.StoreCalls.{IsMade}
 use Rattle.call_turns.specs.StoreTurns.{SlotTurns, TurnRuns}
 use Rattle.call_turns.proofs.Made.{FailsQuietly, IsQuietlyMade}
-use Rattle.call_turns.proofs.Turned.{answers, asked_is, fails_with, goes, held_on, refused_by, runs, the_flow}
+use Rattle.call_turns.proofs.Turned.{Runs, answers, fails_with, goes, held_on, ran_ending, ran_going, refused_by, runs, the_flow}
 use Rattle.care_turns.specs.CareTurns.{in_slot, shown_care, tells}
 
 module _ {D : Type 0} (state : D → State) (honest : D → Type 0) (moment : D → ℕ) (left_since : D → ℕ → List ℕ → Type 0) (store shards : ℕ) (old new : Store D) (slot : ℕ)
@@ -71,3 +76,32 @@ module _ {D : Type 0} (state : D → State) (honest : D → Type 0) (moment : D 
       let flow = the_flow state honest moment left_since store shards old new now standing number slot f None turns in
       let it = quietly now standing flow.0 (record { runs = runs state honest moment left_since store shards old new now standing number slot f None turns flow.0 flow.1; asked_is = sym (flow.2.asked asked refl); holds_are = sym flow.2.holds }) in
       answers state honest moment left_since store shards old new now standing number slot f None turns flow.0 flow.1 asked flow.2 refl no_write it.0 it.1 it.2 done refl it.3 (All-nil _)
+
+  -- it goes on, or is done, where the laws say the whole turn
+  pub goes_by : (k : H) (step : S) → ((now : Moment) (standing : StandsOver state honest store shards old now) (r : Running) → IsFlow now r → (next : Nodes) × (m : Machine)
+      × IsMade state honest moment left_since store shards old new now next m
+      × Stands store shards (stops state honest store shards new.devices) (going_on now next m (with_call r (hold k) r.met m))
+      × Turns shards (NamesHorizon state honest store shards old now) now r (told_unless r.is_cancelled) (going_on now next m (with_call r (hold k) r.met m))) → LeadsTo (ready k step)
+  goes_by k step by_law turns number now standing =
+      let f = shown_care asked (hold h) in
+      let g = Some (shown_care asked (hold k)) in
+      let flow = the_flow state honest moment left_since store shards old new now standing number slot f g turns in
+      let is_flow : IsFlow now flow.0 = record { runs = runs state honest moment left_since store shards old new now standing number slot f g turns flow.0 flow.1; asked_is = sym (flow.2.asked asked refl); holds_are = sym flow.2.holds } in
+      let it = by_law now standing flow.0 is_flow in
+      let quiet = standing.stands.flows.quiet flow.0 is_flow.runs (ap is_write is_flow.asked_is ∙ no_write) in
+      ran_going state honest moment left_since store shards old new now standing number slot f g turns flow.0 flow.1 it.0 it.1 (with_call flow.0 (hold k) flow.0.met it.1) (shown_care asked (hold k)) (goes_on ∷ []) it.2 refl refl
+      (record { asked = flow.2.asked; still_asked = λ none. ap (λ (a : Asked). Some a) (sym is_flow.asked_is); holds = refl; cancelled = flow.2.cancelled })
+      it.3
+      (subst (λ (told : List Told). Turns shards (NamesHorizon state honest store shards old now) now flow.0 told (going_on now it.0 it.1 (with_call flow.0 (hold k) flow.0.met it.1))) (ap told_unless quiet.1) it.4)
+
+  pub ends_by : (nothing : H) (end : CareEnd) (answer : Answer) → tells (Some end) ≡ answered answer → ((now : Moment) (standing : StandsOver state honest store shards old now) (r : Running) → IsFlow now r → (next : Nodes) × (m : Machine)
+      × IsMade state honest moment left_since store shards old new now next m
+      × Stands store shards (stops state honest store shards new.devices) (ending now next m r (told_by answer))
+      × Turns shards (NamesHorizon state honest store shards old now) now r (answered answer ∷ []) (ending now next m r (told_by answer))) → LeadsTo (over nothing end)
+  ends_by nothing end answer tells_it by_law turns number now standing =
+      let f = shown_care asked (hold h) in
+      let flow = the_flow state honest moment left_since store shards old new now standing number slot f None turns in
+      let is_flow : IsFlow now flow.0 = record { runs = runs state honest moment left_since store shards old new now standing number slot f None turns flow.0 flow.1; asked_is = sym (flow.2.asked asked refl); holds_are = sym flow.2.holds } in
+      let it = by_law now standing flow.0 is_flow in
+      subst (λ (t : Told). Runs state honest moment left_since store shards old new now standing number slot f None turns (t ∷ [])) (sym tells_it)
+      (ran_ending state honest moment left_since store shards old new now standing number slot f None turns flow.0 flow.1 it.0 it.1 (told_by answer) (answered answer ∷ []) it.2 refl it.3 it.4)

@@ -5,11 +5,13 @@ use Rattle.calls.specs.Asking as asking
 use Rattle.calls.specs.Views.{NodeView}
 use Rattle.calls.specs.declared.call.NodeCall.{NodeCall}
 use Rattle.calls.specs.declared.reply.Reply.{Reply}
-use Rattle.care_flow.specs.Cares.{Answered, NextCall, end_of}
+use Rattle.care_flow.specs.Cares.{Answered, IsThere, NextCall, end_of}
 use Rattle.care_flow.specs.Collecting.{CollectFlowValue}
 use Rattle.care_flow.specs.Ends.{resolved_value}
 use Rattle.care_flow.specs.Flushing.{FlushFlowValue}
 use Rattle.care_flow.specs.Learning.{LearnFlowValue}
+use Rattle.care_flow.specs.Raising.{RaiseFlowValue}
+use Rattle.care_flow.specs.Resolving.{ResolveFlowValue}
 use Rattle.care_flow.specs.declared.care.CareFlow.{CareFlow}
 use Rattle.care_flow.specs.declared.care.CareFlow.TheVariants.{Flush, Learn, Resolve, Raise, Collect}
 use Rattle.care_flow.specs.declared.end.CareEnd.{CareEnd}
@@ -47,8 +49,9 @@ tells (Some (Refused e)) = refuses e
 -- Given what a device holds and whether it is honest, how often a stop may have come at it, what a stop since then may have left, and a store's id
 -- and number of shards
 module _ {D : Type 0} (state : D → State) (honest : D → Type 0) (moment : D → ℕ) (left_since : D → ℕ → List ℕ → Type 0) (store shards : ℕ) where
-  -- The care in this slot makes its next call of one node of the store, and is behind it as given.
+  -- The care in this slot, of a node that is there, makes its next call of one node of the store, and is behind it as given.
   pub record CareTurns (old new : Store D) (slot : ℕ) (flow next : CareFlow) : Type 0 where
+    pub there : IsThere shards flow
     pub call : NodeCall
     pub out : CareFlow
     pub asks : NextCall flow (Some call) out
@@ -74,6 +77,14 @@ module _ {D : Type 0} (state : D → State) (honest : D → Type 0) (moment : D 
   abbrev pub LearnsTurn : Type 0
   LearnsTurn = (v w : LearnFlowValue) → IsRunTurn (Learn v) (Learn w)
 
-  -- and of a shard's collection
+  -- of a shard's collection
   abbrev pub CollectsTurn : Type 0
   CollectsTurn = (v w : CollectFlowValue) → IsRunTurn (Collect v) (Collect w)
+
+  -- of a raise of the horizon
+  abbrev pub RaisesTurn : Type 0
+  RaisesTurn = (v w : RaiseFlowValue) → IsRunTurn (Raise v) (Raise w)
+
+  -- and of a resolution of the writes in doubt at a shard
+  abbrev pub ResolvesTurn : Type 0
+  ResolvesTurn = (v w : ResolveFlowValue) → IsRunTurn (Resolve v) (Resolve w)

@@ -1,6 +1,6 @@
 // Laws of the turns of cares, each the clause of a function with an empty body.
 ghost use Rattle.std.specs.Prelude.{ℕ};
-ghost use Rattle.care_turns.specs.CareTurns.{CollectsTurn, FlushesTurn, LearnsTurn};
+ghost use Rattle.care_turns.specs.CareTurns.{CollectsTurn, FlushesTurn, LearnsTurn, RaisesTurn, ResolvesTurn};
 
 use device::Device;
 
@@ -18,4 +18,14 @@ pub fn shards_learn_in_turn<D: Device>()
 /// A shard's collection goes on with heads that are right, is done, or ends with a refusal that has its cause.
 pub fn collections_take_their_turn<D: Device>()
     ensures { (store shards : ℕ) → CollectsTurn D.state D.honest D.moment D.left_since store shards }
+{}
+
+/// A raise of the horizon goes on with what the shards have settled, is done where the horizon is at its place, or ends with a refusal that has its cause.
+pub fn raises_take_their_turn<D: Device>()
+    ensures { (store shards : ℕ) → RaisesTurn D.state D.honest D.moment D.left_since store shards }
+{}
+
+/// A resolution goes on with what was found of each write, answers all of it, or ends with a refusal that has its cause.
+pub fn resolutions_take_their_turn<D: Device>()
+    ensures { (store shards : ℕ) → ResolvesTurn D.state D.honest D.moment D.left_since store shards }
 {}

@@ -8,4 +8,7 @@
 
 mod care_laws;
 
-pub use care_laws::{collections_take_their_turn, flushes_take_their_turn, shards_learn_in_turn};
+pub use care_laws::{
+    collections_take_their_turn, flushes_take_their_turn, raises_take_their_turn,
+    resolutions_take_their_turn, shards_learn_in_turn,
+};

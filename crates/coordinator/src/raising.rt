@@ -57,6 +57,7 @@ impl<D: Device> Coordinator<D> {
     pub fn raise(&mut self, place: u64, settled: Vec<Settled>) -> Result<(), NotRaised>
         requires settled { HaveSettled self.old.me.shards place settled.items }
         ensures ok { IsRunning D.state D.honest self.old → OnOk result (RaisesAt self.old place self.new × (place ≤ end_of (kept_of self.old)) × IsRunning D.state D.honest self.new) }
+        ensures up { self.old.is_down ≡ true → IsErr result }
         ensures down { IfErr result (λ e. (e.refusal ≡ Refusal.Down) ↔ (self.old.is_down ≡ true)) }
         ensures collected { IsRunning D.state D.honest self.old → IfErr result (λ e. (e.refusal ≡ Refusal.Collected) ↔ (place < (kept_of self.old).horizon)) }
         ensures future { IsRunning D.state D.honest self.old → IfErr result (λ e. (e.refusal ≡ Refusal.Future) ↔ (end_of (kept_of self.old) < place)) }
