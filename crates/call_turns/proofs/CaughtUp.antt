@@ -218,16 +218,16 @@ module _ {D : Type 0} (state : D → State) (honest : D → Type 0) (moment : D 
         (subst (λ (k : ℕ). Answered state honest moment left_since was (of_shard k call) reply is) asks.0 so) gives
 
 -- while a call is out the shard and the place are the same
-pub same_way : (v : CatchUpValue) (call : NodeCall) (then : CatchUpCallValue) → Asks v call then → then.held ≡ record { shard = v.shard; to = v.to; batch = then.held.batch }
+pub same_way : (v : CatchUpValue) (call : NodeCall) (then : CatchUpCallValue) → Asks v call then → then.held ≡ record { shard = v.shard; to = v.to; batch = then.held.batch; next = then.held.next }
 same_way v (of_coordinator call) then asks = by_call call asks
   where
-    by_call : (c : CoordinatorCall) → AsksCoordinator v c then → then.held ≡ record { shard = v.shard; to = v.to; batch = then.held.batch }
-    by_call (coordinator_calls.Batch from to) is = let same : then.held ≡ v = ap (λ (t : CatchUpCallValue). t.held) is.2 in subst (λ (x : CatchUpValue). x ≡ record { shard = v.shard; to = v.to; batch = x.batch }) (sym same) refl
+    by_call : (c : CoordinatorCall) → AsksCoordinator v c then → then.held ≡ record { shard = v.shard; to = v.to; batch = then.held.batch; next = then.held.next }
+    by_call (coordinator_calls.Batch from to) is = let same : then.held ≡ v = ap (λ (t : CatchUpCallValue). t.held) is.2 in subst (λ (x : CatchUpValue). x ≡ record { shard = v.shard; to = v.to; batch = x.batch; next = x.next }) (sym same) refl
     by_call c is = absurd is
 same_way v (of_shard s call) then asks = by_call call asks.1
   where
-    by_call : (c : ShardCall) → AsksShard v c then → then.held ≡ record { shard = v.shard; to = v.to; batch = then.held.batch }
-    by_call shard_calls.Learned is = let same : then.held ≡ v = ap (λ (t : CatchUpCallValue). t.held) is in subst (λ (x : CatchUpValue). x ≡ record { shard = v.shard; to = v.to; batch = x.batch }) (sym same) refl
-    by_call (shard_calls.Learn b) is = subst (λ (x : CatchUpValue). x ≡ record { shard = v.shard; to = v.to; batch = x.batch }) (sym is.1) refl
-    by_call shard_calls.Flush is = let same : then.held ≡ v = ap (λ (t : CatchUpCallValue). t.held) is in subst (λ (x : CatchUpValue). x ≡ record { shard = v.shard; to = v.to; batch = x.batch }) (sym same) refl
+    by_call : (c : ShardCall) → AsksShard v c then → then.held ≡ record { shard = v.shard; to = v.to; batch = then.held.batch; next = then.held.next }
+    by_call shard_calls.Learned is = let same : then.held ≡ v = ap (λ (t : CatchUpCallValue). t.held) is in subst (λ (x : CatchUpValue). x ≡ record { shard = v.shard; to = v.to; batch = x.batch; next = x.next }) (sym same) refl
+    by_call (shard_calls.Learn b) is = subst (λ (x : CatchUpValue). x ≡ record { shard = v.shard; to = v.to; batch = x.batch; next = x.next }) (sym is.1) refl
+    by_call shard_calls.Flush is = let same : then.held ≡ v = ap (λ (t : CatchUpCallValue). t.held) is in subst (λ (x : CatchUpValue). x ≡ record { shard = v.shard; to = v.to; batch = x.batch; next = x.next }) (sym same) refl
     by_call c is = absurd is

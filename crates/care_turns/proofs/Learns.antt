@@ -38,6 +38,9 @@ use Rattle.turns.proofs.SeesOn.{heads_on}
 use Rattle.call_turns.specs.StoreCalls.{FitsItsTypes, IsCalled, called}
 use Rattle.call_turns.specs.StoreTurns.{SlotTurns, TurnRuns}
 use Rattle.call_turns.proofs.Asked.{heads_told}
+use Rattle.calls.specs.Names.{name_of}
+use Rattle.calls.specs.declared.call_name.CallName.{CallName}
+use Rattle.care_flow.proofs.Naming.{whichever_next}
 use Rattle.call_turns.proofs.CaughtUp.{CatchUpComes, IsCatchingUp, caught_up, same_way}
 use Rattle.care_turns.specs.CareTurns.{LearnsTurn, in_slot, shown_care, shows, tells}
 use Rattle.care_turns.proofs.Views.{IsFlow, LeadsTo, done_to, fails_to, goes_to, refuses_to}
@@ -83,11 +86,11 @@ module _ {D : Type 0} (state : D → State) (honest : D → Type 0) (moment : D 
 
     -- it brings the shard to their kept place
     module _ (heads : HeadsValue) (has : h.heads ≡ Some heads) where
-      abbrev way : CatchUpValue
-      way = on_its_way s heads.kept h.batch
+      abbrev way : CallName → CatchUpValue
+      way name = record (on_its_way s heads.kept h.batch) { next = name }
 
-      on : (now : Moment) (standing : StandsOver state honest store shards old now) (r : Running) → Is now r → IsCatchingUp state honest moment left_since counts_now only_now store shards old new now standing r way
-      on now standing r flow =
+      on : (name : CallName) (now : Moment) (standing : StandsOver state honest store shards old now) (r : Running) → Is now r → IsCatchingUp state honest moment left_since counts_now only_now store shards old new now standing r (way name)
+      on name now standing r flow =
           let k = held now standing r flow in record {
             runs = flow.runs;
             calls_coordinator = subst (λ (a : Asked). Calls shards a coordinator) (sym flow.asked_is) calls_coordinator;
@@ -119,9 +122,9 @@ module _ {D : Type 0} (state : D → State) (honest : D → Type 0) (moment : D 
     by_way (Some heads) has call mid reply after was is (then, asks, mid_is) gives fits c so =
         let given = subst (λ (m : LearnView). MatchOption m.awaited ⊥ (λ step. Gives s m.holds step reply after)) mid_is gives in
         let it = subst (λ (o : Option HeadsValue). MatchOption o ⊥ (λ heads. CatchUpGives (on_its_way s heads.kept then.held.batch) then.awaited reply (λ progress. ProgressGives (record h { batch = then.held.batch }) progress after))) has given in
-        let same : then ≡ record { held = on_its_way s heads.kept then.held.batch; awaited = then.awaited } = ap (λ (x : CatchUpValue). record { held = x; awaited = then.awaited }) (same_way (way heads has) call then asks) in
-        by_progress heads has it.0 then.held.batch after (λ now standing r flow. caught_up state honest moment left_since counts_now only_now store shards old new now standing r (way heads has) (on heads has now standing r flow) call then reply it.0 was is asks fits c so
-        (subst (λ (t : CatchUpCallValue). catching.Gives t reply it.0) (sym same) it.1)) it.2
+        let same : then ≡ record { held = record (on_its_way s heads.kept then.held.batch) { next = then.held.next }; awaited = then.awaited } = ap (λ (x : CatchUpValue). record { held = x; awaited = then.awaited }) (same_way (way heads has (name_of call)) call then asks) in
+        by_progress heads has it.0 then.held.batch after (λ now standing r flow. caught_up state honest moment left_since counts_now only_now store shards old new now standing r (way heads has (name_of call)) (on heads has (name_of call) now standing r flow) call then reply it.0 was is asks fits c so
+        (subst (λ (t : CatchUpCallValue). catching.Gives t reply it.0) (sym same) (whichever_next (record { held = on_its_way s heads.kept then.held.batch; awaited = then.awaited }) then.held.next reply it.0 it.1))) it.2
 
     -- whichever call it makes
     by_step : (step : LearnStep) (call : NodeCall) (mid : LearnView) (reply : Reply) (after : LearnView) (was is : NodeView D) → Asks s h step call mid
