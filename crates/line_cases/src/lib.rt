@@ -1,4 +1,5 @@
-//! Tables of cases for the lines of a server: requests as they are read, answers as they are written, and whole sessions.
+//! Tables of cases for the lines of a server and of a script: requests and commands as they are read, answers as they are written, and whole
+//! sessions.
 //!
 //! Keeps: nothing at run time; it has tests alone.
 //! They stand here, over public calls, since a crate with tests of its own is proved once more for them.
@@ -7,6 +8,10 @@
 #[cfg(test)]
 mod answer_texts;
 #[cfg(test)]
+mod printed_texts;
+#[cfg(test)]
 mod request_lines;
+#[cfg(test)]
+mod script_lines;
 #[cfg(test)]
 mod served_sessions;
