@@ -12,3 +12,4 @@ pub mod Preparing
 pub mod All
 pub mod Cancel
 pub mod Start
+mod SmallWrites
