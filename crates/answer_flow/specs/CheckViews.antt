@@ -10,14 +10,14 @@ use Rattle.calls.specs.declared.call_name.CallName.{CallName}
 use Rattle.calls.specs.declared.call_name.CallName.TheVariants as names
 use Rattle.catch_up.specs.Held.{Awaited, CatchUpValue}
 use Rattle.answer_flow.specs.Walking.{WalkValue}
-use Rattle.answer_flow.specs.declared.check_stage.CheckEnd as ends
-use Rattle.answer_flow.specs.declared.check_stage.CheckEnd.TheVariants as end
-use Rattle.answer_flow.specs.declared.check_stage.Ready.{Ready}
-use Rattle.answer_flow.specs.declared.check_stage.Ready.TheVariants as ready
-use Rattle.answer_flow.specs.declared.check_stage.Out.{Out}
-use Rattle.answer_flow.specs.declared.check_stage.Out.TheVariants as out
-use Rattle.answer_flow.specs.declared.check_stage.Stage.{Stage}
-use Rattle.answer_flow.specs.declared.check_stage.Stage.TheVariants as stages
+use Rattle.answer_flow.specs.declared.check_phase.CheckEnd as ends
+use Rattle.answer_flow.specs.declared.check_phase.CheckEnd.TheVariants as end
+use Rattle.answer_flow.specs.declared.check_phase.Ready.{Ready}
+use Rattle.answer_flow.specs.declared.check_phase.Ready.TheVariants as ready
+use Rattle.answer_flow.specs.declared.check_phase.Out.{Out}
+use Rattle.answer_flow.specs.declared.check_phase.Out.TheVariants as out
+use Rattle.answer_flow.specs.declared.check_phase.Phase.{Phase}
+use Rattle.answer_flow.specs.declared.check_phase.Phase.TheVariants as phases
 
 -- What a check does next: it asks for heads, has the coordinator flushed, brings the shard up to the place, or has it read.
 pub data CheckStep : Type 0 where
@@ -113,17 +113,17 @@ holds_out (out.Flush w) = holding_walk w None None
 holds_out (out.CatchUp place w c) = holding_walk w (Some place) c.held.batch
 holds_out (out.Read place w) = holding_walk w (Some place) None
 
--- what is seen of each stage
+-- what is seen of each phase
 abbrev pub view_ready : Ready → CheckView
 view_ready r = at_rest (step_ready r) (holds_ready r)
 
 abbrev pub view_out : Out → CheckView
 view_out o = waiting (step_out o) (awaited_of o) (holds_out o)
 
-abbrev pub view_of : Stage → CheckView
-view_of (stages.Ready r) = view_ready r
-view_of (stages.Out o) = view_out o
-view_of (stages.Ended end) = ended (ending_of end)
+abbrev pub view_of : Phase → CheckView
+view_of (phases.Ready r) = view_ready r
+view_of (phases.Out o) = view_out o
+view_of (phases.Ended end) = ended (ending_of end)
 
 -- the name of its next call, if there is one
 abbrev pub name_ready : Ready → CallName
@@ -132,10 +132,10 @@ name_ready (ready.Flush w) = names.Flush
 name_ready (ready.CatchUp place w c) = c.next
 name_ready (ready.Read place w y u) = names.Read
 
-abbrev pub name_of : Stage → Option CallName
-name_of (stages.Ready r) = Some (name_ready r)
-name_of (stages.Out o) = None
-name_of (stages.Ended end) = None
+abbrev pub name_of : Phase → Option CallName
+name_of (phases.Ready r) = Some (name_ready r)
+name_of (phases.Out o) = None
+name_of (phases.Ended end) = None
 
 -- this one waits first
 abbrev pub IsFirst : WalkValue → Userset → Type 0
@@ -149,7 +149,7 @@ pub record IsOnItsWay (shards place : ℕ) (w : WalkValue) (c : CatchUpValue) : 
   pub there : c.shard < shards
   pub to : c.to ≡ place
 
--- what a check of this user keeps in each stage
+-- what a check of this user keeps in each phase
 abbrev pub IsReadyOf : ℕ → User → Ready → Type 0
 IsReadyOf shards user (ready.Heads w) = Unit {0}
 IsReadyOf shards user (ready.Flush w) = Unit {0}
@@ -162,7 +162,7 @@ IsOutOf shards (out.Flush w) = Unit {0}
 IsOutOf shards (out.CatchUp place w c) = IsOnItsWay shards place w c.held
 IsOutOf shards (out.Read place w) = Unit {0}
 
-abbrev pub IsStageOf : ℕ → User → Stage → Type 0
-IsStageOf shards user (stages.Ready r) = IsReadyOf shards user r
-IsStageOf shards user (stages.Out o) = IsOutOf shards o
-IsStageOf shards user (stages.Ended end) = Unit {0}
+abbrev pub IsPhaseOf : ℕ → User → Phase → Type 0
+IsPhaseOf shards user (phases.Ready r) = IsReadyOf shards user r
+IsPhaseOf shards user (phases.Out o) = IsOutOf shards o
+IsPhaseOf shards user (phases.Ended end) = Unit {0}

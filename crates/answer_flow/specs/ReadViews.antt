@@ -11,15 +11,15 @@ use Rattle.decisions.specs.Values.{BatchValue}
 use Rattle.calls.specs.declared.call_name.CallName.{CallName}
 use Rattle.calls.specs.declared.call_name.CallName.TheVariants as names
 use Rattle.catch_up.specs.Held.{Awaited, CatchUpValue}
-use Rattle.answer_flow.specs.declared.read_stage.Gathered.{Gathered}
-use Rattle.answer_flow.specs.declared.read_stage.ReadEnd as ends
-use Rattle.answer_flow.specs.declared.read_stage.ReadEnd.TheVariants as end
-use Rattle.answer_flow.specs.declared.read_stage.Ready.{Ready}
-use Rattle.answer_flow.specs.declared.read_stage.Ready.TheVariants as ready
-use Rattle.answer_flow.specs.declared.read_stage.Out.{Out}
-use Rattle.answer_flow.specs.declared.read_stage.Out.TheVariants as out
-use Rattle.answer_flow.specs.declared.read_stage.Stage.{Stage}
-use Rattle.answer_flow.specs.declared.read_stage.Stage.TheVariants as stages
+use Rattle.answer_flow.specs.declared.read_phase.Gathered.{Gathered}
+use Rattle.answer_flow.specs.declared.read_phase.ReadEnd as ends
+use Rattle.answer_flow.specs.declared.read_phase.ReadEnd.TheVariants as end
+use Rattle.answer_flow.specs.declared.read_phase.Ready.{Ready}
+use Rattle.answer_flow.specs.declared.read_phase.Ready.TheVariants as ready
+use Rattle.answer_flow.specs.declared.read_phase.Out.{Out}
+use Rattle.answer_flow.specs.declared.read_phase.Out.TheVariants as out
+use Rattle.answer_flow.specs.declared.read_phase.Phase.{Phase}
+use Rattle.answer_flow.specs.declared.read_phase.Phase.TheVariants as phases
 
 -- What a read does next: it asks for heads, has the coordinator flushed, brings the shard up to the place, or has it read.
 pub data ReadStep : Type 0 where
@@ -122,17 +122,17 @@ holds_out out.Flush = nothing_read
 holds_out (out.CatchUp g set c) = holding g c.held.batch
 holds_out (out.Read g) = holding g None
 
--- what is seen of each stage
+-- what is seen of each phase
 abbrev pub view_ready : Ready → ReadView
 view_ready r = at_rest (step_ready r) (holds_ready r)
 
 abbrev pub view_out : Out → ReadView
 view_out o = waiting (step_out o) (awaited_of o) (holds_out o)
 
-abbrev pub view_of : Stage → ReadView
-view_of (stages.Ready r) = view_ready r
-view_of (stages.Out o) = view_out o
-view_of (stages.Ended end) = ended (ending_of end)
+abbrev pub view_of : Phase → ReadView
+view_of (phases.Ready r) = view_ready r
+view_of (phases.Out o) = view_out o
+view_of (phases.Ended end) = ended (ending_of end)
 
 -- the name of its next call, if there is one
 abbrev pub name_ready : Ready → CallName
@@ -141,10 +141,10 @@ name_ready ready.Flush = names.Flush
 name_ready (ready.CatchUp g set c) = c.next
 name_ready (ready.Read g set) = names.Read
 
-abbrev pub name_of : Stage → Option CallName
-name_of (stages.Ready r) = Some (name_ready r)
-name_of (stages.Out o) = None
-name_of (stages.Ended end) = None
+abbrev pub name_of : Phase → Option CallName
+name_of (phases.Ready r) = Some (name_ready r)
+name_of (phases.Out o) = None
+name_of (phases.Ended end) = None
 
 -- the next tupleset is this one, and a shard of it is asked next
 pub record IsNext (shards : ℕ) (sets : List Tupleset) (g : Gathered) (set : Tupleset) : Type 0 where
@@ -157,7 +157,7 @@ pub record IsOnItsWay (shards : ℕ) (g : Gathered) (set : Tupleset) (c : CatchU
   pub there : c.shard < shards
   pub to : c.to ≡ g.place
 
--- what a read of these tuplesets keeps in each stage
+-- what a read of these tuplesets keeps in each phase
 abbrev pub IsReadyOf : ℕ → List Tupleset → Ready → Type 0
 IsReadyOf shards sets ready.Heads = Unit {0}
 IsReadyOf shards sets ready.Flush = Unit {0}
@@ -170,7 +170,7 @@ IsOutOf shards sets out.Flush = Unit {0}
 IsOutOf shards sets (out.CatchUp g set c) = IsNext shards sets g set × IsOnItsWay shards g set c.held
 IsOutOf shards sets (out.Read g) = g.below < shards
 
-abbrev pub IsStageOf : ℕ → List Tupleset → Stage → Type 0
-IsStageOf shards sets (stages.Ready r) = IsReadyOf shards sets r
-IsStageOf shards sets (stages.Out o) = IsOutOf shards sets o
-IsStageOf shards sets (stages.Ended end) = Unit {0}
+abbrev pub IsPhaseOf : ℕ → List Tupleset → Phase → Type 0
+IsPhaseOf shards sets (phases.Ready r) = IsReadyOf shards sets r
+IsPhaseOf shards sets (phases.Out o) = IsOutOf shards sets o
+IsPhaseOf shards sets (phases.Ended end) = Unit {0}

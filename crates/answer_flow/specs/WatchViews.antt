@@ -6,14 +6,14 @@ use Rattle.calls.specs.declared.call_name.CallName.{CallName}
 use Rattle.calls.specs.declared.call_name.CallName.TheVariants as names
 use Rattle.decisions.specs.Flows.{HeadsHeld, no_heads}
 use Rattle.decisions.specs.Standing.{HeadsValue}
-use Rattle.answer_flow.specs.declared.watch_stage.WatchEnd as ends
-use Rattle.answer_flow.specs.declared.watch_stage.WatchEnd.TheVariants as end
-use Rattle.answer_flow.specs.declared.watch_stage.Ready.{Ready}
-use Rattle.answer_flow.specs.declared.watch_stage.Ready.TheVariants as ready
-use Rattle.answer_flow.specs.declared.watch_stage.Out.{Out}
-use Rattle.answer_flow.specs.declared.watch_stage.Out.TheVariants as out
-use Rattle.answer_flow.specs.declared.watch_stage.Stage.{Stage}
-use Rattle.answer_flow.specs.declared.watch_stage.Stage.TheVariants as stages
+use Rattle.answer_flow.specs.declared.watch_phase.WatchEnd as ends
+use Rattle.answer_flow.specs.declared.watch_phase.WatchEnd.TheVariants as end
+use Rattle.answer_flow.specs.declared.watch_phase.Ready.{Ready}
+use Rattle.answer_flow.specs.declared.watch_phase.Ready.TheVariants as ready
+use Rattle.answer_flow.specs.declared.watch_phase.Out.{Out}
+use Rattle.answer_flow.specs.declared.watch_phase.Out.TheVariants as out
+use Rattle.answer_flow.specs.declared.watch_phase.Phase.{Phase}
+use Rattle.answer_flow.specs.declared.watch_phase.Phase.TheVariants as phases
 
 -- A call of a watch: it asks for heads, has the coordinator flushed, or fetches the decisions behind its cursor.
 pub data WatchCall : Type 0 where
@@ -75,7 +75,7 @@ abbrev pub ending_of : ends.WatchEnd → WatchEnding
 ending_of (end.Answered place events) = listed place events.items
 ending_of (end.Refused e) = refused e
 
--- what is seen of each stage
+-- what is seen of each phase
 abbrev pub view_ready : Ready → WatchView
 view_ready ready.Heads = at_rest heads no_heads
 view_ready ready.Flush = at_rest flush no_heads
@@ -96,10 +96,10 @@ held_by (out.Batch v) = with_heads v
 abbrev pub view_out : Out → WatchView
 view_out o = waiting (awaited_of o) (held_by o)
 
-abbrev pub view_of : Stage → WatchView
-view_of (stages.Ready r) = view_ready r
-view_of (stages.Out o) = view_out o
-view_of (stages.Ended end) = ended (ending_of end)
+abbrev pub view_of : Phase → WatchView
+view_of (phases.Ready r) = view_ready r
+view_of (phases.Out o) = view_out o
+view_of (phases.Ended end) = ended (ending_of end)
 
 -- by the heads that are held the cursor is kept
 abbrev pub IsReadyOf : ℕ → Ready → Type 0
@@ -112,7 +112,7 @@ IsOutOf cursor out.Heads = Unit {0}
 IsOutOf cursor out.Flush = Unit {0}
 IsOutOf cursor (out.Batch v) = cursor ≤ v.kept
 
-abbrev pub IsStageOf : ℕ → Stage → Type 0
-IsStageOf cursor (stages.Ready r) = IsReadyOf cursor r
-IsStageOf cursor (stages.Out o) = IsOutOf cursor o
-IsStageOf cursor (stages.Ended end) = Unit {0}
+abbrev pub IsPhaseOf : ℕ → Phase → Type 0
+IsPhaseOf cursor (phases.Ready r) = IsReadyOf cursor r
+IsPhaseOf cursor (phases.Out o) = IsOutOf cursor o
+IsPhaseOf cursor (phases.Ended end) = Unit {0}

@@ -7,7 +7,7 @@ ghost use Rattle.answer_flow.specs.Finding.{fresh_of};
 ghost use Rattle.answer_flow.specs.Checking.{Asks, Fits, GivesTo};
 ghost use Rattle.answer_flow.specs.CheckViews.{at_rest, begins_at, ending_of, heads};
 
-use crate::check_stage::{AskedCheck, CheckEnd, Ready, Stage};
+use crate::check_phase::{AskedCheck, CheckEnd, Phase, Ready};
 use crate::check_turns::{give, next};
 use crate::freshness::Freshness;
 use crate::walk::Walk;
@@ -23,7 +23,7 @@ use tuples::{Refusal, User, Userset};
 #[must_use]
 pub struct CheckFlow {
     asked: AskedCheck,
-    stage: Stage,
+    phase: Phase,
 }
 
 impl Model for CheckFlow {
@@ -32,23 +32,23 @@ impl Model for CheckFlow {
 
     ghost Value = { CheckFlowValue };
 
-    ghost use Rattle.answer_flow.specs.CheckViews.{IsStageOf, name_of, view_of};
+    ghost use Rattle.answer_flow.specs.CheckViews.{IsPhaseOf, name_of, view_of};
 
-    ghost view = { λ f. record { shards = f.asked.shards; fresh = fresh_of f.asked.freshness; user = f.asked.user; seen = view_of f.stage; next_name = name_of f.stage } };
+    ghost view = { λ f. record { shards = f.asked.shards; fresh = fresh_of f.asked.freshness; user = f.asked.user; seen = view_of f.phase; next_name = name_of f.phase } };
 
-    ghost invariant = { λ f. IsStageOf f.asked.shards f.asked.user f.stage };
+    ghost invariant = { λ f. IsPhaseOf f.asked.shards f.asked.user f.phase };
 }
 
-// What stands there while a stage is out.
-fn nowhere() -> Stage {
-    Stage::Ended(CheckEnd::Refused(Refusal::Damaged))
+// What stands there while a phase is out.
+fn nowhere() -> Phase {
+    Phase::Ended(CheckEnd::Refused(Refusal::Damaged))
 }
 
-// Puts a stage in the place of one that was taken out.
-fn put(place: &mut Stage, stage: Stage)
-    ensures { place.new ≡ stage }
+// Puts a phase in the place of one that was taken out.
+fn put(place: &mut Phase, phase: Phase)
+    ensures { place.new ≡ phase }
 {
-    drop(mem::replace(place, stage));
+    drop(mem::replace(place, phase));
 }
 
 impl CheckFlow {
@@ -71,7 +71,7 @@ impl CheckFlow {
                 freshness,
                 user,
             },
-            stage: Stage::Ready(Ready::Heads(walk)),
+            phase: Phase::Ready(Ready::Heads(walk)),
         })
     }
 
@@ -82,9 +82,9 @@ impl CheckFlow {
         ensures out { (awaited : _) → self.now.seen.awaited ≡ Some awaited → result ≡ None }
         ensures some { self.now.seen.ended ≡ None → self.now.seen.awaited ≡ None → result ≢ None }
     {
-        match &self.stage {
-            Stage::Ready(ready) => Some(ready.name()),
-            Stage::Out(_) | Stage::Ended(_) => None,
+        match &self.phase {
+            Phase::Ready(ready) => Some(ready.name()),
+            Phase::Out(_) | Phase::Ended(_) => None,
         }
     }
 
@@ -97,15 +97,15 @@ impl CheckFlow {
         ensures out { (awaited : _) → self.old.seen.awaited ≡ Some awaited → result ≡ None }
         ensures some { self.old.seen.ended ≡ None → self.old.seen.awaited ≡ None → result ≢ None }
     {
-        let stage = mem::replace(&mut self.stage, nowhere());
-        match stage {
-            Stage::Ready(ready) => {
+        let phase = mem::replace(&mut self.phase, nowhere());
+        match phase {
+            Phase::Ready(ready) => {
                 let (call, out) = next(&self.asked, ready);
-                put(&mut self.stage, Stage::Out(out));
+                put(&mut self.phase, Phase::Out(out));
                 Some(call)
             }
             other => {
-                put(&mut self.stage, other);
+                put(&mut self.phase, other);
                 None
             }
         }
@@ -117,15 +117,15 @@ impl CheckFlow {
         ensures asked { self.new ≡ record self.old { seen = self.new.seen; next_name = self.new.next_name } }
         ensures gives { MatchOption self.old.seen.awaited ⊥ (λ awaited. GivesTo self.old.fresh self.old.user self.old.seen awaited reply self.new.seen) }
     {
-        let stage = mem::replace(&mut self.stage, nowhere());
-        match stage {
-            Stage::Out(out) => {
-                let stage = give(&self.asked, out, reply);
-                put(&mut self.stage, stage);
+        let phase = mem::replace(&mut self.phase, nowhere());
+        match phase {
+            Phase::Out(out) => {
+                let phase = give(&self.asked, out, reply);
+                put(&mut self.phase, phase);
             }
             other => {
                 reply.leave();
-                put(&mut self.stage, other);
+                put(&mut self.phase, other);
             }
         }
     }
@@ -134,9 +134,9 @@ impl CheckFlow {
     pub fn has_ended(&self) -> bool
         ensures { result ≡ is_some self.now.seen.ended }
     {
-        match &self.stage {
-            Stage::Ended(_) => true,
-            Stage::Ready(_) | Stage::Out(_) => false,
+        match &self.phase {
+            Phase::Ended(_) => true,
+            Phase::Ready(_) | Phase::Out(_) => false,
         }
     }
 
@@ -144,10 +144,10 @@ impl CheckFlow {
     pub fn finish(self) -> Option<CheckEnd>
         ensures { option_map ending_of result ≡ self.seen.ended }
     {
-        let CheckFlow { asked: _, stage } = self;
-        match stage {
-            Stage::Ended(end) => Some(end),
-            Stage::Ready(_) | Stage::Out(_) => None,
+        let CheckFlow { asked: _, phase } = self;
+        match phase {
+            Phase::Ended(end) => Some(end),
+            Phase::Ready(_) | Phase::Out(_) => None,
         }
     }
 }

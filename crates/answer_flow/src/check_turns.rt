@@ -1,14 +1,14 @@
-// The turns of a check: the call of each stage, and what the reply makes of it.
+// The turns of a check: the call of each phase, and what the reply makes of it.
 ghost use Rattle.std.specs.Prelude.{◌≡◌};
 ghost use Rattle.calls.specs.Names.{name_of as name_of_call};
 ghost use Rattle.calls.specs.declared.call_name.CallName.TheVariants as names;
 ghost use Rattle.answer_flow.specs.Finding.{fresh_of};
 ghost use Rattle.answer_flow.specs.Checking.{Asks, Fits, GivesTo};
-ghost use Rattle.answer_flow.specs.CheckViews.{IsOutOf, IsReadyOf, IsStageOf, awaited_of, name_ready, view_of, view_out, view_ready};
-ghost use Rattle.answer_flow.specs.declared.check_stage.Out.TheVariants as out_of;
-ghost use Rattle.answer_flow.specs.declared.check_stage.Ready.TheVariants as ready_of;
+ghost use Rattle.answer_flow.specs.CheckViews.{IsOutOf, IsReadyOf, IsPhaseOf, awaited_of, name_ready, view_of, view_out, view_ready};
+ghost use Rattle.answer_flow.specs.declared.check_phase.Out.TheVariants as out_of;
+ghost use Rattle.answer_flow.specs.declared.check_phase.Ready.TheVariants as ready_of;
 
-use crate::check_stage::{AskedCheck, CheckEnd, Out, Ready, Stage};
+use crate::check_phase::{AskedCheck, CheckEnd, Out, Phase, Ready};
 use crate::checking::{caught_up, flushed, have_read, shard_to_ask, told};
 use crate::walk::Walk;
 use calls::{CoordinatorCall, CoordinatorReply, NodeCall, Reply, ShardCall, ShardReply};
@@ -48,7 +48,7 @@ fn call_of_read(
     (NodeCall::Shard(shard, call), Out::Read(place, walk))
 }
 
-/// The call of a stage, and the stage while it is out.
+/// The call of a phase, and the phase while it is out.
 pub(crate) fn next(asked: &AskedCheck, ready: Ready) -> (NodeCall, Out)
     requires { IsReadyOf asked.now.shards asked.now.user ready }
     ensures name { name_of_call result.0 ≡ name_ready ready }
@@ -72,17 +72,17 @@ pub(crate) fn next(asked: &AskedCheck, ready: Ready) -> (NodeCall, Out)
 }
 
 // Nobody gives the reply to another call, but what it carries has to be spent.
-fn foreign(reply: Reply) -> Stage {
+fn foreign(reply: Reply) -> Phase {
     reply.leave();
-    Stage::Ended(CheckEnd::Refused(Refusal::Damaged))
+    Phase::Ended(CheckEnd::Refused(Refusal::Damaged))
 }
 
 /// What a reply makes of it.
-pub(crate) fn give(asked: &AskedCheck, out: Out, reply: Reply) -> Stage
+pub(crate) fn give(asked: &AskedCheck, out: Out, reply: Reply) -> Phase
     requires kept { IsOutOf asked.now.shards out }
     requires fits { Fits (awaited_of out) reply }
     ensures gives { GivesTo (fresh_of asked.now.freshness) asked.now.user (view_out out) (awaited_of out) reply (view_of result) }
-    ensures kept { IsStageOf asked.now.shards asked.now.user result }
+    ensures kept { IsPhaseOf asked.now.shards asked.now.user result }
 {
     match out {
         Out::Heads(walk) => match reply {

@@ -5,11 +5,11 @@ ghost use Rattle.tuples.specs.Checking.{holding};
 ghost use Rattle.tuples.specs.Parts.{shard_of as shard_number};
 ghost use Rattle.answer_flow.specs.Finding.{fresh_of};
 ghost use Rattle.answer_flow.specs.Checking.{CatchUpGives, Continues, FlushGives, HeadsGive, LacksMemory, ReadGives, RowsGive};
-ghost use Rattle.answer_flow.specs.CheckViews.{IsFirst, IsOutOf, IsStageOf, at_rest, catch_up as to_catch_up, checked, ended, holding_walk, read as to_read, view_of, view_out};
-ghost use Rattle.answer_flow.specs.declared.check_stage.Out.TheVariants as out_of;
+ghost use Rattle.answer_flow.specs.CheckViews.{IsFirst, IsOutOf, IsPhaseOf, at_rest, catch_up as to_catch_up, checked, ended, holding_walk, read as to_read, view_of, view_out};
+ghost use Rattle.answer_flow.specs.declared.check_phase.Out.TheVariants as out_of;
 ghost use Rattle.catch_up.specs.CatchingUp.{Fits as FitsCatchUp};
 
-use crate::check_stage::{AskedCheck, CheckEnd, Ready, Stage};
+use crate::check_phase::{AskedCheck, CheckEnd, Phase, Ready};
 use crate::finding::{Found, find};
 use crate::walk::{Walk, has_user};
 use calls::Reply;
@@ -22,16 +22,16 @@ use tuples::{Refusal, Tuple, User, Userset, shard_of};
 /// The most usersets that one check walks.
 const MOST_WALKED: usize = 4_096;
 
-fn refused(refusal: Refusal) -> Stage
-    ensures { result ≡ Stage.Ended (CheckEnd.Refused refusal) }
+fn refused(refusal: Refusal) -> Phase
+    ensures { result ≡ Phase.Ended (CheckEnd.Refused refusal) }
 {
-    Stage::Ended(CheckEnd::Refused(refusal))
+    Phase::Ended(CheckEnd::Refused(refusal))
 }
 
-fn answered(place: u64, is_member: bool) -> Stage
-    ensures { result ≡ Stage.Ended (CheckEnd.Answered place is_member) }
+fn answered(place: u64, is_member: bool) -> Phase
+    ensures { result ≡ Phase.Ended (CheckEnd.Answered place is_member) }
 {
-    Stage::Ended(CheckEnd::Answered(place, is_member))
+    Phase::Ended(CheckEnd::Answered(place, is_member))
 }
 
 /// The shard that keeps the rows of a userset.
@@ -46,23 +46,23 @@ pub(crate) fn shard_to_ask(userset: &Userset, shards: u8) -> u8
 }
 
 // The shard of the first that waits is brought up to the place. Where none waits the user is no member.
-fn bring_up(asked: &AskedCheck, place: u64, walk: Walk) -> Stage
+fn bring_up(asked: &AskedCheck, place: u64, walk: Walk) -> Phase
     ensures none { walk.waiting ≡ [] → view_of result ≡ ended (checked place false) }
     ensures more { walk.waiting ≢ [] → view_of result ≡ at_rest to_catch_up (holding_walk walk (Some place) None) }
-    ensures kept { IsStageOf asked.now.shards asked.now.user result }
+    ensures kept { IsPhaseOf asked.now.shards asked.now.user result }
 {
     let Some(first) = walk.first() else {
         return answered(place, false);
     };
     let shard = shard_to_ask(first, asked.shards);
     let catch_up = CatchUp::new(shard, place);
-    Stage::Ready(Ready::CatchUp(place, walk, catch_up))
+    Phase::Ready(Ready::CatchUp(place, walk, catch_up))
 }
 
 // It goes on, unless as many were walked as may be.
-fn go_on(asked: &AskedCheck, place: u64, walk: Walk) -> Stage
+fn go_on(asked: &AskedCheck, place: u64, walk: Walk) -> Phase
     ensures goes { Continues place (holding_walk walk (Some place) None) (view_of result) }
-    ensures kept { IsStageOf asked.now.shards asked.now.user result }
+    ensures kept { IsPhaseOf asked.now.shards asked.now.user result }
 {
     if walk.waits() && MOST_WALKED <= walk.walked() {
         return refused(Refusal::Full);
@@ -71,14 +71,14 @@ fn go_on(asked: &AskedCheck, place: u64, walk: Walk) -> Stage
 }
 
 /// The coordinator has told its heads.
-pub(crate) fn told(asked: &AskedCheck, walk: Walk, answer: Result<Heads, Refusal>) -> Stage
+pub(crate) fn told(asked: &AskedCheck, walk: Walk, answer: Result<Heads, Refusal>) -> Phase
     ensures gives { HeadsGive (fresh_of asked.now.freshness) (view_out (out_of.Heads walk)) answer (view_of result) }
-    ensures kept { IsStageOf asked.now.shards asked.now.user result }
+    ensures kept { IsPhaseOf asked.now.shards asked.now.user result }
 {
     match answer {
         Ok(heads) => match find(asked.freshness, &heads) {
             Found::At(place) => go_on(asked, place, walk),
-            Found::Later => Stage::Ready(Ready::Flush(walk)),
+            Found::Later => Phase::Ready(Ready::Flush(walk)),
             Found::Refused(refusal) => refused(refusal),
         },
         Err(refusal) => refused(refusal),
@@ -86,13 +86,13 @@ pub(crate) fn told(asked: &AskedCheck, walk: Walk, answer: Result<Heads, Refusal
 }
 
 /// The coordinator was flushed, and is asked again.
-pub(crate) fn flushed(asked: &AskedCheck, walk: Walk, answer: Result<(), Refusal>) -> Stage
+pub(crate) fn flushed(asked: &AskedCheck, walk: Walk, answer: Result<(), Refusal>) -> Phase
     ensures gives { FlushGives (view_out (out_of.Flush walk)) answer (view_of result) }
-    ensures kept { IsStageOf asked.now.shards asked.now.user result }
+    ensures kept { IsPhaseOf asked.now.shards asked.now.user result }
 {
     let _asked = asked;
     match answer {
-        Ok(()) => Stage::Ready(Ready::Heads(walk)),
+        Ok(()) => Phase::Ready(Ready::Heads(walk)),
         Err(refusal) => refused(refusal),
     }
 }
@@ -110,13 +110,13 @@ fn question(walk: &Walk, user: &User) -> Result<Option<(Userset, User)>, AllocEr
 }
 
 // The shard has learned so far, and is read.
-fn ask(asked: &AskedCheck, place: u64, walk: Walk) -> Stage
+fn ask(asked: &AskedCheck, place: u64, walk: Walk) -> Phase
     requires { walk.waiting ≢ [] }
     ensures gives { (view_of result ≡ at_rest to_read (holding_walk walk (Some place) None)) ⊎ LacksMemory (view_of result) }
-    ensures kept { IsStageOf asked.now.shards asked.now.user result }
+    ensures kept { IsPhaseOf asked.now.shards asked.now.user result }
 {
     match question(&walk, &asked.user) {
-        Ok(Some((userset, user))) => Stage::Ready(Ready::Read(place, walk, userset, user)),
+        Ok(Some((userset, user))) => Phase::Ready(Ready::Read(place, walk, userset, user)),
         Ok(None) => answered(place, false),
         Err(_) => refused(Refusal::NoMemory),
     }
@@ -129,14 +129,14 @@ pub(crate) fn caught_up(
     walk: Walk,
     call: CatchUpCall,
     reply: Reply,
-) -> Stage
+) -> Phase
     requires kept { IsOutOf asked.now.shards (out_of.CatchUp place walk call) }
     requires fits { FitsCatchUp call.awaited reply }
     ensures gives { CatchUpGives (view_out (out_of.CatchUp place walk call)) call.awaited reply (view_of result) }
-    ensures kept { IsStageOf asked.now.shards asked.now.user result }
+    ensures kept { IsPhaseOf asked.now.shards asked.now.user result }
 {
     match call.give(reply) {
-        Progress::Next(catch_up) => Stage::Ready(Ready::CatchUp(place, walk, catch_up)),
+        Progress::Next(catch_up) => Phase::Ready(Ready::CatchUp(place, walk, catch_up)),
         Progress::There => ask(asked, place, walk),
         Progress::Refused(refusal) => refused(refusal),
     }
@@ -153,9 +153,9 @@ fn is_found(walk: &Walk, rows: &[Tuple], user: &User) -> bool
 }
 
 // The rows of the first that waits.
-fn gather(asked: &AskedCheck, place: u64, walk: Walk, rows: Vec<Tuple>) -> Stage
+fn gather(asked: &AskedCheck, place: u64, walk: Walk, rows: Vec<Tuple>) -> Phase
     ensures goes { (y : _) → IsFirst walk y → RowsGive asked.now.user place (holding_walk walk (Some place) None) y rows.items (view_of result) }
-    ensures kept { IsStageOf asked.now.shards asked.now.user result }
+    ensures kept { IsPhaseOf asked.now.shards asked.now.user result }
 {
     if is_found(&walk, &rows, &asked.user) {
         return answered(place, true);
@@ -172,9 +172,9 @@ pub(crate) fn have_read(
     place: u64,
     walk: Walk,
     answer: Result<ReadReply, Refusal>,
-) -> Stage
+) -> Phase
     ensures gives { ReadGives asked.now.user (view_out (out_of.Read place walk)) answer (view_of result) }
-    ensures kept { IsStageOf asked.now.shards asked.now.user result }
+    ensures kept { IsPhaseOf asked.now.shards asked.now.user result }
 {
     match answer {
         Ok(ReadReply::Rows(rows)) => gather(asked, place, walk, rows),

@@ -9,7 +9,7 @@
 #![tactic(auto)]
 
 mod check_flow;
-mod check_stage;
+mod check_phase;
 mod check_turns;
 mod checking;
 mod events;
@@ -17,18 +17,18 @@ mod finding;
 mod freshness;
 mod merging;
 mod read_flow;
-mod read_stage;
+mod read_phase;
 mod read_turns;
 mod reading;
 mod walk;
 mod watch_flow;
-mod watch_stage;
+mod watch_phase;
 mod watching;
 
 pub use check_flow::CheckFlow;
-pub use check_stage::CheckEnd;
+pub use check_phase::CheckEnd;
 pub use freshness::Freshness;
 pub use read_flow::ReadFlow;
-pub use read_stage::ReadEnd;
+pub use read_phase::ReadEnd;
 pub use watch_flow::WatchFlow;
-pub use watch_stage::WatchEnd;
+pub use watch_phase::WatchEnd;

@@ -9,7 +9,7 @@ ghost use Rattle.answer_flow.specs.Reading.{Asks, Fits, GivesTo};
 ghost use Rattle.answer_flow.specs.ReadViews.{at_rest, ending_of, heads};
 
 use crate::freshness::Freshness;
-use crate::read_stage::{AskedRead, ReadEnd, Ready, Stage};
+use crate::read_phase::{AskedRead, Phase, ReadEnd, Ready};
 use crate::read_turns::{give, next};
 use calls::{CallName, NodeCall, Reply};
 use std::alloc::Global;
@@ -23,7 +23,7 @@ use tuples::Tupleset;
 #[must_use]
 pub struct ReadFlow {
     asked: AskedRead,
-    stage: Stage,
+    phase: Phase,
 }
 
 impl Model for ReadFlow {
@@ -32,18 +32,18 @@ impl Model for ReadFlow {
 
     ghost Value = { ReadFlowValue };
 
-    ghost use Rattle.answer_flow.specs.ReadViews.{IsStageOf, name_of, view_of};
+    ghost use Rattle.answer_flow.specs.ReadViews.{IsPhaseOf, name_of, view_of};
 
-    ghost view = { λ f. record { shards = f.asked.shards; fresh = fresh_of f.asked.freshness; sets = f.asked.sets.items; seen = view_of f.stage; next_name = name_of f.stage } };
+    ghost view = { λ f. record { shards = f.asked.shards; fresh = fresh_of f.asked.freshness; sets = f.asked.sets.items; seen = view_of f.phase; next_name = name_of f.phase } };
 
-    ghost invariant = { λ f. IsStageOf f.asked.shards f.asked.sets.items f.stage };
+    ghost invariant = { λ f. IsPhaseOf f.asked.shards f.asked.sets.items f.phase };
 }
 
-// Puts a stage in the place of one that was taken out.
-fn put(place: &mut Stage, stage: Stage)
-    ensures { place.new ≡ stage }
+// Puts a phase in the place of one that was taken out.
+fn put(place: &mut Phase, phase: Phase)
+    ensures { place.new ≡ phase }
 {
-    drop(mem::replace(place, stage));
+    drop(mem::replace(place, phase));
 }
 
 impl ReadFlow {
@@ -60,7 +60,7 @@ impl ReadFlow {
                 freshness,
                 sets,
             },
-            stage: Stage::Ready(Ready::Heads),
+            phase: Phase::Ready(Ready::Heads),
         }
     }
 
@@ -71,9 +71,9 @@ impl ReadFlow {
         ensures out { (awaited : _) → self.now.seen.awaited ≡ Some awaited → result ≡ None }
         ensures some { self.now.seen.ended ≡ None → self.now.seen.awaited ≡ None → result ≢ None }
     {
-        match &self.stage {
-            Stage::Ready(ready) => Some(ready.name()),
-            Stage::Out(_) | Stage::Ended(_) => None,
+        match &self.phase {
+            Phase::Ready(ready) => Some(ready.name()),
+            Phase::Out(_) | Phase::Ended(_) => None,
         }
     }
 
@@ -86,15 +86,15 @@ impl ReadFlow {
         ensures out { (awaited : _) → self.old.seen.awaited ≡ Some awaited → result ≡ None }
         ensures some { self.old.seen.ended ≡ None → self.old.seen.awaited ≡ None → result ≢ None }
     {
-        let stage = mem::replace(&mut self.stage, Stage::Ready(Ready::Heads));
-        match stage {
-            Stage::Ready(ready) => {
+        let phase = mem::replace(&mut self.phase, Phase::Ready(Ready::Heads));
+        match phase {
+            Phase::Ready(ready) => {
                 let (call, out) = next(&self.asked, ready);
-                put(&mut self.stage, Stage::Out(out));
+                put(&mut self.phase, Phase::Out(out));
                 Some(call)
             }
             other => {
-                put(&mut self.stage, other);
+                put(&mut self.phase, other);
                 None
             }
         }
@@ -106,15 +106,15 @@ impl ReadFlow {
         ensures asked { self.new ≡ record self.old { seen = self.new.seen; next_name = self.new.next_name } }
         ensures gives { MatchOption self.old.seen.awaited ⊥ (λ awaited. GivesTo self.old.shards self.old.fresh self.old.sets self.old.seen awaited reply self.new.seen) }
     {
-        let stage = mem::replace(&mut self.stage, Stage::Ready(Ready::Heads));
-        match stage {
-            Stage::Out(out) => {
-                let stage = give(&self.asked, out, reply);
-                put(&mut self.stage, stage);
+        let phase = mem::replace(&mut self.phase, Phase::Ready(Ready::Heads));
+        match phase {
+            Phase::Out(out) => {
+                let phase = give(&self.asked, out, reply);
+                put(&mut self.phase, phase);
             }
             other => {
                 reply.leave();
-                put(&mut self.stage, other);
+                put(&mut self.phase, other);
             }
         }
     }
@@ -123,9 +123,9 @@ impl ReadFlow {
     pub fn has_ended(&self) -> bool
         ensures { result ≡ is_some self.now.seen.ended }
     {
-        match &self.stage {
-            Stage::Ended(_) => true,
-            Stage::Ready(_) | Stage::Out(_) => false,
+        match &self.phase {
+            Phase::Ended(_) => true,
+            Phase::Ready(_) | Phase::Out(_) => false,
         }
     }
 
@@ -133,10 +133,10 @@ impl ReadFlow {
     pub fn finish(self) -> Option<ReadEnd>
         ensures { option_map ending_of result ≡ self.seen.ended }
     {
-        let ReadFlow { asked: _, stage } = self;
-        match stage {
-            Stage::Ended(end) => Some(end),
-            Stage::Ready(_) | Stage::Out(_) => None,
+        let ReadFlow { asked: _, phase } = self;
+        match phase {
+            Phase::Ended(end) => Some(end),
+            Phase::Ready(_) | Phase::Out(_) => None,
         }
     }
 }

@@ -1,14 +1,14 @@
-// The turns of a read: the call of each stage, and what the reply makes of it.
+// The turns of a read: the call of each phase, and what the reply makes of it.
 ghost use Rattle.std.specs.Prelude.{◌≡◌};
 ghost use Rattle.calls.specs.Names.{name_of as name_of_call};
 ghost use Rattle.calls.specs.declared.call_name.CallName.TheVariants as names;
 ghost use Rattle.answer_flow.specs.Finding.{fresh_of};
 ghost use Rattle.answer_flow.specs.Reading.{Asks, Fits, GivesTo};
-ghost use Rattle.answer_flow.specs.ReadViews.{IsNext, IsOutOf, IsReadyOf, IsStageOf, awaited_of, name_ready, view_of, view_out, view_ready};
-ghost use Rattle.answer_flow.specs.declared.read_stage.Out.TheVariants as out_of;
-ghost use Rattle.answer_flow.specs.declared.read_stage.Ready.TheVariants as ready_of;
+ghost use Rattle.answer_flow.specs.ReadViews.{IsNext, IsOutOf, IsReadyOf, IsPhaseOf, awaited_of, name_ready, view_of, view_out, view_ready};
+ghost use Rattle.answer_flow.specs.declared.read_phase.Out.TheVariants as out_of;
+ghost use Rattle.answer_flow.specs.declared.read_phase.Ready.TheVariants as ready_of;
 
-use crate::read_stage::{AskedRead, Gathered, Out, ReadEnd, Ready, Stage};
+use crate::read_phase::{AskedRead, Gathered, Out, Phase, ReadEnd, Ready};
 use crate::reading::{caught_up, flushed, have_read, shard_to_ask, told};
 use calls::{CoordinatorCall, CoordinatorReply, NodeCall, Reply, ShardCall, ShardReply};
 use catch_up::CatchUp;
@@ -41,7 +41,7 @@ fn call_of_read(asked: &AskedRead, gathered: Gathered, set: Tupleset) -> (NodeCa
     (NodeCall::Shard(shard, call), Out::Read(gathered))
 }
 
-/// The call of a stage, and the stage while it is out.
+/// The call of a phase, and the phase while it is out.
 pub(crate) fn next(asked: &AskedRead, ready: Ready) -> (NodeCall, Out)
     requires { IsReadyOf asked.now.shards asked.now.sets.items ready }
     ensures name { name_of_call result.0 ≡ name_ready ready }
@@ -59,17 +59,17 @@ pub(crate) fn next(asked: &AskedRead, ready: Ready) -> (NodeCall, Out)
 }
 
 // Nobody gives the reply to another call, but what it carries has to be spent.
-fn foreign(reply: Reply) -> Stage {
+fn foreign(reply: Reply) -> Phase {
     reply.leave();
-    Stage::Ended(ReadEnd::Refused(Refusal::Damaged))
+    Phase::Ended(ReadEnd::Refused(Refusal::Damaged))
 }
 
 /// What a reply makes of it.
-pub(crate) fn give(asked: &AskedRead, out: Out, reply: Reply) -> Stage
+pub(crate) fn give(asked: &AskedRead, out: Out, reply: Reply) -> Phase
     requires kept { IsOutOf asked.now.shards asked.now.sets.items out }
     requires fits { Fits asked.now.sets.items (view_out out) (awaited_of out) reply }
     ensures gives { GivesTo asked.now.shards (fresh_of asked.now.freshness) asked.now.sets.items (view_out out) (awaited_of out) reply (view_of result) }
-    ensures kept { IsStageOf asked.now.shards asked.now.sets.items result }
+    ensures kept { IsPhaseOf asked.now.shards asked.now.sets.items result }
 {
     match out {
         Out::Heads => match reply {

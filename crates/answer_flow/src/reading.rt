@@ -4,13 +4,13 @@ ghost use Rattle.decisions.specs.Flows.{nothing_read};
 ghost use Rattle.records.specs.Identity.{max_shards};
 ghost use Rattle.answer_flow.specs.Finding.{fresh_of};
 ghost use Rattle.answer_flow.specs.Reading.{Continues, Finishes, FlushGives, HeadsGive, CatchUpGives, LacksMemory, Merges, ReadGives, RowsGive};
-ghost use Rattle.answer_flow.specs.ReadViews.{IsNext, IsOfUser, at_rest, catch_up as to_catch_up, IsOutOf, IsStageOf, holding, rows_of, shard_for, view_of, view_out};
-ghost use Rattle.answer_flow.specs.declared.read_stage.Out.TheVariants as out_of;
+ghost use Rattle.answer_flow.specs.ReadViews.{IsNext, IsOfUser, at_rest, catch_up as to_catch_up, IsOutOf, IsPhaseOf, holding, rows_of, shard_for, view_of, view_out};
+ghost use Rattle.answer_flow.specs.declared.read_phase.Out.TheVariants as out_of;
 ghost use Rattle.catch_up.specs.CatchingUp.{Fits as FitsCatchUp};
 
 use crate::finding::{Found, find};
 use crate::merging::merge;
-use crate::read_stage::{AskedRead, Gathered, ReadEnd, Ready, Stage};
+use crate::read_phase::{AskedRead, Gathered, Phase, ReadEnd, Ready};
 use calls::Reply;
 use catch_up::{CatchUp, CatchUpCall, Progress};
 use decisions::Heads;
@@ -18,10 +18,10 @@ use shard::ReadReply;
 use std::alloc::AllocError;
 use tuples::{Refusal, Tuple, Tupleset, shard_of};
 
-fn refused(refusal: Refusal) -> Stage
-    ensures { result ≡ Stage.Ended (ReadEnd.Refused refusal) }
+fn refused(refusal: Refusal) -> Phase
+    ensures { result ≡ Phase.Ended (ReadEnd.Refused refusal) }
 {
-    Stage::Ended(ReadEnd::Refused(refusal))
+    Phase::Ended(ReadEnd::Refused(refusal))
 }
 
 /// The shard that is asked next.
@@ -47,23 +47,23 @@ fn copied(set: &Tupleset) -> Result<Tupleset, AllocError>
 }
 
 // The shard that is asked next is brought up to the place.
-fn bring_up(asked: &AskedRead, gathered: Gathered, set: Tupleset) -> Stage
+fn bring_up(asked: &AskedRead, gathered: Gathered, set: Tupleset) -> Phase
     requires { IsNext asked.now.shards asked.now.sets.items gathered set }
     ensures view { view_of result ≡ at_rest to_catch_up (holding gathered None) }
-    ensures kept { IsStageOf asked.now.shards asked.now.sets.items result }
+    ensures kept { IsPhaseOf asked.now.shards asked.now.sets.items result }
 {
     let shard = shard_to_ask(&set, asked.shards, gathered.below);
     let catch_up = CatchUp::new(shard, gathered.place);
-    Stage::Ready(Ready::CatchUp(gathered, set, catch_up))
+    Phase::Ready(Ready::CatchUp(gathered, set, catch_up))
 }
 
 // The next tupleset; behind the last one it ends.
-fn go_on(asked: &AskedRead, place: u64, done: Vec<Vec<Tuple>>) -> Stage
+fn go_on(asked: &AskedRead, place: u64, done: Vec<Vec<Tuple>>) -> Phase
     ensures goes { Continues asked.now.sets.items place (record nothing_read { place = Some place; done = rows_of done.items }) (view_of result) }
-    ensures kept { IsStageOf asked.now.shards asked.now.sets.items result }
+    ensures kept { IsPhaseOf asked.now.shards asked.now.sets.items result }
 {
     let Some(set) = asked.sets.get(done.len()) else {
-        return Stage::Ended(ReadEnd::Answered(place, done));
+        return Phase::Ended(ReadEnd::Answered(place, done));
     };
     match copied(set) {
         Ok(set) => {
@@ -81,14 +81,14 @@ fn go_on(asked: &AskedRead, place: u64, done: Vec<Vec<Tuple>>) -> Stage
 }
 
 /// The coordinator has told its heads.
-pub(crate) fn told(asked: &AskedRead, answer: Result<Heads, Refusal>) -> Stage
+pub(crate) fn told(asked: &AskedRead, answer: Result<Heads, Refusal>) -> Phase
     ensures gives { HeadsGive (fresh_of asked.now.freshness) asked.now.sets.items answer (view_of result) }
-    ensures kept { IsStageOf asked.now.shards asked.now.sets.items result }
+    ensures kept { IsPhaseOf asked.now.shards asked.now.sets.items result }
 {
     match answer {
         Ok(heads) => match find(asked.freshness, &heads) {
             Found::At(place) => go_on(asked, place, Vec::new(asked.alloc)),
-            Found::Later => Stage::Ready(Ready::Flush),
+            Found::Later => Phase::Ready(Ready::Flush),
             Found::Refused(refusal) => refused(refusal),
         },
         Err(refusal) => refused(refusal),
@@ -96,13 +96,13 @@ pub(crate) fn told(asked: &AskedRead, answer: Result<Heads, Refusal>) -> Stage
 }
 
 /// The coordinator was flushed, and is asked again.
-pub(crate) fn flushed(asked: &AskedRead, answer: Result<(), Refusal>) -> Stage
+pub(crate) fn flushed(asked: &AskedRead, answer: Result<(), Refusal>) -> Phase
     ensures gives { FlushGives answer (view_of result) }
-    ensures kept { IsStageOf asked.now.shards asked.now.sets.items result }
+    ensures kept { IsPhaseOf asked.now.shards asked.now.sets.items result }
 {
     let _asked = asked;
     match answer {
-        Ok(()) => Stage::Ready(Ready::Heads),
+        Ok(()) => Phase::Ready(Ready::Heads),
         Err(refusal) => refused(refusal),
     }
 }
@@ -114,24 +114,24 @@ pub(crate) fn caught_up(
     set: Tupleset,
     call: CatchUpCall,
     reply: Reply,
-) -> Stage
+) -> Phase
     requires kept { IsOutOf asked.now.shards asked.now.sets.items (out_of.CatchUp gathered set call) }
     requires fits { FitsCatchUp call.awaited reply }
     ensures gives { CatchUpGives (view_out (out_of.CatchUp gathered set call)) call.awaited reply (view_of result) }
-    ensures kept { IsStageOf asked.now.shards asked.now.sets.items result }
+    ensures kept { IsPhaseOf asked.now.shards asked.now.sets.items result }
 {
     let _asked = asked;
     match call.give(reply) {
-        Progress::Next(catch_up) => Stage::Ready(Ready::CatchUp(gathered, set, catch_up)),
-        Progress::There => Stage::Ready(Ready::Read(gathered, set)),
+        Progress::Next(catch_up) => Phase::Ready(Ready::CatchUp(gathered, set, catch_up)),
+        Progress::There => Phase::Ready(Ready::Read(gathered, set)),
         Progress::Refused(refusal) => refused(refusal),
     }
 }
 
 // A tupleset is done.
-fn finish_one(asked: &AskedRead, place: u64, mut done: Vec<Vec<Tuple>>, rows: Vec<Tuple>) -> Stage
+fn finish_one(asked: &AskedRead, place: u64, mut done: Vec<Vec<Tuple>>, rows: Vec<Tuple>) -> Phase
     ensures goes { (h : _) → h ≡ record nothing_read { place = Some place; done = rows_of done.items; below = h.below; rows = h.rows } → Finishes asked.now.sets.items place h rows.items (view_of result) }
-    ensures kept { IsStageOf asked.now.shards asked.now.sets.items result }
+    ensures kept { IsPhaseOf asked.now.shards asked.now.sets.items result }
 {
     match done.push(rows) {
         Ok(()) => go_on(asked, place, done),
@@ -149,10 +149,10 @@ fn asks_all(set: &Tupleset) -> bool
 }
 
 // The rows of one shard more; behind the last shard the tupleset is done.
-fn gather_more(asked: &AskedRead, gathered: Gathered, set: Tupleset, more: Vec<Tuple>) -> Stage
+fn gather_more(asked: &AskedRead, gathered: Gathered, set: Tupleset, more: Vec<Tuple>) -> Phase
     requires next { IsNext asked.now.shards asked.now.sets.items gathered set }
     ensures goes { LacksMemory (view_of result) ⊎ Merges asked.now.shards asked.now.sets.items gathered.place (holding gathered None) more.items (view_of result) }
-    ensures kept { IsStageOf asked.now.shards asked.now.sets.items result }
+    ensures kept { IsPhaseOf asked.now.shards asked.now.sets.items result }
 {
     let Gathered {
         place,
@@ -177,10 +177,10 @@ fn gather_more(asked: &AskedRead, gathered: Gathered, set: Tupleset, more: Vec<T
 }
 
 // The rows of a shard: those of its object's shard are all of the tupleset.
-fn gather(asked: &AskedRead, gathered: Gathered, set: Tupleset, more: Vec<Tuple>) -> Stage
+fn gather(asked: &AskedRead, gathered: Gathered, set: Tupleset, more: Vec<Tuple>) -> Phase
     requires { IsNext asked.now.shards asked.now.sets.items gathered set }
     ensures goes { RowsGive asked.now.shards asked.now.sets.items gathered.place (holding gathered None) set more.items (view_of result) }
-    ensures kept { IsStageOf asked.now.shards asked.now.sets.items result }
+    ensures kept { IsPhaseOf asked.now.shards asked.now.sets.items result }
 {
     if asks_all(&set) {
         return gather_more(asked, gathered, set, more);
@@ -200,10 +200,10 @@ pub(crate) fn have_read(
     gathered: Gathered,
     set: Tupleset,
     answer: Result<ReadReply, Refusal>,
-) -> Stage
+) -> Phase
     requires { IsNext asked.now.shards asked.now.sets.items gathered set }
     ensures gives { ReadGives asked.now.shards asked.now.sets.items (view_out (out_of.Read gathered)) set answer (view_of result) }
-    ensures kept { IsStageOf asked.now.shards asked.now.sets.items result }
+    ensures kept { IsPhaseOf asked.now.shards asked.now.sets.items result }
 {
     match answer {
         Ok(ReadReply::Rows(rows)) => gather(asked, gathered, set, rows),

@@ -5,7 +5,7 @@ ghost use Rattle.decisions.specs.Flows.{no_heads};
 ghost use Rattle.answer_flow.specs.Watching.{Asks, Fits, GivesTo};
 ghost use Rattle.answer_flow.specs.WatchViews.{at_rest, ending_of, heads, next_name_of};
 
-use crate::watch_stage::{Ready, Stage, WatchEnd};
+use crate::watch_phase::{Phase, Ready, WatchEnd};
 use crate::watching::{give, next};
 use calls::{CallName, NodeCall, Reply};
 use std::alloc::Global;
@@ -21,7 +21,7 @@ pub struct WatchFlow {
     cursor: u64,
     limit: u64,
     namespaces: Vec<Namespace>,
-    stage: Stage,
+    phase: Phase,
 }
 
 impl Model for WatchFlow {
@@ -29,11 +29,11 @@ impl Model for WatchFlow {
 
     ghost Value = { WatchFlowValue };
 
-    ghost use Rattle.answer_flow.specs.WatchViews.{IsStageOf, view_of};
+    ghost use Rattle.answer_flow.specs.WatchViews.{IsPhaseOf, view_of};
 
-    ghost view = { λ f. record { cursor = f.cursor; limit = f.limit; namespaces = f.namespaces.items; seen = view_of f.stage } };
+    ghost view = { λ f. record { cursor = f.cursor; limit = f.limit; namespaces = f.namespaces.items; seen = view_of f.phase } };
 
-    ghost invariant = { λ f. IsStageOf f.cursor f.stage };
+    ghost invariant = { λ f. IsPhaseOf f.cursor f.phase };
 }
 
 impl WatchFlow {
@@ -46,7 +46,7 @@ impl WatchFlow {
             cursor,
             limit,
             namespaces,
-            stage: Stage::Ready(Ready::Heads),
+            phase: Phase::Ready(Ready::Heads),
         }
     }
 
@@ -54,11 +54,11 @@ impl WatchFlow {
     pub fn next_name(&self) -> Option<CallName>
         ensures { result ≡ next_name_of self.now.seen }
     {
-        match &self.stage {
-            Stage::Ready(Ready::Heads) => Some(CallName::Heads),
-            Stage::Ready(Ready::Flush) => Some(CallName::Flush),
-            Stage::Ready(Ready::Batch(_)) => Some(CallName::Batch),
-            Stage::Out(_) | Stage::Ended(_) => None,
+        match &self.phase {
+            Phase::Ready(Ready::Heads) => Some(CallName::Heads),
+            Phase::Ready(Ready::Flush) => Some(CallName::Flush),
+            Phase::Ready(Ready::Batch(_)) => Some(CallName::Batch),
+            Phase::Out(_) | Phase::Ended(_) => None,
         }
     }
 
@@ -71,15 +71,15 @@ impl WatchFlow {
         ensures out { (awaited : _) → self.old.seen.awaited ≡ Some awaited → result ≡ None }
         ensures some { self.old.seen.ended ≡ None → self.old.seen.awaited ≡ None → result ≢ None }
     {
-        let stage = mem::replace(&mut self.stage, Stage::Ready(Ready::Heads));
-        match stage {
-            Stage::Ready(ready) => {
+        let phase = mem::replace(&mut self.phase, Phase::Ready(Ready::Heads));
+        match phase {
+            Phase::Ready(ready) => {
                 let (call, out) = next(self.cursor, self.limit, ready);
-                self.stage = Stage::Out(out);
+                self.phase = Phase::Out(out);
                 Some(call)
             }
             other => {
-                self.stage = other;
+                self.phase = other;
                 None
             }
         }
@@ -91,15 +91,15 @@ impl WatchFlow {
         ensures asked { self.new ≡ record self.old { seen = self.new.seen } }
         ensures gives { MatchOption self.old.seen.awaited ⊥ (λ awaited. GivesTo self.old.cursor self.old.limit self.old.namespaces self.old.seen awaited reply self.new.seen) }
     {
-        let stage = mem::replace(&mut self.stage, Stage::Ready(Ready::Heads));
-        match stage {
-            Stage::Out(out) => {
+        let phase = mem::replace(&mut self.phase, Phase::Ready(Ready::Heads));
+        match phase {
+            Phase::Out(out) => {
                 let namespaces = &self.namespaces;
-                self.stage = give(self.alloc, self.cursor, self.limit, namespaces, out, reply);
+                self.phase = give(self.alloc, self.cursor, self.limit, namespaces, out, reply);
             }
             other => {
                 reply.leave();
-                self.stage = other;
+                self.phase = other;
             }
         }
     }
@@ -108,9 +108,9 @@ impl WatchFlow {
     pub fn has_ended(&self) -> bool
         ensures { result ≡ is_some self.now.seen.ended }
     {
-        match &self.stage {
-            Stage::Ended(_) => true,
-            Stage::Ready(_) | Stage::Out(_) => false,
+        match &self.phase {
+            Phase::Ended(_) => true,
+            Phase::Ready(_) | Phase::Out(_) => false,
         }
     }
 
@@ -123,11 +123,11 @@ impl WatchFlow {
             cursor: _,
             limit: _,
             namespaces: _,
-            stage,
+            phase,
         } = self;
-        match stage {
-            Stage::Ended(end) => Some(end),
-            Stage::Ready(_) | Stage::Out(_) => None,
+        match phase {
+            Phase::Ended(end) => Some(end),
+            Phase::Ready(_) | Phase::Out(_) => None,
         }
     }
 }

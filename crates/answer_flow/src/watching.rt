@@ -2,13 +2,13 @@
 ghost use Rattle.std.specs.Prelude.{◌≡◌};
 ghost use Rattle.calls.specs.Names.{name_of as name_of_call};
 ghost use Rattle.answer_flow.specs.Watching.{Asks, BatchGives, Fits, FlushGives, GivesTo, HeadsGive, heartbeat as heartbeat_of};
-ghost use Rattle.answer_flow.specs.WatchViews.{IsOutOf, IsReadyOf, IsStageOf, awaited_of, name_of, view_of, view_out, view_ready};
-ghost use Rattle.answer_flow.specs.declared.watch_stage.Out.TheVariants as out_of;
+ghost use Rattle.answer_flow.specs.WatchViews.{IsOutOf, IsReadyOf, IsPhaseOf, awaited_of, name_of, view_of, view_out, view_ready};
+ghost use Rattle.answer_flow.specs.declared.watch_phase.Out.TheVariants as out_of;
 
 use crate::events::events_of;
 use crate::finding::{Found, find};
 use crate::freshness::Freshness;
-use crate::watch_stage::{Out, Ready, Stage, WatchEnd};
+use crate::watch_phase::{Out, Phase, Ready, WatchEnd};
 use calls::{CoordinatorCall, CoordinatorReply, NodeCall, Reply};
 use decisions::{Batch, Heads};
 use std::alloc::Global;
@@ -21,7 +21,7 @@ fn heartbeat(cursor: u64, limit: u64, heads: &Heads) -> u64
     cursor.saturating_add(limit).min(heads.kept())
 }
 
-/// The call of a stage, and the stage while it is out.
+/// The call of a phase, and the phase while it is out.
 pub(crate) fn next(cursor: u64, limit: u64, ready: Ready) -> (NodeCall, Out)
     requires { IsReadyOf cursor ready }
     ensures name { name_of_call result.0 ≡ name_of (view_ready ready).next }
@@ -40,28 +40,28 @@ pub(crate) fn next(cursor: u64, limit: u64, ready: Ready) -> (NodeCall, Out)
 }
 
 // The coordinator has told its heads.
-fn told(cursor: u64, answer: Result<Heads, Refusal>) -> Stage
+fn told(cursor: u64, answer: Result<Heads, Refusal>) -> Phase
     ensures gives { HeadsGive cursor answer (view_of result) }
-    ensures kept { IsStageOf cursor result }
+    ensures kept { IsPhaseOf cursor result }
 {
     match answer {
         Ok(heads) => match find(Freshness::Exact(cursor), &heads) {
-            Found::At(_) => Stage::Ready(Ready::Batch(heads)),
-            Found::Later => Stage::Ready(Ready::Flush),
-            Found::Refused(refusal) => Stage::Ended(WatchEnd::Refused(refusal)),
+            Found::At(_) => Phase::Ready(Ready::Batch(heads)),
+            Found::Later => Phase::Ready(Ready::Flush),
+            Found::Refused(refusal) => Phase::Ended(WatchEnd::Refused(refusal)),
         },
-        Err(refusal) => Stage::Ended(WatchEnd::Refused(refusal)),
+        Err(refusal) => Phase::Ended(WatchEnd::Refused(refusal)),
     }
 }
 
 // The coordinator was flushed, and is asked again.
-fn flushed(answer: Result<(), Refusal>) -> Stage
+fn flushed(answer: Result<(), Refusal>) -> Phase
     ensures gives { FlushGives answer (view_of result) }
-    ensures kept { (cursor : _) → IsStageOf cursor result }
+    ensures kept { (cursor : _) → IsPhaseOf cursor result }
 {
     match answer {
-        Ok(()) => Stage::Ready(Ready::Heads),
-        Err(refusal) => Stage::Ended(WatchEnd::Refused(refusal)),
+        Ok(()) => Phase::Ready(Ready::Heads),
+        Err(refusal) => Phase::Ended(WatchEnd::Refused(refusal)),
     }
 }
 
@@ -73,26 +73,26 @@ fn fetched(
     namespaces: &[Namespace],
     heads: Heads,
     answer: Result<Batch, Refusal>,
-) -> Stage
+) -> Phase
     ensures gives { BatchGives cursor limit namespaces.now (view_out (out_of.Batch heads)) answer (view_of result) }
-    ensures kept { IsStageOf cursor result }
+    ensures kept { IsPhaseOf cursor result }
 {
     match answer {
         Ok(batch) => match events_of(alloc, namespaces, &batch) {
             Ok(events) => {
                 let place = heartbeat(cursor, limit, &heads);
-                Stage::Ended(WatchEnd::Answered(place, events))
+                Phase::Ended(WatchEnd::Answered(place, events))
             }
-            Err(_) => Stage::Ended(WatchEnd::Refused(Refusal::NoMemory)),
+            Err(_) => Phase::Ended(WatchEnd::Refused(Refusal::NoMemory)),
         },
-        Err(refusal) => Stage::Ended(WatchEnd::Refused(refusal)),
+        Err(refusal) => Phase::Ended(WatchEnd::Refused(refusal)),
     }
 }
 
 // Nobody gives the reply to another call, but what it carries has to be spent.
-fn foreign(reply: Reply) -> Stage {
+fn foreign(reply: Reply) -> Phase {
     reply.leave();
-    Stage::Ended(WatchEnd::Refused(Refusal::Damaged))
+    Phase::Ended(WatchEnd::Refused(Refusal::Damaged))
 }
 
 /// What a reply makes of it.
@@ -103,10 +103,10 @@ pub(crate) fn give(
     namespaces: &[Namespace],
     out: Out,
     reply: Reply,
-) -> Stage
+) -> Phase
     requires { Fits (awaited_of out) reply }
     ensures gives { GivesTo cursor limit namespaces.now (view_out out) (awaited_of out) reply (view_of result) }
-    ensures kept { IsStageOf cursor result }
+    ensures kept { IsPhaseOf cursor result }
 {
     match out {
         Out::Heads => match reply {

@@ -69,7 +69,7 @@ pub(crate) enum Out {
 }
 
 #[derive(Drop)]
-pub(crate) enum Stage {
+pub(crate) enum Phase {
     Ready(Ready),
     Out(Out),
     Ended(ReadEnd),
