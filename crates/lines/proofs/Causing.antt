@@ -14,11 +14,14 @@ use Rattle.tuples.specs.declared.tupleset.Tupleset.{Tupleset}
 use Rattle.requests.specs.Causes.{AreSets, ListCause}
 use Rattle.requests.specs.Spelling.{IsMisspelled}
 use Rattle.lines.specs.Causes.{AreFew, HaveNoShape, IsAsked, ShapeCause, WordsCause, WriteCause}
-use Rattle.lines.specs.Lines.{IsFree, SpellNoOrder}
+use Rattle.lines.specs.declared.command.Command.{Command}
+use Rattle.lines.specs.declared.command.Command.TheVariants as command
+use Rattle.lines.specs.Lines.{IsFree, SpellNoOrder, SpellsWords}
 use Rattle.lines.specs.Shapes.{AreListed, ArePartsShaped, HasShape, Shape, check, read, watch, write}
 use Rattle.lines.specs.Words.{AreBehind, AreChanges, AreConditions, AreFull, HasConditionShape, if_words, is_marked, texts}
 use Rattle.lines.proofs.Firsts.{start_is_no_order, start_is_no_request, write_only}
 use Rattle.lines.proofs.Lists.{heads, tails, not_both}
+use Rattle.lines.proofs.Spelled.{spelled_shape}
 use Rattle.lines.proofs.Writing.{cut_marked, if_behind, if_words_once}
 
 -- ---- lists of texts
@@ -118,12 +121,23 @@ asked_cause store shards running words request shape BadRequest asked has h = ab
 asked_cause store shards running words request shape NoMemory asked has h = tt
 asked_cause store shards running words request shape _ asked has h = (request, shape, asked, has, h)
 
+-- no order, and no request whose texts are not looked into: so no command
+no_shape : (store shards : ℕ) (running words : List (List ℕ)) → SpellNoOrder store shards running words → ((request : List (List ℕ)) (shape : Shape) → IsAsked running words request → HasShape request shape → ⊥) → HaveNoShape store shards running words
+no_shape store shards running words none shapeless = record { nothing = λ c h. refuse c h; no_request = shapeless }
+  where
+    refuse : (c : Command) → SpellsWords store shards running words c → ⊥
+    refuse command.Pass h = h
+    refuse (command.Ask r) h = let s = spelled_shape store words r h in shapeless words s.0 (inl refl) s.1
+    refuse (command.Start name r) h = let s = spelled_shape store h.0 r h.3 in shapeless h.0 s.0 (inr (name, h.2, h.1)) s.1
+    refuse (command.Handle flow x) h = none (command.Handle flow x) tt h
+    refuse (command.Care c) h = none (command.Care c) tt h
+    refuse (command.Rows shard) h = none (command.Rows shard) tt h
+    refuse (command.Restart node) h = none (command.Restart node) tt h
+    refuse (command.Fail f) h = none (command.Fail f) tt h
+
 -- words behind `start` that are no name which is free, and a request
 pub start_refused : (store shards : ℕ) (running ws : List (List ℕ)) → ((name : List ℕ) (rest : List (List ℕ)) → ws ≡ name ∷ rest → IsFree running name → (shape : Shape) → HasShape rest shape → ⊥) → WordsCause store shards running (codes "start" ∷ ws) BadRequest
-start_refused store shards running ws none = record {
-  no_order = start_is_no_order store shards running ws;
-  no_request = λ request shape asked has. refuse request shape asked has;
-}
+start_refused store shards running ws none = no_shape store shards running (codes "start" ∷ ws) (start_is_no_order store shards running ws) (λ request shape asked has. refuse request shape asked has)
   where
     refuse : (request : List (List ℕ)) (shape : Shape) → IsAsked running (codes "start" ∷ ws) request → HasShape request shape → ⊥
     refuse request shape (inl same) has = start_is_no_request ws shape (subst (λ l. HasShape l shape) (sym same) has)
@@ -149,7 +163,7 @@ start_cause store shards running words rest name shape e cut free has h =
 
 -- words that are none of a command
 pub words_refused : (store shards : ℕ) (running words : List (List ℕ)) → SpellNoOrder store shards running words → ((shape : Shape) → HasShape words shape → ⊥) → ((rest : List (List ℕ)) → words ≡ codes "start" ∷ rest → ⊥) → WordsCause store shards running words BadRequest
-words_refused store shards running words none shapeless no_start = record { no_order = none; no_request = λ request shape asked has. refuse request shape asked has }
+words_refused store shards running words none shapeless no_start = no_shape store shards running words none (λ request shape asked has. refuse request shape asked has)
   where
     refuse : (request : List (List ℕ)) (shape : Shape) → IsAsked running words request → HasShape request shape → ⊥
     refuse request shape (inl same) has = shapeless shape (subst (λ l. HasShape l shape) (sym same) has)

@@ -7,4 +7,5 @@ pub mod Marks
 pub mod Writing
 pub mod Names
 pub mod Firsts
+pub mod Spelled
 pub mod Causing

@@ -10,7 +10,8 @@ use Rattle.tuples.specs.Texts.{IsTuple, tuple_text}
 use Rattle.refusal.specs.declared.refusal.Refusal.{Refusal}
 use Rattle.refusal.specs.declared.refusal.Refusal.TheVariants.{BadRequest, BadTuple, TooLarge, Repeated, NoMemory}
 use Rattle.requests.specs.Causes.{AreSets, ListCause}
-use Rattle.lines.specs.Lines.{IsFree, SpellNoOrder}
+use Rattle.lines.specs.declared.command.Command.{Command}
+use Rattle.lines.specs.Lines.{IsFree, SpellsWords}
 use Rattle.lines.specs.Shapes.{Fresh, HasShape, Shape, at_least, check, exact, latest, read, watch, write}
 use Rattle.lines.specs.Words.{AreChanges, AreConditions, words_of}
 
@@ -55,9 +56,9 @@ ShapeCause store (watch from limit namespaces) e = ListCause store (length names
 abbrev pub IsAsked : List (List ℕ) → List (List ℕ) → List (List ℕ) → Type 0
 IsAsked running words request = (words ≡ request) ⊎ ((name : List ℕ) × IsFree running name × (words ≡ codes "start" ∷ name ∷ request))
 
--- the words are those of no command that is no request, and in no request's shape
+-- the words are no command's, and no request's whose texts are not looked into
 pub record HaveNoShape (store shards : ℕ) (running words : List (List ℕ)) : Type 0 where
-  pub no_order : SpellNoOrder store shards running words
+  pub nothing : (c : Command) → SpellsWords store shards running words c → ⊥
   pub no_request : (request : List (List ℕ)) (shape : Shape) → IsAsked running words request → HasShape request shape → ⊥
 
 -- the words are those of a request in its shape, which is refused so

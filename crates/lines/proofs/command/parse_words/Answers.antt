@@ -17,3 +17,7 @@ pub returns-in_err-request_of-clause-err : goal.returns-in_err-request_of-clause
 returns-in_err-request_of-clause-err c =
     let p = err_from_is_err_and c.from_residual.result c.from_residual.ensures.1 in
     rw (p.1, p.2) (asked_cause c.args.store c.args.shards c.args.running.now (texts c.args.words.now) (texts c.args.words.now) (shape_view c.in-Some-shape_of.shape) _ (inl refl) c.in-Some-shape_of.ensures c.in_err-request_of.ensures.err)
+
+pub returns-in_default-parse_order-clause-err : goal.returns-in_default-parse_order-clause-err
+returns-in_default-parse_order-clause-err c =
+    words_refused c.args.store c.args.shards c.args.running.now (texts c.args.words.now) (c.in_default-parse_order.ensures c.args.store) c.in_default-shape_of.ensures c.in_default.ensures
