@@ -1,5 +1,5 @@
 -- Whatever a write flow asks is a turn of it.
-use Rattle.std.proofs.Common.{◌≡◌, ◌≤◌, ℕ, List}
+use Rattle.std.proofs.Common.{◌≤◌, ℕ, List}
 use Rattle.device.specs.Device.{State, left}
 use Rattle.calls.specs.declared.call.NodeCall.TheVariants.{Coordinator, Shard}
 use Rattle.calls.specs.declared.call.CoordinatorCall.TheVariants as coordinator_calls

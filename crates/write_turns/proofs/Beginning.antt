@@ -1,9 +1,7 @@
 -- The begin of a write is a turn.
-use Rattle.std.proofs.Common.{◌≡◌, ◌≢◌, ◌⊎◌, inl, inr, ⊎_elim, ◌≤◌, ◌+◌, ◌++◌, ℕ, Bool, true, false, List, [], ◌∷◌, Result, Ok, Err, Option, Some, None, All, Contains, refl, sym, ◌∙◌, ap, subst}
+use Rattle.std.proofs.Common.{◌≡◌, ◌≢◌, ◌⊎◌, inl, inr, ⊎_elim, ◌≤◌, ◌+◌, ℕ, Bool, true, false, List, [], ◌∷◌, Result, Ok, Err, Some, None, refl, sym, ◌∙◌, ap, subst}
 use Rattle.std.specs.Prelude.{MatchOption}
 use Rattle.std.proofs.lemmas.Bool.{cases_Bool}
-use Rattle.std.proofs.lemmas.Option.{same_Some}
-use Rattle.tuples.specs.declared.entry.WriteId.{WriteId}
 use Rattle.tuples.specs.Writes.{WriteValue}
 use Rattle.refusal.specs.declared.refusal.Refusal.{Refusal}
 use Rattle.refusal.specs.declared.refusal.Refusal.TheVariants.{Collected, Down, Full, Future, NoMemory, Unsure}
@@ -25,11 +23,9 @@ use Rattle.commit_flow.specs.Answering.{BeginGives, GivesTo}
 use Rattle.commit_flow.specs.Views.{WriteView, view_ended}
 use Rattle.commit_flow.specs.WriteHolds as waits
 use Rattle.commit_flow.specs.declared.end.WriteEnd.TheVariants.{Refused}
-use Rattle.laws.specs.Machines.{Machine}
 use Rattle.laws.specs.Nodes.{NodeName, Nodes, coordinator}
-use Rattle.turns.specs.Causes.{Calls}
 use Rattle.turns.specs.FlowLaws.{with_intent, with_open}
-use Rattle.turns.specs.Flows.{Asked, Holds, WriteHolds, nothing_begun, onward, outward, to_write, writing}
+use Rattle.turns.specs.Flows.{WriteHolds, nothing_begun, onward, outward, to_write, writing}
 use Rattle.turns.specs.Moments.{Moment, Running}
 use Rattle.turns.specs.QuietTurns.{going_on}
 use Rattle.turns.specs.Runs.{Turns, goes_on}
@@ -39,7 +35,7 @@ use Rattle.turns.specs.Stores.{NamesHorizon, StandsOver, Store, stops}
 use Rattle.turns.proofs.BeginSeam.{begin_has_cause, begin_turns}
 use Rattle.call_turns.specs.StoreCalls.{IsCalled, IsMade}
 use Rattle.call_turns.proofs.Flushed.{down_coordinator_fails, refused_fails}
-use Rattle.call_turns.proofs.Made.{FailsQuietly, IsQuietlyMade, still_made}
+use Rattle.call_turns.proofs.Made.{FailsQuietly, still_made}
 use Rattle.call_turns.proofs.Standing.{is_seen, runs_now}
 use Rattle.write_turns.specs.Seen.{asked_of}
 use Rattle.write_turns.specs.Turning.{TurnsBy}

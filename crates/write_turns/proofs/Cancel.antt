@@ -1,23 +1,21 @@
 -- A cancel of a write flow keeps the promise of a step.
-use Rattle.std.proofs.Common.{◌≡◌, ◌≢◌, ◌⊎◌, inl, inr, ◌≤◌, ℕ, Bool, true, false, true≢false, List, [], ◌∷◌, Option, Some, None, Contains, refl, sym, ◌∙◌, ap, subst}
+use Rattle.std.proofs.Common.{◌≡◌, inl, inr, ℕ, Bool, true, true≢false, List, [], Option, Some, None, refl, sym, ◌∙◌, ap, subst}
 use Rattle.std.proofs.Math.Path.{fun_ext}
 use Rattle.tuples.specs.declared.change.Change.{Change}
 use Rattle.tuples.specs.declared.change.Condition.{Condition}
-use Rattle.tuples.specs.declared.entry.WriteId.{WriteId}
 use Rattle.tuples.specs.Writes.{WriteValue}
 use Rattle.refusal.specs.declared.refusal.Refusal.{Refusal}
 use Rattle.device.specs.Device.{State, left}
 use Rattle.records.specs.declared.record.Record.{Record}
 use Rattle.decisions.specs.Standing.{DecidedValue}
-use Rattle.commit_flow.specs.Cancelling.{IsUndecided}
 use Rattle.commit_flow.specs.Views.{WriteView, at_rest, view_ended}
 use Rattle.commit_flow.specs.declared.end.WriteEnd.TheVariants.{Cancelled}
-use Rattle.laws.specs.Nodes.{NodeName, Nodes, down}
-use Rattle.turns.specs.Flows.{Asked, Holds, Way, WriteHolds, id_of, onward, outward, to_write, writing}
-use Rattle.turns.specs.Held.{IsRight, IsRightOwn, IsRightWrite, own_write}
+use Rattle.laws.specs.Nodes.{NodeName}
+use Rattle.turns.specs.Flows.{Asked, Way, WriteHolds, id_of, onward, outward, writing}
+use Rattle.turns.specs.Held.{IsRight, IsRightWrite}
 use Rattle.turns.specs.Moments.{Moment, Running, ended, flow_at, is_write, replaced}
 use Rattle.turns.specs.Promises.{Ran}
-use Rattle.turns.specs.Runs.{IfRunning, IsCancelled, KeepsId, cancel, restart}
+use Rattle.turns.specs.Runs.{IfRunning, IsCancelled, cancel, restart}
 use Rattle.turns.specs.Stands.{IsHorizonIn, Stands}
 use Rattle.turns.specs.Stores.{AreSound, FlowView, NamesHorizon, ShowsFlow, ShowsSlot, StandsOver, Store, stops}
 use Rattle.turns.proofs.FlowEnds.{flows_end}

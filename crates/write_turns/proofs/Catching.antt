@@ -1,56 +1,42 @@
 -- The catch-up of a shard for a write: each of its calls is a turn.
-use Rattle.std.proofs.Common.{◌≡◌, ◌≢◌, ◌⊎◌, inl, inr, ⊎_elim, ◌≤◌, ◌<◌, ◌+◌, ℕ, Bool, true, false, List, length, Result, Ok, Err, Option, Some, None, Contains, refl, sym, ◌∙◌, ap, subst, arith}
+use Rattle.std.proofs.Common.{◌≡◌, ⊎_elim, ◌≤◌, ◌<◌, ℕ, Bool, List, Result, Ok, Err, Some, None, refl, sym, ◌∙◌, ap, subst}
 use Rattle.std.specs.Prelude.{MatchOption}
 use Rattle.std.proofs.lemmas.Bool.{cases_lt}
-use Rattle.tuples.specs.Parts.{takes_part}
 use Rattle.refusal.specs.declared.refusal.Refusal.{Refusal}
-use Rattle.refusal.specs.declared.refusal.Refusal.TheVariants.{Collected, Damaged, Down, Full, Future, NoMemory}
 use Rattle.device.specs.Device.{State, left}
-use Rattle.records.specs.Coordinators.{end_of}
-use Rattle.records.specs.Replays.{Identity, greatest_number}
-use Rattle.decisions.specs.Coordinators.{CoordinatorView, kept_of}
-use Rattle.decisions.specs.Values.{BatchValue, IntentValue}
-use Rattle.shard.specs.Calls.{LearnRefused}
-use Rattle.shard.specs.Shards.{IsUp, ShardView}
+use Rattle.records.specs.Replays.{Identity}
+use Rattle.decisions.specs.Values.{IntentValue}
 use Rattle.calls.specs.Asking.{Answered, MayAsk, MayAskCoordinator, MayAskShard}
 use Rattle.calls.specs.Belonging.{IsReplyTo}
 use Rattle.calls.specs.Views as views
 use Rattle.calls.specs.Views.{NodeView}
-use Rattle.calls.specs.declared.call.NodeCall.{NodeCall}
 use Rattle.calls.specs.declared.call.NodeCall.TheVariants.{Coordinator as of_coordinator, Shard as of_shard}
 use Rattle.calls.specs.declared.call.CoordinatorCall.{CoordinatorCall}
-use Rattle.calls.specs.declared.call.CoordinatorCall.TheVariants as coordinator_calls
 use Rattle.calls.specs.declared.call.ShardCall.{ShardCall}
 use Rattle.calls.specs.declared.call.ShardCall.TheVariants as shard_calls
 use Rattle.calls.specs.declared.reply.Reply.{Reply}
-use Rattle.calls.specs.declared.reply.Reply.TheVariants.{Coordinator as from_coordinator, Shard as from_shard}
-use Rattle.calls.specs.declared.reply.CoordinatorReply.TheVariants as told
+use Rattle.calls.specs.declared.reply.Reply.TheVariants.{Shard as from_shard}
 use Rattle.calls.specs.declared.reply.ShardReply.TheVariants as told_by
 use Rattle.calls.proofs.Belonging.{answered_belongs}
-use Rattle.catch_up.specs.CatchingUp.{BatchGives, LearnGives, LearnedGives}
-use Rattle.catch_up.specs.Held.{Awaited, CatchUpValue, decisions, flushing, learned, learning}
-use Rattle.catch_up.specs.declared.caught.Progress.{Progress}
-use Rattle.catch_up.specs.declared.caught.Progress.TheVariants.{Next, There, Refused as is_refused}
+use Rattle.catch_up.specs.Held.{CatchUpValue, learned}
 use Rattle.commit_flow.specs.Answering.{CatchUpGives, GivesTo, GoesOn, GoesOut, GoesToPrepare, ProgressGives}
-use Rattle.commit_flow.specs.Views.{WriteView, at_rest}
+use Rattle.commit_flow.specs.Views.{WriteView}
 use Rattle.commit_flow.specs.WriteHolds as waits
 use Rattle.commit_flow.specs.WriteHolds.{WriteAwaited}
-use Rattle.commit_flow.specs.Writing.{HasShard, IsCaughtUpTo, IsOnItsWay}
+use Rattle.commit_flow.specs.Writing.{HasShard, IsOnItsWay}
 use Rattle.laws.specs.Machines.{Machine}
 use Rattle.laws.specs.Nodes.{NodeName, Nodes, coordinator, shard}
 use Rattle.turns.specs.Causes.{Calls, HasItsCause}
-use Rattle.turns.specs.Flows.{Holds, WriteHolds, outward, to_write, writing}
+use Rattle.turns.specs.Flows.{WriteHolds, outward}
 use Rattle.turns.specs.Held.{IfHeld, IsRightBatch}
 use Rattle.turns.specs.Moments.{Moment, Running}
-use Rattle.turns.specs.QuietTurns.{HoldsLess, batch_of}
-use Rattle.turns.specs.Stores.{StandsOver, Store, stops}
-use Rattle.turns.proofs.CoordinatorCalls.{batch_answers, batch_has_cause}
-use Rattle.turns.proofs.ShardLearnSeam.{learns_quietly, refused_learns_have_cause}
-use Rattle.call_turns.specs.StoreCalls.{FitsItsTypes, IsCalled, IsNamed}
-use Rattle.call_turns.proofs.Asked.{batch_told, learn_told, learned_told}
+use Rattle.turns.specs.QuietTurns.{HoldsLess}
+use Rattle.turns.specs.Stores.{StandsOver, Store}
+use Rattle.call_turns.specs.StoreCalls.{IsCalled, IsNamed}
+use Rattle.call_turns.proofs.Asked.{learned_told}
 use Rattle.call_turns.proofs.Made.{FailsQuietly, IsQuietlyMade}
-use Rattle.write_turns.specs.Turning.{MakesCall, TurnsBy}
-use Rattle.write_turns.proofs.Going.{IsFlow, Promises, asked_is, asks_own, calls_coordinator, calls_shard, fails_out, flow_there, goes_out, holds_is, keeps, right}
+use Rattle.write_turns.specs.Turning.{TurnsBy}
+use Rattle.write_turns.proofs.Going.{IsFlow, Promises, asks_own, calls_shard, fails_out, flow_there, goes_out, keeps}
 
 -- a node that is there may be asked what it is owed
 pub may_ask_coordinator : {D : Type 0} (store shards : ℕ) (v : NodeView D) (call : CoordinatorCall) → IsNamed store shards v coordinator → MayAskCoordinator shards call → MayAsk v (of_coordinator call)

@@ -1,5 +1,5 @@
 -- The decision of a write is a turn.
-use Rattle.std.proofs.Common.{◌≡◌, ◌≢◌, ◌⊎◌, inl, inr, ⊎_elim, ◌≤◌, ◌<◌, ◌+◌, ◌++◌, ℕ, Bool, true, false, true≢false, List, [], ◌∷◌, length, Result, Ok, Err, Option, Some, None, All, Contains, refl, sym, ◌∙◌, ap, subst, arith}
+use Rattle.std.proofs.Common.{◌≡◌, ◌≢◌, ◌⊎◌, inl, inr, ⊎_elim, ◌≤◌, ◌<◌, ◌+◌, ◌++◌, ℕ, Bool, true, false, true≢false, List, [], ◌∷◌, length, Result, Ok, Err, Option, Some, None, Contains, refl, sym, ◌∙◌, ap, subst, arith}
 use Rattle.std.specs.Prelude.{MatchOption}
 use Rattle.std.specs.Global.{Vec}
 use Rattle.std.proofs.lemmas.Bool.{cases_Bool, cases_lt}
@@ -9,8 +9,6 @@ use Rattle.tuples.specs.declared.change.Condition.{Condition}
 use Rattle.tuples.specs.declared.change.Want.{Want}
 use Rattle.tuples.specs.declared.change.Want.TheVariants.{NotAfter, Exists, Absent}
 use Rattle.tuples.specs.declared.entry.Entry.{Entry}
-use Rattle.tuples.specs.declared.entry.WriteId.{WriteId}
-use Rattle.refusal.specs.declared.refusal.Refusal.{Refusal}
 use Rattle.refusal.specs.declared.refusal.Refusal.TheVariants.{Aborted, Down, Full, NoMemory}
 use Rattle.device.specs.Device.{State, left}
 use Rattle.records.specs.declared.record.Record.{Record}
@@ -38,11 +36,11 @@ use Rattle.commit_flow.specs.Views.{WriteView, at_rest}
 use Rattle.commit_flow.specs.WriteHolds as waits
 use Rattle.commit_flow.specs.Writing.{IsOnItsWay}
 use Rattle.laws.specs.Machines.{Machine}
-use Rattle.laws.specs.Nodes.{CoordinatorKnows, NodeName, NodeState, Nodes, coordinator, shard, staged_of, up}
+use Rattle.laws.specs.Nodes.{CoordinatorKnows, NodeName, Nodes, coordinator, shard, staged_of}
 use Rattle.turns.specs.AbortLaws.{IsUndecidedFlow}
 use Rattle.turns.specs.Causes.{HasItsCause, IsFull}
-use Rattle.turns.specs.DecidingLaws.{IsDecider, with_decided, with_decision, with_place, with_write}
-use Rattle.turns.specs.Flows.{HeldVote, Holds, WriteHolds, outward, writing}
+use Rattle.turns.specs.DecidingLaws.{IsDecider, with_decided, with_write}
+use Rattle.turns.specs.Flows.{WriteHolds, outward, writing}
 use Rattle.turns.specs.Moments.{Moment, Running}
 use Rattle.turns.specs.QuietTurns.{HoldsLess, going_on}
 use Rattle.turns.specs.Runs.{Turns, goes_on}
@@ -58,7 +56,7 @@ use Rattle.call_turns.proofs.Made.{FailsQuietly, IsQuietlyMade, still_made}
 use Rattle.call_turns.proofs.Standing.{is_seen, runs_now}
 use Rattle.write_turns.specs.Turning.{TurnsBy}
 use Rattle.write_turns.proofs.Catching.{may_ask_coordinator}
-use Rattle.write_turns.proofs.Going.{IsFlow, Promises, asked_is, asks_own, calls_coordinator, fails_out, flow_there, goes_out, going, holds_is, moved, none_decided, right, stays_so}
+use Rattle.write_turns.proofs.Going.{IsFlow, Promises, asks_own, calls_coordinator, flow_there, goes_out, going, holds_is, moved, none_decided, right, stays_so}
 use Rattle.write_turns.proofs.Learning.{is_full}
 use Rattle.write_turns.proofs.Memory.{devices, made}
 

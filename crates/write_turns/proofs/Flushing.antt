@@ -1,10 +1,9 @@
 -- A flush that a write flow makes, of a shard or of the coordinator, is a turn.
-use Rattle.std.proofs.Common.{◌≡◌, ◌≢◌, ◌⊎◌, inl, inr, ⊎_elim, ◌≤◌, ◌<◌, ◌++◌, ℕ, Bool, true, List, [], ◌∷◌, Result, Ok, Err, Option, Some, None, All, Contains, refl, sym, ◌∙◌, ap, subst}
+use Rattle.std.proofs.Common.{◌≡◌, ◌≢◌, ◌⊎◌, inl, inr, ◌≤◌, ◌<◌, ℕ, Bool, List, ◌∷◌, Result, Ok, Err, Option, Some, None, All, refl, sym, ◌∙◌, ap, subst}
 use Rattle.std.specs.Prelude.{MatchOption}
 use Rattle.std.proofs.lemmas.List.Elements.{All-head}
 use Rattle.tuples.specs.declared.entry.Entry.{Entry}
 use Rattle.tuples.specs.declared.entry.WriteId.{WriteId}
-use Rattle.tuples.specs.Parts.{takes_part}
 use Rattle.refusal.specs.declared.refusal.Refusal.{Refusal}
 use Rattle.device.specs.Device.{State, left}
 use Rattle.decisions.specs.Values.{BatchValue, TicketValue}
@@ -20,7 +19,6 @@ use Rattle.calls.specs.declared.reply.CoordinatorReply.TheVariants as told
 use Rattle.calls.specs.declared.reply.ShardReply.TheVariants as told_by
 use Rattle.calls.proofs.Belonging.{answered_belongs}
 use Rattle.catch_up.specs.Held.{flushing}
-use Rattle.catch_up.specs.declared.caught.Progress.{Progress}
 use Rattle.commit_flow.specs.Answering.{CatchUpGives, FlushGives, GivesTo, GoesOn, GoesOut, ProgressGives}
 use Rattle.commit_flow.specs.Views.{WriteView, at_rest, ticket_value}
 use Rattle.commit_flow.specs.WriteHolds as waits
@@ -29,16 +27,15 @@ use Rattle.commit_flow.specs.Writing.{HasShard, IsOnItsWay, Waits}
 use Rattle.laws.specs.Machines.{Machine}
 use Rattle.laws.specs.Nodes.{NodeName, Nodes, coordinator, shard}
 use Rattle.turns.specs.Causes.{Calls}
-use Rattle.turns.specs.Flows.{HeldTicket, Holds, WriteHolds, onward, writing}
-use Rattle.turns.specs.Held.{IfHeld, IsRight, IsRightBatch, IsRightTicket, IsRightWrite, own_write}
+use Rattle.turns.specs.Flows.{HeldTicket, WriteHolds, onward}
+use Rattle.turns.specs.Held.{IsRightTicket, own_write}
 use Rattle.turns.specs.Moments.{Moment, Running}
-use Rattle.turns.specs.QuietTurns.{behind_call}
 use Rattle.turns.specs.Stores.{StandsOver, Store, stops}
 use Rattle.call_turns.specs.StoreCalls.{IsCalled}
 use Rattle.call_turns.proofs.Flushed.{coordinator_flushed, shard_flushed}
 use Rattle.call_turns.proofs.Made.{FailsQuietly, IsQuietlyMade}
 use Rattle.write_turns.specs.Turning.{TurnsBy}
-use Rattle.write_turns.proofs.Catching.{calls_this, fails_at, goes_next, may_ask_coordinator, may_ask_shard}
+use Rattle.write_turns.proofs.Catching.{calls_this, fails_at, may_ask_coordinator, may_ask_shard}
 use Rattle.write_turns.proofs.Going.{IsFlow, Promises, asked_is, batch_stays, calls_coordinator, calls_shard, changes, conditions, flow_there, keeps, right}
 
 module _ {D : Type 0} (state : D → State) (honest : D → Type 0) (moment : D → ℕ) (left_since : D → ℕ → List ℕ → Type 0)

@@ -1,29 +1,27 @@
 -- A write flow behind its call: it goes on, goes out or ends, and keeps the promise of a step.
-use Rattle.std.proofs.Common.{◌≡◌, ◌≢◌, ◌⊎◌, inl, inr, ◌<◌, ◌++◌, ℕ, Bool, true, false, true≢false, List, [], ◌∷◌, Option, Some, None, Contains, refl, sym, ◌∙◌, ap, subst}
+use Rattle.std.proofs.Common.{◌≡◌, ◌≢◌, inr, ◌<◌, ℕ, Bool, true, false, true≢false, List, [], ◌∷◌, Option, Some, None, Contains, refl, sym, ◌∙◌, ap, subst}
 use Rattle.tuples.specs.declared.change.Change.{Change}
 use Rattle.tuples.specs.declared.change.Condition.{Condition}
 use Rattle.tuples.specs.declared.entry.Entry.{Entry}
 use Rattle.tuples.specs.declared.entry.WriteId.{WriteId}
-use Rattle.tuples.specs.Changes.{changed, conditioned}
-use Rattle.tuples.specs.Parts.{shard_of, takes_part}
+use Rattle.tuples.specs.Parts.{takes_part}
 use Rattle.refusal.specs.declared.refusal.Refusal.{Refusal}
 use Rattle.refusal.specs.declared.refusal.Refusal.TheVariants.{Unsure}
 use Rattle.device.specs.Device.{State}
 use Rattle.records.specs.declared.record.Record.{Record}
-use Rattle.decisions.specs.Standing.{DecidedValue}
 use Rattle.decisions.specs.Values.{BatchValue, IntentValue}
 use Rattle.commit_flow.specs.Answering.{end_of}
 use Rattle.commit_flow.specs.Views.{WriteView, at_rest, view_ended}
 use Rattle.commit_flow.specs.declared.end.WriteEnd.{WriteEnd}
-use Rattle.commit_flow.specs.declared.end.WriteEnd.TheVariants.{Cancelled, Refused}
+use Rattle.commit_flow.specs.declared.end.WriteEnd.TheVariants.{Refused}
 use Rattle.laws.specs.Machines.{Machine}
 use Rattle.laws.specs.Nodes.{NodeName, Nodes, coordinator, shard}
 use Rattle.turns.specs.Causes.{Calls, CallsShard, HasItsCause}
 use Rattle.turns.specs.Flows.{Asked, Holds, WriteHolds, checking, collecting, flushing, learning, onward, outward, raising, reading, resolving, to_check, to_collect, to_flush, to_learn, to_raise, to_read, to_resolve, to_watch, to_write, watching, writing}
-use Rattle.turns.specs.Held.{IfHeld, IsRight, IsRightBatch, IsRightIntent, IsRightOwn, IsRightWrite, own_write}
+use Rattle.turns.specs.Held.{IfHeld, IsRight, IsRightBatch, IsRightWrite, own_write}
 use Rattle.turns.specs.Moments.{Moment, Running, flow_at}
 use Rattle.turns.specs.Promises.{Ran, events_of}
-use Rattle.turns.specs.QuietTurns.{HasMet, HoldsLess, IsQuietCall, behind_call, ending, going_on, with_batch, with_call}
+use Rattle.turns.specs.QuietTurns.{HoldsLess, behind_call, ending, going_on, with_batch, with_call}
 use Rattle.turns.specs.Runs.{Told, Turns, refuses, turn}
 use Rattle.turns.specs.SeamLaws.{told_unless}
 use Rattle.turns.specs.StagingLaws.{IsFlowOf}
@@ -34,9 +32,9 @@ use Rattle.turns.proofs.PrepareTurn.{part_has, part_named}
 use Rattle.turns.proofs.QuietTurns.{quiet_calls_end, quiet_calls_keep, quiet_calls_refuse, refused_writes_go_out, writes_spend}
 use Rattle.call_turns.specs.StoreCalls.{IsMade}
 use Rattle.call_turns.specs.StoreTurns.{SlotTurns}
-use Rattle.call_turns.proofs.Made.{FailsQuietly, IsQuietlyMade, after}
+use Rattle.call_turns.proofs.Made.{FailsQuietly, IsQuietlyMade}
 use Rattle.call_turns.proofs.Turned.{ran_ending, ran_going, runs, the_flow}
-use Rattle.write_turns.specs.Seen.{asked_of, shown, shown_until, told_end, told_of}
+use Rattle.write_turns.specs.Seen.{shown, shown_until, told_end, told_of}
 
 -- a flow that holds what a write holds was asked to write
 of_write : (shards : ℕ) (left : NodeName → List Record → Type 0) (now : Moment) (r : Running) (asked : Asked) (h : WriteHolds) → IsRight shards left now r asked (writing h)

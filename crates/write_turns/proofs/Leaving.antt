@@ -1,19 +1,17 @@
 -- A write flow on its way out: its abort, its inquiry and its drops are turns.
-use Rattle.std.proofs.Common.{◌≡◌, ◌≢◌, ◌⊎◌, inl, inr, ⊎_elim, ◌≤◌, ◌<◌, ◌++◌, ℕ, Bool, true, false, true≢false, List, [], ◌∷◌, Result, Ok, Err, Option, Some, None, All, Contains, refl, sym, ◌∙◌, ap, subst}
+use Rattle.std.proofs.Common.{◌≡◌, ◌⊎◌, inl, inr, ⊎_elim, ◌≤◌, ◌++◌, ℕ, Bool, true, false, true≢false, List, [], ◌∷◌, Result, Ok, Err, Option, Some, None, Contains, refl, sym, ◌∙◌, ap, subst}
 use Rattle.std.specs.Prelude.{MatchOption}
 use Rattle.std.proofs.lemmas.Bool.{cases_Bool}
-use Rattle.std.proofs.lemmas.List.Elements.{All-head, All-nil, Contains-append_right}
+use Rattle.std.proofs.lemmas.List.Elements.{All-nil, Contains-append_right}
 use Rattle.tuples.specs.declared.entry.Entry.{Entry}
 use Rattle.tuples.specs.declared.entry.WriteId.{WriteId}
 use Rattle.refusal.specs.declared.refusal.Refusal.{Refusal}
-use Rattle.refusal.specs.declared.refusal.Refusal.TheVariants.{Aborted, Down, Unsure}
+use Rattle.refusal.specs.declared.refusal.Refusal.TheVariants.{Down}
 use Rattle.device.specs.Device.{State, left}
 use Rattle.records.specs.declared.record.Record.{Record}
-use Rattle.records.specs.Replays.{without}
 use Rattle.decisions.specs.Coordinators.{AbortsAt, CoordinatorView, without_id}
-use Rattle.decisions.specs.Values.{IntentValue, TicketValue, VerdictValue, VoteValue}
+use Rattle.decisions.specs.Values.{IntentValue, VerdictValue, VoteValue}
 use Rattle.decisions.specs.declared.held.Held.{Held}
-use Rattle.decisions.specs.declared.held.Held.TheVariants.{Ticket, Vote}
 use Rattle.coordinator.specs.declared.telling.Inquiry as inquiries
 use Rattle.coordinator.specs.declared.telling.Inquiry.TheVariants.{Commit, Abort as is_aborted, Undecided}
 use Rattle.calls.specs.Asking.{Answered}
@@ -36,9 +34,9 @@ use Rattle.commit_flow.specs.declared.end.WriteEnd.TheVariants.{Refused}
 use Rattle.laws.specs.Machines.{Machine}
 use Rattle.laws.specs.Nodes.{NodeName, Nodes, coordinator, shard}
 use Rattle.turns.specs.AbortLaws.{IsUndecidedFlow, with_closed, with_verdict}
-use Rattle.turns.specs.Flows.{HeldTicket, HeldVote, Holds, WriteHolds, id_of, outward, to_write, writing}
+use Rattle.turns.specs.Flows.{HeldTicket, id_of, outward, to_write, writing}
 use Rattle.turns.specs.Held.{own_write}
-use Rattle.turns.specs.Moments.{Moment, Running, ended, replaced}
+use Rattle.turns.specs.Moments.{Moment, Running}
 use Rattle.turns.specs.QuietTurns.{HoldsLess, ending, going_on, with_call}
 use Rattle.turns.specs.Runs.{EndsAs, EndsQuietly, IsQuiet, MayRise, Told, Turns, refuses}
 use Rattle.turns.specs.SeamLaws.{IsSeen, told_unless}

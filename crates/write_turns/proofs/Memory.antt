@@ -1,6 +1,6 @@
 -- A call of the coordinator that changes its memory, and no device.
-use Rattle.std.proofs.Common.{◌≡◌, ◌≢◌, ◌⊎◌, inl, inr, ⊎_elim, ◌==◌, ℕ, Bool, true, false, List, [], ◌∷◌, Option, Some, None, Contains, refl, sym, ◌∙◌, ap, subst, if◌then◌else◌}
-use Rattle.std.proofs.lemmas.Bool.{cases_Bool, eq-eqb, eqb-true}
+use Rattle.std.proofs.Common.{◌≡◌, ◌≢◌, ◌⊎◌, ◌==◌, ℕ, Bool, true, false, List, [], ◌∷◌, Contains, refl, sym, ◌∙◌, ap, if◌then◌else◌}
+use Rattle.std.proofs.lemmas.Bool.{eq-eqb}
 use Rattle.tuples.specs.declared.entry.WriteId.{WriteId}
 use Rattle.device.specs.Device.{State, left}
 use Rattle.records.specs.declared.record.Record.{Record}
@@ -8,7 +8,7 @@ use Rattle.decisions.specs.Coordinators.{CoordinatorView}
 use Rattle.calls.specs.Views as views
 use Rattle.calls.specs.Views.{devices_of}
 use Rattle.laws.specs.Machines.{Machine}
-use Rattle.laws.specs.Nodes.{NodeName, NodeState, Nodes, coordinator, down, shard, up}
+use Rattle.laws.specs.Nodes.{NodeName, Nodes, coordinator, down, shard, up}
 use Rattle.turns.specs.Moments.{Moment, Running, ended, replaced}
 use Rattle.turns.specs.SeamLaws.{IsSeen}
 use Rattle.turns.specs.Stands.{IsHorizonIn}

@@ -1,9 +1,8 @@
 -- The outcome of a decision that a write flow asks for is a turn.
-use Rattle.std.proofs.Common.{◌≡◌, ◌≢◌, ◌⊎◌, inl, inr, ⊎_elim, ◌≤◌, ◌++◌, ℕ, Bool, true, false, List, [], ◌∷◌, Option, Some, None, Contains, refl, sym, ◌∙◌, ap, subst}
+use Rattle.std.proofs.Common.{◌≡◌, inr, ⊎_elim, ◌≤◌, ℕ, Bool, false, List, [], ◌∷◌, Option, Some, None, refl, sym, ◌∙◌, ap, subst}
 use Rattle.std.specs.Prelude.{MatchOption}
 use Rattle.std.proofs.lemmas.Bool.{cases_Bool}
 use Rattle.tuples.specs.declared.entry.WriteId.{WriteId}
-use Rattle.refusal.specs.declared.refusal.Refusal.{Refusal}
 use Rattle.refusal.specs.declared.refusal.Refusal.TheVariants.{Down, Unsure}
 use Rattle.device.specs.Device.{State, left}
 use Rattle.records.specs.declared.record.Record.{Record}
@@ -25,9 +24,9 @@ use Rattle.commit_flow.specs.Answering.{GivesTo, OutcomeGives}
 use Rattle.commit_flow.specs.Views.{WriteView, at_rest, view_ended}
 use Rattle.commit_flow.specs.WriteHolds as waits
 use Rattle.commit_flow.specs.declared.end.WriteEnd.TheVariants.{Refused, Wrote}
-use Rattle.laws.specs.Nodes.{NodeName, coordinator, refused}
+use Rattle.laws.specs.Nodes.{NodeName, coordinator}
 use Rattle.turns.specs.CoordinatorSeamLaws.{HasDecided, IsForgotten}
-use Rattle.turns.specs.Flows.{Holds, WriteHolds, writing}
+use Rattle.turns.specs.Flows.{WriteHolds}
 use Rattle.turns.specs.Moments.{Moment, Running}
 use Rattle.turns.specs.QuietTurns.{ending}
 use Rattle.turns.specs.Replies.{wrote}

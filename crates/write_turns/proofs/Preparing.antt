@@ -1,8 +1,7 @@
 -- A prepare that a write flow asks a shard for is a turn.
-use Rattle.std.proofs.Common.{◌≡◌, ◌≢◌, ◌⊎◌, inl, inr, ⊎_elim, ◌≤◌, ◌<◌, ◌++◌, ℕ, Bool, true, false, List, [], ◌∷◌, Result, Ok, Err, Option, Some, None, All, Contains, refl, sym, ◌∙◌, ap, subst, arith, if◌then◌else◌}
+use Rattle.std.proofs.Common.{◌≡◌, ◌≢◌, ◌⊎◌, inl, inr, ⊎_elim, ◌≤◌, ◌<◌, ◌++◌, ℕ, Bool, true, false, List, [], ◌∷◌, Result, Ok, Err, Option, Some, None, refl, sym, ◌∙◌, ap, subst, arith, if◌then◌else◌}
 use Rattle.std.specs.Prelude.{MatchOption}
 use Rattle.std.proofs.lemmas.Bool.{cases_Bool}
-use Rattle.tuples.specs.declared.change.Condition.{Condition}
 use Rattle.tuples.specs.declared.change.Want.{Want}
 use Rattle.tuples.specs.declared.change.Want.TheVariants.{NotAfter, Exists, Absent}
 use Rattle.tuples.specs.declared.entry.Entry.{Entry}
@@ -13,7 +12,7 @@ use Rattle.refusal.specs.declared.refusal.Refusal.TheVariants.{Busy, Collected, 
 use Rattle.device.specs.Device.{State, left}
 use Rattle.records.specs.declared.record.Record.{Record}
 use Rattle.records.specs.declared.record.Record.TheVariants.{Prepare}
-use Rattle.records.specs.Replays.{find_in_doubt, shard_state}
+use Rattle.records.specs.Replays.{find_in_doubt}
 use Rattle.journal.specs.Records.{HasNoRoom}
 use Rattle.decisions.specs.Values.{IntentValue, IsIntent, TicketValue}
 use Rattle.shard.specs.Calls.{PrepareRefused, PreparesAt}
@@ -34,11 +33,10 @@ use Rattle.commit_flow.specs.Answering.{GivesTo, PrepareGives}
 use Rattle.commit_flow.specs.Views.{WriteView, at_rest, ticket_value}
 use Rattle.commit_flow.specs.WriteHolds as waits
 use Rattle.commit_flow.specs.Writing.{IsOnItsWay}
-use Rattle.laws.specs.Machines.{Machine}
 use Rattle.laws.specs.Nodes.{NodeName, Nodes, down, shard, up}
 use Rattle.laws.specs.Shards.{ShardMeans}
-use Rattle.turns.specs.Causes.{Calls, HasItsCause, IsBelow as IsBelowCause, IsCause}
-use Rattle.turns.specs.Flows.{Asked, HeldTicket, Holds, WriteHolds, outward, writing}
+use Rattle.turns.specs.Causes.{Calls, HasItsCause, IsBelow as IsBelowCause}
+use Rattle.turns.specs.Flows.{WriteHolds, outward, writing}
 use Rattle.turns.specs.Moments.{Moment, Running}
 use Rattle.turns.specs.PrepareLaws.{IsPreparing}
 use Rattle.turns.specs.QuietTurns.{HoldsLess, with_call}

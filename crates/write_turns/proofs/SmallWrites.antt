@@ -15,7 +15,7 @@ use Rattle.commit_flow.specs.declared.end.WriteEnd.TheVariants.{Refused}
 use Rattle.laws.specs.Nodes.{coordinator, refused}
 use Rattle.turns.specs.Runs.{refuses}
 use Rattle.turns.specs.Stores.{FlowView, Store}
-use Rattle.call_turns.specs.StoreCalls.{IsCalled, IsNode}
+use Rattle.call_turns.specs.StoreCalls.{IsNode}
 use Rattle.write_turns.specs.Seen.{shown, told_of}
 use Rattle.write_turns.specs.Starting.{fresh}
 use Rattle.write_turns.specs.Turning.{MakesCall}

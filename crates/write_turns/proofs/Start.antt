@@ -1,5 +1,5 @@
 -- The start of a write flow keeps the promise of a step.
-use Rattle.std.proofs.Common.{◌≡◌, ◌≢◌, ◌⊎◌, inl, inr, ⊎_elim, ◌==◌, ◌≤◌, ◌<◌, ℕ, zero, suc, Bool, true, false, true≢false, List, [], ◌∷◌, length, Option, Some, None, slice_get, Contains, refl, sym, ◌∙◌, ap, subst, arith, if◌then◌else◌}
+use Rattle.std.proofs.Common.{◌≡◌, ◌≢◌, inl, inr, ⊎_elim, ◌==◌, ◌<◌, ℕ, zero, suc, Bool, true, false, true≢false, List, [], ◌∷◌, length, Option, Some, None, slice_get, Contains, refl, sym, ◌∙◌, ap, subst, arith, if◌then◌else◌}
 use Rattle.std.specs.List.{AllByRecursion, IsDistinct}
 use Rattle.std.proofs.Math.Dec.{eqb}
 use Rattle.std.proofs.Math.Path.{fun_ext}
@@ -17,9 +17,8 @@ use Rattle.turns.specs.Promises.{Ran, events_of}
 use Rattle.turns.specs.Runs.{began, restart, start}
 use Rattle.turns.specs.Stands.{IsHorizonIn, Stands}
 use Rattle.turns.specs.Stores.{AreSound, FlowView, ShowsSlot, StandsOver, Store, stops}
-use Rattle.turns.proofs.FlowBegins.{alone, among, flows_begin}
+use Rattle.turns.proofs.FlowBegins.{among, flows_begin}
 use Rattle.call_turns.proofs.Made.{inside_by, still_within}
-use Rattle.call_turns.proofs.Slots.{found_at}
 use Rattle.write_turns.specs.Seen.{shown}
 use Rattle.write_turns.specs.Starting.{IsStartedThere, StartsRun, fresh}
 

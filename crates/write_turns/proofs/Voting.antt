@@ -1,17 +1,16 @@
 -- A vote that a write flow asks a shard for is a turn.
-use Rattle.std.proofs.Common.{◌≡◌, ◌≢◌, ◌⊎◌, inl, inr, ⊎_elim, ◌≤◌, ◌<◌, ◌++◌, ℕ, Bool, true, false, List, [], ◌∷◌, Option, Some, None, All, Contains, refl, sym, ◌∙◌, ap, subst}
+use Rattle.std.proofs.Common.{◌≡◌, inl, ⊎_elim, ◌≤◌, ◌++◌, ℕ, Bool, true, false, List, [], ◌∷◌, Some, None, Contains, refl, sym, ◌∙◌, ap, subst}
 use Rattle.std.specs.Prelude.{MatchOption}
 use Rattle.std.proofs.lemmas.Bool.{cases_Bool}
 use Rattle.std.proofs.lemmas.List.Elements.{All-contains, Contains-append_right}
 use Rattle.tuples.specs.declared.entry.Entry.{Entry}
-use Rattle.tuples.specs.declared.entry.WriteId.{WriteId}
-use Rattle.tuples.specs.Parts.{part, takes_part}
+use Rattle.tuples.specs.Parts.{part}
 use Rattle.refusal.specs.declared.refusal.Refusal.{Refusal}
-use Rattle.refusal.specs.declared.refusal.Refusal.TheVariants.{Aborted, Down}
+use Rattle.refusal.specs.declared.refusal.Refusal.TheVariants.{Down}
 use Rattle.device.specs.Device.{State, left}
 use Rattle.records.specs.declared.record.Record.{Record}
 use Rattle.records.specs.Replays.{find_in_doubt}
-use Rattle.decisions.specs.Values.{IntentValue, TicketValue, VoteValue}
+use Rattle.decisions.specs.Values.{TicketValue}
 use Rattle.shard.specs.Shards.{ShardView, memory}
 use Rattle.shard.specs.declared.replies.VoteReply.{VoteReply}
 use Rattle.shard.specs.declared.replies.VoteReply.TheVariants.{Yes, Later, No}
@@ -29,15 +28,13 @@ use Rattle.commit_flow.specs.Answering.{GivesTo, GoesOut, VoteGives}
 use Rattle.commit_flow.specs.Views.{WriteView, at_rest, ticket_value}
 use Rattle.commit_flow.specs.WriteHolds as waits
 use Rattle.commit_flow.specs.Writing.{IsOnItsWay}
-use Rattle.laws.specs.Machines.{Machine}
-use Rattle.laws.specs.Nodes.{NodeName, Nodes, shard}
-use Rattle.turns.specs.AbortLaws.{IsUndecidedFlow}
+use Rattle.laws.specs.Nodes.{NodeName, shard}
 use Rattle.turns.specs.Causes.{Calls, HasItsCause, IsCutOff}
-use Rattle.turns.specs.Flows.{HeldTicket, Holds, WriteHolds, outward, writing}
+use Rattle.turns.specs.Flows.{HeldTicket, WriteHolds, outward, writing}
 use Rattle.turns.specs.Held.{IsRightTicket, own_write}
 use Rattle.turns.specs.Moments.{Moment, Running}
 use Rattle.turns.specs.QuietTurns.{HoldsLess, with_call}
-use Rattle.turns.specs.ShardSeamLaws.{IsHolder, ShardIsSeen, held_ticket}
+use Rattle.turns.specs.ShardSeamLaws.{IsHolder, held_ticket}
 use Rattle.turns.specs.Stores.{StandsOver, Store, stops}
 use Rattle.turns.proofs.AbortCauses.{refused_tickets}
 use Rattle.turns.proofs.FlowBegins.{alone}
@@ -49,7 +46,7 @@ use Rattle.call_turns.proofs.Made.{FailsQuietly, IsQuietlyMade, same_devices, st
 use Rattle.call_turns.proofs.Standing.{shard_is_seen, shard_is_up}
 use Rattle.write_turns.specs.Turning.{TurnsBy}
 use Rattle.write_turns.proofs.Catching.{may_ask_shard}
-use Rattle.write_turns.proofs.Going.{IsFlow, Promises, asked_is, asks_own, calls_shard, changes, conditions, fails_out, flow_of, flow_there, goes_out, going, holds_is, moved, none_decided, right, stays_so}
+use Rattle.write_turns.proofs.Going.{IsFlow, Promises, asked_is, calls_shard, changes, conditions, fails_out, flow_of, flow_there, goes_out, going, holds_is, moved, right, stays_so}
 
 module _ {D : Type 0} (state : D → State) (honest : D → Type 0) (moment : D → ℕ) (left_since : D → ℕ → List ℕ → Type 0)
     (counts_now : (d : D) (t : ℕ) (c : List ℕ) → honest d → t ≤ moment d → left (state d) c → left_since d t c) (only_now : (d : D) (c : List ℕ) → honest d → left_since d (moment d) c → left (state d) c)

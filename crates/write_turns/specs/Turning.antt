@@ -1,5 +1,5 @@
 -- A turn of a write flow: `next_call` asks a call, `ask` makes it of the node that it names, and `give` makes of the flow what the reply makes of it.
-use Rattle.std.specs.Prelude.{◌≡◌, ◌≤◌, ℕ, Bool, List, Some, None, Err, MatchOption}
+use Rattle.std.specs.Prelude.{◌≡◌, ◌≤◌, ℕ, Bool, List, None, Err, MatchOption}
 use Rattle.tuples.specs.declared.entry.WriteId.{WriteId}
 use Rattle.refusal.specs.declared.refusal.Refusal.TheVariants.{Busy}
 use Rattle.records.specs.Replays.{find_in_doubt}
