@@ -88,3 +88,7 @@ module _ {D : Type 0} (state : D → State) (honest : D → Type 0) (moment : D 
   -- and of a resolution of the writes in doubt at a shard
   abbrev pub ResolvesTurn : Type 0
   ResolvesTurn = (v w : ResolveFlowValue) → IsRunTurn (Resolve v) (Resolve w)
+
+  -- and so of any care
+  abbrev pub CaresTurn : Type 0
+  CaresTurn = (flow next : CareFlow) → IsRunTurn flow next

@@ -1,6 +1,6 @@
 // Laws of the turns of cares, each the clause of a function with an empty body.
 ghost use Rattle.std.specs.Prelude.{ℕ};
-ghost use Rattle.care_turns.specs.CareTurns.{CollectsTurn, FlushesTurn, LearnsTurn, RaisesTurn, ResolvesTurn};
+ghost use Rattle.care_turns.specs.CareTurns.{CaresTurn, CollectsTurn, FlushesTurn, LearnsTurn, RaisesTurn, ResolvesTurn};
 
 use device::Device;
 
@@ -28,4 +28,9 @@ pub fn raises_take_their_turn<D: Device>()
 /// A resolution goes on with what was found of each write, answers all of it, or ends with a refusal that has its cause.
 pub fn resolutions_take_their_turn<D: Device>()
     ensures { (store shards : ℕ) → ResolvesTurn D.state D.honest D.moment D.left_since store shards }
+{}
+
+/// Any care, whose kind stays, takes its turn.
+pub fn cares_take_their_turn<D: Device>()
+    ensures { (store shards : ℕ) → CaresTurn D.state D.honest D.moment D.left_since store shards }
 {}

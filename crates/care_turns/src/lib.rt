@@ -9,6 +9,6 @@
 mod care_laws;
 
 pub use care_laws::{
-    collections_take_their_turn, flushes_take_their_turn, raises_take_their_turn,
-    resolutions_take_their_turn, shards_learn_in_turn,
+    cares_take_their_turn, collections_take_their_turn, flushes_take_their_turn,
+    raises_take_their_turn, resolutions_take_their_turn, shards_learn_in_turn,
 };

@@ -1,0 +1,11 @@
+//! The flows that answer requests, turn by turn: what a watch asks for, what the node answers and what the watch makes of that is a turn of a run.
+//!
+//! Keeps: nothing at run time; each law is the contract of a function with an empty body.
+//! Callers rely on: from any moment for which the store stands, a turn leads to one for which the store behind it stands, and an answer agrees.
+//!
+//! Start at `specs/AnswerTurns.antt`.
+#![tactic(auto)]
+
+mod answer_laws;
+
+pub use answer_laws::watches_take_their_turn;
