@@ -1,0 +1,79 @@
+// A closed store is opened.
+ghost use Rattle.std.specs.Prelude.{◌≡◌, ◌≤◌, ◌<◌, ◌+◌, ◌*◌, IfErr};
+ghost use Rattle.std.specs.Vec.{vec_capacity, vec_len};
+ghost use Rattle.records.specs.Identity.{max_shards};
+ghost use Rattle.cluster.specs.Kept.{IsNodeThere};
+
+use crate::World;
+use crate::restarting::open;
+use calls::{Node, NodeName, Told};
+use device::Device;
+use slab::Slab;
+use std::alloc::Global;
+
+// Opens the next node over the next two devices.
+fn open_next<D: Device>(
+    alloc: Global,
+    store: u64,
+    shards: u8,
+    name: NodeName,
+    devices: &mut Vec<D>,
+    nodes: &mut Vec<Node<D>>,
+)
+    requires some { 1 ≤ shards }
+    requires few { shards ≤ max_shards }
+    requires there { IsNodeThere shards name }
+    requires left { 2 ≤ vec_len devices.old }
+    requires room { vec_len nodes.old < vec_capacity nodes.old }
+    ensures left { vec_len devices.new + 2 ≡ vec_len devices.old }
+    ensures opened { vec_len nodes.new ≡ vec_len nodes.old + 1 }
+    ensures room { vec_capacity nodes.new ≡ vec_capacity nodes.old }
+{
+    let a = devices.remove(0);
+    let b = devices.remove(0);
+    nodes.push_reserved(open(alloc, store, shards, name, a, b));
+}
+
+/// Opens the store of this number and of 1 to 64 shards over its devices: those of the coordinator, and then those of each shard, by rising number, bank a
+/// before bank b. Each node is up, or holds the refusal of its opening. Where memory is refused the devices come back untouched.
+pub fn reopen<D: Device>(
+    alloc: Global,
+    mut devices: Vec<D>,
+    store: u64,
+    shards: u8,
+) -> Result<World<D>, Vec<D>>
+    requires some { 1 ≤ shards }
+    requires few { shards ≤ max_shards }
+    requires count { vec_len devices ≡ 2 * (shards + 1) }
+    ensures { IfErr result (λ back. back.items ≡ devices.items) }
+{
+    let Ok(mut nodes) = Vec::with_capacity(alloc, shards as usize + 1) else {
+        return Err(devices);
+    };
+    open_next(
+        alloc,
+        store,
+        shards,
+        NodeName::Coordinator,
+        &mut devices,
+        &mut nodes,
+    );
+    for shard in 0..shards {
+        open_next(
+            alloc,
+            store,
+            shards,
+            NodeName::Shard(shard),
+            &mut devices,
+            &mut nodes,
+        );
+    }
+    Ok(World {
+        alloc,
+        store,
+        shards,
+        nodes,
+        flows: Slab::new(alloc),
+        told: Told::new(),
+    })
+}
