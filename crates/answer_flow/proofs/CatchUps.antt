@@ -4,6 +4,7 @@ use Rattle.std.proofs.lemmas.Bool.{cases_lt}
 use Rattle.refusal.specs.declared.refusal.Refusal.{Refusal}
 use Rattle.refusal.specs.declared.refusal.Refusal.TheVariants.{BadRequest, BadTuple, TooLarge, Repeated, BadZookie, WrongStore, Future, Collected, Precondition, Busy, Aborted, Unsure, Down, NoMemory, Full, Damaged}
 use Rattle.calls.specs.Asking.{MayBeMade}
+use Rattle.calls.specs.declared.call_name.CallName.TheVariants as names
 use Rattle.calls.specs.declared.call.NodeCall.{NodeCall}
 use Rattle.calls.specs.declared.call.NodeCall.TheVariants.{Coordinator, Shard}
 use Rattle.calls.specs.declared.call.CoordinatorCall.TheVariants as calls
@@ -101,9 +102,9 @@ is_full Damaged = inr (λ p. absurd (cc))
 IsSameWay : CatchUpCallValue → CatchUpValue → Type 0
 IsSameWay call c = (c.shard ≡ call.held.shard) × (c.to ≡ call.held.to)
 
-with_batch : (call : CatchUpCallValue) (c : CatchUpValue) (b : _) → Next c ≡ Next (record call.held { batch = b }) → IsSameWay call c
+with_batch : (call : CatchUpCallValue) (c : CatchUpValue) (b : _) (n : _) → Next c ≡ Next (record call.held { batch = b; next = n }) → IsSameWay call c
 unfolding IsSameWay
-with_batch call c b is = let same : c ≡ record call.held { batch = b } = cc in (ap (λ (v : CatchUpValue). v.shard) same, ap (λ (v : CatchUpValue). v.to) same)
+with_batch call c b n is = let same : c ≡ record call.held { batch = b; next = n } = cc in (ap (λ (v : CatchUpValue). v.shard) same, ap (λ (v : CatchUpValue). v.to) same)
 
 refused_learn : (held : CatchUpValue) (awaited : Awaited) (b : BatchValue) (e : Refusal) (c : CatchUpValue) → catching.FitsShard awaited (told_by.Learn b (Err e))
     → catching.LearnGives held awaited b (Err e) (Next c) → (c.shard ≡ held.shard) × (c.to ≡ held.to)
@@ -112,16 +113,16 @@ refused_learn held decisions b e c fits gives = absurd fits
 refused_learn held flushing b e c fits gives = absurd fits
 refused_learn held (learning true) b e c fits gives = absurd (let wrong = gives.1 (inr refl) in cc)
 refused_learn held (learning false) b e c fits gives = ⊎_elim
-    (λ (is : e ≡ Full). let next = gives.0 is refl in let same : c ≡ record held { batch = Some b } = cc in (ap (λ (v : CatchUpValue). v.shard) same, ap (λ (v : CatchUpValue). v.to) same))
+    (λ (is : e ≡ Full). let next = gives.0 is refl in let same : c ≡ record held { batch = Some b; next = names.Flush } = cc in (ap (λ (v : CatchUpValue). v.shard) same, ap (λ (v : CatchUpValue). v.to) same))
     (λ (not : e ≢ Full). absurd (let wrong = gives.1 (inl not) in cc))
     (is_full e)
 
 -- and so does a reply behind which it goes on
 pub goes_on : (call : CatchUpCallValue) (reply : Reply) (c : CatchUpValue) → catching.Fits call.awaited reply → catching.Gives call reply (Next c) → (c.shard ≡ call.held.shard) × (c.to ≡ call.held.to)
 unfolding IsSameWay
-goes_on call (from_coordinator (told.Batch (Ok b))) c fits gives = with_batch call c _ gives
+goes_on call (from_coordinator (told.Batch (Ok b))) c fits gives = with_batch call c _ _ gives
 goes_on call (from_coordinator (told.Batch (Err e))) c fits gives = ⊎_elim
-    (λ (is : e ≡ Collected). with_batch call c _ (gives.0 is))
+    (λ (is : e ≡ Collected). with_batch call c _ _ (gives.0 is))
     (λ (not : e ≢ Collected). absurd (let wrong = gives.1 not in cc))
     (is_collected e)
 goes_on call (from_coordinator (told.Begin r)) c fits gives = absurd gives
@@ -133,13 +134,13 @@ goes_on call (from_coordinator (told.Inquire r)) c fits gives = absurd gives
 goes_on call (from_coordinator (told.Raise r)) c fits gives = absurd gives
 goes_on call (from_coordinator (told.Flush r)) c fits gives = absurd gives
 goes_on call (from_shard (told_by.Learned (Ok n))) c fits gives = ⊎_elim
-    (λ (below : n < call.held.to). with_batch call c _ (gives.1 below))
+    (λ (below : n < call.held.to). with_batch call c _ _ (gives.1 below))
     (λ (there : call.held.to ≤ n). absurd (let wrong = gives.0 there in cc))
     (cases_lt n call.held.to)
 goes_on call (from_shard (told_by.Learned (Err e))) c fits gives = absurd (let wrong = gives in cc)
-goes_on call (from_shard (told_by.Learn b (Ok known))) c fits gives = with_batch call c _ gives
+goes_on call (from_shard (told_by.Learn b (Ok known))) c fits gives = with_batch call c _ _ gives
 goes_on call (from_shard (told_by.Learn b (Err e))) c fits gives = refused_learn call.held call.awaited b e c fits gives
-goes_on call (from_shard (told_by.Flush (Ok done))) c fits gives = let same : c ≡ call.held = cc in (ap (λ (v : CatchUpValue). v.shard) same, ap (λ (v : CatchUpValue). v.to) same)
+goes_on call (from_shard (told_by.Flush (Ok done))) c fits gives = let same : c ≡ record call.held { next = names.Learn } = cc in (ap (λ (v : CatchUpValue). v.shard) same, ap (λ (v : CatchUpValue). v.to) same)
 goes_on call (from_shard (told_by.Flush (Err e))) c fits gives = absurd (let wrong = gives in cc)
 goes_on call (from_shard (told_by.StagePrepare i r)) c fits gives = absurd gives
 goes_on call (from_shard (told_by.Vote r)) c fits gives = absurd gives

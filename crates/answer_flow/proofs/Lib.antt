@@ -8,3 +8,4 @@ pub mod MetLists
 pub mod Walked
 pub mod Waiting
 pub mod ReadFitting
+pub mod CheckFitting

@@ -1,5 +1,5 @@
 -- The reply to a call of a read is one that it waits for, and gives the tupleset back that the call took.
-use Rattle.std.proofs.Common.{◌≡◌, ℕ, List, Some, length, slice_get, MatchOption, sym, ap, subst}
+use Rattle.std.proofs.Common.{◌≡◌, ℕ, List, Some, None, length, slice_get, MatchOption, sym, ap, subst}
 use Rattle.tuples.specs.declared.tupleset.Tupleset.{Tupleset}
 use Rattle.decisions.specs.Flows.{ReadHolds}
 use Rattle.calls.specs.Belonging.{IsReplyTo}
@@ -51,7 +51,7 @@ fits_for read shards sets v call reply after asks b =
     waits sets after read read_call v.holds reply asks.waits (read_fit sets v.holds s asks.place asks.set reply asks.next to)
 
 -- behind a call the read is as it was, but for what is seen of it
-pub read_fits : (old new : ReadFlowValue) (call : NodeCall) (reply : Reply) → new ≡ record old { seen = new.seen }
+pub read_fits : (old new : ReadFlowValue) (call : NodeCall) (reply : Reply) → new ≡ record old { seen = new.seen; next_name = None }
     → Asks old.shards old.sets old.seen call new.seen → IsReplyTo call reply → MatchOption new.seen.awaited ⊥ (λ w. Fits new.sets new.seen w reply)
 read_fits old new call reply same asks b =
     let fit = fits_for old.seen.next old.shards old.sets old.seen call reply new.seen asks.asks b in

@@ -6,6 +6,8 @@ use Rattle.tuples.specs.declared.user.User.{User}
 use Rattle.tuples.specs.Parts.{shard_of}
 use Rattle.decisions.specs.Flows.{CheckHolds, Freshness}
 use Rattle.decisions.specs.Values.{BatchValue}
+use Rattle.calls.specs.declared.call_name.CallName.{CallName}
+use Rattle.calls.specs.declared.call_name.CallName.TheVariants as names
 use Rattle.catch_up.specs.Held.{Awaited, CatchUpValue}
 use Rattle.answer_flow.specs.Walking.{WalkValue}
 use Rattle.answer_flow.specs.declared.check_stage.CheckEnd as ends
@@ -43,12 +45,13 @@ pub record CheckView : Type 0 where
   pub awaited : Option CheckAwaited
   pub ended : Option CheckEnding
 
--- about this user, in a store of so many shards
+-- about this user, in a store of so many shards, with the name of its next call, if there is one
 pub record CheckFlowValue : Type 0 where
   pub shards : ℕ
   pub fresh : Freshness
   pub user : User
   pub seen : CheckView
+  pub next_name : Option CallName
 
 -- between two calls
 abbrev pub at_rest : CheckStep → CheckHolds → CheckView
@@ -121,6 +124,18 @@ abbrev pub view_of : Stage → CheckView
 view_of (stages.Ready r) = view_ready r
 view_of (stages.Out o) = view_out o
 view_of (stages.Ended end) = ended (ending_of end)
+
+-- the name of its next call, if there is one
+abbrev pub name_ready : Ready → CallName
+name_ready (ready.Heads w) = names.Heads
+name_ready (ready.Flush w) = names.Flush
+name_ready (ready.CatchUp place w c) = c.next
+name_ready (ready.Read place w y u) = names.Read
+
+abbrev pub name_of : Stage → Option CallName
+name_of (stages.Ready r) = Some (name_ready r)
+name_of (stages.Out o) = None
+name_of (stages.Ended end) = None
 
 -- this one waits first
 abbrev pub IsFirst : WalkValue → Userset → Type 0

@@ -8,6 +8,8 @@ use Rattle.tuples.specs.declared.tupleset.Tupleset.TheVariants.{Key, OfObject, O
 use Rattle.tuples.specs.Parts.{shard_of}
 use Rattle.decisions.specs.Flows.{Freshness, ReadHolds, nothing_read}
 use Rattle.decisions.specs.Values.{BatchValue}
+use Rattle.calls.specs.declared.call_name.CallName.{CallName}
+use Rattle.calls.specs.declared.call_name.CallName.TheVariants as names
 use Rattle.catch_up.specs.Held.{Awaited, CatchUpValue}
 use Rattle.answer_flow.specs.declared.read_stage.Gathered.{Gathered}
 use Rattle.answer_flow.specs.declared.read_stage.ReadEnd as ends
@@ -45,12 +47,13 @@ pub record ReadView : Type 0 where
   pub awaited : Option ReadAwaited
   pub ended : Option ReadEnding
 
--- of these tuplesets, in a store of so many shards
+-- of these tuplesets, in a store of so many shards, with the name of its next call, if there is one
 pub record ReadFlowValue : Type 0 where
   pub shards : ℕ
   pub fresh : Freshness
   pub sets : List Tupleset
   pub seen : ReadView
+  pub next_name : Option CallName
 
 -- the shard that a tupleset asks, where those below a number are done: that of its object, or the next one
 abbrev pub shard_for : ℕ → Tupleset → ℕ → ℕ
@@ -130,6 +133,18 @@ abbrev pub view_of : Stage → ReadView
 view_of (stages.Ready r) = view_ready r
 view_of (stages.Out o) = view_out o
 view_of (stages.Ended end) = ended (ending_of end)
+
+-- the name of its next call, if there is one
+abbrev pub name_ready : Ready → CallName
+name_ready ready.Heads = names.Heads
+name_ready ready.Flush = names.Flush
+name_ready (ready.CatchUp g set c) = c.next
+name_ready (ready.Read g set) = names.Read
+
+abbrev pub name_of : Stage → Option CallName
+name_of (stages.Ready r) = Some (name_ready r)
+name_of (stages.Out o) = None
+name_of (stages.Ended end) = None
 
 -- the next tupleset is this one, and a shard of it is asked next
 pub record IsNext (shards : ℕ) (sets : List Tupleset) (g : Gathered) (set : Tupleset) : Type 0 where

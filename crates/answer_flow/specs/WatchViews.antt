@@ -2,6 +2,8 @@
 use Rattle.std.specs.Prelude.{◌≤◌, ℕ, List, Option, Some, None}
 use Rattle.refusal.specs.declared.refusal.Refusal.{Refusal}
 use Rattle.tuples.specs.Watching.{Placed}
+use Rattle.calls.specs.declared.call_name.CallName.{CallName}
+use Rattle.calls.specs.declared.call_name.CallName.TheVariants as names
 use Rattle.decisions.specs.Flows.{HeadsHeld, no_heads}
 use Rattle.decisions.specs.Standing.{HeadsValue}
 use Rattle.answer_flow.specs.declared.watch_stage.WatchEnd as ends
@@ -19,6 +21,12 @@ pub data WatchCall : Type 0 where
   flush : WatchCall
   batch : WatchCall
 
+-- what a call of it is called
+abbrev pub name_of : WatchCall → CallName
+name_of heads = names.Heads
+name_of flush = names.Flush
+name_of batch = names.Batch
+
 -- how a watch ends: the place up to which the events are all, and these; or a refusal
 pub data WatchEnding : Type 0 where
   listed : ℕ → List Placed → WatchEnding
@@ -30,6 +38,15 @@ pub record WatchView : Type 0 where
   pub holds : HeadsHeld
   pub awaited : Option WatchCall
   pub ended : Option WatchEnding
+
+-- the name of its next call: there is none where it has ended, and while a call is out
+abbrev pub name_unless : Option WatchEnding → Option WatchCall → WatchCall → Option CallName
+name_unless None None next = Some (name_of next)
+name_unless None (Some call) next = None
+name_unless (Some end) awaited next = None
+
+abbrev pub next_name_of : WatchView → Option CallName
+next_name_of v = name_unless v.ended v.awaited v.next
 
 -- of these places and namespaces
 pub record WatchFlowValue : Type 0 where

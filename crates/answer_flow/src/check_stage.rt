@@ -1,9 +1,11 @@
 // Where a check is between two of its calls, and while one is out.
-ghost use Rattle.std.specs.Prelude.{◌≤◌};
+ghost use Rattle.std.specs.Prelude.{◌≡◌, ◌≤◌};
 ghost use Rattle.records.specs.Identity.{max_shards};
+ghost use Rattle.answer_flow.specs.CheckViews.{name_ready};
 
 use crate::freshness::Freshness;
 use crate::walk::Walk;
+use calls::CallName;
 use catch_up::{CatchUp, CatchUpCall};
 use tuples::{Refusal, User, Userset};
 
@@ -32,6 +34,19 @@ pub(crate) enum Ready {
     Flush(Walk),
     CatchUp(u64, Walk, CatchUp),
     Read(u64, Walk, Userset, User),
+}
+
+impl Ready {
+    pub(crate) fn name(&self) -> CallName
+        ensures { result ≡ name_ready self.now }
+    {
+        match self {
+            Ready::Heads(_) => CallName::Heads,
+            Ready::Flush(_) => CallName::Flush,
+            Ready::CatchUp(_, _, catch_up) => catch_up.next_name(),
+            Ready::Read(_, _, _, _) => CallName::Read,
+        }
+    }
 }
 
 /// The call that is out, with what stays here.

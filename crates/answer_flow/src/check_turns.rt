@@ -1,7 +1,10 @@
 // The turns of a check: the call of each stage, and what the reply makes of it.
+ghost use Rattle.std.specs.Prelude.{◌≡◌};
+ghost use Rattle.calls.specs.Names.{name_of as name_of_call};
+ghost use Rattle.calls.specs.declared.call_name.CallName.TheVariants as names;
 ghost use Rattle.answer_flow.specs.Finding.{fresh_of};
 ghost use Rattle.answer_flow.specs.Checking.{Asks, Fits, GivesTo};
-ghost use Rattle.answer_flow.specs.CheckViews.{IsOutOf, IsReadyOf, IsStageOf, awaited_of, view_of, view_out, view_ready};
+ghost use Rattle.answer_flow.specs.CheckViews.{IsOutOf, IsReadyOf, IsStageOf, awaited_of, name_ready, view_of, view_out, view_ready};
 ghost use Rattle.answer_flow.specs.declared.check_stage.Out.TheVariants as out_of;
 ghost use Rattle.answer_flow.specs.declared.check_stage.Ready.TheVariants as ready_of;
 
@@ -19,6 +22,7 @@ fn call_of_catch_up(
     catch_up: CatchUp,
 ) -> (NodeCall, Out)
     requires { IsReadyOf asked.now.shards asked.now.user (ready_of.CatchUp place walk catch_up) }
+    ensures name { name_of_call result.0 ≡ catch_up.next }
     ensures asks { Asks asked.now.shards asked.now.user (view_ready (ready_of.CatchUp place walk catch_up)) result.0 (view_out result.1) }
     ensures kept { IsOutOf asked.now.shards result.1 }
 {
@@ -35,6 +39,7 @@ fn call_of_read(
     user: User,
 ) -> (NodeCall, Out)
     requires { IsReadyOf asked.now.shards asked.now.user (ready_of.Read place walk userset user) }
+    ensures name { name_of_call result.0 ≡ names.Read }
     ensures asks { Asks asked.now.shards asked.now.user (view_ready (ready_of.Read place walk userset user)) result.0 (view_out result.1) }
     ensures kept { IsOutOf asked.now.shards result.1 }
 {
@@ -46,6 +51,7 @@ fn call_of_read(
 /// The call of a stage, and the stage while it is out.
 pub(crate) fn next(asked: &AskedCheck, ready: Ready) -> (NodeCall, Out)
     requires { IsReadyOf asked.now.shards asked.now.user ready }
+    ensures name { name_of_call result.0 ≡ name_ready ready }
     ensures asks { Asks asked.now.shards asked.now.user (view_ready ready) result.0 (view_out result.1) }
     ensures kept { IsOutOf asked.now.shards result.1 }
 {

@@ -1,5 +1,7 @@
 // A read: one call a turn.
 ghost use Rattle.std.specs.Prelude.{◌≡◌, ◌≢◌, ◌≤◌, Some, None, MatchOption, is_some, option_map};
+ghost use Rattle.calls.specs.Names.{name_of as name_of_call};
+ghost use Rattle.calls.specs.declared.call_name.CallName.TheVariants as names;
 ghost use Rattle.records.specs.Identity.{max_shards};
 ghost use Rattle.decisions.specs.Flows.{nothing_read};
 ghost use Rattle.answer_flow.specs.Finding.{fresh_of};
@@ -9,7 +11,7 @@ ghost use Rattle.answer_flow.specs.ReadViews.{at_rest, ending_of, heads};
 use crate::freshness::Freshness;
 use crate::read_stage::{AskedRead, ReadEnd, Ready, Stage};
 use crate::read_turns::{give, next};
-use calls::{NodeCall, Reply};
+use calls::{CallName, NodeCall, Reply};
 use std::alloc::Global;
 use std::marker::Model;
 use std::mem;
@@ -30,9 +32,9 @@ impl Model for ReadFlow {
 
     ghost Value = { ReadFlowValue };
 
-    ghost use Rattle.answer_flow.specs.ReadViews.{IsStageOf, view_of};
+    ghost use Rattle.answer_flow.specs.ReadViews.{IsStageOf, name_of, view_of};
 
-    ghost view = { λ f. record { shards = f.asked.shards; fresh = fresh_of f.asked.freshness; sets = f.asked.sets.items; seen = view_of f.stage } };
+    ghost view = { λ f. record { shards = f.asked.shards; fresh = fresh_of f.asked.freshness; sets = f.asked.sets.items; seen = view_of f.stage; next_name = name_of f.stage } };
 
     ghost invariant = { λ f. IsStageOf f.asked.shards f.asked.sets.items f.stage };
 }
@@ -49,7 +51,7 @@ impl ReadFlow {
     pub fn new(alloc: Global, shards: u8, freshness: Freshness, sets: Vec<Tupleset>) -> ReadFlow
         requires some { 1 ≤ shards }
         requires few { shards ≤ max_shards }
-        ensures { result ≡ record { shards = shards; fresh = fresh_of freshness; sets = sets.items; seen = at_rest heads nothing_read } }
+        ensures { result ≡ record { shards = shards; fresh = fresh_of freshness; sets = sets.items; seen = at_rest heads nothing_read; next_name = Some names.Heads } }
     {
         ReadFlow {
             asked: AskedRead {
@@ -62,9 +64,23 @@ impl ReadFlow {
         }
     }
 
+    /// The name of its next call. None where it has ended, and while a call is out.
+    pub fn next_name(&self) -> Option<CallName>
+        ensures name { result ≡ self.now.next_name }
+        ensures ended { (end : _) → self.now.seen.ended ≡ Some end → result ≡ None }
+        ensures out { (awaited : _) → self.now.seen.awaited ≡ Some awaited → result ≡ None }
+        ensures some { self.now.seen.ended ≡ None → self.now.seen.awaited ≡ None → result ≢ None }
+    {
+        match &self.stage {
+            Stage::Ready(ready) => Some(ready.name()),
+            Stage::Out(_) | Stage::Ended(_) => None,
+        }
+    }
+
     /// Its next call, which has to be made, and the reply given. None where it has ended, and while a call is out.
     pub fn next_call(&mut self) -> Option<NodeCall>
-        ensures asked { self.new ≡ record self.old { seen = self.new.seen } }
+        ensures asked { self.new ≡ record self.old { seen = self.new.seen; next_name = None } }
+        ensures name { option_map name_of_call result ≡ self.old.next_name }
         ensures call { MatchOption result (self.new ≡ self.old) (λ call. Asks self.old.shards self.old.sets self.old.seen call self.new.seen) }
         ensures ended { (end : _) → self.old.seen.ended ≡ Some end → result ≡ None }
         ensures out { (awaited : _) → self.old.seen.awaited ≡ Some awaited → result ≡ None }
@@ -87,7 +103,7 @@ impl ReadFlow {
     /// What the reply to its call makes of it. Where memory is refused it ends with `NoMemory`.
     pub fn give(&mut self, reply: Reply)
         requires { MatchOption self.old.seen.awaited ⊥ (λ awaited. Fits self.old.sets self.old.seen awaited reply) }
-        ensures asked { self.new ≡ record self.old { seen = self.new.seen } }
+        ensures asked { self.new ≡ record self.old { seen = self.new.seen; next_name = self.new.next_name } }
         ensures gives { MatchOption self.old.seen.awaited ⊥ (λ awaited. GivesTo self.old.shards self.old.fresh self.old.sets self.old.seen awaited reply self.new.seen) }
     {
         let stage = mem::replace(&mut self.stage, Stage::Ready(Ready::Heads));

@@ -1,8 +1,10 @@
 // Where a read is between two of its calls, and while one is out.
-ghost use Rattle.std.specs.Prelude.{◌≤◌};
+ghost use Rattle.std.specs.Prelude.{◌≡◌, ◌≤◌};
 ghost use Rattle.records.specs.Identity.{max_shards};
+ghost use Rattle.answer_flow.specs.ReadViews.{name_ready};
 
 use crate::freshness::Freshness;
+use calls::CallName;
 use catch_up::{CatchUp, CatchUpCall};
 use std::alloc::Global;
 use tuples::{Refusal, Tuple, Tupleset};
@@ -42,6 +44,19 @@ pub(crate) enum Ready {
     Flush,
     CatchUp(Gathered, Tupleset, CatchUp),
     Read(Gathered, Tupleset),
+}
+
+impl Ready {
+    pub(crate) fn name(&self) -> CallName
+        ensures { result ≡ name_ready self.now }
+    {
+        match self {
+            Ready::Heads => CallName::Heads,
+            Ready::Flush => CallName::Flush,
+            Ready::CatchUp(_, _, catch_up) => catch_up.next_name(),
+            Ready::Read(_, _) => CallName::Read,
+        }
+    }
 }
 
 /// The call that is out, with what stays here.

@@ -1,8 +1,10 @@
 // The turns of a read: the call of each stage, and what the reply makes of it.
 ghost use Rattle.std.specs.Prelude.{◌≡◌};
+ghost use Rattle.calls.specs.Names.{name_of as name_of_call};
+ghost use Rattle.calls.specs.declared.call_name.CallName.TheVariants as names;
 ghost use Rattle.answer_flow.specs.Finding.{fresh_of};
 ghost use Rattle.answer_flow.specs.Reading.{Asks, Fits, GivesTo};
-ghost use Rattle.answer_flow.specs.ReadViews.{IsNext, IsOutOf, IsReadyOf, IsStageOf, awaited_of, view_of, view_out, view_ready};
+ghost use Rattle.answer_flow.specs.ReadViews.{IsNext, IsOutOf, IsReadyOf, IsStageOf, awaited_of, name_ready, view_of, view_out, view_ready};
 ghost use Rattle.answer_flow.specs.declared.read_stage.Out.TheVariants as out_of;
 ghost use Rattle.answer_flow.specs.declared.read_stage.Ready.TheVariants as ready_of;
 
@@ -19,6 +21,7 @@ fn call_of_catch_up(
     catch_up: CatchUp,
 ) -> (NodeCall, Out)
     requires { IsReadyOf asked.now.shards asked.now.sets.items (ready_of.CatchUp gathered set catch_up) }
+    ensures name { name_of_call result.0 ≡ catch_up.next }
     ensures asks { Asks asked.now.shards asked.now.sets.items (view_ready (ready_of.CatchUp gathered set catch_up)) result.0 (view_out result.1) }
     ensures kept { IsOutOf asked.now.shards asked.now.sets.items result.1 }
 {
@@ -29,6 +32,7 @@ fn call_of_catch_up(
 
 fn call_of_read(asked: &AskedRead, gathered: Gathered, set: Tupleset) -> (NodeCall, Out)
     requires { IsNext asked.now.shards asked.now.sets.items gathered set }
+    ensures name { name_of_call result.0 ≡ names.Read }
     ensures asks { Asks asked.now.shards asked.now.sets.items (view_ready (ready_of.Read gathered set)) result.0 (view_out result.1) }
     ensures kept { IsOutOf asked.now.shards asked.now.sets.items result.1 }
 {
@@ -40,6 +44,7 @@ fn call_of_read(asked: &AskedRead, gathered: Gathered, set: Tupleset) -> (NodeCa
 /// The call of a stage, and the stage while it is out.
 pub(crate) fn next(asked: &AskedRead, ready: Ready) -> (NodeCall, Out)
     requires { IsReadyOf asked.now.shards asked.now.sets.items ready }
+    ensures name { name_of_call result.0 ≡ name_ready ready }
     ensures asks { Asks asked.now.shards asked.now.sets.items (view_ready ready) result.0 (view_out result.1) }
     ensures kept { IsOutOf asked.now.shards asked.now.sets.items result.1 }
 {

@@ -1,12 +1,13 @@
 // A watch: one call a turn.
 ghost use Rattle.std.specs.Prelude.{◌≡◌, ◌≢◌, Some, None, ℕ, MatchOption, is_some, option_map};
+ghost use Rattle.calls.specs.Names.{name_of as name_of_call};
 ghost use Rattle.decisions.specs.Flows.{no_heads};
 ghost use Rattle.answer_flow.specs.Watching.{Asks, Fits, GivesTo};
-ghost use Rattle.answer_flow.specs.WatchViews.{at_rest, ending_of, heads};
+ghost use Rattle.answer_flow.specs.WatchViews.{at_rest, ending_of, heads, next_name_of};
 
 use crate::watch_stage::{Ready, Stage, WatchEnd};
 use crate::watching::{give, next};
-use calls::{NodeCall, Reply};
+use calls::{CallName, NodeCall, Reply};
 use std::alloc::Global;
 use std::marker::Model;
 use std::mem;
@@ -49,9 +50,22 @@ impl WatchFlow {
         }
     }
 
+    /// The name of its next call. None where it has ended, and while a call is out.
+    pub fn next_name(&self) -> Option<CallName>
+        ensures { result ≡ next_name_of self.now.seen }
+    {
+        match &self.stage {
+            Stage::Ready(Ready::Heads) => Some(CallName::Heads),
+            Stage::Ready(Ready::Flush) => Some(CallName::Flush),
+            Stage::Ready(Ready::Batch(_)) => Some(CallName::Batch),
+            Stage::Out(_) | Stage::Ended(_) => None,
+        }
+    }
+
     /// Its next call, which has to be made, and the reply given. None where it has ended, and while a call is out.
     pub fn next_call(&mut self) -> Option<NodeCall>
         ensures asked { self.new ≡ record self.old { seen = self.new.seen } }
+        ensures name { option_map name_of_call result ≡ next_name_of self.old.seen }
         ensures call { MatchOption result (self.new ≡ self.old) (λ call. Asks self.old.cursor self.old.limit self.old.seen call self.new.seen) }
         ensures ended { (end : _) → self.old.seen.ended ≡ Some end → result ≡ None }
         ensures out { (awaited : _) → self.old.seen.awaited ≡ Some awaited → result ≡ None }

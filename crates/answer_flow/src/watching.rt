@@ -1,7 +1,8 @@
 // The calls of a watch, and what each reply makes of it.
 ghost use Rattle.std.specs.Prelude.{◌≡◌};
+ghost use Rattle.calls.specs.Names.{name_of as name_of_call};
 ghost use Rattle.answer_flow.specs.Watching.{Asks, BatchGives, Fits, FlushGives, GivesTo, HeadsGive, heartbeat as heartbeat_of};
-ghost use Rattle.answer_flow.specs.WatchViews.{IsOutOf, IsReadyOf, IsStageOf, awaited_of, view_of, view_out, view_ready};
+ghost use Rattle.answer_flow.specs.WatchViews.{IsOutOf, IsReadyOf, IsStageOf, awaited_of, name_of, view_of, view_out, view_ready};
 ghost use Rattle.answer_flow.specs.declared.watch_stage.Out.TheVariants as out_of;
 
 use crate::events::events_of;
@@ -23,6 +24,7 @@ fn heartbeat(cursor: u64, limit: u64, heads: &Heads) -> u64
 /// The call of a stage, and the stage while it is out.
 pub(crate) fn next(cursor: u64, limit: u64, ready: Ready) -> (NodeCall, Out)
     requires { IsReadyOf cursor ready }
+    ensures name { name_of_call result.0 ≡ name_of (view_ready ready).next }
     ensures asks { Asks cursor limit (view_ready ready) result.0 (view_out result.1) }
     ensures kept { IsOutOf cursor result.1 }
 {

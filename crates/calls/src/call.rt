@@ -1,4 +1,5 @@
 // The calls of nodes, with what is handed in.
+use crate::CallName;
 use coordinator::Decided;
 use decisions::{Batch, Heads, Held, Intent, Settled, Ticket, Verdict, Vote};
 use tuples::{Tupleset, User, Userset, Write, WriteId};
@@ -50,9 +51,55 @@ pub enum NodeCall {
     Shard(u8, ShardCall),
 }
 
+impl CoordinatorCall {
+    ghost use Rattle.std.specs.Prelude.{◌≡◌};
+    ghost use Rattle.calls.specs.Names.{name_at_coordinator};
+
+    /// Its name.
+    pub fn name(&self) -> CallName
+        ensures { result ≡ name_at_coordinator self.now }
+    {
+        match self {
+            CoordinatorCall::Begin(_) => CallName::Begin,
+            CoordinatorCall::Heads => CallName::Heads,
+            CoordinatorCall::Batch(_, _) => CallName::Batch,
+            CoordinatorCall::Decide(_, _) => CallName::Decide,
+            CoordinatorCall::Outcome(_) => CallName::Outcome,
+            CoordinatorCall::Abort(_) => CallName::Abort,
+            CoordinatorCall::Inquire(_) => CallName::Inquire,
+            CoordinatorCall::Raise(_, _) => CallName::Raise,
+            CoordinatorCall::Flush => CallName::Flush,
+        }
+    }
+}
+
+impl ShardCall {
+    ghost use Rattle.std.specs.Prelude.{◌≡◌};
+    ghost use Rattle.calls.specs.Names.{name_at_shard};
+
+    /// Its name.
+    pub fn name(&self) -> CallName
+        ensures { result ≡ name_at_shard self.now }
+    {
+        match self {
+            ShardCall::Learned => CallName::Learned,
+            ShardCall::Learn(_) => CallName::Learn,
+            ShardCall::StagePrepare(_) => CallName::StagePrepare,
+            ShardCall::Vote(_) => CallName::Vote,
+            ShardCall::DropWrite(_, _) => CallName::DropWrite,
+            ShardCall::InDoubt => CallName::InDoubt,
+            ShardCall::Read(_, _) => CallName::Read,
+            ShardCall::ReadForCheck(_, _, _) => CallName::Read,
+            ShardCall::Settle => CallName::Settle,
+            ShardCall::Collect(_) => CallName::Collect,
+            ShardCall::Flush => CallName::Flush,
+        }
+    }
+}
+
 impl NodeCall {
     ghost use Rattle.std.specs.Prelude.{◌≡◌};
-    ghost use Rattle.calls.specs.Names.{node_of};
+    ghost use Rattle.calls.specs.Names.{name_of, node_of};
 
     /// The node that is called.
     pub fn node(&self) -> NodeName
@@ -61,6 +108,16 @@ impl NodeCall {
         match self {
             NodeCall::Coordinator(_) => NodeName::Coordinator,
             NodeCall::Shard(shard, _) => NodeName::Shard(*shard),
+        }
+    }
+
+    /// Its name.
+    pub fn name(&self) -> CallName
+        ensures { result ≡ name_of self.now }
+    {
+        match self {
+            NodeCall::Coordinator(call) => call.name(),
+            NodeCall::Shard(_, call) => call.name(),
         }
     }
 }

@@ -3,3 +3,4 @@ pub mod Asking
 pub mod Settling
 pub mod Fitting
 pub mod Ending
+pub mod Naming

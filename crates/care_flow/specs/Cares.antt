@@ -1,7 +1,9 @@
 -- Any care, as the flow that it is.
-use Rattle.std.specs.Prelude.{◌≡◌, ◌<◌, ℕ, [], map, Option, Some}
+use Rattle.std.specs.Prelude.{◌≡◌, ◌<◌, ℕ, Bool, [], map, Option, Some, is_some, option_map}
 use Rattle.decisions.specs.Flows.{no_heads, nothing_raised}
 use Rattle.calls.specs.declared.call.NodeCall.{NodeCall}
+use Rattle.calls.specs.declared.call_name.CallName.{CallName}
+use Rattle.calls.specs.declared.call_name.CallName.TheVariants as names
 use Rattle.calls.specs.declared.reply.Reply.{Reply}
 use Rattle.care_flow.specs.declared.end.CareEnd.{CareEnd}
 use Rattle.care_flow.specs.declared.end.CareEnd.TheVariants.{Resolved as all_resolved}
@@ -20,9 +22,9 @@ use Rattle.care_flow.specs.Views.{ready}
 -- the flow before its first call
 abbrev pub begun : ℕ → Care → CareFlow
 begun shards (cares.Flush node) = Flush (record { node = node; seen = ready tt flushing.flush })
-begun shards (cares.Learn s) = Learn (record { shard = s; seen = ready no_heads learning.ask })
-begun shards (cares.Resolve s) = Resolve (record { shard = s; doubts = []; seen = ready resolving.nothing_found resolving.in_doubt })
-begun shards (cares.Raise place) = Raise (record { shards = shards; place = place; seen = ready nothing_raised raising.ask })
+begun shards (cares.Learn s) = Learn (record { shard = s; seen = ready no_heads learning.ask; next_name = Some names.Heads })
+begun shards (cares.Resolve s) = Resolve (record { shard = s; doubts = []; seen = ready resolving.nothing_found resolving.in_doubt; next_name = Some names.InDoubt })
+begun shards (cares.Raise place) = Raise (record { shards = shards; place = place; seen = ready nothing_raised raising.ask; next_name = Some names.Heads })
 begun shards (cares.Collect s) = Collect (record { shard = s; seen = ready no_heads collecting.ask })
 
 -- the node that is cared for is there in a store of so many shards, and a raise is for that many
@@ -32,6 +34,22 @@ IsThere shards (Learn v) = v.shard < shards
 IsThere shards (Resolve v) = v.shard < shards
 IsThere shards (Raise v) = v.shards ≡ shards
 IsThere shards (Collect v) = v.shard < shards
+
+-- the name of its next call, if there is one
+abbrev pub next_name_of : CareFlow → Option CallName
+next_name_of (Flush v) = option_map flushing.name_of v.seen.next
+next_name_of (Learn v) = v.next_name
+next_name_of (Resolve v) = v.next_name
+next_name_of (Raise v) = v.next_name
+next_name_of (Collect v) = option_map collecting.name_of v.seen.next
+
+-- whether a call comes next: it has not ended, and none is out
+abbrev pub has_next : CareFlow → Bool
+has_next (Flush v) = is_some v.seen.next
+has_next (Learn v) = is_some v.seen.next
+has_next (Resolve v) = is_some v.seen.next
+has_next (Raise v) = is_some v.seen.next
+has_next (Collect v) = is_some v.seen.next
 
 -- Its next call, if there is one.
 abbrev pub NextCall : CareFlow → Option NodeCall → CareFlow → Type 0

@@ -4,16 +4,18 @@ use Rattle.decisions.specs.Values.{BatchValue}
 use Rattle.catch_up.specs.Held.{Awaited, CatchUpCallValue, CatchUpValue}
 use Rattle.catch_up.specs.CatchingUp as catching
 use Rattle.catch_up.specs.declared.caught.Progress.{Progress}
+use Rattle.calls.specs.Names.{name_of}
 use Rattle.calls.specs.declared.call.NodeCall.{NodeCall}
+use Rattle.calls.specs.declared.call_name.CallName.TheVariants.{Learned}
 use Rattle.calls.specs.declared.reply.Reply.{Reply}
 
--- a shard on its way to a place, with these decisions
+-- a shard on its way to a place, with these decisions; which of its calls comes next is said where that counts
 abbrev pub on_its_way : ℕ → ℕ → Option BatchValue → CatchUpValue
-on_its_way shard to batch = record { shard = shard; to = to; batch = batch }
+on_its_way shard to batch = record { shard = shard; to = to; batch = batch; next = Learned }
 
--- the call is one of the catch-up, and what is held while it is out, and which call it is, is so
+-- the call is one of the catch-up, whichever comes next, and what is held while it is out, and which call it is, is so
 abbrev pub AsksToCatchUp : CatchUpValue → NodeCall → (Option BatchValue → Awaited → Type 0) → Type 0
-AsksToCatchUp v call P = (then : CatchUpCallValue) × catching.Asks v call then × P then.held.batch then.awaited
+AsksToCatchUp v call P = (then : CatchUpCallValue) × catching.Asks (record v { next = name_of call }) call then × P then.held.batch then.awaited
 
 -- the reply belongs to the catch-up, and the progress that it makes of it is so
 abbrev pub CatchUpGives : CatchUpValue → Awaited → Reply → (Progress → Type 0) → Type 0

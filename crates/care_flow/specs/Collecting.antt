@@ -5,6 +5,8 @@ use Rattle.refusal.specs.declared.refusal.Refusal.TheVariants.{Full}
 use Rattle.decisions.specs.Values.{HeadsValue}
 use Rattle.decisions.specs.Flows.{HeadsHeld, no_heads}
 use Rattle.calls.specs.declared.call.NodeCall.{NodeCall}
+use Rattle.calls.specs.declared.call_name.CallName.{CallName}
+use Rattle.calls.specs.declared.call_name.CallName.TheVariants as names
 use Rattle.calls.specs.declared.call.NodeCall.TheVariants.{Coordinator as of_coordinator, Shard as of_shard}
 use Rattle.calls.specs.declared.call.CoordinatorCall.TheVariants.{Heads}
 use Rattle.calls.specs.declared.call.ShardCall.TheVariants.{Collect, Flush}
@@ -30,6 +32,13 @@ CollectView = CareView HeadsHeld CollectStep
 pub record CollectFlowValue : Type 0 where
   pub shard : ℕ
   pub seen : CollectView
+
+-- what the call of a step is called
+abbrev pub name_of : CollectStep → CallName
+name_of ask = names.Heads
+name_of (collect again) = names.Collect
+name_of flush_to_collect = names.Flush
+name_of flush = names.Flush
 
 -- Which call is made, with what is held: the shard collects by the heads that the coordinator answered.
 abbrev pub Asks : ℕ → HeadsHeld → CollectStep → NodeCall → CollectView → Type 0

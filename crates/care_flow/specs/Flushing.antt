@@ -3,6 +3,8 @@ use Rattle.std.specs.Prelude.{◌≡◌, ◌<◌, ℕ, Option, Some, None, Match
 use Rattle.calls.specs.declared.call.NodeName.{NodeName}
 use Rattle.calls.specs.declared.call.NodeName.TheVariants.{Coordinator, Shard}
 use Rattle.calls.specs.declared.call.NodeCall.{NodeCall}
+use Rattle.calls.specs.declared.call_name.CallName.{CallName}
+use Rattle.calls.specs.declared.call_name.CallName.TheVariants as names
 use Rattle.calls.specs.declared.call.NodeCall.TheVariants.{Coordinator as of_coordinator, Shard as of_shard}
 use Rattle.calls.specs.declared.call.CoordinatorCall.TheVariants as coordinator_calls
 use Rattle.calls.specs.declared.call.ShardCall.TheVariants as shard_calls
@@ -26,6 +28,10 @@ FlushView = CareView (Unit {0}) FlushStep
 pub record FlushFlowValue : Type 0 where
   pub node : NodeName
   pub seen : FlushView
+
+-- what its call is called
+abbrev pub name_of : FlushStep → CallName
+name_of flush = names.Flush
 
 -- the node is there in a store of so many shards
 abbrev pub IsThere : ℕ → NodeName → Type 0

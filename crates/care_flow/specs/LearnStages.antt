@@ -1,6 +1,8 @@
 -- What is seen of the stages of a learning.
-use Rattle.std.specs.Prelude.{◌≡◌, ℕ, Some, None}
+use Rattle.std.specs.Prelude.{◌≡◌, ℕ, Option, Some, None}
 use Rattle.decisions.specs.Flows.{no_heads}
+use Rattle.calls.specs.declared.call_name.CallName.{CallName}
+use Rattle.calls.specs.declared.call_name.CallName.TheVariants as names
 use Rattle.care_flow.specs.declared.learning.Stage.{Stage}
 use Rattle.care_flow.specs.declared.learning.Stage.TheVariants.{Ask, Asked, CatchUp, CatchingUp, Ended}
 use Rattle.care_flow.specs.Learning.{LearnView, ask, catch_up}
@@ -12,6 +14,14 @@ view_of Asked = out no_heads ask
 view_of (CatchUp heads c) = ready (record { heads = Some heads; batch = c.batch }) (catch_up None)
 view_of (CatchingUp heads c) = out (record { heads = Some heads; batch = c.held.batch }) (catch_up (Some c.awaited))
 view_of (Ended end) = over no_heads end
+
+-- the name of the next call, if there is one
+abbrev pub name_of : Stage → Option CallName
+name_of Ask = Some names.Heads
+name_of Asked = None
+name_of (CatchUp heads c) = Some c.next
+name_of (CatchingUp heads c) = None
+name_of (Ended end) = None
 
 -- the shard is on its way to the kept place of the heads
 abbrev pub IsOf : ℕ → Stage → Type 0

@@ -8,6 +8,7 @@ use Rattle.catch_up.specs.CatchingUp as catching
 use Rattle.catch_up.specs.declared.caught.Progress as progresses
 use Rattle.catch_up.specs.declared.caught.Progress.TheVariants.{Next, There, Refused as is_refused}
 use Rattle.calls.specs.declared.call.NodeCall.{NodeCall}
+use Rattle.calls.specs.declared.call_name.CallName.{CallName}
 use Rattle.calls.specs.declared.call.NodeCall.TheVariants.{Coordinator as of_coordinator}
 use Rattle.calls.specs.declared.call.CoordinatorCall.TheVariants.{Heads}
 use Rattle.calls.specs.declared.reply.Reply.{Reply}
@@ -26,10 +27,11 @@ pub data LearnStep : Type 0 where
 abbrev pub LearnView : Type 0
 LearnView = CareView HeadsHeld LearnStep
 
--- of this shard
+-- of this shard, with the name of its next call, if there is one
 pub record LearnFlowValue : Type 0 where
   pub shard : ℕ
   pub seen : LearnView
+  pub next_name : Option CallName
 
 -- Which call is made, with what is held: that of the heads, and then those that bring the shard to their kept place.
 abbrev pub Asks : ℕ → HeadsHeld → LearnStep → NodeCall → LearnView → Type 0

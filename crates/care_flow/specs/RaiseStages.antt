@@ -2,6 +2,8 @@
 use Rattle.std.specs.Prelude.{◌≡◌, ◌<◌, ℕ, true, false, Option, Some, None}
 use Rattle.decisions.specs.Values.{BatchValue, HeadsValue}
 use Rattle.decisions.specs.Flows.{RaiseHolds, nothing_raised}
+use Rattle.calls.specs.declared.call_name.CallName.{CallName}
+use Rattle.calls.specs.declared.call_name.CallName.TheVariants as names
 use Rattle.care_flow.specs.Gatherings.{GatheredValue, GatheringValue}
 use Rattle.care_flow.specs.declared.raising.Stage.{Stage}
 use Rattle.care_flow.specs.declared.raising.Stage.TheVariants.{Ask, Asked, FlushToAsk, FlushingToAsk, CatchUp, CatchingUp, Flush, Flushing, Settle, Settling, Raise, Raising, FlushToRaise, FlushingToRaise, FlushRaised, FlushingRaised, Ended}
@@ -41,6 +43,26 @@ view_of (FlushingToRaise g) = out (gathered g) flush_to_raise
 view_of (FlushRaised heads) = ready (raised heads) flush_raised
 view_of (FlushingRaised heads) = out (raised heads) flush_raised
 view_of (Ended end) = over nothing_raised end
+
+-- the name of the next call, if there is one
+abbrev pub name_of : Stage → Option CallName
+name_of Ask = Some names.Heads
+name_of Asked = None
+name_of FlushToAsk = Some names.Flush
+name_of FlushingToAsk = None
+name_of (CatchUp g c) = Some c.next
+name_of (CatchingUp g c) = None
+name_of (Flush g) = Some names.Flush
+name_of (Flushing g) = None
+name_of (Settle g) = Some names.Settle
+name_of (Settling g) = None
+name_of (Raise g again) = Some names.Raise
+name_of (Raising heads again) = None
+name_of (FlushToRaise g) = Some names.Flush
+name_of (FlushingToRaise g) = None
+name_of (FlushRaised heads) = Some names.Flush
+name_of (FlushingRaised heads) = None
+name_of (Ended end) = None
 
 -- it is this shard's turn, in a store of so many, for a raise to the place
 pub record IsRoundOf (shards place : ℕ) (g : GatheringValue) : Type 0 where

@@ -12,6 +12,7 @@ use Rattle.catch_up.specs.CatchingUp as catching
 use Rattle.catch_up.specs.declared.caught.Progress as progresses
 use Rattle.catch_up.specs.declared.caught.Progress.TheVariants.{Next, There, Refused as is_refused}
 use Rattle.calls.specs.declared.call.NodeCall.{NodeCall}
+use Rattle.calls.specs.declared.call_name.CallName.{CallName}
 use Rattle.calls.specs.declared.call.NodeCall.TheVariants.{Coordinator as of_coordinator, Shard as of_shard}
 use Rattle.calls.specs.declared.call.CoordinatorCall.TheVariants.{Heads, Raise, Flush}
 use Rattle.calls.specs.declared.call.ShardCall.TheVariants.{Settle, Flush as flush_shard}
@@ -40,11 +41,12 @@ pub data RaiseStep : Type 0 where
 abbrev pub RaiseView : Type 0
 RaiseView = CareView RaiseHolds RaiseStep
 
--- to this place, in a store of so many shards
+-- to this place, in a store of so many shards, with the name of its next call, if there is one
 pub record RaiseFlowValue : Type 0 where
   pub shards : ℕ
   pub place : ℕ
   pub seen : RaiseView
+  pub next_name : Option CallName
 
 -- Which call is made, with what is held. The horizon is raised only by what each shard has settled, at or above the place, and the
 -- last flush comes only behind the raise.

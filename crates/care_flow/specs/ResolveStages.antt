@@ -3,6 +3,8 @@ use Rattle.std.specs.Prelude.{◌≡◌, ℕ, map, [], Option, Some, None}
 use Rattle.tuples.specs.declared.entry.WriteId.{WriteId}
 use Rattle.decisions.specs.Values.{BatchValue}
 use Rattle.decisions.specs.Flows.{ResolveHolds}
+use Rattle.calls.specs.declared.call_name.CallName.{CallName}
+use Rattle.calls.specs.declared.call_name.CallName.TheVariants as names
 use Rattle.care_flow.specs.declared.end.CareEnd.TheVariants.{Refused as is_refused, Resolved as all_resolved}
 use Rattle.care_flow.specs.declared.findings.Findings.{Findings}
 use Rattle.care_flow.specs.declared.resolving.Stage.{Stage}
@@ -26,6 +28,19 @@ view_of f (Drop verdict) = ready (holding f (Some verdict.id) None) drop_write
 view_of f Dropping = out (holding f None None) drop_write
 view_of f Done = over (holding f None None) (all_resolved f.found)
 view_of f (Refused e) = over (holding f None None) (is_refused e)
+
+-- the name of the next call, if there is one
+abbrev pub name_of : Stage → Option CallName
+name_of AskDoubts = Some names.InDoubt
+name_of AskedDoubts = None
+name_of (Inquire id) = Some names.Inquire
+name_of (Inquired id) = None
+name_of (CatchUp c) = Some c.next
+name_of (CatchingUp c) = None
+name_of (Drop verdict) = Some names.DropWrite
+name_of Dropping = None
+name_of Done = None
+name_of (Refused e) = None
 
 -- the coordinator is asked for the next write; the shard that is caught up is the flow's, and goes to the place of a write that
 -- was found to be decided; and it is done where no write comes next

@@ -14,6 +14,7 @@ use Rattle.catch_up.specs.CatchingUp as catching
 use Rattle.catch_up.specs.declared.caught.Progress as progresses
 use Rattle.catch_up.specs.declared.caught.Progress.TheVariants.{Next, There, Refused as is_refused}
 use Rattle.calls.specs.declared.call.NodeCall.{NodeCall}
+use Rattle.calls.specs.declared.call_name.CallName.{CallName}
 use Rattle.calls.specs.declared.call.NodeCall.TheVariants.{Coordinator as of_coordinator, Shard as of_shard}
 use Rattle.calls.specs.declared.call.CoordinatorCall.TheVariants.{Inquire}
 use Rattle.calls.specs.declared.call.ShardCall.TheVariants.{DropWrite, InDoubt}
@@ -38,11 +39,12 @@ pub data ResolveStep : Type 0 where
 abbrev pub ResolveView : Type 0
 ResolveView = CareView ResolveHolds ResolveStep
 
--- Of this shard. The ids are those that were in doubt there.
+-- Of this shard, with the name of its next call, if there is one. The ids are those that were in doubt there.
 pub record ResolveFlowValue : Type 0 where
   pub shard : ℕ
   pub doubts : List WriteId
   pub seen : ResolveView
+  pub next_name : Option CallName
 
 -- a resolution that has found nothing
 abbrev pub nothing_found : ResolveHolds

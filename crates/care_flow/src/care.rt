@@ -1,7 +1,8 @@
 // Any care.
-ghost use Rattle.std.specs.Prelude.{◌≡◌, ℕ, Some};
+ghost use Rattle.std.specs.Prelude.{◌≡◌, ℕ, Some, None, is_some, option_map};
 ghost use Rattle.calls.specs.Asking.{MayBeMade};
-ghost use Rattle.care_flow.specs.Cares.{Answered, Awaits, IsThere, NextCall, TellsOfEach, begun, end_of};
+ghost use Rattle.calls.specs.Names.{name_of};
+ghost use Rattle.care_flow.specs.Cares.{Answered, Awaits, IsThere, NextCall, TellsOfEach, begun, end_of, has_next, next_name_of};
 
 use crate::collecting::CollectFlow;
 use crate::end::CareEnd;
@@ -9,7 +10,7 @@ use crate::flushing::FlushFlow;
 use crate::learning::LearnFlow;
 use crate::raising::RaiseFlow;
 use crate::resolving::ResolveFlow;
-use calls::{NodeCall, NodeName, Reply};
+use calls::{CallName, NodeCall, NodeName, Reply};
 use std::alloc::Global;
 
 /// What a node needs from time to time.
@@ -52,9 +53,24 @@ impl CareFlow {
         }
     }
 
+    /// The name of its next call. None where it has ended, and while a call is out.
+    pub fn next_name(&self) -> Option<CallName>
+        ensures name { result ≡ next_name_of self.now }
+        ensures some { is_some result ≡ has_next self.now }
+    {
+        match self {
+            CareFlow::Flush(flow) => flow.next_name(),
+            CareFlow::Learn(flow) => flow.next_name(),
+            CareFlow::Resolve(flow) => flow.next_name(),
+            CareFlow::Raise(flow) => flow.next_name(),
+            CareFlow::Collect(flow) => flow.next_name(),
+        }
+    }
+
     /// Its next call, which has to be made, and the reply given. None where it has ended, and while a call is out.
     pub fn next_call(&mut self) -> Option<NodeCall>
         ensures call { NextCall self.old result self.new }
+        ensures name { (option_map name_of result ≡ next_name_of self.old) × (next_name_of self.new ≡ None) }
         ensures owed { (shards : ℕ) (call : _) → IsThere shards self.old → result ≡ Some call → MayBeMade shards call }
     {
         match self {

@@ -1,13 +1,13 @@
 // A shard collects what no read needs.
-ghost use Rattle.std.specs.Prelude.{◌≡◌, ◌<◌, ℕ, false, None, Some, MatchOption};
+ghost use Rattle.std.specs.Prelude.{◌≡◌, ◌<◌, ℕ, false, None, Some, MatchOption, option_map};
 ghost use Rattle.decisions.specs.Flows.{no_heads};
 ghost use Rattle.calls.specs.Asking.{MayBeMade};
-ghost use Rattle.care_flow.specs.Collecting.{Answered, Asks, Awaits, CollectGives, Fits, FlushGives, Gives, HeadsGive, NextCall, ask};
+ghost use Rattle.care_flow.specs.Collecting.{Answered, Asks, Awaits, CollectGives, Fits, FlushGives, Gives, HeadsGive, NextCall, ask, name_of};
 ghost use Rattle.care_flow.specs.CollectStages.{having, view_of};
 ghost use Rattle.care_flow.specs.Views.{ready};
 
 use crate::end::{CareEnd, end_by, foreign};
-use calls::{CoordinatorCall, CoordinatorReply, NodeCall, Reply, ShardCall, ShardReply};
+use calls::{CallName, CoordinatorCall, CoordinatorReply, NodeCall, Reply, ShardCall, ShardReply};
 use decisions::Heads;
 use std::marker::Model;
 use std::mem;
@@ -145,6 +145,18 @@ impl CollectFlow {
         CollectFlow {
             shard,
             stage: Stage::Ask,
+        }
+    }
+
+    /// The name of its next call. None where it has ended, and while a call is out.
+    pub fn next_name(&self) -> Option<CallName>
+        ensures { result ≡ option_map name_of self.now.seen.next }
+    {
+        match &self.stage {
+            Stage::Ask => Some(CallName::Heads),
+            Stage::Collect(_, _) => Some(CallName::Collect),
+            Stage::FlushToCollect(_) | Stage::Flush => Some(CallName::Flush),
+            _ => None,
         }
     }
 

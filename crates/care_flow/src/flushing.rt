@@ -1,11 +1,13 @@
 // A node's flush.
-ghost use Rattle.std.specs.Prelude.{◌≡◌, ◌<◌, ℕ, None, Some};
+ghost use Rattle.std.specs.Prelude.{◌≡◌, ◌<◌, ℕ, None, Some, option_map};
 ghost use Rattle.calls.specs.Asking.{MayBeMade};
-ghost use Rattle.care_flow.specs.Flushing.{Answered, Awaits, Fits, Gives, IsThere, NextCall, flush, flush_of};
+ghost use Rattle.care_flow.specs.Flushing.{Answered, Awaits, Fits, Gives, IsThere, NextCall, flush, flush_of, name_of};
 ghost use Rattle.care_flow.specs.Views.{out, ready};
 
 use crate::end::{CareEnd, end_by, foreign};
-use calls::{CoordinatorCall, CoordinatorReply, NodeCall, NodeName, Reply, ShardCall, ShardReply};
+use calls::{
+    CallName, CoordinatorCall, CoordinatorReply, NodeCall, NodeName, Reply, ShardCall, ShardReply,
+};
 use std::marker::Model;
 
 #[derive(Drop)]
@@ -62,6 +64,16 @@ impl FlushFlow {
         FlushFlow {
             node,
             stage: Stage::Flush,
+        }
+    }
+
+    /// The name of its next call. None where it has ended, and while a call is out.
+    pub fn next_name(&self) -> Option<CallName>
+        ensures { result ≡ option_map name_of self.now.seen.next }
+    {
+        match &self.stage {
+            Stage::Flush => Some(CallName::Flush),
+            Stage::Flushing | Stage::Ended(_) => None,
         }
     }
 

@@ -1,14 +1,16 @@
 // A shard learns all that is kept.
-ghost use Rattle.std.specs.Prelude.{◌≡◌, ◌<◌, ℕ, None, Some, MatchOption};
+ghost use Rattle.std.specs.Prelude.{◌≡◌, ◌<◌, ℕ, None, Some, MatchOption, is_some, option_map};
 ghost use Rattle.decisions.specs.Flows.{no_heads};
 ghost use Rattle.calls.specs.Asking.{MayBeMade};
+ghost use Rattle.calls.specs.Names.{name_of as name_of_call};
+ghost use Rattle.calls.specs.declared.call_name.CallName.TheVariants as names;
 ghost use Rattle.catch_up.specs.CatchingUp.{Fits as FitsCatchUp};
 ghost use Rattle.care_flow.specs.Learning.{Answered, Asks, Awaits, Fits, Gives, HasLearned, HeadsGive, IsDone, NextCall, ask, catch_up as catching};
-ghost use Rattle.care_flow.specs.LearnStages.{IsOf, view_of};
+ghost use Rattle.care_flow.specs.LearnStages.{IsOf, name_of, view_of};
 ghost use Rattle.care_flow.specs.Views.{ready};
 
 use crate::end::{CareEnd, foreign};
-use calls::{CoordinatorCall, CoordinatorReply, NodeCall, Reply};
+use calls::{CallName, CoordinatorCall, CoordinatorReply, NodeCall, Reply};
 use catch_up::{CatchUp, CatchUpCall, Progress};
 use decisions::Heads;
 use std::marker::Model;
@@ -38,9 +40,9 @@ impl Model for LearnFlow {
 
     ghost Value = { LearnFlowValue };
 
-    ghost use Rattle.care_flow.specs.LearnStages.{IsOf, view_of};
+    ghost use Rattle.care_flow.specs.LearnStages.{IsOf, name_of, view_of};
 
-    ghost view = { λ f. record { shard = f.shard; seen = view_of f.stage } };
+    ghost view = { λ f. record { shard = f.shard; seen = view_of f.stage; next_name = name_of f.stage } };
 
     ghost invariant = { λ f. IsOf f.shard f.stage };
 }
@@ -51,6 +53,8 @@ fn next(shard: u8, stage: Stage) -> (Stage, Option<NodeCall>)
     ensures call { MatchOption (view_of stage).next ((result.1 ≡ None) × (view_of result.0 ≡ view_of stage))
         (λ step. MatchOption result.1 ⊥ (λ call. Asks shard (view_of stage).holds step call (view_of result.0))) }
     ensures owed { (shards : ℕ) (call : _) → shard < shards → result.1 ≡ Some call → MayBeMade shards call }
+    ensures name { option_map name_of_call result.1 ≡ name_of stage }
+    ensures none { name_of result.0 ≡ None }
     ensures kept { IsOf shard result.0 }
 {
     let _shard = shard;
@@ -118,7 +122,7 @@ fn give(shard: u8, stage: Stage, reply: Reply) -> Stage
 impl LearnFlow {
     /// Of this shard.
     pub fn new(shard: u8) -> LearnFlow
-        ensures { result ≡ record { shard = shard; seen = ready no_heads ask } }
+        ensures { result ≡ record { shard = shard; seen = ready no_heads ask; next_name = Some names.Heads } }
     {
         LearnFlow {
             shard,
@@ -126,10 +130,23 @@ impl LearnFlow {
         }
     }
 
+    /// The name of its next call. None where it has ended, and while a call is out.
+    pub fn next_name(&self) -> Option<CallName>
+        ensures name { result ≡ self.now.next_name }
+        ensures some { is_some result ≡ is_some self.now.seen.next }
+    {
+        match &self.stage {
+            Stage::Ask => Some(CallName::Heads),
+            Stage::CatchUp(_, catch_up) => Some(catch_up.next_name()),
+            _ => None,
+        }
+    }
+
     /// Its next call, which has to be made, and the reply given. None where it has ended, and while a call is out.
     pub fn next_call(&mut self) -> Option<NodeCall>
         ensures shard { self.new.shard ≡ self.old.shard }
         ensures call { NextCall self.old result self.new }
+        ensures name { (option_map name_of_call result ≡ self.old.next_name) × (self.new.next_name ≡ None) }
         ensures owed { (shards : ℕ) (call : _) → self.old.shard < shards → result ≡ Some call → MayBeMade shards call }
     {
         let stage = mem::replace(&mut self.stage, Stage::Asked);

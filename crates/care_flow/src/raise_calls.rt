@@ -1,8 +1,10 @@
 // The next call of a raise.
-ghost use Rattle.std.specs.Prelude.{◌≡◌, ◌<◌, None, Some, MatchOption};
+ghost use Rattle.std.specs.Prelude.{◌≡◌, ◌<◌, None, Some, MatchOption, option_map};
 ghost use Rattle.calls.specs.Asking.{MayBeMade};
+ghost use Rattle.calls.specs.Names.{name_of as name_of_call};
+ghost use Rattle.calls.specs.declared.call_name.CallName.TheVariants as names;
 ghost use Rattle.care_flow.specs.Raising.{Asks, catch_up as catching, raise as raising};
-ghost use Rattle.care_flow.specs.RaiseStages.{IsOf, IsRoundOf, view_of};
+ghost use Rattle.care_flow.specs.RaiseStages.{IsOf, IsRoundOf, name_of, view_of};
 
 use crate::gathering::{Gathered, Gathering};
 use crate::raising::Stage;
@@ -14,6 +16,8 @@ fn catch_up(gathering: Gathering, catch_up: CatchUp) -> (Stage, NodeCall)
     requires own { (catch_up.shard ≡ gathering.next) × (catch_up.to ≡ gathering.heads.kept) }
     ensures asks { Asks gathering.shards gathering.place (view_of (Stage.CatchUp gathering catch_up)).holds (catching gathering.next None) result.1 (view_of result.0) }
     ensures owed { MayBeMade gathering.shards result.1 }
+    ensures name { name_of_call result.1 ≡ catch_up.next }
+    ensures none { name_of result.0 ≡ None }
     ensures kept { IsOf gathering.shards gathering.place result.0 }
 {
     let (call, out) = catch_up.next_call();
@@ -23,6 +27,8 @@ fn catch_up(gathering: Gathering, catch_up: CatchUp) -> (Stage, NodeCall)
 fn raise(gathered: Gathered, is_again: bool) -> (Stage, NodeCall)
     ensures asks { Asks gathered.shards gathered.place (view_of (Stage.Raise gathered is_again)).holds (raising is_again) result.1 (view_of result.0) }
     ensures owed { MayBeMade gathered.shards result.1 }
+    ensures name { name_of_call result.1 ≡ names.Raise }
+    ensures none { name_of result.0 ≡ None }
     ensures kept { IsOf gathered.shards gathered.place result.0 }
 {
     let (place, settled, heads) = gathered.into_parts();
@@ -48,6 +54,8 @@ pub(crate) fn next(shards: u8, place: u64, stage: Stage) -> (Stage, Option<NodeC
     ensures call { MatchOption (view_of stage).next ((result.1 ≡ None) × (view_of result.0 ≡ view_of stage))
         (λ step. MatchOption result.1 ⊥ (λ call. Asks shards place (view_of stage).holds step call (view_of result.0))) }
     ensures owed { (call : _) → result.1 ≡ Some call → MayBeMade shards call }
+    ensures name { option_map name_of_call result.1 ≡ name_of stage }
+    ensures none { name_of result.0 ≡ None }
     ensures kept { IsOf shards place result.0 }
 {
     let _shards = shards;

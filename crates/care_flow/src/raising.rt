@@ -1,6 +1,8 @@
 // The horizon is raised.
-ghost use Rattle.std.specs.Prelude.{◌≡◌, ◌<◌, None, Some};
+ghost use Rattle.std.specs.Prelude.{◌≡◌, ◌<◌, None, Some, is_some, option_map};
 ghost use Rattle.calls.specs.Asking.{MayBeMade};
+ghost use Rattle.calls.specs.Names.{name_of as name_of_call};
+ghost use Rattle.calls.specs.declared.call_name.CallName.TheVariants as names;
 ghost use Rattle.decisions.specs.Flows.{nothing_raised};
 ghost use Rattle.care_flow.specs.Raising.{Answered, Awaits, NextCall, ask};
 ghost use Rattle.care_flow.specs.RaiseStages.{IsOf, view_of};
@@ -10,7 +12,7 @@ use crate::end::CareEnd;
 use crate::gathering::{Gathered, Gathering};
 use crate::raise_calls::next;
 use crate::raise_replies::give;
-use calls::{NodeCall, Reply};
+use calls::{CallName, NodeCall, Reply};
 use catch_up::{CatchUp, CatchUpCall};
 use decisions::Heads;
 use std::alloc::Global;
@@ -59,9 +61,9 @@ impl Model for RaiseFlow {
 
     ghost Value = { RaiseFlowValue };
 
-    ghost use Rattle.care_flow.specs.RaiseStages.{IsOf, view_of};
+    ghost use Rattle.care_flow.specs.RaiseStages.{IsOf, name_of, view_of};
 
-    ghost view = { λ f. record { shards = f.shards; place = f.place; seen = view_of f.stage } };
+    ghost view = { λ f. record { shards = f.shards; place = f.place; seen = view_of f.stage; next_name = name_of f.stage } };
 
     ghost invariant = { λ f. IsOf f.shards f.place f.stage };
 }
@@ -69,7 +71,7 @@ impl Model for RaiseFlow {
 impl RaiseFlow {
     /// To this place, in a store of so many shards.
     pub fn new(alloc: Global, shards: u8, place: u64) -> RaiseFlow
-        ensures { result ≡ record { shards = shards; place = place; seen = ready nothing_raised ask } }
+        ensures { result ≡ record { shards = shards; place = place; seen = ready nothing_raised ask; next_name = Some names.Heads } }
     {
         RaiseFlow {
             alloc,
@@ -79,10 +81,27 @@ impl RaiseFlow {
         }
     }
 
+    /// The name of its next call. None where it has ended, and while a call is out.
+    pub fn next_name(&self) -> Option<CallName>
+        ensures name { result ≡ self.now.next_name }
+        ensures some { is_some result ≡ is_some self.now.seen.next }
+    {
+        match &self.stage {
+            Stage::Ask => Some(CallName::Heads),
+            Stage::CatchUp(_, catch_up) => Some(catch_up.next_name()),
+            Stage::Settle(_) => Some(CallName::Settle),
+            Stage::Raise(_, _) => Some(CallName::Raise),
+            Stage::FlushToAsk | Stage::Flush(_) | Stage::FlushToRaise(_) | Stage::FlushRaised(_) =>
+                Some(CallName::Flush),
+            _ => None,
+        }
+    }
+
     /// Its next call, which has to be made, and the reply given. None where it has ended, and while a call is out.
     pub fn next_call(&mut self) -> Option<NodeCall>
         ensures same { (self.new.shards ≡ self.old.shards) × (self.new.place ≡ self.old.place) }
         ensures call { NextCall self.old result self.new }
+        ensures name { (option_map name_of_call result ≡ self.old.next_name) × (self.new.next_name ≡ None) }
         ensures owed { (call : _) → result ≡ Some call → MayBeMade self.old.shards call }
     {
         let stage = mem::replace(&mut self.stage, Stage::Asked);

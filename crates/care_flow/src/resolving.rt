@@ -1,17 +1,19 @@
 // What became of each write that is in doubt at a shard.
-ghost use Rattle.std.specs.Prelude.{◌≡◌, ◌<◌, [], ℕ, List, None, Some, MatchOption, map};
+ghost use Rattle.std.specs.Prelude.{◌≡◌, ◌<◌, [], ℕ, List, None, Some, MatchOption, is_some, map, option_map};
 ghost use Rattle.calls.specs.Asking.{MayBeMade};
+ghost use Rattle.calls.specs.Names.{name_of as name_of_call};
+ghost use Rattle.calls.specs.declared.call_name.CallName.TheVariants as names;
 ghost use Rattle.catch_up.specs.CatchingUp.{Fits as FitsCatchUp};
 ghost use Rattle.care_flow.specs.declared.end.CareEnd.TheVariants.{Resolved as all_resolved};
 ghost use Rattle.decisions.specs.Flows.{ResolveHolds};
 ghost use Rattle.care_flow.specs.Ends.{id_of, next_of, resolved_value};
 ghost use Rattle.care_flow.specs.Resolving.{Answered, Asks, Awaits, DoubtsGive, DropGives, Fits, Gives, GoesThrough, HasCommitted, InquiryGives, NextCall, catch_up as catching, in_doubt, nothing_found};
-ghost use Rattle.care_flow.specs.ResolveStages.{IsOf, holding, view_of};
+ghost use Rattle.care_flow.specs.ResolveStages.{IsOf, holding, name_of, view_of};
 ghost use Rattle.care_flow.specs.Views.{ready};
 
 use crate::end::{CareEnd, Resolved, foreign};
 use crate::findings::Findings;
-use calls::{CoordinatorCall, CoordinatorReply, NodeCall, Reply, ShardCall, ShardReply};
+use calls::{CallName, CoordinatorCall, CoordinatorReply, NodeCall, Reply, ShardCall, ShardReply};
 use catch_up::{CatchUp, CatchUpCall, Progress};
 use coordinator::Inquiry;
 use decisions::Verdict;
@@ -54,9 +56,9 @@ impl Model for ResolveFlow {
 
     ghost Value = { ResolveFlowValue };
 
-    ghost use Rattle.care_flow.specs.ResolveStages.{IsOf, view_of};
+    ghost use Rattle.care_flow.specs.ResolveStages.{IsOf, name_of, view_of};
 
-    ghost view = { λ f. record { shard = f.shard; doubts = f.findings.doubts.items; seen = view_of f.findings f.stage } };
+    ghost view = { λ f. record { shard = f.shard; doubts = f.findings.doubts.items; seen = view_of f.findings f.stage; next_name = name_of f.stage } };
 
     ghost invariant = { λ f. IsOf f.shard f.findings f.stage };
 }
@@ -67,6 +69,8 @@ fn next(shard: u8, findings: &Findings, stage: Stage) -> (Stage, Option<NodeCall
     ensures call { MatchOption (view_of findings.now stage).next ((result.1 ≡ None) × (view_of findings.now result.0 ≡ view_of findings.now stage))
         (λ step. MatchOption result.1 ⊥ (λ call. Asks shard (view_of findings.now stage).holds step call (view_of findings.now result.0))) }
     ensures owed { (shards : ℕ) (call : _) → shard < shards → result.1 ≡ Some call → MayBeMade shards call }
+    ensures name { option_map name_of_call result.1 ≡ name_of stage }
+    ensures none { name_of result.0 ≡ None }
     ensures kept { IsOf shard findings.now result.0 }
 {
     let _findings = findings;
@@ -208,7 +212,7 @@ fn give(alloc: Global, shard: u8, findings: &mut Findings, stage: Stage, reply: 
 impl ResolveFlow {
     /// Of this shard.
     pub fn new(alloc: Global, shard: u8) -> ResolveFlow
-        ensures { result ≡ record { shard = shard; doubts = []; seen = ready nothing_found in_doubt } }
+        ensures { result ≡ record { shard = shard; doubts = []; seen = ready nothing_found in_doubt; next_name = Some names.InDoubt } }
     {
         ResolveFlow {
             alloc,
@@ -218,11 +222,26 @@ impl ResolveFlow {
         }
     }
 
+    /// The name of its next call. None where it has ended, and while a call is out.
+    pub fn next_name(&self) -> Option<CallName>
+        ensures name { result ≡ self.now.next_name }
+        ensures some { is_some result ≡ is_some self.now.seen.next }
+    {
+        match &self.stage {
+            Stage::AskDoubts => Some(CallName::InDoubt),
+            Stage::Inquire(_) => Some(CallName::Inquire),
+            Stage::CatchUp(catch_up) => Some(catch_up.next_name()),
+            Stage::Drop(_) => Some(CallName::DropWrite),
+            _ => None,
+        }
+    }
+
     /// Its next call, which has to be made, and the reply given. None where it has ended, and while a call is out.
     pub fn next_call(&mut self) -> Option<NodeCall>
         ensures shard { self.new.shard ≡ self.old.shard }
         ensures doubts { self.new.doubts ≡ self.old.doubts }
         ensures call { NextCall self.old result self.new }
+        ensures name { (option_map name_of_call result ≡ self.old.next_name) × (self.new.next_name ≡ None) }
         ensures owed { (shards : ℕ) (call : _) → self.old.shard < shards → result ≡ Some call → MayBeMade shards call }
     {
         let stage = mem::replace(&mut self.stage, Stage::AskedDoubts);

@@ -6,6 +6,7 @@ use Rattle.decisions.specs.Values.{BatchValue}
 use Rattle.catch_up.specs.Held.{Awaited, CatchUpCallValue, CatchUpValue, decisions, flushing, learned, learning}
 use Rattle.catch_up.specs.declared.caught.Progress.{Progress}
 use Rattle.catch_up.specs.declared.caught.Progress.TheVariants.{Next, There, Refused}
+use Rattle.calls.specs.declared.call_name.CallName.TheVariants as names
 use Rattle.calls.specs.declared.call.NodeCall.{NodeCall}
 use Rattle.calls.specs.declared.call.NodeCall.TheVariants.{Coordinator, Shard}
 use Rattle.calls.specs.declared.call.CoordinatorCall.{CoordinatorCall}
@@ -53,23 +54,23 @@ Fits awaited (from_shard reply) = FitsShard awaited reply
 
 -- the shard has answered how far it has learned: it is there, or below the place
 abbrev pub LearnedGives : CatchUpValue → Result ℕ Refusal → Progress → Type 0
-LearnedGives v (Ok n) progress = (v.to ≤ n → progress ≡ There) × (n < v.to → progress ≡ Next (record v { batch = None }))
+LearnedGives v (Ok n) progress = (v.to ≤ n → progress ≡ There) × (n < v.to → progress ≡ Next (record v { batch = None; next = names.Batch }))
 LearnedGives v (Err e) progress = progress ≡ Refused e
 
 -- decisions came; where those behind the place are forgotten, the shard is asked anew
 abbrev pub BatchGives : CatchUpValue → Result BatchValue Refusal → Progress → Type 0
-BatchGives v (Ok b) progress = progress ≡ Next (record v { batch = Some b })
-BatchGives v (Err e) progress = (e ≡ Collected → progress ≡ Next (record v { batch = None })) × (e ≢ Collected → progress ≡ Refused e)
+BatchGives v (Ok b) progress = progress ≡ Next (record v { batch = Some b; next = names.Learn })
+BatchGives v (Err e) progress = (e ≡ Collected → progress ≡ Next (record v { batch = None; next = names.Learned })) × (e ≢ Collected → progress ≡ Refused e)
 
 -- the shard has learned, and is asked anew; where it is full for the first time, the decisions wait for a flush
 abbrev pub LearnGives : CatchUpValue → Awaited → BatchValue → Result Bool Refusal → Progress → Type 0
-LearnGives v awaited b (Ok is_known) progress = progress ≡ Next (record v { batch = None })
-LearnGives v awaited b (Err e) progress = (e ≡ Full → awaited ≡ learning false → progress ≡ Next (record v { batch = Some b }))
+LearnGives v awaited b (Ok is_known) progress = progress ≡ Next (record v { batch = None; next = names.Learned })
+LearnGives v awaited b (Err e) progress = (e ≡ Full → awaited ≡ learning false → progress ≡ Next (record v { batch = Some b; next = names.Flush }))
     × ((e ≢ Full) ⊎ (awaited ≡ learning true) → progress ≡ Refused e)
 
 -- the shard was flushed, and the decisions are handed over once more
 abbrev pub FlushGives : CatchUpValue → Result (Unit {0}) Refusal → Progress → Type 0
-FlushGives v (Ok done) progress = progress ≡ Next v
+FlushGives v (Ok done) progress = progress ≡ Next (record v { next = names.Learn })
 FlushGives v (Err e) progress = progress ≡ Refused e
 
 abbrev pub GivesShard : CatchUpCallValue → ShardReply → Progress → Type 0

@@ -1,12 +1,14 @@
 -- What is held on the way of a shard to a place.
 use Rattle.std.specs.Prelude.{ℕ, Bool, Option}
 use Rattle.decisions.specs.Values.{BatchValue}
+use Rattle.calls.specs.declared.call_name.CallName.{CallName}
 
--- between two calls: the shard, the place to which it is brought, and the decisions on their way to it
+-- between two calls: the shard, the place to which it is brought, the decisions on their way to it, and the name of the call that comes next
 pub record CatchUpValue : Type 0 where
   pub shard : ℕ
   pub to : ℕ
   pub batch : Option BatchValue
+  pub next : CallName
 
 -- The call that is out: how far has the shard learned; the decisions behind a place; that the shard learn, for the first time or again behind a flush;
 -- that flush.
@@ -16,7 +18,7 @@ pub data Awaited : Type 0 where
   learning : Bool → Awaited
   flushing : Awaited
 
--- while a call is out: what is held then, and which call it is
+-- while a call is out: what is held then, with that call's name, and which call it is
 pub record CatchUpCallValue : Type 0 where
   pub held : CatchUpValue
   pub awaited : Awaited

@@ -1,6 +1,8 @@
 -- What is seen of the steps.
 use Rattle.std.specs.Prelude.{◌<◌, ℕ, Option, Some, None}
 use Rattle.decisions.specs.Values.{BatchValue}
+use Rattle.calls.specs.declared.call_name.CallName.{CallName}
+use Rattle.calls.specs.declared.call_name.CallName.TheVariants as names
 use Rattle.catch_up.specs.Held.{Awaited, decisions, flushing, learned, learning}
 use Rattle.catch_up.specs.declared.catch_up.Step.{Step}
 use Rattle.catch_up.specs.declared.catch_up.Step.TheVariants.{Learned, Batch, Learn, Flush}
@@ -13,6 +15,13 @@ batch_of Learned = None
 batch_of (Batch from) = None
 batch_of (Learn batch again) = Some batch
 batch_of (Flush batch) = Some batch
+
+-- the name of the call of a step
+abbrev pub name_of : Step → CallName
+name_of Learned = names.Learned
+name_of (Batch from) = names.Batch
+name_of (Learn batch again) = names.Learn
+name_of (Flush batch) = names.Flush
 
 -- decisions are fetched from below the place
 abbrev pub IsBelow : ℕ → Step → Type 0
@@ -34,3 +43,10 @@ awaited_by asked_learned = learned
 awaited_by asked_batch = decisions
 awaited_by (asked_learn again) = learning again
 awaited_by (asked_flush batch) = flushing
+
+-- and what that call is called
+abbrev pub name_out : Asked → CallName
+name_out asked_learned = names.Learned
+name_out asked_batch = names.Batch
+name_out (asked_learn again) = names.Learn
+name_out (asked_flush batch) = names.Flush

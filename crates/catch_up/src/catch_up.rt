@@ -1,11 +1,13 @@
 // A shard on its way to a place, between two calls.
 ghost use Rattle.std.specs.Prelude.{◌≡◌, None};
 ghost use Rattle.calls.specs.Asking.{MayBeMade};
+ghost use Rattle.calls.specs.Names.{name_of as name_of_call};
+ghost use Rattle.calls.specs.declared.call_name.CallName.TheVariants as names;
 ghost use Rattle.catch_up.specs.CatchingUp.{Asks};
-ghost use Rattle.catch_up.specs.Steps.{awaited_by, held_by};
+ghost use Rattle.catch_up.specs.Steps.{awaited_by, held_by, name_out};
 
 use crate::caught::{Asked, CatchUpCall};
-use calls::{CoordinatorCall, NodeCall, ShardCall};
+use calls::{CallName, CoordinatorCall, NodeCall, ShardCall};
 use decisions::Batch;
 use std::marker::Model;
 
@@ -34,9 +36,9 @@ impl Model for CatchUp {
 
     ghost Value = { CatchUpValue };
 
-    ghost use Rattle.catch_up.specs.Steps.{batch_of, IsBelow};
+    ghost use Rattle.catch_up.specs.Steps.{batch_of, IsBelow, name_of};
 
-    ghost view = { λ c. record { shard = c.shard; to = c.to; batch = batch_of c.step } };
+    ghost view = { λ c. record { shard = c.shard; to = c.to; batch = batch_of c.step; next = name_of c.step } };
 
     ghost invariant = { λ c. IsBelow c.to c.step };
 }
@@ -44,7 +46,7 @@ impl Model for CatchUp {
 impl CatchUp {
     /// Of this shard, up to this place.
     pub fn new(shard: u8, to: u64) -> CatchUp
-        ensures { result ≡ record { shard = shard; to = to; batch = None } }
+        ensures { result ≡ record { shard = shard; to = to; batch = None; next = names.Learned } }
     {
         CatchUp {
             shard,
@@ -53,9 +55,22 @@ impl CatchUp {
         }
     }
 
+    /// The name of its next call.
+    pub fn next_name(&self) -> CallName
+        ensures { result ≡ self.now.next }
+    {
+        match &self.step {
+            Step::Learned => CallName::Learned,
+            Step::Batch(_) => CallName::Batch,
+            Step::Learn(_, _) => CallName::Learn,
+            Step::Flush(_) => CallName::Flush,
+        }
+    }
+
     /// Its next call.
     pub fn next_call(self) -> (NodeCall, CatchUpCall)
-        ensures { Asks self result.0 result.1 }
+        ensures asks { Asks self result.0 result.1 }
+        ensures name { name_of_call result.0 ≡ self.next }
     {
         let CatchUp { shard, to, step } = self;
         match step {
@@ -81,7 +96,7 @@ impl CatchUp {
 
 // A call of it is out.
 fn awaiting(shard: u8, to: u64, asked: Asked) -> CatchUpCall
-    ensures { result ≡ record { held = record { shard = shard; to = to; batch = held_by asked }; awaited = awaited_by asked } }
+    ensures { result ≡ record { held = record { shard = shard; to = to; batch = held_by asked; next = name_out asked }; awaited = awaited_by asked } }
 {
     CatchUpCall { shard, to, asked }
 }

@@ -1,13 +1,13 @@
--- What a flow of a store of so many shards keeps in each stage, beside what its values keep themselves.
+-- What a flow of a store of so many shards keeps in each phase, beside what its values keep themselves.
 use Rattle.std.specs.Prelude.{◌≡◌, ℕ, []}
 use Rattle.std.specs.Vec.{vec_len}
 use Rattle.commit_flow.specs.declared.load.Load.{Load}
-use Rattle.commit_flow.specs.declared.stage.Ready.{Ready}
-use Rattle.commit_flow.specs.declared.stage.Ready.TheVariants as ready
-use Rattle.commit_flow.specs.declared.stage.Out.{Out}
-use Rattle.commit_flow.specs.declared.stage.Out.TheVariants as out
-use Rattle.commit_flow.specs.declared.stage.Stage.{Stage}
-use Rattle.commit_flow.specs.declared.stage.Stage.TheVariants as stages
+use Rattle.commit_flow.specs.declared.phase.Ready.{Ready}
+use Rattle.commit_flow.specs.declared.phase.Ready.TheVariants as ready
+use Rattle.commit_flow.specs.declared.phase.Out.{Out}
+use Rattle.commit_flow.specs.declared.phase.Out.TheVariants as out
+use Rattle.commit_flow.specs.declared.phase.Phase.{Phase}
+use Rattle.commit_flow.specs.declared.phase.Phase.TheVariants as phases
 
 -- of a store of so many shards, and with nothing in it
 abbrev pub IsFresh : ℕ → Load → Type 0
@@ -44,7 +44,7 @@ IsOutOf n (out.Abort l) = Unit {0}
 IsOutOf n (out.Inquire l) = Unit {0}
 IsOutOf n (out.DropWrite l) = Unit {0}
 
-abbrev pub IsStageOf : ℕ → Stage → Type 0
-IsStageOf n (stages.Ready r) = IsReadyOf n r
-IsStageOf n (stages.Out o) = IsOutOf n o
-IsStageOf n (stages.Ended end) = Unit {0}
+abbrev pub IsPhaseOf : ℕ → Phase → Type 0
+IsPhaseOf n (phases.Ready r) = IsReadyOf n r
+IsPhaseOf n (phases.Out o) = IsOutOf n o
+IsPhaseOf n (phases.Ended end) = Unit {0}

@@ -1,6 +1,6 @@
 pub mod WriteHolds
 pub mod Participants
-pub mod Stages
+pub mod Phases
 pub mod Views
 pub mod Kept
 pub mod Writing

@@ -1,4 +1,4 @@
--- What a write flow is seen as, of its stage.
+-- What a write flow is seen as, of its phase.
 use Rattle.std.specs.Prelude.{ℕ, Bool, List, [], ◌∷◌, ◌++◌, map, Option, Some, None}
 use Rattle.tuples.specs.declared.entry.WriteId.{WriteId}
 use Rattle.tuples.specs.Writes.{WriteValue}
@@ -7,19 +7,21 @@ use Rattle.decisions.specs.Values.{BatchValue, IntentValue, TicketValue, Verdict
 use Rattle.decisions.specs.Standing.{DecidedValue}
 use Rattle.decisions.specs.declared.held.Held.{Held}
 use Rattle.decisions.specs.declared.held.Held.TheVariants.{Ticket, Vote as held_vote}
+use Rattle.calls.specs.declared.call_name.CallName.{CallName}
+use Rattle.calls.specs.declared.call_name.CallName.TheVariants as names
 use Rattle.commit_flow.specs.declared.end.WriteEnd.{WriteEnd}
 use Rattle.commit_flow.specs.declared.end.WriteEnd.TheVariants.{Wrote, Refused, Cancelled}
 use Rattle.commit_flow.specs.declared.load.Load.{Load}
-use Rattle.commit_flow.specs.declared.stage.Preparing.{Preparing}
-use Rattle.commit_flow.specs.declared.stage.AskedPrepare.{AskedPrepare}
-use Rattle.commit_flow.specs.declared.stage.Voting.{Voting}
-use Rattle.commit_flow.specs.declared.stage.Leaving.{Leaving}
-use Rattle.commit_flow.specs.declared.stage.Ready.{Ready}
-use Rattle.commit_flow.specs.declared.stage.Ready.TheVariants as ready
-use Rattle.commit_flow.specs.declared.stage.Out.{Out}
-use Rattle.commit_flow.specs.declared.stage.Out.TheVariants as out
-use Rattle.commit_flow.specs.declared.stage.Stage.{Stage}
-use Rattle.commit_flow.specs.declared.stage.Stage.TheVariants as stages
+use Rattle.commit_flow.specs.declared.phase.Preparing.{Preparing}
+use Rattle.commit_flow.specs.declared.phase.AskedPrepare.{AskedPrepare}
+use Rattle.commit_flow.specs.declared.phase.Voting.{Voting}
+use Rattle.commit_flow.specs.declared.phase.Leaving.{Leaving}
+use Rattle.commit_flow.specs.declared.phase.Ready.{Ready}
+use Rattle.commit_flow.specs.declared.phase.Ready.TheVariants as ready
+use Rattle.commit_flow.specs.declared.phase.Out.{Out}
+use Rattle.commit_flow.specs.declared.phase.Out.TheVariants as out
+use Rattle.commit_flow.specs.declared.phase.Phase.{Phase}
+use Rattle.commit_flow.specs.declared.phase.Phase.TheVariants as phases
 use Rattle.commit_flow.specs.WriteHolds.{HeldTicket, Way, WriteAwaited, WriteHolds, nothing_begun, onward, outward}
 use Rattle.commit_flow.specs.WriteHolds as waits
 
@@ -187,7 +189,7 @@ caught_out (out.DropWrite l) = None
 abbrev pub at_rest : WriteHolds → WriteView
 at_rest holds = record { write = None; holds = holds; caught = None; awaited = None; ended = None }
 
--- what is seen of each stage
+-- what is seen of each phase
 abbrev pub view_ready : Ready → WriteView
 view_ready r = record { write = write_of r; holds = holds_ready r; caught = caught_of r; awaited = None; ended = None }
 
@@ -197,7 +199,28 @@ view_out o = record { write = None; holds = holds_out o; caught = caught_out o; 
 abbrev pub view_ended : WriteEnd → WriteView
 view_ended end = record { write = None; holds = holds_ended end; caught = None; awaited = None; ended = Some end }
 
-abbrev pub view_of : Stage → WriteView
-view_of (stages.Ready r) = view_ready r
-view_of (stages.Out o) = view_out o
-view_of (stages.Ended end) = view_ended end
+abbrev pub view_of : Phase → WriteView
+view_of (phases.Ready r) = view_ready r
+view_of (phases.Out o) = view_out o
+view_of (phases.Ended end) = view_ended end
+
+-- the name of its next call, if there is one
+abbrev pub name_ready : Ready → CallName
+name_ready (ready.Begin write load) = names.Begin
+name_ready (ready.CatchUp p c) = c.next
+name_ready (ready.Prepare p again) = names.StagePrepare
+name_ready (ready.FlushToPrepare p) = names.Flush
+name_ready (ready.Vote v t) = names.Vote
+name_ready (ready.FlushToVote v t) = names.Flush
+name_ready (ready.Decide b again) = names.Decide
+name_ready (ready.FlushToDecide b) = names.Flush
+name_ready (ready.Outcome id d) = names.Outcome
+name_ready (ready.FlushToOutcome id d) = names.Flush
+name_ready (ready.Abort i l) = names.Abort
+name_ready (ready.Inquire l) = names.Inquire
+name_ready (ready.DropWrite v l s h) = names.DropWrite
+
+abbrev pub name_of : Phase → Option CallName
+name_of (phases.Ready r) = Some (name_ready r)
+name_of (phases.Out o) = None
+name_of (phases.Ended end) = None

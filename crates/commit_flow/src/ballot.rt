@@ -15,7 +15,7 @@ pub(crate) struct Ballot {
 
 impl Model for Ballot {
     ghost use Rattle.decisions.specs.Coordinators.{HaveVoted};
-    ghost use Rattle.commit_flow.specs.Stages.{BallotValue};
+    ghost use Rattle.commit_flow.specs.Phases.{BallotValue};
 
     ghost Value = { BallotValue };
 

@@ -1,61 +1,61 @@
 // A write is cancelled.
 ghost use Rattle.std.specs.Prelude.{◌≡◌, ℕ, false};
 ghost use Rattle.commit_flow.specs.Cancelling.{Cancels};
-ghost use Rattle.commit_flow.specs.Kept.{IsReadyOf, IsStageOf};
+ghost use Rattle.commit_flow.specs.Kept.{IsReadyOf, IsPhaseOf};
 ghost use Rattle.commit_flow.specs.Views.{view_of, view_ready};
-ghost use Rattle.commit_flow.specs.declared.stage.Ready.TheVariants as ready_of;
+ghost use Rattle.commit_flow.specs.declared.phase.Ready.TheVariants as ready_of;
 
 use crate::ballot::Ballot;
 use crate::deciding::go_out_voted;
 use crate::end::WriteEnd;
 use crate::load::Load;
-use crate::stage::{Preparing, Ready, Stage, Voting};
+use crate::phase::{Phase, Preparing, Ready, Voting};
 use crate::voting::go_out;
 use decisions::Ticket;
 use std::alloc::Global;
 
-fn cancel_unbegun(load: Load) -> Stage
-    ensures { result ≡ Stage.Ended WriteEnd.Cancelled }
+fn cancel_unbegun(load: Load) -> Phase
+    ensures { result ≡ Phase.Ended WriteEnd.Cancelled }
 {
     load.leave();
-    Stage::Ended(WriteEnd::Cancelled)
+    Phase::Ended(WriteEnd::Cancelled)
 }
 
-fn cancel_preparing(preparing: Preparing) -> Stage
+fn cancel_preparing(preparing: Preparing) -> Phase
     ensures cancels { Cancels (view_ready (ready_of.Prepare preparing false)) (view_of result) }
-    ensures kept { IsStageOf preparing.load.shards result }
+    ensures kept { IsPhaseOf preparing.load.shards result }
 {
     let Preparing {
         intent,
         load,
         shard: _,
     } = preparing;
-    Stage::Ready(go_out(intent, load, None, None))
+    Phase::Ready(go_out(intent, load, None, None))
 }
 
-fn cancel_voting(voting: Voting, ticket: Ticket) -> Stage
+fn cancel_voting(voting: Voting, ticket: Ticket) -> Phase
     ensures cancels { Cancels (view_ready (ready_of.Vote voting ticket)) (view_of result) }
-    ensures kept { IsStageOf voting.load.shards result }
+    ensures kept { IsPhaseOf voting.load.shards result }
 {
     let Voting {
         intent,
         load,
         shard,
     } = voting;
-    Stage::Ready(go_out(intent, load, Some((shard, ticket)), None))
+    Phase::Ready(go_out(intent, load, Some((shard, ticket)), None))
 }
 
-fn cancel_ballot(alloc: Global, ballot: Ballot) -> Stage
+fn cancel_ballot(alloc: Global, ballot: Ballot) -> Phase
     ensures cancels { Cancels (view_ready (ready_of.FlushToDecide ballot)) (view_of result) }
-    ensures kept { IsStageOf ballot.shards result }
+    ensures kept { IsPhaseOf ballot.shards result }
 {
     let (_shards, intent, votes) = ballot.into_parts();
-    Stage::Ready(go_out_voted(alloc, None, intent, votes))
+    Phase::Ready(go_out_voted(alloc, None, intent, votes))
 }
 
-fn cancel_ready(alloc: Global, ready: Ready) -> Stage
+fn cancel_ready(alloc: Global, ready: Ready) -> Phase
     ensures cancels { Cancels (view_ready ready) (view_of result) }
-    ensures kept { (shards : ℕ) → IsReadyOf shards ready → IsStageOf shards result }
+    ensures kept { (shards : ℕ) → IsReadyOf shards ready → IsPhaseOf shards result }
 {
     match ready {
         Ready::Begin(_, load) => cancel_unbegun(load),
@@ -66,24 +66,24 @@ fn cancel_ready(alloc: Global, ready: Ready) -> Stage
         Ready::FlushToVote(voting, ticket) => cancel_voting(voting, ticket),
         Ready::Decide(ballot, _) => cancel_ballot(alloc, ballot),
         Ready::FlushToDecide(ballot) => cancel_ballot(alloc, ballot),
-        Ready::Outcome(id, decided) => Stage::Ready(Ready::Outcome(id, decided)),
-        Ready::FlushToOutcome(id, decided) => Stage::Ready(Ready::FlushToOutcome(id, decided)),
-        Ready::Abort(intent, leaving) => Stage::Ready(Ready::Abort(intent, leaving)),
-        Ready::Inquire(leaving) => Stage::Ready(Ready::Inquire(leaving)),
+        Ready::Outcome(id, decided) => Phase::Ready(Ready::Outcome(id, decided)),
+        Ready::FlushToOutcome(id, decided) => Phase::Ready(Ready::FlushToOutcome(id, decided)),
+        Ready::Abort(intent, leaving) => Phase::Ready(Ready::Abort(intent, leaving)),
+        Ready::Inquire(leaving) => Phase::Ready(Ready::Inquire(leaving)),
         Ready::DropWrite(verdict, leaving, shard, held) => {
-            Stage::Ready(Ready::DropWrite(verdict, leaving, shard, held))
+            Phase::Ready(Ready::DropWrite(verdict, leaving, shard, held))
         }
     }
 }
 
 /// Takes it out before its decision.
-pub(crate) fn cancel(alloc: Global, stage: Stage) -> Stage
-    ensures cancels { Cancels (view_of stage) (view_of result) }
-    ensures kept { (shards : ℕ) → IsStageOf shards stage → IsStageOf shards result }
+pub(crate) fn cancel(alloc: Global, phase: Phase) -> Phase
+    ensures cancels { Cancels (view_of phase) (view_of result) }
+    ensures kept { (shards : ℕ) → IsPhaseOf shards phase → IsPhaseOf shards result }
 {
-    match stage {
-        Stage::Ready(ready) => cancel_ready(alloc, ready),
-        Stage::Out(out) => Stage::Out(out),
-        Stage::Ended(end) => Stage::Ended(end),
+    match phase {
+        Phase::Ready(ready) => cancel_ready(alloc, ready),
+        Phase::Out(out) => Phase::Out(out),
+        Phase::Ended(end) => Phase::Ended(end),
     }
 }

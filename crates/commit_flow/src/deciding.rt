@@ -2,14 +2,14 @@
 ghost use Rattle.std.specs.Prelude.{◌≡◌, ◌⊎◌, ◌≢◌, ◌≤◌, ◌++◌, [], Some, None, true, false, ℕ};
 ghost use Rattle.decisions.specs.Coordinators.{HaveVoted};
 ghost use Rattle.commit_flow.specs.Answering.{DecideGives, FlushGives, IfBack, NotDecidedGives, OutcomeGives, RefusedBack};
-ghost use Rattle.commit_flow.specs.Kept.{IsReadyOf, IsStageOf};
+ghost use Rattle.commit_flow.specs.Kept.{IsReadyOf, IsPhaseOf};
 ghost use Rattle.commit_flow.specs.Views.{at_rest, holds_onward, view_of, view_out, view_ready};
 ghost use Rattle.commit_flow.specs.WriteHolds.{outward};
-ghost use Rattle.commit_flow.specs.declared.stage.Out.TheVariants.{Decide as decide_out, FlushToDecide as flush_decide_out, Outcome as outcome_out};
+ghost use Rattle.commit_flow.specs.declared.phase.Out.TheVariants.{Decide as decide_out, FlushToDecide as flush_decide_out, Outcome as outcome_out};
 
 use crate::ballot::Ballot;
 use crate::end::WriteEnd;
-use crate::stage::{Leaving, Ready, Stage};
+use crate::phase::{Leaving, Phase, Ready};
 use coordinator::{Decided, NotDecided, Outcome};
 use decisions::{Intent, Vote};
 use std::alloc::Global;
@@ -104,13 +104,13 @@ pub(crate) fn flushed_to_decide(alloc: Global, ballot: Ballot, answer: Result<()
 }
 
 /// What became of the decision: it is kept, or has to be flushed first, or nobody knows.
-pub(crate) fn told(id: WriteId, outcome: Outcome) -> Stage
+pub(crate) fn told(id: WriteId, outcome: Outcome) -> Phase
     ensures gives { OutcomeGives (view_out (outcome_out id)) outcome (view_of result) }
-    ensures kept { (shards : ℕ) → IsStageOf shards result }
+    ensures kept { (shards : ℕ) → IsPhaseOf shards result }
 {
     match outcome {
-        Outcome::Kept(place) => Stage::Ended(WriteEnd::Wrote(place)),
-        Outcome::Later(decided) => Stage::Ready(Ready::FlushToOutcome(id, decided)),
-        Outcome::Unsure => Stage::Ended(WriteEnd::Refused(Refusal::Unsure)),
+        Outcome::Kept(place) => Phase::Ended(WriteEnd::Wrote(place)),
+        Outcome::Later(decided) => Phase::Ready(Ready::FlushToOutcome(id, decided)),
+        Outcome::Unsure => Phase::Ended(WriteEnd::Refused(Refusal::Unsure)),
     }
 }

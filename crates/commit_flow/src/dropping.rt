@@ -1,14 +1,14 @@
 // A write that was refused or cancelled, on its way out.
 ghost use Rattle.std.specs.Prelude.{◌≡◌, ◌⊎◌, ◌++◌, [], Some, None, ℕ};
 ghost use Rattle.commit_flow.specs.Answering.{AbortGives, GoesToDrop, InquireGives, end_of};
-ghost use Rattle.commit_flow.specs.Kept.{IsStageOf};
+ghost use Rattle.commit_flow.specs.Kept.{IsPhaseOf};
 ghost use Rattle.commit_flow.specs.Views.{view_ended, view_of, view_out};
 ghost use Rattle.commit_flow.specs.WriteHolds.{outward};
-ghost use Rattle.commit_flow.specs.declared.stage.Out.TheVariants.{Abort as abort_out, DropWrite as drop_out, Inquire as inquire_out};
+ghost use Rattle.commit_flow.specs.declared.phase.Out.TheVariants.{Abort as abort_out, DropWrite as drop_out, Inquire as inquire_out};
 
 use crate::end::WriteEnd;
 use crate::load::take_first;
-use crate::stage::{Leaving, Ready, Stage};
+use crate::phase::{Leaving, Phase, Ready};
 use coordinator::Inquiry;
 use decisions::{Held, Verdict};
 use tuples::Refusal;
@@ -24,37 +24,37 @@ pub(crate) fn end_by(met: Option<Refusal>) -> WriteEnd
 }
 
 /// It has ended: what the shards gave is left to later verdicts.
-pub(crate) fn end(leaving: Leaving) -> Stage
+pub(crate) fn end(leaving: Leaving) -> Phase
     ensures gives { view_of result ≡ view_ended (end_of (outward leaving.met)) }
-    ensures kept { (shards : ℕ) → IsStageOf shards result }
+    ensures kept { (shards : ℕ) → IsPhaseOf shards result }
 {
     let met = leaving.met;
     leaving.leave();
-    Stage::Ended(end_by(met))
+    Phase::Ended(end_by(met))
 }
 
 /// The verdict goes to the next shard that gave something, votes first, since their shards come first.
-fn drop_next(verdict: Verdict, mut leaving: Leaving) -> Stage
+fn drop_next(verdict: Verdict, mut leaving: Leaving) -> Phase
     ensures gives { GoesToDrop (view_out (drop_out leaving)) verdict.id (view_of result) }
-    ensures kept { (shards : ℕ) → IsStageOf shards result }
+    ensures kept { (shards : ℕ) → IsPhaseOf shards result }
 {
     if let Some(vote) = take_first(&mut leaving.votes) {
         let shard = vote.shard();
-        return Stage::Ready(Ready::DropWrite(verdict, leaving, shard, Held::Vote(vote)));
+        return Phase::Ready(Ready::DropWrite(verdict, leaving, shard, Held::Vote(vote)));
     }
     if let Some((shard, ticket)) = leaving.hand.take() {
-        return Stage::Ready(Ready::DropWrite(verdict, leaving, shard, Held::Ticket(ticket)));
+        return Phase::Ready(Ready::DropWrite(verdict, leaving, shard, Held::Ticket(ticket)));
     }
     if let Some((shard, ticket)) = take_first(&mut leaving.tickets) {
-        return Stage::Ready(Ready::DropWrite(verdict, leaving, shard, Held::Ticket(ticket)));
+        return Phase::Ready(Ready::DropWrite(verdict, leaving, shard, Held::Ticket(ticket)));
     }
     end(leaving)
 }
 
 /// The coordinator has aborted the write, or not.
-pub(crate) fn aborted(leaving: Leaving, answer: Result<Verdict, Refusal>) -> Stage
+pub(crate) fn aborted(leaving: Leaving, answer: Result<Verdict, Refusal>) -> Phase
     ensures gives { AbortGives (view_out (abort_out leaving)) answer (view_of result) }
-    ensures kept { (shards : ℕ) → IsStageOf shards result }
+    ensures kept { (shards : ℕ) → IsPhaseOf shards result }
 {
     match answer {
         Ok(verdict) => drop_next(verdict, leaving),
@@ -63,9 +63,9 @@ pub(crate) fn aborted(leaving: Leaving, answer: Result<Verdict, Refusal>) -> Sta
 }
 
 /// What the coordinator knows of a write whose intent is spent.
-pub(crate) fn inquired(leaving: Leaving, answer: Result<Inquiry, Refusal>) -> Stage
+pub(crate) fn inquired(leaving: Leaving, answer: Result<Inquiry, Refusal>) -> Phase
     ensures gives { InquireGives (view_out (inquire_out leaving)) answer (view_of result) }
-    ensures kept { (shards : ℕ) → IsStageOf shards result }
+    ensures kept { (shards : ℕ) → IsPhaseOf shards result }
 {
     match answer {
         Ok(Inquiry::Abort(verdict)) => drop_next(verdict, leaving),
@@ -76,9 +76,9 @@ pub(crate) fn inquired(leaving: Leaving, answer: Result<Inquiry, Refusal>) -> St
 }
 
 /// A shard has dropped the write, or is down: the next one's turn has come.
-pub(crate) fn dropped(leaving: Leaving, verdict: Verdict) -> Stage
+pub(crate) fn dropped(leaving: Leaving, verdict: Verdict) -> Phase
     ensures gives { GoesToDrop (view_out (drop_out leaving)) verdict.id (view_of result) }
-    ensures kept { (shards : ℕ) → IsStageOf shards result }
+    ensures kept { (shards : ℕ) → IsPhaseOf shards result }
 {
     drop_next(verdict, leaving)
 }

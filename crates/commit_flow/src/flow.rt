@@ -1,5 +1,7 @@
 // A write flow: one call a turn.
-ghost use Rattle.std.specs.Prelude.{◌≡◌, ◌≤◌, ◌≢◌, Some, None, ℕ, IfOk, IfErr, MatchOption};
+ghost use Rattle.std.specs.Prelude.{◌≡◌, ◌≤◌, ◌≢◌, Some, None, ℕ, IfOk, IfErr, MatchOption, option_map};
+ghost use Rattle.calls.specs.Names.{name_of as name_of_call};
+ghost use Rattle.calls.specs.declared.call_name.CallName.TheVariants as names;
 ghost use Rattle.records.specs.Identity.{max_shards};
 ghost use Rattle.commit_flow.specs.Answering.{GivesTo, MayGive};
 ghost use Rattle.commit_flow.specs.Cancelling.{Cancels};
@@ -12,8 +14,8 @@ use crate::end::WriteEnd;
 use crate::giving::give;
 use crate::load::Load;
 use crate::next::next;
-use crate::stage::{Ready, Stage};
-use calls::{NodeCall, Reply};
+use crate::phase::{Phase, Ready};
+use calls::{CallName, NodeCall, Reply};
 use std::alloc::Global;
 use std::marker::Model;
 use std::mem;
@@ -27,7 +29,7 @@ use tuples::{Refusal, Write};
 pub struct WriteFlow {
     alloc: Global,
     shards: u8,
-    stage: Stage,
+    phase: Phase,
 }
 
 impl Model for WriteFlow {
@@ -37,19 +39,19 @@ impl Model for WriteFlow {
 
     ghost Value = { WriteFlowValue };
 
-    ghost use Rattle.commit_flow.specs.Views.{view_of};
-    ghost use Rattle.commit_flow.specs.Kept.{IsStageOf};
+    ghost use Rattle.commit_flow.specs.Views.{name_of, view_of};
+    ghost use Rattle.commit_flow.specs.Kept.{IsPhaseOf};
 
-    ghost view = { λ f. record { shards = f.shards; seen = view_of f.stage } };
+    ghost view = { λ f. record { shards = f.shards; seen = view_of f.phase; next_name = name_of f.phase } };
 
-    ghost invariant = { λ f. (1 ≤ f.shards) × (f.shards ≤ max_shards) × IsStageOf f.shards f.stage };
+    ghost invariant = { λ f. (1 ≤ f.shards) × (f.shards ≤ max_shards) × IsPhaseOf f.shards f.phase };
 }
 
-// Puts a stage in the place of one that was taken out.
-fn put(place: &mut Stage, stage: Stage)
-    ensures { place.new ≡ stage }
+// Puts a phase in the place of one that was taken out.
+fn put(place: &mut Phase, phase: Phase)
+    ensures { place.new ≡ phase }
 {
-    let taken = mem::replace(place, stage);
+    let taken = mem::replace(place, phase);
     taken.leave();
 }
 
@@ -58,34 +60,48 @@ impl WriteFlow {
     pub fn new(alloc: Global, shards: u8, write: Write) -> Result<WriteFlow, Refusal>
         requires some { 1 ≤ shards }
         requires few { shards ≤ max_shards }
-        ensures ok { IfOk result (λ f. f ≡ record { shards = shards; seen = record { write = Some write; holds = nothing_begun; caught = None; awaited = None; ended = None } }) }
+        ensures ok { IfOk result (λ f. f ≡ record { shards = shards; seen = record { write = Some write; holds = nothing_begun; caught = None; awaited = None; ended = None }; next_name = Some names.Begin }) }
         ensures err { IfErr result (λ e. e ≡ Refusal.NoMemory) }
     {
         let load = Load::new(alloc, shards)?;
         Ok(WriteFlow {
             alloc,
             shards,
-            stage: Stage::Ready(Ready::Begin(write, load)),
+            phase: Phase::Ready(Ready::Begin(write, load)),
         })
+    }
+
+    /// The name of its next call. None where it has ended, and while a call is out.
+    pub fn next_name(&self) -> Option<CallName>
+        ensures name { result ≡ self.now.next_name }
+        ensures ended { (end : _) → self.now.seen.ended ≡ Some end → result ≡ None }
+        ensures out { (awaited : _) → self.now.seen.awaited ≡ Some awaited → result ≡ None }
+        ensures some { self.now.seen.ended ≡ None → self.now.seen.awaited ≡ None → result ≢ None }
+    {
+        match &self.phase {
+            Phase::Ready(ready) => Some(ready.name()),
+            Phase::Out(_) | Phase::Ended(_) => None,
+        }
     }
 
     /// Its next call, which has to be made, and the reply given. None where it has ended, and while a call is out.
     pub fn next_call(&mut self) -> Option<NodeCall>
         ensures shards { self.new.shards ≡ self.old.shards }
+        ensures name { (option_map name_of_call result ≡ self.old.next_name) × (self.new.next_name ≡ None) }
         ensures call { MatchOption result (self.new ≡ self.old) (λ call. Asks self.old.shards self.old.seen call self.new.seen) }
         ensures ended { (end : _) → self.old.seen.ended ≡ Some end → result ≡ None }
         ensures out { (awaited : _) → self.old.seen.awaited ≡ Some awaited → result ≡ None }
         ensures some { self.old.seen.ended ≡ None → self.old.seen.awaited ≡ None → result ≢ None }
     {
-        let stage = mem::replace(&mut self.stage, Stage::Ended(WriteEnd::Cancelled));
-        match stage {
-            Stage::Ready(ready) => {
+        let phase = mem::replace(&mut self.phase, Phase::Ended(WriteEnd::Cancelled));
+        match phase {
+            Phase::Ready(ready) => {
                 let (call, out) = next(self.shards, ready);
-                put(&mut self.stage, Stage::Out(out));
+                put(&mut self.phase, Phase::Out(out));
                 Some(call)
             }
             other => {
-                put(&mut self.stage, other);
+                put(&mut self.phase, other);
                 None
             }
         }
@@ -97,14 +113,14 @@ impl WriteFlow {
         ensures shards { self.new.shards ≡ self.old.shards }
         ensures gives { MatchOption self.old.seen.awaited ⊥ (λ awaited. GivesTo self.old.seen awaited reply self.new.seen) }
     {
-        let stage = mem::replace(&mut self.stage, Stage::Ended(WriteEnd::Cancelled));
-        match stage {
-            Stage::Out(out) => {
-                put(&mut self.stage, give(self.alloc, self.shards, out, reply));
+        let phase = mem::replace(&mut self.phase, Phase::Ended(WriteEnd::Cancelled));
+        match phase {
+            Phase::Out(out) => {
+                put(&mut self.phase, give(self.alloc, self.shards, out, reply));
             }
             other => {
                 reply.leave();
-                put(&mut self.stage, other);
+                put(&mut self.phase, other);
             }
         }
     }
@@ -114,17 +130,17 @@ impl WriteFlow {
         ensures shards { self.new.shards ≡ self.old.shards }
         ensures cancels { Cancels self.old.seen self.new.seen }
     {
-        let stage = mem::replace(&mut self.stage, Stage::Ended(WriteEnd::Cancelled));
-        put(&mut self.stage, cancel(self.alloc, stage));
+        let phase = mem::replace(&mut self.phase, Phase::Ended(WriteEnd::Cancelled));
+        put(&mut self.phase, cancel(self.alloc, phase));
     }
 
     /// How it ended, where it has.
     pub fn end(&self) -> Option<WriteEnd>
         ensures { result ≡ self.now.seen.ended }
     {
-        match &self.stage {
-            Stage::Ended(end) => Some(*end),
-            Stage::Ready(_) | Stage::Out(_) => None,
+        match &self.phase {
+            Phase::Ended(end) => Some(*end),
+            Phase::Ready(_) | Phase::Out(_) => None,
         }
     }
 
@@ -135,13 +151,13 @@ impl WriteFlow {
         let WriteFlow {
             alloc: _,
             shards: _,
-            stage,
+            phase,
         } = self;
-        let end = match &stage {
-            Stage::Ended(end) => Some(*end),
-            Stage::Ready(_) | Stage::Out(_) => None,
+        let end = match &phase {
+            Phase::Ended(end) => Some(*end),
+            Phase::Ready(_) | Phase::Out(_) => None,
         };
-        stage.leave();
+        phase.leave();
         end
     }
 }

@@ -1,11 +1,11 @@
-// What a reply makes of the stage that waits for it.
+// What a reply makes of the phase that waits for it.
 ghost use Rattle.std.specs.Prelude.{ℕ, ◌≡◌, ◌≤◌};
 ghost use Rattle.records.specs.Identity.{max_shards};
 ghost use Rattle.catch_up.specs.CatchingUp.{Fits as FitsCatchUp};
 ghost use Rattle.commit_flow.specs.Answering.{Fits, GivesTo};
-ghost use Rattle.commit_flow.specs.Kept.{IsFresh, IsOutOf, IsStageOf};
+ghost use Rattle.commit_flow.specs.Kept.{IsFresh, IsOutOf, IsPhaseOf};
 ghost use Rattle.commit_flow.specs.Views.{awaited_of, view_of, view_out};
-ghost use Rattle.commit_flow.specs.declared.stage.Out.TheVariants as out_of;
+ghost use Rattle.commit_flow.specs.declared.phase.Out.TheVariants as out_of;
 
 use crate::ballot::Ballot;
 use crate::deciding::{decided as decide, flushed_to_decide, told};
@@ -13,8 +13,8 @@ use crate::dropping::{aborted, dropped, inquired};
 use crate::end::WriteEnd;
 use crate::leaving::{leave_asked, leave_preparing, leave_voting, leave_with};
 use crate::load::Load;
+use crate::phase::{AskedPrepare, Leaving, Out, Phase, Preparing, Ready, Voting};
 use crate::preparing::{begun, caught_up, flushed_to_prepare, prepared};
-use crate::stage::{AskedPrepare, Leaving, Out, Preparing, Ready, Stage, Voting};
 use crate::voting::{flushed_to_vote, voted};
 use calls::{CoordinatorReply, Reply, ShardReply};
 use coordinator::Decided;
@@ -23,31 +23,31 @@ use std::alloc::Global;
 use tuples::{Refusal, WriteId};
 
 // Nobody gives the reply to another call, but what it carries has to be spent.
-fn foreign(reply: Reply) -> Stage {
+fn foreign(reply: Reply) -> Phase {
     reply.leave();
-    Stage::Ended(WriteEnd::Refused(Refusal::Damaged))
+    Phase::Ended(WriteEnd::Refused(Refusal::Damaged))
 }
 
-fn give_decide(alloc: Global, shards: u8, id: WriteId, is_again: bool, reply: Reply) -> Stage
+fn give_decide(alloc: Global, shards: u8, id: WriteId, is_again: bool, reply: Reply) -> Phase
     requires some { 1 ≤ shards }
     requires few { shards ≤ max_shards }
     requires fits { Fits shards (view_out (out_of.Decide shards id is_again)) (awaited_of (out_of.Decide shards id is_again)) reply }
     ensures gives { GivesTo (view_out (out_of.Decide shards id is_again)) (awaited_of (out_of.Decide shards id is_again)) reply (view_of result) }
-    ensures kept { IsStageOf shards result }
+    ensures kept { IsPhaseOf shards result }
 {
     match reply {
         Reply::Coordinator(CoordinatorReply::Decide(answer)) => {
-            Stage::Ready(decide(alloc, shards, id, is_again, answer))
+            Phase::Ready(decide(alloc, shards, id, is_again, answer))
         }
         other => foreign(other),
     }
 }
 
-fn give_begin(load: Load, reply: Reply) -> Stage
+fn give_begin(load: Load, reply: Reply) -> Phase
     requires fresh { IsFresh load.shards load }
     requires fits { Fits load.shards (view_out (out_of.Begin load)) (awaited_of (out_of.Begin load)) reply }
     ensures gives { GivesTo (view_out (out_of.Begin load)) (awaited_of (out_of.Begin load)) reply (view_of result) }
-    ensures kept { IsStageOf load.shards result }
+    ensures kept { IsPhaseOf load.shards result }
 {
     match reply {
         Reply::Coordinator(CoordinatorReply::Begin(answer)) => begun(load, answer),
@@ -58,13 +58,13 @@ fn give_begin(load: Load, reply: Reply) -> Stage
     }
 }
 
-fn give_prepare(asked: AskedPrepare, is_again: bool, reply: Reply) -> Stage
+fn give_prepare(asked: AskedPrepare, is_again: bool, reply: Reply) -> Phase
     requires fits { Fits asked.load.shards (view_out (out_of.Prepare asked is_again)) (awaited_of (out_of.Prepare asked is_again)) reply }
     ensures gives { GivesTo (view_out (out_of.Prepare asked is_again)) (awaited_of (out_of.Prepare asked is_again)) reply (view_of result) }
-    ensures kept { IsStageOf asked.load.shards result }
+    ensures kept { IsPhaseOf asked.load.shards result }
 {
     match reply {
-        Reply::Shard(ShardReply::StagePrepare(intent, answer)) => Stage::Ready(prepared(
+        Reply::Shard(ShardReply::StagePrepare(intent, answer)) => Phase::Ready(prepared(
             asked, is_again, intent, answer,
         )),
         other => {
@@ -74,13 +74,13 @@ fn give_prepare(asked: AskedPrepare, is_again: bool, reply: Reply) -> Stage
     }
 }
 
-fn give_flush_to_prepare(preparing: Preparing, reply: Reply) -> Stage
+fn give_flush_to_prepare(preparing: Preparing, reply: Reply) -> Phase
     requires fits { Fits preparing.load.shards (view_out (out_of.FlushToPrepare preparing)) (awaited_of (out_of.FlushToPrepare preparing)) reply }
     ensures gives { GivesTo (view_out (out_of.FlushToPrepare preparing)) (awaited_of (out_of.FlushToPrepare preparing)) reply (view_of result) }
-    ensures kept { IsStageOf preparing.load.shards result }
+    ensures kept { IsPhaseOf preparing.load.shards result }
 {
     match reply {
-        Reply::Shard(ShardReply::Flush(answer)) => Stage::Ready(flushed_to_prepare(
+        Reply::Shard(ShardReply::Flush(answer)) => Phase::Ready(flushed_to_prepare(
             preparing, answer,
         )),
         other => {
@@ -90,13 +90,13 @@ fn give_flush_to_prepare(preparing: Preparing, reply: Reply) -> Stage
     }
 }
 
-fn give_vote(voting: Voting, reply: Reply) -> Stage
+fn give_vote(voting: Voting, reply: Reply) -> Phase
     requires fits { Fits voting.load.shards (view_out (out_of.Vote voting)) (awaited_of (out_of.Vote voting)) reply }
     ensures gives { GivesTo (view_out (out_of.Vote voting)) (awaited_of (out_of.Vote voting)) reply (view_of result) }
-    ensures kept { IsStageOf voting.load.shards result }
+    ensures kept { IsPhaseOf voting.load.shards result }
 {
     match reply {
-        Reply::Shard(ShardReply::Vote(answer)) => Stage::Ready(voted(voting, answer)),
+        Reply::Shard(ShardReply::Vote(answer)) => Phase::Ready(voted(voting, answer)),
         other => {
             leave_voting(voting);
             foreign(other)
@@ -104,14 +104,14 @@ fn give_vote(voting: Voting, reply: Reply) -> Stage
     }
 }
 
-fn give_flush_to_vote(voting: Voting, ticket: Ticket, reply: Reply) -> Stage
+fn give_flush_to_vote(voting: Voting, ticket: Ticket, reply: Reply) -> Phase
     requires own { ticket.id ≡ voting.intent.write.id }
     requires fits { Fits voting.load.shards (view_out (out_of.FlushToVote voting ticket)) (awaited_of (out_of.FlushToVote voting ticket)) reply }
     ensures gives { GivesTo (view_out (out_of.FlushToVote voting ticket)) (awaited_of (out_of.FlushToVote voting ticket)) reply (view_of result) }
-    ensures kept { IsStageOf voting.load.shards result }
+    ensures kept { IsPhaseOf voting.load.shards result }
 {
     match reply {
-        Reply::Shard(ShardReply::Flush(answer)) => Stage::Ready(flushed_to_vote(
+        Reply::Shard(ShardReply::Flush(answer)) => Phase::Ready(flushed_to_vote(
             voting, ticket, answer,
         )),
         other => {
@@ -121,13 +121,13 @@ fn give_flush_to_vote(voting: Voting, ticket: Ticket, reply: Reply) -> Stage
     }
 }
 
-fn give_flush_to_decide(alloc: Global, ballot: Ballot, reply: Reply) -> Stage
+fn give_flush_to_decide(alloc: Global, ballot: Ballot, reply: Reply) -> Phase
     requires fits { Fits ballot.shards (view_out (out_of.FlushToDecide ballot)) (awaited_of (out_of.FlushToDecide ballot)) reply }
     ensures gives { GivesTo (view_out (out_of.FlushToDecide ballot)) (awaited_of (out_of.FlushToDecide ballot)) reply (view_of result) }
-    ensures kept { IsStageOf ballot.shards result }
+    ensures kept { IsPhaseOf ballot.shards result }
 {
     match reply {
-        Reply::Coordinator(CoordinatorReply::Flush(answer)) => Stage::Ready(flushed_to_decide(
+        Reply::Coordinator(CoordinatorReply::Flush(answer)) => Phase::Ready(flushed_to_decide(
             alloc, ballot, answer,
         )),
         other => {
@@ -137,10 +137,10 @@ fn give_flush_to_decide(alloc: Global, ballot: Ballot, reply: Reply) -> Stage
     }
 }
 
-fn give_outcome(id: WriteId, reply: Reply) -> Stage
+fn give_outcome(id: WriteId, reply: Reply) -> Phase
     requires fits { Fits 0 (view_out (out_of.Outcome id)) (awaited_of (out_of.Outcome id)) reply }
     ensures gives { GivesTo (view_out (out_of.Outcome id)) (awaited_of (out_of.Outcome id)) reply (view_of result) }
-    ensures kept { (shards : ℕ) → IsStageOf shards result }
+    ensures kept { (shards : ℕ) → IsPhaseOf shards result }
 {
     match reply {
         Reply::Coordinator(CoordinatorReply::Outcome(outcome)) => told(id, outcome),
@@ -148,13 +148,13 @@ fn give_outcome(id: WriteId, reply: Reply) -> Stage
     }
 }
 
-fn give_flush_to_outcome(id: WriteId, decided: Decided, reply: Reply) -> Stage
+fn give_flush_to_outcome(id: WriteId, decided: Decided, reply: Reply) -> Phase
     requires fits { Fits 0 (view_out (out_of.FlushToOutcome id decided)) (awaited_of (out_of.FlushToOutcome id decided)) reply }
     ensures gives { GivesTo (view_out (out_of.FlushToOutcome id decided)) (awaited_of (out_of.FlushToOutcome id decided)) reply (view_of result) }
-    ensures kept { (shards : ℕ) → IsStageOf shards result }
+    ensures kept { (shards : ℕ) → IsPhaseOf shards result }
 {
     match reply {
-        Reply::Coordinator(CoordinatorReply::Flush(_answer)) => Stage::Ready(Ready::Outcome(
+        Reply::Coordinator(CoordinatorReply::Flush(_answer)) => Phase::Ready(Ready::Outcome(
             id, decided,
         )),
         other => {
@@ -164,10 +164,10 @@ fn give_flush_to_outcome(id: WriteId, decided: Decided, reply: Reply) -> Stage
     }
 }
 
-fn give_abort(leaving: Leaving, reply: Reply) -> Stage
+fn give_abort(leaving: Leaving, reply: Reply) -> Phase
     requires fits { Fits 0 (view_out (out_of.Abort leaving)) (awaited_of (out_of.Abort leaving)) reply }
     ensures gives { GivesTo (view_out (out_of.Abort leaving)) (awaited_of (out_of.Abort leaving)) reply (view_of result) }
-    ensures kept { (shards : ℕ) → IsStageOf shards result }
+    ensures kept { (shards : ℕ) → IsPhaseOf shards result }
 {
     match reply {
         Reply::Coordinator(CoordinatorReply::Abort(answer)) => aborted(leaving, answer),
@@ -178,10 +178,10 @@ fn give_abort(leaving: Leaving, reply: Reply) -> Stage
     }
 }
 
-fn give_inquire(leaving: Leaving, reply: Reply) -> Stage
+fn give_inquire(leaving: Leaving, reply: Reply) -> Phase
     requires fits { Fits 0 (view_out (out_of.Inquire leaving)) (awaited_of (out_of.Inquire leaving)) reply }
     ensures gives { GivesTo (view_out (out_of.Inquire leaving)) (awaited_of (out_of.Inquire leaving)) reply (view_of result) }
-    ensures kept { (shards : ℕ) → IsStageOf shards result }
+    ensures kept { (shards : ℕ) → IsPhaseOf shards result }
 {
     match reply {
         Reply::Coordinator(CoordinatorReply::Inquire(answer)) => inquired(leaving, answer),
@@ -192,10 +192,10 @@ fn give_inquire(leaving: Leaving, reply: Reply) -> Stage
     }
 }
 
-fn give_drop_write(leaving: Leaving, reply: Reply) -> Stage
+fn give_drop_write(leaving: Leaving, reply: Reply) -> Phase
     requires fits { Fits 0 (view_out (out_of.DropWrite leaving)) (awaited_of (out_of.DropWrite leaving)) reply }
     ensures gives { GivesTo (view_out (out_of.DropWrite leaving)) (awaited_of (out_of.DropWrite leaving)) reply (view_of result) }
-    ensures kept { (shards : ℕ) → IsStageOf shards result }
+    ensures kept { (shards : ℕ) → IsPhaseOf shards result }
 {
     match reply {
         Reply::Shard(ShardReply::DropWrite(verdict, _)) => dropped(leaving, verdict),
@@ -207,17 +207,17 @@ fn give_drop_write(leaving: Leaving, reply: Reply) -> Stage
 }
 
 /// What a reply makes of it.
-pub(crate) fn give(alloc: Global, shards: u8, out: Out, reply: Reply) -> Stage
+pub(crate) fn give(alloc: Global, shards: u8, out: Out, reply: Reply) -> Phase
     requires some { 1 ≤ shards }
     requires few { shards ≤ max_shards }
     requires fits { Fits shards (view_out out) (awaited_of out) reply }
     requires kept { IsOutOf shards out }
     ensures gives { GivesTo (view_out out) (awaited_of out) reply (view_of result) }
-    ensures kept { IsStageOf shards result }
+    ensures kept { IsPhaseOf shards result }
 {
     match out {
         Out::Begin(load) => give_begin(load, reply),
-        Out::CatchUp(preparing, call) => Stage::Ready(caught_up(preparing, call, reply)),
+        Out::CatchUp(preparing, call) => Phase::Ready(caught_up(preparing, call, reply)),
         Out::Prepare(asked, is_again) => give_prepare(asked, is_again, reply),
         Out::FlushToPrepare(preparing) => give_flush_to_prepare(preparing, reply),
         Out::Vote(voting) => give_vote(voting, reply),

@@ -1,6 +1,6 @@
 // What a flow holds is only spent.
 use crate::load::{leave_tickets, leave_votes};
-use crate::stage::{AskedPrepare, Leaving, Out, Preparing, Ready, Stage, Voting};
+use crate::phase::{AskedPrepare, Leaving, Out, Phase, Preparing, Ready, Voting};
 use decisions::Ticket;
 
 pub(crate) fn leave_preparing(preparing: Preparing) {
@@ -101,12 +101,12 @@ impl Out {
     }
 }
 
-impl Stage {
+impl Phase {
     pub(crate) fn leave(self) {
         match self {
-            Stage::Ready(ready) => ready.leave(),
-            Stage::Out(out) => out.leave(),
-            Stage::Ended(_) => {}
+            Phase::Ready(ready) => ready.leave(),
+            Phase::Out(out) => out.leave(),
+            Phase::Ended(_) => {}
         }
     }
 }

@@ -1,6 +1,6 @@
 //! A write, from its beginning to its place in the log: two-phase commit with presumed abort (Mohan, Lindsay, Obermarck 1986), one call a turn.
 //!
-//! Keeps: what has to be spent, in the stage that may spend it, until a call takes it.
+//! Keeps: what has to be spent, in the phase that may spend it, until a call takes it.
 //! Never: calls a node itself or waits; decides twice, or after a refusal or a cancel; needs memory once it is made.
 //! Callers rely on: `next_call` asks only for what may be asked, and `finish` has spent every value.
 //!
@@ -18,8 +18,8 @@ mod leaving;
 mod load;
 mod next;
 mod participants;
+mod phase;
 mod preparing;
-mod stage;
 mod voting;
 
 pub use end::WriteEnd;

@@ -1,19 +1,22 @@
-// The next call of each stage.
+// The next call of each phase.
 ghost use Rattle.std.specs.Prelude.{ℕ, ◌≡◌};
+ghost use Rattle.calls.specs.Names.{name_of as name_of_call};
+ghost use Rattle.calls.specs.declared.call_name.CallName.TheVariants as names;
 ghost use Rattle.commit_flow.specs.Kept.{IsOutOf, IsReadyOf};
-ghost use Rattle.commit_flow.specs.Views.{view_out, view_ready};
+ghost use Rattle.commit_flow.specs.Views.{name_ready, view_out, view_ready};
 ghost use Rattle.commit_flow.specs.Writing.{Asks};
-ghost use Rattle.commit_flow.specs.declared.stage.Ready.TheVariants.{CatchUp as ready_catch_up, Decide as ready_decide, Prepare as ready_prepare, Vote as ready_vote};
+ghost use Rattle.commit_flow.specs.declared.phase.Ready.TheVariants.{CatchUp as ready_catch_up, Decide as ready_decide, Prepare as ready_prepare, Vote as ready_vote};
 
 use crate::ballot::Ballot;
-use crate::stage::{AskedPrepare, Out, Preparing, Ready, Voting};
-use calls::{CoordinatorCall, NodeCall, ShardCall};
+use crate::phase::{AskedPrepare, Out, Preparing, Ready, Voting};
+use calls::{CallName, CoordinatorCall, NodeCall, ShardCall};
 use catch_up::CatchUp;
 use decisions::Ticket;
 
 fn catch_up(preparing: Preparing, catch_up: CatchUp) -> (NodeCall, Out)
     requires shard { catch_up.shard ≡ preparing.shard }
     requires to { catch_up.to ≡ preparing.intent.kept }
+    ensures name { name_of_call result.0 ≡ catch_up.next }
     ensures asks { Asks preparing.load.shards (view_ready (ready_catch_up preparing catch_up)) result.0 (view_out result.1) }
     ensures kept { IsOutOf preparing.load.shards result.1 }
 {
@@ -22,6 +25,7 @@ fn catch_up(preparing: Preparing, catch_up: CatchUp) -> (NodeCall, Out)
 }
 
 fn prepare(preparing: Preparing, is_again: bool) -> (NodeCall, Out)
+    ensures name { name_of_call result.0 ≡ names.StagePrepare }
     ensures asks { Asks preparing.load.shards (view_ready (ready_prepare preparing is_again)) result.0 (view_out result.1) }
     ensures kept { IsOutOf preparing.load.shards result.1 }
 {
@@ -46,6 +50,7 @@ fn prepare(preparing: Preparing, is_again: bool) -> (NodeCall, Out)
 
 fn vote(voting: Voting, ticket: Ticket) -> (NodeCall, Out)
     requires { ticket.id ≡ voting.intent.write.id }
+    ensures name { name_of_call result.0 ≡ names.Vote }
     ensures asks { Asks voting.load.shards (view_ready (ready_vote voting ticket)) result.0 (view_out result.1) }
     ensures kept { IsOutOf voting.load.shards result.1 }
 {
@@ -54,6 +59,7 @@ fn vote(voting: Voting, ticket: Ticket) -> (NodeCall, Out)
 }
 
 fn decide(ballot: Ballot, is_again: bool) -> (NodeCall, Out)
+    ensures name { name_of_call result.0 ≡ names.Decide }
     ensures asks { Asks ballot.shards (view_ready (ready_decide ballot is_again)) result.0 (view_out result.1) }
     ensures kept { IsOutOf ballot.shards result.1 }
 {
@@ -77,9 +83,33 @@ fn ask_coordinator(call: CoordinatorCall, out: Out) -> (NodeCall, Out)
     (NodeCall::Coordinator(call), out)
 }
 
-/// The call of a stage, and the stage while it is out.
+impl Ready {
+    /// The name of the call of a phase.
+    pub(crate) fn name(&self) -> CallName
+        ensures { result ≡ name_ready self.now }
+    {
+        match self {
+            Ready::Begin(_, _) => CallName::Begin,
+            Ready::CatchUp(_, catch_up) => catch_up.next_name(),
+            Ready::Prepare(_, _) => CallName::StagePrepare,
+            Ready::Vote(_, _) => CallName::Vote,
+            Ready::Decide(_, _) => CallName::Decide,
+            Ready::Outcome(_, _) => CallName::Outcome,
+            Ready::FlushToPrepare(_)
+            | Ready::FlushToVote(_, _)
+            | Ready::FlushToDecide(_)
+            | Ready::FlushToOutcome(_, _) => CallName::Flush,
+            Ready::Abort(_, _) => CallName::Abort,
+            Ready::Inquire(_) => CallName::Inquire,
+            Ready::DropWrite(_, _, _, _) => CallName::DropWrite,
+        }
+    }
+}
+
+/// The call of a phase, and the phase while it is out.
 pub(crate) fn next(shards: u8, ready: Ready) -> (NodeCall, Out)
     requires { IsReadyOf shards ready }
+    ensures name { name_of_call result.0 ≡ name_ready ready }
     ensures asks { Asks shards (view_ready ready) result.0 (view_out result.1) }
     ensures kept { IsOutOf shards result.1 }
 {

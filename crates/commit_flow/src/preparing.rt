@@ -4,15 +4,15 @@ ghost use Rattle.std.specs.Vec.{vec_len};
 ghost use Rattle.tuples.specs.Parts.{takes_part};
 ghost use Rattle.catch_up.specs.CatchingUp.{Fits as FitsCatchUp};
 ghost use Rattle.commit_flow.specs.Answering.{BeginGives, CatchUpGives, FlushGives, GoesOn, PrepareGives};
-ghost use Rattle.commit_flow.specs.Kept.{IsFresh, IsReadyOf, IsStageOf};
+ghost use Rattle.commit_flow.specs.Kept.{IsFresh, IsReadyOf, IsPhaseOf};
 ghost use Rattle.commit_flow.specs.Participants.{ArePartsOf, AreTicketsFor, participants_below, ticket_shards};
 ghost use Rattle.commit_flow.specs.Views.{holds_onward, holds_preparing, tickets_of, view_of, view_out, view_ready};
-ghost use Rattle.commit_flow.specs.declared.stage.Out.TheVariants.{Begin as begin_out, CatchUp as catch_up_out, FlushToPrepare as flush_out, Prepare as prepare_out};
+ghost use Rattle.commit_flow.specs.declared.phase.Out.TheVariants.{Begin as begin_out, CatchUp as catch_up_out, FlushToPrepare as flush_out, Prepare as prepare_out};
 
 use crate::end::WriteEnd;
 use crate::load::Load;
 use crate::participants::next_shard;
-use crate::stage::{AskedPrepare, Preparing, Ready, Stage};
+use crate::phase::{AskedPrepare, Phase, Preparing, Ready};
 use crate::voting::{go_out, vote_next};
 use calls::Reply;
 use catch_up::{CatchUp, CatchUpCall, Progress};
@@ -45,16 +45,16 @@ pub(crate) fn prepare_next(intent: Intent, load: Load, from: u8) -> Ready
 }
 
 /// The coordinator has begun the write, or not.
-pub(crate) fn begun(load: Load, answer: Result<Intent, Refusal>) -> Stage
+pub(crate) fn begun(load: Load, answer: Result<Intent, Refusal>) -> Phase
     requires { IsFresh load.shards load }
     ensures gives { BeginGives (view_out (begin_out load)) answer (view_of result) }
-    ensures kept { IsStageOf load.shards result }
+    ensures kept { IsPhaseOf load.shards result }
 {
     match answer {
-        Ok(intent) => Stage::Ready(prepare_next(intent, load, 0)),
+        Ok(intent) => Phase::Ready(prepare_next(intent, load, 0)),
         Err(refusal) => {
             load.leave();
-            Stage::Ended(WriteEnd::Refused(refusal))
+            Phase::Ended(WriteEnd::Refused(refusal))
         }
     }
 }

@@ -1,17 +1,16 @@
 // The shards vote, one after another, and the write is decided by their votes.
 ghost use Rattle.std.specs.Prelude.{◌≡◌, ◌⊎◌, ◌≢◌, ◌≤◌, ◌<◌, ◌+◌, ◌++◌, ◌∷◌, [], Some, None, true, false, length, Option, map};
 ghost use Rattle.std.specs.Vec.{vec_len};
-ghost use Rattle.records.specs.Identity.{max_shards};
 ghost use Rattle.commit_flow.specs.Answering.{FlushGives, GoesOn, IsVoteOf, VoteGives};
 ghost use Rattle.commit_flow.specs.Kept.{IsReadyOf};
 ghost use Rattle.commit_flow.specs.Participants.{AreTicketsFor, AreVotesFor, participants_below, ticket_shards, vote_shards};
 ghost use Rattle.commit_flow.specs.Views.{at_rest, holds_onward, in_hand, ticket_value, tickets_of, view_out, view_ready};
 ghost use Rattle.commit_flow.specs.WriteHolds.{outward};
-ghost use Rattle.commit_flow.specs.declared.stage.Out.TheVariants.{FlushToVote as flush_vote_out, Vote as vote_out};
+ghost use Rattle.commit_flow.specs.declared.phase.Out.TheVariants.{FlushToVote as flush_vote_out, Vote as vote_out};
 
 use crate::ballot::Ballot;
 use crate::load::Load;
-use crate::stage::{Leaving, Ready, Voting};
+use crate::phase::{Leaving, Ready, Voting};
 use decisions::{Intent, Ticket};
 use shard::VoteReply;
 use tuples::Refusal;

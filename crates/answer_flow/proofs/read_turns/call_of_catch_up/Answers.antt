@@ -7,7 +7,7 @@ pub returns-clause-asks : goal.returns-clause-asks
 returns-clause-asks c =
     let way = c.requires.1 in
     record {
-      owed = owed c.args.asked.now.shards c.args.catch_up c.next_call-call.result.0 c.next_call-call.result.1 way.there c.next_call-call.ensures;
+      owed = owed c.args.asked.now.shards c.args.catch_up c.next_call-call.result.0 c.next_call-call.result.1 way.there c.next_call-call.ensures.asks;
       asks = record {
         set = c.args.set;
         next = c.requires.0.there;
@@ -16,7 +16,7 @@ returns-clause-asks c =
         to = ap Some (sym way.to);
         batch = refl;
         out = c.next_call-call.result.1;
-        asks = c.next_call-call.ensures;
+        asks = c.next_call-call.ensures.asks;
         waits = refl;
       };
     }
@@ -24,7 +24,7 @@ returns-clause-asks c =
 pub returns-clause-kept : goal.returns-clause-kept
 returns-clause-kept c =
     let way = c.requires.1 in
-    let same = same_way c.args.catch_up c.next_call-call.result.0 c.next_call-call.result.1 c.next_call-call.ensures in (
+    let same = same_way c.args.catch_up c.next_call-call.result.0 c.next_call-call.result.1 c.next_call-call.ensures.asks in (
       c.requires.0,
       record {
         shard = same.0 ∙ way.shard;

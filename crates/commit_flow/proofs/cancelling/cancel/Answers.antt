@@ -1,4 +1,4 @@
--- A stage that waits for its turn keeps what it kept.
+-- A phase that waits for its turn keeps what it kept.
 use Rattle.commit_flow.proofs.cancelling.cancel.Goals as goal
 
 pub returns-in-Ready-clause-kept : goal.returns-in-Ready-clause-kept

@@ -3,7 +3,7 @@ use Rattle.std.proofs.Common.{Some, subst}
 use Rattle.tuples.specs.declared.entry.WriteId.{WriteId}
 use Rattle.commit_flow.specs.Answering.{NotDecidedGives}
 use Rattle.commit_flow.specs.Views.{view_out, view_ready}
-use Rattle.commit_flow.specs.declared.stage.Out.TheVariants.{Decide as decide_out}
+use Rattle.commit_flow.specs.declared.phase.Out.TheVariants.{Decide as decide_out}
 use Rattle.commit_flow.proofs.deciding.decided.Goals as goal
 
 pub returns-in-Some-clause-gives : goal.returns-in-Some-clause-gives

@@ -1,4 +1,4 @@
--- What the reply makes of a stage that knows no number of shards holds for any.
+-- What the reply makes of a phase that knows no number of shards holds for any.
 use Rattle.commit_flow.proofs.giving.give.Goals as goal
 
 pub returns-in-Outcome-clause-gives : goal.returns-in-Outcome-clause-gives

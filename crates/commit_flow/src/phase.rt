@@ -99,7 +99,7 @@ pub(crate) enum Out {
     DropWrite(Leaving),
 }
 
-pub(crate) enum Stage {
+pub(crate) enum Phase {
     Ready(Ready),
     Out(Out),
     Ended(WriteEnd),

@@ -1,4 +1,4 @@
--- The values of stages.
+-- The values of phases.
 use Rattle.std.specs.Prelude.{ℕ, List}
 use Rattle.decisions.specs.Values.{IntentValue, VoteValue}
 
