@@ -8,3 +8,4 @@ pub mod Asking
 pub mod Opening
 pub mod Belonging
 pub mod Failing
+pub mod Rows

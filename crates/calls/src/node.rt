@@ -4,6 +4,7 @@ ghost use Rattle.records.specs.Identity.{coordinator_number};
 ghost use Rattle.calls.specs.Belonging.{IsNodeOf};
 ghost use Rattle.calls.specs.Failing.{NodeIsSet};
 ghost use Rattle.calls.specs.Opening.{CoordinatorOpens, ShardOpens, refusal_of};
+ghost use Rattle.calls.specs.Rows.{RowsOf};
 ghost use Rattle.calls.specs.Views.{devices_of};
 
 use crate::NodeName;
@@ -14,7 +15,7 @@ use records::Identity;
 use shard::Shard;
 use std::alloc::Global;
 use std::marker::Model;
-use tuples::Refusal;
+use tuples::{Refusal, Version};
 
 #[derive(Drop)]
 pub(crate) enum Opened<D: Device> {
@@ -121,6 +122,18 @@ impl<D: Device> Node<D> {
                 Bank::A => refused.a.fail(n, tear),
                 Bank::B => refused.b.fail(n, tear),
             },
+        }
+    }
+
+    /// The versions that a shard has learned, by tuple and then by place. It is refused with `Down` or `NoMemory`, a coordinator with `BadRequest`, and one
+    /// whose opening was refused with that refusal.
+    pub fn rows(&self) -> Result<Vec<Version>, Refusal>
+        ensures { RowsOf D.state D.honest self.now result }
+    {
+        match &self.opened {
+            Opened::Coordinator(_) => Err(Refusal::BadRequest),
+            Opened::Shard(shard) => shard.rows(self.alloc),
+            Opened::Refused(refused) => Err(refused.refusal),
         }
     }
 
