@@ -1,7 +1,5 @@
 // One call of the node that it names.
-ghost use Rattle.std.specs.Prelude.{◌≡◌};
 ghost use Rattle.calls.specs.Belonging.{IsOwed, IsReplyTo};
-ghost use Rattle.cluster.specs.Nodes.{Called};
 
 use crate::naming::index_of;
 use calls::{Node, NodeCall, Reply, Told, ask, refuse};
@@ -16,8 +14,7 @@ pub(crate) fn ask_at<D: Device>(
     told: &mut Told,
 ) -> Reply
     requires { IsOwed shards call }
-    ensures called { Called D.state D.honest D.moment D.left_since shards nodes.old call result nodes.new }
-    ensures belongs { IsReplyTo call result }
+    ensures { IsReplyTo call result }
 {
     let name = call.node();
     if let Some(node) = nodes.get_mut(index_of(name)) {

@@ -1,12 +1,8 @@
 // A write is copied, since steps are only lent.
-ghost use Rattle.std.specs.Prelude.{◌≡◌, IfOk};
-
 use std::alloc::{AllocError, Global};
 use tuples::{Change, Condition, Write};
 
-fn copy_changes(alloc: Global, changes: &[Change]) -> Result<Vec<Change>, AllocError>
-    ensures { IfOk result (λ copies. copies.items ≡ changes.now) }
-{
+fn copy_changes(alloc: Global, changes: &[Change]) -> Result<Vec<Change>, AllocError> {
     let mut copies = Vec::new(alloc);
     for change in changes {
         copies.push(change.clone()?)?;
@@ -14,9 +10,7 @@ fn copy_changes(alloc: Global, changes: &[Change]) -> Result<Vec<Change>, AllocE
     Ok(copies)
 }
 
-fn copy_conditions(alloc: Global, conditions: &[Condition]) -> Result<Vec<Condition>, AllocError>
-    ensures { IfOk result (λ copies. copies.items ≡ conditions.now) }
-{
+fn copy_conditions(alloc: Global, conditions: &[Condition]) -> Result<Vec<Condition>, AllocError> {
     let mut copies = Vec::new(alloc);
     for condition in conditions {
         copies.push(condition.clone()?)?;
@@ -25,9 +19,7 @@ fn copy_conditions(alloc: Global, conditions: &[Condition]) -> Result<Vec<Condit
 }
 
 /// The same write once more.
-pub(crate) fn copy_write(alloc: Global, write: &Write) -> Result<Write, AllocError>
-    ensures { IfOk result (λ copy. copy ≡ write.now) }
-{
+pub(crate) fn copy_write(alloc: Global, write: &Write) -> Result<Write, AllocError> {
     let changes = copy_changes(alloc, write.changes())?;
     let conditions = copy_conditions(alloc, write.conditions())?;
     // It is as whole as the other.

@@ -1,46 +1,86 @@
-// The flows that run.
-ghost use Rattle.std.specs.Prelude.{◌≡◌, ℕ, Some, None, IsTrue};
-ghost use Rattle.calls.specs.Belonging.{IsOwed};
-ghost use Rattle.cluster.specs.Flows.{Asks, Awaits, Cancels, Gives, IsOf, next_name_of, is_cancelled as is_cancelled_flow};
+// The flows that run, each of a store of so many shards.
+ghost use Rattle.std.specs.Prelude.{◌≡◌};
 
 use answer_flow::{CheckFlow, ReadFlow, WatchFlow};
-use calls::{CallName, NodeCall, Reply};
+use calls::CallName;
 use care_flow::CareFlow;
 use commit_flow::{WriteEnd, WriteFlow};
+use std::marker::Model;
 
 /// A write on its way, and whether it was cancelled: then nothing more is told of it.
 pub struct Writing {
+    pub(crate) shards: u8,
     pub(crate) flow: WriteFlow,
     pub(crate) is_cancelled: bool,
+    ghost of: { flow.shards ≡ shards },
+}
+
+/// A read on its way.
+#[derive(Drop)]
+pub struct Reading {
+    pub(crate) shards: u8,
+    pub(crate) flow: ReadFlow,
+    ghost of: { flow.shards ≡ shards },
+}
+
+/// A check on its way.
+#[derive(Drop)]
+pub struct Checking {
+    pub(crate) shards: u8,
+    pub(crate) flow: CheckFlow,
+    ghost of: { flow.shards ≡ shards },
+}
+
+/// A watch on its way.
+#[derive(Drop)]
+pub struct Watching {
+    pub(crate) shards: u8,
+    pub(crate) flow: WatchFlow,
+}
+
+/// A care on its way, of nodes that are there.
+#[derive(Drop)]
+pub struct Caring {
+    pub(crate) shards: u8,
+    pub(crate) flow: CareFlow,
+}
+
+impl Model for Caring {
+    ghost use Rattle.cluster.specs.Kept.{CaringValue};
+    ghost use Rattle.care_flow.specs.Cares.{IsThere};
+
+    ghost Value = { CaringValue };
+
+    ghost view = { λ c. record { shards = c.shards; flow = c.flow } };
+
+    ghost invariant = { λ c. IsThere c.shards c.flow };
 }
 
 /// A flow that runs: it serves a request, or cares for the nodes.
 #[derive(Drop)]
 pub enum Flow {
     Write(Writing),
-    Read(ReadFlow),
-    Check(CheckFlow),
-    Watch(WatchFlow),
-    Care(CareFlow),
+    Read(Reading),
+    Check(Checking),
+    Watch(Watching),
+    Care(Caring),
 }
 
 impl Writing {
     /// How it ended, where it has; what it holds is spent.
-    pub(crate) fn finish(self) -> Option<WriteEnd>
-        ensures { result ≡ self.flow.seen.ended }
-    {
+    pub(crate) fn finish(self) -> Option<WriteEnd> {
         let Writing {
+            shards: _,
             flow,
             is_cancelled: _,
         } = self;
         flow.finish()
     }
 
-    /// It is cancelled, and goes out or on to its end. Whether it has ended.
-    pub(crate) fn cancel(&mut self) -> bool {
+    /// It is cancelled, and goes out, or on to its end.
+    pub(crate) fn cancel(&mut self) {
         self.flow.cancel();
         self.is_cancelled = true;
-        self.flow.end().is_some()
     }
 }
 
@@ -48,6 +88,7 @@ impl Writing {
 impl Drop for Writing {
     fn drop(self) {
         let Writing {
+            shards: _,
             flow,
             is_cancelled: _,
         } = self;
@@ -56,51 +97,19 @@ impl Drop for Writing {
 }
 
 impl Flow {
-    /// Its next call, which has to be made, and the reply given.
-    pub(crate) fn next_call(&mut self) -> Option<NodeCall>
-        ensures call { (call : _) → result ≡ Some call → Asks self.old call self.new }
-        ensures none { result ≡ None → next_name_of self.old ≡ None }
-    {
-        match self {
-            Flow::Write(writing) => writing.flow.next_call(),
-            Flow::Read(flow) => flow.next_call(),
-            Flow::Check(flow) => flow.next_call(),
-            Flow::Watch(flow) => flow.next_call(),
-            Flow::Care(flow) => flow.next_call(),
-        }
-    }
-
-    /// What the reply to its call makes of it.
-    pub(crate) fn give(&mut self, reply: Reply)
-        requires { Awaits self.old reply }
-        ensures { Gives self.old reply self.new }
-    {
-        match self {
-            Flow::Write(writing) => writing.flow.give(reply),
-            Flow::Read(flow) => flow.give(reply),
-            Flow::Check(flow) => flow.give(reply),
-            Flow::Watch(flow) => flow.give(reply),
-            Flow::Care(flow) => flow.give(reply),
-        }
-    }
-
     /// The name of its next call; none where it has ended.
-    pub(crate) fn next_name(&self) -> Option<CallName>
-        ensures { result ≡ next_name_of self.now }
-    {
+    pub(crate) fn next_name(&self) -> Option<CallName> {
         match self {
             Flow::Write(writing) => writing.flow.next_name(),
-            Flow::Read(flow) => flow.next_name(),
-            Flow::Check(flow) => flow.next_name(),
-            Flow::Watch(flow) => flow.next_name(),
-            Flow::Care(flow) => flow.next_name(),
+            Flow::Read(reading) => reading.flow.next_name(),
+            Flow::Check(checking) => checking.flow.next_name(),
+            Flow::Watch(watching) => watching.flow.next_name(),
+            Flow::Care(caring) => caring.flow.next_name(),
         }
     }
 
     /// Whether nothing more is told of it.
-    pub(crate) fn is_cancelled(&self) -> bool
-        ensures { result ≡ is_cancelled_flow self.now }
-    {
+    pub(crate) fn is_cancelled(&self) -> bool {
         match self {
             Flow::Write(writing) => writing.is_cancelled,
             Flow::Read(_) | Flow::Check(_) | Flow::Watch(_) | Flow::Care(_) => false,
@@ -110,7 +119,10 @@ impl Flow {
     /// It is cancelled. Whether it goes on: a write does that was begun, on its way out or, where it is decided, to its end.
     pub(crate) fn cancel(&mut self) -> bool {
         match self {
-            Flow::Write(writing) => !writing.cancel(),
+            Flow::Write(writing) => {
+                writing.cancel();
+                writing.flow.next_name().is_some()
+            }
             Flow::Read(_) | Flow::Check(_) | Flow::Watch(_) | Flow::Care(_) => false,
         }
     }

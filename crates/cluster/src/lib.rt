@@ -4,10 +4,11 @@
 //! Never: makes more than one node call in a step, or does a part of a step for which memory was refused.
 //! Callers rely on: what `run` tells is what its steps did, in their order, and nothing else has changed.
 //!
-//! Start at `specs/Steps.antt`, what each step does and tells, and then `specs/Flows.antt`, what a flow asks and how it ends.
+//! Start at `step.rt`, what a step is, and then `taking.rt`, what it does.
 #![tactic(auto)]
 
 mod asking;
+mod calling;
 mod cancelling;
 mod copying;
 mod ending;
@@ -25,7 +26,7 @@ mod turning;
 mod world;
 
 pub use event::{Answer, Event, What};
-pub use flow::{Flow, Writing};
+pub use flow::{Caring, Checking, Flow, Reading, Watching, Writing};
 pub use reopening::reopen;
 pub use request::Request;
 pub use running::run;

@@ -1,13 +1,8 @@
-// Where a node stands among the nodes, and which node of which store it is.
-ghost use Rattle.std.specs.Prelude.{◌≡◌};
-ghost use Rattle.cluster.specs.Worlds.{index_of};
-
+// Where a node stands among the nodes.
 use calls::NodeName;
 
 /// Its place among the nodes, the coordinator first.
-pub(crate) fn index_of(name: NodeName) -> usize
-    ensures { result ≡ index_of name }
-{
+pub(crate) fn index_of(name: NodeName) -> usize {
     match name {
         NodeName::Coordinator => 0,
         NodeName::Shard(shard) => shard as usize + 1,

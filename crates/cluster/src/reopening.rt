@@ -1,10 +1,8 @@
 // A closed store is opened.
-ghost use Rattle.std.specs.Prelude.{◌≡◌, ◌≤◌, ◌+◌, ◌*◌, ◌∷◌, ◌++◌, [], MatchResult};
+ghost use Rattle.std.specs.Prelude.{◌≡◌, ◌≤◌, ◌<◌, ◌+◌, ◌*◌, IfErr};
 ghost use Rattle.std.specs.Vec.{vec_capacity, vec_len};
 ghost use Rattle.records.specs.Identity.{max_shards};
-ghost use Rattle.cluster.specs.Begun.{IsNodeThere};
-ghost use Rattle.cluster.specs.Nodes.{Opens};
-ghost use Rattle.cluster.specs.Openings.{AreOpened, IsOpenedOver};
+ghost use Rattle.cluster.specs.Kept.{IsNodeThere};
 
 use crate::World;
 use crate::restarting::open;
@@ -12,17 +10,6 @@ use calls::{Node, NodeName, Told};
 use device::Device;
 use slab::Slab;
 use std::alloc::Global;
-
-// The two devices of the next node.
-fn take_two<D>(devices: &mut Vec<D>) -> (D, D)
-    requires { 2 ≤ vec_len devices.old }
-    ensures items { devices.old.items ≡ result.0 ∷ result.1 ∷ devices.new.items }
-    ensures len { vec_len devices.new + 2 ≡ vec_len devices.old }
-{
-    let a = devices.remove(0);
-    let b = devices.remove(0);
-    (a, b)
-}
 
 // Opens the next node over the next two devices.
 fn open_next<D: Device>(
@@ -32,8 +19,18 @@ fn open_next<D: Device>(
     name: NodeName,
     devices: &mut Vec<D>,
     nodes: &mut Vec<Node<D>>,
-) {
-    let (a, b) = take_two(devices);
+)
+    requires some { 1 ≤ shards }
+    requires few { shards ≤ max_shards }
+    requires there { IsNodeThere shards name }
+    requires left { 2 ≤ vec_len devices.old }
+    requires room { vec_len nodes.old < vec_capacity nodes.old }
+    ensures left { vec_len devices.new + 2 ≡ vec_len devices.old }
+    ensures opened { vec_len nodes.new ≡ vec_len nodes.old + 1 }
+    ensures room { vec_capacity nodes.new ≡ vec_capacity nodes.old }
+{
+    let a = devices.remove(0);
+    let b = devices.remove(0);
     nodes.push_reserved(open(alloc, store, shards, name, a, b));
 }
 
@@ -48,12 +45,11 @@ pub fn reopen<D: Device>(
     requires some { 1 ≤ shards }
     requires few { shards ≤ max_shards }
     requires count { vec_len devices ≡ 2 * (shards + 1) }
-    ensures { MatchResult result (IsOpenedOver D.state D.honest D.moment D.left_since store shards devices.items) (λ back. back.items ≡ devices.items) }
+    ensures { IfErr result (λ back. back.items ≡ devices.items) }
 {
-    let mut nodes = Vec::new(alloc);
-    if nodes.reserve(shards as usize + 1).is_err() {
+    let Ok(mut nodes) = Vec::with_capacity(alloc, shards as usize + 1) else {
         return Err(devices);
-    }
+    };
     open_next(
         alloc,
         store,

@@ -1,8 +1,4 @@
 // A list of steps is run.
-ghost use Rattle.std.specs.Prelude.{◌≡◌, ◌<◌, ◌++◌, List, OnOk, OnErr, MatchResult, length, take};
-ghost use Rattle.cluster.specs.Runs.{Took, TookAll};
-ghost use Rattle.cluster.specs.declared.event.Event.{Event as AnyEvent};
-
 use crate::{Event, Step, World};
 use device::Device;
 use std::alloc::AllocError;
@@ -13,10 +9,7 @@ fn run_one<D: Device>(
     number: usize,
     step: &Step,
     events: &mut Vec<Event>,
-) -> Result<(), AllocError>
-    ensures ok { OnOk result ((more : List AnyEvent) × Took D.state D.honest D.moment D.left_since world.old number step.now more world.new × (events.new.items ≡ events.old.items ++ more)) }
-    ensures err { OnErr result ((world.new ≡ world.old) × (events.new.items ≡ events.old.items)) }
-{
+) -> Result<(), AllocError> {
     events.reserve(1)?;
     if let Some(what) = world.take(step)? {
         events.push_reserved(Event { step: number, what });
@@ -30,11 +23,7 @@ pub fn run<D: Device>(
     world: &mut World<D>,
     steps: &[Step],
     events: &mut Vec<Event>,
-) -> Result<(), usize>
-    ensures { MatchResult result
-        (λ _. (more : List AnyEvent) × TookAll D.state D.honest D.moment D.left_since world.old 0 steps.now more world.new × (events.new.items ≡ events.old.items ++ more))
-        (λ n. (n < length steps.now) × ((more : List AnyEvent) × TookAll D.state D.honest D.moment D.left_since world.old 0 (take n steps.now) more world.new × (events.new.items ≡ events.old.items ++ more))) }
-{
+) -> Result<(), usize> {
     for (number, step) in steps.iter().enumerate() {
         if run_one(world, number, step, events).is_err() {
             return Err(number);

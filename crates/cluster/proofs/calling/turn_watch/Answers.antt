@@ -1,0 +1,10 @@
+-- A watch asks what the coordinator may be asked, and waits for the reply.
+use Rattle.calls.proofs.Belonging.{made_is_owed}
+use Rattle.answer_flow.proofs.Fitting.{watch_fits}
+use Rattle.cluster.proofs.calling.turn_watch.Goals as goal
+
+pub ask_at-reply-requires : goal.ask_at-reply-requires
+ask_at-reply-requires g c = made_is_owed _ c.in-Some.call (c.in-Some.ensures.call.owed _)
+
+pub give-requires : goal.give-requires
+give-requires g c = watch_fits _ _ _ c.in-Some.call c.ask_at-reply.result _ c.in-Some.ensures.call c.ask_at-reply.ensures

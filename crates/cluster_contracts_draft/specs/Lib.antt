@@ -1,0 +1,9 @@
+pub mod Worlds
+pub mod Flows
+pub mod Begun
+pub mod Ends
+pub mod Nodes
+pub mod Kept
+pub mod Steps
+pub mod Runs
+pub mod Openings

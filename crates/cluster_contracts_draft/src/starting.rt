@@ -1,0 +1,161 @@
+// A flow begins.
+ghost use Rattle.std.specs.Prelude.{◌≡◌, ◌≤◌, ◌↔◌, ℕ, IsTrue, IfOk, OnErr};
+ghost use Rattle.records.specs.Identity.{max_shards};
+ghost use Rattle.answer_flow.specs.Finding.{fresh_of};
+ghost use Rattle.cluster.specs.Begun.{IsFresh, IsInLimits, IsNodeThere, MayCare, begun_for, caring_for};
+ghost use Rattle.cluster.specs.Kept.{AreFlows, IsRunning};
+ghost use Rattle.cluster.specs.Steps.{Begins};
+
+use crate::copying::copy_write;
+use crate::{Flow, Request, What, Writing};
+use answer_flow::{CheckFlow, Freshness, ReadFlow, WatchFlow};
+use calls::NodeName;
+use care_flow::{Care, CareFlow};
+use commit_flow::WriteFlow;
+use slab::Slab;
+use std::alloc::{AllocError, Global};
+use tuples::{MAX_NUMBER, Refusal, Write};
+
+/// The most flows that run at a time.
+pub const MAX_FLOWS: usize = 1024;
+
+// The most tuplesets of a read, the most places of a watch, and the most namespaces of one.
+const MAX_SETS: usize = 16;
+
+const MAX_WATCHED: u64 = 256;
+
+const MAX_NAMESPACES: usize = 16;
+
+fn is_place(freshness: Freshness) -> bool
+    ensures { IsTrue result ↔ IsFresh (fresh_of freshness) }
+{
+    match freshness {
+        Freshness::Latest => true,
+        Freshness::AtLeast(place) => place <= MAX_NUMBER,
+        Freshness::Exact(place) => place <= MAX_NUMBER,
+    }
+}
+
+fn is_in_limits(request: &Request) -> bool
+    ensures { IsTrue result ↔ IsInLimits request.now }
+{
+    match request {
+        Request::Write(_) => true,
+        Request::Read(freshness, sets) => {
+            is_place(*freshness) && !sets.is_empty() && sets.len() <= MAX_SETS
+        }
+        Request::Check(freshness, _, _) => is_place(*freshness),
+        Request::Watch(cursor, limit, namespaces) => {
+            *cursor <= MAX_NUMBER
+                && 1 <= *limit
+                && *limit <= MAX_WATCHED
+                && !namespaces.is_empty()
+                && namespaces.len() <= MAX_NAMESPACES
+        }
+    }
+}
+
+fn begin_write(alloc: Global, shards: u8, write: &Write) -> Result<Flow, AllocError>
+    requires some { 1 ≤ shards }
+    requires few { shards ≤ max_shards }
+    ensures { IfOk result (λ flow. flow ≡ begun_for shards (Request.Write write.now)) }
+{
+    let write = copy_write(alloc, write)?;
+    match WriteFlow::new(alloc, shards, write) {
+        Ok(flow) => Ok(Flow::Write(Writing {
+            flow,
+            is_cancelled: false,
+        })),
+        Err(_) => Err(AllocError),
+    }
+}
+
+fn begin(alloc: Global, shards: u8, request: &Request) -> Result<Flow, AllocError>
+    requires some { 1 ≤ shards }
+    requires few { shards ≤ max_shards }
+    ensures { IfOk result (λ flow. flow ≡ begun_for shards request.now) }
+{
+    match request {
+        Request::Write(write) => begin_write(alloc, shards, write),
+        Request::Read(freshness, sets) => {
+            let sets = sets.clone()?;
+            Ok(Flow::Read(ReadFlow::new(alloc, shards, *freshness, sets)))
+        }
+        Request::Check(freshness, userset, user) => {
+            let user = user.clone()?;
+            let flow = CheckFlow::new(alloc, shards, *freshness, userset, user)?;
+            Ok(Flow::Check(flow))
+        }
+        Request::Watch(cursor, limit, namespaces) => {
+            let namespaces = namespaces.clone()?;
+            Ok(Flow::Watch(WatchFlow::new(alloc, *cursor, *limit, namespaces)))
+        }
+    }
+}
+
+/// A flow for the request begins, where the request lies in its limits.
+pub(crate) fn start(
+    alloc: Global,
+    shards: u8,
+    flows: &mut Slab<Flow>,
+    request: &Request,
+) -> Result<Option<What>, AllocError>
+    requires some { 1 ≤ shards }
+    requires few { shards ≤ max_shards }
+    ensures ok { IfOk result (λ told. Begins flows.old.slots (IsInLimits request.now) (begun_for shards request.now) told flows.new.slots) }
+    ensures err { OnErr result (flows.new.slots ≡ flows.old.slots) }
+    ensures kept { AreFlows shards flows.old.slots → AreFlows shards flows.new.slots }
+{
+    if !is_in_limits(request) {
+        return Ok(None);
+    }
+    if flows.len() >= MAX_FLOWS {
+        return Ok(Some(What::Refused(Refusal::Full)));
+    }
+    flows.reserve(1)?;
+    let flow = begin(alloc, shards, request)?;
+    Ok(Some(What::Began(flows.insert_reserved(flow))))
+}
+
+fn is_there(shards: u8, node: NodeName) -> bool
+    ensures { IsTrue result ↔ IsNodeThere shards node }
+{
+    match node {
+        NodeName::Coordinator => true,
+        NodeName::Shard(shard) => shard < shards,
+    }
+}
+
+fn may_care(shards: u8, care: Care) -> bool
+    ensures { IsTrue result ↔ MayCare shards care }
+{
+    match care {
+        Care::Flush(node) => is_there(shards, node),
+        Care::Learn(shard) => shard < shards,
+        Care::Resolve(shard) => shard < shards,
+        Care::Raise(place) => place <= MAX_NUMBER,
+        Care::Collect(shard) => shard < shards,
+    }
+}
+
+/// A flow for the care begins, where its node is there.
+pub(crate) fn care_for(
+    alloc: Global,
+    shards: u8,
+    flows: &mut Slab<Flow>,
+    care: Care,
+) -> Result<Option<What>, AllocError>
+    ensures ok { IfOk result (λ told. Begins flows.old.slots (MayCare shards care) (caring_for shards care) told flows.new.slots) }
+    ensures err { OnErr result (flows.new.slots ≡ flows.old.slots) }
+    ensures kept { AreFlows shards flows.old.slots → AreFlows shards flows.new.slots }
+{
+    if !may_care(shards, care) {
+        return Ok(None);
+    }
+    if flows.len() >= MAX_FLOWS {
+        return Ok(Some(What::Refused(Refusal::Full)));
+    }
+    flows.reserve(1)?;
+    let flow = Flow::Care(CareFlow::new(alloc, shards, care));
+    Ok(Some(What::Began(flows.insert_reserved(flow))))
+}

@@ -1,0 +1,70 @@
+// A store with its nodes and flows.
+ghost use Rattle.std.specs.Prelude.{◌≡◌, Err, None, MatchOption};
+ghost use Rattle.calls.specs.Rows.{RowsOf};
+ghost use Rattle.calls.specs.declared.call.NodeName.TheVariants.{Shard as shard_name};
+ghost use Rattle.cluster.specs.Flows.{next_name_of};
+ghost use Rattle.cluster.specs.Nodes.{IsSetIn};
+ghost use Rattle.cluster.specs.Worlds.{flow_at, node_at};
+
+use crate::Flow;
+use crate::naming::index_of;
+use calls::{CallName, Node, NodeName, Told};
+use device::{Device, Tear};
+use journal::Bank;
+use slab::Slab;
+use std::alloc::Global;
+use std::marker::Model;
+use tuples::{Refusal, Version};
+
+/// A store: its nodes over their devices, and the flows that run, each in a slot. It is made by `reopen`, and steps are taken by `run`.
+#[derive(Drop)]
+pub struct World<D: Device> {
+    pub(crate) alloc: Global,
+    pub(crate) store: u64,
+    pub(crate) shards: u8,
+    // the coordinator, and then the shards by rising number
+    pub(crate) nodes: Vec<Node<D>>,
+    pub(crate) flows: Slab<Flow>,
+    pub(crate) told: Told,
+}
+
+impl<D: Device> Model for World<D> {
+    ghost use Rattle.cluster.specs.Worlds.{WorldView};
+    ghost use Rattle.cluster.specs.Kept.{IsWorld};
+
+    ghost Value = { WorldView D };
+
+    ghost view = { λ w. record { store = w.store; shards = w.shards; nodes = w.nodes.items; flows = w.flows.slots } };
+
+    ghost invariant = { λ w. IsWorld (record { store = w.store; shards = w.shards; nodes = w.nodes.items; flows = w.flows.slots }) };
+}
+
+impl<D: Device> World<D> {
+    /// The next call of the flow in the slot; none where there is no flow.
+    pub fn next(&self, slot: usize) -> Option<CallName>
+        ensures { MatchOption (flow_at self.now.flows slot) (result ≡ None) (λ flow. result ≡ next_name_of flow) }
+    {
+        self.flows.get(slot)?.next_name()
+    }
+
+    /// The versions that the shard has learned, by tuple and then by place. It is refused with `NoMemory`, and where the shard is down or its opening was
+    /// refused as the shard; and with `BadRequest` where there is no such shard.
+    pub fn rows(&self, shard: u8) -> Result<Vec<Version>, Refusal>
+        ensures { MatchOption (node_at self.now.nodes (shard_name shard)) (result ≡ Err Refusal.BadRequest) (λ node. RowsOf D.state D.honest node result) }
+    {
+        match self.nodes.get(index_of(NodeName::Shard(shard))) {
+            Some(node) => node.rows(),
+            None => Err(Refusal::BadRequest),
+        }
+    }
+
+    /// Sets the script of one device of the node, and changes nothing else.
+    pub fn fail(&mut self, node: NodeName, bank: Bank, n: u64, tear: Tear)
+        ensures nodes { MatchOption (node_at self.old.nodes node) (self.new.nodes ≡ self.old.nodes) (λ was. IsSetIn D.set_to_fail D.state D.honest D.moment D.left_since bank n tear self.old.nodes node was self.new.nodes) }
+        ensures rest { self.new ≡ record self.old { nodes = self.new.nodes } }
+    {
+        if let Some(node) = self.nodes.get_mut(index_of(node)) {
+            node.fail(bank, n, tear);
+        }
+    }
+}
