@@ -64,7 +64,8 @@ pub(crate) enum Step {
     Fail(NodeName, u64, Tear),
 }
 
-fn write_of(alloc: Global, line: &[u8]) -> Result<Write, Refusal> {
+/// The write of this line in a script.
+pub(crate) fn write_of(alloc: Global, line: &[u8]) -> Result<Write, Refusal> {
     match Command::parse(alloc, line)? {
         Command::WriteAll(write) => Ok(write),
         _ => Err(Refusal::BadRequest),
