@@ -1,1 +1,6 @@
 pub mod Watches
+pub mod Leads
+pub mod Places
+pub mod Ways
+pub mod ReadsTurn
+pub mod ChecksTurn

@@ -1,1 +1,3 @@
 pub mod AnswerTurns
+pub mod ReadTurns
+pub mod CheckTurns

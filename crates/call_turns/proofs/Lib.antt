@@ -10,3 +10,4 @@ pub mod CaughtUp
 pub mod AskedMore
 pub mod RaiseTold
 pub mod ResolveTold
+pub mod ReadTold
