@@ -21,7 +21,7 @@ use Rattle.decisions.specs.Coordinators.{heads_of}
 use Rattle.decisions.specs.Flows.{CheckHolds, Freshness, most_walked}
 use Rattle.decisions.specs.Values.{BatchValue, HeadsValue}
 use Rattle.decisions.specs.Walks.{Walks}
-use Rattle.shard.specs.Shards.{ShardView, memory}
+use Rattle.shard.specs.Shards.{memory}
 use Rattle.shard.specs.declared.replies.ReadReply.{ReadReply}
 use Rattle.shard.specs.declared.replies.ReadReply.TheVariants.{Rows, Behind}
 use Rattle.calls.specs.Asking.{Answered}
@@ -44,7 +44,7 @@ use Rattle.laws.specs.Nodes.{NodeName, Nodes, coordinator, shard}
 use Rattle.turns.specs.Causes.{Calls, HasItsCause, IsCause, LetsLearn}
 use Rattle.turns.specs.CoordinatorSeamLaws.{AsksAbove, AsksBelow}
 use Rattle.turns.specs.FlushLaws.{all_kept}
-use Rattle.turns.specs.Flows.{Asked, Holds, checking, to_check}
+use Rattle.turns.specs.Flows.{Asked, checking, to_check}
 use Rattle.turns.specs.Held.{AreRightHeads, IfHeld, IsRightBatch, IsRightCheck}
 use Rattle.turns.specs.Moments.{Moment, Running}
 use Rattle.turns.specs.QuietTurns.{batch_of, behind_call, ending, with_call}
@@ -65,7 +65,7 @@ use Rattle.call_turns.proofs.ReadTold.{read_for_check_told}
 use Rattle.call_turns.proofs.Standing.{some_coordinator}
 use Rattle.answer_turns.specs.AnswerTurns.{shown_answer}
 use Rattle.answer_turns.specs.CheckTurns.{ChecksTurn, check_in_slot, check_tells}
-use Rattle.answer_turns.proofs.Leads.{ComesRight, IsFlow, IsRightBehind, Quietly, answers_to, fails_to, goes_to, held_now, lacks_memory, refuses_to}
+use Rattle.answer_turns.proofs.Leads.{ComesRight, IsFlow, Quietly, answers_to, fails_to, goes_to, held_now, lacks_memory, refuses_to}
 use Rattle.answer_turns.proofs.Places.{asks_above, asks_below, finds_place}
 use Rattle.answer_turns.proofs.Ways.{came, moved}
 
