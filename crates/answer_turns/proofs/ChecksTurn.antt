@@ -65,23 +65,10 @@ use Rattle.call_turns.proofs.ReadTold.{read_for_check_told}
 use Rattle.call_turns.proofs.Standing.{some_coordinator}
 use Rattle.answer_turns.specs.AnswerTurns.{shown_answer}
 use Rattle.answer_turns.specs.CheckTurns.{ChecksTurn, check_in_slot, check_tells}
+use Rattle.answer_turns.proofs.CheckPlaces.{has_or_not}
 use Rattle.answer_turns.proofs.Leads.{ComesRight, IsFlow, Quietly, answers_to, fails_to, goes_to, held_now, lacks_memory, refuses_to}
 use Rattle.answer_turns.proofs.Places.{asks_above, asks_below, finds_place}
 use Rattle.answer_turns.proofs.Ways.{came, moved}
-
--- a list has a tuple, or it has not
-has_or_not : (rows : List Tuple) (t : Tuple) → Contains rows t ⊎ (Contains rows t → ⊥)
-has_or_not [] t = inr (λ has. omega (arith, has.1))
-has_or_not (y ∷ rows) t = ⊎_elim
-    (λ same. inl (subst (Contains (y ∷ rows)) (tuple_same y t same) (contained_from (y ∷ rows) zero y refl)))
-    (λ other. ⊎_elim
-    (λ further. inl (Contains-append_right (y ∷ []) rows t further))
-    (λ lacks. inr (λ has. ⊎_elim
-    (λ first. ⊎_elim (λ never. omega (arith, never.1)) (λ is. true≢false (sym (tuple_eq_from_same y t is) ∙ other)) (Contains-push_cases [] y t first))
-    lacks
-    (Contains-append_cases (y ∷ []) rows t has)))
-    (has_or_not rows t))
-    (cases_Bool (tuple_eq y t))
 
 module _ {D : Type 0} (state : D → State) (honest : D → Type 0) (moment : D → ℕ) (left_since : D → ℕ → List ℕ → Type 0)
     (counts_now : (d : D) (t : ℕ) (c : List ℕ) → honest d → t ≤ moment d → left (state d) c → left_since d t c) (only_now : (d : D) (c : List ℕ) → honest d → left_since d (moment d) c → left (state d) c)
@@ -383,5 +370,5 @@ pub checks_turn : {D : Type 0} (state : D → State) (honest : D → Type 0) (mo
     (counts_now : (d : D) (t : ℕ) (c : List ℕ) → honest d → t ≤ moment d → left (state d) c → left_since d t c) (only_now : (d : D) (c : List ℕ) → honest d → left_since d (moment d) c → left (state d) c)
     (store shards : ℕ) → ChecksTurn state honest moment left_since store shards
 checks_turn state honest moment left_since counts_now only_now store shards old new slot x v after t =
-    by_step state honest moment left_since counts_now only_now store shards old new slot v.fresh x v.user v.seen.holds v.seen.next t.begins t.call t.out t.reply after t.was t.is v.seen refl
+    by_step state honest moment left_since counts_now only_now store shards old new slot v.fresh x v.user v.seen.holds v.seen.next (λ is. t.begins (inl is)) t.call t.out t.reply after t.was t.is v.seen refl
     (subst (λ (n : ℕ). AsksFor v.seen.next n v.user v.seen t.call t.out) t.of_store t.asks.asks) t.gives t.fits t.called_is t.answers t.turns
