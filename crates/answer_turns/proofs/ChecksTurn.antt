@@ -1,7 +1,7 @@
 -- A check takes its turn.
-use Rattle.std.proofs.Common.{◌≡◌, ◌≢◌, ◌⊎◌, ⊎_elim, inl, inr, ◌≤◌, ◌<◌, ◌++◌, ℕ, zero, true, false, true≢false, List, [], ◌∷◌, length, Option, Some, None, Result, Ok, Err, MatchOption, Contains, refl, sym, ◌∙◌, ap, slice_get, subst, arith}
-use Rattle.std.proofs.lemmas.Bool.{cases_Bool, cases_lt}
-use Rattle.std.proofs.lemmas.List.Elements.{All-nil, Contains-append_cases, Contains-append_right, Contains-push_cases}
+use Rattle.std.proofs.Common.{◌≡◌, ◌≢◌, ⊎_elim, inl, ◌≤◌, ◌<◌, ◌++◌, ℕ, zero, true, false, List, [], ◌∷◌, length, Option, Some, None, Result, Ok, Err, MatchOption, Contains, refl, sym, ◌∙◌, ap, slice_get, subst, arith}
+use Rattle.std.proofs.lemmas.Bool.{cases_lt}
+use Rattle.std.proofs.lemmas.List.Elements.{All-nil}
 use Rattle.std.proofs.lemmas.Option.{same_Some}
 use Rattle.refusal.specs.declared.refusal.Refusal.{Refusal}
 use Rattle.refusal.specs.declared.refusal.Refusal.TheVariants.{Collected, Full, Future, NoMemory, Unsure}
@@ -11,11 +11,8 @@ use Rattle.tuples.specs.declared.tuple.Tuple.{Tuple}
 use Rattle.tuples.specs.declared.user.User.{User}
 use Rattle.tuples.specs.Checking.{holding}
 use Rattle.tuples.specs.Log.{is_at}
-use Rattle.tuples.specs.Order.{tuple_eq}
 use Rattle.tuples.specs.Parts.{shard_of}
 use Rattle.tuples.specs.Walking.{IsCheckSelection}
-use Rattle.tuples.proofs.Ordered.{tuple_eq_from_same}
-use Rattle.tuples.proofs.Same.{tuple_same}
 use Rattle.records.specs.declared.record.Record.{Record}
 use Rattle.decisions.specs.Coordinators.{heads_of}
 use Rattle.decisions.specs.Flows.{CheckHolds, Freshness, most_walked}

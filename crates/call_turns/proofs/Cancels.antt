@@ -1,17 +1,14 @@
 -- A flow that is no write keeps the promise of a step where it is cancelled.
-use Rattle.std.proofs.Common.{◌≡◌, inr, ℕ, false, List, [], Option, Some, None, refl, sym, ◌∙◌, ap, subst}
+use Rattle.std.proofs.Common.{◌≡◌, inr, ℕ, false, List, [], Option, None, refl, sym, ◌∙◌, ap, subst}
 use Rattle.std.proofs.Math.Path.{fun_ext}
 use Rattle.device.specs.Device.{State, left}
-use Rattle.records.specs.declared.record.Record.{Record}
 use Rattle.laws.specs.Nodes.{NodeName}
-use Rattle.turns.specs.Flows.{Asked, Holds}
 use Rattle.turns.specs.Moments.{Moment, Running, ended, is_write}
-use Rattle.turns.specs.Promises.{Ran}
 use Rattle.turns.specs.Runs.{IfRunning, IsCancelled, cancel, restart}
 use Rattle.turns.specs.Stands.{IsHorizonIn, Stands}
-use Rattle.turns.specs.Stores.{AreSound, NamesHorizon, StandsOver, Store, stops}
+use Rattle.turns.specs.Stores.{AreSound, NamesHorizon, stops}
 use Rattle.turns.proofs.FlowEnds.{flows_end}
-use Rattle.call_turns.specs.Steps.{CancelledFlowsEnd, IsDroppedThere, shown_flow}
+use Rattle.call_turns.specs.Steps.{CancelledFlowsEnd, shown_flow}
 use Rattle.call_turns.proofs.Made.{inside_by, still_within}
 use Rattle.call_turns.proofs.Turned.{runs, shows_ended, the_flow}
 
