@@ -1,7 +1,7 @@
 -- A check takes its turn.
-use Rattle.std.proofs.Common.{◌≡◌, ◌≢◌, ◌⊎◌, ⊎_elim, inl, inr, ◌≤◌, ◌<◌, ◌++◌, ℕ, zero, true, false, true≢false, List, [], ◌∷◌, length, Option, Some, None, Result, Ok, Err, MatchOption, Contains, refl, sym, ◌∙◌, ap, slice_get, subst, arith}
-use Rattle.std.proofs.lemmas.Bool.{cases_Bool, cases_lt}
-use Rattle.std.proofs.lemmas.List.Elements.{All-nil, Contains-append_cases, Contains-append_right, Contains-push_cases}
+use Rattle.std.proofs.Common.{◌≡◌, ◌≢◌, ⊎_elim, inl, ◌≤◌, ◌<◌, ◌++◌, ℕ, zero, true, false, List, [], ◌∷◌, length, Option, Some, None, Result, Ok, Err, MatchOption, Contains, refl, sym, ◌∙◌, ap, slice_get, subst, arith}
+use Rattle.std.proofs.lemmas.Bool.{cases_lt}
+use Rattle.std.proofs.lemmas.List.Elements.{All-nil}
 use Rattle.std.proofs.lemmas.Option.{same_Some}
 use Rattle.refusal.specs.declared.refusal.Refusal.{Refusal}
 use Rattle.refusal.specs.declared.refusal.Refusal.TheVariants.{Collected, Full, Future, NoMemory, Unsure}
@@ -11,17 +11,14 @@ use Rattle.tuples.specs.declared.tuple.Tuple.{Tuple}
 use Rattle.tuples.specs.declared.user.User.{User}
 use Rattle.tuples.specs.Checking.{holding}
 use Rattle.tuples.specs.Log.{is_at}
-use Rattle.tuples.specs.Order.{tuple_eq}
 use Rattle.tuples.specs.Parts.{shard_of}
 use Rattle.tuples.specs.Walking.{IsCheckSelection}
-use Rattle.tuples.proofs.Ordered.{tuple_eq_from_same}
-use Rattle.tuples.proofs.Same.{tuple_same}
 use Rattle.records.specs.declared.record.Record.{Record}
 use Rattle.decisions.specs.Coordinators.{heads_of}
 use Rattle.decisions.specs.Flows.{CheckHolds, Freshness, most_walked}
 use Rattle.decisions.specs.Values.{BatchValue, HeadsValue}
 use Rattle.decisions.specs.Walks.{Walks}
-use Rattle.shard.specs.Shards.{ShardView, memory}
+use Rattle.shard.specs.Shards.{memory}
 use Rattle.shard.specs.declared.replies.ReadReply.{ReadReply}
 use Rattle.shard.specs.declared.replies.ReadReply.TheVariants.{Rows, Behind}
 use Rattle.calls.specs.Asking.{Answered}
@@ -44,7 +41,7 @@ use Rattle.laws.specs.Nodes.{NodeName, Nodes, coordinator, shard}
 use Rattle.turns.specs.Causes.{Calls, HasItsCause, IsCause, LetsLearn}
 use Rattle.turns.specs.CoordinatorSeamLaws.{AsksAbove, AsksBelow}
 use Rattle.turns.specs.FlushLaws.{all_kept}
-use Rattle.turns.specs.Flows.{Asked, Holds, checking, to_check}
+use Rattle.turns.specs.Flows.{Asked, checking, to_check}
 use Rattle.turns.specs.Held.{AreRightHeads, IfHeld, IsRightBatch, IsRightCheck}
 use Rattle.turns.specs.Moments.{Moment, Running}
 use Rattle.turns.specs.QuietTurns.{batch_of, behind_call, ending, with_call}
@@ -65,23 +62,10 @@ use Rattle.call_turns.proofs.ReadTold.{read_for_check_told}
 use Rattle.call_turns.proofs.Standing.{some_coordinator}
 use Rattle.answer_turns.specs.AnswerTurns.{shown_answer}
 use Rattle.answer_turns.specs.CheckTurns.{ChecksTurn, check_in_slot, check_tells}
-use Rattle.answer_turns.proofs.Leads.{ComesRight, IsFlow, IsRightBehind, Quietly, answers_to, fails_to, goes_to, held_now, lacks_memory, refuses_to}
+use Rattle.answer_turns.proofs.CheckPlaces.{has_or_not}
+use Rattle.answer_turns.proofs.Leads.{ComesRight, IsFlow, Quietly, answers_to, fails_to, goes_to, held_now, lacks_memory, refuses_to}
 use Rattle.answer_turns.proofs.Places.{asks_above, asks_below, finds_place}
 use Rattle.answer_turns.proofs.Ways.{came, moved}
-
--- a list has a tuple, or it has not
-has_or_not : (rows : List Tuple) (t : Tuple) → Contains rows t ⊎ (Contains rows t → ⊥)
-has_or_not [] t = inr (λ has. omega (arith, has.1))
-has_or_not (y ∷ rows) t = ⊎_elim
-    (λ same. inl (subst (Contains (y ∷ rows)) (tuple_same y t same) (contained_from (y ∷ rows) zero y refl)))
-    (λ other. ⊎_elim
-    (λ further. inl (Contains-append_right (y ∷ []) rows t further))
-    (λ lacks. inr (λ has. ⊎_elim
-    (λ first. ⊎_elim (λ never. omega (arith, never.1)) (λ is. true≢false (sym (tuple_eq_from_same y t is) ∙ other)) (Contains-push_cases [] y t first))
-    lacks
-    (Contains-append_cases (y ∷ []) rows t has)))
-    (has_or_not rows t))
-    (cases_Bool (tuple_eq y t))
 
 module _ {D : Type 0} (state : D → State) (honest : D → Type 0) (moment : D → ℕ) (left_since : D → ℕ → List ℕ → Type 0)
     (counts_now : (d : D) (t : ℕ) (c : List ℕ) → honest d → t ≤ moment d → left (state d) c → left_since d t c) (only_now : (d : D) (c : List ℕ) → honest d → left_since d (moment d) c → left (state d) c)
@@ -383,5 +367,5 @@ pub checks_turn : {D : Type 0} (state : D → State) (honest : D → Type 0) (mo
     (counts_now : (d : D) (t : ℕ) (c : List ℕ) → honest d → t ≤ moment d → left (state d) c → left_since d t c) (only_now : (d : D) (c : List ℕ) → honest d → left_since d (moment d) c → left (state d) c)
     (store shards : ℕ) → ChecksTurn state honest moment left_since store shards
 checks_turn state honest moment left_since counts_now only_now store shards old new slot x v after t =
-    by_step state honest moment left_since counts_now only_now store shards old new slot v.fresh x v.user v.seen.holds v.seen.next t.begins t.call t.out t.reply after t.was t.is v.seen refl
+    by_step state honest moment left_since counts_now only_now store shards old new slot v.fresh x v.user v.seen.holds v.seen.next (λ is. t.begins (inl is)) t.call t.out t.reply after t.was t.is v.seen refl
     (subst (λ (n : ℕ). AsksFor v.seen.next n v.user v.seen t.call t.out) t.of_store t.asks.asks) t.gives t.fits t.called_is t.answers t.turns

@@ -1,5 +1,5 @@
 -- A read takes its turn.
-use Rattle.std.proofs.Common.{◌≡◌, ◌≢◌, ◌⊎◌, ⊎_elim, inl, inr, ◌≤◌, ◌<◌, ◌+◌, ◌++◌, ℕ, List, [], ◌∷◌, length, Option, Some, None, Result, Ok, Err, MatchOption, Contains, refl, sym, ◌∙◌, ap, slice_get, subst, arith}
+use Rattle.std.proofs.Common.{◌≡◌, ◌≢◌, ⊎_elim, inl, ◌≤◌, ◌<◌, ◌+◌, ◌++◌, ℕ, List, [], ◌∷◌, length, Option, Some, None, Result, Ok, Err, MatchOption, refl, sym, ◌∙◌, ap, slice_get, subst, arith}
 use Rattle.std.proofs.lemmas.Bool.{cases_lt}
 use Rattle.std.proofs.lemmas.List.Elements.{All-nil}
 use Rattle.std.proofs.lemmas.Option.{same_Some}
@@ -9,15 +9,13 @@ use Rattle.device.specs.Device.{State, left}
 use Rattle.tuples.specs.declared.tuple.Tuple.{Tuple}
 use Rattle.tuples.specs.declared.tupleset.Tupleset.{Tupleset}
 use Rattle.tuples.specs.declared.tupleset.Tupleset.TheVariants.{Key, OfObject, OfUser}
-use Rattle.tuples.specs.Log.{is_at}
 use Rattle.tuples.specs.Reads.{AreAscending, IsSelection}
 use Rattle.records.specs.declared.record.Record.{Record}
 use Rattle.decisions.specs.Coordinators.{heads_of}
 use Rattle.decisions.specs.Flows.{Freshness, ReadHolds, nothing_read}
 use Rattle.decisions.specs.Merging.{IsMerged, NeedsOnly}
 use Rattle.decisions.specs.Values.{BatchValue, HeadsValue}
-use Rattle.shard.specs.Calls.{ReadsAt}
-use Rattle.shard.specs.Shards.{ShardView, memory}
+use Rattle.shard.specs.Shards.{memory}
 use Rattle.shard.specs.declared.replies.ReadReply.{ReadReply}
 use Rattle.shard.specs.declared.replies.ReadReply.TheVariants.{Rows, Behind}
 use Rattle.calls.specs.Asking.{Answered}
@@ -31,12 +29,11 @@ use Rattle.calls.specs.declared.reply.Reply.{Reply}
 use Rattle.calls.specs.declared.reply.Reply.TheVariants.{Coordinator as from_coordinator, Shard as from_shard}
 use Rattle.calls.specs.declared.reply.CoordinatorReply.TheVariants as told
 use Rattle.calls.specs.declared.reply.ShardReply.TheVariants as told_by
-use Rattle.catch_up.specs.Held.{Awaited}
 use Rattle.catch_up.specs.declared.caught.Progress.{Progress}
 use Rattle.catch_up.specs.declared.caught.Progress.TheVariants.{Next, There, Refused as is_refused}
 use Rattle.answer_flow.specs.Finding as finding
-use Rattle.answer_flow.specs.Reading.{Asks, AsksFor, CatchUpGives, CatchesUp, Continues, Finishes, FlushGives, GivesTo, HeadsGive, Merges, ProgressGives, ReadGives, Reads, RowsGive}
-use Rattle.answer_flow.specs.ReadViews.{ReadAwaited, ReadStep, ReadView, at_rest, catch_up, catch_up_call, ended, flush, flush_call, heads, heads_call, read, read_call, refused, shard_for, waiting}
+use Rattle.answer_flow.specs.Reading.{AsksFor, CatchUpGives, CatchesUp, Continues, Finishes, FlushGives, GivesTo, HeadsGive, Merges, ProgressGives, ReadGives, RowsGive}
+use Rattle.answer_flow.specs.ReadViews.{ReadStep, ReadView, at_rest, catch_up, catch_up_call, ended, flush, flush_call, heads, heads_call, read, read_call, refused, shard_for, waiting}
 use Rattle.laws.specs.Machines.{Machine}
 use Rattle.laws.specs.Nodes.{NodeName, Nodes, coordinator, shard}
 use Rattle.turns.specs.Causes.{Calls, CallsShard, HasItsCause, LetsLearn, Needs}
@@ -61,11 +58,11 @@ use Rattle.call_turns.proofs.Belongs.{belongs_to}
 use Rattle.call_turns.proofs.CaughtUp.{CatchUpComes, IsCatchingUp}
 use Rattle.call_turns.proofs.Flushed.{coordinator_flushed}
 use Rattle.call_turns.proofs.Made.{IsQuietlyMade}
-use Rattle.call_turns.proofs.ReadTold.{ReadComes, read_told}
+use Rattle.call_turns.proofs.ReadTold.{read_told}
 use Rattle.call_turns.proofs.Standing.{some_coordinator}
 use Rattle.answer_turns.specs.AnswerTurns.{shown_answer}
 use Rattle.answer_turns.specs.ReadTurns.{ReadsTurn, read_in_slot, read_tells}
-use Rattle.answer_turns.proofs.Leads.{ComesRight, IsFlow, IsRightBehind, Quietly, answers_to, fails_to, goes_to, held_now, lacks_memory, refuses_to}
+use Rattle.answer_turns.proofs.Leads.{ComesRight, IsFlow, Quietly, answers_to, fails_to, goes_to, held_now, lacks_memory, refuses_to}
 use Rattle.answer_turns.proofs.Places.{asks_above, asks_below, finds_place}
 use Rattle.answer_turns.proofs.Ways.{came, moved}
 

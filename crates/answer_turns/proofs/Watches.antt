@@ -1,5 +1,5 @@
 -- A watch takes its turn.
-use Rattle.std.proofs.Common.{◌≡◌, ◌≢◌, ⊎_elim, inl, inr, ◌≤◌, ◌<◌, ◌+◌, ◌-◌, ℕ, min, List, [], ◌∷◌, length, Option, Some, None, Result, Ok, Err, MatchOption, Contains, refl, sym, ◌∙◌, ap, subst, arith}
+use Rattle.std.proofs.Common.{◌≡◌, ◌≢◌, ⊎_elim, inl, ◌≤◌, ◌<◌, ◌+◌, ◌-◌, ℕ, List, [], ◌∷◌, length, Some, None, Result, Ok, Err, MatchOption, Contains, refl, sym, ◌∙◌, ap, subst, arith}
 use Rattle.std.proofs.lemmas.Option.{same_Some}
 use Rattle.refusal.specs.declared.refusal.Refusal.{Refusal}
 use Rattle.refusal.specs.declared.refusal.Refusal.TheVariants.{Collected, Future, NoMemory, Unsure}
@@ -20,8 +20,8 @@ use Rattle.calls.specs.declared.reply.CoordinatorReply.TheVariants as told
 use Rattle.answer_flow.specs.Watching.{AsksFor, BatchGives, FlushGives, GivesTo, HeadsGive, heartbeat}
 use Rattle.answer_flow.specs.WatchViews.{WatchCall, WatchView, at_rest, batch, ended, flush, heads, listed, refused, waiting, with_heads}
 use Rattle.laws.specs.Machines.{Machine}
-use Rattle.laws.specs.Nodes.{NodeName, Nodes, coordinator}
-use Rattle.turns.specs.Causes.{Calls, HasItsCause, IsCause}
+use Rattle.laws.specs.Nodes.{Nodes, coordinator}
+use Rattle.turns.specs.Causes.{Calls, HasItsCause}
 use Rattle.turns.specs.CoordinatorSeamLaws.{AsksAbove, AsksBelow}
 use Rattle.turns.specs.Flows.{Asked, Holds, most_watched, to_watch, watching}
 use Rattle.turns.specs.Held.{AreHeldHeads, AreRightHeads, IsRight}

@@ -1,5 +1,5 @@
 -- What a shard of a store that stands answers for the cares of it, and the coordinator for a raise and a resolution.
-use Rattle.std.proofs.Common.{◌≡◌, ◌≢◌, ◌⊎◌, inl, inr, ⊎_elim, ◌≤◌, ◌<◌, ℕ, Bool, true, false, true≢false, List, Some, Ok, Err, Result, Contains, refl, sym, ◌∙◌, ap, subst}
+use Rattle.std.proofs.Common.{◌≡◌, ◌⊎◌, inl, inr, ⊎_elim, ◌≤◌, ℕ, false, List, Ok, Err, Result, ap}
 use Rattle.std.proofs.lemmas.Bool.{cases_Bool}
 use Rattle.refusal.specs.declared.refusal.Refusal.{Refusal}
 use Rattle.refusal.specs.declared.refusal.Refusal.TheVariants.{Down, Full}

@@ -1,5 +1,5 @@
 -- What a node of a store answered belongs to the call.
-use Rattle.std.proofs.Common.{◌≡◌, ℕ, List, ap}
+use Rattle.std.proofs.Common.{ℕ, List, ap}
 use Rattle.device.specs.Device.{State}
 use Rattle.records.specs.Identity.{Identity}
 use Rattle.calls.specs.Asking.{Answered}

@@ -1,14 +1,13 @@
 -- A shard that is brought up to a place, whatever flow does it: each call of that is quiet, and what the flow then holds of decisions is right.
-use Rattle.std.proofs.Common.{◌≡◌, ◌≢◌, ◌⊎◌, inl, inr, ⊎_elim, ◌≤◌, ◌<◌, ℕ, Bool, true, false, List, Option, Some, None, Result, Ok, Err, Contains, refl, sym, ◌∙◌, ap, subst, arith}
+use Rattle.std.proofs.Common.{◌≡◌, ◌≢◌, ◌⊎◌, inl, inr, ⊎_elim, ◌≤◌, ◌<◌, ℕ, Bool, List, Some, None, Result, Ok, Err, Contains, refl, sym, ◌∙◌, ap, subst, arith}
 use Rattle.std.proofs.lemmas.Bool.{cases_Bool, cases_lt}
 use Rattle.std.proofs.lemmas.Option.{same_Some}
 use Rattle.refusal.specs.declared.refusal.Refusal.{Refusal}
-use Rattle.refusal.specs.declared.refusal.Refusal.TheVariants.{Collected, Damaged, Down, Full, Future, NoMemory, Unsure}
+use Rattle.refusal.specs.declared.refusal.Refusal.TheVariants.{Collected, Full, Unsure}
 use Rattle.device.specs.Device.{State, left}
 use Rattle.records.specs.Replays.{ShardState}
 use Rattle.decisions.specs.Values.{BatchValue}
-use Rattle.shard.specs.Shards.{ShardView, memory}
-use Rattle.shard.specs.Calls.{LearnRefused}
+use Rattle.shard.specs.Shards.{memory}
 use Rattle.calls.specs.Asking.{Answered}
 use Rattle.calls.specs.Belonging.{IsOwed, IsReplyTo}
 use Rattle.calls.specs.Views.{NodeView}
@@ -27,7 +26,7 @@ use Rattle.catch_up.specs.Held.{Awaited, CatchUpCallValue, CatchUpValue, decisio
 use Rattle.catch_up.specs.declared.caught.Progress.{Progress}
 use Rattle.catch_up.specs.declared.caught.Progress.TheVariants.{Next, There, Refused}
 use Rattle.laws.specs.Nodes.{NodeName, Nodes, ShardKnows, coordinator, shard}
-use Rattle.turns.specs.Causes.{Calls, CallsShard, HasItsCause, LetsLearn}
+use Rattle.turns.specs.Causes.{Calls, HasItsCause, LetsLearn}
 use Rattle.turns.specs.Held.{IfHeld, IsRightBatch}
 use Rattle.turns.specs.Moments.{Moment, Running}
 use Rattle.turns.specs.QuietTurns.{batch_of}
@@ -36,9 +35,9 @@ use Rattle.turns.proofs.CoordinatorCalls.{batch_answers, batch_has_cause}
 use Rattle.turns.proofs.ShardLearnSeam.{learns_quietly, refused_learns_have_cause}
 use Rattle.call_turns.specs.StoreCalls.{FitsItsTypes, IsCalled, called}
 use Rattle.call_turns.proofs.Belongs.{belongs_to}
-use Rattle.call_turns.proofs.Asked.{BatchComes, BatchRefused, FromShard, LearnComes, batch_told, learn_told, learned_told}
-use Rattle.call_turns.proofs.Flushed.{coordinator_flushed, shard_flushed}
-use Rattle.call_turns.proofs.Made.{Comes, FailsQuietly, IsQuietlyMade}
+use Rattle.call_turns.proofs.Asked.{batch_told, learn_told, learned_told}
+use Rattle.call_turns.proofs.Flushed.{shard_flushed}
+use Rattle.call_turns.proofs.Made.{FailsQuietly, IsQuietlyMade}
 
 module _ {D : Type 0} (state : D → State) (honest : D → Type 0) (moment : D → ℕ) (left_since : D → ℕ → List ℕ → Type 0)
     (counts_now : (d : D) (t : ℕ) (c : List ℕ) → honest d → t ≤ moment d → left (state d) c → left_since d t c) (only_now : (d : D) (c : List ℕ) → honest d → left_since d (moment d) c → left (state d) c)

@@ -11,3 +11,5 @@ pub mod AskedMore
 pub mod RaiseTold
 pub mod ResolveTold
 pub mod ReadTold
+pub mod Starts
+pub mod Cancels

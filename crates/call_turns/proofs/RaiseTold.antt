@@ -1,5 +1,5 @@
 -- What a shard has settled, and what the coordinator makes of a raise.
-use Rattle.std.proofs.Common.{◌≡◌, ◌≢◌, ◌⊎◌, inl, inr, ⊎_elim, ◌≤◌, ◌<◌, ℕ, true, false, true≢false, List, [], ◌∷◌, ◌++◌, map, Some, Ok, Err, Result, Contains, refl, sym, ◌∙◌, ap, subst, append_assoc, if◌then◌else◌}
+use Rattle.std.proofs.Common.{◌≡◌, ◌≢◌, ◌⊎◌, inl, inr, ⊎_elim, ◌≤◌, ◌<◌, ℕ, false, true≢false, List, [], ◌∷◌, ◌++◌, Ok, Err, Result, Contains, refl, sym, ◌∙◌, ap, subst, append_assoc, if◌then◌else◌}
 use Rattle.std.proofs.lemmas.Bool.{cases_Bool}
 use Rattle.refusal.specs.declared.refusal.Refusal.{Refusal}
 use Rattle.refusal.specs.declared.refusal.Refusal.TheVariants.{Collected, Down, Full, Future}
@@ -8,13 +8,11 @@ use Rattle.journal.specs.Records.{HasNoRoom}
 use Rattle.records.specs.declared.record.Record.{Record}
 use Rattle.records.specs.declared.record.Record.TheVariants.{Horizon}
 use Rattle.records.specs.Coordinators.{CoordinatorState, coordinator_state, coordinator_step, end_of}
-use Rattle.decisions.specs.Coordinators.{CoordinatorView, IsRising, IsRunning, RaisesAt, StagesOne, kept_of}
+use Rattle.decisions.specs.Coordinators.{CoordinatorView, RaisesAt, kept_of}
 use Rattle.decisions.specs.Values.{SettledValue}
 use Rattle.coordinator.specs.declared.raising.NotRaised.{NotRaised}
 use Rattle.shard.specs.Calls.{SettlesAt}
-use Rattle.shard.specs.Shards.{ShardView}
 use Rattle.calls.specs.Asking.{Answered}
-use Rattle.calls.specs.CoordinatorAnswers.{RaiseAnswers}
 use Rattle.calls.specs.Views as views
 use Rattle.calls.specs.Views.{NodeView}
 use Rattle.calls.specs.declared.call.NodeCall.TheVariants.{Coordinator as of_coordinator, Shard as of_shard}
@@ -24,10 +22,10 @@ use Rattle.calls.specs.declared.reply.Reply.TheVariants.{Coordinator as from_coo
 use Rattle.calls.specs.declared.reply.CoordinatorReply.TheVariants as told
 use Rattle.calls.specs.declared.reply.ShardReply.TheVariants as told_by
 use Rattle.std.specs.Global.{Vec}
-use Rattle.laws.specs.Nodes.{NodeName, NodeState, Nodes, coordinator, down, leaves, shard, staged_of, up}
+use Rattle.laws.specs.Nodes.{NodeName, NodeState, Nodes, coordinator, down, shard, staged_of, up}
 use Rattle.laws.proofs.CoordinatorStates.{coordinator_push}
 use Rattle.turns.specs.Moments.{Moment}
-use Rattle.turns.specs.SeamLaws.{IsSeen, at_coordinator, behind}
+use Rattle.turns.specs.SeamLaws.{IsSeen, behind}
 use Rattle.turns.specs.Stands.{IsHorizonIn}
 use Rattle.turns.specs.Stores.{NamesHorizon, StandsOver, Store, stops}
 use Rattle.call_turns.specs.StoreCalls.{IsCalled, IsMade}

@@ -1,5 +1,5 @@
 -- What a resolution is told: which writes are in doubt at a shard, what became of one, and that it was dropped.
-use Rattle.std.proofs.Common.{◌≡◌, ◌≢◌, ◌⊎◌, inl, inr, ⊎_elim, ◌≤◌, ℕ, true, false, true≢false, List, None, Ok, Err, Result, refl, sym, ap}
+use Rattle.std.proofs.Common.{◌≡◌, ◌⊎◌, inl, inr, ⊎_elim, ◌≤◌, ℕ, true≢false, List, None, Ok, Err, Result, refl, sym, ap}
 use Rattle.std.proofs.lemmas.Bool.{cases_Bool}
 use Rattle.std.specs.Global.{Vec}
 use Rattle.refusal.specs.declared.refusal.Refusal.{Refusal}
@@ -11,7 +11,6 @@ use Rattle.decisions.specs.Values.{VerdictValue}
 use Rattle.coordinator.specs.declared.telling.Inquiry.{Inquiry}
 use Rattle.coordinator.specs.declared.telling.Inquiry.TheVariants.{Commit, Abort, Undecided}
 use Rattle.shard.specs.Calls.{DropsAt}
-use Rattle.shard.specs.Shards.{ShardView}
 use Rattle.calls.specs.Asking.{Answered}
 use Rattle.calls.specs.Views as views
 use Rattle.calls.specs.Views.{NodeView}

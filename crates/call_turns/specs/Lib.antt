@@ -1,3 +1,4 @@
 pub mod StoreCalls
 pub mod StoreTurns
 pub mod CallLaws
+pub mod Steps
