@@ -1,8 +1,8 @@
 //! A store as one value: its nodes over their devices, the flows that run, and the steps that it takes, one after another.
 //!
-//! Keeps: the coordinator before the shards, each shard at its number, and each flow in its slot until it ends.
-//! Never: makes more than one node call in a step, or does a part of a step for which memory was refused.
-//! Callers rely on: what `run` tells is what its steps did, in their order, and nothing else has changed.
+//! Means to keep: the coordinator before the shards, each shard at its number, and each flow in its slot until it ends.
+//! Means never to: make more than one node call in a step, or do a part of a step for which memory was refused.
+//! Callers rely on: every call that a step makes is one that may be made. What a step does and tells no contract says yet.
 //!
 //! Start at `step.rt`, what a step is, and then `taking.rt`, what it does.
 #![tactic(auto)]
