@@ -30,6 +30,7 @@ module _ (s : State) (short : length s.seen ≤ 1) where
       was = short_list s.seen short;
       has = has_list new [] put.durable put.written (short_list new.seen (omega (arith, ap length made_is)));
       up = up;
+      reads = inr (omega (arith, ap length made_is));
     }
 
 -- a length, a sync, and what reads
@@ -70,4 +71,5 @@ module _ (s mid new : State) (synced : Synced s mid) (keeps : Keeps mid new) (co
         was = ap gated (sym (content_is ∙ synced.seen)) ∙ list;
         has = has_list new bodies durable_is (keeps.written ∙ synced.written) (ap gated seen_is ∙ list);
         up = up;
+        reads = inl (keeps.seen ∙ synced.seen);
       }

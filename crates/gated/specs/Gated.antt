@@ -103,8 +103,9 @@ pub record IsSpelled (content : List ℕ) (bodies : List (List ℕ)) (end : ℕ)
 abbrev pub body_of : List ℕ → List ℕ
 body_of buf = take (length buf - record_head) (drop 4 buf)
 
--- an opening answered this list: it is the one that the device had as it read, and from now on every stop leaves it
+-- an opening answered this list: it is the one that the device had as it read, and from now on every stop leaves it; it reads as it did, or was made anew
 pub record IsFoundList (old : State) (bodies : List (List ℕ)) (new : State) : Type 0 where
   pub was : gated old.seen ≡ Some bodies
   pub has : HasList new bodies
   pub up : new.stopped ≡ false
+  pub reads : (new.seen ≡ old.seen) ⊎ (length new.seen ≤ 1)

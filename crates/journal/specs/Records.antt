@@ -64,17 +64,19 @@ max_records = 65535
 abbrev pub HasNoRoom : List Record → Record → Type 0
 HasNoRoom staged r = (max_records ≤ length staged) ⊎ (max_body < batch_size (staged ++ r ∷ []))
 
--- an opening found these records: they are those of the devices as they read, and every stop leaves them
+-- an opening found these records: they are those of the devices as they read, and every stop leaves them; bank a reads as it did, or was made anew
 pub record IsOpened {D : Type 0} (state : D → State) (a b : D) (rs : List Record) (new : View D) : Type 0 where
   pub was : found (state a).seen (state b).seen ≡ Some rs
   pub durable : new.durable ≡ rs
   pub has : HasRecords (state new.a) (state new.b) rs
+  pub reads : ((state new.a).seen ≡ (state a).seen) ⊎ (length (state new.a).seen ≤ 1)
 
--- with the staged batch the list of a bank would end past the most bytes of a device
+-- with the staged batch, which is no larger than one may be, the list of a bank would end past the most bytes of a device
 pub record LacksRoom {D : Type 0} (state : D → State) (honest : D → Type 0) (bank : D) (end : ℕ) (staged : List Record) : Type 0 where
   pub past : max_device ≤ end + batch_size staged + record_head
+  pub sized : batch_size staged ≤ max_body
   -- and it is no longer than what the bank reads as
-  pub within : honest bank → (state bank).stopped ≡ false → end < length (state bank).seen
+  pub within : honest bank → end < length (state bank).seen
 
 -- a flush goes wrong only where a device failed, or bank a has no room
 abbrev pub HasCause : {D : Type 0} → (D → State) → (D → Type 0) → View D → View D → Type 0

@@ -100,7 +100,8 @@ impl Batch {
 
     /// Appends them to a log as one batch. Whatever comes of it, none are staged any more.
     pub(crate) fn append_to<D: Device>(&mut self, log: &mut GatedLog<D>) -> Result<(), Refusal>
-        requires { 1 ≤ length self.old }
+        requires some { 1 ≤ length self.old }
+        requires up { D.honest log.old.device → (D.state log.old.device).stopped ≡ false }
         ensures empty { self.new ≡ [] }
         ensures read { batch (batch_bytes false self.old) ≡ Some self.old }
         ensures honest { D.honest log.old.device ↔ D.honest log.new.device }

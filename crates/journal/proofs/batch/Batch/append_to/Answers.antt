@@ -21,7 +21,7 @@ returns-clause-empty g c = none_staged _
 
 pub returns-clause-read : goal.returns-clause-read
 returns-clause-read g c =
-    subst (λ (v : List Record). batch (batch_bytes false v) ≡ Some v) c.self.view_is (read_back _ _ _ c.self.invariant (omega (arith, c.requires, ap length c.self.view_is)))
+    subst (λ (v : List Record). batch (batch_bytes false v) ≡ Some v) c.self.view_is (read_back _ _ _ c.self.invariant (omega (arith, c.requires.some, ap length c.self.view_is)))
 
 pub returns-clause-any_moment : goal.returns-clause-any_moment
 returns-clause-any_moment g c = λ bodies hon has.
@@ -39,4 +39,4 @@ returns-clause-cause g c =
     omega (arith, ap length c.deref_mut.ensures.value, c.complete.ensures.len, length_is _ _ _ c.self.invariant, ap batch_size c.self.view_is) in
     by_error c.append-result.result c.append-result.ensures.err (λ is. (c.append-result.ensures.failed is).cause) (λ is.
     let full = c.append-result.ensures.full is in
-    record { past = omega (arith, full.1, size); within = full.2 })
+    record { past = omega (arith, full.1, size); sized = omega (arith, length_is _ _ _ c.self.invariant, ap batch_size c.self.view_is, c.self.invariant.fits); within = λ hon. full.2 hon (c.requires.up hon) })

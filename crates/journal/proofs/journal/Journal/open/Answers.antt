@@ -51,4 +51,5 @@ returns-in-Ok-read-clause-ok g c = λ hon_a hon_b.
       was = found_is a.seen b.seen ∙ listed_records a.seen bodies rs opened.was read;
       durable = durable_is new b rs has;
       has = has_records new b rs has;
+      reads = opened.reads;
     }
