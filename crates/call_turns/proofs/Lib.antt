@@ -13,3 +13,4 @@ pub mod ResolveTold
 pub mod ReadTold
 pub mod Starts
 pub mod Cancels
+pub mod Fails

@@ -3,19 +3,22 @@ use Rattle.std.specs.Prelude.{◌≡◌, ◌≢◌, ℕ, false, List, [], ◌∷
 use Rattle.refusal.specs.declared.refusal.Refusal.{Refusal}
 use Rattle.refusal.specs.declared.refusal.Refusal.TheVariants.{Unsure}
 use Rattle.device.specs.Device.{State}
+use Rattle.calls.specs.Asking.{Answered}
 use Rattle.calls.specs.Views.{NodeView}
+use Rattle.calls.specs.declared.call.NodeCall.{NodeCall}
+use Rattle.calls.specs.declared.reply.Reply.{Reply}
 use Rattle.laws.specs.Machines.{Machine}
-use Rattle.laws.specs.Nodes.{NodeName, Nodes}
+use Rattle.laws.specs.Nodes.{NodeName, Nodes, down}
 use Rattle.turns.specs.Causes.{HasItsCause}
 use Rattle.turns.specs.Flows.{Asked, Holds}
 use Rattle.turns.specs.Held.{IsRight, IsRightVerdict}
 use Rattle.turns.specs.Moments.{Moment, Running, flow_at, is_write}
-use Rattle.turns.specs.Promises.{Ran, events_of}
+use Rattle.turns.specs.Promises.{HasDeviceCause, Ran, events_of}
 use Rattle.turns.specs.QuietTurns.{IsQuietCall, behind_call, ending, with_call}
 use Rattle.turns.specs.Replies.{Agrees, Answer}
 use Rattle.turns.specs.Runs.{Told, answered, goes_on, refuses, told_by, turn}
 use Rattle.turns.specs.Stores.{FlowView, StandsOver, Store, stops}
-use Rattle.call_turns.specs.StoreCalls.{IsCalled, IsMade}
+use Rattle.call_turns.specs.StoreCalls.{IsCalled, IsMade, IsNode, shown}
 use Rattle.call_turns.specs.StoreTurns.{SlotTurns}
 
 -- Given what a device holds and whether it is honest, how often a stop may have come at it, what a stop since then may have left, and a store's id
@@ -59,3 +62,9 @@ module _ {D : Type 0} (state : D → State) (honest : D → Type 0) (moment : D 
   abbrev pub QuietTurnsRefuse : Type 0
   QuietTurnsRefuse = (old new : Store D) (now : Moment) (next : Nodes) (m : Machine) (slot : ℕ) (r : Running) (asked : Asked) (holds : Holds) (e : Refusal)
       → IsQuietTurn old new now next m slot r asked holds None → HasItsCause shards now (ending now next m r []) r e → e ≢ Unsure → KeepsPromise old new now slot (refuses e ∷ [])
+
+  -- A node that goes down in a call has the cause: a device of it failed, or has no room for a batch more.
+  abbrev pub FailedCallsHaveCause : Type 0
+  FailedCallsHaveCause = (old new : Store D) (now : Moment) (n : NodeName) (was is : NodeView D) (call : NodeCall) (reply : Reply) → StandsOver state honest store shards old now
+      → IsNode store shards old n was → IsNode store shards new n is → Answered state honest moment left_since was call reply is
+      → shown is ≡ down → shown was ≢ down → HasDeviceCause state honest moment left_since store shards old.devices new.devices n

@@ -1,6 +1,6 @@
 // Laws of calls that a store shows, each the clause of a function with an empty body.
 ghost use Rattle.std.specs.Prelude.{ℕ};
-ghost use Rattle.call_turns.specs.CallLaws.{QuietTurnsAnswer, QuietTurnsGoOn, QuietTurnsRefuse, StillCallsAreQuiet};
+ghost use Rattle.call_turns.specs.CallLaws.{FailedCallsHaveCause, QuietTurnsAnswer, QuietTurnsGoOn, QuietTurnsRefuse, StillCallsAreQuiet};
 ghost use Rattle.call_turns.specs.Steps.{CancelledFlowsEnd, FlowsStart};
 
 use device::Device;
@@ -22,4 +22,9 @@ pub fn quiet_turns_run<D: Device>()
 pub fn flows_start_and_are_cancelled<D: Device>()
     ensures starts { (store shards : ℕ) → FlowsStart D.state D.honest D.moment D.left_since store shards }
     ensures cancelled { (store shards : ℕ) → CancelledFlowsEnd D.state D.honest D.moment D.left_since store shards }
+{}
+
+/// A node that goes down in a call of a store that stands has its cause: a device of it failed, or has no room for a batch more.
+pub fn failed_calls_have_cause<D: Device>()
+    ensures { (store shards : ℕ) → FailedCallsHaveCause D.state D.honest D.moment D.left_since store shards }
 {}

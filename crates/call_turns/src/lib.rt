@@ -8,4 +8,6 @@
 
 mod call_laws;
 
-pub use call_laws::{flows_start_and_are_cancelled, quiet_turns_run, still_calls_are_quiet};
+pub use call_laws::{
+    failed_calls_have_cause, flows_start_and_are_cancelled, quiet_turns_run, still_calls_are_quiet,
+};

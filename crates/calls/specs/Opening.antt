@@ -39,7 +39,7 @@ module _ {D : Type 0} (state : D → State) (honest : D → Type 0) (moment : D 
     pub still_honest : KeepHonest x y
     pub damaged : honest a → honest b → e ≡ Damaged → (rs : List Record) → found (state a).seen (state b).seen ≡ Some rs → IsCoordinatorImage me rs → ⊥
     pub full : honest a → honest b → e ≡ Full → (rs : List Record) × (found (state a).seen (state b).seen ≡ Some rs) × IsCoordinatorImage me rs × ((coordinator_state rs).epoch ≡ greatest_number)
-    pub down : honest a → honest b → e ≡ Down → HasFailed (state a) (state x) ⊎ (HasFailed (state b) (state y) ⊎ HasNoRoomToOpen state honest moment a me)
+    pub down : e ≡ Down → HasFailed (state a) (state x) ⊎ (HasFailed (state b) (state y) ⊎ HasNoRoomToOpen state honest a b me)
     pub err : IsOpeningRefusal e
     pub any_moment : honest a → honest b → LeavesBoth moment left_since a b x y (WasLeftOrReopened me (state a) (state b))
 

@@ -7,7 +7,7 @@ use Rattle.records.specs.declared.record.Record.TheVariants.{Epoch, Horizon}
 use Rattle.records.specs.Coordinators.{CoordinatorState, IsCoordinatorImage, coordinator_state, end_of}
 use Rattle.records.specs.Replays.{Identity, greatest_number}
 use Rattle.device.specs.Device.{State}
-use Rattle.journal.specs.Records.{HasRecords, LacksRoom, View, found}
+use Rattle.journal.specs.Records.{HasRecords, IsOpened, LacksRoom, View, found}
 use Rattle.ledger.specs.Ledgers.{LedgerValue}
 use Rattle.decisions.specs.Coordinators.{coordinator_opening}
 
@@ -79,11 +79,11 @@ pub record IsKept {D : Type 0} (state : D → State) (honest : D → Type 0) (jo
 abbrev pub HasFoundOrOpened : Identity → List Record → List ℕ → List ℕ → Type 0
 HasFoundOrOpened me rs x y = (found x y ≡ Some rs) ⊎ (IsCoordinatorImage me (rs ++ coordinator_opening me rs ∷ []) × (found x y ≡ Some (rs ++ coordinator_opening me rs ∷ [])))
 
--- a bank that this one became since has no room for the record of an opening
-pub record HasNoRoomToOpen {D : Type 0} (state : D → State) (honest : D → Type 0) (moment : D → ℕ) (a : D) (me : Identity) : Type 0 where
-  pub bank : D
-  pub later : moment a ≤ moment bank
-  pub same : honest a → honest bank
-  pub end : ℕ
+-- a journal that was opened over these devices has no room for the record of an opening
+pub record HasNoRoomToOpen {D : Type 0} (state : D → State) (honest : D → Type 0) (a b : D) (me : Identity) : Type 0 where
+  pub rs : List Record
+  pub journal : View D
+  pub found : honest a → honest b → IsOpened state a b rs journal
+  pub same : honest a → honest journal.a
   pub epoch : ℕ
-  pub lacks : LacksRoom state honest bank end (Epoch epoch me.store me.shards me.node ∷ [])
+  pub lacks : LacksRoom state honest journal.a journal.end (Epoch epoch me.store me.shards me.node ∷ [])

@@ -162,7 +162,7 @@ impl<D: Device> Coordinator<D> {
         ensures damaged { D.honest a → D.honest b → IfErr result (λ e. e.refusal ≡ Refusal.Damaged → (rs : List AnyRecord) → found (D.state a).seen (D.state b).seen ≡ Some rs → IsCoordinatorImage me rs → ⊥) }
         ensures full { D.honest a → D.honest b → IfErr result (λ e. e.refusal ≡ Refusal.Full → (rs : List AnyRecord) × (found (D.state a).seen (D.state b).seen ≡ Some rs)
             × IsCoordinatorImage me rs × ((coordinator_state rs).epoch ≡ greatest_number)) }
-        ensures down { D.honest a → D.honest b → IfErr result (λ e. e.refusal ≡ Refusal.Down → HasFailed (D.state a) (D.state e.a) ⊎ (HasFailed (D.state b) (D.state e.b) ⊎ HasNoRoomToOpen D.state D.honest D.moment a me)) }
+        ensures down { IfErr result (λ e. e.refusal ≡ Refusal.Down → HasFailed (D.state a) (D.state e.a) ⊎ (HasFailed (D.state b) (D.state e.b) ⊎ HasNoRoomToOpen D.state D.honest a b me)) }
         ensures err { IfErr result (λ e. (e.refusal ≡ Refusal.Down) ⊎ ((e.refusal ≡ Refusal.NoMemory) ⊎ ((e.refusal ≡ Refusal.Full) ⊎ (e.refusal ≡ Refusal.Damaged)))) }
         ensures stopped { (D.state a).stopped ≡ true → IsErr result }
 

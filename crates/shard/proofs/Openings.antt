@@ -176,11 +176,6 @@ module _ (me : Identity) (records : List Record) (image : IsShardImage me record
         settled_is = λ up ka kb. place ∙ all_replayed.learned ∙ ap (λ (l : List Record). (shard_state l).learned) (sym (opened_durable (back_a ka) (back_b kb)));
       }
 
--- a device that failed in a later part of a call failed in the call
-pub failed_since : (was now new : State) → was.failures ≤ now.failures → HasFailed now new → HasFailed was new
-failed_since was now new le (inl more) = inl (omega (arith, le, more))
-failed_since was now new le (inr most) = inr most
-
 pub lacks_room : {D : Type 0} (state : D → State) (honest : D → Type 0) (j : View D) (me : Identity) (records : List Record) (e : ℕ) → e ≡ (shard_state records).epoch + 1
     → LacksRoom state honest j.a j.end (epoch_of me e ∷ []) → LacksRoom state honest j.a j.end (opening me records ∷ [])
 lacks_room state honest j me records e is lacks = subst (λ (n : ℕ). LacksRoom state honest j.a j.end (epoch_of me n ∷ [])) is lacks

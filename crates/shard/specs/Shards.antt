@@ -106,6 +106,7 @@ pub record LacksRoomToOpen {D : Type 0} (state : D → State) (honest : D → Ty
   pub rs : List Record
   pub journal : View D
   pub found : honest a → honest b → IsOpened state a b rs journal
+  pub same : honest a → honest journal.a
   pub lacks : LacksRoom state honest journal.a journal.end (opening me rs ∷ [])
 
 -- at a moment of an opening the contents could be left before it, or hold what was found, or the records found with the opening's

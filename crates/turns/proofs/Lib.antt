@@ -65,3 +65,4 @@ pub mod ShardFailedSeam
 pub mod ShardLearnAnswer
 mod SmallTurns
 pub mod ShardReplaced
+pub mod Rooms

@@ -32,3 +32,4 @@ pub mod QuietTurns
 pub mod ShardSeamLaws
 pub mod ShardOpeningLaws
 pub mod ShardCheckLaws
+pub mod RoomLaws

@@ -21,6 +21,7 @@ mod quiet_laws;
 mod raising_laws;
 mod reading_laws;
 mod restart_laws;
+mod room_laws;
 mod seam_laws;
 mod shard_opening_laws;
 mod shard_seam_laws;
@@ -82,6 +83,7 @@ pub use restart_laws::{
     refused_openings_of_the_coordinator_leave_the_store_standing,
     stops_within_a_step_leave_all_at_rest,
 };
+pub use room_laws::lack_of_room_has_cause;
 pub use seam_laws::{
     abort_takes_its_turn, begin_has_cause, begin_takes_its_turn, decide_takes_its_turn,
 };

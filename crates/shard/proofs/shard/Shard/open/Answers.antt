@@ -1,6 +1,7 @@
 use Rattle.std.proofs.Common.{inl, inr, ⊎_elim}
 use Rattle.std.proofs.lemmas.Result.{IfErr-weaker}
-use Rattle.shard.proofs.Openings.{failed_since, leaves_weaker}
+use Rattle.journal.proofs.Failures.{failed_since}
+use Rattle.shard.proofs.Openings.{leaves_weaker}
 use Rattle.shard.proofs.shard.Shard.open.Goals as goal
 
 pub returns-in-Err-clause-any_moment : goal.returns-in-Err-clause-any_moment
@@ -16,7 +17,7 @@ returns-in-Ok-clause-down g c =
     (λ in_a. inl (failed_since (state c.args.a) (state j.a) (state e.a) c.in-Ok.ensures.counts_a in_a))
     (λ rest. inr (⊎_elim
     (λ in_b. inl (failed_since (state c.args.b) (state j.b) (state e.b) c.in-Ok.ensures.counts_b in_b))
-    (λ lacks. inr (record { rs = c.in-Ok.records.items; journal = j; found = λ ha hb. c.in-Ok.ensures.ok ha hb; lacks = lacks }))
+    (λ lacks. inr (record { rs = c.in-Ok.records.items; journal = j; found = λ ha hb. c.in-Ok.ensures.ok ha hb; same = c.in-Ok.ensures.honest.0.0; lacks = lacks }))
     rest))
     (down is))
     c.start.ensures.down
