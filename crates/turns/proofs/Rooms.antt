@@ -1,5 +1,5 @@
 -- Banks that have no room for a batch more.
-use Rattle.std.proofs.Common.{inl, inr, ⊎_elim, ◌≡◌, ◌⊎◌, ◌≤◌, ◌<◌, ℕ, List, length, subst, ap, arith}
+use Rattle.std.proofs.Common.{inl, inr, ⊎_elim, ◌≡◌, ◌⊎◌, ◌≤◌, ◌<◌, ◌+◌, ◌^◌, ℕ, List, length, subst, ap, arith}
 use Rattle.records.specs.declared.record.Record.{Record}
 use Rattle.device.specs.Device.{HasFailed, Leaves, State, left, reach}
 use Rattle.journal.specs.Records.{LacksRoom, View}

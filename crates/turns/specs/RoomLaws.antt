@@ -1,5 +1,5 @@
 -- Banks without room: where a flush or an opening went wrong for lack of it, the node's device has the cause.
-use Rattle.std.specs.Prelude.{◌≤◌, ℕ, List}
+use Rattle.std.specs.Prelude.{◌≡◌, ℕ, List}
 use Rattle.records.specs.declared.record.Record.{Record}
 use Rattle.device.specs.Device.{State}
 use Rattle.journal.specs.Records.{HasCause, IsOpened, LacksRoom, View}
