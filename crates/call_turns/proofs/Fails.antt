@@ -1,5 +1,5 @@
 -- A node that goes down in a call: it was flushed, and a device of it has the cause.
-use Rattle.std.proofs.Common.{◌≡◌, ◌≢◌, inl, inr, ⊎_elim, Bool, true, false, ℕ, List, Result, Ok, Err, refl, sym, ◌∙◌, ap, subst, if◌then◌else◌}
+use Rattle.std.proofs.Common.{◌≡◌, ◌≢◌, ◌⊎◌, inl, inr, ⊎_elim, Bool, true, false, ℕ, List, Result, Ok, Err, refl, sym, ◌∙◌, ap, subst, if◌then◌else◌}
 use Rattle.std.specs.Result.{IfOk, IfErr, OnOk, OnErr}
 use Rattle.refusal.specs.declared.refusal.Refusal.{Refusal}
 use Rattle.tuples.specs.Writes.{WriteValue}
@@ -17,11 +17,13 @@ use Rattle.calls.specs.CoordinatorAnswers.{AbortAnswers, BeginAnswers, DecideAns
 use Rattle.calls.specs.ShardAnswers.{FlushAnswers, Stays}
 use Rattle.calls.specs.Views as views
 use Rattle.calls.specs.Views.{NodeView}
+use Rattle.calls.specs.declared.call.NodeCall.{NodeCall}
 use Rattle.calls.specs.declared.call.NodeCall.TheVariants.{Coordinator, Shard}
 use Rattle.calls.specs.declared.call.CoordinatorCall.{CoordinatorCall}
 use Rattle.calls.specs.declared.call.CoordinatorCall.TheVariants.{Begin, Heads, Batch, Decide, Outcome, Abort, Inquire, Raise, Flush}
 use Rattle.calls.specs.declared.call.ShardCall.{ShardCall}
 use Rattle.calls.specs.declared.call.ShardCall.TheVariants.{Learned, Learn, StagePrepare, Vote, DropWrite, InDoubt, Read, ReadForCheck, Settle, Collect, Flush as flush_shard}
+use Rattle.calls.specs.declared.reply.Reply.{Reply}
 use Rattle.calls.specs.declared.reply.Reply.TheVariants.{Coordinator as from_coordinator, Shard as from_shard}
 use Rattle.calls.specs.declared.reply.CoordinatorReply.{CoordinatorReply}
 use Rattle.calls.specs.declared.reply.CoordinatorReply.TheVariants as told
@@ -39,22 +41,22 @@ use Rattle.call_turns.proofs.Standing.{runs_now, shard_is_up}
 -- a node is shown to be down only where it is
 is_down_of : (b : Bool) (durable staged : List Record) → (if b then down else up durable staged) ≡ down → b ≡ true
 is_down_of true durable staged is = refl
-is_down_of false durable staged is = absurd (search is)
+is_down_of false durable staged is = absurd cc
 
 is_up_of : (b : Bool) (durable staged : List Record) → (if b then down else up durable staged) ≢ down → b ≡ false
 is_up_of true durable staged not_down = absurd (not_down refl)
 is_up_of false durable staged not_down = refl
 
--- what either answer says
-either : {T E P : Type 0} (r : Result T E) → IfOk r (λ x. P) → IfErr r (λ e. P) → P
-either (Ok x) ok err = ok
-either (Err e) ok err = err
+-- what was up and is as it was is not down
+stays_up : (was is : Bool) → was ≡ false → is ≡ was → is ≡ true → ⊥
+stays_up was is was_up same gone = let both : true ≡ false = sym gone ∙ same ∙ was_up in absurd cc
+
+-- a flush that left down what was up has its cause
+flushed : (P Q : Type 0) (was is : Bool) (r : Result (Unit {0}) Refusal) → was ≡ false → is ≡ true → OnOk r ((was ≡ false) × (is ≡ false) × P) → OnErr r ((was ≡ true) ⊎ Q) → Q
+flushed P Q was is (Ok done) was_up gone ok err = let both : true ≡ false = sym gone ∙ ok.1 in absurd cc
+flushed P Q was is (Err e) was_up gone ok err = elim err [ inl before ↦ (let both : true ≡ false = sym before ∙ was_up in absurd cc) | inr cause ↦ cause ]
 
 module _ {D : Type 0} (state : D → State) (honest : D → Type 0) where
-  -- what each call but a flush leaves up
-  stays_up : (v w : CoordinatorView D) → v.is_down ≡ false → w.is_down ≡ v.is_down → w.is_down ≡ true → ⊥
-  stays_up v w was same is = absurd (search (sym is ∙ same ∙ was))
-
   begun : (v w : CoordinatorView D) (write : WriteValue) (r : Result IntentValue Refusal) → IsRunning state honest v → BeginAnswers state honest v write r w → w.is_down ≡ v.is_down
   begun v w write (Ok i) runs a = ap (λ (x : CoordinatorView D). x.is_down) ((a.ok runs).0.new_is)
   begun v w write (Err e) runs a = ap (λ (x : CoordinatorView D). x.is_down) (a.err.0)
@@ -73,26 +75,19 @@ module _ {D : Type 0} (state : D → State) (honest : D → Type 0) where
   raised v w place settled (Ok done) runs a = elim ((a.ok runs).0.new_is) [ inl one ↦ ap (λ (x : CoordinatorView D). x.is_down) one.1 | inr same ↦ ap (λ (x : CoordinatorView D). x.is_down) same.1 ]
   raised v w place settled (Err e) runs a = ap (λ (x : CoordinatorView D). x.is_down) (a.err.0)
 
-  flushed : {P Q : Type 0} (b c : Bool) (r : Result (Unit {0}) Refusal) → b ≡ false → c ≡ true → OnOk r ((b ≡ false) × (c ≡ false) × P) → OnErr r ((b ≡ true) ⊎ Q) → Q
-  flushed b c (Ok done) was is ok err = absurd (search (sym is ∙ ok.1))
-  flushed b c (Err e) was is ok err = elim err [ inl down ↦ absurd (search (sym was ∙ down)) | inr cause ↦ cause ]
-
 module _ {D : Type 0} (state : D → State) (honest : D → Type 0) (moment : D → ℕ) (left_since : D → ℕ → List ℕ → Type 0) where
   coordinator_fails : (v w : CoordinatorView D) (call : CoordinatorCall) (reply : CoordinatorReply) → IsRunning state honest v → w.is_down ≡ true
       → CoordinatorAnswers state honest moment left_since v call reply w → HasCause state honest (coordinator_journal v) (coordinator_journal w)
-  coordinator_fails v w (Begin write) (told.Begin r) runs is a = absurd (stays_up v w runs.up (begun state honest v w write r runs a) is)
-  coordinator_fails v w Heads (told.Heads r) runs is a = absurd (stays_up v w runs.up (ap (λ (x : CoordinatorView D). x.is_down) a.0) is)
-  coordinator_fails v w (Batch from to) (told.Batch r) runs is a = absurd (stays_up v w runs.up (ap (λ (x : CoordinatorView D). x.is_down) a.0) is)
-  coordinator_fails v w (Decide intent votes) (told.Decide r) runs is a = absurd (stays_up v w runs.up (decided state honest v w intent votes.items r runs a) is)
-  coordinator_fails v w (Outcome d) (told.Outcome r) runs is a = absurd (stays_up v w runs.up (ap (λ (x : CoordinatorView D). x.is_down) a.0) is)
-  coordinator_fails v w (Abort intent) (told.Abort r) runs is a = absurd (stays_up v w runs.up (aborted state honest v w intent r runs a) is)
-  coordinator_fails v w (Inquire id) (told.Inquire r) runs is a = absurd (stays_up v w runs.up (ap (λ (x : CoordinatorView D). x.is_down) a.0) is)
-  coordinator_fails v w (Raise place settled) (told.Raise r) runs is a = absurd (stays_up v w runs.up (raised state honest v w place settled.items r runs a) is)
-  coordinator_fails v w Flush (told.Flush r) runs is a = flushed v.is_down w.is_down r runs.up is a.up a.cause
+  coordinator_fails v w (Begin write) (told.Begin r) runs is a = absurd (stays_up v.is_down w.is_down runs.up (begun state honest v w write r runs a) is)
+  coordinator_fails v w Heads (told.Heads r) runs is a = absurd (stays_up v.is_down w.is_down runs.up (ap (λ (x : CoordinatorView D). x.is_down) a.0) is)
+  coordinator_fails v w (Batch from to) (told.Batch r) runs is a = absurd (stays_up v.is_down w.is_down runs.up (ap (λ (x : CoordinatorView D). x.is_down) a.0) is)
+  coordinator_fails v w (Decide intent votes) (told.Decide r) runs is a = absurd (stays_up v.is_down w.is_down runs.up (decided state honest v w intent votes.items r runs a) is)
+  coordinator_fails v w (Outcome d) (told.Outcome r) runs is a = absurd (stays_up v.is_down w.is_down runs.up (ap (λ (x : CoordinatorView D). x.is_down) a.0) is)
+  coordinator_fails v w (Abort intent) (told.Abort r) runs is a = absurd (stays_up v.is_down w.is_down runs.up (aborted state honest v w intent r runs a) is)
+  coordinator_fails v w (Inquire id) (told.Inquire r) runs is a = absurd (stays_up v.is_down w.is_down runs.up (ap (λ (x : CoordinatorView D). x.is_down) a.0) is)
+  coordinator_fails v w (Raise place settled) (told.Raise r) runs is a = absurd (stays_up v.is_down w.is_down runs.up (raised state honest v w place settled.items r runs a) is)
+  coordinator_fails v w Flush (told.Flush r) runs is a = flushed _ _ v.is_down w.is_down r runs.up is a.up a.cause
   coordinator_fails v w call reply runs is a = absurd a
-
-  shard_stays : (v w : ShardView D) → v.is_down ≡ false → w.is_down ≡ v.is_down → w.is_down ≡ true → ⊥
-  shard_stays v w was same is = absurd (search (sym is ∙ same ∙ was))
 
   same_down : (v w : ShardView D) → w ≡ v → w.is_down ≡ v.is_down
   same_down v w is = ap (λ (x : ShardView D). x.is_down) is
@@ -103,21 +98,21 @@ module _ {D : Type 0} (state : D → State) (honest : D → Type 0) (moment : D 
   -- where its flush answered Ok, it is up
   shard_flushed : (v w : ShardView D) (r : Result (Unit {0}) Refusal) → IsUp state honest v → w.is_down ≡ true → FlushAnswers state honest moment left_since v r w
       → HasCause state honest (journal_of v) (journal_of w)
-  shard_flushed v w (Ok done) is_up is a = absurd (search (sym is ∙ (a.ok is_up).up.up))
-  shard_flushed v w (Err e) is_up is a = elim a.cause [ inl down ↦ absurd (search (sym is_up.up ∙ down)) | inr cause ↦ cause ]
+  shard_flushed v w (Ok done) is_up is a = let both : true ≡ false = sym is ∙ (a.ok is_up).up.up in absurd cc
+  shard_flushed v w (Err e) is_up is a = elim a.cause [ inl gone ↦ (let both : true ≡ false = sym gone ∙ is_up.up in absurd cc) | inr cause ↦ cause ]
 
   shard_fails : (v w : ShardView D) (call : ShardCall) (reply : ShardReply) → IsUp state honest v → w.is_down ≡ true
       → ShardAnswers state honest moment left_since v call reply w → HasCause state honest (journal_of v) (journal_of w)
-  shard_fails v w Learned (told_by.Learned r) is_up is a = absurd (shard_stays v w is_up.up (same_down v w a.0) is)
-  shard_fails v w (Learn batch) (told_by.Learn back r) is_up is a = absurd (shard_stays v w is_up.up (stays_down v w a.1.stays) is)
-  shard_fails v w (StagePrepare intent) (told_by.StagePrepare back r) is_up is a = absurd (shard_stays v w is_up.up (stays_down v w a.1.stays) is)
-  shard_fails v w (Vote ticket) (told_by.Vote r) is_up is a = absurd (shard_stays v w is_up.up (same_down v w a.0) is)
-  shard_fails v w (DropWrite verdict held) (told_by.DropWrite back r) is_up is a = absurd (shard_stays v w is_up.up (stays_down v w a.1.stays) is)
-  shard_fails v w InDoubt (told_by.InDoubt r) is_up is a = absurd (shard_stays v w is_up.up (same_down v w a.0) is)
-  shard_fails v w (Read place set) (told_by.Read back r) is_up is a = absurd (shard_stays v w is_up.up (same_down v w a.0) is)
-  shard_fails v w (ReadForCheck place x u) (told_by.ReadForCheck back_x back_u r) is_up is a = absurd (shard_stays v w is_up.up (same_down v w a.0) is)
-  shard_fails v w Settle (told_by.Settle r) is_up is a = absurd (shard_stays v w is_up.up (same_down v w a.0) is)
-  shard_fails v w (Collect heads) (told_by.Collect back r) is_up is a = absurd (shard_stays v w is_up.up (stays_down v w a.1.stays) is)
+  shard_fails v w Learned (told_by.Learned r) is_up is a = absurd (stays_up v.is_down w.is_down is_up.up (same_down v w a.0) is)
+  shard_fails v w (Learn batch) (told_by.Learn back r) is_up is a = absurd (stays_up v.is_down w.is_down is_up.up (stays_down v w a.1.stays) is)
+  shard_fails v w (StagePrepare intent) (told_by.StagePrepare back r) is_up is a = absurd (stays_up v.is_down w.is_down is_up.up (stays_down v w a.1.stays) is)
+  shard_fails v w (Vote ticket) (told_by.Vote r) is_up is a = absurd (stays_up v.is_down w.is_down is_up.up (same_down v w a.0) is)
+  shard_fails v w (DropWrite verdict held) (told_by.DropWrite back r) is_up is a = absurd (stays_up v.is_down w.is_down is_up.up (stays_down v w a.1.stays) is)
+  shard_fails v w InDoubt (told_by.InDoubt r) is_up is a = absurd (stays_up v.is_down w.is_down is_up.up (same_down v w a.0) is)
+  shard_fails v w (Read place set) (told_by.Read back r) is_up is a = absurd (stays_up v.is_down w.is_down is_up.up (same_down v w a.0) is)
+  shard_fails v w (ReadForCheck place x u) (told_by.ReadForCheck back_x back_u r) is_up is a = absurd (stays_up v.is_down w.is_down is_up.up (same_down v w a.0) is)
+  shard_fails v w Settle (told_by.Settle r) is_up is a = absurd (stays_up v.is_down w.is_down is_up.up (same_down v w a.0) is)
+  shard_fails v w (Collect heads) (told_by.Collect back r) is_up is a = absurd (stays_up v.is_down w.is_down is_up.up (stays_down v w a.1.stays) is)
   shard_fails v w flush_shard (told_by.Flush r) is_up is a = shard_flushed v w r is_up is a
   shard_fails v w call reply is_up is a = absurd a
 
@@ -140,12 +135,28 @@ module _ {D : Type 0} (state : D → State) (honest : D → Type 0) (moment : D 
       (sym (ap (λ (p : D × D). p.0) before.devices)) (sym (ap (λ (p : D × D). p.1) before.devices)) (sym (ap (λ (p : D × D). p.0) after.devices)) (sym (ap (λ (p : D × D). p.1) after.devices)) is_up.honest_a
       (shard_fails state honest moment left_since v w call reply is_up (is_down_of w.is_down w.durable w.staged is_down) answered)
 
+  -- the node that is called has the name of its kind
+  of_any_coordinator : (old new : Store D) (now : Moment) (n : NodeName) (v w : CoordinatorView D) (call : CoordinatorCall) (reply : CoordinatorReply) → StandsOver state honest store shards old now
+      → IsNode store shards old n (views.coordinator v) → IsNode store shards new n (views.coordinator w) → CoordinatorAnswers state honest moment left_since v call reply w
+      → shown (views.coordinator w) ≡ down → shown (views.coordinator v) ≢ down → HasDeviceCause state honest moment left_since store shards old.devices new.devices n
+  of_any_coordinator old new now coordinator v w call reply standing before after answered is_down not_down = of_coordinator old new now v w call reply standing before after answered is_down not_down
+  of_any_coordinator old new now (shard s) v w call reply standing before after answered is_down not_down = absurd before.named
+
+  of_any_shard : (old new : Store D) (now : Moment) (n : NodeName) (v w : ShardView D) (call : ShardCall) (reply : ShardReply) → StandsOver state honest store shards old now
+      → IsNode store shards old n (views.shard v) → IsNode store shards new n (views.shard w) → ShardAnswers state honest moment left_since v call reply w
+      → shown (views.shard w) ≡ down → shown (views.shard v) ≢ down → HasDeviceCause state honest moment left_since store shards old.devices new.devices n
+  of_any_shard old new now coordinator v w call reply standing before after answered is_down not_down = absurd before.named
+  of_any_shard old new now (shard s) v w call reply standing before after answered is_down not_down = of_shard old new now s v w call reply standing before after answered is_down not_down
+
+  by_kind : (old new : Store D) (now : Moment) (n : NodeName) (was : NodeView D) (call : NodeCall) (reply : Reply) (is : NodeView D) → StandsOver state honest store shards old now
+      → IsNode store shards old n was → IsNode store shards new n is → Answered state honest moment left_since was call reply is
+      → shown is ≡ down → shown was ≢ down → HasDeviceCause state honest moment left_since store shards old.devices new.devices n
+  by_kind old new now n (views.coordinator v) (Coordinator call) (from_coordinator reply) (views.coordinator w) standing before after answered is_down not_down =
+      of_any_coordinator old new now n v w call reply standing before after answered is_down not_down
+  by_kind old new now n (views.shard v) (Shard s call) (from_shard reply) (views.shard w) standing before after answered is_down not_down =
+      of_any_shard old new now n v w call reply standing before after answered is_down not_down
+  by_kind old new now n (views.refused e a b) call reply is standing before after answered is_down not_down = absurd (not_down (sym (ap shown answered.0) ∙ is_down))
+  by_kind old new now n was call reply is standing before after answered is_down not_down = absurd answered
+
   pub failed_calls_have_cause : FailedCallsHaveCause state honest moment left_since store shards
-  failed_calls_have_cause old new now coordinator (views.coordinator v) (views.coordinator w) (Coordinator call) (from_coordinator reply) standing before after answered is_down not_down =
-      of_coordinator old new now v w call reply standing before after answered is_down not_down
-  failed_calls_have_cause old new now (shard s) (views.coordinator v) (views.coordinator w) (Coordinator call) (from_coordinator reply) standing before after answered is_down not_down = absurd before.named
-  failed_calls_have_cause old new now coordinator (views.shard v) (views.shard w) (Shard t call) (from_shard reply) standing before after answered is_down not_down = absurd before.named
-  failed_calls_have_cause old new now (shard s) (views.shard v) (views.shard w) (Shard t call) (from_shard reply) standing before after answered is_down not_down =
-      of_shard old new now s v w call reply standing before after answered is_down not_down
-  failed_calls_have_cause old new now n (views.refused e a b) is call reply standing before after answered is_down not_down = absurd (search (sym (ap shown answered.0) ∙ is_down))
-  failed_calls_have_cause old new now n was is call reply standing before after answered is_down not_down = absurd answered
+  failed_calls_have_cause old new now n was is call reply standing before after answered is_down not_down = by_kind old new now n was call reply is standing before after answered is_down not_down
