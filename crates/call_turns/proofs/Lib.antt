@@ -12,4 +12,5 @@ pub mod RaiseTold
 pub mod ResolveTold
 pub mod ReadTold
 pub mod Starts
+pub mod FullStores
 pub mod Cancels
