@@ -41,9 +41,9 @@ read_fit s place y user reply b = absurd b
 fits_for : (step : CheckStep) (shards : ℕ) (user : User) (v : CheckView) (call : NodeCall) (reply : Reply) (after : CheckView)
     → AsksFor step shards user v call after → IsReplyTo call reply → MatchOption after.awaited ⊥ (λ w. Fits w reply)
 fits_for heads shards user v call reply after asks b =
-    waits after heads heads_call v.holds reply asks.1 (heads_fit reply (to_call call (Coordinator calls.Heads) reply asks.0 b))
+    waits after heads heads_call v.holds reply asks.2 (heads_fit reply (to_call call (Coordinator calls.Heads) reply asks.1 b))
 fits_for flush shards user v call reply after asks b =
-    waits after flush flush_call v.holds reply asks.1 (flush_fit reply (to_call call (Coordinator calls.Flush) reply asks.0 b))
+    waits after flush flush_call v.holds reply asks.2 (flush_fit reply (to_call call (Coordinator calls.Flush) reply asks.1 b))
 fits_for catch_up shards user v call reply after asks b =
     waits after catch_up (catch_up_call asks.out.awaited) (record v.holds { batch = asks.out.held.batch }) reply asks.waits (caught.fits asks.way call reply asks.out asks.asks b)
 fits_for read shards user v call reply after asks b =

@@ -49,10 +49,10 @@ pub record Reads (shards : ℕ) (user : User) (v : CheckView) (call : NodeCall) 
   pub call_is : call ≡ Shard (shard_of shards first.object) (shard_calls.ReadForCheck place first user)
   pub waits : after ≡ waiting read read_call v.holds
 
--- the call of each step
+-- the call of each step: heads, and a flush for them, where it has no place yet
 abbrev pub AsksFor : CheckStep → ℕ → User → CheckView → NodeCall → CheckView → Type 0
-AsksFor heads shards user v call after = (call ≡ Coordinator calls.Heads) × (after ≡ waiting heads heads_call v.holds)
-AsksFor flush shards user v call after = (call ≡ Coordinator calls.Flush) × (after ≡ waiting flush flush_call v.holds)
+AsksFor heads shards user v call after = (v.holds.place ≡ None) × (call ≡ Coordinator calls.Heads) × (after ≡ waiting heads heads_call v.holds)
+AsksFor flush shards user v call after = (v.holds.place ≡ None) × (call ≡ Coordinator calls.Flush) × (after ≡ waiting flush flush_call v.holds)
 AsksFor catch_up shards user v call after = CatchesUp shards v call after
 AsksFor read shards user v call after = Reads shards user v call after
 

@@ -12,5 +12,6 @@ pub mod RaiseTold
 pub mod ResolveTold
 pub mod ReadTold
 pub mod Starts
+pub mod FullStores
 pub mod Cancels
 pub mod Fails

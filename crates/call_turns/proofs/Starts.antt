@@ -1,11 +1,13 @@
 -- The start of a flow keeps the promise of a step, whatever it was asked.
 use Rattle.std.proofs.Common.{◌≡◌, ◌≢◌, inl, inr, ⊎_elim, ◌==◌, ◌<◌, ℕ, zero, suc, Bool, true, false, true≢false, List, [], ◌∷◌, length, Option, Some, None, slice_get, Contains, refl, sym, ◌∙◌, ap, subst, arith, if◌then◌else◌}
-use Rattle.std.specs.List.{AllByRecursion, IsDistinct}
+use Rattle.std.specs.List.{AllByRecursion, IsDistinct, list_any}
 use Rattle.std.proofs.Math.Dec.{eqb}
 use Rattle.std.proofs.Math.Path.{fun_ext}
 use Rattle.std.proofs.lemmas.Bool.{cases_Bool, cases_lt, eq-eqb, eqb-true}
 use Rattle.std.proofs.lemmas.Map.Steps.{length-le_from_distinct_below}
-use Rattle.std.proofs.lemmas.Map.Views.{Contains-from_any}
+use Rattle.std.proofs.lemmas.Cmp.{nat_eq_equiv}
+use Rattle.std.proofs.lemmas.List.Elements.{Contains-append_right}
+use Rattle.std.proofs.lemmas.Map.Views.{Contains-from_any, list_any-from_Contains}
 use Rattle.device.specs.Device.{State, left}
 use Rattle.records.specs.declared.record.Record.{Record}
 use Rattle.laws.specs.Nodes.{NodeName}
@@ -16,16 +18,16 @@ use Rattle.turns.specs.Promises.{Ran, events_of}
 use Rattle.turns.specs.Runs.{began, restart, start}
 use Rattle.turns.specs.Stands.{IsHorizonIn, Stands}
 use Rattle.turns.specs.Stores.{AreSound, FlowView, ShowsSlot, StandsOver, Store, stops}
-use Rattle.turns.proofs.FlowBegins.{among, flows_begin}
+use Rattle.turns.proofs.FlowBegins.{alone, among, flows_begin}
 use Rattle.call_turns.proofs.Made.{inside_by, still_within}
 use Rattle.call_turns.specs.Steps.{FlowsStart, IsBegunThere, shown_flow}
 
 -- the slots of flows
-slots_of : List Running → List ℕ
+pub slots_of : List Running → List ℕ
 slots_of [] = []
 slots_of (r ∷ rs) = r.slot ∷ slots_of rs
 
-no_fewer : (rs : List Running) → length (slots_of rs) ≡ length rs
+pub no_fewer : (rs : List Running) → length (slots_of rs) ≡ length rs
 unfolding slots_of
 no_fewer [] = refl
 no_fewer (r ∷ rs) = ap suc (no_fewer rs)
@@ -55,6 +57,18 @@ of_flow (r ∷ rs) t has = ⊎_elim
     (λ first. (zero, r, refl, first))
     (λ rest. let found = of_flow rs t rest in (suc found.0, found.1, found.2, found.3))
     (among r.slot t (slots_of rs) has)
+
+-- and each flow's slot is among them
+in_slots : (t : ℕ) (rs : List Running) (r : Running) → flow_at t rs ≡ Some r → Contains (slots_of rs) t
+unfolding slots_of
+in_slots t [] r is = absurd cc
+in_slots t (q ∷ rs) r is = ⊎_elim
+    (λ here. subst (Contains (q.slot ∷ slots_of rs)) (eqb-true q.slot t here) (alone q.slot (slots_of rs)))
+    (λ other. Contains-append_right (q.slot ∷ []) (slots_of rs) t (in_slots t rs r (sym (ap (λ b. if b then Some q else flow_at t rs) other) ∙ is)))
+    (cases_Bool (q.slot == t))
+
+pub at_slots : (t : ℕ) (rs : List Running) (r : Running) → flow_at t rs ≡ Some r → list_any (eqb t) (slots_of rs) ≡ true
+at_slots t rs r is = list_any-from_Contains nat_eq_equiv t (slots_of rs) (in_slots t rs r is)
 
 at_index : (rs : List Running) (j : ℕ) (r : Running) → slice_get rs j ≡ Some r → (q : Running) × (flow_at r.slot rs ≡ Some q)
 at_index [] zero r is = absurd cc

@@ -1,11 +1,12 @@
 -- The steps of a run that call no node: a flow begins, and one that is no write is cancelled.
 use Rattle.std.specs.Prelude.{◌≡◌, ◌≢◌, ◌≤◌, ◌<◌, ℕ, false, List, [], ◌∷◌, Some, None}
+use Rattle.refusal.specs.declared.refusal.Refusal.TheVariants.{Full}
 use Rattle.device.specs.Device.{State}
 use Rattle.laws.specs.Nodes.{NodeName}
 use Rattle.turns.specs.Flows.{Asked, Holds, IsAsked, nothing_held}
 use Rattle.turns.specs.Moments.{is_write}
 use Rattle.turns.specs.Promises.{RunsOne, events_of}
-use Rattle.turns.specs.Runs.{began, cancel, start}
+use Rattle.turns.specs.Runs.{began, cancel, refuses, start}
 use Rattle.turns.specs.Stores.{FlowView, Store}
 use Rattle.call_turns.specs.StoreTurns.{SlotTurns}
 
@@ -29,6 +30,12 @@ pub record IsBegunThere {D : Type 0} (old new : Store D) (slot : ℕ) (asked : A
   pub started : new.flows slot ≡ Some (shown_flow asked (nothing_held asked))
   pub others : (t : ℕ) → t ≢ slot → new.flows t ≡ old.flows t
 
+-- All 1,024 slots were taken, and the store stays as it was.
+pub record IsFullThere {D : Type 0} (old new : Store D) : Type 0 where
+  pub taken : (t : ℕ) → t < 1024 → old.flows t ≢ None
+  pub store_stays : IsUncalled old new
+  pub same : (t : ℕ) → new.flows t ≡ old.flows t
+
 -- The flow in this slot, which is no write, was cancelled between two of its turns: it has left its slot.
 pub record IsDroppedThere {D : Type 0} (old new : Store D) (slot : ℕ) (asked : Asked) (holds : Holds) : Type 0 where
   pub no_write : is_write asked ≡ false
@@ -42,6 +49,11 @@ module _ {D : Type 0} (state : D → State) (honest : D → Type 0) (moment : D 
   abbrev pub FlowsStart : Type 0
   FlowsStart = (old new : Store D) (slot : ℕ) (asked : Asked) → IsAsked shards asked → IsBegunThere old new slot asked
       → (number : ℕ) → RunsOne state honest moment left_since store shards old number (start asked) (events_of number (began slot ∷ [])) new
+
+  -- where 1,024 flows run none begins, and that keeps it too: it tells Full
+  abbrev pub FullStoresRefuse : Type 0
+  FullStoresRefuse = (old new : Store D) (asked : Asked) → IsAsked shards asked → IsFullThere old new
+      → (number : ℕ) → RunsOne state honest moment left_since store shards old number (start asked) (events_of number (refuses Full ∷ [])) new
 
   -- one that is no write keeps it where it is cancelled, and tells nothing
   abbrev pub CancelledFlowsEnd : Type 0

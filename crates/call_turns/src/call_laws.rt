@@ -1,7 +1,7 @@
 // Laws of calls that a store shows, each the clause of a function with an empty body.
 ghost use Rattle.std.specs.Prelude.{ℕ};
 ghost use Rattle.call_turns.specs.CallLaws.{FailedCallsHaveCause, QuietTurnsAnswer, QuietTurnsGoOn, QuietTurnsRefuse, StillCallsAreQuiet};
-ghost use Rattle.call_turns.specs.Steps.{CancelledFlowsEnd, FlowsStart};
+ghost use Rattle.call_turns.specs.Steps.{CancelledFlowsEnd, FlowsStart, FullStoresRefuse};
 
 use device::Device;
 
@@ -18,9 +18,11 @@ pub fn quiet_turns_run<D: Device>()
     ensures refuses { (store shards : ℕ) → QuietTurnsRefuse D.state D.honest D.moment D.left_since store shards }
 {}
 
-/// A flow of whatever kind keeps the promise of a step where it begins in a slot that was free, and one that is no write where it is cancelled.
+/// A flow of whatever kind keeps the promise of a step where it begins in a slot that was free, or is refused with `Full` where none was, and one that is no
+/// write where it is cancelled.
 pub fn flows_start_and_are_cancelled<D: Device>()
     ensures starts { (store shards : ℕ) → FlowsStart D.state D.honest D.moment D.left_since store shards }
+    ensures full { (store shards : ℕ) → FullStoresRefuse D.state D.honest D.moment D.left_since store shards }
     ensures cancelled { (store shards : ℕ) → CancelledFlowsEnd D.state D.honest D.moment D.left_since store shards }
 {}
 

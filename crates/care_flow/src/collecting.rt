@@ -3,7 +3,7 @@ ghost use Rattle.std.specs.Prelude.{◌≡◌, ◌<◌, ℕ, false, None, Some, 
 ghost use Rattle.decisions.specs.Flows.{no_heads};
 ghost use Rattle.calls.specs.Asking.{MayBeMade};
 ghost use Rattle.care_flow.specs.Collecting.{Answered, Asks, Awaits, CollectGives, Fits, FlushGives, Gives, HeadsGive, NextCall, ask, name_of};
-ghost use Rattle.care_flow.specs.CollectStages.{having, view_of};
+ghost use Rattle.care_flow.specs.CollectPhases.{having, view_of};
 ghost use Rattle.care_flow.specs.Views.{ready};
 
 use crate::end::{CareEnd, end_by, foreign};
@@ -14,7 +14,7 @@ use std::mem;
 use tuples::Refusal;
 
 #[derive(Drop)]
-pub(crate) enum Stage {
+pub(crate) enum Phase {
     // where is the horizon?
     Ask,
     Asked,
@@ -34,7 +34,7 @@ pub(crate) enum Stage {
 #[must_use]
 pub struct CollectFlow {
     shard: u8,
-    stage: Stage,
+    phase: Phase,
 }
 
 impl Model for CollectFlow {
@@ -42,95 +42,95 @@ impl Model for CollectFlow {
 
     ghost Value = { CollectFlowValue };
 
-    ghost use Rattle.care_flow.specs.CollectStages.{view_of};
+    ghost use Rattle.care_flow.specs.CollectPhases.{view_of};
 
-    ghost view = { λ f. record { shard = f.shard; seen = view_of f.stage } };
+    ghost view = { λ f. record { shard = f.shard; seen = view_of f.phase } };
 }
 
-// Its next call, and the stage while that is out.
-fn next(shard: u8, stage: Stage) -> (Stage, Option<NodeCall>)
-    ensures call { MatchOption (view_of stage).next ((result.1 ≡ None) × (view_of result.0 ≡ view_of stage))
-        (λ step. MatchOption result.1 ⊥ (λ call. Asks shard (view_of stage).holds step call (view_of result.0))) }
+// Its next call, and the phase while that is out.
+fn next(shard: u8, phase: Phase) -> (Phase, Option<NodeCall>)
+    ensures call { MatchOption (view_of phase).next ((result.1 ≡ None) × (view_of result.0 ≡ view_of phase))
+        (λ step. MatchOption result.1 ⊥ (λ call. Asks shard (view_of phase).holds step call (view_of result.0))) }
     ensures owed { (shards : ℕ) (call : _) → shard < shards → result.1 ≡ Some call → MayBeMade shards call }
 {
-    match stage {
-        Stage::Ask => {
+    match phase {
+        Phase::Ask => {
             let call = NodeCall::Coordinator(CoordinatorCall::Heads);
-            (Stage::Asked, Some(call))
+            (Phase::Asked, Some(call))
         }
-        Stage::Collect(heads, is_again) => {
+        Phase::Collect(heads, is_again) => {
             let call = NodeCall::Shard(shard, ShardCall::Collect(heads));
-            (Stage::Collecting(is_again), Some(call))
+            (Phase::Collecting(is_again), Some(call))
         }
-        Stage::FlushToCollect(heads) => {
+        Phase::FlushToCollect(heads) => {
             let call = NodeCall::Shard(shard, ShardCall::Flush);
-            (Stage::FlushingToCollect(heads), Some(call))
+            (Phase::FlushingToCollect(heads), Some(call))
         }
-        Stage::Flush => {
+        Phase::Flush => {
             let call = NodeCall::Shard(shard, ShardCall::Flush);
-            (Stage::Flushing, Some(call))
+            (Phase::Flushing, Some(call))
         }
         other => (other, None),
     }
 }
 
-fn refused(refusal: Refusal) -> Stage
-    ensures { result ≡ Stage.Ended (CareEnd.Refused refusal) }
+fn refused(refusal: Refusal) -> Phase
+    ensures { result ≡ Phase.Ended (CareEnd.Refused refusal) }
 {
-    Stage::Ended(CareEnd::Refused(refusal))
+    Phase::Ended(CareEnd::Refused(refusal))
 }
 
-fn answered(answer: Result<Heads, Refusal>) -> Stage
+fn answered(answer: Result<Heads, Refusal>) -> Phase
     ensures { HeadsGive no_heads answer (view_of result) }
 {
     match answer {
-        Ok(heads) => Stage::Collect(heads, false),
+        Ok(heads) => Phase::Collect(heads, false),
         Err(refusal) => refused(refusal),
     }
 }
 
-fn collected(is_again: bool, heads: Heads, answer: Result<(), Refusal>) -> Stage
+fn collected(is_again: bool, heads: Heads, answer: Result<(), Refusal>) -> Phase
     ensures { CollectGives no_heads is_again heads answer (view_of result) }
 {
     match answer {
-        Ok(()) => Stage::Flush,
+        Ok(()) => Phase::Flush,
         Err(refusal) => {
             if refusal == Refusal::Full && !is_again {
-                return Stage::FlushToCollect(heads);
+                return Phase::FlushToCollect(heads);
             }
             refused(refusal)
         }
     }
 }
 
-fn flushed(heads: Heads, answer: Result<(), Refusal>) -> Stage
+fn flushed(heads: Heads, answer: Result<(), Refusal>) -> Phase
     ensures { FlushGives (having heads) answer (view_of result) }
 {
     match answer {
-        Ok(()) => Stage::Collect(heads, true),
+        Ok(()) => Phase::Collect(heads, true),
         Err(refusal) => refused(refusal),
     }
 }
 
-fn give(stage: Stage, reply: Reply) -> Stage
-    requires { MatchOption (view_of stage).awaited ⊥ (λ step. Fits step reply) }
-    ensures { MatchOption (view_of stage).awaited ⊥ (λ step. Gives (view_of stage).holds step reply (view_of result)) }
+fn give(phase: Phase, reply: Reply) -> Phase
+    requires { MatchOption (view_of phase).awaited ⊥ (λ step. Fits step reply) }
+    ensures { MatchOption (view_of phase).awaited ⊥ (λ step. Gives (view_of phase).holds step reply (view_of result)) }
 {
-    match stage {
-        Stage::Asked => match reply {
+    match phase {
+        Phase::Asked => match reply {
             Reply::Coordinator(CoordinatorReply::Heads(answer)) => answered(answer),
             other => refused(foreign(other)),
         },
-        Stage::Collecting(is_again) => match reply {
+        Phase::Collecting(is_again) => match reply {
             Reply::Shard(ShardReply::Collect(heads, answer)) => collected(is_again, heads, answer),
             other => refused(foreign(other)),
         },
-        Stage::FlushingToCollect(heads) => match reply {
+        Phase::FlushingToCollect(heads) => match reply {
             Reply::Shard(ShardReply::Flush(answer)) => flushed(heads, answer),
             other => refused(foreign(other)),
         },
-        Stage::Flushing => match reply {
-            Reply::Shard(ShardReply::Flush(answer)) => Stage::Ended(end_by(answer)),
+        Phase::Flushing => match reply {
+            Reply::Shard(ShardReply::Flush(answer)) => Phase::Ended(end_by(answer)),
             other => refused(foreign(other)),
         },
         _other => refused(foreign(reply)),
@@ -144,7 +144,7 @@ impl CollectFlow {
     {
         CollectFlow {
             shard,
-            stage: Stage::Ask,
+            phase: Phase::Ask,
         }
     }
 
@@ -152,10 +152,10 @@ impl CollectFlow {
     pub fn next_name(&self) -> Option<CallName>
         ensures { result ≡ option_map name_of self.now.seen.next }
     {
-        match &self.stage {
-            Stage::Ask => Some(CallName::Heads),
-            Stage::Collect(_, _) => Some(CallName::Collect),
-            Stage::FlushToCollect(_) | Stage::Flush => Some(CallName::Flush),
+        match &self.phase {
+            Phase::Ask => Some(CallName::Heads),
+            Phase::Collect(_, _) => Some(CallName::Collect),
+            Phase::FlushToCollect(_) | Phase::Flush => Some(CallName::Flush),
             _ => None,
         }
     }
@@ -166,9 +166,9 @@ impl CollectFlow {
         ensures call { NextCall self.old result self.new }
         ensures owed { (shards : ℕ) (call : _) → self.old.shard < shards → result ≡ Some call → MayBeMade shards call }
     {
-        let stage = mem::replace(&mut self.stage, Stage::Asked);
-        let (stage, call) = next(self.shard, stage);
-        self.stage = stage;
+        let phase = mem::replace(&mut self.phase, Phase::Asked);
+        let (phase, call) = next(self.shard, phase);
+        self.phase = phase;
         call
     }
 
@@ -178,16 +178,16 @@ impl CollectFlow {
         ensures shard { self.new.shard ≡ self.old.shard }
         ensures gives { Answered self.old reply self.new }
     {
-        let stage = mem::replace(&mut self.stage, Stage::Asked);
-        self.stage = give(stage, reply);
+        let phase = mem::replace(&mut self.phase, Phase::Asked);
+        self.phase = give(phase, reply);
     }
 
     /// How it ended, where it has.
     pub fn finish(self) -> Option<CareEnd>
         ensures { result ≡ self.seen.ended }
     {
-        match self.stage {
-            Stage::Ended(end) => Some(end),
+        match self.phase {
+            Phase::Ended(end) => Some(end),
             _ => None,
         }
     }

@@ -11,7 +11,7 @@ use calls::{
 use std::marker::Model;
 
 #[derive(Drop)]
-pub(crate) enum Stage {
+pub(crate) enum Phase {
     Flush,
     Flushing,
     Ended(CareEnd),
@@ -22,7 +22,7 @@ pub(crate) enum Stage {
 #[must_use]
 pub struct FlushFlow {
     node: NodeName,
-    stage: Stage,
+    phase: Phase,
 }
 
 impl Model for FlushFlow {
@@ -30,9 +30,9 @@ impl Model for FlushFlow {
 
     ghost Value = { FlushFlowValue };
 
-    ghost use Rattle.care_flow.specs.FlushStages.{view_of};
+    ghost use Rattle.care_flow.specs.FlushPhases.{view_of};
 
-    ghost view = { λ f. record { node = f.node; seen = view_of f.stage } };
+    ghost view = { λ f. record { node = f.node; seen = view_of f.phase } };
 }
 
 fn call_of(node: NodeName) -> NodeCall
@@ -63,7 +63,7 @@ impl FlushFlow {
     {
         FlushFlow {
             node,
-            stage: Stage::Flush,
+            phase: Phase::Flush,
         }
     }
 
@@ -71,9 +71,9 @@ impl FlushFlow {
     pub fn next_name(&self) -> Option<CallName>
         ensures { result ≡ option_map name_of self.now.seen.next }
     {
-        match &self.stage {
-            Stage::Flush => Some(CallName::Flush),
-            Stage::Flushing | Stage::Ended(_) => None,
+        match &self.phase {
+            Phase::Flush => Some(CallName::Flush),
+            Phase::Flushing | Phase::Ended(_) => None,
         }
     }
 
@@ -83,8 +83,8 @@ impl FlushFlow {
         ensures call { NextCall self.old result self.new }
         ensures owed { (shards : ℕ) (call : _) → IsThere shards self.old.node → result ≡ Some call → MayBeMade shards call }
     {
-        if let Stage::Flush = &self.stage {
-            self.stage = Stage::Flushing;
+        if let Phase::Flush = &self.phase {
+            self.phase = Phase::Flushing;
             return Some(call_of(self.node));
         }
         None
@@ -96,16 +96,16 @@ impl FlushFlow {
         ensures node { self.new.node ≡ self.old.node }
         ensures gives { Answered self.old reply self.new }
     {
-        self.stage = Stage::Ended(give(self.node, reply));
+        self.phase = Phase::Ended(give(self.node, reply));
     }
 
     /// How it ended, where it has.
     pub fn finish(self) -> Option<CareEnd>
         ensures { result ≡ self.seen.ended }
     {
-        match self.stage {
-            Stage::Ended(end) => Some(end),
-            Stage::Flush | Stage::Flushing => None,
+        match self.phase {
+            Phase::Ended(end) => Some(end),
+            Phase::Flush | Phase::Flushing => None,
         }
     }
 }

@@ -6,7 +6,7 @@ ghost use Rattle.calls.specs.Names.{name_of as name_of_call};
 ghost use Rattle.calls.specs.declared.call_name.CallName.TheVariants as names;
 ghost use Rattle.catch_up.specs.CatchingUp.{Fits as FitsCatchUp};
 ghost use Rattle.care_flow.specs.Learning.{Answered, Asks, Awaits, Fits, Gives, HasLearned, HeadsGive, IsDone, NextCall, ask, catch_up as catching};
-ghost use Rattle.care_flow.specs.LearnStages.{IsOf, name_of, view_of};
+ghost use Rattle.care_flow.specs.LearnPhases.{IsOf, name_of, view_of};
 ghost use Rattle.care_flow.specs.Views.{ready};
 
 use crate::end::{CareEnd, foreign};
@@ -18,7 +18,7 @@ use std::mem;
 use tuples::Refusal;
 
 #[derive(Drop)]
-pub(crate) enum Stage {
+pub(crate) enum Phase {
     // what is kept?
     Ask,
     Asked,
@@ -32,7 +32,7 @@ pub(crate) enum Stage {
 #[must_use]
 pub struct LearnFlow {
     shard: u8,
-    stage: Stage,
+    phase: Phase,
 }
 
 impl Model for LearnFlow {
@@ -40,81 +40,81 @@ impl Model for LearnFlow {
 
     ghost Value = { LearnFlowValue };
 
-    ghost use Rattle.care_flow.specs.LearnStages.{IsOf, name_of, view_of};
+    ghost use Rattle.care_flow.specs.LearnPhases.{IsOf, name_of, view_of};
 
-    ghost view = { λ f. record { shard = f.shard; seen = view_of f.stage; next_name = name_of f.stage } };
+    ghost view = { λ f. record { shard = f.shard; seen = view_of f.phase; next_name = name_of f.phase } };
 
-    ghost invariant = { λ f. IsOf f.shard f.stage };
+    ghost invariant = { λ f. IsOf f.shard f.phase };
 }
 
-// Its next call, and the stage while that is out.
-fn next(shard: u8, stage: Stage) -> (Stage, Option<NodeCall>)
-    requires { IsOf shard stage }
-    ensures call { MatchOption (view_of stage).next ((result.1 ≡ None) × (view_of result.0 ≡ view_of stage))
-        (λ step. MatchOption result.1 ⊥ (λ call. Asks shard (view_of stage).holds step call (view_of result.0))) }
+// Its next call, and the phase while that is out.
+fn next(shard: u8, phase: Phase) -> (Phase, Option<NodeCall>)
+    requires { IsOf shard phase }
+    ensures call { MatchOption (view_of phase).next ((result.1 ≡ None) × (view_of result.0 ≡ view_of phase))
+        (λ step. MatchOption result.1 ⊥ (λ call. Asks shard (view_of phase).holds step call (view_of result.0))) }
     ensures owed { (shards : ℕ) (call : _) → shard < shards → result.1 ≡ Some call → MayBeMade shards call }
-    ensures name { option_map name_of_call result.1 ≡ name_of stage }
+    ensures name { option_map name_of_call result.1 ≡ name_of phase }
     ensures none { name_of result.0 ≡ None }
     ensures kept { IsOf shard result.0 }
 {
     let _shard = shard;
-    match stage {
-        Stage::Ask => {
+    match phase {
+        Phase::Ask => {
             let call = NodeCall::Coordinator(CoordinatorCall::Heads);
-            (Stage::Asked, Some(call))
+            (Phase::Asked, Some(call))
         }
-        Stage::CatchUp(heads, catch_up) => {
+        Phase::CatchUp(heads, catch_up) => {
             let (call, out) = catch_up.next_call();
-            (Stage::CatchingUp(heads, out), Some(call))
+            (Phase::CatchingUp(heads, out), Some(call))
         }
         other => (other, None),
     }
 }
 
-fn refused(refusal: Refusal) -> Stage
-    ensures { result ≡ Stage.Ended (CareEnd.Refused refusal) }
+fn refused(refusal: Refusal) -> Phase
+    ensures { result ≡ Phase.Ended (CareEnd.Refused refusal) }
 {
-    Stage::Ended(CareEnd::Refused(refusal))
+    Phase::Ended(CareEnd::Refused(refusal))
 }
 
-fn answered(shard: u8, answer: Result<Heads, Refusal>) -> Stage
+fn answered(shard: u8, answer: Result<Heads, Refusal>) -> Phase
     ensures gives { HeadsGive no_heads answer (view_of result) }
     ensures kept { IsOf shard result }
 {
     match answer {
         Ok(heads) => {
             let catch_up = CatchUp::new(shard, heads.kept());
-            Stage::CatchUp(heads, catch_up)
+            Phase::CatchUp(heads, catch_up)
         }
         Err(refusal) => refused(refusal),
     }
 }
 
-fn caught_up(heads: Heads, call: CatchUpCall, reply: Reply) -> Stage
+fn caught_up(heads: Heads, call: CatchUpCall, reply: Reply) -> Phase
     requires fits { FitsCatchUp call.awaited reply }
     requires to { call.held.to ≡ heads.kept }
-    ensures gives { Gives call.held.shard (view_of (Stage.CatchingUp heads call)).holds (catching (Some call.awaited)) reply (view_of result) }
+    ensures gives { Gives call.held.shard (view_of (Phase.CatchingUp heads call)).holds (catching (Some call.awaited)) reply (view_of result) }
     ensures kept { IsOf call.held.shard result }
 {
     match call.give(reply) {
-        Progress::Next(catch_up) => Stage::CatchUp(heads, catch_up),
-        Progress::There => Stage::Ended(CareEnd::Done),
+        Progress::Next(catch_up) => Phase::CatchUp(heads, catch_up),
+        Progress::There => Phase::Ended(CareEnd::Done),
         Progress::Refused(refusal) => refused(refusal),
     }
 }
 
-fn give(shard: u8, stage: Stage, reply: Reply) -> Stage
-    requires fits { MatchOption (view_of stage).awaited ⊥ (λ step. Fits step reply) }
-    requires kept { IsOf shard stage }
-    ensures gives { MatchOption (view_of stage).awaited ⊥ (λ step. Gives shard (view_of stage).holds step reply (view_of result)) }
+fn give(shard: u8, phase: Phase, reply: Reply) -> Phase
+    requires fits { MatchOption (view_of phase).awaited ⊥ (λ step. Fits step reply) }
+    requires kept { IsOf shard phase }
+    ensures gives { MatchOption (view_of phase).awaited ⊥ (λ step. Gives shard (view_of phase).holds step reply (view_of result)) }
     ensures kept { IsOf shard result }
 {
-    match stage {
-        Stage::Asked => match reply {
+    match phase {
+        Phase::Asked => match reply {
             Reply::Coordinator(CoordinatorReply::Heads(answer)) => answered(shard, answer),
             other => refused(foreign(other)),
         },
-        Stage::CatchingUp(heads, call) => caught_up(heads, call, reply),
+        Phase::CatchingUp(heads, call) => caught_up(heads, call, reply),
         _ => refused(foreign(reply)),
     }
 }
@@ -126,7 +126,7 @@ impl LearnFlow {
     {
         LearnFlow {
             shard,
-            stage: Stage::Ask,
+            phase: Phase::Ask,
         }
     }
 
@@ -135,9 +135,9 @@ impl LearnFlow {
         ensures name { result ≡ self.now.next_name }
         ensures some { is_some result ≡ is_some self.now.seen.next }
     {
-        match &self.stage {
-            Stage::Ask => Some(CallName::Heads),
-            Stage::CatchUp(_, catch_up) => Some(catch_up.next_name()),
+        match &self.phase {
+            Phase::Ask => Some(CallName::Heads),
+            Phase::CatchUp(_, catch_up) => Some(catch_up.next_name()),
             _ => None,
         }
     }
@@ -149,9 +149,9 @@ impl LearnFlow {
         ensures name { (option_map name_of_call result ≡ self.old.next_name) × (self.new.next_name ≡ None) }
         ensures owed { (shards : ℕ) (call : _) → self.old.shard < shards → result ≡ Some call → MayBeMade shards call }
     {
-        let stage = mem::replace(&mut self.stage, Stage::Asked);
-        let (stage, call) = next(self.shard, stage);
-        self.stage = stage;
+        let phase = mem::replace(&mut self.phase, Phase::Asked);
+        let (phase, call) = next(self.shard, phase);
+        self.phase = phase;
         call
     }
 
@@ -162,16 +162,16 @@ impl LearnFlow {
         ensures gives { Answered self.old reply self.new }
         ensures done { IsDone self.new.seen → HasLearned self.old.seen.holds reply }
     {
-        let stage = mem::replace(&mut self.stage, Stage::Asked);
-        self.stage = give(self.shard, stage, reply);
+        let phase = mem::replace(&mut self.phase, Phase::Asked);
+        self.phase = give(self.shard, phase, reply);
     }
 
     /// How it ended, where it has.
     pub fn finish(self) -> Option<CareEnd>
         ensures { result ≡ self.seen.ended }
     {
-        match self.stage {
-            Stage::Ended(end) => Some(end),
+        match self.phase {
+            Phase::Ended(end) => Some(end),
             _ => None,
         }
     }

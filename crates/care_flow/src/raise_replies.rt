@@ -5,11 +5,11 @@ ghost use Rattle.decisions.specs.Flows.{nothing_raised};
 ghost use Rattle.catch_up.specs.CatchingUp.{Fits as FitsCatchUp};
 ghost use Rattle.care_flow.specs.Raising.{Fits, FlushGives, Gives, GoesRound, HeadsGive, RaiseGives, SettleGives, catch_up as catching};
 ghost use Rattle.care_flow.specs.Views.{ready};
-ghost use Rattle.care_flow.specs.RaiseStages.{IsOf, IsRoundOf, gathering as held_by, handed_in, view_of};
+ghost use Rattle.care_flow.specs.RaisePhases.{IsOf, IsRoundOf, gathering as held_by, handed_in, view_of};
 
 use crate::end::{CareEnd, end_by, foreign};
 use crate::gathering::{Gathered, Gathering};
-use crate::raising::Stage;
+use crate::raising::Phase;
 use calls::{CoordinatorReply, Reply, ShardReply};
 use catch_up::{CatchUpCall, Progress};
 use coordinator::NotRaised;
@@ -17,35 +17,35 @@ use decisions::{Heads, Settled};
 use std::alloc::Global;
 use tuples::Refusal;
 
-fn refused(refusal: Refusal) -> Stage
-    ensures { result ≡ Stage.Ended (CareEnd.Refused refusal) }
+fn refused(refusal: Refusal) -> Phase
+    ensures { result ≡ Phase.Ended (CareEnd.Refused refusal) }
 {
-    Stage::Ended(CareEnd::Refused(refusal))
+    Phase::Ended(CareEnd::Refused(refusal))
 }
 
 // A shard is caught up to the kept place, whether for the first time or again.
-fn begin(gathering: Gathering) -> Stage
+fn begin(gathering: Gathering) -> Phase
     requires { IsRoundOf gathering.shards gathering.place gathering }
     ensures goes { view_of result ≡ ready (held_by gathering None) (catching gathering.next None) }
     ensures kept { IsOf gathering.shards gathering.place result }
 {
     let catch_up = gathering.catch_up();
-    Stage::CatchUp(gathering, catch_up)
+    Phase::CatchUp(gathering, catch_up)
 }
 
 // The next shard's turn; behind the last one the horizon is raised.
-fn go_round(gathering: Gathering) -> Stage
+fn go_round(gathering: Gathering) -> Phase
     ensures goes { GoesRound gathering.shards (held_by gathering None) gathering.next (view_of result) }
     ensures kept { IsOf gathering.shards gathering.place result }
 {
     if gathering.has_next() {
         return begin(gathering);
     }
-    Stage::Raise(gathering.all(), false)
+    Phase::Raise(gathering.all(), false)
 }
 
 // No shard can settle a place above the log, so the flow refuses it by itself.
-fn answered(alloc: Global, shards: u8, place: u64, answer: Result<Heads, Refusal>) -> Stage
+fn answered(alloc: Global, shards: u8, place: u64, answer: Result<Heads, Refusal>) -> Phase
     ensures gives { HeadsGive shards place nothing_raised answer (view_of result) }
     ensures kept { IsOf shards place result }
 {
@@ -58,7 +58,7 @@ fn answered(alloc: Global, shards: u8, place: u64, answer: Result<Heads, Refusal
                 };
             }
             if place <= heads.length() {
-                return Stage::FlushToAsk;
+                return Phase::FlushToAsk;
             }
             refused(Refusal::Future)
         }
@@ -66,22 +66,22 @@ fn answered(alloc: Global, shards: u8, place: u64, answer: Result<Heads, Refusal
     }
 }
 
-fn caught_up(gathering: Gathering, call: CatchUpCall, reply: Reply) -> Stage
+fn caught_up(gathering: Gathering, call: CatchUpCall, reply: Reply) -> Phase
     requires fits { FitsCatchUp call.awaited reply }
     requires round { IsRoundOf gathering.shards gathering.place gathering }
     requires own { (call.held.shard ≡ gathering.next) × (call.held.to ≡ gathering.heads.kept) }
-    ensures gives { Gives gathering.shards gathering.place (view_of (Stage.CatchingUp gathering call)).holds (catching gathering.next (Some call.awaited)) reply (view_of result) }
+    ensures gives { Gives gathering.shards gathering.place (view_of (Phase.CatchingUp gathering call)).holds (catching gathering.next (Some call.awaited)) reply (view_of result) }
     ensures kept { IsOf gathering.shards gathering.place result }
 {
     match call.give(reply) {
-        Progress::Next(catch_up) => Stage::CatchUp(gathering, catch_up),
-        Progress::There => Stage::Flush(gathering),
+        Progress::Next(catch_up) => Phase::CatchUp(gathering, catch_up),
+        Progress::There => Phase::Flush(gathering),
         Progress::Refused(refusal) => refused(refusal),
     }
 }
 
-// A flush behind which the stage comes.
-fn flushed(behind: Stage, answer: Result<(), Refusal>) -> Stage
+// A flush behind which the phase comes.
+fn flushed(behind: Phase, answer: Result<(), Refusal>) -> Phase
     ensures gives { FlushGives answer (view_of behind) (view_of result) }
     ensures kept { (shards place : ℕ) → IsOf shards place behind → IsOf shards place result }
 {
@@ -91,7 +91,7 @@ fn flushed(behind: Stage, answer: Result<(), Refusal>) -> Stage
     }
 }
 
-fn settled(mut gathering: Gathering, answer: Result<Settled, Refusal>) -> Stage
+fn settled(mut gathering: Gathering, answer: Result<Settled, Refusal>) -> Phase
     requires { IsRoundOf gathering.shards gathering.place gathering }
     ensures gives { SettleGives gathering.shards gathering.place (held_by gathering None) gathering.next answer (view_of result) }
     ensures kept { IsOf gathering.shards gathering.place result }
@@ -115,64 +115,64 @@ fn raised(
     heads: Heads,
     is_again: bool,
     answer: Result<(), NotRaised>,
-) -> Stage
+) -> Phase
     requires { IfErr answer (λ back. HaveSettled shards place back.settled.items) }
     ensures gives { RaiseGives (handed_in heads) is_again answer (view_of result) }
     ensures kept { IsOf shards place result }
 {
     match answer {
-        Ok(()) => Stage::FlushRaised(heads),
+        Ok(()) => Phase::FlushRaised(heads),
         Err(back) => {
             let NotRaised { refusal, settled } = back;
             if refusal == Refusal::Full && !is_again {
-                return Stage::FlushToRaise(Gathered::again(shards, place, heads, settled));
+                return Phase::FlushToRaise(Gathered::again(shards, place, heads, settled));
             }
             refused(refusal)
         }
     }
 }
 
-/// What a reply makes of the stage that waits for it.
-pub(crate) fn give(alloc: Global, shards: u8, place: u64, stage: Stage, reply: Reply) -> Stage
-    requires fits { MatchOption (view_of stage).awaited ⊥ (λ step. Fits shards place step reply) }
-    requires kept { IsOf shards place stage }
-    ensures gives { MatchOption (view_of stage).awaited ⊥ (λ step. Gives shards place (view_of stage).holds step reply (view_of result)) }
+/// What a reply makes of the phase that waits for it.
+pub(crate) fn give(alloc: Global, shards: u8, place: u64, phase: Phase, reply: Reply) -> Phase
+    requires fits { MatchOption (view_of phase).awaited ⊥ (λ step. Fits shards place step reply) }
+    requires kept { IsOf shards place phase }
+    ensures gives { MatchOption (view_of phase).awaited ⊥ (λ step. Gives shards place (view_of phase).holds step reply (view_of result)) }
     ensures kept { IsOf shards place result }
 {
-    match stage {
-        Stage::Asked => match reply {
+    match phase {
+        Phase::Asked => match reply {
             Reply::Coordinator(CoordinatorReply::Heads(answer)) => {
                 answered(alloc, shards, place, answer)
             }
             other => refused(foreign(other)),
         },
-        Stage::FlushingToAsk => match reply {
-            Reply::Coordinator(CoordinatorReply::Flush(answer)) => flushed(Stage::Ask, answer),
+        Phase::FlushingToAsk => match reply {
+            Reply::Coordinator(CoordinatorReply::Flush(answer)) => flushed(Phase::Ask, answer),
             other => refused(foreign(other)),
         },
-        Stage::CatchingUp(gathering, call) => caught_up(gathering, call, reply),
-        Stage::Flushing(gathering) => match reply {
-            Reply::Shard(ShardReply::Flush(answer)) => flushed(Stage::Settle(gathering), answer),
+        Phase::CatchingUp(gathering, call) => caught_up(gathering, call, reply),
+        Phase::Flushing(gathering) => match reply {
+            Reply::Shard(ShardReply::Flush(answer)) => flushed(Phase::Settle(gathering), answer),
             other => refused(foreign(other)),
         },
-        Stage::Settling(gathering) => match reply {
+        Phase::Settling(gathering) => match reply {
             Reply::Shard(ShardReply::Settle(answer)) => settled(gathering, answer),
             other => refused(foreign(other)),
         },
-        Stage::Raising(heads, is_again) => match reply {
+        Phase::Raising(heads, is_again) => match reply {
             Reply::Coordinator(CoordinatorReply::Raise(answer)) => {
                 raised(shards, place, heads, is_again, answer)
             }
             other => refused(foreign(other)),
         },
-        Stage::FlushingToRaise(gathered) => match reply {
+        Phase::FlushingToRaise(gathered) => match reply {
             Reply::Coordinator(CoordinatorReply::Flush(answer)) => {
-                flushed(Stage::Raise(gathered, true), answer)
+                flushed(Phase::Raise(gathered, true), answer)
             }
             other => refused(foreign(other)),
         },
-        Stage::FlushingRaised(_heads) => match reply {
-            Reply::Coordinator(CoordinatorReply::Flush(answer)) => Stage::Ended(end_by(answer)),
+        Phase::FlushingRaised(_heads) => match reply {
+            Reply::Coordinator(CoordinatorReply::Flush(answer)) => Phase::Ended(end_by(answer)),
             other => refused(foreign(other)),
         },
         _other => refused(foreign(reply)),

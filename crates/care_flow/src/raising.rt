@@ -5,7 +5,7 @@ ghost use Rattle.calls.specs.Names.{name_of as name_of_call};
 ghost use Rattle.calls.specs.declared.call_name.CallName.TheVariants as names;
 ghost use Rattle.decisions.specs.Flows.{nothing_raised};
 ghost use Rattle.care_flow.specs.Raising.{Answered, Awaits, NextCall, ask};
-ghost use Rattle.care_flow.specs.RaiseStages.{IsOf, view_of};
+ghost use Rattle.care_flow.specs.RaisePhases.{IsOf, view_of};
 ghost use Rattle.care_flow.specs.Views.{ready};
 
 use crate::end::CareEnd;
@@ -20,7 +20,7 @@ use std::marker::Model;
 use std::mem;
 
 #[derive(Drop)]
-pub(crate) enum Stage {
+pub(crate) enum Phase {
     // is the place kept?
     Ask,
     Asked,
@@ -53,7 +53,7 @@ pub struct RaiseFlow {
     alloc: Global,
     shards: u8,
     place: u64,
-    stage: Stage,
+    phase: Phase,
 }
 
 impl Model for RaiseFlow {
@@ -61,11 +61,11 @@ impl Model for RaiseFlow {
 
     ghost Value = { RaiseFlowValue };
 
-    ghost use Rattle.care_flow.specs.RaiseStages.{IsOf, name_of, view_of};
+    ghost use Rattle.care_flow.specs.RaisePhases.{IsOf, name_of, view_of};
 
-    ghost view = { λ f. record { shards = f.shards; place = f.place; seen = view_of f.stage; next_name = name_of f.stage } };
+    ghost view = { λ f. record { shards = f.shards; place = f.place; seen = view_of f.phase; next_name = name_of f.phase } };
 
-    ghost invariant = { λ f. IsOf f.shards f.place f.stage };
+    ghost invariant = { λ f. IsOf f.shards f.place f.phase };
 }
 
 impl RaiseFlow {
@@ -77,7 +77,7 @@ impl RaiseFlow {
             alloc,
             shards,
             place,
-            stage: Stage::Ask,
+            phase: Phase::Ask,
         }
     }
 
@@ -86,12 +86,12 @@ impl RaiseFlow {
         ensures name { result ≡ self.now.next_name }
         ensures some { is_some result ≡ is_some self.now.seen.next }
     {
-        match &self.stage {
-            Stage::Ask => Some(CallName::Heads),
-            Stage::CatchUp(_, catch_up) => Some(catch_up.next_name()),
-            Stage::Settle(_) => Some(CallName::Settle),
-            Stage::Raise(_, _) => Some(CallName::Raise),
-            Stage::FlushToAsk | Stage::Flush(_) | Stage::FlushToRaise(_) | Stage::FlushRaised(_) =>
+        match &self.phase {
+            Phase::Ask => Some(CallName::Heads),
+            Phase::CatchUp(_, catch_up) => Some(catch_up.next_name()),
+            Phase::Settle(_) => Some(CallName::Settle),
+            Phase::Raise(_, _) => Some(CallName::Raise),
+            Phase::FlushToAsk | Phase::Flush(_) | Phase::FlushToRaise(_) | Phase::FlushRaised(_) =>
                 Some(CallName::Flush),
             _ => None,
         }
@@ -104,9 +104,9 @@ impl RaiseFlow {
         ensures name { (option_map name_of_call result ≡ self.old.next_name) × (self.new.next_name ≡ None) }
         ensures owed { (call : _) → result ≡ Some call → MayBeMade self.old.shards call }
     {
-        let stage = mem::replace(&mut self.stage, Stage::Asked);
-        let (stage, call) = next(self.shards, self.place, stage);
-        self.stage = stage;
+        let phase = mem::replace(&mut self.phase, Phase::Asked);
+        let (phase, call) = next(self.shards, self.place, phase);
+        self.phase = phase;
         call
     }
 
@@ -116,16 +116,16 @@ impl RaiseFlow {
         ensures same { (self.new.shards ≡ self.old.shards) × (self.new.place ≡ self.old.place) }
         ensures gives { Answered self.old reply self.new }
     {
-        let stage = mem::replace(&mut self.stage, Stage::Asked);
-        self.stage = give(self.alloc, self.shards, self.place, stage, reply);
+        let phase = mem::replace(&mut self.phase, Phase::Asked);
+        self.phase = give(self.alloc, self.shards, self.place, phase, reply);
     }
 
     /// How it ended, where it has.
     pub fn finish(self) -> Option<CareEnd>
         ensures { result ≡ self.seen.ended }
     {
-        match self.stage {
-            Stage::Ended(end) => Some(end),
+        match self.phase {
+            Phase::Ended(end) => Some(end),
             _ => None,
         }
     }

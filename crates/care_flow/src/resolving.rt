@@ -8,7 +8,7 @@ ghost use Rattle.care_flow.specs.declared.end.CareEnd.TheVariants.{Resolved as a
 ghost use Rattle.decisions.specs.Flows.{ResolveHolds};
 ghost use Rattle.care_flow.specs.Ends.{id_of, next_of, resolved_value};
 ghost use Rattle.care_flow.specs.Resolving.{Answered, Asks, Awaits, DoubtsGive, DropGives, Fits, Gives, GoesThrough, HasCommitted, InquiryGives, NextCall, catch_up as catching, in_doubt, nothing_found};
-ghost use Rattle.care_flow.specs.ResolveStages.{IsOf, holding, name_of, view_of};
+ghost use Rattle.care_flow.specs.ResolvePhases.{IsOf, holding, name_of, view_of};
 ghost use Rattle.care_flow.specs.Views.{ready};
 
 use crate::end::{CareEnd, Resolved, foreign};
@@ -23,7 +23,7 @@ use std::mem;
 use tuples::{Refusal, WriteId};
 
 #[derive(Drop)]
-pub(crate) enum Stage {
+pub(crate) enum Phase {
     // what is in doubt?
     AskDoubts,
     AskedDoubts,
@@ -48,7 +48,7 @@ pub struct ResolveFlow {
     alloc: Global,
     shard: u8,
     findings: Findings,
-    stage: Stage,
+    phase: Phase,
 }
 
 impl Model for ResolveFlow {
@@ -56,54 +56,54 @@ impl Model for ResolveFlow {
 
     ghost Value = { ResolveFlowValue };
 
-    ghost use Rattle.care_flow.specs.ResolveStages.{IsOf, name_of, view_of};
+    ghost use Rattle.care_flow.specs.ResolvePhases.{IsOf, name_of, view_of};
 
-    ghost view = { λ f. record { shard = f.shard; doubts = f.findings.doubts.items; seen = view_of f.findings f.stage; next_name = name_of f.stage } };
+    ghost view = { λ f. record { shard = f.shard; doubts = f.findings.doubts.items; seen = view_of f.findings f.phase; next_name = name_of f.phase } };
 
-    ghost invariant = { λ f. IsOf f.shard f.findings f.stage };
+    ghost invariant = { λ f. IsOf f.shard f.findings f.phase };
 }
 
-// Its next call, and the stage while that is out.
-fn next(shard: u8, findings: &Findings, stage: Stage) -> (Stage, Option<NodeCall>)
-    requires { IsOf shard findings.now stage }
-    ensures call { MatchOption (view_of findings.now stage).next ((result.1 ≡ None) × (view_of findings.now result.0 ≡ view_of findings.now stage))
-        (λ step. MatchOption result.1 ⊥ (λ call. Asks shard (view_of findings.now stage).holds step call (view_of findings.now result.0))) }
+// Its next call, and the phase while that is out.
+fn next(shard: u8, findings: &Findings, phase: Phase) -> (Phase, Option<NodeCall>)
+    requires { IsOf shard findings.now phase }
+    ensures call { MatchOption (view_of findings.now phase).next ((result.1 ≡ None) × (view_of findings.now result.0 ≡ view_of findings.now phase))
+        (λ step. MatchOption result.1 ⊥ (λ call. Asks shard (view_of findings.now phase).holds step call (view_of findings.now result.0))) }
     ensures owed { (shards : ℕ) (call : _) → shard < shards → result.1 ≡ Some call → MayBeMade shards call }
-    ensures name { option_map name_of_call result.1 ≡ name_of stage }
+    ensures name { option_map name_of_call result.1 ≡ name_of phase }
     ensures none { name_of result.0 ≡ None }
     ensures kept { IsOf shard findings.now result.0 }
 {
     let _findings = findings;
-    match stage {
-        Stage::AskDoubts => {
+    match phase {
+        Phase::AskDoubts => {
             let call = NodeCall::Shard(shard, ShardCall::InDoubt);
-            (Stage::AskedDoubts, Some(call))
+            (Phase::AskedDoubts, Some(call))
         }
-        Stage::Inquire(id) => {
+        Phase::Inquire(id) => {
             let call = NodeCall::Coordinator(CoordinatorCall::Inquire(id));
-            (Stage::Inquired(id), Some(call))
+            (Phase::Inquired(id), Some(call))
         }
-        Stage::CatchUp(catch_up) => {
+        Phase::CatchUp(catch_up) => {
             let (call, out) = catch_up.next_call();
-            (Stage::CatchingUp(out), Some(call))
+            (Phase::CatchingUp(out), Some(call))
         }
-        Stage::Drop(verdict) => {
+        Phase::Drop(verdict) => {
             let call = NodeCall::Shard(shard, ShardCall::DropWrite(verdict, None));
-            (Stage::Dropping, Some(call))
+            (Phase::Dropping, Some(call))
         }
         other => (other, None),
     }
 }
 
 // It goes on to the next write.
-fn go_on(shard: u8, findings: &Findings) -> Stage
+fn go_on(shard: u8, findings: &Findings) -> Phase
     ensures goes { (doubts : List WriteId) (h : ResolveHolds) → doubts ≡ findings.now.doubts.items → h ≡ holding findings.now None None → GoesThrough doubts h (view_of findings.now result) }
     ensures kept { IsOf shard findings.now result }
 {
     let _shard = shard;
     match findings.next() {
-        Some(id) => Stage::Inquire(id),
-        None => Stage::Done,
+        Some(id) => Phase::Inquire(id),
+        None => Phase::Done,
     }
 }
 
@@ -112,7 +112,7 @@ fn told(
     shard: u8,
     findings: &mut Findings,
     answer: Result<Vec<WriteId>, Refusal>,
-) -> Stage
+) -> Phase
     requires { findings.old.found.items ≡ [] }
     ensures gives { DoubtsGive (holding findings.old None None) answer findings.new.doubts.items (view_of findings.new result) }
     ensures kept { IsOf shard findings.new result }
@@ -123,9 +123,9 @@ fn told(
                 *findings = known;
                 go_on(shard, findings)
             }
-            Err(_) => Stage::Refused(Refusal::NoMemory),
+            Err(_) => Phase::Refused(Refusal::NoMemory),
         },
-        Err(refusal) => Stage::Refused(refusal),
+        Err(refusal) => Phase::Refused(refusal),
     }
 }
 
@@ -134,7 +134,7 @@ fn inquired(
     findings: &mut Findings,
     id: WriteId,
     answer: Result<Inquiry, Refusal>,
-) -> Stage
+) -> Phase
     requires { next_of findings.old.doubts.items findings.old.found.items ≡ Some id }
     ensures doubts { findings.new.doubts ≡ findings.old.doubts }
     ensures gives { InquiryGives findings.old.doubts.items (holding findings.old None None) id answer (view_of findings.new result) }
@@ -143,69 +143,69 @@ fn inquired(
     match answer {
         Ok(Inquiry::Commit(place)) => {
             findings.note(Resolved::Committed(id, place));
-            Stage::CatchUp(CatchUp::new(shard, place))
+            Phase::CatchUp(CatchUp::new(shard, place))
         }
         Ok(Inquiry::Abort(verdict)) => {
             findings.note(Resolved::Aborted(id));
-            Stage::Drop(verdict)
+            Phase::Drop(verdict)
         }
         // Whoever decides it still needs its prepare.
         Ok(Inquiry::Undecided) => {
             findings.note(Resolved::Undecided(id));
             go_on(shard, findings)
         }
-        Err(refusal) => Stage::Refused(refusal),
+        Err(refusal) => Phase::Refused(refusal),
     }
 }
 
-fn caught_up(shard: u8, findings: &Findings, call: CatchUpCall, reply: Reply) -> Stage
+fn caught_up(shard: u8, findings: &Findings, call: CatchUpCall, reply: Reply) -> Phase
     requires fits { FitsCatchUp call.awaited reply }
     requires shard { call.held.shard ≡ shard }
     requires committed { HasCommitted (map resolved_value findings.now.found.items) call.held.to }
-    ensures gives { Gives shard findings.now.doubts.items (view_of findings.now (Stage.CatchingUp call)).holds (catching call.held.to (Some call.awaited)) reply findings.now.doubts.items (view_of findings.now result) }
+    ensures gives { Gives shard findings.now.doubts.items (view_of findings.now (Phase.CatchingUp call)).holds (catching call.held.to (Some call.awaited)) reply findings.now.doubts.items (view_of findings.now result) }
     ensures kept { IsOf shard findings.now result }
 {
     match call.give(reply) {
-        Progress::Next(catch_up) => Stage::CatchUp(catch_up),
+        Progress::Next(catch_up) => Phase::CatchUp(catch_up),
         Progress::There => go_on(shard, findings),
-        Progress::Refused(refusal) => Stage::Refused(refusal),
+        Progress::Refused(refusal) => Phase::Refused(refusal),
     }
 }
 
-fn dropped(shard: u8, findings: &Findings, answer: Result<(), Refusal>) -> Stage
+fn dropped(shard: u8, findings: &Findings, answer: Result<(), Refusal>) -> Phase
     ensures gives { DropGives findings.now.doubts.items (holding findings.now None None) answer (view_of findings.now result) }
     ensures kept { IsOf shard findings.now result }
 {
     match answer {
         Ok(()) => go_on(shard, findings),
-        Err(refusal) => Stage::Refused(refusal),
+        Err(refusal) => Phase::Refused(refusal),
     }
 }
 
-fn give(alloc: Global, shard: u8, findings: &mut Findings, stage: Stage, reply: Reply) -> Stage
-    requires fits { MatchOption (view_of findings.old stage).awaited ⊥ (λ step. Fits step reply) }
-    requires kept { IsOf shard findings.old stage }
-    ensures gives { MatchOption (view_of findings.old stage).awaited ⊥
-        (λ step. Gives shard findings.old.doubts.items (view_of findings.old stage).holds step reply findings.new.doubts.items (view_of findings.new result)) }
+fn give(alloc: Global, shard: u8, findings: &mut Findings, phase: Phase, reply: Reply) -> Phase
+    requires fits { MatchOption (view_of findings.old phase).awaited ⊥ (λ step. Fits step reply) }
+    requires kept { IsOf shard findings.old phase }
+    ensures gives { MatchOption (view_of findings.old phase).awaited ⊥
+        (λ step. Gives shard findings.old.doubts.items (view_of findings.old phase).holds step reply findings.new.doubts.items (view_of findings.new result)) }
     ensures kept { IsOf shard findings.new result }
 {
-    match stage {
-        Stage::AskedDoubts => match reply {
+    match phase {
+        Phase::AskedDoubts => match reply {
             Reply::Shard(ShardReply::InDoubt(answer)) => told(alloc, shard, findings, answer),
-            other => Stage::Refused(foreign(other)),
+            other => Phase::Refused(foreign(other)),
         },
-        Stage::Inquired(id) => match reply {
+        Phase::Inquired(id) => match reply {
             Reply::Coordinator(CoordinatorReply::Inquire(answer)) => {
                 inquired(shard, findings, id, answer)
             }
-            other => Stage::Refused(foreign(other)),
+            other => Phase::Refused(foreign(other)),
         },
-        Stage::CatchingUp(call) => caught_up(shard, findings, call, reply),
-        Stage::Dropping => match reply {
+        Phase::CatchingUp(call) => caught_up(shard, findings, call, reply),
+        Phase::Dropping => match reply {
             Reply::Shard(ShardReply::DropWrite(_, answer)) => dropped(shard, findings, answer),
-            other => Stage::Refused(foreign(other)),
+            other => Phase::Refused(foreign(other)),
         },
-        _other => Stage::Refused(foreign(reply)),
+        _other => Phase::Refused(foreign(reply)),
     }
 }
 
@@ -218,7 +218,7 @@ impl ResolveFlow {
             alloc,
             shard,
             findings: Findings::none(alloc),
-            stage: Stage::AskDoubts,
+            phase: Phase::AskDoubts,
         }
     }
 
@@ -227,11 +227,11 @@ impl ResolveFlow {
         ensures name { result ≡ self.now.next_name }
         ensures some { is_some result ≡ is_some self.now.seen.next }
     {
-        match &self.stage {
-            Stage::AskDoubts => Some(CallName::InDoubt),
-            Stage::Inquire(_) => Some(CallName::Inquire),
-            Stage::CatchUp(catch_up) => Some(catch_up.next_name()),
-            Stage::Drop(_) => Some(CallName::DropWrite),
+        match &self.phase {
+            Phase::AskDoubts => Some(CallName::InDoubt),
+            Phase::Inquire(_) => Some(CallName::Inquire),
+            Phase::CatchUp(catch_up) => Some(catch_up.next_name()),
+            Phase::Drop(_) => Some(CallName::DropWrite),
             _ => None,
         }
     }
@@ -244,9 +244,9 @@ impl ResolveFlow {
         ensures name { (option_map name_of_call result ≡ self.old.next_name) × (self.new.next_name ≡ None) }
         ensures owed { (shards : ℕ) (call : _) → self.old.shard < shards → result ≡ Some call → MayBeMade shards call }
     {
-        let stage = mem::replace(&mut self.stage, Stage::AskedDoubts);
-        let (stage, call) = next(self.shard, &self.findings, stage);
-        self.stage = stage;
+        let phase = mem::replace(&mut self.phase, Phase::AskedDoubts);
+        let (phase, call) = next(self.shard, &self.findings, phase);
+        self.phase = phase;
         call
     }
 
@@ -256,8 +256,8 @@ impl ResolveFlow {
         ensures shard { self.new.shard ≡ self.old.shard }
         ensures gives { Answered self.old reply self.new }
     {
-        let stage = mem::replace(&mut self.stage, Stage::AskedDoubts);
-        self.stage = give(self.alloc, self.shard, &mut self.findings, stage, reply);
+        let phase = mem::replace(&mut self.phase, Phase::AskedDoubts);
+        self.phase = give(self.alloc, self.shard, &mut self.findings, phase, reply);
     }
 
     /// How it ended, where it has. What it found is of each write that was in doubt, in their order.
@@ -265,9 +265,9 @@ impl ResolveFlow {
         ensures end { result ≡ self.seen.ended }
         ensures each { (all : _) → result ≡ Some (all_resolved all) → map id_of all.items ≡ self.doubts }
     {
-        match self.stage {
-            Stage::Done => Some(CareEnd::Resolved(self.findings.found)),
-            Stage::Refused(refusal) => Some(CareEnd::Refused(refusal)),
+        match self.phase {
+            Phase::Done => Some(CareEnd::Resolved(self.findings.found)),
+            Phase::Refused(refusal) => Some(CareEnd::Refused(refusal)),
             _ => None,
         }
     }

@@ -12,6 +12,8 @@ use Rattle.tuples.specs.declared.entry.WriteId.{WriteId}
 use Rattle.tuples.specs.Parts.{takes_part}
 use Rattle.decisions.specs.Values.{TicketValue, VoteValue}
 use Rattle.decisions.specs.Coordinators.{HaveVoted, IsVoteFor}
+use Rattle.commit_flow.specs.Views.{ticket_value}
+use Rattle.commit_flow.specs.WriteHolds.{HeldTicket}
 use Rattle.commit_flow.specs.Participants.{ArePartsOf, AreTicketsFor, AreVotesFor, participants_below, ticket_shards, vote_shards}
 
 either : (b : Bool) → (b ≡ true) ⊎ (b ≡ false)
@@ -118,6 +120,16 @@ same_below bits shards v w of_v of_w (suc n) =
     let same = same_bool (takes_part shards n v) (takes_part shards n w) (λ t. (of_w n).0 ((of_v n).1 t)) (λ t. (of_v n).0 ((of_w n).1 t)) in
     ap (λ (xs : List ℕ). xs ++ (if takes_part shards n v then n ∷ [] else [])) (same_below bits shards v w of_v of_w n)
     ∙ ap (λ (b : Bool). participants_below shards w n ++ (if b then n ∷ [] else [])) same
+
+-- what the shards gave is of shards below the one that is asked next
+shard_there : (tickets : List (ℕ × TicketValue)) (t : HeldTicket) → Contains (map ticket_value tickets) t → Contains (ticket_shards tickets) t.shard
+shard_there [] t (i, lt, e) = absurd (omega (arith, lt))
+shard_there (x ∷ tickets) t (zero, lt, e) = (0, omega arith, ap (λ (y : HeldTicket). y.shard) e)
+shard_there (x ∷ tickets) t (suc i, lt, e) = Contains-append_right (x.0 ∷ []) (ticket_shards tickets) t.shard (shard_there tickets t (i, omega (arith, lt), e))
+
+pub given_below : (shards : ℕ) (w : Entry) (tickets : List (ℕ × TicketValue)) (s : ℕ) → ticket_shards tickets ≡ participants_below shards w s
+    → (t : HeldTicket) → Contains (map ticket_value tickets) t → t.shard < s
+given_below shards w tickets s asked t has = (below_are shards w s t.shard (subst (λ (xs : List ℕ). Contains xs t.shard) asked (shard_there tickets t has))).0
 
 -- before the first shard none was asked
 pub none_asked : (shards : ℕ) (w : Entry) (tickets : List (ℕ × TicketValue)) → tickets ≡ [] → ticket_shards tickets ≡ participants_below shards w 0

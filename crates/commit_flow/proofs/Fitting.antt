@@ -76,10 +76,10 @@ fits_shard : (shards s : ℕ) (v : WriteView) (call : ShardCall) (reply : ShardR
 fits_shard shards s v shard_calls.Learned (told_by.Learned r) after may h b = waits_for shards (from_shard (told_by.Learned r)) after _ h.2 tt
 fits_shard shards s v (shard_calls.Learn batch) (told_by.Learn back r) after may h b = waits_for shards (from_shard (told_by.Learn back r)) after _ h.3.1 tt
 fits_shard shards s v (shard_calls.StagePrepare intent) (told_by.StagePrepare back r) after may h b =
-    waits_for shards (from_shard (told_by.StagePrepare back r)) after _ h.5.3 (
+    waits_for shards (from_shard (told_by.StagePrepare back r)) after _ h.6.3 (
       λ (id : WriteId) at. ap (λ (i : IntentValue). i.write.id) b.0 ∙ same_id v.holds.id intent.write.id id h.4 at,
       subst (λ (i : IntentValue). takes_part shards s i.write ≡ true) (sym b.0) may,
-      subst (λ (i : IntentValue). ArePartsOf h.5.1 shards i.write) (sym b.0) h.5.2,
+      subst (λ (i : IntentValue). ArePartsOf h.6.1 shards i.write) (sym b.0) h.6.2,
       subst (λ (i : IntentValue). IfOk r (λ t. t.id ≡ i.write.id)) (sym b.0) b.1,
     )
 fits_shard shards s v (shard_calls.Vote ticket) (told_by.Vote r) after may h b = waits_for shards (from_shard (told_by.Vote r)) after _ h.2.2 (vote_back s ticket v.holds.id r h.1 b)

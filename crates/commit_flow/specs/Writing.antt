@@ -1,5 +1,5 @@
 -- The calls of a write flow, and what each reply makes of it.
-use Rattle.std.specs.Prelude.{◌≡◌, ◌≢◌, ◌⊎◌, ◌≤◌, ◌<◌, ◌++◌, ℕ, Bool, true, false, List, [], ◌∷◌, Option, Some, None, Result, Ok, Err}
+use Rattle.std.specs.Prelude.{◌≡◌, ◌≢◌, ◌⊎◌, ◌≤◌, ◌<◌, ◌++◌, ℕ, Bool, true, false, List, [], ◌∷◌, Option, Some, None, Result, Ok, Err, Contains}
 use Rattle.tuples.specs.declared.entry.WriteId.{WriteId}
 use Rattle.tuples.specs.Parts.{takes_part}
 use Rattle.refusal.specs.declared.refusal.Refusal.{Refusal}
@@ -53,6 +53,10 @@ Waits v holds awaited after = after ≡ record v { holds = holds; awaited = Some
 abbrev pub HasShard : ℕ → WriteView → ℕ → Type 0
 HasShard shards v s = (i : IntentValue) × (v.holds.intent ≡ Some i) × (s < shards) × (takes_part shards s i.write ≡ true)
 
+-- What the shards gave so far is tickets, and of shards below this one: none has given any from this one on, and none has voted.
+abbrev pub GaveBelow : WriteView → ℕ → Type 0
+GaveBelow v s = ((t : HeldTicket) → Contains v.holds.tickets t → t.shard < s) × (v.holds.votes ≡ [])
+
 -- A call of the coordinator, by what it may be handed. A write is decided only on its way, by its intent and its votes, and never one that is decided; it is
 -- aborted only on its way out.
 abbrev pub AsksCoordinator : WriteView → CoordinatorCall → WriteView → Type 0
@@ -67,14 +71,14 @@ AsksCoordinator v (calls.Inquire id) after = IsOnItsWayOut v × (v.holds.intent 
 AsksCoordinator v (calls.Raise place settled) after = ⊥
 AsksCoordinator v calls.Flush after = (IsOnItsWay v × Waits v v.holds waits.flush_to_decide after) ⊎ ((v.holds.way ≡ onward) × (v.holds.decided ≢ None) × Waits v v.holds waits.flush_to_outcome after)
 
--- A call of a shard, by what it may be handed: on its way one that takes part in the write, which prepares its part only where it is caught up; on its
--- way out one that gave a ticket or a vote.
+-- A call of a shard, by what it may be handed: on its way one that takes part in the write, which prepares its part only where it is caught up, and
+-- is asked for that once; on its way out one that gave a ticket or a vote.
 abbrev pub AsksShard : ℕ → WriteView → ℕ → ShardCall → WriteView → Type 0
 AsksShard shards v s shard_calls.Learned after = IsOnItsWay v × HasShard shards v s × Waits v v.holds (waits.catch_up learned) after
 AsksShard shards v s (shard_calls.Learn batch) after = IsOnItsWay v × HasShard shards v s × (v.holds.batch ≡ Some batch)
     × ((again : Bool) × Waits v (record v.holds { batch = None }) (waits.catch_up (learning again)) after)
 AsksShard shards v s (shard_calls.StagePrepare intent) after = IsOnItsWay v × (v.caught ≡ Some s) × (s < shards) × (v.holds.intent ≡ Some intent) × (v.holds.id ≡ Some intent.write.id)
-    × ((again : Bool) × (bits : ℕ) × ArePartsOf bits shards intent.write × Waits (record v { caught = None }) (record v.holds { intent = None }) (waits.prepare s again bits) after)
+    × GaveBelow v s × ((again : Bool) × (bits : ℕ) × ArePartsOf bits shards intent.write × Waits (record v { caught = None }) (record v.holds { intent = None }) (waits.prepare s again bits) after)
 AsksShard shards v s (shard_calls.Vote ticket) after = IsOnItsWay v × (v.holds.id ≡ Some ticket.id)
     × ((others : List HeldTicket) × (v.holds.tickets ≡ ticket_value (s, ticket) ∷ others) × Waits v (record v.holds { tickets = others }) (waits.vote s) after)
 AsksShard shards v s (shard_calls.DropWrite verdict None) after = ⊥

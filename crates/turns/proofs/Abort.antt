@@ -85,6 +85,7 @@ module _ (store shards : ℕ) (left : NodeName → List Record → Type 0) (now 
       decision = λ d is. decision_on v d (k.decision d is);
       verdict = λ i is. let right = k.verdict i is in (right.0, verdict_on i right.1);
       not_reopened = λ i is not_since. stays_without id now.nodes.open_writes v ne (k.not_reopened i is not_since);
+      gave = k.gave;
     }
 
     write_on : (changes : List Change) (conditions : List Condition) (h : WriteHolds) → h.id ≢ Some id → IsRightWrite shards left now r changes conditions h → IsRightWrite shards left next r changes conditions h
@@ -153,6 +154,7 @@ module _ (store shards : ℕ) (left : NodeName → List Record → Type 0) (now 
     decision = λ d is. decision_on store shards left now w.id (own_write i w.changes w.conditions) d (k.decision d is);
     verdict = λ x is. let here : w.id ≡ x = cc in (sym here ∙ same, subst (IsRightVerdict shards left (record now { nodes = with_closed now.nodes w.id })) here verdict);
     not_reopened = λ x none. absurd cc;
+    gave = k.gave;
   }
 
   later_right : IsRight shards left (record now { nodes = with_closed now.nodes w.id }) later later.asked later.holds

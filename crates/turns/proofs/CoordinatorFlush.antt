@@ -152,6 +152,7 @@ module _ (store shards : ℕ) (left after : NodeName → List Record → Type 0)
     };
     verdict = λ id is. ((k.verdict id is).0, verdict_kept id (k.verdict id is).1);
     not_reopened = λ i is not_since. subst (λ (l : List Entry). Contains l w) (sym flush.open_writes) (k.not_reopened i is not_since);
+    gave = λ way none t found p lt is has. k.gave way none t found p lt (shard_less t found is) has;
   }
 
   kept_write : (f : Running) (changes : List Change) (conditions : List Condition) (h : WriteHolds) → IsRightWrite shards left now f changes conditions h → IsRightWrite shards after later f changes conditions h

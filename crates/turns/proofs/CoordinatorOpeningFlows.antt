@@ -165,6 +165,7 @@ module _ (store shards : ℕ) (left after : NodeName → List Record → Type 0)
       decision = λ d is. kept_decision w d (k.decision d is);
       verdict = λ id is. ((k.verdict id is).0, verdict_kept id (k.verdict id is).1);
       not_reopened = λ i is not_since. absurd (not_marked not_since);
+      gave = λ way none t found p lt is has. k.gave way none t found p lt (shard_less t found is) has;
     }
 
     kept_write : (changes : List Change) (conditions : List Condition) (h : WriteHolds) → IsRightWrite shards left now f changes conditions h → IsRightWrite shards after later g changes conditions h

@@ -144,6 +144,7 @@ module _ (store shards : ℕ) (left : NodeName → List Record → Type 0) (now 
               decision = o.decision;
               verdict = if_some id (λ x. (x ≡ i) × IsRightVerdict shards left now x) (same_Some id i (sym is ∙ same), verdict);
               not_reopened = o.not_reopened;
+              gave = o.gave;
             };
         same_decision = w.same_decision;
         batch = w.batch;

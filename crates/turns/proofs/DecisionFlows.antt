@@ -93,6 +93,7 @@ module _ (store shards : ℕ) (left : NodeName → List Record → Type 0) (now 
     decision = λ d is. kept_decision v d (k.decision d is);
     verdict = λ id is. ((k.verdict id is).0, verdict_kept store shards left now next place w st id (k.verdict id is).1);
     not_reopened = λ i is not_since. subst (λ (l : List Entry). Contains l v) (sym st.step.open_writes) (stays_without w.id now.nodes.open_writes v ne (k.not_reopened i is not_since));
+    gave = λ way none t found p lt is has. k.gave way none t found p lt (shard_left store shards left now next place w st t found is) has;
   }
 
   kept_write : (f : Running) (changes : List Change) (conditions : List Condition) (h : WriteHolds) → h.id ≢ Some w.id → IsRightWrite shards left now f changes conditions h → IsRightWrite shards left (with_decision now next w) f changes conditions h
@@ -244,6 +245,7 @@ deciders_stand store shards left now next place w f h st k is_id way is_next = r
           decision = λ x here. let same_d : d ≡ x = cc in subst (λ (y : DecidedValue). IsRightDecision shards left (with_decision now next w) (own_write id w.changes w.conditions) y) same_d (decision (own_write id w.changes w.conditions) (ap (λ (i : WriteId). own_write i w.changes w.conditions) (sym same)));
           verdict = λ v here. ((old.verdict v here).0, verdict_kept store shards left now next place w st v (old.verdict v here).1);
           not_reopened = λ i none. absurd cc;
+          gave = λ onward none. absurd cc;
         }
 
 pub votes_prepare : (store shards : ℕ) (left : NodeName → List Record → Type 0) → VotesPrepare store shards left

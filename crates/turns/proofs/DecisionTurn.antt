@@ -73,7 +73,7 @@ module _ (store shards : ℕ) (left : NodeName → List Record → Type 0) (now 
       = subst (λ (p : ℕ). IsRightWrite shards left (with_decision now next w) (record r { decided = Some (record { place = p; epoch = w.id.epoch }) }) w.changes w.conditions (with_place store shards left h (record { place = p; epoch = w.id.epoch }))) next_place stood in
       subst (λ a. IsRight shards left (with_decision now next w) later a later.holds) (sym own.asked) (record {
         nothing = with_d.nothing;
-        own = λ id is. let o = with_d.own id is in record { undecided = o.undecided; intent = o.intent; tickets = o.tickets; votes = o.votes; decision = o.decision; verdict = o.verdict; not_reopened = o.not_reopened };
+        own = λ id is. let o = with_d.own id is in record { undecided = o.undecided; intent = o.intent; tickets = o.tickets; votes = o.votes; decision = o.decision; verdict = o.verdict; not_reopened = o.not_reopened; gave = o.gave };
         same_decision = with_d.same_decision;
         batch = with_d.batch;
         out = with_d.out;

@@ -55,6 +55,7 @@ module _ (shards : ℕ) (left : NodeName → List Record → Type 0) (now : Mome
       decision = λ d is. same_decision w d (k.decision d is);
       verdict = λ id is. let right = k.verdict id is in (right.0, same_verdict id right.1);
       not_reopened = k.not_reopened;
+      gave = k.gave;
     }
 
     same_write : (changes : List Change) (conditions : List Condition) (h : WriteHolds) → IsRightWrite shards left now r changes conditions h → IsRightWrite shards left next r changes conditions h

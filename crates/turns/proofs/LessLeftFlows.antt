@@ -113,6 +113,7 @@ module _ (store shards : ℕ) (left after : NodeName → List Record → Type 0)
     };
     verdict = λ id is. ((k.verdict id is).0, verdict_kept id (k.verdict id is).1);
     not_reopened = λ i is not_since. is_open w (k.not_reopened i is not_since);
+    gave = λ way none t found p lt is has. let old = on.in_doubt t found is in k.gave way none t old.0 p lt old.1 (ap (find_in_doubt w.id) old.2 ∙ has);
   }
 
   kept_write : (f : Running) (changes : List Change) (conditions : List Condition) (h : WriteHolds) → IsRightWrite shards left now f changes conditions h → IsRightWrite shards after (with_nodes now next) f changes conditions h

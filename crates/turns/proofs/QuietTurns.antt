@@ -10,15 +10,15 @@ use Rattle.refusal.specs.declared.refusal.Refusal.{Refusal}
 use Rattle.refusal.specs.declared.refusal.Refusal.TheVariants.{Down, Full, NoMemory, Unsure}
 use Rattle.records.specs.declared.record.Record.{Record}
 use Rattle.records.specs.declared.record.Record.TheVariants.{Epoch}
-use Rattle.laws.specs.Machines.{Machine}
-use Rattle.laws.specs.Nodes.{IsOfRefusedOpening, NodeName, NodeState, NodeTurns, Nodes, coordinator, refused, shard, up}
+use Rattle.laws.specs.Machines.{Machine, Move, Moves}
+use Rattle.laws.specs.Nodes.{IsOfRefusedOpening, NodeName, NodeState, NodeTurns, Nodes, SameBut, coordinator, refused, shard, up}
 use Rattle.turns.specs.Causes.{HasItsCause, IsCause}
-use Rattle.turns.specs.Flows.{Holds, WriteHolds, id_of, outward, to_write, writing}
-use Rattle.turns.specs.Held.{HoldsNothing, IsRight, IsRightOwn, IsRightTicket, IsRightVerdict, IsRightVote, IsRightWrite, own_write}
+use Rattle.turns.specs.Flows.{HeldTicket, HeldVote, Holds, WriteHolds, id_of, outward, to_write, writing}
+use Rattle.turns.specs.Held.{HoldsNothing, HoldsOf, IsRight, IsRightOwn, IsRightTicket, IsRightVerdict, IsRightVote, IsRightWrite, own_write}
 use Rattle.turns.specs.Moments.{Moment, Running, ended, replaced}
 use Rattle.turns.specs.QuietTurns.{HasMet, AwayNodesHaveCause, HoldsLess, IsQuietCall, IsQuietStep, QuietCallsAnswer, QuietCallsEnd, QuietCallsKeep, QuietCallsRefuse, QuietCallsTurn, RefusedFlowsEnd, RefusedWritesGoOut, WritesSpend, behind_call, ending, going_on, with_batch, with_call}
 use Rattle.turns.specs.Replies.{Agrees, Answer}
-use Rattle.turns.specs.Runs.{EndsAs, EndsQuietly, IsQuiet, IsTurned, MayRise, Told, Turns, answered, goes_on, refuses, told_by}
+use Rattle.turns.specs.Runs.{EndsAs, EndsQuietly, IsQuiet, IsTurned, KeepsOpen, MayRise, Told, Turns, answered, goes_on, refuses, told_by}
 use Rattle.turns.specs.SeamLaws.{told_unless}
 use Rattle.turns.specs.StagingLaws.{StagesAt, with_nodes}
 use Rattle.turns.specs.Stands.{IsHorizonIn, Stands}
@@ -80,6 +80,10 @@ own_less shards left now r holds met m w h k less old = record {
   decision = λ d is. old.decision d (sym less.decided ∙ is);
   verdict = λ id is. old.verdict id (less.verdict id is);
   not_reopened = λ i is. old.not_reopened i (less.intent i is);
+  gave = λ way none s found p lt is has.
+      let still = less.gave way in
+      subst (λ (votes : List HeldVote). HoldsOf (record k { votes = votes }) s) (sym still.2)
+      (subst (λ (tickets : List HeldTicket). HoldsOf (record k { tickets = tickets; votes = h.votes }) s) (sym still.1) (old.gave still.0 none s found p lt is has));
 }
 
 is_same_node : (n k : NodeName) → (n ≡ k) ⊎ (n ≢ k)
@@ -101,16 +105,19 @@ not_unsure e (inl is) same_as = let both : Down ≡ Unsure = sym is ∙ same_as 
 not_unsure e (inr (inl is)) same_as = let both : NoMemory ≡ Unsure = sym is ∙ same_as in cc
 not_unsure e (inr (inr is)) same_as = let both : Full ≡ Unsure = sym is ∙ same_as in cc
 
-module _ (store shards : ℕ) (left after : NodeName → List Record → Type 0) (now : Moment) (next : Nodes) (m : Machine) (call : IsQuietCall store shards left after now next m) where
+-- What a quiet call does to the nodes and the machine, whatever it leaves its flow with.
+record IsQuietChange (store shards : ℕ) (left : NodeName → List Record → Type 0) (now : Moment) (next : Nodes) (m : Machine) : Type 0 where
+  moves : List Move
+  machine : Moves now.machine moves m
+  quiet : All (IsQuiet (MayRise shards (IsHorizonIn store shards left now.nodes) now)) moves
+  node : NodeName
+  others : SameBut node now.nodes next
+  called : NodeTurns (now.nodes.at node) (next.at node)
+  open_writes : KeepsOpen now.nodes next
+
+module _ (store shards : ℕ) (left : NodeName → List Record → Type 0) (now : Moment) (next : Nodes) (m : Machine) (call : IsQuietChange store shards left now next m) where
   abbrev found_before : ℕ → Type 0
   found_before = IsHorizonIn store shards left now.nodes
-
-  -- each node turned as a call may turn it
-  turns_at : (n : NodeName) → NodeTurns (now.nodes.at n) (next.at n)
-  turns_at n = ⊎_elim
-      (λ same. subst (λ (k : NodeName). NodeTurns (now.nodes.at k) (next.at k)) (sym same) call.called)
-      (λ other. inl (call.others.others n other))
-      (is_same_node n call.node)
 
   module _ (r : Running) (running : Contains now.running r) where
     turned : (holds : Holds) (met : Option Refusal) (ran : Moment) → ran.machine ≡ m → id_of holds ≡ id_of r.holds → HasMet shards now ran r met
@@ -145,14 +152,10 @@ module _ (store shards : ℕ) (left after : NodeName → List Record → Type 0)
       tells = tells;
     }
 
-    pub go_on : (holds : Holds) (met : Option Refusal) → IsQuietStep store shards left after now next m r (with_call r holds met m) → HasMet shards now (going_on now next m (with_call r holds met m)) r met
-        → Stands store shards after (going_on now next m (with_call r holds met m)) × Turns shards found_before now r (told_unless r.is_cancelled) (going_on now next m (with_call r holds met m))
-    go_on holds met step has_met = (
-      flows_go_on store shards after (behind_call now next m) r (with_call r holds met m) call.stands running refl step.same_id
-          (sees_more m m m r (with_call r holds met m) refl (omega arith) (omega arith) (omega arith) (omega arith) (call.stands.flows.seen r running))
-          (λ no_write. call.stands.flows.quiet r running no_write) step.right,
-      turns_as holds met (told_unless r.is_cancelled) (replaced (with_call r holds met m) now.running) now.told step.same_id has_met tells,
-    )
+    -- the flow goes on
+    goes_on_as : (holds : Holds) (met : Option Refusal) → id_of holds ≡ id_of r.holds → HasMet shards now (going_on now next m (with_call r holds met m)) r met
+        → Turns shards found_before now r (told_unless r.is_cancelled) (going_on now next m (with_call r holds met m))
+    goes_on_as holds met same_id has_met = turns_as holds met (told_unless r.is_cancelled) (replaced (with_call r holds met m) now.running) now.told same_id has_met tells
       where
         tells : ((r.is_cancelled ≡ false) × ((t : Told) × (told_unless r.is_cancelled ≡ t ∷ []) × EndsAs shards found_before now (with_call r holds met m) (going_on now next m (with_call r holds met m)) t))
             ⊎ ((r.is_cancelled ≡ true) × (told_unless r.is_cancelled ≡ []) × EndsQuietly shards found_before now (with_call r holds met m) (going_on now next m (with_call r holds met m)))
@@ -160,6 +163,42 @@ module _ (store shards : ℕ) (left after : NodeName → List Record → Type 0)
             (λ yes. inr (yes, ap told_unless yes, (refl, inl refl)))
             (λ none. inl (none, (goes_on, ap told_unless none, (refl, refl))))
             (cases_Bool r.is_cancelled)
+
+-- A quiet call is such a change.
+change_of : (store shards : ℕ) (left after : NodeName → List Record → Type 0) (now : Moment) (next : Nodes) (m : Machine) → IsQuietCall store shards left after now next m → IsQuietChange store shards left now next m
+change_of store shards left after now next m call = record {
+  moves = call.moves;
+  machine = call.machine;
+  quiet = call.quiet;
+  node = call.node;
+  others = call.others;
+  called = call.called;
+  open_writes = call.open_writes;
+}
+
+module _ (store shards : ℕ) (left after : NodeName → List Record → Type 0) (now : Moment) (next : Nodes) (m : Machine) (call : IsQuietCall store shards left after now next m) where
+  abbrev known_before : ℕ → Type 0
+  known_before = IsHorizonIn store shards left now.nodes
+
+  abbrev change : IsQuietChange store shards left now next m
+  change = change_of store shards left after now next m call
+
+  -- each node turned as a call may turn it
+  turns_at : (n : NodeName) → NodeTurns (now.nodes.at n) (next.at n)
+  turns_at n = ⊎_elim
+      (λ same. subst (λ (k : NodeName). NodeTurns (now.nodes.at k) (next.at k)) (sym same) call.called)
+      (λ other. inl (call.others.others n other))
+      (is_same_node n call.node)
+
+  module _ (r : Running) (running : Contains now.running r) where
+    pub go_on : (holds : Holds) (met : Option Refusal) → IsQuietStep store shards left after now next m r (with_call r holds met m) → HasMet shards now (going_on now next m (with_call r holds met m)) r met
+        → Stands store shards after (going_on now next m (with_call r holds met m)) × Turns shards known_before now r (told_unless r.is_cancelled) (going_on now next m (with_call r holds met m))
+    go_on holds met step has_met = (
+      flows_go_on store shards after (behind_call now next m) r (with_call r holds met m) call.stands running refl step.same_id
+          (sees_more m m m r (with_call r holds met m) refl (omega arith) (omega arith) (omega arith) (omega arith) (call.stands.flows.seen r running))
+          (λ no_write. call.stands.flows.quiet r running no_write) step.right,
+      goes_on_as store shards left now next m change r running holds met step.same_id has_met,
+    )
 
     abbrev ended_moment : Moment
     ended_moment = record now { nodes = next; machine = m; running = ended r.slot now.running }
@@ -169,25 +208,25 @@ module _ (store shards : ℕ) (left after : NodeName → List Record → Type 0)
 
     pub answer : (holds : Holds) (a : Answer) → id_of holds ≡ id_of r.holds → r.is_cancelled ≡ false
         → Agrees (with_call r holds r.met m) (ending now next m r (told_by a)) r.asked a → All (IsRightVerdict shards after (behind_call now next m)) (told_by a)
-        → Stands store shards after (ending now next m r (told_by a)) × Turns shards found_before now r (answered a ∷ []) (ending now next m r (told_by a))
+        → Stands store shards after (ending now next m r (told_by a)) × Turns shards known_before now r (answered a ∷ []) (ending now next m r (told_by a))
     answer holds a same_id alive agrees right = (
       told_more store shards after ended_moment (told_by a) ended_stands
           (λ j d lt. same_verdict shards after (behind_call now next m) (ended r.slot now.running) now.told now.named (slice_index_or (told_by a) j d) (right j d lt)),
-      turns_as holds r.met (answered a ∷ []) (ended r.slot now.running) (told_by a ++ now.told) same_id (inl refl) (inl (alive, (answered a, refl, (agrees, refl, refl)))),
+      turns_as store shards left now next m change r running holds r.met (answered a ∷ []) (ended r.slot now.running) (told_by a ++ now.told) same_id (inl refl) (inl (alive, (answered a, refl, (agrees, refl, refl)))),
     )
 
     pub refuse : (e : Refusal) → r.is_cancelled ≡ false → (r.decided ≡ None → e ≢ Unsure) → (e ≢ Unsure → r.decided ≡ None) → HasMet shards now (ending now next m r []) r (Some e)
-        → Stands store shards after (ending now next m r []) × Turns shards found_before now r (refuses e ∷ []) (ending now next m r [])
+        → Stands store shards after (ending now next m r []) × Turns shards known_before now r (refuses e ∷ []) (ending now next m r [])
     refuse e alive not_unsure none has_met = (
       ended_stands,
-      turns_as r.holds (Some e) (refuses e ∷ []) (ended r.slot now.running) now.told refl has_met
+      turns_as store shards left now next m change r running r.holds (Some e) (refuses e ∷ []) (ended r.slot now.running) now.told refl has_met
           (inl (alive, (refuses e, refl, (record { met = refl; decided = not_unsure; undecided_write = none }, refl, refl)))),
     )
 
-    pub end_quietly : r.is_cancelled ≡ true → Stands store shards after (ending now next m r []) × Turns shards found_before now r [] (ending now next m r [])
+    pub end_quietly : r.is_cancelled ≡ true → Stands store shards after (ending now next m r []) × Turns shards known_before now r [] (ending now next m r [])
     end_quietly cancelled = (
       ended_stands,
-      turns_as r.holds r.met [] (ended r.slot now.running) now.told refl (inl refl) (inr (cancelled, refl, (refl, inr refl))),
+      turns_as store shards left now next m change r running r.holds r.met [] (ended r.slot now.running) now.told refl (inl refl) (inr (cancelled, refl, (refl, inr refl))),
     )
 
     was : (h : WriteHolds) (changes : List Change) (conditions : List Condition) → r.asked ≡ to_write changes conditions → r.holds ≡ writing h
@@ -195,7 +234,7 @@ module _ (store shards : ℕ) (left after : NodeName → List Record → Type 0)
     was h changes conditions asked holds = subst (λ a. IsRight shards after (behind_call now next m) r a (writing h)) asked (subst (λ x. IsRight shards after (behind_call now next m) r r.asked x) holds (call.stands.flows.held r running))
 
     pub spend : (h k : WriteHolds) (changes : List Change) (conditions : List Condition) → r.asked ≡ to_write changes conditions → r.holds ≡ writing h → HoldsLess h k → k.way ≡ h.way
-        → Stands store shards after (going_on now next m (with_call r (writing k) r.met m)) × Turns shards found_before now r (told_unless r.is_cancelled) (going_on now next m (with_call r (writing k) r.met m))
+        → Stands store shards after (going_on now next m (with_call r (writing k) r.met m)) × Turns shards known_before now r (told_unless r.is_cancelled) (going_on now next m (with_call r (writing k) r.met m))
     spend h k changes conditions asked holds less same_way = go_on (writing k) r.met
         (record { call = call; running = running; same_id = less.id ∙ sym (ap id_of holds); right = right })
         (inl refl)
@@ -223,7 +262,7 @@ module _ (store shards : ℕ) (left after : NodeName → List Record → Type 0)
 
     pub go_out : (h k : WriteHolds) (changes : List Change) (conditions : List Condition) (e : Refusal) → r.asked ≡ to_write changes conditions → r.holds ≡ writing h → HoldsLess h k → k.way ≡ outward (Some e)
         → r.decided ≡ None → HasItsCause shards now (going_on now next m (with_call r (writing k) (Some e) m)) r e
-        → Stands store shards after (going_on now next m (with_call r (writing k) (Some e) m)) × Turns shards found_before now r (told_unless r.is_cancelled) (going_on now next m (with_call r (writing k) (Some e) m))
+        → Stands store shards after (going_on now next m (with_call r (writing k) (Some e) m)) × Turns shards known_before now r (told_unless r.is_cancelled) (going_on now next m (with_call r (writing k) (Some e) m))
     go_out h k changes conditions e asked holds less goes_out none cause = go_on (writing k) (Some e)
         (record { call = call; running = running; same_id = less.id ∙ sym (ap id_of holds); right = right })
         (inr (e, refl, cause))
@@ -321,3 +360,20 @@ one_more_staged store shards left now next n r step no_opening open_writes given
   called = inr (inl (record { durable = step.durable; staged = step.staged; next = r; was = step.was; now = step.now; no_opening = no_opening }));
   open_writes = record { open_writes = open_writes; given = given };
 }
+
+-- Where a node stages a record, which is no opening, its flow's turn is one of a run, whatever it then holds under its id.
+pub staged_and_goes_on : (store shards : ℕ) (left : NodeName → List Record → Type 0) (now : Moment) (next : Nodes) (n : NodeName) (record_staged : Record) → StagesAt n record_staged now.nodes next
+    → ((epoch store' shards' node : ℕ) → record_staged ≡ Epoch epoch store' shards' node → ⊥) → next.open_writes ≡ now.nodes.open_writes → next.given ≡ now.nodes.given
+    → (r : Running) → Contains now.running r → (holds : Holds) → id_of holds ≡ id_of r.holds
+    → Turns shards (IsHorizonIn store shards left now.nodes) now r (told_unless r.is_cancelled) (going_on now next now.machine (with_call r holds r.met now.machine))
+staged_and_goes_on store shards left now next n record_staged step no_opening open_writes given r running holds same_id = goes_on_as store shards left now next now.machine
+    (record {
+      moves = [];
+      machine = refl;
+      quiet = All-nil (IsQuiet (MayRise shards (IsHorizonIn store shards left now.nodes) now));
+      node = n;
+      others = step.others;
+      called = inr (inl (record { durable = step.durable; staged = step.staged; next = record_staged; was = step.was; now = step.now; no_opening = no_opening }));
+      open_writes = record { open_writes = open_writes; given = given };
+    })
+    r running holds r.met same_id (inl refl)

@@ -131,6 +131,7 @@ module _ (store shards : ℕ) (left : NodeName → List Record → Type 0) (now 
     decision = λ d is. let old = k.decision d is in record { counted = old.counted; epoch = old.epoch; given = given_kept w.id old.given; there = λ kept m known same. old.there _ _ knew (sym (same_epoch kept m known) ∙ same) };
     verdict = λ id is. ((k.verdict id is).0, verdict_kept id (k.verdict id is).1);
     not_reopened = λ i is not_since. subst (λ (l : List Entry). Contains l w) (sym step.open_writes) (k.not_reopened i is not_since);
+    gave = λ way none t found p lt is has. k.gave way none t found p lt (shard_less t found is) has;
   }
 
   kept_write : (f : Running) (changes : List Change) (conditions : List Condition) (h : WriteHolds) → IsRightWrite shards left now f changes conditions h → IsRightWrite shards left (with_nodes now next) f changes conditions h

@@ -83,6 +83,7 @@ module _ (r : Running) (holds : Holds) (m : Machine) where
         decision = old.decision;
         verdict = old.verdict;
         not_reopened = old.not_reopened;
+        gave = old.gave;
       };
       same_decision = k.same_decision;
       batch = right;

@@ -1,7 +1,7 @@
 -- What a shard's own contracts of a prepare and of a vote say makes turns of a run.
-use Rattle.std.proofs.Common.{◌≡◌, inl, ⊎_elim, ℕ, ◌≤◌, ◌<◌, true, List, [], ◌∷◌, ◌++◌, length, Option, Some, None, Contains, All, refl, sym, ◌∙◌, ap, subst, arith}
+use Rattle.std.proofs.Common.{◌≡◌, ◌⊎◌, inl, inr, ⊎_elim, ℕ, ◌≤◌, ◌<◌, true, List, [], ◌∷◌, ◌++◌, length, Option, Some, None, Contains, All, refl, sym, ◌∙◌, ap, subst, arith}
 use Rattle.std.specs.Option.{is_some}
-use Rattle.std.proofs.lemmas.List.Elements.{All-append, All-cons, All-contains, All-nil}
+use Rattle.std.proofs.lemmas.List.Elements.{All-append, All-cons, All-contains, All-nil, Contains-append_left, Contains-append_right}
 use Rattle.tuples.specs.declared.entry.Entry.{Entry}
 use Rattle.tuples.specs.declared.entry.WriteId.{WriteId}
 use Rattle.refusal.specs.declared.refusal.Refusal.{Refusal}
@@ -19,18 +19,19 @@ use Rattle.shard.specs.Shards.{AskBelow, IsBroken, IsBusy, IsPreparable, IsUp, S
 use Rattle.shard.proofs.Tested.{part_prepared, same_part_id}
 use Rattle.laws.specs.Nodes.{NodeName, Nodes, ShardKnows, leaves, shard}
 use Rattle.turns.specs.Causes.{HasItsCause, IsCause, IsCutOff}
-use Rattle.turns.specs.Flows.{Asked, HeldTicket, HeldVote, Holds, WriteHolds, id_of, outward, writing}
-use Rattle.turns.specs.Held.{IsRight, IsRightTicket, IsRightVote, IsRightWrite, own_write}
+use Rattle.turns.specs.Flows.{Asked, HeldTicket, HeldVote, Holds, WriteHolds, id_of, onward, outward, writing}
+use Rattle.turns.specs.Held.{HoldsOf, IsRight, IsRightTicket, IsRightVote, IsRightWrite, own_write}
 use Rattle.turns.specs.Moments.{Moment, Running}
 use Rattle.turns.specs.PrepareLaws.{IsPreparing}
-use Rattle.turns.specs.QuietTurns.{HoldsLess, IsQuietCall, going_on, with_call}
+use Rattle.turns.specs.QuietTurns.{HoldsLess, going_on, with_call}
 use Rattle.turns.specs.ShardSeamLaws.{IsHolder, IsOfPrepare, PrepareTurns, RefusedPrepareTurns, RefusedVoteTurns, ShardIsSeen, StandsAndTurns, VoteTurns, behind_shard, held_ticket}
 use Rattle.turns.specs.StagingLaws.{with_nodes}
 use Rattle.turns.specs.Stands.{Stands}
 use Rattle.turns.proofs.AbortCauses.{refused_tickets}
 use Rattle.turns.proofs.PrepareTurn.{broken_shards_have_cause, busy_shards_have_cause, collected_shards_have_cause, full_shards_have_cause, prepared_conditions_are_met}
-use Rattle.turns.proofs.QuietTurns.{all_of, nothing_changes, quiet_calls_turn, refused_writes_go_out}
-use Rattle.turns.proofs.ShardSeam.{known_left, knows, left_or_known, memory_after, own_is, same_epoch, seen_after, staged_quietly, staging}
+use Rattle.turns.proofs.FlowBegins.{alone}
+use Rattle.turns.proofs.QuietTurns.{all_of, nothing_changes, quiet_calls_turn, refused_writes_go_out, staged_and_goes_on}
+use Rattle.turns.proofs.ShardSeam.{known_left, knows, left_or_known, memory_after, own_is, same_epoch, seen_after, staging, step}
 use Rattle.turns.proofs.ShardStagesSteps.{prepares_stand}
 
 -- the last sync is among what a stop may leave
@@ -45,11 +46,11 @@ some_value : {X : Type 0} (o : Option X) → is_some o ≡ true → (x : X) × (
 some_value None is = absurd cc
 some_value (Some x) is = (x, refl)
 
--- a write flow with other tickets and votes of its write, all of them right
+-- a write flow with other tickets and votes of its write, all of them right, and of each shard of which it held some
 holder_right : (shards : ℕ) (left : NodeName → List Record → Type 0) (at : Moment) (r : Running) (h : WriteHolds) (w : Entry) (holds : Holds) (m : Moment) (tickets : List HeldTicket) (votes : List HeldVote)
-    → h.id ≡ Some w.id → IsRightWrite shards left at r w.changes w.conditions h → All (IsRightTicket shards left at w) tickets → All (IsRightVote shards left at w) votes
+    → ((s : ℕ) → HoldsOf h s → HoldsOf (record h { tickets = tickets; votes = votes }) s) → h.id ≡ Some w.id → IsRightWrite shards left at r w.changes w.conditions h → All (IsRightTicket shards left at w) tickets → All (IsRightVote shards left at w) votes
     → IsRightWrite shards left at (with_call r holds r.met m.machine) w.changes w.conditions (record h { tickets = tickets; votes = votes })
-holder_right shards left at r h w holds m tickets votes has_id k right_tickets right_votes = record {
+holder_right shards left at r h w holds m tickets votes still has_id k right_tickets right_votes = record {
   nothing = λ none. let both : Some w.id ≡ None = sym has_id ∙ none in absurd cc;
   own = λ id is.
       let old = k.own id is in
@@ -63,6 +64,7 @@ holder_right shards left at r h w holds m tickets votes has_id k right_tickets r
         decision = old.decision;
         verdict = old.verdict;
         not_reopened = old.not_reopened;
+        gave = λ way none s found p lt here has. still s (old.gave way none s found p lt here has);
       };
   same_decision = k.same_decision;
   batch = k.batch;
@@ -76,24 +78,29 @@ module _ (store shards : ℕ) (left : NodeName → List Record → Type 0) {D : 
   has_id : h.id ≡ Some w.id
   has_id = sym (ap id_of own.holds) ∙ own.flow.id
 
-  -- what it holds is right at a moment for which the store stands
-  held_at : (next : Nodes) → Stands store shards left (with_nodes now next) → IsRightWrite shards left (with_nodes now next) r w.changes w.conditions h
-  held_at next stands = subst (λ (a : Asked). IsRight shards left (with_nodes now next) r a (writing h)) own.flow.asked
-      (subst (λ (x : Holds). IsRight shards left (with_nodes now next) r r.asked x) own.holds (stands.flows.held r own.flow.there))
+  held_now : IsRightWrite shards left now r w.changes w.conditions h
+  held_now = subst (λ (a : Asked). IsRight shards left now r a (writing h)) own.flow.asked
+      (subst (λ (x : Holds). IsRight shards left now r r.asked x) own.holds (st.flows.held r own.flow.there))
 
-  goes_on_with : (next : Nodes) (tickets : List HeldTicket) (votes : List HeldVote) → IsQuietCall store shards left left now next now.machine
-      → All (IsRightTicket shards left (with_nodes now next) w) tickets → All (IsRightVote shards left (with_nodes now next) w) votes
-      → StandsAndTurns store shards left now next r (with_call r (writing (record h { tickets = tickets; votes = votes })) r.met now.machine)
-  goes_on_with next tickets votes call right_tickets right_votes = quiet_calls_turn store shards left left now next now.machine r (writing (record h { tickets = tickets; votes = votes })) r.met
-      (record { call = call; running = own.flow.there; same_id = sym (ap id_of own.holds); right = right })
+  -- where the shard changed nothing
+  goes_on_with : (tickets : List HeldTicket) (votes : List HeldVote) → ((t : ℕ) → HoldsOf h t → HoldsOf (record h { tickets = tickets; votes = votes }) t)
+      → All (IsRightTicket shards left now w) tickets → All (IsRightVote shards left now w) votes
+      → StandsAndTurns store shards left now now.nodes r (with_call r (writing (record h { tickets = tickets; votes = votes })) r.met now.machine)
+  goes_on_with tickets votes still right_tickets right_votes = quiet_calls_turn store shards left left now now.nodes now.machine r (writing (record h { tickets = tickets; votes = votes })) r.met
+      (record { call = nothing_changes store shards left now st; running = own.flow.there; same_id = sym (ap id_of own.holds); right = right })
       (inl refl)
     where
-      right : IsRight shards left (with_nodes now next) (with_call r (writing (record h { tickets = tickets; votes = votes })) r.met now.machine) r.asked (writing (record h { tickets = tickets; votes = votes }))
-      right = subst (λ (a : Asked). IsRight shards left (with_nodes now next) (with_call r (writing (record h { tickets = tickets; votes = votes })) r.met now.machine) a (writing (record h { tickets = tickets; votes = votes }))) (sym own.flow.asked)
-          (holder_right shards left (with_nodes now next) r h w (writing (record h { tickets = tickets; votes = votes })) now tickets votes has_id (held_at next call.stands) right_tickets right_votes)
+      right : IsRight shards left now (with_call r (writing (record h { tickets = tickets; votes = votes })) r.met now.machine) r.asked (writing (record h { tickets = tickets; votes = votes }))
+      right = subst (λ (a : Asked). IsRight shards left now (with_call r (writing (record h { tickets = tickets; votes = votes })) r.met now.machine) a (writing (record h { tickets = tickets; votes = votes }))) (sym own.flow.asked)
+          (holder_right shards left now r h w (writing (record h { tickets = tickets; votes = votes })) now tickets votes still has_id held_now right_tickets right_votes)
 
-  held_now : IsRightWrite shards left now r w.changes w.conditions h
-  held_now = held_at now.nodes st
+  -- of a shard of which it holds nothing, on its way to the decision, no prepare of its write is in doubt
+  pub not_prepared : h.way ≡ onward → (HoldsOf h s → ⊥) → find_in_doubt w.id (memory old).in_doubt ≡ None
+  not_prepared way nothing = by_found (find_in_doubt w.id (memory old).in_doubt) refl
+    where
+      by_found : (o : Option Entry) → find_in_doubt w.id (memory old).in_doubt ≡ o → o ≡ None
+      by_found None is = refl
+      by_found (Some p) is = absurd (nothing ((held_now.own w.id has_id).gave way own.flow.undecided s (old.durable ++ old.staged) p seen.there (known_left store shards left now old s seen st) is))
 
   module _ (takes : takes_part shards s w ≡ true) where
     abbrev asks : (fresh : find_in_doubt w.id (memory old).in_doubt ≡ None) → IsPreparing store shards left now r w s
@@ -111,11 +118,6 @@ module _ (store shards : ℕ) (left : NodeName → List Record → Type 0) {D : 
 
       abbrev next : Nodes
       next = behind_shard s now.nodes new
-
-      quiet : IsQuietCall store shards left left now next now.machine
-      quiet = staged_quietly store shards left now old s seen new (Prepare (part shards s w)) stages (λ a b c d is. absurd cc)
-          (prepares_stand store shards left now next s w r (staging store shards left now old s seen new (Prepare (part shards s w)) stages st call.up.image) own.flow takes
-          (λ is_open. prepared_conditions_are_met store shards left now r w s (asks not_here) may))
 
       in_doubt_now : (m : ShardState) → ShardKnows next s m → find_in_doubt (part shards s w).id m.in_doubt ≡ Some (part shards s w)
       unfolding shard_step
@@ -138,13 +140,15 @@ module _ (store shards : ℕ) (left : NodeName → List Record → Type 0) {D : 
 
       prepare_turns : ShardIsSeen store shards s next new
           × StandsAndTurns store shards left now next r (with_call r (writing (record h { tickets = h.tickets ++ held_ticket s t ∷ [] })) r.met now.machine)
-      prepare_turns = (
-        seen_after store shards left now old s seen new (Prepare (part shards s w)) stages,
-        goes_on_with next (h.tickets ++ held_ticket s t ∷ []) h.votes quiet
-            (All-append (IsRightTicket shards left (with_nodes now next) w) h.tickets (held_ticket s t ∷ []) ((held_at next quiet.stands).own w.id has_id).tickets
-            (All-cons (IsRightTicket shards left (with_nodes now next) w) (held_ticket s t) [] ticket (All-nil (IsRightTicket shards left (with_nodes now next) w))))
-            ((held_at next quiet.stands).own w.id has_id).votes,
-      )
+      prepare_turns = (seen_after store shards left now old s seen new (Prepare (part shards s w)) stages, goes_on_with_ticket)
+        where
+          goes_on_with_ticket : StandsAndTurns store shards left now next r (with_call r (writing (record h { tickets = h.tickets ++ held_ticket s t ∷ [] })) r.met now.machine)
+          goes_on_with_ticket = (
+            prepares_stand store shards left now next s w r h (held_ticket s t) (staging store shards left now old s seen new (Prepare (part shards s w)) stages st call.up.image) own.flow own.holds takes
+                (λ is_open. prepared_conditions_are_met store shards left now r w s (asks not_here) may) refl ticket,
+            staged_and_goes_on store shards left now next (shard s) (Prepare (part shards s w)) (step store shards left now old s seen new (Prepare (part shards s w)) stages) (λ a b c d is. absurd cc) refl refl r
+                own.flow.there (writing (record h { tickets = h.tickets ++ held_ticket s t ∷ [] })) (sym (ap id_of own.holds)),
+          )
 
     -- what it refuses has its cause
     refused_cause : (behind : Moment) (e : Refusal) → IsIntent w → find_in_doubt w.id (memory old).in_doubt ≡ None → PrepareRefused old w e → IsOfPrepare e → HasItsCause shards now behind r e
@@ -174,7 +178,7 @@ module _ (store shards : ℕ) (left : NodeName → List Record → Type 0) {D : 
     same_id : t.id ≡ w.id
     same_id = (ticket_of t has).own
 
-    module _ (state : D → State) (honest : D → Type 0) (v : VoteValue) (is_up : IsUp state honest old) (votes : VotesAt state old t v) where
+    module _ (state : D → State) (honest : D → Type 0) (v : VoteValue) (all : (x : HeldTicket) → Contains h.tickets x → (x ≡ held_ticket s t) ⊎ Contains rest x) (is_up : IsUp state honest old) (votes : VotesAt state old t v) where
       here : (p : Entry) × (find_in_doubt t.id (memory old).in_doubt ≡ Some p)
       here = some_value (find_in_doubt t.id (memory old).in_doubt) votes.here
 
@@ -209,8 +213,16 @@ module _ (store shards : ℕ) (left : NodeName → List Record → Type 0) {D : 
             ∙ ap (λ (n : ℕ). Some (part shards n w)) (sym of_shard);
       }
 
+      -- in place of the ticket there is the vote
+      still : (k : ℕ) → HoldsOf h k → HoldsOf (record h { tickets = rest; votes = h.votes ++ v ∷ [] }) k
+      still k (inl held) = ⊎_elim
+          (λ (same : held.0 ≡ held_ticket s t). inr (v, Contains-append_right h.votes (v ∷ []) v (alone v []), of_shard ∙ ap (λ (x : HeldTicket). x.shard) (sym same) ∙ held.2))
+          (λ other. inl (held.0, other, held.2))
+          (all held.0 held.1)
+      still k (inr held) = inr (held.0, Contains-append_left h.votes (v ∷ []) held.0 held.1, held.2)
+
       vote_turns : StandsAndTurns store shards left now now.nodes r (with_call r (writing (record h { tickets = rest; votes = h.votes ++ v ∷ [] })) r.met now.machine)
-      vote_turns = goes_on_with now.nodes rest (h.votes ++ v ∷ []) (nothing_changes store shards left now st)
+      vote_turns = goes_on_with rest (h.votes ++ v ∷ []) still
           (all_of (IsRightTicket shards left now w) h.tickets rest sub (held_now.own w.id has_id).tickets)
           (All-append (IsRightVote shards left now w) h.votes (v ∷ []) (held_now.own w.id has_id).votes (All-cons (IsRightVote shards left now w) v [] vote (All-nil (IsRightVote shards left now w))))
 
@@ -221,24 +233,43 @@ module _ (store shards : ℕ) (left : NodeName → List Record → Type 0) {D : 
         (λ is. let both : None ≡ Some (part shards s w) = sym none ∙ is in absurd cc)
 
 less_way : (h : WriteHolds) (e : Refusal) → HoldsLess h (record h { way = outward (Some e) })
-less_way h e = record { id = refl; intent = λ i is. is; tickets = λ t has. has; votes = λ v has. has; decided = refl; batch = λ b is. is; verdict = λ id is. is }
+less_way h e = record {
+  id = refl;
+  intent = λ i is. is;
+  tickets = λ t has. has;
+  votes = λ v has. has;
+  decided = refl;
+  batch = λ b is. is;
+  verdict = λ id is. is;
+  gave = λ is. let both : outward (Some e) ≡ onward = is in absurd cc;
+}
 
 pub prepare_turns_of : (store shards : ℕ) (left : NodeName → List Record → Type 0) {D : Type 0} (state : D → State) (honest : D → Type 0) → PrepareTurns store shards left state honest
 prepare_turns_of store shards left state honest now old new s w t r h st seen own takes call = prepare_turns store shards left now old s w r h st seen own takes state honest new t call
 
 pub refused_prepare_turns : (store shards : ℕ) (left : NodeName → List Record → Type 0) {D : Type 0} (state : D → State) (honest : D → Type 0) → RefusedPrepareTurns store shards left state honest
-refused_prepare_turns store shards left state honest now old s w e r h st seen own takes intent fresh given_up is_of =
+refused_prepare_turns store shards left state honest now old s w e r h st seen own takes intent way nothing given_up is_of =
     refused_writes_go_out store shards left left now now.nodes now.machine r h (record h { way = outward (Some e) }) w.changes w.conditions e (nothing_changes store shards left now st)
     own.flow.there own.flow.asked own.holds (less_way h e) refl own.flow.undecided
-    (refused_cause store shards left now old s w r h st seen own takes (going_on now now.nodes now.machine (with_call r (writing (record h { way = outward (Some e) })) (Some e) now.machine)) e intent fresh given_up is_of)
+    (refused_cause store shards left now old s w r h st seen own takes (going_on now now.nodes now.machine (with_call r (writing (record h { way = outward (Some e) })) (Some e) now.machine)) e intent
+    (not_prepared store shards left now old s w r h st seen own way nothing) given_up is_of)
 
 pub vote_turns_of : (store shards : ℕ) (left : NodeName → List Record → Type 0) {D : Type 0} (state : D → State) (honest : D → Type 0) → VoteTurns store shards left state honest
-vote_turns_of store shards left state honest now old s w t v r h rest st seen own has sub is_up votes = vote_turns store shards left now old s w r h st seen own t has rest sub state honest v is_up votes
+vote_turns_of store shards left state honest now old s w t v r h rest st seen own has sub all is_up votes = vote_turns store shards left now old s w r h st seen own t has rest sub state honest v all is_up votes
 
 pub refused_vote_turns : (store shards : ℕ) (left : NodeName → List Record → Type 0) {D : Type 0} (state : D → State) (honest : D → Type 0) → RefusedVoteTurns store shards left state honest
 refused_vote_turns store shards left state honest now old s w t intent r h rest st seen own has_it has sub none =
     refused_writes_go_out store shards left left now now.nodes now.machine r h (record h { way = outward (Some Aborted); tickets = rest }) w.changes w.conditions Aborted (nothing_changes store shards left now st)
     own.flow.there own.flow.asked own.holds
-    (record { id = refl; intent = λ i is. is; tickets = sub; votes = λ x has. has; decided = refl; batch = λ b is. is; verdict = λ id is. is })
+    (record {
+      id = refl;
+      intent = λ i is. is;
+      tickets = sub;
+      votes = λ x has. has;
+      decided = refl;
+      batch = λ b is. is;
+      verdict = λ id is. is;
+      gave = λ is. let both : outward (Some Aborted) ≡ onward = is in absurd cc;
+    })
     refl own.flow.undecided
     (inl (subst (λ (x : Holds). IsCutOff now.nodes r x) (sym own.holds) (cut_off store shards left now old s w r h st seen own t has rest sub intent has_it none)))

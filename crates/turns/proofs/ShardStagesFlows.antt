@@ -1,5 +1,6 @@
 -- A shard of a store that stands stages one record more: what flows hold stays right.
-use Rattle.std.proofs.Common.{◌≡◌, ◌⊎◌, inl, inr, ⊎_elim, ℕ, true, List, Some, None, refl, sym, ◌∙◌, ap, subst}
+use Rattle.std.proofs.Common.{◌≡◌, ◌⊎◌, inl, inr, ⊎_elim, ℕ, true, List, [], ◌∷◌, ◌++◌, Some, None, refl, sym, ◌∙◌, ap, subst}
+use Rattle.std.proofs.lemmas.List.Elements.{All-append, All-cons, All-nil, Contains-append_left, Contains-append_right}
 use Rattle.tuples.specs.declared.change.Change.{Change}
 use Rattle.tuples.specs.declared.change.Condition.{Condition}
 use Rattle.tuples.specs.declared.entry.Entry.{Entry}
@@ -12,9 +13,10 @@ use Rattle.decisions.specs.Values.{IntentValue}
 use Rattle.decisions.specs.Standing.{DecidedValue}
 use Rattle.laws.specs.Nodes.{NodeName, Nodes, ShardKnows, leaves, shard}
 use Rattle.turns.specs.Flows.{Asked, HeldTicket, HeldVote, Holds, RaiseHolds, Resolved, ResolveHolds, WriteHolds, aborted, checking, collecting, committed, flushing, id_of, learning, raising, reading, resolving, to_check, to_collect, to_flush, to_learn, to_raise, to_read, to_resolve, to_watch, to_write, undecided, watching, writing}
-use Rattle.turns.specs.Held.{IsOpen, IsRight, IsRightDecision, IsRightIntent, IsRightOwn, IsRightRaise, IsRightResolve, IsRightResolved, IsRightTicket, IsRightVote, IsRightWrite, IsUndecided, own_write}
+use Rattle.turns.specs.Held.{HoldsOf, HoldsOfEach, IsOpen, IsRight, IsRightDecision, IsRightIntent, IsRightOwn, IsRightRaise, IsRightResolve, IsRightResolved, IsRightTicket, IsRightVote, IsRightWrite, IsUndecided, own_write}
 use Rattle.turns.specs.Moments.{Moment, Running}
 use Rattle.turns.specs.StagingLaws.{IsStaging, with_nodes}
+use Rattle.turns.proofs.FlowBegins.{alone}
 use Rattle.turns.proofs.ShardStages.{coordinator_knew, given_kept, is_open, left_now, longer, memory, memory_left, same_coordinator, shard_knew, shard_knows, verdict_kept, was_open}
 
 module _ (store shards : ℕ) (left : NodeName → List Record → Type 0) (now : Moment) (next : Nodes) (s : ℕ) (r : Record) (st : IsStaging store shards left now next s r) where
@@ -26,6 +28,26 @@ module _ (store shards : ℕ) (left : NodeName → List Record → Type 0) (now 
     pub promised : IsOpen now.nodes w → find_in_doubt w.id (shard_state (memory store shards left now next s r st)).in_doubt ≡ Some (part shards s w)
         → find_in_doubt w.id (shard_state (longer store shards left now next s r st)).in_doubt ≡ Some (part shards s w)
     pub epoch : (shard_state (longer store shards left now next s r st)).epoch ≡ (shard_state (memory store shards left now next s r st)).epoch
+
+  -- The same where the record prepares no part of it: the shard has no more of it in doubt than before.
+  pub record AddsNoDoubt (f : Running) (w : Entry) : Type 0 where
+    pub found : f.decided ≡ None → (p : Entry) → find_in_doubt w.id (shard_state (longer store shards left now next s r st)).in_doubt ≡ Some p
+        → find_in_doubt w.id (shard_state (memory store shards left now next s r st)).in_doubt ≡ Some p
+    pub promised : IsOpen now.nodes w → find_in_doubt w.id (shard_state (memory store shards left now next s r st)).in_doubt ≡ Some (part shards s w)
+        → find_in_doubt w.id (shard_state (longer store shards left now next s r st)).in_doubt ≡ Some (part shards s w)
+    pub epoch : (shard_state (longer store shards left now next s r st)).epoch ≡ (shard_state (memory store shards left now next s r st)).epoch
+
+  doubts_of : (f : Running) (w : Entry) → AddsNoDoubt f w → KeepsDoubts f w
+  doubts_of f w k = record { found = λ none p has. inl (k.found none p has); promised = k.promised; epoch = k.epoch }
+
+  -- so the flow goes on to hold something of each shard that has it in doubt
+  kept_gave : (f : Running) (w : Entry) (h : WriteHolds) → AddsNoDoubt f w → HoldsOfEach shards left now f w h → HoldsOfEach shards left (with_nodes now next) f w h
+  kept_gave f w h adds old way none t found p lt is has = ⊎_elim
+      (λ before. old way none t found p lt before has)
+      (λ after.
+      let has_now = ap (λ (l : List Record). find_in_doubt w.id (shard_state l).in_doubt) (sym after.1) ∙ has in
+      subst (HoldsOf h) (sym after.0) (old way none s (memory store shards left now next s r st) p st.there (memory_left store shards left now next s r st) (adds.found none p has_now)))
+      (left_now store shards left now next s r st t found is)
 
   module _ (f : Running) (w : Entry) (keeps : KeepsDoubts f w) where
     kept_undecided : f.decided ≡ None → IsUndecided shards left now w → IsUndecided shards left (with_nodes now next) w
@@ -103,8 +125,8 @@ module _ (store shards : ℕ) (left : NodeName → List Record → Type 0) (now 
       there = λ kept m knows. k.there kept m (coordinator_knew store shards left now next s r st kept m knows);
     }
 
-    kept_own : (h : WriteHolds) → IsRightOwn shards left now f w h → IsRightOwn shards left (with_nodes now next) f w h
-    kept_own h k = record {
+    kept_own : (h : WriteHolds) → IsRightOwn shards left now f w h → HoldsOfEach shards left (with_nodes now next) f w h → IsRightOwn shards left (with_nodes now next) f w h
+    kept_own h k gave = record {
       undecided = λ none. kept_undecided none (k.undecided none);
       intent = λ i is. ((k.intent i is).0, kept_intent (k.intent i is).0 i (k.intent i is).1);
       tickets = λ j d lt. kept_ticket _ (k.tickets j d lt);
@@ -112,6 +134,28 @@ module _ (store shards : ℕ) (left : NodeName → List Record → Type 0) (now 
       decision = λ d is. kept_decision d (k.decision d is);
       verdict = λ id is. ((k.verdict id is).0, verdict_kept store shards left now next s r st id (k.verdict id is).1);
       not_reopened = λ i is not_since. is_open store shards left now next s r st w (k.not_reopened i is not_since);
+      gave = gave;
+    }
+
+    -- with a ticket of this shard more, what the flow holds is right though the record is a prepare of its write
+    pub kept_with_ticket : (h : WriteHolds) (t : HeldTicket) → t.shard ≡ s → IsRightTicket shards left (with_nodes now next) w t → IsRightOwn shards left now f w h
+        → IsRightOwn shards left (with_nodes now next) f w (record h { tickets = h.tickets ++ t ∷ [] })
+    kept_with_ticket h t of_shard ticket k = record {
+      undecided = λ none. kept_undecided none (k.undecided none);
+      intent = λ i is. ((k.intent i is).0, kept_intent (k.intent i is).0 i (k.intent i is).1);
+      tickets = All-append (IsRightTicket shards left (with_nodes now next) w) h.tickets (t ∷ []) (λ j d lt. kept_ticket _ (k.tickets j d lt))
+          (All-cons (IsRightTicket shards left (with_nodes now next) w) t [] ticket (All-nil (IsRightTicket shards left (with_nodes now next) w)));
+      votes = λ j d lt. kept_vote _ (k.votes j d lt);
+      decision = λ d is. kept_decision d (k.decision d is);
+      verdict = λ id is. ((k.verdict id is).0, verdict_kept store shards left now next s r st id (k.verdict id is).1);
+      not_reopened = λ i is not_since. is_open store shards left now next s r st w (k.not_reopened i is not_since);
+      gave = λ way none u found p lt is has. ⊎_elim
+          (λ before. ⊎_elim
+          (λ held. inl (held.0, Contains-append_left h.tickets (t ∷ []) held.0 held.1, held.2))
+          (λ held. inr held)
+          (k.gave way none u found p lt before has))
+          (λ after. inl (t, Contains-append_right h.tickets (t ∷ []) t (alone t []), of_shard ∙ sym after.0))
+          (left_now store shards left now next s r st u found is);
     }
 
   kept_resolved : (x : Resolved) → IsRightResolved shards left now x → IsRightResolved shards left (with_nodes now next) x
@@ -141,11 +185,13 @@ module _ (store shards : ℕ) (left : NodeName → List Record → Type 0) (now 
         (k.raised is not_since);
   }
 
-  kept_write : (f : Running) (changes : List Change) (conditions : List Condition) (h : WriteHolds) → ((id : WriteId) → h.id ≡ Some id → KeepsDoubts f (own_write id changes conditions))
+  kept_write : (f : Running) (changes : List Change) (conditions : List Condition) (h : WriteHolds) → ((id : WriteId) → h.id ≡ Some id → AddsNoDoubt f (own_write id changes conditions))
       → IsRightWrite shards left now f changes conditions h → IsRightWrite shards left (with_nodes now next) f changes conditions h
   kept_write f changes conditions h keeps k = record {
     nothing = k.nothing;
-    own = λ id is. kept_own f (own_write id changes conditions) (keeps id is) h (k.own id is);
+    own = λ id is.
+        let w = own_write id changes conditions in
+        kept_own f w (doubts_of f w (keeps id is)) h (k.own id is) (kept_gave f w h (keeps id is) (k.own id is).gave);
     same_decision = k.same_decision;
     batch = k.batch;
     out = k.out;
@@ -154,7 +200,7 @@ module _ (store shards : ℕ) (left : NodeName → List Record → Type 0) (now 
   }
 
   -- what a flow holds is right, where its own write is kept
-  pub kept_flow : (f : Running) (a : Asked) (h : Holds) → ((changes : List Change) (conditions : List Condition) (id : WriteId) → a ≡ to_write changes conditions → id_of h ≡ Some id → KeepsDoubts f (own_write id changes conditions))
+  pub kept_flow : (f : Running) (a : Asked) (h : Holds) → ((changes : List Change) (conditions : List Condition) (id : WriteId) → a ≡ to_write changes conditions → id_of h ≡ Some id → AddsNoDoubt f (own_write id changes conditions))
       → IsRight shards left now f a h → IsRight shards left (with_nodes now next) f a h
   kept_flow f (to_write changes conditions) (writing h) keeps k = kept_write f changes conditions h (λ id is. keeps changes conditions id refl is) k
   kept_flow f (to_read fresh sets) (reading h) keeps k = record { heads = k.heads; place = k.place; done = k.done; few = k.few; rows = k.rows; nothing = k.nothing; batch = k.batch }

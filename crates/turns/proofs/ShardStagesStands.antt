@@ -20,7 +20,7 @@ use Rattle.turns.specs.Stands.{AreApart, FlowsStand, HeadsStand, IdsStand, Locks
 use Rattle.laws.proofs.LessLeft.{less_rests, whole_rests}
 use Rattle.laws.proofs.Locks.{doubts_apart, same_or_not}
 use Rattle.turns.proofs.ShardStages.{coordinator_knew, coordinator_left, durable_in, given_kept, left_now, longer, memory, memory_left, was_open, same_coordinator, same_given, same_open, shard_number, verdict_kept}
-use Rattle.turns.proofs.ShardStagesFlows.{KeepsDoubts, kept_flow}
+use Rattle.turns.proofs.ShardStagesFlows.{AddsNoDoubt, kept_flow}
 use Rattle.laws.specs.Shards.{ShardMeans}
 use Rattle.refusal.specs.declared.refusal.Refusal.{Refusal}
 
@@ -31,7 +31,7 @@ pub contained_from : {X : Type 0} (xs : List X) (i : ℕ) (x : X) → slice_get 
 contained_from xs i x is = (i, slice_get_within xs i x is, get_or_from_slice_get xs i x x is)
 
 module _ (store shards : ℕ) (left : NodeName → List Record → Type 0) (now : Moment) (next : Nodes) (s : ℕ) (r : Record) (st : IsStaging store shards left now next s r) where
-  -- The record is no opening, leaves all nodes at rest, prepares only what was given out, and keeps the write of each flow.
+  -- The record is no opening, leaves all nodes at rest, and prepares only what was given out.
   pub record IsHarmless : Type 1 where
     pub no_epoch : (epoch store' shards' node : ℕ) → r ≡ Epoch epoch store' shards' node → ⊥
     pub rests : (stops : List Record → Type 0) (kept : ℕ) → now.machine.kept ≤ kept → ((c : List Record) → stops c → leaves left now.nodes coordinator c)
@@ -41,8 +41,11 @@ module _ (store shards : ℕ) (left : NodeName → List Record → Type 0) (now 
         → Contains (shard_state (memory store shards left now next s r st)).in_doubt w ⊎ WasGiven shards left now.nodes w.id
     pub means : ShardMeans shards s now.machine.log now.machine.horizon now.machine.horizon (shard_state (memory store shards left now next s r st))
         → ShardMeans shards s now.machine.log now.machine.horizon now.machine.horizon (shard_state (longer store shards left now next s r st))
-    pub keeps : (f : Running) → Contains now.running f → (changes : List Change) (conditions : List Condition) (id : WriteId) → f.asked ≡ to_write changes conditions → id_of f.holds ≡ Some id
-        → KeepsDoubts store shards left now next s r st f (own_write id changes conditions)
+
+  -- of the write of this flow the record prepares no part
+  abbrev pub IsNoneOf : Running → Type 0
+  IsNoneOf f = (changes : List Change) (conditions : List Condition) (id : WriteId) → f.asked ≡ to_write changes conditions → id_of f.holds ≡ Some id
+      → AddsNoDoubt store shards left now next s r st f (own_write id changes conditions)
 
   module _ (harmless : IsHarmless) where
     node_was : (n : NodeName) (d g : List Record) → next.at n ≡ up d g → (now.nodes.at n ≡ up d g) ⊎ ((n ≡ shard s) × (d ≡ st.step.durable) × (g ≡ st.step.staged ++ r ∷ []))
@@ -143,24 +146,25 @@ module _ (store shards : ℕ) (left : NodeName → List Record → Type 0) (now 
           (left_now store shards left now next s r st t found is);
     }
 
-    flows_kept : FlowsStand store shards left (with_nodes now next)
-    flows_kept = record {
-      few = st.stands.flows.few;
-      slots = st.stands.flows.slots;
-      ids = st.stands.flows.ids;
-      held = λ f there. kept_flow store shards left now next s r st f f.asked f.holds (harmless.keeps f there) (st.stands.flows.held f there);
-      seen = st.stands.flows.seen;
-      quiet = st.stands.flows.quiet;
-    }
-
-    pub stands_kept : Stands store shards left (with_nodes now next)
-    stands_kept = record {
+    -- with flows that stand then, the store stands
+    pub stands_with : (running : List Running) → FlowsStand store shards left (record (with_nodes now next) { running = running }) → Stands store shards left (record (with_nodes now next) { running = running })
+    stands_with running flows = record {
       rests = rests_kept;
       nodes = nodes_kept;
       heads = heads_kept;
       listed = listed_kept;
       locks = locks_kept;
       ids = ids_kept;
-      flows = flows_kept;
-      told = λ j d lt. verdict_kept store shards left now next s r st _ (st.stands.told j d lt);
+      flows = flows;
+      told = λ j d lt. let v = verdict_kept store shards left now next s r st _ (st.stands.told j d lt) in record { given = v.given; closed = v.closed; none = v.none };
     }
+
+    pub stands_kept : ((f : Running) → Contains now.running f → IsNoneOf f) → Stands store shards left (with_nodes now next)
+    stands_kept keeps = stands_with now.running (record {
+      few = st.stands.flows.few;
+      slots = st.stands.flows.slots;
+      ids = st.stands.flows.ids;
+      held = λ f there. kept_flow store shards left now next s r st f f.asked f.holds (keeps f there) (st.stands.flows.held f there);
+      seen = st.stands.flows.seen;
+      quiet = st.stands.flows.quiet;
+    })

@@ -1,7 +1,8 @@
 -- Each record that a shard stages leaves the store standing for the same machine.
-use Rattle.std.proofs.Common.{◌≡◌, inl, inr, ⊎_elim, ℕ, ◌+◌, ◌-◌, ◌≤◌, true, List, [], ◌∷◌, ◌++◌, length, take, drop, Some, None, Contains, sym, ◌∙◌, ap, subst, arith, slice_get, refl}
+use Rattle.std.proofs.Common.{◌≡◌, ◌≢◌, inl, inr, ⊎_elim, ℕ, ◌+◌, ◌-◌, ◌≤◌, true, List, [], ◌∷◌, ◌++◌, length, take, drop, Some, None, Contains, sym, ◌∙◌, ap, subst, arith, slice_get, refl}
 use Rattle.std.proofs.lemmas.List.{take_all}
 use Rattle.std.proofs.lemmas.List.Elements.{Contains-push_cases}
+use Rattle.std.proofs.lemmas.Option.{same_Some}
 use Rattle.tuples.specs.declared.change.Change.{Change}
 use Rattle.tuples.specs.declared.change.Condition.{Condition}
 use Rattle.tuples.specs.declared.entry.Entry.{Entry}
@@ -21,17 +22,19 @@ use Rattle.laws.specs.LogLaws.{IsUnlisted}
 use Rattle.laws.specs.ShardLaws.{IsShardStep}
 use Rattle.laws.specs.Worlds.{Rests, shard_node}
 use Rattle.laws.specs.Nodes.{NodeName, Nodes, leaves}
-use Rattle.turns.specs.Flows.{Asked, Holds, checking, collecting, flushing, id_of, learning as learns, raising, reading, resolving, to_write, watching, writing}
-use Rattle.turns.specs.Held.{IsOpen, IsRight, IsRightBatch, IsRightVerdict, IsUndecided, WasGiven, own_write}
-use Rattle.turns.specs.Moments.{Moment, Running}
-use Rattle.turns.specs.StagingLaws.{IsFlowOf, IsStaging, with_nodes}
+use Rattle.turns.specs.Flows.{Asked, HeldTicket, Holds, WriteHolds, id_of, to_write, writing}
+use Rattle.turns.specs.Held.{IsOpen, IsRight, IsRightBatch, IsRightOwn, IsRightTicket, IsRightVerdict, IsRightWrite, IsUndecided, WasGiven, own_write}
+use Rattle.turns.specs.Moments.{Moment, Running, replaced}
+use Rattle.turns.specs.StagingLaws.{IsFlowOf, IsStaging, with_nodes, with_ticket}
 use Rattle.turns.specs.Stands.{Stands, at_shards}
 use Rattle.laws.proofs.LearnStep.{part_is_from, slice_get_drop}
 use Rattle.laws.proofs.Lists.{slice_get_taken}
 use Rattle.laws.proofs.Locks.{of_without}
 use Rattle.laws.proofs.ShardSteps.{collects_rest, drops_rest, learns_rest, prepares_rest, unlearned_of_log, collected_means, batch_means, dropped_unlisted}
 use Rattle.turns.proofs.ShardStages.{epoch_given, left_now, memory, memory_left}
-use Rattle.turns.proofs.ShardStagesStands.{contained_at, contained_from, stands_kept}
+use Rattle.turns.proofs.FlowGoesOn.{flows_turn, sees_more}
+use Rattle.turns.proofs.ShardStagesFlows.{AddsNoDoubt, KeepsDoubts, kept_flow, kept_with_ticket}
+use Rattle.turns.proofs.ShardStagesStands.{contained_at, contained_from, stands_kept, stands_with}
 use Rattle.laws.specs.Shards.{ShardMeans}
 use Rattle.laws.proofs.PrepareStep.{dropped_means, prepared_means}
 
@@ -55,11 +58,10 @@ module _ (store shards : ℕ) (left : NodeName → List Record → Type 0) (now 
     given = λ w has. inl (subst (λ (m : ShardState). Contains m.in_doubt w) after has);
     means = λ m. subst (ShardMeans shards s now.machine.log now.machine.horizon now.machine.horizon) (sym after)
         (collected_means (shard_node store shards s) shards s now.machine.log now.machine.horizon now.machine.horizon was place st.image low m);
-    keeps = λ f there changes conditions id asked is_id. record {
-      found = λ none p has. inl (ap (λ (m : ShardState). find_in_doubt id m.in_doubt) (sym after) ∙ has);
-      promised = λ here has. ap (λ (m : ShardState). find_in_doubt id m.in_doubt) after ∙ has;
-      epoch = ap (λ (m : ShardState). m.epoch) after;
-    };
+  }) (λ f there changes conditions id asked is_id. record {
+    found = λ none p has. ap (λ (m : ShardState). find_in_doubt id m.in_doubt) (sym after) ∙ has;
+    promised = λ here has. ap (λ (m : ShardState). find_in_doubt id m.in_doubt) after ∙ has;
+    epoch = ap (λ (m : ShardState). m.epoch) after;
   })
     where
       was : List Record
@@ -80,16 +82,15 @@ module _ (store shards : ℕ) (left : NodeName → List Record → Type 0) (now 
     means = λ m. subst (ShardMeans shards s now.machine.log now.machine.horizon now.machine.horizon) (sym after)
         (dropped_means shards s now.machine.log now.machine.horizon now.machine.horizon (shard_state was) id
         (dropped_unlisted (shard_node store shards s) shards s now.machine.log now.machine.horizon now.machine.horizon was id st.image m verdict.none) m);
-    keeps = λ f there changes conditions own asked is_id. record {
-      found = λ none p has.
-          let has_after : find_in_doubt own (without id (shard_state was).in_doubt) ≡ Some p = ap (λ (m : ShardState). find_in_doubt own m.in_doubt) (sym after) ∙ has in
-          inl (⊎_elim
-          (λ (same : own ≡ id). let gone : None ≡ Some p = sym (find_without_same own (shard_state was).in_doubt) ∙ ap (λ (i : WriteId). find_in_doubt own (without i (shard_state was).in_doubt)) same ∙ has_after in absurd cc)
-          (λ ne. sym (find_without_other own id (shard_state was).in_doubt ne) ∙ has_after)
-          (cases_id own id));
-      promised = λ here has. ap (λ (m : ShardState). find_in_doubt own m.in_doubt) after ∙ find_without_other own id (shard_state was).in_doubt (verdict.closed (own_write own changes conditions) here) ∙ has;
-      epoch = ap (λ (m : ShardState). m.epoch) after;
-    };
+  }) (λ f there changes conditions own asked is_id. record {
+    found = λ none p has.
+        let has_after : find_in_doubt own (without id (shard_state was).in_doubt) ≡ Some p = ap (λ (m : ShardState). find_in_doubt own m.in_doubt) (sym after) ∙ has in
+        ⊎_elim
+        (λ (same : own ≡ id). let gone : None ≡ Some p = sym (find_without_same own (shard_state was).in_doubt) ∙ ap (λ (i : WriteId). find_in_doubt own (without i (shard_state was).in_doubt)) same ∙ has_after in absurd cc)
+        (λ ne. sym (find_without_other own id (shard_state was).in_doubt ne) ∙ has_after)
+        (cases_id own id);
+    promised = λ here has. ap (λ (m : ShardState). find_in_doubt own m.in_doubt) after ∙ find_without_other own id (shard_state was).in_doubt (verdict.closed (own_write own changes conditions) here) ∙ has;
+    epoch = ap (λ (m : ShardState). m.epoch) after;
   })
     where
       was : List Record
@@ -98,54 +99,34 @@ module _ (store shards : ℕ) (left : NodeName → List Record → Type 0) (now 
       after : shard_state (was ++ Dropped id ∷ []) ≡ shard_step (shard_state was) (Dropped id)
       after = shard_push was (Dropped id)
 
-  -- a flow that has not decided has an undecided write
-  undecided_of : (f : Running) (w : Entry) (h : Holds) → id_of h ≡ Some w.id → f.decided ≡ None → IsRight shards left now f (to_write w.changes w.conditions) h → IsUndecided shards left now w
-  undecided_of f w (writing h) is none right = (right.own w.id is).undecided none
-  undecided_of f w (reading h) is none right = absurd cc
-  undecided_of f w (checking h) is none right = absurd cc
-  undecided_of f w (watching h) is none right = absurd cc
-  undecided_of f w flushing is none right = absurd cc
-  undecided_of f w (learns h) is none right = absurd cc
-  undecided_of f w (resolving h) is none right = absurd cc
-  undecided_of f w (raising h) is none right = absurd cc
-  undecided_of f w (collecting h) is none right = absurd cc
-
-  pub prepares_stand : (w : Entry) (r : Running) → IsStaging store shards left now next s (Prepare (part shards s w)) → IsFlowOf now r w → takes_part shards s w ≡ true → (IsOpen now.nodes w → HoldAfter now.machine.log (part shards s w).conditions)
-      → Stands store shards left (with_nodes now next)
+  -- of another flow's write a prepare adds no doubt
+  of_others : (w : Entry) (st : IsStaging store shards left now next s (Prepare (part shards s w))) (f : Running) (changes : List Change) (conditions : List Condition) (id : WriteId) → w.id ≢ id
+      → AddsNoDoubt store shards left now next s (Prepare (part shards s w)) st f (own_write id changes conditions)
   unfolding shard_step part
-  prepares_stand w r st flow takes hold = stands_kept store shards left now next s (Prepare (part shards s w)) st (record {
-    no_epoch = λ a b c d is. absurd cc;
-    rests = λ stops kept le of_coordinator rests. prepares_rest stops (at_shards (leaves left now.nodes)) (at_shards (leaves left next)) store shards now.machine.log kept now.machine.horizon s was (part shards s w)
-        (step_of (Prepare (part shards s w)) st stops kept rests) own.unlisted
-        (λ c is. epoch_given store shards left now next s (Prepare (part shards s w)) st w.id own.given c (of_coordinator c is));
-    given = λ x has. ⊎_elim
-        (λ old. inl old)
-        (λ new. inr (subst (λ (y : Entry). WasGiven shards left now.nodes y.id) new own.given))
-        (Contains-push_cases (shard_state was).in_doubt (part shards s w) x (subst (λ (m : ShardState). Contains m.in_doubt x) after has));
-    means = λ m. subst (ShardMeans shards s now.machine.log now.machine.horizon now.machine.horizon) (sym after)
-        (prepared_means shards s now.machine.log now.machine.horizon now.machine.horizon (shard_state was) w.id own.unlisted m (part shards s w) refl);
-    keeps = λ f there changes conditions id asked is_id. record {
-      found = λ none p has.
-          let has_after : find_in_doubt id ((shard_state was).in_doubt ++ part shards s w ∷ []) ≡ Some p = ap (λ (m : ShardState). find_in_doubt id m.in_doubt) (sym after) ∙ has in
-          ⊎_elim
-          (λ (same : w.id ≡ id).
-          let one : f ≡ r = same_flow f there id is_id same in
-          let asks : to_write changes conditions ≡ to_write w.changes w.conditions = sym asked ∙ ap (λ (g : Running). g.asked) one ∙ flow.asked in
-          let whole : own_write id changes conditions ≡ w = same_write id changes conditions same asks in
-          let part_is : Some (part shards s w) ≡ Some p = sym (find_push_same (shard_state was).in_doubt (part shards s w) may.new) ∙ ap (λ (i : WriteId). find_in_doubt i ((shard_state was).in_doubt ++ part shards s w ∷ [])) same ∙ has_after in
-          let is : part shards s w ≡ p = cc in
-          inr (ap (takes_part shards s) whole ∙ takes, sym is ∙ ap (part shards s) (sym whole), λ here. subst (λ (q : Entry). HoldAfter now.machine.log q.conditions) is (hold (subst (IsOpen now.nodes) whole here))))
-          (λ ne. inl (sym (find_push id (shard_state was).in_doubt (part shards s w) ne) ∙ has_after))
-          (cases_id w.id id);
-      promised = λ here has. ⊎_elim
-          (λ (same : w.id ≡ id).
-          let gone : None ≡ Some (part shards s (own_write id changes conditions)) = sym may.new ∙ ap (λ (i : WriteId). find_in_doubt i (shard_state was).in_doubt) same ∙ has in
-          absurd cc)
-          (λ ne. ap (λ (m : ShardState). find_in_doubt id m.in_doubt) after ∙ find_push id (shard_state was).in_doubt (part shards s w) ne ∙ has)
-          (cases_id w.id id);
-      epoch = ap (λ (m : ShardState). m.epoch) after;
-    };
-  })
+  of_others w st f changes conditions id ne = record {
+    found = λ none p has. sym (find_push id (shard_state was).in_doubt (part shards s w) ne) ∙ ap (λ (m : ShardState). find_in_doubt id m.in_doubt) (sym after) ∙ has;
+    promised = λ here has. ap (λ (m : ShardState). find_in_doubt id m.in_doubt) after ∙ find_push id (shard_state was).in_doubt (part shards s w) ne ∙ has;
+    epoch = ap (λ (m : ShardState). m.epoch) after;
+  }
+    where
+      was : List Record
+      was = st.step.durable ++ st.step.staged
+
+      after : shard_state (was ++ Prepare (part shards s w) ∷ []) ≡ shard_step (shard_state was) (Prepare (part shards s w))
+      after = shard_push was (Prepare (part shards s w))
+
+  -- of its own it adds its part, whose conditions hold
+  of_own : (w : Entry) (st : IsStaging store shards left now next s (Prepare (part shards s w))) (r : Running) → takes_part shards s w ≡ true → (IsOpen now.nodes w → HoldAfter now.machine.log (part shards s w).conditions)
+      → KeepsDoubts store shards left now next s (Prepare (part shards s w)) st r w
+  unfolding shard_step part
+  of_own w st r takes hold = record {
+    found = λ none p has.
+        let part_is : Some (part shards s w) ≡ Some p = sym (find_push_same (shard_state was).in_doubt (part shards s w) may.new) ∙ ap (λ (m : ShardState). find_in_doubt w.id m.in_doubt) (sym after) ∙ has in
+        let is : part shards s w ≡ p = cc in
+        inr (takes, sym is, λ here. subst (λ (q : Entry). HoldAfter now.machine.log q.conditions) is (hold here));
+    promised = λ here has. let gone : None ≡ Some (part shards s w) = sym may.new ∙ has in absurd cc;
+    epoch = ap (λ (m : ShardState). m.epoch) after;
+  }
     where
       was : List Record
       was = st.step.durable ++ st.step.staged
@@ -156,8 +137,42 @@ module _ (store shards : ℕ) (left : NodeName → List Record → Type 0) (now 
       may : MayPrepare (shard_node store shards s) (shard_state was) (part shards s w)
       may = image_last (shard_node store shards s) was (Prepare (part shards s w)) st.image
 
+  pub prepares_stand : (w : Entry) (r : Running) (h : WriteHolds) (t : HeldTicket) → (st : IsStaging store shards left now next s (Prepare (part shards s w))) → IsFlowOf now r w → r.holds ≡ writing h → takes_part shards s w ≡ true
+      → (IsOpen now.nodes w → HoldAfter now.machine.log (part shards s w).conditions) → t.shard ≡ s → IsRightTicket shards left (with_nodes now next) w t
+      → Stands store shards left (record (with_nodes now next) { running = replaced (with_ticket now r h t) now.running })
+  unfolding shard_step part
+  prepares_stand w r h t st flow holds takes hold of_shard ticket = stands_with store shards left now next s (Prepare (part shards s w)) st (record {
+    no_epoch = λ a b c d is. absurd cc;
+    rests = λ stops kept le of_coordinator rests. prepares_rest stops (at_shards (leaves left now.nodes)) (at_shards (leaves left next)) store shards now.machine.log kept now.machine.horizon s was (part shards s w)
+        (step_of (Prepare (part shards s w)) st stops kept rests) own.unlisted
+        (λ c is. epoch_given store shards left now next s (Prepare (part shards s w)) st w.id own.given c (of_coordinator c is));
+    given = λ x has. ⊎_elim
+        (λ old. inl old)
+        (λ new. inr (subst (λ (y : Entry). WasGiven shards left now.nodes y.id) new own.given))
+        (Contains-push_cases (shard_state was).in_doubt (part shards s w) x (subst (λ (m : ShardState). Contains m.in_doubt x) after has));
+    means = λ m. subst (ShardMeans shards s now.machine.log now.machine.horizon now.machine.horizon) (sym after)
+        (prepared_means shards s now.machine.log now.machine.horizon now.machine.horizon (shard_state was) w.id own.unlisted m (part shards s w) refl);
+  }) (replaced later now.running) (flows_turn store shards left left now (with_nodes now next) r later st.stands.flows flow.there refl (sym (ap id_of holds)) (omega arith) (omega arith)
+      (sees_more now.machine now.machine now.machine r later refl (omega arith) (omega arith) (omega arith) (omega arith) (st.stands.flows.seen r flow.there))
+      (st.stands.flows.quiet r flow.there) others right)
+    where
+      was : List Record
+      was = st.step.durable ++ st.step.staged
+
+      after : shard_state (was ++ Prepare (part shards s w) ∷ []) ≡ shard_step (shard_state was) (Prepare (part shards s w))
+      after = shard_push was (Prepare (part shards s w))
+
+      later : Running
+      later = with_ticket now r h t
+
+      old : IsRightWrite shards left now r w.changes w.conditions h
+      old = subst (λ (x : Holds). IsRight shards left now r (to_write w.changes w.conditions) x) holds (subst (λ (a : Asked). IsRight shards left now r a r.holds) flow.asked (st.stands.flows.held r flow.there))
+
+      has_id : h.id ≡ Some w.id
+      has_id = sym (ap id_of holds) ∙ flow.id
+
       own : IsUndecided shards left now w
-      own = undecided_of r w r.holds flow.id flow.undecided (subst (λ (a : Asked). IsRight shards left now r a r.holds) flow.asked (st.stands.flows.held r flow.there))
+      own = (old.own w.id has_id).undecided flow.undecided
 
       same_flow : (f : Running) → Contains now.running f → (id : WriteId) → id_of f.holds ≡ Some id → w.id ≡ id → f ≡ r
       same_flow f there id is_id same =
@@ -167,11 +182,30 @@ module _ (store shards : ℕ) (left : NodeName → List Record → Type 0) (now 
           let both : Some f ≡ Some r = sym at_f.1 ∙ ap (slice_get now.running) index ∙ at_r.1 in
           cc
 
-      same_write : (id : WriteId) (changes : List Change) (conditions : List Condition) → w.id ≡ id → to_write changes conditions ≡ to_write w.changes w.conditions → own_write id changes conditions ≡ w
-      same_write id changes conditions same asks =
-          let a : changes ≡ w.changes = cc in
-          let b : conditions ≡ w.conditions = cc in
-          ap (λ (i : WriteId). own_write i changes conditions) (sym same) ∙ ap (λ (l : List Change). own_write w.id l conditions) a ∙ ap (λ (l : List Condition). own_write w.id w.changes l) b
+      -- each other flow has another write
+      others : (f : Running) → Contains now.running f → f.slot ≢ r.slot → IsRight shards left (with_nodes now next) f f.asked f.holds
+      others f there ne = kept_flow store shards left now next s (Prepare (part shards s w)) st f f.asked f.holds
+          (λ changes conditions id asked is_id. of_others w st f changes conditions id (λ same. ne (ap (λ (x : Running). x.slot) (same_flow f there id is_id same))))
+          (st.stands.flows.held f there)
+
+      own_right : IsRightOwn shards left (with_nodes now next) r w (record h { tickets = h.tickets ++ t ∷ [] })
+      own_right = kept_with_ticket store shards left now next s (Prepare (part shards s w)) st r w (of_own w st r takes hold) h t of_shard ticket (old.own w.id has_id)
+
+      own_later : (id : WriteId) → h.id ≡ Some id → IsRightOwn shards left (with_nodes now next) later (own_write id w.changes w.conditions) (record h { tickets = h.tickets ++ t ∷ [] })
+      own_later id is =
+          let k = subst (λ (i : WriteId). IsRightOwn shards left (with_nodes now next) r (own_write i w.changes w.conditions) (record h { tickets = h.tickets ++ t ∷ [] })) (same_Some w.id id (sym has_id ∙ is)) own_right in
+          record { undecided = k.undecided; intent = k.intent; tickets = k.tickets; votes = k.votes; decision = k.decision; verdict = k.verdict; not_reopened = k.not_reopened; gave = k.gave }
+
+      right : IsRight shards left (with_nodes now next) later later.asked later.holds
+      right = subst (λ (a : Asked). IsRight shards left (with_nodes now next) later a later.holds) (sym flow.asked) (record {
+        nothing = λ none. let both : Some w.id ≡ None = sym has_id ∙ none in absurd cc;
+        own = own_later;
+        same_decision = old.same_decision;
+        batch = old.batch;
+        out = old.out;
+        cancelled = old.cancelled;
+        refused_or_cancelled = old.refused_or_cancelled;
+      })
 
   -- what is left without placed_ids was there
   of_placed_ids : (placed_ids : List PlacedId) (ws : List Entry) (w : Entry) → Contains (without_placed_ids placed_ids ws) w → Contains ws w
@@ -200,12 +234,11 @@ module _ (store shards : ℕ) (left : NodeName → List Record → Type 0) (now 
         (batch_means store shards s log now.machine.horizon now.machine.horizon (shard_state was) b.from b.writes (length log) st.stands.rests.is_log.new batch.writes fits (omega arith) low high (omega arith)
         (subst (λ (l : List Entry). ShardMeans shards s l now.machine.horizon now.machine.horizon (shard_state was)) (sym all) m)));
     given = λ w has. inl (of_placed_ids placed_ids (shard_state was).in_doubt w (subst (λ (m : ShardState). Contains m.in_doubt w) after has));
-    keeps = λ f there changes conditions own asked is_id. record {
-      found = λ none p has. inl (still_placed_ids own placed_ids (shard_state was).in_doubt p (ap (λ (m : ShardState). find_in_doubt own m.in_doubt) (sym after) ∙ has));
-      promised = λ here has. ap (λ (m : ShardState). find_in_doubt own m.in_doubt) after
-          ∙ find_not_learned own placed_ids (shard_state was).in_doubt (not_listed own (st.stands.ids.unlisted (own_write own changes conditions) here)) ∙ has;
-      epoch = ap (λ (m : ShardState). m.epoch) after;
-    };
+  }) (λ f there changes conditions own asked is_id. record {
+    found = λ none p has. still_placed_ids own placed_ids (shard_state was).in_doubt p (ap (λ (m : ShardState). find_in_doubt own m.in_doubt) (sym after) ∙ has);
+    promised = λ here has. ap (λ (m : ShardState). find_in_doubt own m.in_doubt) after
+        ∙ find_not_learned own placed_ids (shard_state was).in_doubt (not_listed own (st.stands.ids.unlisted (own_write own changes conditions) here)) ∙ has;
+    epoch = ap (λ (m : ShardState). m.epoch) after;
   })
     where
       was : List Record

@@ -102,6 +102,7 @@ module _ (store shards : ℕ) (left : NodeName → List Record → Type 0) (now 
           decision = λ d is. decision_on v d (k.decision d is);
           verdict = λ id is. let right = k.verdict id is in (right.0, verdict_on id right.1);
           not_reopened = λ i is not_since. Contains-append_right (w ∷ []) now.nodes.open_writes v (k.not_reopened i is not_since);
+          gave = k.gave;
         }
 
     write_on : (changes : List Change) (conditions : List Condition) (h : WriteHolds) → IsRightWrite shards left now r changes conditions h → IsRightWrite shards left next r changes conditions h
@@ -320,6 +321,7 @@ module _ (store shards : ℕ) (left : NodeName → List Record → Type 0) (now 
         decision = λ d is. absurd (no_value (sym nothing.decided ∙ is));
         verdict = λ id is. absurd (no_value (sym nothing.verdict ∙ is));
         not_reopened = λ i is not_since. alone w now.nodes.open_writes;
+        gave = λ way none s found p lt here has. absurd (no_prepare s found p lt here has);
       }
 
   later_right : IsRight shards left after later later.asked later.holds

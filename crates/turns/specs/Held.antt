@@ -24,7 +24,7 @@ use Rattle.laws.specs.LogLaws.{IsUnlisted}
 use Rattle.laws.specs.ShardLaws.{AreOfLog, IsUnlistedAbove}
 use Rattle.laws.specs.Machines.{Machine}
 use Rattle.laws.specs.Nodes.{NodeName, coordinator, shard, up, down, Nodes, leaves, ShardKnows, CoordinatorKnows, IsGivenBy}
-use Rattle.turns.specs.Flows.{Freshness, Asked, to_write, to_read, to_check, to_watch, to_flush, to_learn, to_resolve, to_raise, to_collect, HeldTicket, HeldVote, outward, WriteHolds, ReadHolds, CheckHolds, HeadsHeld, ResolveHolds, RaiseHolds, Resolved, committed, aborted, undecided, Holds, writing, reading, checking, watching, flushing, learning, resolving, raising, collecting}
+use Rattle.turns.specs.Flows.{Freshness, Asked, to_write, to_read, to_check, to_watch, to_flush, to_learn, to_resolve, to_raise, to_collect, HeldTicket, HeldVote, onward, outward, WriteHolds, ReadHolds, CheckHolds, HeadsHeld, ResolveHolds, RaiseHolds, Resolved, committed, aborted, undecided, Holds, writing, reading, checking, watching, flushing, learning, resolving, raising, collecting}
 use Rattle.turns.specs.Moments.{Moment, Running, SawFirst, WasKept}
 use Rattle.turns.specs.Replies.{IsPlaceOf, IsResolved}
 
@@ -53,6 +53,10 @@ own_write id changes conditions = record { id = id; changes = changes; condition
 -- a write that is open at the coordinator
 abbrev pub IsOpen : Nodes → Entry → Type 0
 IsOpen nodes w = Contains nodes.open_writes w
+
+-- a ticket or a vote of this shard
+abbrev pub HoldsOf : WriteHolds → ℕ → Type 0
+HoldsOf h s = ((t : HeldTicket) × Contains h.tickets t × (t.shard ≡ s)) ⊎ ((v : HeldVote) × Contains h.votes v × (v.shard ≡ s))
 
 -- The store has so many shards, and a stop may leave this of each node.
 module _ (shards : ℕ) (left : NodeName → List Record → Type 0) where
@@ -110,6 +114,11 @@ module _ (shards : ℕ) (left : NodeName → List Record → Type 0) where
     pub there : (kept memory : CoordinatorState) → CoordinatorKnows now.nodes kept memory → memory.epoch ≡ d.epoch
         → slice_get now.machine.log (d.place - 1) ≡ Some w
 
+  -- On its way to the decision the flow holds a ticket or a vote of each shard that has a prepare of the write, staged or in what a stop leaves.
+  abbrev pub HoldsOfEach : Moment → Running → Entry → WriteHolds → Type 0
+  HoldsOfEach now r w h = h.way ≡ onward → r.decided ≡ None → (s : ℕ) (found : List Record) (p : Entry) → s < shards → leaves left now.nodes (shard s) found
+      → find_in_doubt w.id (shard_state found).in_doubt ≡ Some p → HoldsOf h s
+
   -- What a write flow holds under its id: of its own write, all of it. A write whose intent is not spent is open, unless the coordinator was
   -- opened since the flow began.
   pub record IsRightOwn (now : Moment) (r : Running) (w : Entry) (h : WriteHolds) : Type 0 where
@@ -120,6 +129,7 @@ module _ (shards : ℕ) (left : NodeName → List Record → Type 0) where
     pub decision : IfHeld h.decided (IsRightDecision now w)
     pub verdict : IfHeld h.verdict (λ id. (id ≡ w.id) × IsRightVerdict now id)
     pub not_reopened : IfHeld h.intent (λ intent. r.is_reopened ≡ false → IsOpen now.nodes w)
+    pub gave : HoldsOfEach now r w h
 
   -- a write flow that was not begun holds nothing yet
   pub record HoldsNothing (h : WriteHolds) : Type 0 where

@@ -11,7 +11,7 @@ use Rattle.decisions.specs.Values.{BatchValue, IntentValue}
 use Rattle.laws.specs.Machines.{Machine, Move, Moves}
 use Rattle.laws.specs.Nodes.{NodeName, NodeTurns, Nodes, SameBut, down, refused}
 use Rattle.turns.specs.Causes.{Calls, HasItsCause}
-use Rattle.turns.specs.Flows.{HeldTicket, HeldVote, Holds, WriteHolds, checking, collecting, flushing, id_of, learning, outward, raising, reading, resolving, to_write, watching, writing}
+use Rattle.turns.specs.Flows.{HeldTicket, HeldVote, Holds, WriteHolds, checking, collecting, flushing, id_of, learning, onward, outward, raising, reading, resolving, to_write, watching, writing}
 use Rattle.turns.specs.Held.{IfHeld, IsRight, IsRightBatch, IsRightVerdict}
 use Rattle.turns.specs.Moments.{Moment, Running, ended, is_write, replaced}
 use Rattle.turns.specs.Replies.{Answer, Agrees}
@@ -59,7 +59,7 @@ batch_of (resolving h) = h.batch
 batch_of (raising h) = h.batch
 batch_of (collecting h) = h.batch
 
--- what a write flow holds, with some of it spent; where it goes is not said here
+-- what a write flow holds, with some of it spent; where it goes is not said here, but that on its way to the decision it keeps what shards gave
 pub record HoldsLess (old new : WriteHolds) : Type 0 where
   pub id : new.id ≡ old.id
   pub intent : (i : IntentValue) → new.intent ≡ Some i → old.intent ≡ Some i
@@ -68,6 +68,7 @@ pub record HoldsLess (old new : WriteHolds) : Type 0 where
   pub decided : new.decided ≡ old.decided
   pub batch : (b : BatchValue) → new.batch ≡ Some b → old.batch ≡ Some b
   pub verdict : (id : WriteId) → new.verdict ≡ Some id → old.verdict ≡ Some id
+  pub gave : new.way ≡ onward → (old.way ≡ onward) × (new.tickets ≡ old.tickets) × (new.votes ≡ old.votes)
 
 -- a node answers each call with this: Down where it is down, or what its opening was refused for
 abbrev pub IsAway : Nodes → NodeName → Refusal → Type 0

@@ -21,8 +21,8 @@ use Rattle.shard.specs.Shards.{IsUp, ShardView, memory}
 use Rattle.laws.specs.Nodes.{NodeName, NodeState, Nodes, coordinator, shard, up}
 use Rattle.laws.specs.Worlds.{shard_node}
 use Rattle.turns.specs.Causes.{CallsShard, HasItsCause, LetsLearn}
-use Rattle.turns.specs.Flows.{Freshness, HeadsHeld, HeldTicket, ReadHolds, RaiseHolds, ResolveHolds, WriteHolds, learning, outward, raising, reading, resolving, to_collect, to_learn, to_raise, to_read, to_resolve, to_write, writing}
-use Rattle.turns.specs.Held.{AreRightHeads, IfHeld, IsRightBatch, WasGiven}
+use Rattle.turns.specs.Flows.{Freshness, HeadsHeld, HeldTicket, ReadHolds, RaiseHolds, ResolveHolds, WriteHolds, learning, onward, outward, raising, reading, resolving, to_collect, to_learn, to_raise, to_read, to_resolve, to_write, writing}
+use Rattle.turns.specs.Held.{AreRightHeads, HoldsOf, IfHeld, IsRightBatch, WasGiven}
 use Rattle.turns.specs.Moments.{Moment, Running}
 use Rattle.turns.specs.QuietTurns.{HoldsLess, batch_of, ending, going_on, with_batch, with_call}
 use Rattle.turns.specs.ReadingLaws.{IsMerged, IsReading, NeedsOnly}
@@ -78,18 +78,19 @@ module _ (store shards : ℕ) (left : NodeName → List Record → Type 0) {D : 
       ShardIsSeen store shards s next new
       × StandsAndTurns store shards left now next r (with_call r (writing (record h { tickets = h.tickets ++ held_ticket s t ∷ [] })) r.met now.machine)
 
-  -- and so is one that is refused: the write goes out with the refusal, which has its cause. The flow has not asked this shard before.
+  -- and so is one that is refused: the write, which is on its way and holds nothing of this shard, goes out with the refusal, which has its cause
   abbrev pub RefusedPrepareTurns : Type 0
   RefusedPrepareTurns = (now : Moment) (old : ShardView D) (s : ℕ) (w : Entry) (e : Refusal) (r : Running) (h : WriteHolds)
       → Stands store shards left now → ShardIsSeen store shards s now.nodes old → IsHolder now r h w → takes_part shards s w ≡ true → IsIntent w
-      → find_in_doubt w.id (memory old).in_doubt ≡ None → PrepareRefused old w e → IsOfPrepare e
+      → h.way ≡ onward → (HoldsOf h s → ⊥) → PrepareRefused old w e → IsOfPrepare e
       → StandsAndTurns store shards left now now.nodes r (with_call r (writing (record h { way = outward (Some e) })) (Some e) now.machine)
 
   -- a vote for a ticket that the flow holds is a turn of a run, behind which it holds the vote in place of the ticket
   abbrev pub VoteTurns : Type 0
   VoteTurns = (now : Moment) (old : ShardView D) (s : ℕ) (w : Entry) (t : TicketValue) (v : VoteValue) (r : Running) (h : WriteHolds) (rest : List HeldTicket)
       → Stands store shards left now → ShardIsSeen store shards s now.nodes old → IsHolder now r h w
-      → Contains h.tickets (held_ticket s t) → ((x : HeldTicket) → Contains rest x → Contains h.tickets x) → IsUp state honest old → VotesAt state old t v
+      → Contains h.tickets (held_ticket s t) → ((x : HeldTicket) → Contains rest x → Contains h.tickets x)
+      → ((x : HeldTicket) → Contains h.tickets x → (x ≡ held_ticket s t) ⊎ Contains rest x) → IsUp state honest old → VotesAt state old t v
       → StandsAndTurns store shards left now now.nodes r (with_call r (writing (record h { tickets = rest; votes = h.votes ++ v ∷ [] })) r.met now.machine)
 
   -- and so is one that is refused: the ticket is spent, and the write goes out with Aborted, which has its cause

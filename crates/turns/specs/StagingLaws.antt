@@ -11,9 +11,9 @@ use Rattle.decisions.specs.Values.{BatchValue}
 use Rattle.shard.specs.Shards.{learning}
 use Rattle.laws.specs.Worlds.{shard_node}
 use Rattle.laws.specs.Nodes.{NodeName, Nodes, SameBut, shard, up}
-use Rattle.turns.specs.Flows.{id_of, to_write}
-use Rattle.turns.specs.Held.{IsOpen, IsRightBatch, IsRightVerdict}
-use Rattle.turns.specs.Moments.{Moment, Running}
+use Rattle.turns.specs.Flows.{HeldTicket, WriteHolds, id_of, to_write, writing}
+use Rattle.turns.specs.Held.{IsOpen, IsRightBatch, IsRightTicket, IsRightVerdict}
+use Rattle.turns.specs.Moments.{Moment, Running, replaced}
 use Rattle.turns.specs.Stands.{Stands}
 
 -- a node that is up stages one record more, and nothing else is changed
@@ -27,6 +27,10 @@ pub record StagesAt (n : NodeName) (r : Record) (old new : Nodes) : Type 0 where
 -- the moment with these nodes
 abbrev pub with_nodes : Moment → Nodes → Moment
 with_nodes now next = record now { nodes = next }
+
+-- a write flow that has called a shard, and holds its ticket
+abbrev pub with_ticket : Moment → Running → WriteHolds → HeldTicket → Running
+with_ticket now r h t = record r { holds = writing (record h { tickets = h.tickets ++ t ∷ [] }); seen = r.seen ++ now.machine ∷ [] }
 
 -- a flow that runs and has not decided has this write
 pub record IsFlowOf (now : Moment) (r : Running) (w : Entry) : Type 0 where
@@ -44,11 +48,12 @@ module _ (store shards : ℕ) (left : NodeName → List Record → Type 0) where
     pub step : StagesAt (shard s) r now.nodes next
     pub image : IsShardImage (shard_node store shards s) ((step.durable ++ step.staged) ++ r ∷ [])
 
-  -- the shard's part of a flow's write, whose conditions hold after the log where the write is open
+  -- the shard's part of a flow's write, whose conditions hold after the log where the write is open: in the same step the flow is given a ticket for it
   abbrev pub PreparesStand : Type 0
-  PreparesStand = (now : Moment) (next : Nodes) (s : ℕ) (w : Entry) (r : Running) → IsStaging now next s (Prepare (part shards s w))
-      → IsFlowOf now r w → takes_part shards s w ≡ true → (IsOpen now.nodes w → HoldAfter now.machine.log (part shards s w).conditions)
-      → Stands store shards left (with_nodes now next)
+  PreparesStand = (now : Moment) (next : Nodes) (s : ℕ) (w : Entry) (r : Running) (h : WriteHolds) (t : HeldTicket) → IsStaging now next s (Prepare (part shards s w))
+      → IsFlowOf now r w → r.holds ≡ writing h → takes_part shards s w ≡ true → (IsOpen now.nodes w → HoldAfter now.machine.log (part shards s w).conditions)
+      → t.shard ≡ s → IsRightTicket shards left (with_nodes now next) w t
+      → Stands store shards left (record (with_nodes now next) { running = replaced (with_ticket now r h t) now.running })
 
   -- a drop of a write of which a verdict says that it is aborted
   abbrev pub DropsStand : Type 0

@@ -123,7 +123,7 @@ module _ {D : Type 0} (state : D → State) (honest : D → Type 0) (moment : D 
       (record {
         nothing = λ no_id. let k = held.nothing no_id in record { intent = k.intent; tickets = k.tickets; votes = k.votes; decided = k.decided; verdict = k.verdict };
         own = λ id is. let o = held.own id is in
-            record { undecided = o.undecided; intent = o.intent; tickets = o.tickets; votes = o.votes; decision = o.decision; verdict = o.verdict; not_reopened = o.not_reopened };
+            record { undecided = o.undecided; intent = o.intent; tickets = o.tickets; votes = o.votes; decision = o.decision; verdict = o.verdict; not_reopened = o.not_reopened; gave = λ way. absurd cc };
         same_decision = held.same_decision;
         batch = λ b is. absurd cc;
         out = λ met is. (sym held.same_decision ∙ none, λ e is_e. let both : outward None ≡ outward (Some e) = is ∙ ap outward is_e in absurd cc);
@@ -145,7 +145,7 @@ module _ {D : Type 0} (state : D → State) (honest : D → Type 0) (moment : D 
       (record {
         nothing = held.nothing;
         own = λ id is. let o = held.own id is in
-            record { undecided = o.undecided; intent = o.intent; tickets = o.tickets; votes = o.votes; decision = o.decision; verdict = o.verdict; not_reopened = o.not_reopened };
+            record { undecided = o.undecided; intent = o.intent; tickets = o.tickets; votes = o.votes; decision = o.decision; verdict = o.verdict; not_reopened = o.not_reopened; gave = o.gave };
         same_decision = held.same_decision;
         batch = held.batch;
         out = held.out;

@@ -27,7 +27,7 @@ use Rattle.commit_flow.specs.Writing.{HasShard, IsOnItsWay}
 use Rattle.laws.specs.Machines.{Machine}
 use Rattle.laws.specs.Nodes.{NodeName, Nodes, coordinator, shard}
 use Rattle.turns.specs.Causes.{Calls, HasItsCause}
-use Rattle.turns.specs.Flows.{WriteHolds, outward}
+use Rattle.turns.specs.Flows.{WriteHolds, onward, outward}
 use Rattle.turns.specs.Held.{IfHeld, IsRightBatch}
 use Rattle.turns.specs.Moments.{Moment, Running}
 use Rattle.turns.specs.QuietTurns.{HoldsLess}
@@ -54,7 +54,16 @@ no_batch m b is = absurd cc
 
 -- on its way out it holds no decisions for a shard
 pub less_out : (h : WriteHolds) (e : Refusal) → HoldsLess h (record h { way = outward (Some e); batch = None })
-less_out h e = record { id = refl; intent = λ i is. is; tickets = λ t has. has; votes = λ v has. has; decided = refl; batch = λ b is. absurd cc; verdict = λ id is. is }
+less_out h e = record {
+  id = refl;
+  intent = λ i is. is;
+  tickets = λ t has. has;
+  votes = λ v has. has;
+  decided = refl;
+  batch = λ b is. absurd cc;
+  verdict = λ id is. is;
+  gave = λ is. let both : outward (Some e) ≡ onward = is in absurd cc;
+}
 
 module _ {D : Type 0} (state : D → State) (honest : D → Type 0) (moment : D → ℕ) (left_since : D → ℕ → List ℕ → Type 0)
     (counts_now : (d : D) (t : ℕ) (c : List ℕ) → honest d → t ≤ moment d → left (state d) c → left_since d t c) (only_now : (d : D) (c : List ℕ) → honest d → left_since d (moment d) c → left (state d) c)

@@ -40,7 +40,7 @@ use Rattle.laws.specs.Nodes.{CoordinatorKnows, NodeName, Nodes, coordinator, sha
 use Rattle.turns.specs.AbortLaws.{IsUndecidedFlow}
 use Rattle.turns.specs.Causes.{HasItsCause, IsFull}
 use Rattle.turns.specs.DecidingLaws.{IsDecider, with_decided, with_write}
-use Rattle.turns.specs.Flows.{WriteHolds, outward, writing}
+use Rattle.turns.specs.Flows.{WriteHolds, onward, outward, writing}
 use Rattle.turns.specs.Moments.{Moment, Running}
 use Rattle.turns.specs.QuietTurns.{HoldsLess, going_on}
 use Rattle.turns.specs.Runs.{Turns, goes_on}
@@ -211,6 +211,7 @@ module _ {D : Type 0} (state : D → State) (honest : D → Type 0) (moment : D 
       decided = refl;
       batch = λ b is. absurd cc;
       verdict = λ id is. is;
+      gave = λ is. let both : outward (Some back.refusal) ≡ onward = is in absurd cc;
     }
 
     -- the intent is spent, and the write goes out

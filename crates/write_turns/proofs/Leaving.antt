@@ -34,7 +34,7 @@ use Rattle.commit_flow.specs.declared.end.WriteEnd.TheVariants.{Refused}
 use Rattle.laws.specs.Machines.{Machine}
 use Rattle.laws.specs.Nodes.{NodeName, Nodes, coordinator, shard}
 use Rattle.turns.specs.AbortLaws.{IsUndecidedFlow, with_closed, with_verdict}
-use Rattle.turns.specs.Flows.{HeldTicket, id_of, outward, to_write, writing}
+use Rattle.turns.specs.Flows.{HeldTicket, id_of, onward, outward, to_write, writing}
 use Rattle.turns.specs.Held.{own_write}
 use Rattle.turns.specs.Moments.{Moment, Running}
 use Rattle.turns.specs.QuietTurns.{HoldsLess, ending, going_on, with_call}
@@ -271,6 +271,7 @@ module _ {D : Type 0} (state : D → State) (honest : D → Type 0) (moment : D 
       decided = refl;
       batch = λ b is. is;
       verdict = λ id is. has ∙ is;
+      gave = λ is. let both : outward out.0 ≡ onward = sym out.1 ∙ is in absurd cc;
     }
 
     own_of : (o : Option WriteId) → v.holds.id ≡ o → (id : WriteId) × (v.holds.id ≡ Some id)

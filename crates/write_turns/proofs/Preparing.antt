@@ -1,23 +1,21 @@
 -- A prepare that a write flow asks a shard for is a turn.
-use Rattle.std.proofs.Common.{◌≡◌, ◌≢◌, ◌⊎◌, inl, inr, ⊎_elim, ◌≤◌, ◌<◌, ◌++◌, ℕ, Bool, true, false, List, [], ◌∷◌, Result, Ok, Err, Option, Some, None, refl, sym, ◌∙◌, ap, subst, arith, if◌then◌else◌}
+use Rattle.std.proofs.Common.{◌≡◌, ◌≢◌, ◌⊎◌, inl, inr, ⊎_elim, ◌≤◌, ◌<◌, ◌++◌, ℕ, Bool, true, false, List, [], ◌∷◌, Result, Ok, Err, Option, Some, None, Contains, refl, sym, ◌∙◌, ap, subst, arith, if◌then◌else◌}
 use Rattle.std.specs.Prelude.{MatchOption}
 use Rattle.std.proofs.lemmas.Bool.{cases_Bool}
 use Rattle.tuples.specs.declared.change.Want.{Want}
 use Rattle.tuples.specs.declared.change.Want.TheVariants.{NotAfter, Exists, Absent}
 use Rattle.tuples.specs.declared.entry.Entry.{Entry}
-use Rattle.tuples.specs.declared.entry.WriteId.{WriteId}
 use Rattle.tuples.specs.Parts.{part, takes_part}
 use Rattle.refusal.specs.declared.refusal.Refusal.{Refusal}
 use Rattle.refusal.specs.declared.refusal.Refusal.TheVariants.{Busy, Collected, Down, Full, NoMemory, Precondition}
 use Rattle.device.specs.Device.{State, left}
 use Rattle.records.specs.declared.record.Record.{Record}
 use Rattle.records.specs.declared.record.Record.TheVariants.{Prepare}
-use Rattle.records.specs.Replays.{find_in_doubt}
 use Rattle.journal.specs.Records.{HasNoRoom}
 use Rattle.decisions.specs.Values.{IntentValue, IsIntent, TicketValue}
 use Rattle.shard.specs.Calls.{PrepareRefused, PreparesAt}
-use Rattle.shard.specs.Shards.{AskBelow, IsBelow, IsBroken, IsBusy, IsPreparable, ShardView, memory, own_part}
-use Rattle.shard.proofs.Tested.{part_prepared, same_part_id}
+use Rattle.shard.specs.Shards.{AskBelow, IsBelow, IsBroken, IsBusy, ShardView, memory, own_part}
+use Rattle.shard.proofs.Tested.{part_prepared}
 use Rattle.calls.specs.Asking.{Answered}
 use Rattle.calls.specs.ShardAnswers.{Stays}
 use Rattle.calls.specs.Views as views
@@ -32,24 +30,25 @@ use Rattle.calls.proofs.Belonging.{answered_belongs}
 use Rattle.commit_flow.specs.Answering.{GivesTo, PrepareGives}
 use Rattle.commit_flow.specs.Views.{WriteView, at_rest, ticket_value}
 use Rattle.commit_flow.specs.WriteHolds as waits
-use Rattle.commit_flow.specs.Writing.{IsOnItsWay}
+use Rattle.commit_flow.specs.Writing.{GaveBelow, IsOnItsWay}
 use Rattle.laws.specs.Nodes.{NodeName, Nodes, down, shard, up}
 use Rattle.laws.specs.Shards.{ShardMeans}
 use Rattle.turns.specs.Causes.{Calls, HasItsCause, IsBelow as IsBelowCause}
-use Rattle.turns.specs.Flows.{WriteHolds, outward, writing}
+use Rattle.turns.specs.Flows.{HeldVote, WriteHolds, onward, outward, writing}
+use Rattle.turns.specs.Held.{HoldsOf}
 use Rattle.turns.specs.Moments.{Moment, Running}
 use Rattle.turns.specs.PrepareLaws.{IsPreparing}
 use Rattle.turns.specs.QuietTurns.{HoldsLess, with_call}
 use Rattle.turns.specs.ShardSeamLaws.{IsHolder, ShardIsSeen, behind_shard, held_ticket}
 use Rattle.turns.specs.Stores.{StandsOver, Store, stops}
 use Rattle.turns.proofs.PrepareTurn.{broken_shards_have_cause, busy_shards_have_cause, full_shards_have_cause, part_condition}
-use Rattle.turns.proofs.ShardPrepareSeam.{prepare_turns_of}
+use Rattle.turns.proofs.ShardPrepareSeam.{not_prepared, prepare_turns_of}
 use Rattle.turns.proofs.ShardSeam.{elsewhere, here, known_left, knows, own_is}
 use Rattle.call_turns.specs.StoreCalls.{IsCalled, IsMade}
 use Rattle.call_turns.proofs.Flushed.{down_shard_fails, refused_fails}
 use Rattle.call_turns.proofs.Made.{FailsQuietly, IsQuietlyMade, fails_by, inside_by, same_devices, shows_nodes, still_made, still_named, still_sound, still_within}
 use Rattle.call_turns.proofs.Standing.{shard_is_seen, shard_is_up}
-use Rattle.write_turns.specs.Turning.{HasNot, PreparesBy}
+use Rattle.write_turns.specs.Turning.{TurnsBy}
 use Rattle.write_turns.proofs.Catching.{may_ask_shard}
 use Rattle.write_turns.proofs.Going.{IsFlow, Promises, asks_own, calls_shard, flow_of, flow_there, goes_out, going, holds_is, moved, stays_so}
 use Rattle.write_turns.proofs.Learning.{is_full}
@@ -59,7 +58,7 @@ module _ {D : Type 0} (state : D → State) (honest : D → Type 0) (moment : D 
     (store shards : ℕ) (old new : Store D) (slot : ℕ) (is_cancelled : Bool) (v later : WriteView) (number : ℕ) (now : Moment) (standing : StandsOver state honest store shards old now)
     (r : Running) (flow : IsFlow state honest moment left_since store shards old new now standing number slot is_cancelled v r) (way : IsOnItsWay v)
     (s : ℕ) (intent : IntentValue) (there : s < shards) (has : v.holds.intent ≡ Some intent) (has_id : v.holds.id ≡ Some intent.write.id) (takes : takes_part shards s intent.write ≡ true) (whole : IsIntent intent.write)
-    (again : Bool) (bits : ℕ) where
+    (below : GaveBelow v s) (again : Bool) (bits : ℕ) where
   abbrev Goal : WriteView → Type 0
   Goal = Promises state honest moment left_since store shards old new now standing number slot is_cancelled v
 
@@ -81,13 +80,27 @@ module _ {D : Type 0} (state : D → State) (honest : D → Type 0) (moment : D 
   calls : Calls shards r.asked (shard s)
   calls = calls_shard shards s r.asked w (asks_own state honest moment left_since store shards old new now standing number slot is_cancelled v r flow intent has has_id) there takes
 
+  -- this shard gave nothing yet
+  gave_nothing : HoldsOf v.holds s → ⊥
+  gave_nothing (inl (t, held, same)) = let lt = below.0 t held in omega (arith, lt, same)
+  gave_nothing (inr (x, held, same)) = let none = (subst (λ (votes : List HeldVote). Contains votes x) below.1 held).1 in omega (arith, none)
+
   -- with the intent back it holds what it held, and goes out, or waits for a flush
   module _ (back : IntentValue) (same_back : back ≡ intent) (e : Refusal) where
     intent_back : Some back ≡ v.holds.intent
     intent_back = ap (λ (i : IntentValue). Some i) same_back ∙ sym has
 
     less : HoldsLess v.holds (record v.holds { intent = Some back; way = outward (Some e); batch = None })
-    less = record { id = refl; intent = λ i is. sym intent_back ∙ is; tickets = λ t held. held; votes = λ x held. held; decided = refl; batch = λ b is. absurd cc; verdict = λ id is. is }
+    less = record {
+      id = refl;
+      intent = λ i is. sym intent_back ∙ is;
+      tickets = λ t held. held;
+      votes = λ x held. held;
+      decided = refl;
+      batch = λ b is. absurd cc;
+      verdict = λ id is. is;
+      gave = λ is. let both : outward (Some e) ≡ onward = is in absurd cc;
+    }
 
     refused_with : (next : Nodes) → IsQuietlyMade state honest moment left_since store shards old new now standing next now.machine → ((ran : Moment) → ran.nodes ≡ next → HasItsCause shards now ran r e)
         → PrepareGives mid s again back (Err e) later → Goal later
@@ -157,14 +170,19 @@ module _ {D : Type 0} (state : D → State) (honest : D → Type 0) (moment : D 
       quiet : IsQuietlyMade state honest moment left_since store shards old new now standing now.nodes now.machine
       quiet = still_made state honest moment left_since store shards old new now standing (shard s) (views.shard x) (views.shard y) called only_now (ap views.shard same)
 
-      abbrev asks : find_in_doubt w.id (memory x).in_doubt ≡ None → IsPreparing store shards before now r w s
-      asks fresh = record { stands = standing.stands; flow = holder.flow; there = there; takes = takes; memory = memory x; knows = knows store shards before now x s seen; fresh = fresh }
+      abbrev asks : IsPreparing store shards before now r w s
+      asks = record {
+        stands = standing.stands;
+        flow = holder.flow;
+        there = there;
+        takes = takes;
+        memory = memory x;
+        knows = knows store shards before now x s seen;
+        fresh = not_prepared store shards before now x s w r v.holds standing.stands seen holder way.0 gave_nothing;
+      }
 
       means : ShardMeans shards s now.machine.log now.machine.horizon now.machine.horizon (memory x)
       means = standing.stands.listed s (x.durable ++ x.staged) there (known_left store shards before now x s seen standing.stands)
-
-      not_own : find_in_doubt (part shards s w).id (memory x).in_doubt ≡ None → find_in_doubt w.id (memory x).in_doubt ≡ None
-      not_own none = ap (λ (i : WriteId). find_in_doubt i (memory x).in_doubt) (sym (same_part_id shards s w)) ∙ none
 
       collected : AskBelow (memory x).horizon (part shards s w).conditions → IsBelowCause now.machine.horizon r r.asked
       collected ask =
@@ -177,31 +195,29 @@ module _ {D : Type 0} (state : D → State) (honest : D → Type 0) (moment : D 
           below_place Exists is low = absurd low
           below_place Absent is low = absurd low
 
-      cause : (e ≡ Busy → find_in_doubt w.id (memory x).in_doubt ≡ None) → (e ≡ Collected) ⊎ ((e ≡ Busy) ⊎ ((e ≡ Precondition) ⊎ ((e ≡ Full) ⊎ (e ≡ NoMemory)))) → (ran : Moment) → HasItsCause shards now ran r e
-      cause first (inl is) ran = subst (HasItsCause shards now ran r) (sym is) (inl (collected (subst (λ (p : Entry). AskBelow (memory x).horizon p.conditions) own_here (given_up.collected is))))
-      cause first (inr (inl is)) ran = subst (HasItsCause shards now ran r) (sym is)
-          (inl (busy_shards_have_cause store shards before now ran r w s (asks (first is)) (subst (IsBusy (memory x)) own_here (given_up.busy is))))
-      cause first (inr (inr (inl is))) ran =
-          let broken = subst (IsBroken (memory x)) own_here (given_up.broken is) in
-          subst (HasItsCause shards now ran r) (sym is) (inl (broken_shards_have_cause store shards before now ran r w s (asks (not_own broken.free.new)) broken))
-      cause first (inr (inr (inr (inl is)))) ran =
-          let may = subst (IsPreparable (memory x)) own_here (given_up.full is).0 in
-          subst (HasItsCause shards now ran r) (sym is) (inl (full_shards_have_cause store shards before now ran r w s (asks (not_own may.free.new)) (part_prepared shards s w whole takes)
+      cause : (e ≡ Collected) ⊎ ((e ≡ Busy) ⊎ ((e ≡ Precondition) ⊎ ((e ≡ Full) ⊎ (e ≡ NoMemory)))) → (ran : Moment) → HasItsCause shards now ran r e
+      cause (inl is) ran = subst (HasItsCause shards now ran r) (sym is) (inl (collected (subst (λ (p : Entry). AskBelow (memory x).horizon p.conditions) own_here (given_up.collected is))))
+      cause (inr (inl is)) ran = subst (HasItsCause shards now ran r) (sym is)
+          (inl (busy_shards_have_cause store shards before now ran r w s asks (subst (IsBusy (memory x)) own_here (given_up.busy is))))
+      cause (inr (inr (inl is))) ran = subst (HasItsCause shards now ran r) (sym is)
+          (inl (broken_shards_have_cause store shards before now ran r w s asks (subst (IsBroken (memory x)) own_here (given_up.broken is))))
+      cause (inr (inr (inr (inl is)))) ran = subst (HasItsCause shards now ran r) (sym is)
+          (inl (full_shards_have_cause store shards before now ran r w s asks (part_prepared shards s w whole takes)
           (subst (λ (p : Entry). HasNoRoom x.staged (Prepare p)) own_here (given_up.full is).1)))
-      cause first (inr (inr (inr (inr is)))) ran = subst (HasItsCause shards now ran r) (sym is) (inl tt)
+      cause (inr (inr (inr (inr is)))) ran = subst (HasItsCause shards now ran r) (sym is) (inl tt)
 
-      refused_up : (e ≡ Busy → find_in_doubt w.id (memory x).in_doubt ≡ None) → (e ≡ Collected) ⊎ ((e ≡ Busy) ⊎ ((e ≡ Precondition) ⊎ ((e ≡ Full) ⊎ (e ≡ NoMemory)))) → (back : IntentValue) → back ≡ intent
+      refused_up : (e ≡ Collected) ⊎ ((e ≡ Busy) ⊎ ((e ≡ Precondition) ⊎ ((e ≡ Full) ⊎ (e ≡ NoMemory)))) → (back : IntentValue) → back ≡ intent
           → PrepareGives mid s again back (Err e) later → Goal later
-      refused_up first of back same_back gives = refused_with back same_back e now.nodes quiet (λ ran is. cause first of ran) gives
+      refused_up of back same_back gives = refused_with back same_back e now.nodes quiet (λ ran is. cause of ran) gives
 
   prepare_by : (was is : NodeView D) (back : IntentValue) (reply : Result TicketValue Refusal) → IsCalled state honest moment left_since store shards (shard s) was is old new
-      → Answered state honest moment left_since was (of_shard s (shard_calls.StagePrepare intent)) (from_shard (told_by.StagePrepare back reply)) is → (reply ≡ Err Busy → HasNot was w.id)
+      → Answered state honest moment left_since was (of_shard s (shard_calls.StagePrepare intent)) (from_shard (told_by.StagePrepare back reply)) is
       → PrepareGives mid s again back reply later → Goal later
-  prepare_by (views.shard x) (views.shard y) back (Ok t) called so first gives = ⊎_elim
+  prepare_by (views.shard x) (views.shard y) back (Ok t) called so gives = ⊎_elim
       (λ gone. let bad : Ok t ≡ Err Down = so.1.down.1 gone in absurd cc)
       (λ is_up. prepared x y called is_up so.1.stays t (so.1.ok (shard_is_up state honest store shards old now standing s x called.before is_up)) back so.0 gives)
       (cases_Bool x.is_down)
-  prepare_by (views.shard x) (views.shard y) back (Err e) called so first gives = ⊎_elim
+  prepare_by (views.shard x) (views.shard y) back (Err e) called so gives = ⊎_elim
       (λ gone. failed back so.0 e
       (down_shard_fails state honest moment left_since counts_now only_now store shards old new now standing s x y e called so.1.err.0 gone (let both : Err e ≡ Err Down = so.1.down.1 gone in cc)) gives)
       (λ is_up. by_cause is_up so.1.err.1)
@@ -209,29 +225,28 @@ module _ {D : Type 0} (state : D → State) (honest : D → Type 0) (moment : D 
     where
       by_cause : x.is_down ≡ false → (e ≡ Down) ⊎ ((e ≡ Collected) ⊎ ((e ≡ Busy) ⊎ ((e ≡ Precondition) ⊎ ((e ≡ Full) ⊎ (e ≡ NoMemory))))) → Goal later
       by_cause is_up (inl gone) = let both : true ≡ false = sym (so.1.down.0 (ap Err gone)) ∙ is_up in absurd cc
-      by_cause is_up (inr of) = refused_up x y called is_up so.1.err.0 e (so.1.refused (shard_is_up state honest store shards old now standing s x called.before is_up)) (λ busy. first (ap Err busy)) of back so.0 gives
-  prepare_by (views.shard x) (views.coordinator y) back reply called so first gives = absurd so
-  prepare_by (views.shard x) (views.refused e a b) back reply called so first gives = absurd so
-  prepare_by (views.coordinator x) is back reply called so first gives = absurd called.before.named
-  prepare_by (views.refused e a b) is back reply called so first gives = failed back so.1.0 e
+      by_cause is_up (inr of) = refused_up x y called is_up so.1.err.0 e (so.1.refused (shard_is_up state honest store shards old now standing s x called.before is_up)) of back so.0 gives
+  prepare_by (views.shard x) (views.coordinator y) back reply called so gives = absurd so
+  prepare_by (views.shard x) (views.refused e a b) back reply called so gives = absurd so
+  prepare_by (views.coordinator x) is back reply called so gives = absurd called.before.named
+  prepare_by (views.refused e a b) is back reply called so gives = failed back so.1.0 e
       (refused_fails state honest moment left_since counts_now only_now store shards old new now standing (shard s) e e a b is called so.0 refl)
       (subst (λ (z : Result TicketValue Refusal). PrepareGives mid s again back z later) so.1.1 gives)
 
   prepare_reply : (was is : NodeView D) (reply : Reply) → IsCalled state honest moment left_since store shards (shard s) was is old new
       → Answered state honest moment left_since was (of_shard s (shard_calls.StagePrepare intent)) reply is → IsReplyTo (of_shard s (shard_calls.StagePrepare intent)) reply
-      → (reply ≡ from_shard (told_by.StagePrepare intent (Err Busy)) → HasNot was w.id) → GivesTo mid (waits.prepare s again bits) reply later → Goal later
-  prepare_reply was is (from_shard (told_by.StagePrepare back reply)) called so fits first gives = prepare_by was is back reply called so
-      (λ busy. first (ap (λ (i : IntentValue). from_shard (told_by.StagePrepare i reply)) fits.0 ∙ ap (λ (z : Result TicketValue Refusal). from_shard (told_by.StagePrepare intent z)) busy)) gives
-  prepare_reply was is reply called so fits first gives = absurd fits
+      → GivesTo mid (waits.prepare s again bits) reply later → Goal later
+  prepare_reply was is (from_shard (told_by.StagePrepare back reply)) called so fits gives = prepare_by was is back reply called so gives
+  prepare_reply was is reply called so fits gives = absurd fits
 
 module _ {D : Type 0} (state : D → State) (honest : D → Type 0) (moment : D → ℕ) (left_since : D → ℕ → List ℕ → Type 0)
     (counts_now : (d : D) (t : ℕ) (c : List ℕ) → honest d → t ≤ moment d → left (state d) c → left_since d t c) (only_now : (d : D) (c : List ℕ) → honest d → left_since d (moment d) c → left (state d) c)
     (store shards : ℕ) where
-  pub prepares_turn : (s : ℕ) (intent : IntentValue) → PreparesBy state honest moment left_since store shards s intent
-  prepares_turn s intent old new slot is_cancelled v later c first number now standing =
+  pub prepares_turn : (s : ℕ) (intent : IntentValue) → TurnsBy state honest moment left_since store shards (of_shard s (shard_calls.StagePrepare intent))
+  prepares_turn s intent old new slot is_cancelled v later c number now standing =
       let flow = flow_there state honest moment left_since store shards old new now standing number slot is_cancelled v _ c.slots in
-      let gives = subst (λ (x : WriteView). MatchOption x.awaited ⊥ (λ awaited. GivesTo x awaited c.reply later)) c.asks.1.5.3 c.gives in
+      let gives = subst (λ (x : WriteView). MatchOption x.awaited ⊥ (λ awaited. GivesTo x awaited c.reply later)) c.asks.1.6.3 c.gives in
       let fits = answered_belongs state honest moment left_since c.was (of_shard s (shard_calls.StagePrepare intent)) c.reply c.is
       (may_ask_shard store shards s c.was (shard_calls.StagePrepare intent) c.node.before.named c.asks.0) c.answered in
       prepare_reply state honest moment left_since counts_now only_now store shards old new slot is_cancelled v later number now standing flow.0 flow.1 c.asks.1.0 s intent c.asks.1.2 c.asks.1.3 c.asks.1.4
-      c.asks.0 c.whole c.asks.1.5.0 c.asks.1.5.1 c.was c.is c.reply c.node c.answered fits first gives c.slots
+      c.asks.0 c.whole c.asks.1.5 c.asks.1.6.0 c.asks.1.6.1 c.was c.is c.reply c.node c.answered fits gives c.slots

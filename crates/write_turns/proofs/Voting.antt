@@ -1,8 +1,8 @@
 -- A vote that a write flow asks a shard for is a turn.
-use Rattle.std.proofs.Common.{◌≡◌, inl, ⊎_elim, ◌≤◌, ◌++◌, ℕ, Bool, true, false, List, [], ◌∷◌, Some, None, Contains, refl, sym, ◌∙◌, ap, subst}
+use Rattle.std.proofs.Common.{◌≡◌, ◌⊎◌, inl, inr, ⊎_elim, ◌≤◌, ◌++◌, ℕ, Bool, true, false, List, [], ◌∷◌, Some, None, Contains, refl, sym, ◌∙◌, ap, subst, arith}
 use Rattle.std.specs.Prelude.{MatchOption}
 use Rattle.std.proofs.lemmas.Bool.{cases_Bool}
-use Rattle.std.proofs.lemmas.List.Elements.{All-contains, Contains-append_right}
+use Rattle.std.proofs.lemmas.List.Elements.{All-contains, Contains-append_cases, Contains-append_right, Contains-push_cases}
 use Rattle.tuples.specs.declared.entry.Entry.{Entry}
 use Rattle.tuples.specs.Parts.{part}
 use Rattle.refusal.specs.declared.refusal.Refusal.{Refusal}
@@ -30,7 +30,7 @@ use Rattle.commit_flow.specs.WriteHolds as waits
 use Rattle.commit_flow.specs.Writing.{IsOnItsWay}
 use Rattle.laws.specs.Nodes.{NodeName, shard}
 use Rattle.turns.specs.Causes.{Calls, HasItsCause, IsCutOff}
-use Rattle.turns.specs.Flows.{HeldTicket, WriteHolds, outward, writing}
+use Rattle.turns.specs.Flows.{HeldTicket, WriteHolds, onward, outward, writing}
 use Rattle.turns.specs.Held.{IsRightTicket, own_write}
 use Rattle.turns.specs.Moments.{Moment, Running}
 use Rattle.turns.specs.QuietTurns.{HoldsLess, with_call}
@@ -72,7 +72,23 @@ module _ {D : Type 0} (state : D → State) (honest : D → Type 0) (moment : D 
   among x has = subst (λ (ts : List HeldTicket). Contains ts x) (sym held) (Contains-append_right (ticket_value (s, ticket) ∷ []) others x has)
 
   less : (e : Refusal) → HoldsLess v.holds (record v.holds { tickets = others; way = outward (Some e); batch = None })
-  less e = record { id = refl; intent = λ i is. is; tickets = among; votes = λ x has. has; decided = refl; batch = λ b is. absurd cc; verdict = λ id is. is }
+  less e = record {
+    id = refl;
+    intent = λ i is. is;
+    tickets = among;
+    votes = λ x has. has;
+    decided = refl;
+    batch = λ b is. absurd cc;
+    verdict = λ id is. is;
+    gave = λ is. let both : outward (Some e) ≡ onward = is in absurd cc;
+  }
+
+  -- all that it holds are this one and the others
+  this_or_others : (x : HeldTicket) → Contains v.holds.tickets x → (x ≡ held_ticket s ticket) ⊎ Contains others x
+  this_or_others x has = ⊎_elim
+      (λ first. ⊎_elim (λ never. absurd (omega (arith, never.1))) (λ same. inl (sym same)) (Contains-push_cases [] (held_ticket s ticket) x first))
+      (λ more. inr more)
+      (Contains-append_cases (held_ticket s ticket ∷ []) others x (subst (λ (ts : List HeldTicket). Contains ts x) held has))
 
   holder : IsHolder now r v.holds w
   holder = record {
@@ -113,7 +129,7 @@ module _ {D : Type 0} (state : D → State) (honest : D → Type 0) (moment : D 
     told (Yes vote) so is_up is =
         let up = shard_is_up state honest store shards old now standing s x called.before is_up in
         let law = vote_turns_of store shards before state honest now x s w ticket vote r v.holds others standing.stands (shard_is_seen state honest store shards old now standing s x called.before is_up) holder
-        has_ticket among up (so.1.yes vote up refl) in
+        has_ticket among this_or_others up (so.1.yes vote up refl) in
         let k : WriteHolds = record v.holds { tickets = others; votes = v.holds.votes ++ vote ∷ [] } in
         subst Goal (sym is) (going state honest moment left_since store shards old new now standing number slot is_cancelled v r flow now.nodes now.machine k None way.2.0.write.id
         (with_call r (writing k) r.met now.machine) quiet.1 way.2.2 refl refl refl

@@ -2,15 +2,15 @@
 ghost use Rattle.std.specs.Prelude.{ℕ};
 ghost use Rattle.decisions.specs.Values.{IntentValue, TicketValue};
 ghost use Rattle.calls.specs.declared.call.NodeCall.TheVariants.{Shard};
-ghost use Rattle.calls.specs.declared.call.ShardCall.TheVariants.{Vote};
-ghost use Rattle.write_turns.specs.Turning.{PreparesBy, TurnsBy};
+ghost use Rattle.calls.specs.declared.call.ShardCall.TheVariants.{StagePrepare, Vote};
+ghost use Rattle.write_turns.specs.Turning.{TurnsBy};
 
 use device::Device;
 
 /// To ask a shard to prepare its part is a turn of a run: the flow goes on with a ticket, waits for a flush where the shard is full for the first time, or
 /// goes out with a refusal that has its cause.
 pub fn prepare_takes_its_turn<D: Device>()
-    ensures { (store shards s : ℕ) (intent : IntentValue) → PreparesBy D.state D.honest D.moment D.left_since store shards s intent }
+    ensures { (store shards s : ℕ) (intent : IntentValue) → TurnsBy D.state D.honest D.moment D.left_since store shards (Shard s (StagePrepare intent)) }
 {}
 
 /// To ask a shard for its vote is a turn of a run.

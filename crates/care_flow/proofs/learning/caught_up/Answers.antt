@@ -2,7 +2,7 @@
 use Rattle.std.proofs.Common.{ap}
 use Rattle.calls.specs.declared.call_name.CallName.TheVariants.{Learned}
 use Rattle.catch_up.specs.declared.caught.Progress.TheVariants.{Refused}
-use Rattle.care_flow.specs.LearnStages.{view_of}
+use Rattle.care_flow.specs.LearnPhases.{view_of}
 use Rattle.care_flow.proofs.Naming.{whichever_next}
 use Rattle.care_flow.proofs.learning.caught_up.Goals as goal
 

@@ -2,7 +2,7 @@
 use Rattle.std.proofs.Common.{ap}
 use Rattle.calls.specs.declared.call_name.CallName.TheVariants.{Learned}
 use Rattle.catch_up.specs.declared.caught.Progress.TheVariants.{Refused}
-use Rattle.care_flow.specs.RaiseStages.{view_of}
+use Rattle.care_flow.specs.RaisePhases.{view_of}
 use Rattle.care_flow.proofs.Naming.{whichever_next}
 use Rattle.care_flow.proofs.raise_replies.caught_up.Goals as goal
 

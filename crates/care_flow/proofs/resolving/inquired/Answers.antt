@@ -2,7 +2,7 @@
 use Rattle.std.proofs.Common.{None, refl}
 use Rattle.decisions.specs.Flows.{undecided}
 use Rattle.care_flow.specs.Resolving.{finding}
-use Rattle.care_flow.specs.ResolveStages.{holding}
+use Rattle.care_flow.specs.ResolvePhases.{holding}
 use Rattle.care_flow.proofs.resolving.inquired.Goals as goal
 
 pub returns-in-Ok-Undecided-clause-gives : goal.returns-in-Ok-Undecided-clause-gives

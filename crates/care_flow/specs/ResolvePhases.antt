@@ -1,4 +1,4 @@
--- What is seen of the stages of a resolution, and what each keeps.
+-- What is seen of the phases of a resolution, and what each keeps.
 use Rattle.std.specs.Prelude.{◌≡◌, ℕ, map, [], Option, Some, None}
 use Rattle.tuples.specs.declared.entry.WriteId.{WriteId}
 use Rattle.decisions.specs.Values.{BatchValue}
@@ -7,8 +7,8 @@ use Rattle.calls.specs.declared.call_name.CallName.{CallName}
 use Rattle.calls.specs.declared.call_name.CallName.TheVariants as names
 use Rattle.care_flow.specs.declared.end.CareEnd.TheVariants.{Refused as is_refused, Resolved as all_resolved}
 use Rattle.care_flow.specs.declared.findings.Findings.{Findings}
-use Rattle.care_flow.specs.declared.resolving.Stage.{Stage}
-use Rattle.care_flow.specs.declared.resolving.Stage.TheVariants.{AskDoubts, AskedDoubts, Inquire, Inquired, CatchUp, CatchingUp, Drop, Dropping, Done, Refused}
+use Rattle.care_flow.specs.declared.resolving.Phase.{Phase}
+use Rattle.care_flow.specs.declared.resolving.Phase.TheVariants.{AskDoubts, AskedDoubts, Inquire, Inquired, CatchUp, CatchingUp, Drop, Dropping, Done, Refused}
 use Rattle.care_flow.specs.Ends.{next_of, resolved_value}
 use Rattle.care_flow.specs.Resolving.{HasCommitted, ResolveView, catch_up, drop_write, in_doubt, inquire}
 use Rattle.care_flow.specs.Views.{out, over, ready}
@@ -17,7 +17,7 @@ use Rattle.care_flow.specs.Views.{out, over, ready}
 abbrev pub holding : Findings → Option WriteId → Option BatchValue → ResolveHolds
 holding f verdict batch = record { found = map resolved_value f.found.items; verdict = verdict; batch = batch }
 
-abbrev pub view_of : Findings → Stage → ResolveView
+abbrev pub view_of : Findings → Phase → ResolveView
 view_of f AskDoubts = ready (holding f None None) in_doubt
 view_of f AskedDoubts = out (holding f None None) in_doubt
 view_of f (Inquire id) = ready (holding f None None) (inquire id)
@@ -30,7 +30,7 @@ view_of f Done = over (holding f None None) (all_resolved f.found)
 view_of f (Refused e) = over (holding f None None) (is_refused e)
 
 -- the name of the next call, if there is one
-abbrev pub name_of : Stage → Option CallName
+abbrev pub name_of : Phase → Option CallName
 name_of AskDoubts = Some names.InDoubt
 name_of AskedDoubts = None
 name_of (Inquire id) = Some names.Inquire
@@ -44,7 +44,7 @@ name_of (Refused e) = None
 
 -- the coordinator is asked for the next write; the shard that is caught up is the flow's, and goes to the place of a write that
 -- was found to be decided; and it is done where no write comes next
-abbrev pub IsOf : ℕ → Findings → Stage → Type 0
+abbrev pub IsOf : ℕ → Findings → Phase → Type 0
 IsOf s f AskDoubts = f.found.items ≡ []
 IsOf s f AskedDoubts = f.found.items ≡ []
 IsOf s f (Inquire id) = next_of f.doubts.items f.found.items ≡ Some id

@@ -1,12 +1,12 @@
--- What is seen of the stages of a raise, and what each keeps.
+-- What is seen of the phases of a raise, and what each keeps.
 use Rattle.std.specs.Prelude.{◌≡◌, ◌<◌, ℕ, true, false, Option, Some, None}
 use Rattle.decisions.specs.Values.{BatchValue, HeadsValue}
 use Rattle.decisions.specs.Flows.{RaiseHolds, nothing_raised}
 use Rattle.calls.specs.declared.call_name.CallName.{CallName}
 use Rattle.calls.specs.declared.call_name.CallName.TheVariants as names
 use Rattle.care_flow.specs.Gatherings.{GatheredValue, GatheringValue}
-use Rattle.care_flow.specs.declared.raising.Stage.{Stage}
-use Rattle.care_flow.specs.declared.raising.Stage.TheVariants.{Ask, Asked, FlushToAsk, FlushingToAsk, CatchUp, CatchingUp, Flush, Flushing, Settle, Settling, Raise, Raising, FlushToRaise, FlushingToRaise, FlushRaised, FlushingRaised, Ended}
+use Rattle.care_flow.specs.declared.raising.Phase.{Phase}
+use Rattle.care_flow.specs.declared.raising.Phase.TheVariants.{Ask, Asked, FlushToAsk, FlushingToAsk, CatchUp, CatchingUp, Flush, Flushing, Settle, Settling, Raise, Raising, FlushToRaise, FlushingToRaise, FlushRaised, FlushingRaised, Ended}
 use Rattle.care_flow.specs.Raising.{RaiseView, ask, catch_up, flush, flush_raised, flush_to_ask, flush_to_raise, raise, settle}
 use Rattle.care_flow.specs.Views.{out, over, ready}
 
@@ -25,7 +25,7 @@ handed_in heads = record nothing_raised { heads = Some heads }
 abbrev pub raised : HeadsValue → RaiseHolds
 raised heads = record nothing_raised { heads = Some heads; is_raised = true }
 
-abbrev pub view_of : Stage → RaiseView
+abbrev pub view_of : Phase → RaiseView
 view_of Ask = ready nothing_raised ask
 view_of Asked = out nothing_raised ask
 view_of FlushToAsk = ready nothing_raised flush_to_ask
@@ -45,7 +45,7 @@ view_of (FlushingRaised heads) = out (raised heads) flush_raised
 view_of (Ended end) = over nothing_raised end
 
 -- the name of the next call, if there is one
-abbrev pub name_of : Stage → Option CallName
+abbrev pub name_of : Phase → Option CallName
 name_of Ask = Some names.Heads
 name_of Asked = None
 name_of FlushToAsk = Some names.Flush
@@ -70,7 +70,7 @@ pub record IsRoundOf (shards place : ℕ) (g : GatheringValue) : Type 0 where
   pub place_is : g.place ≡ place
   pub there : g.next < shards
 
-abbrev pub IsOf : ℕ → ℕ → Stage → Type 0
+abbrev pub IsOf : ℕ → ℕ → Phase → Type 0
 IsOf shards place Ask = Unit {0}
 IsOf shards place Asked = Unit {0}
 IsOf shards place FlushToAsk = Unit {0}

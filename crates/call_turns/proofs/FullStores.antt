@@ -1,0 +1,65 @@
+-- A start where all slots are taken keeps the promise of a step: nothing changes, and Full is told.
+use Rattle.std.proofs.Common.{◌≡◌, inl, inr, ◌≤◌, ◌<◌, ℕ, List, [], ◌∷◌, length, Option, Some, None, refl, sym, ◌∙◌, subst, arith}
+use Rattle.std.proofs.Math.Path.{fun_ext}
+use Rattle.std.proofs.lemmas.Map.Steps.{le-length_from_below}
+use Rattle.refusal.specs.declared.refusal.Refusal.TheVariants.{Full}
+use Rattle.device.specs.Device.{State, left}
+use Rattle.laws.specs.Nodes.{NodeName}
+use Rattle.turns.specs.Flows.{Asked, IsAsked}
+use Rattle.turns.specs.Moments.{Moment, Running, flow_at}
+use Rattle.turns.specs.Promises.{Ran, events_of}
+use Rattle.turns.specs.Runs.{refuses, restart, start}
+use Rattle.turns.specs.Stands.{IsHorizonIn, Stands}
+use Rattle.turns.specs.Stores.{AreSound, FlowView, ShowsSlot, StandsOver, Store, stops}
+use Rattle.call_turns.proofs.Made.{inside_by, still_within}
+use Rattle.call_turns.proofs.Starts.{at_slots, no_fewer, slots_of}
+use Rattle.call_turns.specs.Steps.{FullStoresRefuse, IsFullThere}
+
+module _ {D : Type 0} (state : D → State) (honest : D → Type 0) (moment : D → ℕ) (left_since : D → ℕ → List ℕ → Type 0)
+    (only_now : (d : D) (c : List ℕ) → honest d → left_since d (moment d) c → left (state d) c)
+    (store shards : ℕ) (old new : Store D) (asked : Asked) (whole : IsAsked shards asked) (there : IsFullThere old new) (number : ℕ) (now : Moment) (standing : StandsOver state honest store shards old now) where
+  devices : new.devices ≡ old.devices
+  devices = fun_ext (λ n. there.store_stays.devices n)
+
+  -- each slot is that of a flow
+  flow_of : (t : ℕ) → t < 1024 → (r : Running) × (flow_at t now.running ≡ Some r)
+  flow_of t lt = by_flow (flow_at t now.running) refl (old.flows t) refl (standing.flows t)
+    where
+      by_flow : (o : Option Running) → flow_at t now.running ≡ o → (g : Option FlowView) → old.flows t ≡ g → ShowsSlot o g → (r : Running) × (flow_at t now.running ≡ Some r)
+      by_flow (Some r) is g shown shows = (r, is)
+      by_flow None is None shown shows = absurd (there.taken t lt shown)
+      by_flow None is (Some v) shown shows = absurd shows
+
+  many : 1024 ≤ length now.running
+  many =
+      let all = le-length_from_below (slots_of now.running) 1024 (λ t lt. let flow = flow_of t lt in at_slots t now.running flow.0 flow.1) in
+      omega (arith, all, no_fewer now.running)
+
+  ran : Ran state honest moment left_since store shards old now number (start asked) (events_of number (refuses Full ∷ [])) new
+  ran = record {
+    after = now;
+    told = refuses Full ∷ [];
+    takes = inl (whole, inr (many, refl, refl));
+    tells = refl;
+    stands = record {
+      sound = subst (λ (f : NodeName → D × D). AreSound state honest store shards f) (sym devices) standing.sound;
+      nodes = record {
+        at = λ n. standing.nodes.at n ∙ sym (there.store_stays.at n);
+        open_ids = standing.nodes.open_ids ∙ sym there.store_stays.open_ids;
+        given = standing.nodes.given ∙ sym there.store_stays.given;
+      };
+      flows = λ t. subst (ShowsSlot (flow_at t now.running)) (sym (there.same t)) (standing.flows t);
+      stands = subst (λ (f : NodeName → D × D). Stands store shards (stops state honest store shards f) now) (sym devices) standing.stands;
+    };
+    named = λ x is. inr (subst (λ (f : NodeName → D × D). IsHorizonIn store shards (stops state honest store shards f) now.nodes x) devices is);
+    fails = λ n is_there is_down not_down. absurd (not_down is_down);
+    opens = λ n is_there is. absurd (no_restart n is);
+    inside = inside_by state honest moment left_since store shards old new now standing (still_within state honest moment left_since store shards old new now standing only_now devices) now.machine;
+  }
+    where
+      no_restart : (n : NodeName) → start asked ≡ restart n → ⊥
+      no_restart n is = cc
+
+pub full_stores_refuse : {D : Type 0} (state : D → State) (honest : D → Type 0) (moment : D → ℕ) (left_since : D → ℕ → List ℕ → Type 0)
+    (only_now : (d : D) (c : List ℕ) → honest d → left_since d (moment d) c → left (state d) c) (store shards : ℕ) → FullStoresRefuse state honest moment left_since store shards
+full_stores_refuse state honest moment left_since only_now store shards old new asked whole there number now standing = ran state honest moment left_since only_now store shards old new asked whole there number now standing
