@@ -22,20 +22,20 @@ first_bytes f g fs gs e = let same : f ≡ g = cc in ap (λ (x : Field). get_or 
 abbrev NoQuestion : ℕ → Type 0
 NoQuestion byte = (f : FreshnessShape) (op : List ℕ) (asked first : Field) (rest : List Field) → first ∷ rest ≡ question_with (freshness_fields f) op asked → get_or first.0 0 0 ≡ byte → ⊥
 
-no_question_c : NoQuestion 99
+pub no_question_c : NoQuestion 99
 no_question_c Latest op asked first rest e is = let same = first_bytes first _ rest _ e in omega arith
 no_question_c (AtLeast z) op asked first rest e is = let same = first_bytes first _ rest _ e in omega arith
 no_question_c (Exact z) op asked first rest e is = let same = first_bytes first _ rest _ e in omega arith
 
-no_question_f : NoQuestion 102
+pub no_question_f : NoQuestion 102
 no_question_f Latest op asked first rest e is = let same = first_bytes first _ rest _ e in omega arith
 no_question_f (AtLeast z) op asked first rest e is = let same = first_bytes first _ rest _ e in omega arith
 no_question_f (Exact z) op asked first rest e is = let same = first_bytes first _ rest _ e in omega arith
 
-tails : {A : Type 0} (a b : A) (xs ys : List A) → a ∷ xs ≡ b ∷ ys → xs ≡ ys
+pub tails : {A : Type 0} (a b : A) (xs ys : List A) → a ∷ xs ≡ b ∷ ys → xs ≡ ys
 tails a b xs ys e = cc
 
-seconds : (k : List ℕ) (d e : Data) (fs gs : List Field) → (k, d) ∷ fs ≡ (k, e) ∷ gs → d ≡ e
+pub seconds : (k : List ℕ) (d e : Data) (fs gs : List Field) → (k, d) ∷ fs ≡ (k, e) ∷ gs → d ≡ e
 seconds k d e fs gs same = let one : (k, d) ≡ (k, e) = cc in ap (λ (x : Field). x.1) one
 
 -- the parts of a write behind its first key
@@ -86,7 +86,7 @@ ops_once k op other asked more e =
     let rest : asked ∷ [] ≡ more ∷ [] = tails _ _ (asked ∷ []) (more ∷ []) e in
     (cc, cc)
 
-questions_once : (f g : FreshnessShape) (op other : List ℕ) (asked more : Field) → question_with (freshness_fields f) op asked ≡ question_with (freshness_fields g) other more → (op ≡ other) × (asked ≡ more)
+pub questions_once : (f g : FreshnessShape) (op other : List ℕ) (asked more : Field) → question_with (freshness_fields f) op asked ≡ question_with (freshness_fields g) other more → (op ≡ other) × (asked ≡ more)
 questions_once Latest Latest op other asked more e = ops_once (codes "op") op other asked more e
 questions_once Latest (AtLeast y) op other asked more e = let same = first_bytes _ _ _ _ e in absurd (omega arith)
 questions_once Latest (Exact y) op other asked more e = let same = first_bytes _ _ _ _ e in absurd (omega arith)
