@@ -21,7 +21,7 @@ pub struct FileDevice<F: RawFile> {
     is_stopped: bool,
     failures: u64,
     // what the file should hold, where it is recorded; else nothing
-    record: SimDisk,
+    disk: SimDisk,
 }
 
 impl<F: RawFile> FileDevice<F> {
@@ -29,30 +29,30 @@ impl<F: RawFile> FileDevice<F> {
     pub fn new(alloc: Global, file: F) -> Result<FileDevice<F>, AllocError>
         ensures { IfOk result (λ d. (d.is_recorded ≡ false) × (d.file ≡ file) × (d.failures ≡ 0)) }
     {
-        let record = SimDisk::new(alloc, Vec::new(alloc))?;
+        let disk = SimDisk::new(alloc, Vec::new(alloc))?;
         Ok(FileDevice {
             alloc,
             file,
             is_recorded: false,
             is_stopped: false,
             failures: 0,
-            record,
+            disk,
         })
     }
 
     /// A device over a file that should hold this content, durable. It is honest.
     pub fn recorded(alloc: Global, file: F, content: Vec<u8>) -> Result<FileDevice<F>, AllocError>
         ensures honest { IfOk result (λ d. d.is_recorded ≡ true) }
-        ensures content { IfOk result (λ d. IsFresh content.items (file_state d.record d.is_stopped d.failures)) }
+        ensures content { IfOk result (λ d. IsFresh content.items (file_state d.disk d.is_stopped d.failures)) }
     {
-        let record = SimDisk::new(alloc, content)?;
+        let disk = SimDisk::new(alloc, content)?;
         Ok(FileDevice {
             alloc,
             file,
             is_recorded: true,
             is_stopped: false,
             failures: 0,
-            record,
+            disk,
         })
     }
 
@@ -67,7 +67,7 @@ impl<F: RawFile> FileDevice<F> {
     fn stop(&mut self) -> Stopped
         ensures file { self.new.file ≡ self.old.file }
         ensures recorded { self.new.is_recorded ≡ self.old.is_recorded }
-        ensures record { self.new.record ≡ self.old.record }
+        ensures disk { self.new.disk ≡ self.old.disk }
         ensures stopped { self.new.is_stopped ≡ true }
         ensures cause { (self.old.failures < self.new.failures) ⊎ (self.new.failures ≡ 2 ^ 64 - 1) }
         ensures counts { self.old.failures ≤ self.new.failures }
@@ -79,20 +79,20 @@ impl<F: RawFile> FileDevice<F> {
 
     // Holds what was read against the record.
     fn compare(&mut self, at: usize, found: &[u8]) -> Result<(), Stopped>
-        requires { (state_of self.old.record).stopped ≡ false → at + length found.now ≤ length (state_of self.old.record).seen }
+        requires { (state_of self.old.disk).stopped ≡ false → at + length found.now ≤ length (state_of self.old.disk).seen }
         ensures recorded { self.new.is_recorded ≡ self.old.is_recorded }
         ensures stopped { OnOk result (self.new.is_stopped ≡ self.old.is_stopped) }
         ensures none { OnOk result (self.new.failures ≡ self.old.failures) }
-        ensures bytes { OnOk result (found.now ≡ take (length found.now) (drop at (state_of self.old.record).seen)) }
-        ensures keeps { Keeps (state_of self.old.record) (state_of self.new.record) }
-        ensures time { Elapses (moment_of self.old.record) (moment_of self.new.record) (left_since_of self.old.record) (left_since_of self.new.record) (left (state_of self.new.record)) }
+        ensures bytes { OnOk result (found.now ≡ take (length found.now) (drop at (state_of self.old.disk).seen)) }
+        ensures keeps { Keeps (state_of self.old.disk) (state_of self.new.disk) }
+        ensures time { Elapses (moment_of self.old.disk) (moment_of self.new.disk) (left_since_of self.old.disk) (left_since_of self.new.disk) (left (state_of self.new.disk)) }
         ensures err { OnErr result ((self.new.is_stopped ≡ true) × ((self.old.failures < self.new.failures) ⊎ (self.new.failures ≡ 2 ^ 64 - 1))) }
         ensures counts { self.old.failures ≤ self.new.failures }
     {
         let Ok(mut kept) = vec![in self.alloc; 0; found.len()] else {
             return Err(self.stop());
         };
-        if !agrees(&mut self.record, at, &mut kept, found) {
+        if !agrees(&mut self.disk, at, &mut kept, found) {
             return Err(self.stop());
         }
         Ok(())
@@ -100,38 +100,38 @@ impl<F: RawFile> FileDevice<F> {
 }
 
 // Whether the record reads so there; the buffer is as long.
-fn agrees(record: &mut SimDisk, at: usize, buf: &mut [u8], found: &[u8]) -> bool
-    requires inside { (state_of record.old).stopped ≡ false → at + length buf.old ≤ length (state_of record.old).seen }
+fn agrees(disk: &mut SimDisk, at: usize, buf: &mut [u8], found: &[u8]) -> bool
+    requires inside { (state_of disk.old).stopped ≡ false → at + length buf.old ≤ length (state_of disk.old).seen }
     requires same { length buf.old ≡ length found.now }
-    ensures bytes { IsTrue result → found.now ≡ take (length found.now) (drop at (state_of record.old).seen) }
-    ensures keeps { Keeps (state_of record.old) (state_of record.new) }
-    ensures time { Elapses (moment_of record.old) (moment_of record.new) (left_since_of record.old) (left_since_of record.new) (left (state_of record.new)) }
+    ensures bytes { IsTrue result → found.now ≡ take (length found.now) (drop at (state_of disk.old).seen) }
+    ensures keeps { Keeps (state_of disk.old) (state_of disk.new) }
+    ensures time { Elapses (moment_of disk.old) (moment_of disk.new) (left_since_of disk.old) (left_since_of disk.new) (left (state_of disk.new)) }
 {
-    match record.read_at(at, buf) {
+    match disk.read_at(at, buf) {
         Ok(()) => &*buf == found,
         Err(_) => false,
     }
 }
 
 impl<F: RawFile> Device for FileDevice<F> {
-    ghost state = { λ d. file_state d.record d.is_stopped d.failures };
+    ghost state = { λ d. file_state d.disk d.is_stopped d.failures };
 
     ghost honest = { λ d. d.is_recorded ≡ true };
 
-    ghost moment = { λ d. moment_of d.record };
+    ghost moment = { λ d. moment_of d.disk };
 
-    ghost left_since = { λ d t c. left_since_of d.record t c };
+    ghost left_since = { λ d t c. left_since_of d.disk t c };
 
     // A file has no scripts.
     ghost set_to_fail = { λ d n tear. Unit {0} };
 
-    ghost reads_left = { λ d hon up. d.record.readable };
+    ghost reads_left = { λ d hon up. d.disk.readable };
 
-    ghost reads_longest = { λ d hon up. d.record.longest };
+    ghost reads_longest = { λ d hon up. d.disk.longest };
 
-    ghost counts_now = { λ d t c hon le now. (length d.record.history.items, le, Prim.omega arith, subst (λ (calls : List Call). CouldLeave d.record.first.items calls c) (sym (take_all (length d.record.history.items) d.record.history.items (Prim.omega arith))) now) };
+    ghost counts_now = { λ d t c hon le now. (length d.disk.history.items, le, Prim.omega arith, subst (λ (calls : List Call). CouldLeave d.disk.first.items calls c) (sym (take_all (length d.disk.history.items) d.disk.history.items (Prim.omega arith))) now) };
 
-    ghost only_now = { λ d c hon since. subst (λ (calls : List Call). CouldLeave d.record.first.items calls c) (take_all since.0 d.record.history.items since.1) since.3 };
+    ghost only_now = { λ d c hon since. subst (λ (calls : List Call). CouldLeave d.disk.first.items calls c) (take_all since.0 d.disk.history.items since.1) since.3 };
 
     fn len(&mut self) -> Result<usize, Stopped> {
         if self.is_stopped {
@@ -141,7 +141,7 @@ impl<F: RawFile> Device for FileDevice<F> {
             return Err(self.stop());
         };
         if self.is_recorded {
-            match self.record.len() {
+            match self.disk.len() {
                 Ok(len) => {
                     if len != found {
                         return Err(self.stop());
@@ -173,7 +173,7 @@ impl<F: RawFile> Device for FileDevice<F> {
         }
         let is_done = self.file.write_at(at, bytes).is_ok();
         if self.is_recorded {
-            match self.record.write_at(at, bytes) {
+            match self.disk.write_at(at, bytes) {
                 Ok(()) => {}
                 Err(_) => return Err(self.stop()),
             }
@@ -193,7 +193,7 @@ impl<F: RawFile> Device for FileDevice<F> {
             Err(_) => return Err(self.stop()),
         }
         if self.is_recorded {
-            match self.record.sync() {
+            match self.disk.sync() {
                 Ok(()) => {}
                 Err(_) => return Err(self.stop()),
             }

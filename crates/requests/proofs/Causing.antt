@@ -16,11 +16,9 @@ use Rattle.refusal.specs.declared.refusal.Refusal.{Refusal}
 use Rattle.refusal.specs.declared.refusal.Refusal.TheVariants.{BadRequest, TooLarge, Repeated, BadZookie, WrongStore, NoMemory}
 use Rattle.requests.specs.declared.shape.ChangeShape.{ChangeShape}
 use Rattle.requests.specs.declared.shape.ConditionShape.{ConditionShape}
-use Rattle.requests.specs.declared.shape.Shape.{Shape}
-use Rattle.requests.specs.declared.shape.Shape.TheVariants.{Write, Read, Check, Watch}
-use Rattle.requests.specs.Causes.{AreFew, ArePlaced, AreSpelled, AreTuples, Cause, IsMisplaced, IsOfStore, IsPlaced, ShapeCause, WriteCause, changed_text, conditioned_text}
+use Rattle.requests.specs.Causes.{AreFew, ArePlaced, AreSpelled, AreTuples, Cause, IsMisplaced, IsOfStore, IsPlaced, FormCause, WriteCause, changed_text, conditioned_text}
 use Rattle.requests.specs.Lines.{IsObject, SpellsWrite, written_change, written_condition, written_want}
-use Rattle.requests.specs.Shapes.{Field, HasShape, IsMisshapen, change_json, condition_json, members_with, object_with, write_with}
+use Rattle.requests.specs.Shapes.{Field, Form, Writes, Reads, Checks, Watches, HasForm, IsMisshapen, change_json, condition_json, members_with, object_with, write_with}
 use Rattle.requests.specs.Spelling.{IsMisspelled, IsUnplaced, IsUnread, ReadsWant}
 
 -- the condition at a place is the first whose zookie is bad
@@ -53,17 +51,17 @@ write_refused store cs ds ts us e few placed spelled asked no_shape no_size repe
 
 -- ---- lines
 
-pub shape_refused : (store : ℕ) (line : List ℕ) (e : Refusal) (fields : List Field) (shape : Shape) → IsObject line fields → HasShape fields shape → ShapeCause store shape e → Cause store line e
-shape_refused store line NoMemory fields shape is has h = tt
-shape_refused store line BadRequest fields (Write cs ds) is has h = absurd h
-shape_refused store line BadRequest fields (Read f sets) is has h = absurd h
-shape_refused store line BadRequest fields (Check f tuple) is has h = absurd h
-shape_refused store line BadRequest fields (Watch from limit names) is has h = absurd h
-shape_refused store line _ fields shape is has h = (fields, shape, is, has, h)
+pub shape_refused : (store : ℕ) (line : List ℕ) (e : Refusal) (fields : List Field) (form : Form) → IsObject line fields → HasForm fields form → FormCause store form e → Cause store line e
+shape_refused store line NoMemory fields form is has h = tt
+shape_refused store line BadRequest fields (Writes cs ds) is has h = absurd h
+shape_refused store line BadRequest fields (Reads f sets) is has h = absurd h
+shape_refused store line BadRequest fields (Checks f tuple) is has h = absurd h
+shape_refused store line BadRequest fields (Watches from limit names) is has h = absurd h
+shape_refused store line _ fields form is has h = (fields, form, is, has, h)
 
 -- a line that is nothing of a kind, or no memory
-pub line_refused : {A : Type 0} (store : ℕ) (line : List ℕ) (e : Refusal) (Is : A → Type 0) → ((fields : List Field) (shape : Shape) → IsObject line fields → HasShape fields shape → (a : A) × Is a) → IsMisshapen Is e → Cause store line e
-line_refused store line e Is of (inl r) = subst (Cause store line) (sym r.0) (λ fields shape is has. let one = of fields shape is has in r.1 one.0 one.1)
+pub line_refused : {A : Type 0} (store : ℕ) (line : List ℕ) (e : Refusal) (Is : A → Type 0) → ((fields : List Field) (form : Form) → IsObject line fields → HasForm fields form → (a : A) × Is a) → IsMisshapen Is e → Cause store line e
+line_refused store line e Is of (inl r) = subst (Cause store line) (sym r.0) (λ fields form is has. let one = of fields form is has in r.1 one.0 one.1)
 line_refused store line e Is of (inr was) = subst (Cause store line) (sym was) tt
 
 text_at : {A B C : Type 0} (f : A → C) (g : B → C) (xs : List A) (front : List B) (y : B) (back : List B) (n : ℕ) (d : A) → map f xs ≡ map g (front ++ y ∷ back) → n ≡ length front → f (get_or xs n d) ≡ g y
@@ -115,7 +113,7 @@ same_fields line d fields own was is told =
     objects_once fields own (sym same ∙ is)
 
 pub members_refused : (store : ℕ) (line : List ℕ) (e : Refusal) (d : Data) → read line ≡ Some d → IsMisshapen (λ ms. d ≡ object ms) e → Cause store line e
-members_refused store line e d was h = line_refused store line e (λ (ms : Members). d ≡ object ms) (λ fields shape is has. (members_with fields, let same : d ≡ object_with fields = cc (was, is.1) in same)) h
+members_refused store line e d was h = line_refused store line e (λ (ms : Members). d ≡ object ms) (λ fields form is has. (members_with fields, let same : d ≡ object_with fields = cc (was, is.1) in same)) h
 
-pub fields_refused : (store : ℕ) (line : List ℕ) (e : Refusal) (d : Data) (own : List Field) → read line ≡ Some d → d ≡ object_with own → IsMisshapen (HasShape own) e → Cause store line e
-fields_refused store line e d own was is h = line_refused store line e (HasShape own) (λ fields shape told has. (shape, subst (λ (f : List Field). HasShape f shape) (same_fields line d fields own was is told) has)) h
+pub fields_refused : (store : ℕ) (line : List ℕ) (e : Refusal) (d : Data) (own : List Field) → read line ≡ Some d → d ≡ object_with own → IsMisshapen (HasForm own) e → Cause store line e
+fields_refused store line e d own was is h = line_refused store line e (HasForm own) (λ fields form told has. (form, subst (λ (f : List Field). HasForm f form) (same_fields line d fields own was is told) has)) h

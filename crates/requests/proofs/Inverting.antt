@@ -12,9 +12,7 @@ use Rattle.requests.specs.declared.shape.ChangeShape.{ChangeShape}
 use Rattle.requests.specs.declared.shape.ConditionShape.{ConditionShape}
 use Rattle.requests.specs.declared.shape.FreshnessShape.{FreshnessShape}
 use Rattle.requests.specs.declared.shape.FreshnessShape.TheVariants.{Latest, AtLeast, Exact}
-use Rattle.requests.specs.declared.shape.Shape.{Shape}
-use Rattle.requests.specs.declared.shape.Shape.TheVariants.{Write, Read, Check, Watch}
-use Rattle.requests.specs.Shapes.{Field, HasShape, IsMisshapen, asks_sets, asks_tuple, change_json, condition_json, freshness_fields, list_with, question_with, texts_json, watch_rest}
+use Rattle.requests.specs.Shapes.{Field, Form, Writes, Reads, Checks, Watches, HasForm, IsMisshapen, asks_sets, asks_tuple, change_json, condition_json, freshness_fields, list_with, question_with, texts_json, watch_rest}
 
 -- the first bytes of the first keys
 pub first_bytes : (f g : Field) (fs gs : List Field) → f ∷ fs ≡ g ∷ gs → get_or f.0 0 0 ≡ get_or g.0 0 0
@@ -24,20 +22,20 @@ first_bytes f g fs gs e = let same : f ≡ g = cc in ap (λ (x : Field). get_or 
 abbrev NoQuestion : ℕ → Type 0
 NoQuestion byte = (f : FreshnessShape) (op : List ℕ) (asked first : Field) (rest : List Field) → first ∷ rest ≡ question_with (freshness_fields f) op asked → get_or first.0 0 0 ≡ byte → ⊥
 
-no_question_c : NoQuestion 99
+pub no_question_c : NoQuestion 99
 no_question_c Latest op asked first rest e is = let same = first_bytes first _ rest _ e in omega arith
 no_question_c (AtLeast z) op asked first rest e is = let same = first_bytes first _ rest _ e in omega arith
 no_question_c (Exact z) op asked first rest e is = let same = first_bytes first _ rest _ e in omega arith
 
-no_question_f : NoQuestion 102
+pub no_question_f : NoQuestion 102
 no_question_f Latest op asked first rest e is = let same = first_bytes first _ rest _ e in omega arith
 no_question_f (AtLeast z) op asked first rest e is = let same = first_bytes first _ rest _ e in omega arith
 no_question_f (Exact z) op asked first rest e is = let same = first_bytes first _ rest _ e in omega arith
 
-tails : {A : Type 0} (a b : A) (xs ys : List A) → a ∷ xs ≡ b ∷ ys → xs ≡ ys
+pub tails : {A : Type 0} (a b : A) (xs ys : List A) → a ∷ xs ≡ b ∷ ys → xs ≡ ys
 tails a b xs ys e = cc
 
-seconds : (k : List ℕ) (d e : Data) (fs gs : List Field) → (k, d) ∷ fs ≡ (k, e) ∷ gs → d ≡ e
+pub seconds : (k : List ℕ) (d e : Data) (fs gs : List Field) → (k, d) ∷ fs ≡ (k, e) ∷ gs → d ≡ e
 seconds k d e fs gs same = let one : (k, d) ≡ (k, e) = cc in ap (λ (x : Field). x.1) one
 
 -- the parts of a write behind its first key
@@ -47,12 +45,12 @@ pub record AreOfWrite (changes : Data) (rest : List Field) : Type 0 where
   pub changes_are : changes ≡ list_with (map change_json list)
   pub behind : (rest ≡ (codes "op", string (codes "write")) ∷ []) ⊎ ((ds : List ConditionShape) × (rest ≡ (codes "conditions", list_with (map condition_json ds)) ∷ (codes "op", string (codes "write")) ∷ []))
 
-pub write_parts : (d : Data) (rest : List Field) (s : Shape) → HasShape ((codes "changes", d) ∷ rest) s → AreOfWrite d rest
-write_parts d rest (Write changes None) h = record { list = changes.items; some = h.1; changes_are = seconds (codes "changes") d _ rest _ h.0; behind = inl (tails _ _ rest _ h.0) }
-write_parts d rest (Write changes (Some conditions)) h = record { list = changes.items; some = h.1; changes_are = seconds (codes "changes") d _ rest _ h.0; behind = inr (conditions.items, tails _ _ rest _ h.0) }
-write_parts d rest (Read f sets) h = absurd (no_question_c f _ _ _ rest h.0 refl)
-write_parts d rest (Check f tuple) h = absurd (no_question_c f _ _ _ rest h.0 refl)
-write_parts d rest (Watch from limit namespaces) h = let same = first_bytes _ _ rest _ h.0 in absurd (omega arith)
+pub write_parts : (d : Data) (rest : List Field) (s : Form) → HasForm ((codes "changes", d) ∷ rest) s → AreOfWrite d rest
+write_parts d rest (Writes changes None) h = record { list = changes; some = h.1; changes_are = seconds (codes "changes") d _ rest _ h.0; behind = inl (tails _ _ rest _ h.0) }
+write_parts d rest (Writes changes (Some conditions)) h = record { list = changes; some = h.1; changes_are = seconds (codes "changes") d _ rest _ h.0; behind = inr (conditions, tails _ _ rest _ h.0) }
+write_parts d rest (Reads f sets) h = absurd (no_question_c f _ _ _ rest h.0 refl)
+write_parts d rest (Checks f tuple) h = absurd (no_question_c f _ _ _ rest h.0 refl)
+write_parts d rest (Watches from limit namespaces) h = let same = first_bytes _ _ rest _ h.0 in absurd (omega arith)
 
 -- and those of a watch
 pub record AreOfWatch (from : Data) (rest : List Field) : Type 0 where
@@ -65,21 +63,21 @@ pub record AreOfWatch (from : Data) (rest : List Field) : Type 0 where
   pub from_is : from ≡ string zookie
   pub behind : rest ≡ watch_rest limit (texts_json list)
 
-pub watch_parts : (d : Data) (rest : List Field) (s : Shape) → HasShape ((codes "from", d) ∷ rest) s → AreOfWatch d rest
-watch_parts d rest (Watch from limit namespaces) h = record {
+pub watch_parts : (d : Data) (rest : List Field) (s : Form) → HasForm ((codes "from", d) ∷ rest) s → AreOfWatch d rest
+watch_parts d rest (Watches from limit namespaces) h = record {
   zookie = from.now;
   limit = limit;
-  list = map (λ (t : Bor (List ℕ)). t.now) namespaces.items;
+  list = map (λ (t : Bor (List ℕ)). t.now) namespaces;
   low = h.1.0;
   high = h.1.1;
-  some = omega (arith, h.1.2, length-map namespaces.items (λ (t : Bor (List ℕ)). t.now));
+  some = omega (arith, h.1.2, length-map namespaces (λ (t : Bor (List ℕ)). t.now));
   from_is = seconds (codes "from") d _ rest _ h.0;
   behind = tails _ _ rest _ h.0;
 }
-watch_parts d rest (Write changes None) h = let same = first_bytes _ _ rest _ h.0 in absurd (omega arith)
-watch_parts d rest (Write changes (Some conditions)) h = let same = first_bytes _ _ rest _ h.0 in absurd (omega arith)
-watch_parts d rest (Read f sets) h = absurd (no_question_f f _ _ _ rest h.0 refl)
-watch_parts d rest (Check f tuple) h = absurd (no_question_f f _ _ _ rest h.0 refl)
+watch_parts d rest (Writes changes None) h = let same = first_bytes _ _ rest _ h.0 in absurd (omega arith)
+watch_parts d rest (Writes changes (Some conditions)) h = let same = first_bytes _ _ rest _ h.0 in absurd (omega arith)
+watch_parts d rest (Reads f sets) h = absurd (no_question_f f _ _ _ rest h.0 refl)
+watch_parts d rest (Checks f tuple) h = absurd (no_question_f f _ _ _ rest h.0 refl)
 
 -- a question has one op, and asks for one thing
 ops_once : (k : List ℕ) (op other : List ℕ) (asked more : Field) → (k, string op) ∷ asked ∷ [] ≡ (k, string other) ∷ more ∷ [] → (op ≡ other) × (asked ≡ more)
@@ -88,7 +86,7 @@ ops_once k op other asked more e =
     let rest : asked ∷ [] ≡ more ∷ [] = tails _ _ (asked ∷ []) (more ∷ []) e in
     (cc, cc)
 
-questions_once : (f g : FreshnessShape) (op other : List ℕ) (asked more : Field) → question_with (freshness_fields f) op asked ≡ question_with (freshness_fields g) other more → (op ≡ other) × (asked ≡ more)
+pub questions_once : (f g : FreshnessShape) (op other : List ℕ) (asked more : Field) → question_with (freshness_fields f) op asked ≡ question_with (freshness_fields g) other more → (op ≡ other) × (asked ≡ more)
 questions_once Latest Latest op other asked more e = ops_once (codes "op") op other asked more e
 questions_once Latest (AtLeast y) op other asked more e = let same = first_bytes _ _ _ _ e in absurd (omega arith)
 questions_once Latest (Exact y) op other asked more e = let same = first_bytes _ _ _ _ e in absurd (omega arith)
@@ -106,57 +104,57 @@ IsOfRead op asked = (op ≡ codes "read") × ((sets : List (List ℕ)) × (1 ≤
 abbrev pub IsOfCheck : List ℕ → Field → Type 0
 IsOfCheck op asked = (op ≡ codes "check") × ((tuple : List ℕ) × (asked ≡ asks_tuple tuple))
 
-pub question_parts : (fields : List Field) (f : FreshnessShape) (op : List ℕ) (asked : Field) → fields ≡ question_with (freshness_fields f) op asked → (s : Shape) → HasShape fields s → IsOfRead op asked ⊎ IsOfCheck op asked
-question_parts fields f op asked is (Read g sets) h =
+pub question_parts : (fields : List Field) (f : FreshnessShape) (op : List ℕ) (asked : Field) → fields ≡ question_with (freshness_fields f) op asked → (s : Form) → HasForm fields s → IsOfRead op asked ⊎ IsOfCheck op asked
+question_parts fields f op asked is (Reads g sets) h =
     let once = questions_once f g op (codes "read") asked _ (sym is ∙ h.0) in
-    inl (once.0, (map (λ (t : Bor (List ℕ)). t.now) sets.items, omega (arith, h.1, length-map sets.items (λ (t : Bor (List ℕ)). t.now)), once.1))
-question_parts fields f op asked is (Check g tuple) h =
+    inl (once.0, (map (λ (t : Bor (List ℕ)). t.now) sets, omega (arith, h.1, length-map sets (λ (t : Bor (List ℕ)). t.now)), once.1))
+question_parts fields f op asked is (Checks g tuple) h =
     let once = questions_once f g op (codes "check") asked _ (sym is ∙ h.0) in
     inr (once.0, (tuple.now, once.1))
-question_parts fields f op asked is (Write changes None) h = absurd (no_question_c f op asked _ _ (sym h.0 ∙ is) refl)
-question_parts fields f op asked is (Write changes (Some conditions)) h = absurd (no_question_c f op asked _ _ (sym h.0 ∙ is) refl)
-question_parts fields f op asked is (Watch from limit namespaces) h = absurd (no_question_f f op asked _ _ (sym h.0 ∙ is) refl)
+question_parts fields f op asked is (Writes changes None) h = absurd (no_question_c f op asked _ _ (sym h.0 ∙ is) refl)
+question_parts fields f op asked is (Writes changes (Some conditions)) h = absurd (no_question_c f op asked _ _ (sym h.0 ∙ is) refl)
+question_parts fields f op asked is (Watches from limit namespaces) h = absurd (no_question_f f op asked _ _ (sym h.0 ∙ is) refl)
 
 -- ---- why the members are those of no request
 
-pub write_misshapen : (d : Data) (rest : List Field) (e : Refusal) → IsMisshapen (λ cs. d ≡ list_with (map change_json cs)) e → IsMisshapen (HasShape ((codes "changes", d) ∷ rest)) e
+pub write_misshapen : (d : Data) (rest : List Field) (e : Refusal) → IsMisshapen (λ cs. d ≡ list_with (map change_json cs)) e → IsMisshapen (HasForm ((codes "changes", d) ∷ rest)) e
 write_misshapen d rest e (inl r) = inl (r.0, λ s h. let p = write_parts d rest s h in r.1 p.list p.changes_are)
 write_misshapen d rest e (inr r) = inr r
 
-pub write_empty : (d : Data) (rest : List Field) (cs : List ChangeShape) → d ≡ list_with (map change_json cs) → length cs ≡ 0 → (s : Shape) → HasShape ((codes "changes", d) ∷ rest) s → ⊥
+pub write_empty : (d : Data) (rest : List Field) (cs : List ChangeShape) → d ≡ list_with (map change_json cs) → length cs ≡ 0 → (s : Form) → HasForm ((codes "changes", d) ∷ rest) s → ⊥
 write_empty d rest cs is none s h =
     let p = write_parts d rest s h in
     let same = ap length (lists_once (map change_json cs) (map change_json p.list) (sym is ∙ p.changes_are)) in
     omega (arith, same, length-map cs change_json, length-map p.list change_json, p.some)
 
-pub write_unended : (d : Data) (rest : List Field) → (rest ≡ (codes "op", string (codes "write")) ∷ [] → ⊥) → ((x : Data) (more : List Field) → rest ≡ (codes "conditions", x) ∷ more → ⊥) → (s : Shape) → HasShape ((codes "changes", d) ∷ rest) s → ⊥
+pub write_unended : (d : Data) (rest : List Field) → (rest ≡ (codes "op", string (codes "write")) ∷ [] → ⊥) → ((x : Data) (more : List Field) → rest ≡ (codes "conditions", x) ∷ more → ⊥) → (s : Form) → HasForm ((codes "changes", d) ∷ rest) s → ⊥
 write_unended d rest no_op no_conditions s h = elim (write_parts d rest s h).behind [ inl e ↦ no_op e | inr e ↦ no_conditions _ _ e.1 ]
 
 -- behind conditions
-pub behind_conditions : (d x : Data) (rest more : List Field) → rest ≡ (codes "conditions", x) ∷ more → (s : Shape) → HasShape ((codes "changes", d) ∷ rest) s
+pub behind_conditions : (d x : Data) (rest more : List Field) → rest ≡ (codes "conditions", x) ∷ more → (s : Form) → HasForm ((codes "changes", d) ∷ rest) s
     → (ds : List ConditionShape) × (x ≡ list_with (map condition_json ds)) × (more ≡ (codes "op", string (codes "write")) ∷ [])
 behind_conditions d x rest more is s h = elim (write_parts d rest s h).behind [
   | inl e ↦ let same = first_bytes _ _ more _ (sym is ∙ e) in absurd (omega arith)
   | inr e ↦ (e.0, seconds (codes "conditions") x _ more _ (sym is ∙ e.1), tails _ _ more _ (sym is ∙ e.1))
 ]
 
-pub conditions_misshapen : (d x : Data) (rest more : List Field) (e : Refusal) → rest ≡ (codes "conditions", x) ∷ more → IsMisshapen (λ ds. x ≡ list_with (map condition_json ds)) e → IsMisshapen (HasShape ((codes "changes", d) ∷ rest)) e
+pub conditions_misshapen : (d x : Data) (rest more : List Field) (e : Refusal) → rest ≡ (codes "conditions", x) ∷ more → IsMisshapen (λ ds. x ≡ list_with (map condition_json ds)) e → IsMisshapen (HasForm ((codes "changes", d) ∷ rest)) e
 conditions_misshapen d x rest more e is (inl r) = inl (r.0, λ s h. let p = behind_conditions d x rest more is s h in r.1 p.0 p.1)
 conditions_misshapen d x rest more e is (inr r) = inr r
 
-pub conditions_unended : (d x : Data) (rest more : List Field) → rest ≡ (codes "conditions", x) ∷ more → (more ≡ (codes "op", string (codes "write")) ∷ [] → ⊥) → (s : Shape) → HasShape ((codes "changes", d) ∷ rest) s → ⊥
+pub conditions_unended : (d x : Data) (rest more : List Field) → rest ≡ (codes "conditions", x) ∷ more → (more ≡ (codes "op", string (codes "write")) ∷ [] → ⊥) → (s : Form) → HasForm ((codes "changes", d) ∷ rest) s → ⊥
 conditions_unended d x rest more is no_op s h = no_op (behind_conditions d x rest more is s h).2
 
-pub watch_nothing : (d : Data) (rest : List Field) → ((z : List ℕ) (n : ℕ) (x : Data) → 1 ≤ n → n ≤ 256 → d ≡ string z → rest ≡ watch_rest n x → ⊥) → (s : Shape) → HasShape ((codes "from", d) ∷ rest) s → ⊥
+pub watch_nothing : (d : Data) (rest : List Field) → ((z : List ℕ) (n : ℕ) (x : Data) → 1 ≤ n → n ≤ 256 → d ≡ string z → rest ≡ watch_rest n x → ⊥) → (s : Form) → HasForm ((codes "from", d) ∷ rest) s → ⊥
 watch_nothing d rest none s h = let p = watch_parts d rest s h in none p.zookie p.limit (texts_json p.list) p.low p.high p.from_is p.behind
 
 -- the namespaces of a watch
-watched : (d x : Data) (rest : List Field) (n : ℕ) → rest ≡ watch_rest n x → (s : Shape) → HasShape ((codes "from", d) ∷ rest) s → (list : List (List ℕ)) × (1 ≤ length list) × (x ≡ texts_json list)
+watched : (d x : Data) (rest : List Field) (n : ℕ) → rest ≡ watch_rest n x → (s : Form) → HasForm ((codes "from", d) ∷ rest) s → (list : List (List ℕ)) × (1 ≤ length list) × (x ≡ texts_json list)
 watched d x rest n is s h =
     let p = watch_parts d rest s h in
     (p.list, p.some, seconds (codes "namespaces") x (texts_json p.list) _ _ (tails _ _ _ _ (sym is ∙ p.behind)))
 
-pub watched_misshapen : (d x : Data) (rest : List Field) (n : ℕ) (e : Refusal) → rest ≡ watch_rest n x → IsMisshapen (λ texts. x ≡ texts_json texts) e → IsMisshapen (HasShape ((codes "from", d) ∷ rest)) e
+pub watched_misshapen : (d x : Data) (rest : List Field) (n : ℕ) (e : Refusal) → rest ≡ watch_rest n x → IsMisshapen (λ texts. x ≡ texts_json texts) e → IsMisshapen (HasForm ((codes "from", d) ∷ rest)) e
 watched_misshapen d x rest n e is (inl r) = inl (r.0, λ s h. let p = watched d x rest n is s h in r.1 p.0 p.2)
 watched_misshapen d x rest n e is (inr r) = inr r
 
@@ -166,11 +164,11 @@ no_texts x [] is none [] some e = omega (arith, some)
 no_texts x [] is none (t ∷ list) some e = cc
 no_texts x (t ∷ texts) is none list some e = omega arith
 
-pub watched_empty : (d x : Data) (rest : List Field) (n : ℕ) (texts : List (Bor (List ℕ))) → rest ≡ watch_rest n x → x ≡ texts_json (map (λ t. t.now) texts) → length texts ≡ 0 → (s : Shape) → HasShape ((codes "from", d) ∷ rest) s → ⊥
+pub watched_empty : (d x : Data) (rest : List Field) (n : ℕ) (texts : List (Bor (List ℕ))) → rest ≡ watch_rest n x → x ≡ texts_json (map (λ t. t.now) texts) → length texts ≡ 0 → (s : Form) → HasForm ((codes "from", d) ∷ rest) s → ⊥
 watched_empty d x rest n texts is list none s h = let p = watched d x rest n is s h in no_texts x texts list none p.0 p.1 p.2
 
 -- a question that asks for nothing
-pub question_none : (fields : List Field) (f : FreshnessShape) (op : List ℕ) (asked : Field) → fields ≡ question_with (freshness_fields f) op asked → (IsOfRead op asked → ⊥) → (IsOfCheck op asked → ⊥) → (s : Shape) → HasShape fields s → ⊥
+pub question_none : (fields : List Field) (f : FreshnessShape) (op : List ℕ) (asked : Field) → fields ≡ question_with (freshness_fields f) op asked → (IsOfRead op asked → ⊥) → (IsOfCheck op asked → ⊥) → (s : Form) → HasForm fields s → ⊥
 question_none fields f op asked is no_read no_check s h = elim (question_parts fields f op asked is s h) [ inl r ↦ no_read r | inr r ↦ no_check r ]
 
 pub no_check_op : (op : List ℕ) (asked : Field) → op ≡ codes "read" → IsOfCheck op asked → ⊥
@@ -180,11 +178,11 @@ pub no_read_op : (op : List ℕ) (asked : Field) → op ≡ codes "check" → Is
 no_read_op op asked is h = let same = ap (λ (t : List ℕ). get_or t 0 0) (sym is ∙ h.0) in omega arith
 
 pub sets_misshapen : (fields : List Field) (f : FreshnessShape) (op : List ℕ) (asked : Field) (e : Refusal) → fields ≡ question_with (freshness_fields f) op asked → op ≡ codes "read"
-    → IsMisshapen (λ sets. (1 ≤ length sets) × (asked ≡ asks_sets sets)) e → IsMisshapen (HasShape fields) e
+    → IsMisshapen (λ sets. (1 ≤ length sets) × (asked ≡ asks_sets sets)) e → IsMisshapen (HasForm fields) e
 sets_misshapen fields f op asked e is read (inl r) = inl (r.0, question_none fields f op asked is (λ h. r.1 h.1.0 (h.1.1, h.1.2)) (no_check_op op asked read))
 sets_misshapen fields f op asked e is read (inr r) = inr r
 
-pub tuple_misshapen : (fields : List Field) (f : FreshnessShape) (op : List ℕ) (asked : Field) → fields ≡ question_with (freshness_fields f) op asked → op ≡ codes "check" → ((t : List ℕ) → asked ≡ asks_tuple t → ⊥) → (s : Shape) → HasShape fields s → ⊥
+pub tuple_misshapen : (fields : List Field) (f : FreshnessShape) (op : List ℕ) (asked : Field) → fields ≡ question_with (freshness_fields f) op asked → op ≡ codes "check" → ((t : List ℕ) → asked ≡ asks_tuple t → ⊥) → (s : Form) → HasForm fields s → ⊥
 tuple_misshapen fields f op asked is check none = question_none fields f op asked is (no_read_op op asked check) (λ h. none h.1.0 h.1.1)
 
 -- the end of a list and of a test

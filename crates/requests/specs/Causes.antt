@@ -1,7 +1,5 @@
 -- Why a line is refused: the first that is wrong with it, in the order shape, sizes, texts, zookies, repeats.
 use Rattle.std.specs.Prelude.{◌≡◌, ◌≤◌, ◌<◌, ◌^◌, ◌⊎◌, ℕ, List, [], ◌∷◌, ◌++◌, length, map, All, Option, Some, None}
-use Rattle.std.specs.declared.alloc.Global.{Global}
-use Rattle.std.specs.declared.vec.Vec.{Vec}
 use Rattle.tuples.specs.declared.tuple.Tuple.{Tuple}
 use Rattle.tuples.specs.declared.tupleset.Tupleset.{Tupleset}
 use Rattle.tuples.specs.Changes.{AreDistinct}
@@ -17,10 +15,8 @@ use Rattle.requests.specs.declared.shape.WantShape.{WantShape}
 use Rattle.requests.specs.declared.shape.WantShape.TheVariants.{Since, Exists, Absent}
 use Rattle.requests.specs.declared.shape.FreshnessShape.{FreshnessShape}
 use Rattle.requests.specs.declared.shape.FreshnessShape.TheVariants.{Latest, AtLeast, Exact}
-use Rattle.requests.specs.declared.shape.Shape.{Shape}
-use Rattle.requests.specs.declared.shape.Shape.TheVariants.{Write, Read, Check, Watch}
 use Rattle.requests.specs.Lines.{IsObject}
-use Rattle.requests.specs.Shapes.{Field, HasShape}
+use Rattle.requests.specs.Shapes.{Field, Form, Writes, Reads, Checks, Watches, HasForm}
 
 -- ---- texts
 
@@ -105,24 +101,24 @@ ListCause store count AreRead HasZookie WrongStore = (count ≤ 16) × AreRead �
 ListCause store count AreRead HasZookie NoMemory = Unit {0}
 ListCause store count AreRead HasZookie _ = ⊥
 
-abbrev pub listed : Option (Vec ConditionShape Global) → List ConditionShape
+abbrev pub listed : Option (List ConditionShape) → List ConditionShape
 listed None = []
-listed (Some conditions) = conditions.items
+listed (Some conditions) = conditions
 
-abbrev pub ShapeCause : ℕ → Shape → Refusal → Type 0
-ShapeCause store (Write changes conditions) e = WriteCause store changes.items (listed conditions) e
-ShapeCause store (Read freshness sets) e = ListCause store (length sets.items) ((qs : List Tupleset) × AreSets (map (λ t. t.now) sets.items) qs) (λ IsBad. IsFresh IsBad freshness) e
-ShapeCause store (Check freshness tuple) e = ListCause store 1 ((t : Tuple) × IsTuple t × (tuple.now ≡ tuple_text t)) (λ IsBad. IsFresh IsBad freshness) e
-ShapeCause store (Watch from limit namespaces) e = ListCause store (length namespaces.items) (All IsName (map (λ t. t.now) namespaces.items)) (λ IsBad. IsBad from.now) e
+abbrev pub FormCause : ℕ → Form → Refusal → Type 0
+FormCause store (Writes changes conditions) e = WriteCause store changes (listed conditions) e
+FormCause store (Reads freshness sets) e = ListCause store (length sets) ((qs : List Tupleset) × AreSets (map (λ t. t.now) sets) qs) (λ IsBad. IsFresh IsBad freshness) e
+FormCause store (Checks freshness tuple) e = ListCause store 1 ((t : Tuple) × IsTuple t × (tuple.now ≡ tuple_text t)) (λ IsBad. IsFresh IsBad freshness) e
+FormCause store (Watches from limit namespaces) e = ListCause store (length namespaces) (All IsName (map (λ t. t.now) namespaces)) (λ IsBad. IsBad from.now) e
 
 -- ---- and of a line
 
 -- the line is in a shape that is refused so
 abbrev pub HasCause : ℕ → List ℕ → Refusal → Type 0
-HasCause store line e = (fields : List Field) × (shape : Shape) × IsObject line fields × HasShape fields shape × ShapeCause store shape e
+HasCause store line e = (fields : List Field) × (form : Form) × IsObject line fields × HasForm fields form × FormCause store form e
 
 -- the line is in no shape; memory may run out over any line
 abbrev pub Cause : ℕ → List ℕ → Refusal → Type 0
-Cause store line BadRequest = (fields : List Field) (shape : Shape) → IsObject line fields → HasShape fields shape → ⊥
+Cause store line BadRequest = (fields : List Field) (form : Form) → IsObject line fields → HasForm fields form → ⊥
 Cause store line NoMemory = Unit {0}
 Cause store line e = HasCause store line e

@@ -2,3 +2,4 @@ pub mod Shapes
 pub mod Lines
 pub mod Causes
 pub mod Spelling
+pub mod Laws

@@ -1,5 +1,6 @@
 -- The JSON of each request, whose texts may be those of no tuple and of no token. The members of an object come in the order of their keys.
 use Rattle.std.specs.Prelude.{◌≡◌, ◌≤◌, ◌⊎◌, ℕ, List, [], ◌∷◌, ◌++◌, length, map, codes, Option, Some, None, option_map, Result, Ok, Err, String, string_bytes}
+use Rattle.std.specs.Borrow.{Bor}
 use Rattle.serde_json.specs.Data.{Data, unsigned, number, string, array, object, Members, no_members, member}
 use Rattle.std.specs.declared.alloc.Global.{Global}
 use Rattle.serde_json.specs.View.{items_of, view}
@@ -95,19 +96,32 @@ watch_rest limit namespaces = (codes "limit", number (unsigned limit)) ∷ watch
 abbrev pub watch_with : List ℕ → ℕ → Data → List Field
 watch_with from limit namespaces = (codes "from", string from) ∷ watch_rest limit namespaces
 
+-- a request with its lists as lists
+pub data Form : Type 0 where
+  Writes : List ChangeShape → Option (List ConditionShape) → Form
+  Reads : FreshnessShape → List (Bor (List ℕ)) → Form
+  Checks : FreshnessShape → Bor (List ℕ) → Form
+  Watches : Bor (List ℕ) → ℕ → List (Bor (List ℕ)) → Form
+
+abbrev pub form_of : Shape → Form
+form_of (Write changes conditions) = Writes changes.items (option_map (λ v. v.items) conditions)
+form_of (Read freshness sets) = Reads freshness sets.items
+form_of (Check freshness tuple) = Checks freshness tuple
+form_of (Watch from limit namespaces) = Watches from limit namespaces.items
+
 -- the members of a whole request
-abbrev pub shape_fields : Shape → List Field
-shape_fields (Write changes conditions) = write_with (map change_json changes.items) (option_map (λ v. map condition_json v.items) conditions)
-shape_fields (Read freshness sets) = question_with (freshness_fields freshness) (codes "read") (asks_sets (map (λ t. t.now) sets.items))
-shape_fields (Check freshness tuple) = question_with (freshness_fields freshness) (codes "check") (asks_tuple tuple.now)
-shape_fields (Watch from limit namespaces) = watch_with from.now limit (texts_json (map (λ t. t.now) namespaces.items))
+abbrev pub form_fields : Form → List Field
+form_fields (Writes changes conditions) = write_with (map change_json changes) (option_map (λ cs. map condition_json cs) conditions)
+form_fields (Reads freshness sets) = question_with (freshness_fields freshness) (codes "read") (asks_sets (map (λ t. t.now) sets))
+form_fields (Checks freshness tuple) = question_with (freshness_fields freshness) (codes "check") (asks_tuple tuple.now)
+form_fields (Watches from limit namespaces) = watch_with from.now limit (texts_json (map (λ t. t.now) namespaces))
 
 -- no list of changes, tuplesets or namespaces is empty, and a limit is from 1 to 256
-abbrev pub IsShaped : Shape → Type 0
-IsShaped (Write changes conditions) = 1 ≤ length changes.items
-IsShaped (Read freshness sets) = 1 ≤ length sets.items
-IsShaped (Check freshness tuple) = Unit {0}
-IsShaped (Watch from limit namespaces) = (1 ≤ limit) × (limit ≤ 256) × (1 ≤ length namespaces.items)
+abbrev pub IsFormed : Form → Type 0
+IsFormed (Writes changes conditions) = 1 ≤ length changes
+IsFormed (Reads freshness sets) = 1 ≤ length sets
+IsFormed (Checks freshness tuple) = Unit {0}
+IsFormed (Watches from limit namespaces) = (1 ≤ limit) × (limit ≤ 256) × (1 ≤ length namespaces)
 
 -- the members as a map has them
 abbrev pub entry_fields : List (String Global × Value) → List Field
@@ -118,12 +132,12 @@ abbrev pub IsMisshapen : {A : Type 0} → (A → Type 0) → Refusal → Type 0
 IsMisshapen {A} IsRead e = ((e ≡ BadRequest) × ((a : A) → IsRead a → ⊥)) ⊎ (e ≡ NoMemory)
 
 -- the members are those of the request
-abbrev pub HasShape : List Field → Shape → Type 0
-HasShape fields shape = (fields ≡ shape_fields shape) × IsShaped shape
+abbrev pub HasForm : List Field → Form → Type 0
+HasForm fields form = (fields ≡ form_fields form) × IsFormed form
 
 abbrev pub ReadsShape : List Field → Result Shape Refusal → Type 0
-ReadsShape fields (Ok shape) = HasShape fields shape
-ReadsShape fields (Err e) = IsMisshapen (HasShape fields) e
+ReadsShape fields (Ok shape) = HasForm fields (form_of shape)
+ReadsShape fields (Err e) = IsMisshapen (HasForm fields) e
 
 -- a freshness and then the op
 abbrev pub OpensWith : List Field → FreshnessShape → Data → List Field → Type 0

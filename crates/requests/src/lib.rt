@@ -7,6 +7,7 @@
 //! Start at `specs/Lines.antt`, which line spells which request, and `specs/Causes.antt`, why a line is refused.
 #![tactic(auto)]
 
+mod laws;
 mod lists;
 mod member;
 mod parse;
@@ -16,4 +17,5 @@ mod request;
 mod shape;
 mod texts;
 
+pub use laws::{a_line_has_one_cause, no_line_is_spelled_and_refused};
 pub use request::{Freshness, Request};

@@ -6,9 +6,9 @@ ghost use Rattle.tuples.specs.declared.tuple.Tuple.{Tuple as AnyTuple};
 ghost use Rattle.tuples.specs.declared.tupleset.Tupleset.{Tupleset as AnySet};
 ghost use Rattle.tuples.specs.Names.{IsName};
 ghost use Rattle.tuples.specs.Texts.{IsTuple, tuple_text};
-ghost use Rattle.requests.specs.Causes.{AreSets, Cause, IsFresh, ListCause, ShapeCause, WriteCause};
+ghost use Rattle.requests.specs.Causes.{AreSets, Cause, FormCause, IsFresh, ListCause, WriteCause};
 ghost use Rattle.requests.specs.Lines.{IsObject, Spells, written_change, written_condition};
-ghost use Rattle.requests.specs.Shapes.{Field, IsShaped, asks_sets, asks_tuple, change_json, condition_json, freshness_fields, question_with, shape_fields, texts_json, watch_with};
+ghost use Rattle.requests.specs.Shapes.{Field, IsFormed, asks_sets, asks_tuple, change_json, condition_json, form_fields, form_of, freshness_fields, question_with, texts_json, watch_with};
 
 use crate::Request;
 use crate::member::members_of;
@@ -54,9 +54,9 @@ fn value_of(alloc: Global, line: &[u8]) -> Result<Value, Refusal>
 // The request of a shape.
 #[tactic(auto, using(crate::proofs::Causing::spells_listed, crate::proofs::Causing::spells_unlisted))]
 fn request_of(alloc: Global, shape: Shape<'_>, store: u64) -> Result<Request, Refusal>
-    requires { IsShaped shape }
-    ensures ok { IfOk result (Spells store (shape_fields shape.entry)) }
-    ensures err { IfErr result (ShapeCause store shape.entry) }
+    requires { IsFormed (form_of shape) }
+    ensures ok { IfOk result (Spells store (form_fields (form_of shape.entry))) }
+    ensures err { IfErr result (FormCause store (form_of shape.entry)) }
 {
     match shape {
         Shape::Write {
