@@ -5,15 +5,16 @@ ghost use Rattle.device.specs.Device.{LeavesOnly, HasFailed};
 ghost use Rattle.gated.specs.Gated.{HasList, IsOldOrNew, body_of, record_head};
 ghost use Rattle.journal.specs.Records.{HasNoRoom, LacksRoom, batch_size};
 ghost use Rattle.journal.specs.Staging.{max_len, staged_in, IsSpelled};
-ghost use Rattle.records.specs.Format.{IsRecord, batch_bytes, record_bytes};
+ghost use Rattle.records.specs.Format.{IsPrepared, IsRecord, batch_bytes, record_bytes};
+ghost use Rattle.records.specs.declared.record.Record.TheVariants.{Prepare as prepare_record};
 ghost use Rattle.records.specs.Reading.{batch};
 
 use device::Device;
 use gated::{GatedLog, MAX_BODY};
-use records::{MAX_RECORDS, Record, VERSION};
+use records::{MAX_RECORDS, Record, VERSION, encode_prepare};
 use std::alloc::{AllocError, Global};
 use std::marker::Model;
-use tuples::Refusal;
+use tuples::{Entry, Refusal};
 
 /// Before the records: four bytes that the log fills itself, the version, and two bytes of the number of records.
 const HEAD: usize = 7;
@@ -73,6 +74,22 @@ impl Batch {
             return Err(Refusal::Full);
         }
         spell(next, &mut self.bytes)?;
+        self.count += 1;
+        Ok(())
+    }
+
+    /// Adds the prepare of a part, or is `Full`.
+    pub(crate) fn push_prepare(&mut self, part: &Entry) -> Result<(), Refusal>
+        requires { IsPrepared part.now }
+        ensures ok { OnOk result (self.new ≡ self.old ++ prepare_record part.now ∷ []) }
+        ensures room { OnOk result (HasNoRoom self.old (prepare_record part.now) → ⊥) }
+        ensures full { OnErr result (HasNoRoom self.old (prepare_record part.now)) }
+        ensures err { IfErr result (λ e. (e ≡ Refusal.Full) × (self.new ≡ self.old)) }
+    {
+        if self.count == MAX_RECORDS {
+            return Err(Refusal::Full);
+        }
+        spell_prepare(part, &mut self.bytes)?;
         self.count += 1;
         Ok(())
     }
@@ -137,6 +154,27 @@ fn spell(next: &Record, bytes: &mut Vec<u8>) -> Result<(), Refusal>
     };
     if bytes.len() > MAX_LEN {
         bytes.truncate(end);
+        return Err(Refusal::Full);
+    }
+    Ok(())
+}
+
+// Adds the bytes of the record that prepares a part, if a batch may be so long.
+fn spell_prepare(part: &Entry, bytes: &mut Vec<u8>) -> Result<(), Refusal>
+    requires spellable { IsPrepared part.now }
+    requires fits { length bytes.old.items ≤ max_len }
+    requires room { max_len + 1 ≤ vec_capacity bytes.old }
+    ensures ok { OnOk result ((bytes.new.items ≡ bytes.old.items ++ record_bytes false (prepare_record part.now)) × (length bytes.new.items ≤ max_len)) }
+    ensures full { OnErr result (max_len < length bytes.old.items + length (record_bytes false (prepare_record part.now))) }
+    ensures err { IfErr result (λ e. (e ≡ Refusal.Full) × (bytes.new.items ≡ bytes.old.items)) }
+    ensures capacity { vec_capacity bytes.old ≤ vec_capacity bytes.new }
+{
+    let before = bytes.len();
+    let Ok(()) = encode_prepare(part, bytes) else {
+        return Err(Refusal::Full);
+    };
+    if bytes.len() > MAX_LEN {
+        bytes.truncate(before);
         return Err(Refusal::Full);
     }
     Ok(())

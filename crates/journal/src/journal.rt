@@ -5,7 +5,8 @@ ghost use Rattle.gated.specs.Gated.{record_head};
 ghost use Rattle.journal.specs.Records.{View, IsOpened, IsSetOn, after_batch, HasCause, HasNoRoom, HasRecords, LacksRoom, HasOldOrNew, LeavesBoth, WasLeftOrFound, found, batch_size, batches};
 ghost use Rattle.journal.specs.Rest.{bank_records, BankHas, IsAtRest};
 ghost use Rattle.records.specs.declared.record.Record.{Record as AnyRecord};
-ghost use Rattle.records.specs.Format.{IsRecord};
+ghost use Rattle.records.specs.declared.record.Record.TheVariants.{Prepare as prepare_record};
+ghost use Rattle.records.specs.Format.{IsPrepared, IsRecord};
 
 use crate::batch::Batch;
 use crate::batches::decode_batches;
@@ -15,7 +16,7 @@ use gated::GatedLog;
 use records::Record;
 use std::alloc::Global;
 use std::marker::Model;
-use tuples::Refusal;
+use tuples::{Entry, Refusal};
 
 /// The journal of a node over its two devices.
 #[derive(Drop)]
@@ -131,6 +132,17 @@ impl<D: Device> Journal<D> {
         ensures err { IfErr result (λ e. (e ≡ Refusal.Full) × (self.new ≡ self.old)) }
     {
         self.staged.push(next)
+    }
+
+    /// Stages the prepare of a part, which is not copied for it: as `stage` of that record.
+    pub fn stage_prepare(&mut self, part: &Entry) -> Result<(), Refusal>
+        requires { IsPrepared part.now }
+        ensures ok { OnOk result (self.new ≡ record self.old { staged = self.old.staged ++ prepare_record part.now ∷ [] }) }
+        ensures room { OnOk result (HasNoRoom self.old.staged (prepare_record part.now) → ⊥) }
+        ensures full { IsErrOf result Refusal.Full → HasNoRoom self.old.staged (prepare_record part.now) }
+        ensures err { IfErr result (λ e. (e ≡ Refusal.Full) × (self.new ≡ self.old)) }
+    {
+        self.staged.push_prepare(part)
     }
 
     /// Whether one record more fits into what is staged, which stays as it is. It takes no memory.

@@ -2,8 +2,9 @@
 ghost use Rattle.std.specs.Prelude.{◌≡◌, ◌≤◌, ◌<◌, ◌+◌, [], ◌∷◌, ◌++◌, false, length, vec_len, vec_capacity, OnOk, OnErr};
 ghost use Rattle.std.specs.Int.{w16, w64, to_be_bytes};
 ghost use Rattle.std.specs.List.{flat_map};
-ghost use Rattle.records.specs.Format.{IsRecord, entry_bytes, max_placed_ids, placed_id_bytes, record_bytes};
+ghost use Rattle.records.specs.Format.{IsPrepared, IsRecord, entry_bytes, max_placed_ids, placed_id_bytes, record_bytes};
 ghost use Rattle.records.specs.Putting.{Puts};
+ghost use Rattle.records.specs.declared.record.Record.TheVariants.{Prepare as prepare_record};
 ghost use Rattle.tuples.specs.Limits.{max_changes, max_conditions};
 
 use crate::format::{DECISION, DROPPED, EPOCH, HORIZON, LEARNED, PREPARE};
@@ -32,6 +33,22 @@ impl Record {
     }
 }
 
+/// Appends the bytes of the record that prepares a part, which is not copied for it. Memory is as in `Record::encode`.
+pub fn encode_prepare(part: &Entry, out: &mut Vec<u8>) -> Result<(), AllocError>
+    requires { IsPrepared part.now }
+    ensures ok { OnOk result (out.new.items ≡ out.old.items ++ record_bytes false (prepare_record part.now)) }
+    ensures err { OnErr result ((out.new.items ≡ out.old.items) × (vec_capacity out.old < vec_len out.old + length (record_bytes false (prepare_record part.now)))) }
+    ensures room { vec_capacity out.old ≤ vec_capacity out.new }
+{
+    let before = out.len();
+    let put = put_prepare(out, part);
+    if put.is_err() {
+        // Some of its bytes may stand there.
+        out.truncate(before);
+    }
+    put
+}
+
 #[tactic(auto, unfolding(crate::specs::Format::record_bytes))]
 fn put_record(out: &mut Vec<u8>, item: &Record) -> Result<(), AllocError>
     requires { IsRecord item.now }
@@ -58,10 +75,11 @@ fn put_record(out: &mut Vec<u8>, item: &Record) -> Result<(), AllocError>
     }
 }
 
+#[tactic(auto, unfolding(crate::specs::Format::record_bytes))]
 fn put_prepare(out: &mut Vec<u8>, entry: &Entry) -> Result<(), AllocError>
     requires few_changes { length entry.now.changes ≤ max_changes }
     requires few_conditions { length entry.now.conditions ≤ max_conditions }
-    ensures { Puts out.old out.new (1 ∷ entry_bytes false entry.now) result }
+    ensures { Puts out.old out.new (record_bytes false (prepare_record entry.now)) result }
 {
     put_byte(out, PREPARE)?;
     put_entry(out, entry)

@@ -27,6 +27,7 @@ mod record;
 mod unread;
 
 pub use decode::decode_batch;
+pub use encode::encode_prepare;
 pub use format::{MAX_PLACED_IDS, MAX_RECORDS, VERSION};
 pub use identity::{COORDINATOR, Identity};
 pub use laws::no_record_begins_another;

@@ -1,9 +1,11 @@
 -- The placed ids of decided writes, and their places.
-use Rattle.std.proofs.Common.{◌≡◌, ◌≤◌, ◌<◌, ◌+◌, ◌-◌, ◌++◌, ⊎_elim, ℕ, zero, suc, true, false, List, [], ◌∷◌, length, take, get_or, Some, All, refl, sym, ap, ◌∙◌, subst, arith, length-drop, length-take, ◌==◌}
+use Rattle.std.proofs.Common.{◌≡◌, ◌≤◌, ◌<◌, ◌+◌, ◌-◌, ◌++◌, ◌||◌, ⊎_elim, ℕ, Bool, zero, suc, true, false, List, [], ◌∷◌, length, take, get_or, Some, All, refl, sym, ap, ◌∙◌, subst, arith, length-drop, length-take, ◌==◌}
 use Rattle.std.specs.List.{list_any, slice_get}
+use Rattle.std.proofs.Math.Bool.{or-false}
 use Rattle.std.proofs.lemmas.Bool.{cases_Bool, or_cases, or_parts, both_ways, eq-eqb, eqb-true}
 use Rattle.std.proofs.lemmas.List.{append-nil, take_more}
 use Rattle.std.proofs.lemmas.List.Elements.{All-cons, All-nil}
+use Rattle.std.proofs.lemmas.List.Folds.{list_any-append}
 use Rattle.tuples.specs.declared.entry.Entry.{Entry}
 use Rattle.tuples.specs.declared.entry.WriteId.{WriteId}
 use Rattle.tuples.specs.Log.{same_id}
@@ -12,6 +14,7 @@ use Rattle.records.specs.Format.{AreRisingTo, IsLearned, max_placed_ids}
 use Rattle.records.specs.declared.record.PlacedId.{PlacedId}
 use Rattle.records.specs.Replays.{ArePrepared, Identity, MayLearn, ShardState, find_in_doubt, greatest_number, without}
 use Rattle.replay.proofs.Doubts.{find_without_other, same_id_refl, same_id_true}
+use Rattle.shard.specs.Keeping.{has_id}
 use Rattle.shard.specs.Own.{AreHereTo, AreNewIdsTo}
 use Rattle.shard.specs.Shards.{AreLearnable, AreNewIds, ArePreparedHere, placed_ids_from, unlearned}
 use Rattle.shard.proofs.Given.{AllGiven, given_placed_ids}
@@ -84,6 +87,18 @@ new_more writes n w new at none i j u v lt_i lt_j is_i is_j same = ⊎_elim
     (λ (early_j : (j == n) ≡ false). new i j u v below_i (let ne : j ≡ n → ⊥ = λ e. both_ways (j == n) early_j (eq-eqb j n e) in omega (arith, lt_j, ne)) is_i is_j same)
     (cases_Bool (j == n)))
     (cases_Bool (i == n))
+
+-- the ids of one write more
+pub seen_more : (writes : List Entry) (n : ℕ) (w : Entry) → n < length writes → w ≡ get_or writes n w → (ids more : List WriteId) → ((j : WriteId) → has_id j ids ≡ list_any (λ (x : Entry). same_id x.id j) (take n writes))
+    → ((j : WriteId) → has_id j more ≡ (has_id j ids || same_id w.id j)) → (j : WriteId) → has_id j more ≡ list_any (λ (x : Entry). same_id x.id j) (take (n + 1) writes)
+seen_more writes n w lt at ids more seen put j =
+    let named = λ (x : Entry). same_id x.id j in
+    let front : take (n + 1) writes ≡ take n writes ++ w ∷ [] = take_more writes n w lt ∙ ap (λ (x : Entry). take n writes ++ x ∷ []) (sym at) in
+    put j
+    ∙ ap (λ (b : Bool). b || named w) (seen j)
+    ∙ ap (λ (b : Bool). list_any named (take n writes) || b) (sym (or-false (named w)))
+    ∙ sym (list_any-append named (take n writes) (w ∷ []))
+    ∙ ap (list_any named) (sym front)
 
 -- one write more is in doubt with its part, where it has one
 pub here_more : (shards s : ℕ) (ws writes : List Entry) (n : ℕ) (w : Entry) → AreHereTo shards s n ws writes → slice_get writes n ≡ Some w → (takes_part shards s w ≡ true → find_in_doubt w.id ws ≡ Some (part shards s w)) → AreHereTo shards s (n + 1) ws writes

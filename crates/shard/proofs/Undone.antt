@@ -6,7 +6,7 @@ use Rattle.tuples.specs.declared.entry.WriteId.{WriteId}
 use Rattle.tuples.specs.Log.{same_id}
 use Rattle.records.specs.declared.record.Record.TheVariants.{Dropped, Prepare}
 use Rattle.records.specs.Replays.{ShardState, find_in_doubt, shard_step, without}
-use Rattle.replay.proofs.Doubts.{same_id_refl}
+use Rattle.replay.proofs.Doubts.{find_push_same, same_id_refl}
 
 -- the last write is taken out again
 without_last : (w : Entry) (ws : List Entry) → find_in_doubt w.id ws ≡ None → without w.id (ws ++ w ∷ []) ≡ ws
@@ -24,3 +24,8 @@ prepare_undone m n k w new prepared dropped =
     dropped
     ∙ ap (λ (s : ShardState). shard_step s (Dropped w.id)) prepared
     ∙ ap (λ (l : List Entry). record m { in_doubt = l }) (without_last w m.in_doubt new)
+
+-- a write that was prepared is found
+pub prepared_found : (m n : ShardState) (w : Entry) → find_in_doubt w.id m.in_doubt ≡ None → n ≡ shard_step m (Prepare w) → find_in_doubt w.id n.in_doubt ≡ Some w
+unfolding shard_step
+prepared_found m n w new prepared = ap (λ (s : ShardState). find_in_doubt w.id s.in_doubt) prepared ∙ find_push_same m.in_doubt w new

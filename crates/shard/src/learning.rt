@@ -13,6 +13,7 @@ ghost use Rattle.shard.specs.Shards.{AreLearnable, AreNewIds, ArePreparedHere, I
 use crate::Shard;
 use crate::own::own_part;
 use crate::preparing::stage_fitting;
+use crate::write_ids::WriteIds;
 use decisions::{Batch, Intent};
 use device::Device;
 use journal::Journal;
@@ -43,8 +44,30 @@ fn names_id(writes: &[Entry], id: WriteId) -> bool
     writes.iter().any(|write| write.id == id)
 }
 
-// Whether no two of the writes have one id.
-fn are_new_ids(writes: &[Entry]) -> bool
+// Whether no two of the writes have one id. Where memory for the set of their ids is refused, each is compared with those before it.
+fn are_new_ids(alloc: Global, writes: &[Entry]) -> bool
+    ensures { IsTrue result ↔ AreNewIds writes.now }
+{
+    match are_new_by_set(alloc, writes) {
+        Ok(are_new) => are_new,
+        Err(_) => are_new_by_pairs(writes),
+    }
+}
+
+fn are_new_by_set(alloc: Global, writes: &[Entry]) -> Result<bool, AllocError>
+    ensures { IfOk result (λ b. IsTrue b ↔ AreNewIds writes.now) }
+{
+    let mut seen = WriteIds::new(alloc);
+    for (i, write) in writes.iter().enumerate() {
+        if seen.has(write.id) {
+            return Ok(false);
+        }
+        seen.put(write.id)?;
+    }
+    Ok(true)
+}
+
+fn are_new_by_pairs(writes: &[Entry]) -> bool
     ensures { IsTrue result ↔ AreNewIds writes.now }
 {
     for (i, write) in writes.iter().enumerate() {
@@ -78,10 +101,10 @@ fn behind(batch: &Batch, place: u64) -> &[Entry]
     &batch.writes()[known..]
 }
 
-fn are_learnable(memory: &Memory, writes: &[Entry], me: Identity) -> bool
+fn are_learnable(alloc: Global, memory: &Memory, writes: &[Entry], me: Identity) -> bool
     ensures { IsTrue result ↔ AreLearnable me memory.now writes.now }
 {
-    are_new_ids(writes) && are_prepared(memory, writes, me)
+    are_new_ids(alloc, writes) && are_prepared(memory, writes, me)
 }
 
 // The ids of the writes in which the shard takes part, with their places behind this one.
@@ -174,7 +197,7 @@ impl<D: Device> Shard<D> {
             return Ok(false);
         }
         let writes = behind(batch, learned);
-        if !are_learnable(&self.memory, writes, self.me) {
+        if !are_learnable(alloc, &self.memory, writes, self.me) {
             return Err(Refusal::Damaged);
         }
         let placed_ids = placed_ids_of(alloc, writes, learned, self.me)?;

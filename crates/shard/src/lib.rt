@@ -34,7 +34,7 @@ mod reading;
 mod replies;
 mod settling;
 mod shard;
-mod unflushed;
+mod write_ids;
 
 pub use replies::{ReadReply, VoteReply};
 pub use shard::Shard;

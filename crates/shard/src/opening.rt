@@ -12,7 +12,7 @@ ghost use Rattle.shard.specs.Shards.{IsOpenedShard, IsUp, LacksRoomToOpen, WasLe
 
 use crate::Shard;
 use crate::preparing::stage_fitting;
-use crate::unflushed::Unflushed;
+use crate::write_ids::WriteIds;
 use device::Device;
 use journal::{Journal, Refused};
 use records::{Identity, Record};
@@ -126,7 +126,7 @@ fn start<D: Device>(
                 journal,
                 me,
                 memory,
-                unflushed: Unflushed::new(alloc),
+                unflushed: WriteIds::new(alloc),
                 settled,
             })
         }

@@ -14,7 +14,7 @@ ghost use Rattle.shard.specs.Shards.{AreFree, AskBelow, HoldHere, IsBroken, IsBu
 
 use crate::Shard;
 use crate::own::{holds, is_collected, is_free, own_part};
-use crate::unflushed::Unflushed;
+use crate::write_ids::WriteIds;
 use decisions::{Intent, Ticket};
 use device::Device;
 use journal::Journal;
@@ -35,11 +35,23 @@ pub(crate) fn stage_fitting<D: Device>(journal: &mut Journal<D>, next: &Record)
     }
 }
 
+// Stages the prepare of a part that has room, which is not copied for it.
+fn stage_fitting_prepare<D: Device>(journal: &mut Journal<D>, part: &Entry)
+    requires spelled { IsPrepared part.now }
+    requires room { HasNoRoom journal.old.staged (prepare_record part.now) → ⊥ }
+    ensures { journal.new ≡ record journal.old { staged = journal.old.staged ++ prepare_record part.now ∷ [] } }
+{
+    match journal.stage_prepare(part) {
+        Ok(()) => {}
+        Err(_) => unreachable!(),
+    }
+}
+
 // Stages the prepare of a part that has room, and holds it in doubt: all of it or nothing.
 fn hold<D: Device>(
     journal: &mut Journal<D>,
     memory: &mut Memory,
-    unflushed: &mut Unflushed,
+    unflushed: &mut WriteIds,
     part: Entry,
 ) -> Result<(), Refusal>
     requires spelled { IsPrepared part }
@@ -51,13 +63,15 @@ fn hold<D: Device>(
     ensures err { IfErr result (λ e. (e ≡ Refusal.NoMemory) × (journal.new ≡ journal.old) × (memory.new ≡ memory.old) × (unflushed.new ≡ unflushed.old)) }
 {
     let id = part.id;
-    let kept = part.clone()?;
-    memory.prepare(kept)?;
+    memory.prepare(part)?;
     if unflushed.put(id).is_err() {
         memory.drop_write(id);
         return Err(Refusal::NoMemory);
     }
-    stage_fitting(journal, &Record::Prepare(part));
+    let Some(kept) = memory.find(id) else {
+        unreachable!();
+    };
+    stage_fitting_prepare(journal, kept);
     Ok(())
 }
 
@@ -66,7 +80,7 @@ fn hold<D: Device>(
 fn prepare<D: Device>(
     journal: &mut Journal<D>,
     memory: &mut Memory,
-    unflushed: &mut Unflushed,
+    unflushed: &mut WriteIds,
     alloc: Global,
     write: &Entry,
     me: Identity,

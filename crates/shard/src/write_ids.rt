@@ -1,4 +1,4 @@
-// The ids of the writes whose prepares are staged and not flushed.
+// A set of ids of writes.
 ghost use Rattle.std.specs.Prelude.{◌≡◌, ◌||◌, [], OnOk, OnErr};
 ghost use Rattle.shard.specs.Keeping.{has_id};
 ghost use Rattle.tuples.specs.Log.{same_id};
@@ -11,11 +11,11 @@ use tuples::WriteId;
 
 /// Ids of writes, each found in logarithmic time, which contracts see as a list.
 #[derive(Drop)]
-pub(crate) struct Unflushed {
+pub(crate) struct WriteIds {
     ids: BTreeSet<WriteId>,
 }
 
-impl Model for Unflushed {
+impl Model for WriteIds {
     ghost use Rattle.std.specs.Prelude.{List};
     ghost use Rattle.tuples.specs.declared.entry.WriteId.{WriteId};
 
@@ -24,12 +24,12 @@ impl Model for Unflushed {
     ghost view = { λ u. u.ids.keys };
 }
 
-impl Unflushed {
+impl WriteIds {
     /// No ids, which takes no memory.
     pub fn new(alloc: Global) -> Self
         ensures { result ≡ [] }
     {
-        Unflushed {
+        WriteIds {
             ids: BTreeSet::new(alloc),
         }
     }

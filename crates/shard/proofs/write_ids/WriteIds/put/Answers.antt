@@ -3,7 +3,7 @@ use Rattle.tuples.specs.declared.entry.WriteId.{WriteId}
 use Rattle.tuples.specs.Log.{same_id}
 use Rattle.shard.specs.Keeping.{has_id}
 use Rattle.shard.proofs.Ids.{has_put}
-use Rattle.shard.proofs.unflushed.Unflushed.put.Goals as goal
+use Rattle.shard.proofs.write_ids.WriteIds.put.Goals as goal
 
 pub returns-clause-ok : goal.returns-clause-ok
 returns-clause-ok c = λ j.

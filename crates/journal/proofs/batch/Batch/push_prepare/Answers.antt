@@ -1,0 +1,32 @@
+use Rattle.std.proofs.Common.{◌++◌, ◌∷◌, [], List, Result, Ok, Err, ap, subst, ◌∙◌}
+use Rattle.std.specs.Result.{OnErr}
+use Rattle.records.specs.declared.record.Record.{Record}
+use Rattle.records.specs.declared.record.Record.TheVariants.{Prepare}
+use Rattle.journal.specs.Records.{HasNoRoom}
+use Rattle.journal.proofs.Staged.{no_room_few, no_room_long, pushed, pushed_view, has_room}
+use Rattle.journal.proofs.batch.Batch.push_prepare.Goals as goal
+
+on_err : {T E P : Type 0} (r : Result T E) → P → OnErr r P
+on_err (Ok x) p = tt
+on_err (Err e) p = p
+
+pub returns-then-self-eq-MAX_RECORDS-clause-full : goal.returns-then-self-eq-MAX_RECORDS-clause-full
+returns-then-self-eq-MAX_RECORDS-clause-full c =
+    subst (λ (v : List Record). HasNoRoom v (Prepare c.args.part.now)) c.self.view_is (no_room_few _ _ _ c.self.invariant (Prepare c.args.part.now) c.if-self-eq-MAX_RECORDS.true)
+
+pub returns-in_err-spell_prepare-clause-full : goal.returns-in_err-spell_prepare-clause-full
+returns-in_err-spell_prepare-clause-full c =
+    on_err c.from_residual.result (subst (λ (v : List Record). HasNoRoom v (Prepare c.args.part.now)) c.self.view_is (no_room_long _ _ _ c.self.invariant (Prepare c.args.part.now) c.in_err-spell_prepare.ensures.full))
+
+pub invariant_of-self-2 : goal.invariant_of-self-2
+invariant_of-self-2 c = pushed _ _ _ c.self.invariant (Prepare c.args.part.now) c.requires _ _ c.in_ok-spell_prepare.ensures.ok.0 c.in_ok-spell_prepare.ensures.ok.1 c.if-self-eq-MAX_RECORDS.false c.in_ok-spell_prepare.ensures.capacity
+
+pub returns-clause-ok : goal.returns-clause-ok
+returns-clause-ok c =
+    pushed_view _ _ _ c.self.invariant (Prepare c.args.part.now) c.requires _ _ c.in_ok-spell_prepare.ensures.ok.0 c.in_ok-spell_prepare.ensures.ok.1 c.if-self-eq-MAX_RECORDS.false c.in_ok-spell_prepare.ensures.capacity
+    ∙ ap (λ (v : List Record). v ++ (Prepare c.args.part.now) ∷ []) c.self.view_is
+
+pub returns-clause-room : goal.returns-clause-room
+returns-clause-room c =
+    subst (λ (v : List Record). HasNoRoom v (Prepare c.args.part.now) → ⊥) c.self.view_is
+    (has_room _ _ _ c.self.invariant (Prepare c.args.part.now) c.requires _ _ c.in_ok-spell_prepare.ensures.ok.0 c.in_ok-spell_prepare.ensures.ok.1 c.if-self-eq-MAX_RECORDS.false c.in_ok-spell_prepare.ensures.capacity)
