@@ -62,7 +62,7 @@ use Rattle.call_turns.proofs.ReadTold.{read_for_check_told}
 use Rattle.call_turns.proofs.Standing.{some_coordinator}
 use Rattle.answer_turns.specs.AnswerTurns.{shown_answer}
 use Rattle.answer_turns.specs.CheckTurns.{ChecksTurn, check_in_slot, check_tells}
-use Rattle.answer_turns.proofs.CheckPlaces.{has_or_not}
+use Rattle.answer_turns.proofs.TupleLists.{has_or_not}
 use Rattle.answer_turns.proofs.Leads.{ComesRight, IsFlow, Quietly, answers_to, fails_to, goes_to, held_now, lacks_memory, refuses_to}
 use Rattle.answer_turns.proofs.Places.{asks_above, asks_below, finds_place}
 use Rattle.answer_turns.proofs.Ways.{came, moved}
@@ -342,21 +342,21 @@ module _ {D : Type 0} (state : D → State) (honest : D → Type 0) (moment : D 
   flush_replied was is reply after c so gives = absurd gives
 
   -- whichever call it makes
-  by_step : (step : CheckStep) → (step ≡ heads → h.place ≡ None) → (call : NodeCall) (out : CheckView) (reply : Reply) (after : CheckView) (was is : NodeView D) (v : CheckView) → v.holds ≡ h → AsksFor step shards u v call out
+  by_step : (step : CheckStep) → (call : NodeCall) (out : CheckView) (reply : Reply) (after : CheckView) (was is : NodeView D) (v : CheckView) → v.holds ≡ h → AsksFor step shards u v call out
       → MatchOption out.awaited ⊥ (λ awaited. GivesTo fresh u out awaited reply after) → FitsItsTypes call → IsCalled state honest moment left_since store shards (called call) was is old new
       → Answered state honest moment left_since was call reply is → Leads after
-  by_step heads nowhere call out reply after was is v own asks gives fits c so = heads_replied (nowhere refl) was is reply after
-      (subst (λ (q : NodeCall). IsCalled state honest moment left_since store shards (called q) was is old new) asks.0 c)
-      (subst (λ (q : NodeCall). Answered state honest moment left_since was q reply is) asks.0 so)
+  by_step heads call out reply after was is v own asks gives fits c so = heads_replied (sym (ap (λ (k : CheckHolds). k.place) own) ∙ asks.0) was is reply after
+      (subst (λ (q : NodeCall). IsCalled state honest moment left_since store shards (called q) was is old new) asks.1 c)
+      (subst (λ (q : NodeCall). Answered state honest moment left_since was q reply is) asks.1 so)
       (subst (λ (k : CheckHolds). GivesTo fresh u (waiting heads heads_call k) heads_call reply after) own
-      (subst (λ (o : CheckView). MatchOption o.awaited ⊥ (λ awaited. GivesTo fresh u o awaited reply after)) asks.1 gives))
-  by_step flush nowhere call out reply after was is v own asks gives fits c so = flush_replied was is reply after
-      (subst (λ (q : NodeCall). IsCalled state honest moment left_since store shards (called q) was is old new) asks.0 c)
-      (subst (λ (q : NodeCall). Answered state honest moment left_since was q reply is) asks.0 so)
+      (subst (λ (o : CheckView). MatchOption o.awaited ⊥ (λ awaited. GivesTo fresh u o awaited reply after)) asks.2 gives))
+  by_step flush call out reply after was is v own asks gives fits c so = flush_replied was is reply after
+      (subst (λ (q : NodeCall). IsCalled state honest moment left_since store shards (called q) was is old new) asks.1 c)
+      (subst (λ (q : NodeCall). Answered state honest moment left_since was q reply is) asks.1 so)
       (subst (λ (k : CheckHolds). GivesTo fresh u (waiting flush flush_call k) flush_call reply after) own
-      (subst (λ (o : CheckView). MatchOption o.awaited ⊥ (λ awaited. GivesTo fresh u o awaited reply after)) asks.1 gives))
-  by_step catch_up nowhere call out reply after was is v own asks gives fits c so = by_way call out reply after was is v own asks gives fits c so
-  by_step read nowhere call out reply after was is v own asks gives fits c so =
+      (subst (λ (o : CheckView). MatchOption o.awaited ⊥ (λ awaited. GivesTo fresh u o awaited reply after)) asks.2 gives))
+  by_step catch_up call out reply after was is v own asks gives fits c so = by_way call out reply after was is v own asks gives fits c so
+  by_step read call out reply after was is v own asks gives fits c so =
       replied asks.first asks.place (sym (ap (λ (k : CheckHolds). k.place) own) ∙ asks.at_place) (subst (λ (k : CheckHolds). slice_get k.waiting 0 ≡ Some asks.first) own asks.is_first) was is
       (subst (λ (q : NodeCall). IsCalled state honest moment left_since store shards (called q) was is old new) asks.call_is c) reply after
       (subst (λ (q : NodeCall). Answered state honest moment left_since was q reply is) asks.call_is so)
@@ -367,5 +367,5 @@ pub checks_turn : {D : Type 0} (state : D → State) (honest : D → Type 0) (mo
     (counts_now : (d : D) (t : ℕ) (c : List ℕ) → honest d → t ≤ moment d → left (state d) c → left_since d t c) (only_now : (d : D) (c : List ℕ) → honest d → left_since d (moment d) c → left (state d) c)
     (store shards : ℕ) → ChecksTurn state honest moment left_since store shards
 checks_turn state honest moment left_since counts_now only_now store shards old new slot x v after t =
-    by_step state honest moment left_since counts_now only_now store shards old new slot v.fresh x v.user v.seen.holds v.seen.next (λ is. t.begins (inl is)) t.call t.out t.reply after t.was t.is v.seen refl
+    by_step state honest moment left_since counts_now only_now store shards old new slot v.fresh x v.user v.seen.holds v.seen.next t.call t.out t.reply after t.was t.is v.seen refl
     (subst (λ (n : ℕ). AsksFor v.seen.next n v.user v.seen t.call t.out) t.of_store t.asks.asks) t.gives t.fits t.called_is t.answers t.turns

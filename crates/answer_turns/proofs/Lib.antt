@@ -3,5 +3,5 @@ pub mod Leads
 pub mod Places
 pub mod Ways
 pub mod ReadsTurn
-pub mod CheckPlaces
+pub mod TupleLists
 pub mod ChecksTurn

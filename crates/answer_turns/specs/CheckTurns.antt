@@ -1,5 +1,5 @@
 -- A turn of a check: its next call is made, and the check makes of the reply what it makes.
-use Rattle.std.specs.Prelude.{◌≡◌, ◌⊎◌, ℕ, List, [], ◌∷◌, Option, Some, None, MatchOption}
+use Rattle.std.specs.Prelude.{◌≡◌, ℕ, List, [], ◌∷◌, Option, Some, None, MatchOption}
 use Rattle.device.specs.Device.{State}
 use Rattle.tuples.specs.declared.object.Userset.{Userset}
 use Rattle.calls.specs.Asking as asking
@@ -32,10 +32,6 @@ check_tells None = goes_on
 check_tells (Some (views.checked place is_member)) = answered (checked place is_member)
 check_tells (Some (views.refused e)) = refuses e
 
--- a check that asks for heads next, or has the coordinator flushed for them, has no place yet
-abbrev pub FindsItsPlaceFirst : CheckView → Type 0
-FindsItsPlaceFirst v = (v.next ≡ views.heads) ⊎ (v.next ≡ views.flush) → v.holds.place ≡ None
-
 -- Given what a device holds and whether it is honest, how often a stop may have come at it, what a stop since then may have left, and a store's id
 -- and number of shards
 module _ {D : Type 0} (state : D → State) (honest : D → Type 0) (moment : D → ℕ) (left_since : D → ℕ → List ℕ → Type 0) (store shards : ℕ) where
@@ -44,7 +40,6 @@ module _ {D : Type 0} (state : D → State) (honest : D → Type 0) (moment : D 
   pub record CheckTurns (old new : Store D) (slot : ℕ) (x : Userset) (v : CheckFlowValue) (after : CheckView) : Type 0 where
     pub of_store : v.shards ≡ shards
     pub asked : IsAsked shards (check_of x v)
-    pub begins : FindsItsPlaceFirst v.seen
     pub call : NodeCall
     pub out : CheckView
     pub asks : checking_by.Asks v.shards v.user v.seen call out
@@ -62,11 +57,3 @@ module _ {D : Type 0} (state : D → State) (honest : D → Type 0) (moment : D 
   abbrev pub ChecksTurn : Type 0
   ChecksTurn = (old new : Store D) (slot : ℕ) (x : Userset) (v : CheckFlowValue) (after : CheckView) → CheckTurns old new slot x v after
       → TurnRuns state honest moment left_since store shards old slot (check_tells after.ended ∷ []) new
-
-  -- and it finds its place first still, as it did before
-  abbrev pub ChecksStillFindTheirPlaceFirst : Type 0
-  ChecksStillFindTheirPlaceFirst = (old new : Store D) (slot : ℕ) (x : Userset) (v : CheckFlowValue) (after : CheckView) → CheckTurns old new slot x v after → FindsItsPlaceFirst after
-
--- as a new check does, which begins at any userset
-abbrev pub NewChecksFindTheirPlaceFirst : Type 0
-NewChecksFindTheirPlaceFirst = (x : Userset) → FindsItsPlaceFirst (views.at_rest views.heads (views.begins_at x))

@@ -1,7 +1,7 @@
 // Laws of the turns of flows that answer requests, each the clause of a function with an empty body.
 ghost use Rattle.std.specs.Prelude.{ℕ};
 ghost use Rattle.answer_turns.specs.AnswerTurns.{WatchesTurn};
-ghost use Rattle.answer_turns.specs.CheckTurns.{ChecksStillFindTheirPlaceFirst, ChecksTurn, NewChecksFindTheirPlaceFirst};
+ghost use Rattle.answer_turns.specs.CheckTurns.{ChecksTurn};
 ghost use Rattle.answer_turns.specs.ReadTurns.{ReadsTurn};
 
 use device::Device;
@@ -17,9 +17,6 @@ pub fn reads_take_their_turn<D: Device>()
 {}
 
 /// A check goes on with a place and usersets that are right, answers whether the user is a member at the place, or ends with a refusal that has its cause.
-/// Where it found its place before it asked a shard, it does so still, as a new one does.
 pub fn checks_take_their_turn<D: Device>()
-    ensures turns { (store shards : ℕ) → ChecksTurn D.state D.honest D.moment D.left_since store shards }
-    ensures still { (store shards : ℕ) → ChecksStillFindTheirPlaceFirst D.state D.honest D.moment D.left_since store shards }
-    ensures new_ones { NewChecksFindTheirPlaceFirst }
+    ensures { (store shards : ℕ) → ChecksTurn D.state D.honest D.moment D.left_since store shards }
 {}
