@@ -4,7 +4,6 @@ use Rattle.std.specs.BTreeMap.{is_at}
 use Rattle.std.specs.List.{list_any}
 use Rattle.tuples.specs.declared.entry.WriteId.{WriteId}
 use Rattle.tuples.specs.Log.{same_id}
-use Rattle.tuples.specs.contracts.entry.WriteIdOrd.TheImpl.{ghosts}
 use Rattle.holds.specs.Holds.{id_cmp}
 use Rattle.holds.proofs.Ids.{id_equivalence, id_ties}
 use Rattle.shard.specs.Keeping.{has_id}

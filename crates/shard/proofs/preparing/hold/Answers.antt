@@ -1,9 +1,7 @@
-use Rattle.std.proofs.Common.{◌≡◌, ◌++◌, ◌∷◌, [], List, Some, None, refl, sym, ◌∙◌, ap, subst, rules}
+use Rattle.std.proofs.Common.{◌≡◌, ◌++◌, ◌∷◌, [], Some, None, refl, sym, ◌∙◌, ap, subst, rules}
 use Rattle.tuples.specs.declared.entry.Entry.{Entry}
 use Rattle.journal.specs.Records.{HasNoRoom}
 use Rattle.records.specs.Format.{IsPrepared}
-use Rattle.records.specs.Replays.{find_in_doubt}
-use Rattle.records.specs.declared.record.Record.{Record}
 use Rattle.records.specs.declared.record.Record.TheVariants.{Prepare}
 use Rattle.shard.proofs.Undone.{prepare_undone, prepared_found}
 use Rattle.shard.proofs.preparing.hold.Goals as goal
