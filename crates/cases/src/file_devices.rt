@@ -18,6 +18,16 @@ struct Kept {
 }
 
 impl RawFile for Kept {
+    ghost told = { λ old n new. Unit {0} };
+
+    ghost has_read = { λ old at bytes new. Unit {0} };
+
+    ghost wrote = { λ old at bytes new. Unit {0} };
+
+    ghost synced = { λ old new. Unit {0} };
+
+    ghost reopened = { λ old new. Unit {0} };
+
     fn len(&mut self) -> Result<usize, Broken> {
         if self.is_broken {
             return Err(Broken);

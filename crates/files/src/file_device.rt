@@ -1,8 +1,8 @@
 // A device over a file of which no contract tells anything.
-ghost use Rattle.std.specs.Prelude.{◌≡◌, ◌≤◌, ◌+◌, ◌<◌, ◌⊎◌, ◌^◌, ◌-◌, true, false, List, IfOk, IsTrue, OnOk, OnErr, length, take, drop};
+ghost use Rattle.std.specs.Prelude.{◌≡◌, ◌≤◌, ◌+◌, ◌<◌, ◌⊎◌, ◌↔◌, ◌^◌, ◌-◌, true, false, List, IfOk, IsErr, IsTrue, OnOk, OnErr, length, take, drop};
 ghost use Rattle.std.proofs.Common.{subst, sym, arith};
 ghost use Rattle.std.proofs.lemmas.List.{take_all};
-ghost use Rattle.device.specs.Device.{Elapses, Keeps, left};
+ghost use Rattle.device.specs.Device.{Elapses, Failed, Keeps, Revived, Synced, Tore, Wrote, left};
 ghost use Rattle.device.specs.Disk.{IsFresh, left_since_of, moment_of, state_of};
 ghost use Rattle.device.specs.Sim.{CouldLeave};
 ghost use Rattle.device.specs.declared.call.Call.{Call};
@@ -80,6 +80,7 @@ impl<F: RawFile> FileDevice<F> {
     // Holds what was read against the record.
     fn compare(&mut self, at: usize, found: &[u8]) -> Result<(), Stopped>
         requires { (state_of self.old.disk).stopped ≡ false → at + length found.now ≤ length (state_of self.old.disk).seen }
+        ensures file { self.new.file ≡ self.old.file }
         ensures recorded { self.new.is_recorded ≡ self.old.is_recorded }
         ensures stopped { OnOk result (self.new.is_stopped ≡ self.old.is_stopped) }
         ensures none { OnOk result (self.new.failures ≡ self.old.failures) }
@@ -133,7 +134,17 @@ impl<F: RawFile> Device for FileDevice<F> {
 
     ghost only_now = { λ d c hon since. subst (λ (calls : List Call). CouldLeave d.disk.first.items calls c) (take_all since.0 d.disk.history.items since.1) since.3 };
 
-    fn len(&mut self) -> Result<usize, Stopped> {
+    fn len(&mut self) -> Result<usize, Stopped>
+        ensures honest { (self.old.is_recorded ≡ true) ↔ (self.new.is_recorded ≡ true) }
+        ensures len { self.old.is_recorded ≡ true → IfOk result (λ n. (n ≡ length (file_state self.old.disk self.old.is_stopped self.old.failures).seen) × (self.new.is_stopped ≡ false)) }
+        ensures keeps { self.old.is_recorded ≡ true → Keeps (file_state self.old.disk self.old.is_stopped self.old.failures) (file_state self.new.disk self.new.is_stopped self.new.failures) }
+        ensures counts { self.old.failures ≤ self.new.failures }
+        ensures none { OnOk result (self.new.failures ≡ self.old.failures) }
+        ensures err { OnErr result (Failed (file_state self.old.disk self.old.is_stopped self.old.failures) (file_state self.new.disk self.new.is_stopped self.new.failures)) }
+        ensures down { self.old.is_stopped ≡ true → IsErr result × (self.old.is_recorded ≡ true → Keeps (file_state self.old.disk self.old.is_stopped self.old.failures) (file_state self.new.disk self.new.is_stopped self.new.failures)) }
+        ensures time { self.old.is_recorded ≡ true → Elapses (moment_of self.old.disk) (moment_of self.new.disk) (left_since_of self.old.disk) (left_since_of self.new.disk) (left (file_state self.new.disk self.new.is_stopped self.new.failures)) }
+        ensures call { IfOk result (λ n. F.told self.old.file n self.new.file) }
+    {
         if self.is_stopped {
             return Err(self.stop());
         }
@@ -153,7 +164,18 @@ impl<F: RawFile> Device for FileDevice<F> {
         Ok(found)
     }
 
-    fn read_at(&mut self, at: usize, buf: &mut [u8]) -> Result<(), Stopped> {
+    fn read_at(&mut self, at: usize, buf: &mut [u8]) -> Result<(), Stopped>
+        requires { self.old.is_recorded ≡ true → self.old.is_stopped ≡ false → at + length buf.old ≤ length (file_state self.old.disk self.old.is_stopped self.old.failures).seen }
+        ensures honest { (self.old.is_recorded ≡ true) ↔ (self.new.is_recorded ≡ true) }
+        ensures bytes { self.old.is_recorded ≡ true → OnOk result ((buf.new ≡ take (length buf.old) (drop at (file_state self.old.disk self.old.is_stopped self.old.failures).seen)) × (self.new.is_stopped ≡ false)) }
+        ensures keeps { self.old.is_recorded ≡ true → Keeps (file_state self.old.disk self.old.is_stopped self.old.failures) (file_state self.new.disk self.new.is_stopped self.new.failures) }
+        ensures counts { self.old.failures ≤ self.new.failures }
+        ensures none { OnOk result (self.new.failures ≡ self.old.failures) }
+        ensures err { OnErr result (Failed (file_state self.old.disk self.old.is_stopped self.old.failures) (file_state self.new.disk self.new.is_stopped self.new.failures)) }
+        ensures down { self.old.is_stopped ≡ true → IsErr result × (self.old.is_recorded ≡ true → Keeps (file_state self.old.disk self.old.is_stopped self.old.failures) (file_state self.new.disk self.new.is_stopped self.new.failures)) }
+        ensures time { self.old.is_recorded ≡ true → Elapses (moment_of self.old.disk) (moment_of self.new.disk) (left_since_of self.old.disk) (left_since_of self.new.disk) (left (file_state self.new.disk self.new.is_stopped self.new.failures)) }
+        ensures call { OnOk result (F.has_read self.old.file at buf.new self.new.file) }
+    {
         if self.is_stopped {
             return Err(self.stop());
         }
@@ -167,7 +189,18 @@ impl<F: RawFile> Device for FileDevice<F> {
         Ok(())
     }
 
-    fn write_at(&mut self, at: usize, bytes: &[u8]) -> Result<(), Stopped> {
+    fn write_at(&mut self, at: usize, bytes: &[u8]) -> Result<(), Stopped>
+        requires { self.old.is_recorded ≡ true → self.old.is_stopped ≡ false → at ≤ length (file_state self.old.disk self.old.is_stopped self.old.failures).seen }
+        ensures honest { (self.old.is_recorded ≡ true) ↔ (self.new.is_recorded ≡ true) }
+        ensures ok { self.old.is_recorded ≡ true → OnOk result (Wrote (file_state self.old.disk self.old.is_stopped self.old.failures) at bytes.now (file_state self.new.disk self.new.is_stopped self.new.failures)) }
+        ensures torn { self.old.is_recorded ≡ true → OnErr result (Tore (file_state self.old.disk self.old.is_stopped self.old.failures) at (length bytes.now) (file_state self.new.disk self.new.is_stopped self.new.failures)) }
+        ensures counts { self.old.failures ≤ self.new.failures }
+        ensures none { OnOk result (self.new.failures ≡ self.old.failures) }
+        ensures err { OnErr result (Failed (file_state self.old.disk self.old.is_stopped self.old.failures) (file_state self.new.disk self.new.is_stopped self.new.failures)) }
+        ensures down { self.old.is_stopped ≡ true → IsErr result × (self.old.is_recorded ≡ true → Keeps (file_state self.old.disk self.old.is_stopped self.old.failures) (file_state self.new.disk self.new.is_stopped self.new.failures)) }
+        ensures time { self.old.is_recorded ≡ true → Elapses (moment_of self.old.disk) (moment_of self.new.disk) (left_since_of self.old.disk) (left_since_of self.new.disk) (left (file_state self.new.disk self.new.is_stopped self.new.failures)) }
+        ensures call { OnOk result (F.wrote self.old.file at bytes.now self.new.file) }
+    {
         if self.is_stopped {
             return Err(self.stop());
         }
@@ -184,13 +217,23 @@ impl<F: RawFile> Device for FileDevice<F> {
         Ok(())
     }
 
-    fn sync(&mut self) -> Result<(), Stopped> {
+    fn sync(&mut self) -> Result<(), Stopped>
+        ensures honest { (self.old.is_recorded ≡ true) ↔ (self.new.is_recorded ≡ true) }
+        ensures ok { self.old.is_recorded ≡ true → OnOk result (Synced (file_state self.old.disk self.old.is_stopped self.old.failures) (file_state self.new.disk self.new.is_stopped self.new.failures)) }
+        ensures keeps { self.old.is_recorded ≡ true → OnErr result (Keeps (file_state self.old.disk self.old.is_stopped self.old.failures) (file_state self.new.disk self.new.is_stopped self.new.failures)) }
+        ensures counts { self.old.failures ≤ self.new.failures }
+        ensures none { OnOk result (self.new.failures ≡ self.old.failures) }
+        ensures err { OnErr result (Failed (file_state self.old.disk self.old.is_stopped self.old.failures) (file_state self.new.disk self.new.is_stopped self.new.failures)) }
+        ensures down { self.old.is_stopped ≡ true → IsErr result × (self.old.is_recorded ≡ true → Keeps (file_state self.old.disk self.old.is_stopped self.old.failures) (file_state self.new.disk self.new.is_stopped self.new.failures)) }
+        ensures time { self.old.is_recorded ≡ true → Elapses (moment_of self.old.disk) (moment_of self.new.disk) (left_since_of self.old.disk) (left_since_of self.new.disk) (left (file_state self.new.disk self.new.is_stopped self.new.failures)) }
+        ensures call { OnOk result (F.synced self.old.file self.new.file) }
+    {
         if self.is_stopped {
             return Err(self.stop());
         }
-        match self.file.sync() {
-            Ok(()) => {}
-            Err(_) => return Err(self.stop()),
+        let is_synced = self.file.sync().is_ok();
+        if !is_synced {
+            return Err(self.stop());
         }
         if self.is_recorded {
             match self.disk.sync() {
@@ -201,7 +244,16 @@ impl<F: RawFile> Device for FileDevice<F> {
         Ok(())
     }
 
-    fn revive(&mut self) -> Result<(), Stopped> {
+    fn revive(&mut self) -> Result<(), Stopped>
+        ensures honest { (self.old.is_recorded ≡ true) ↔ (self.new.is_recorded ≡ true) }
+        ensures ok { self.old.is_recorded ≡ true → OnOk result (Revived (file_state self.old.disk self.old.is_stopped self.old.failures) (file_state self.new.disk self.new.is_stopped self.new.failures)) }
+        ensures keeps { self.old.is_recorded ≡ true → OnErr result (Keeps (file_state self.old.disk self.old.is_stopped self.old.failures) (file_state self.new.disk self.new.is_stopped self.new.failures)) }
+        ensures counts { self.old.failures ≤ self.new.failures }
+        ensures none { OnOk result (self.new.failures ≡ self.old.failures) }
+        ensures err { OnErr result (Failed (file_state self.old.disk self.old.is_stopped self.old.failures) (file_state self.new.disk self.new.is_stopped self.new.failures)) }
+        ensures time { self.old.is_recorded ≡ true → Elapses (moment_of self.old.disk) (moment_of self.new.disk) (left_since_of self.old.disk) (left_since_of self.new.disk) (left (file_state self.new.disk self.new.is_stopped self.new.failures)) }
+        ensures calls { OnOk result ((between : F) × F.reopened self.old.file between × F.synced between self.new.file) }
+    {
         // A record says which contents may be found, and not which one is: it is of no use any more.
         if self.is_recorded {
             return Err(self.stop());

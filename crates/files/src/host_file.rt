@@ -26,6 +26,17 @@ impl From<io::Error> for Broken {
 }
 
 impl RawFile for HostFile<'_> {
+    // What the system's files keep no clause tells.
+    ghost told = { λ old n new. Unit {0} };
+
+    ghost has_read = { λ old at bytes new. Unit {0} };
+
+    ghost wrote = { λ old at bytes new. Unit {0} };
+
+    ghost synced = { λ old new. Unit {0} };
+
+    ghost reopened = { λ old new. Unit {0} };
+
     fn len(&mut self) -> Result<usize, Broken> {
         Ok(len_of(&self.file)?)
     }

@@ -1,7 +1,7 @@
 -- Where the first line feed is.
 use Rattle.std.proofs.Common.{◌≡◌, ℕ, ◌+◌, ◌<◌, ◌≤◌, List, [], ◌∷◌, ◌++◌, ◌-◌, Bool, true, false, length, take, drop, get_or, subst, refl, sym, ap, ◌∙◌, arith, eq-eqb, take-append-drop}
 use Rattle.std.proofs.lemmas.List.{drop-drop, drop_all, drop_more, get_or-take, length-take-le}
-use Rattle.std.proofs.lemmas.List.Elements.{All-append, All-from_get_or}
+use Rattle.std.proofs.lemmas.List.Elements.{All-append, All-from_get_or, All-get_or}
 use Rattle.std.proofs.lemmas.Bool.{eqb-true}
 use Rattle.std.specs.Prelude.{◌≢◌}
 use Rattle.memchr.specs.Find.{NoneBefore, Nowhere, Passes, is_byte}
@@ -26,6 +26,9 @@ none_at_all hay none = All-from_get_or (λ b. b ≢ 10) hay 0 (λ i within is. n
 pub at_feed : (hay : List ℕ) (k : ℕ) → k < length hay → IsFeed hay k → hay ≡ take k hay ++ 10 ∷ drop (k + 1) hay
 at_feed hay k within is =
     sym (take-append-drop k hay) ∙ ap (λ (l : List ℕ). take k hay ++ l) (drop_more hay k 0 within ∙ ap (λ (b : ℕ). b ∷ drop (k + 1) hay) (eqb-true (get_or hay k 0) 10 is))
+
+pub feed_is_there : (hay old : List ℕ) (k : ℕ) → hay ≡ old → NoneBefore (IsFeed hay) 0 (length hay) k → IsFeed hay k → HasNoFeed old → ⊥
+feed_is_there hay old k same first is none = All-get_or (λ b. b ≢ 10) hay k 0 (omega (arith, first.high)) (subst HasNoFeed (sym same) none) (eqb-true (get_or hay k 0) 10 is)
 
 pub no_feed_in : (a b : List ℕ) → HasNoFeed a → HasNoFeed b → HasNoFeed (a ++ b)
 no_feed_in a b p q = All-append (λ x. x ≢ 10) a b p q

@@ -1,7 +1,7 @@
 // What is read and taken of a block.
 ghost use Rattle.std.specs.Prelude.{◌≡◌, ◌≤◌, ◌<◌, ◌↔◌, [], List, ℕ, IfOk, OnOk, OnErr, IsTrue, length, take, vec_len};
 ghost use Rattle.std.specs.Io.KnownBytes.{Consumes, IsAtEnd, Keeps};
-ghost use Rattle.sessions.specs.Lines.{Holds};
+ghost use Rattle.sessions.specs.Lines.{HasNoFeed, Holds};
 ghost use Rattle.sessions.specs.Blocks.{unread as unread_of, Refills, TakesPart};
 
 use crate::held::{BLOCK, Block};
@@ -31,8 +31,13 @@ impl Block {
     }
 
     /// Whether a whole line waits.
-    pub(crate) fn has_line(&self) -> bool {
-        memchr(b'\n', self.unread()).is_some()
+    pub(crate) fn has_line(&self) -> bool
+        ensures { IsTrue result → HasNoFeed (unread_of self.now) → ⊥ }
+    {
+        match memchr(b'\n', self.unread()) {
+            Some(_) => true,
+            None => false,
+        }
     }
 
     // Reads the next bytes in place of those that are there; none are read at the end of input alone.

@@ -1,6 +1,7 @@
 // Lines from a reader.
 ghost use Rattle.std.specs.Prelude.{List, ℕ, IfOk, OnErr};
 ghost use Rattle.sessions.specs.Blocks.{unread, HasRead, HasTaken};
+ghost use Rattle.sessions.specs.Outputs.{MayWait};
 
 use crate::held::Block;
 use crate::line::Line;
@@ -13,12 +14,14 @@ pub(crate) enum Ending {
     Input,
 }
 
-/// Reads the next line, or what the input has behind its last line feed.
+/// Reads the next line, or what the input has behind its last line feed. It is handed what waits to be written, and that may wait.
 pub(crate) fn take_line<R: Read>(
     input: &mut R,
     block: &mut Block,
     line: &mut Line,
+    _waiting: &[u8],
 ) -> io::Result<Ending>
+    requires { MayWait (unread block.old) _waiting.now }
     ensures ok { IfOk result (λ ending. HasTaken ending (R.remaining input.old) (R.remaining input.new) (unread block.old) (unread block.new) line.new) }
     ensures err { OnErr result (HasRead (R.remaining input.old) (R.remaining input.new)) }
 {

@@ -1,8 +1,9 @@
 // A session from its first line to its last.
 ghost use Rattle.std.specs.Prelude.{◌++◌, List, ℕ, OnOk, OnErr};
 ghost use Rattle.std.specs.Io.KnownBytes.{Appends};
+ghost use Rattle.sessions.specs.Blocks.{unread};
 ghost use Rattle.sessions.specs.Lines.{Holds};
-ghost use Rattle.sessions.specs.Outputs.{HasBegun, Sends};
+ghost use Rattle.sessions.specs.Outputs.{HasBegun, MayWait, Sends};
 ghost use Rattle.sessions.specs.Sessions.{Broke, Served, end_text};
 
 use crate::asking::Answers;
@@ -32,7 +33,7 @@ pub fn serve_stream<R: Read, W: Write, A: Answers>(
     let mut waiting = Vec::with_capacity(alloc, 2 * BLOCK)?;
     for _ in 0..u64::MAX {
         write_ready(output, &block, &mut waiting)?;
-        match take_line(input, &mut block, &mut line)? {
+        match take_line(input, &mut block, &mut line, &waiting)? {
             Ending::Input => {
                 finish(&line, store, output, &mut waiting)?;
                 return Ok(());
@@ -52,6 +53,7 @@ pub fn serve_stream<R: Read, W: Write, A: Answers>(
 fn write_ready<W: Write>(output: &mut W, block: &Block, waiting: &mut Vec<u8>) -> io::Result<()>
     ensures ok { OnOk result (Sends (W.contents output.old) (W.contents output.new) waiting.old.items waiting.new.items) }
     ensures err { OnErr result (HasBegun (W.contents output.old) (W.contents output.new) waiting.old.items) }
+    ensures waits { OnOk result (MayWait (unread block.now) waiting.new.items) }
 {
     if waiting.len() < BLOCK && block.has_line() {
         return Ok(());

@@ -1,0 +1,26 @@
+//! A session over a plain list of tuples, from standard input to standard output: what `checks/refused_session` runs.
+//!
+//! Keeps: a request that is refused changes no tuple.
+//! Never: keeps more than the tuples that were touched; a delete, a condition or a freshness changes no answer.
+//! Callers rely on: status 0 at the end of the input, and 1 where the session broke off.
+#![tactic(auto)]
+
+mod listed;
+
+use listed::Listed;
+use sessions::serve_stream;
+use std::io;
+use std::process::ExitCode;
+
+const STORE: u64 = 1;
+
+fn main(rt: HostRuntime) -> ExitCode {
+    let alloc = rt.alloc();
+    let mut input = rt.reader();
+    let mut output = io::writer(&rt);
+    let mut listed = Listed::new(alloc);
+    match serve_stream(alloc, STORE, &mut input, &mut output, &mut listed) {
+        Ok(()) => ExitCode::SUCCESS,
+        Err(_) => ExitCode::FAILURE,
+    }
+}
