@@ -41,12 +41,12 @@ pub fn encode_prepare(part: &Entry, out: &mut Vec<u8>) -> Result<(), AllocError>
     ensures room { vec_capacity out.old ≤ vec_capacity out.new }
 {
     let before = out.len();
-    let put = put_prepare(out, part);
-    if put.is_err() {
+    let done = put_prepare(out, part);
+    if done.is_err() {
         // Some of its bytes may stand there.
         out.truncate(before);
     }
-    put
+    done
 }
 
 #[tactic(auto, unfolding(crate::specs::Format::record_bytes))]
