@@ -1,8 +1,12 @@
 // What is read of versions at each place.
+ghost use Rattle.std.specs.Prelude.{◌≡◌, ◌<◌};
+
 use std::alloc::Global;
+use std::marker::Brand;
+use std::sync::ledger::{Blank, Ledger};
 use std::test::Fail;
 use tuples::{Change, Tuple, Tupleset, User, Userset};
-use versions::{PlacedChanges, Versions};
+use versions::{PlacedChanges, Steps, Versions};
 
 /// The versions of these lines: a place, and a tuple that is touched, or deleted behind a `-`.
 fn versions_of(alloc: Global, lines: &[(u64, &str)]) -> Result<Versions, Fail> {
@@ -33,6 +37,33 @@ fn read_set(
     set: &Tupleset,
 ) -> Result<Vec<u8>, Fail> {
     let tuples = versions.at(alloc, place, set)?;
+    text_of(alloc, &tuples)
+}
+
+/// The same, with the rows counted that were looked at.
+fn read_counted(
+    alloc: Global,
+    versions: &Versions,
+    place: u64,
+    set: &str,
+) -> Result<Vec<u8>, Fail> {
+    let set = Tupleset::parse(alloc, set.as_bytes())?;
+    counted::<Brand>(alloc, versions, place, &set, Blank::new(1))
+}
+
+fn counted<L: Ledger>(
+    alloc: Global,
+    versions: &Versions,
+    place: u64,
+    set: &Tupleset,
+    blank: Blank,
+) -> Result<Vec<u8>, Fail>
+    requires name { blank.name ≡ L.name }
+    requires parts { blank.parts ≡ L.parts }
+    requires some { 0 < blank.parts }
+{
+    let mut steps = Steps::<L>::new(blank);
+    let tuples = versions.at_counted(alloc, place, set, &mut steps)?;
     text_of(alloc, &tuples)
 }
 
@@ -78,6 +109,12 @@ fn each_kind_of_tupleset_is_read_at_each_place(rt: HostRuntime) -> Result<(), Fa
     ] {
         let found = read(alloc, &versions, place, set)?;
         assert_eq!(rt; found.as_slice(), wanted.as_bytes(), "{set} at {place}");
+        let counted = read_counted(alloc, &versions, place, set)?;
+        assert_eq!(rt;
+            counted.as_slice(),
+            wanted.as_bytes(),
+            "{set} at {place}, counted"
+        );
     }
     Ok(())
 }
