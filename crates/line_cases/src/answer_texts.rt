@@ -107,23 +107,8 @@ fn an_answer_has_its_text(rt: HostRuntime) -> Result<(), Fail> {
 fn a_refusal_has_its_text(rt: HostRuntime) -> Result<(), Fail> {
     let table = [
         (Refusal::BadRequest, r#"{"error":1,"name":"BadRequest"}"#),
-        (Refusal::BadTuple, r#"{"error":2,"name":"BadTuple"}"#),
         (Refusal::TooLarge, r#"{"error":3,"name":"TooLarge"}"#),
-        (Refusal::Repeated, r#"{"error":4,"name":"Repeated"}"#),
-        (Refusal::BadZookie, r#"{"error":5,"name":"BadZookie"}"#),
-        (Refusal::WrongStore, r#"{"error":6,"name":"WrongStore"}"#),
-        (Refusal::Future, r#"{"error":7,"name":"Future"}"#),
-        (Refusal::Collected, r#"{"error":8,"name":"Collected"}"#),
-        (
-            Refusal::Precondition,
-            r#"{"error":9,"name":"Precondition"}"#,
-        ),
-        (Refusal::Busy, r#"{"error":10,"name":"Busy"}"#),
-        (Refusal::Aborted, r#"{"error":11,"name":"Aborted"}"#),
-        (Refusal::Unsure, r#"{"error":12,"name":"Unsure"}"#),
-        (Refusal::Down, r#"{"error":13,"name":"Down"}"#),
         (Refusal::NoMemory, r#"{"error":14,"name":"NoMemory"}"#),
-        (Refusal::Full, r#"{"error":15,"name":"Full"}"#),
         (Refusal::Damaged, r#"{"error":16,"name":"Damaged"}"#),
     ];
     for (refusal, want) in table {

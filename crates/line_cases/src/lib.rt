@@ -10,8 +10,6 @@ mod answer_texts;
 #[cfg(test)]
 mod printed_texts;
 #[cfg(test)]
-mod request_faults;
-#[cfg(test)]
 mod request_lines;
 #[cfg(test)]
 mod script_lines;

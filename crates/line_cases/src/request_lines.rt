@@ -4,7 +4,7 @@ use std::alloc::Global;
 use tuples::{Refusal, Want};
 
 // What the line is read as at store 1: its op with the places of its zookies, or the number of its refusal.
-pub(crate) fn read_as(alloc: Global, line: &str) -> &'static str {
+fn read_as(alloc: Global, line: &str) -> &'static str {
     match Request::parse(alloc, line.as_bytes(), 1) {
         Ok(Request::Write(write)) => match write.conditions() {
             [] => "write",
