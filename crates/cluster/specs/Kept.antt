@@ -1,15 +1,21 @@
--- What is kept between two steps.
-use Rattle.std.specs.Prelude.{◌<◌, ℕ}
-use Rattle.care_flow.specs.declared.care.CareFlow.{CareFlow}
-use Rattle.calls.specs.declared.call.NodeName.{NodeName}
-use Rattle.calls.specs.declared.call.NodeName.TheVariants.{Coordinator, Shard}
+-- What a store keeps between two steps.
+use Rattle.std.specs.Prelude.{◌≡◌, ◌≤◌, ◌+◌, ℕ, true, List, length, Option, Some, is_some}
+use Rattle.records.specs.Identity.{max_shards}
+use Rattle.cluster.specs.declared.flow.Flow.{Flow}
+use Rattle.cluster.specs.Flows.{IsOf, next_name_of}
+use Rattle.cluster.specs.Worlds.{WorldView, flow_at}
 
--- the node of this name is there in a store of so many shards
-abbrev pub IsNodeThere : ℕ → NodeName → Type 0
-IsNodeThere shards Coordinator = Unit {0}
-IsNodeThere shards (Shard s) = s < shards
+-- a flow of a store of so many shards, which makes a call next
+pub record IsRunning (shards : ℕ) (flow : Flow) : Type 0 where
+  pub of : IsOf shards flow
+  pub goes_on : is_some (next_name_of flow) ≡ true
 
--- a care of a store of so many shards
-pub record CaringValue : Type 0 where
-  pub shards : ℕ
-  pub flow : CareFlow
+-- its flows are such
+abbrev pub AreFlows : ℕ → List (Option Flow) → Type 0
+AreFlows shards flows = (slot : ℕ) (flow : Flow) → flow_at flows slot ≡ Some flow → IsRunning shards flow
+
+pub record IsWorld {D : Type 0} (w : WorldView D) : Type 0 where
+  pub some : 1 ≤ w.shards
+  pub few : w.shards ≤ max_shards
+  pub count : length w.nodes ≡ w.shards + 1
+  pub flows : AreFlows w.shards w.flows

@@ -1,12 +1,26 @@
 // One call of the node that it names.
+ghost use Rattle.std.specs.Prelude.{◌≡◌};
 ghost use Rattle.calls.specs.Belonging.{IsOwed, IsReplyTo};
+ghost use Rattle.cluster.specs.Nodes.{Answers, Called};
 
 use crate::naming::index_of;
 use calls::{Node, NodeCall, Reply, Told, ask, refuse};
 use device::Device;
 use tuples::Refusal;
 
-/// Makes the call, at the node that it names. Nobody asks for a node that is not there, but what the call carries has to be spent.
+// Makes the call of this node. Nobody calls another than it names, but what the call carries has to be spent.
+fn ask_one<D: Device>(shards: u8, node: &mut Node<D>, call: NodeCall, told: &mut Told) -> Reply
+    requires { IsOwed shards call }
+    ensures answers { Answers D.state D.honest D.moment D.left_since shards node.old call result node.new }
+    ensures belongs { IsReplyTo call result }
+{
+    if node.is_node(shards, call.node()) {
+        return ask(node, call, told);
+    }
+    refuse(Refusal::Damaged, call)
+}
+
+/// Makes the call, at the node that it names, if that is there.
 pub(crate) fn ask_at<D: Device>(
     shards: u8,
     nodes: &mut [Node<D>],
@@ -14,13 +28,12 @@ pub(crate) fn ask_at<D: Device>(
     told: &mut Told,
 ) -> Reply
     requires { IsOwed shards call }
-    ensures { IsReplyTo call result }
+    ensures called { Called D.state D.honest D.moment D.left_since shards nodes.old call result nodes.new }
+    ensures belongs { IsReplyTo call result }
 {
-    let name = call.node();
-    if let Some(node) = nodes.get_mut(index_of(name)) {
-        if node.is_node(shards, name) {
-            return ask(node, call, told);
-        }
+    let index = index_of(call.node());
+    if index >= nodes.len() {
+        return refuse(Refusal::Damaged, call);
     }
-    refuse(Refusal::Damaged, call)
+    ask_one(shards, &mut nodes[index], call, told)
 }

@@ -1,13 +1,24 @@
 // A flow is cancelled.
+ghost use Rattle.std.specs.Prelude.{◌≡◌, ℕ, MatchOption};
+ghost use Rattle.cluster.specs.Kept.{AreFlows};
+ghost use Rattle.cluster.specs.Steps.{SlotCancels};
+ghost use Rattle.cluster.specs.Worlds.{flow_at};
+
 use crate::Flow;
 use slab::Slab;
 
-/// Cancels the flow in the slot. One that has ended by it is gone.
-pub(crate) fn cancel(flows: &mut Slab<Flow>, slot: usize) {
-    let Some(flow) = flows.get_mut(slot) else {
+/// Cancels the flow in the slot. One of which no call comes next is gone.
+pub(crate) fn cancel(flows: &mut Slab<Flow>, slot: usize)
+    ensures cancels { MatchOption (flow_at flows.old.slots slot) (flows.new.slots ≡ flows.old.slots) (λ flow. SlotCancels flows.old.slots slot flow flows.new.slots) }
+    ensures kept { (shards : ℕ) → AreFlows shards flows.old.slots → AreFlows shards flows.new.slots }
+{
+    let Some(mut flow) = flows.try_remove(slot) else {
         return;
     };
-    if !flow.cancel() {
-        drop(flows.try_remove(slot));
+    if flow.cancel() {
+        // The slot that was freed last is the next that is taken.
+        let _slot = flows.insert_reserved(flow);
+    } else {
+        let _ = flow.finish();
     }
 }

@@ -1,86 +1,49 @@
-// The flows that run, each of a store of so many shards.
-ghost use Rattle.std.specs.Prelude.{◌≡◌};
+// The flows that run.
+ghost use Rattle.std.specs.Prelude.{◌≡◌, is_some};
+ghost use Rattle.cluster.specs.Cancels.{Cancels, CancelsWrite, left_of};
+ghost use Rattle.cluster.specs.Flows.{IsNamed, is_cancelled as is_cancelled_flow, next_name_of};
 
 use answer_flow::{CheckFlow, ReadFlow, WatchFlow};
 use calls::CallName;
 use care_flow::CareFlow;
 use commit_flow::{WriteEnd, WriteFlow};
-use std::marker::Model;
 
 /// A write on its way, and whether it was cancelled: then nothing more is told of it.
 pub struct Writing {
-    pub(crate) shards: u8,
     pub(crate) flow: WriteFlow,
     pub(crate) is_cancelled: bool,
-    ghost of: { flow.shards ≡ shards },
-}
-
-/// A read on its way.
-#[derive(Drop)]
-pub struct Reading {
-    pub(crate) shards: u8,
-    pub(crate) flow: ReadFlow,
-    ghost of: { flow.shards ≡ shards },
-}
-
-/// A check on its way.
-#[derive(Drop)]
-pub struct Checking {
-    pub(crate) shards: u8,
-    pub(crate) flow: CheckFlow,
-    ghost of: { flow.shards ≡ shards },
-}
-
-/// A watch on its way.
-#[derive(Drop)]
-pub struct Watching {
-    pub(crate) shards: u8,
-    pub(crate) flow: WatchFlow,
-}
-
-/// A care on its way, of nodes that are there.
-#[derive(Drop)]
-pub struct Caring {
-    pub(crate) shards: u8,
-    pub(crate) flow: CareFlow,
-}
-
-impl Model for Caring {
-    ghost use Rattle.cluster.specs.Kept.{CaringValue};
-    ghost use Rattle.care_flow.specs.Cares.{IsThere};
-
-    ghost Value = { CaringValue };
-
-    ghost view = { λ c. record { shards = c.shards; flow = c.flow } };
-
-    ghost invariant = { λ c. IsThere c.shards c.flow };
 }
 
 /// A flow that runs: it serves a request, or cares for the nodes.
 #[derive(Drop)]
 pub enum Flow {
     Write(Writing),
-    Read(Reading),
-    Check(Checking),
-    Watch(Watching),
-    Care(Caring),
+    Read(ReadFlow),
+    Check(CheckFlow),
+    Watch(WatchFlow),
+    Care(CareFlow),
 }
 
 impl Writing {
     /// How it ended, where it has; what it holds is spent.
-    pub(crate) fn finish(self) -> Option<WriteEnd> {
+    pub(crate) fn finish(self) -> Option<WriteEnd>
+        ensures { result ≡ self.flow.seen.ended }
+    {
         let Writing {
-            shards: _,
             flow,
             is_cancelled: _,
         } = self;
         flow.finish()
     }
 
-    /// It is cancelled, and goes out, or on to its end.
-    pub(crate) fn cancel(&mut self) {
+    /// It is cancelled, and goes out, or on to its end. Whether a call of it comes next.
+    pub(crate) fn cancel(&mut self) -> bool
+        ensures cancels { CancelsWrite self.old self.new }
+        ensures goes_on { result ≡ is_some self.new.flow.next_name }
+    {
         self.flow.cancel();
         self.is_cancelled = true;
+        self.flow.next_name().is_some()
     }
 }
 
@@ -88,7 +51,6 @@ impl Writing {
 impl Drop for Writing {
     fn drop(self) {
         let Writing {
-            shards: _,
             flow,
             is_cancelled: _,
         } = self;
@@ -98,18 +60,23 @@ impl Drop for Writing {
 
 impl Flow {
     /// The name of its next call; none where it has ended.
-    pub(crate) fn next_name(&self) -> Option<CallName> {
+    pub(crate) fn next_name(&self) -> Option<CallName>
+        ensures name { result ≡ next_name_of self.now }
+        ensures named { IsNamed self.now }
+    {
         match self {
             Flow::Write(writing) => writing.flow.next_name(),
-            Flow::Read(reading) => reading.flow.next_name(),
-            Flow::Check(checking) => checking.flow.next_name(),
-            Flow::Watch(watching) => watching.flow.next_name(),
-            Flow::Care(caring) => caring.flow.next_name(),
+            Flow::Read(flow) => flow.next_name(),
+            Flow::Check(flow) => flow.next_name(),
+            Flow::Watch(flow) => flow.next_name(),
+            Flow::Care(flow) => flow.next_name(),
         }
     }
 
     /// Whether nothing more is told of it.
-    pub(crate) fn is_cancelled(&self) -> bool {
+    pub(crate) fn is_cancelled(&self) -> bool
+        ensures { result ≡ is_cancelled_flow self.now }
+    {
         match self {
             Flow::Write(writing) => writing.is_cancelled,
             Flow::Read(_) | Flow::Check(_) | Flow::Watch(_) | Flow::Care(_) => false,
@@ -117,12 +84,11 @@ impl Flow {
     }
 
     /// It is cancelled. Whether it goes on: a write does that was begun, on its way out or, where it is decided, to its end.
-    pub(crate) fn cancel(&mut self) -> bool {
+    pub(crate) fn cancel(&mut self) -> bool
+        ensures { Cancels self.old (left_of result self.new) }
+    {
         match self {
-            Flow::Write(writing) => {
-                writing.cancel();
-                writing.flow.next_name().is_some()
-            }
+            Flow::Write(writing) => writing.cancel(),
             Flow::Read(_) | Flow::Check(_) | Flow::Watch(_) | Flow::Care(_) => false,
         }
     }

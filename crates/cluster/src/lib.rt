@@ -1,10 +1,10 @@
 //! A store as one value: its nodes over their devices, the flows that run, and the steps that it takes, one after another.
 //!
-//! Means to keep: the coordinator before the shards, each shard at its number, and each flow in its slot until it ends.
-//! Means never to: make more than one node call in a step, or do a part of a step for which memory was refused.
-//! Callers rely on: every call that a step makes is one that may be made. What a step does and tells no contract says yet.
+//! Keeps: the coordinator before the shards, each shard at its number, and each flow in its slot until it ends.
+//! Never: makes more than one node call in a step, or does a part of a step for which memory was refused.
+//! Callers rely on: what `run` tells is what its steps did, in their order, and nothing else has changed.
 //!
-//! Start at `step.rt`, what a step is, and then `taking.rt`, what it does.
+//! Start at `specs/Steps.antt`, what each step does and tells, and then `specs/Flows.antt`, what a flow asks and how it ends.
 #![tactic(auto)]
 
 mod asking;
@@ -26,7 +26,7 @@ mod turning;
 mod world;
 
 pub use event::{Answer, Event, What};
-pub use flow::{Caring, Checking, Flow, Reading, Watching, Writing};
+pub use flow::{Flow, Writing};
 pub use reopening::reopen;
 pub use request::Request;
 pub use running::run;

@@ -1,8 +1,13 @@
-// Where a node stands among the nodes.
+// Where a node stands among the nodes, and which node of which store it is.
+ghost use Rattle.std.specs.Prelude.{◌≡◌};
+ghost use Rattle.cluster.specs.Worlds.{index_of};
+
 use calls::NodeName;
 
 /// Its place among the nodes, the coordinator first.
-pub(crate) fn index_of(name: NodeName) -> usize {
+pub(crate) fn index_of(name: NodeName) -> usize
+    ensures { result ≡ index_of name }
+{
     match name {
         NodeName::Coordinator => 0,
         NodeName::Shard(shard) => shard as usize + 1,

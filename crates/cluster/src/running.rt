@@ -1,7 +1,23 @@
 // A list of steps is run.
-use crate::{Event, Step, World};
+ghost use Rattle.std.specs.Prelude.{◌≡◌, ◌<◌, ◌++◌, List, OnOk, OnErr, MatchResult, length, take};
+ghost use Rattle.std.specs.Vec.{vec_capacity, vec_len};
+ghost use Rattle.cluster.specs.Runs.{Took, TookAll};
+ghost use Rattle.cluster.specs.Steps.{events_of};
+ghost use Rattle.cluster.specs.declared.event.Event.{Event as AnyEvent};
+
+use crate::{Event, Step, What, World};
 use device::Device;
 use std::alloc::AllocError;
+
+// Appends what a step told, under its number.
+fn append(events: &mut Vec<Event>, number: usize, told: Option<What>)
+    requires { vec_len events.old < vec_capacity events.old }
+    ensures { events.new.items ≡ events.old.items ++ events_of number told }
+{
+    if let Some(what) = told {
+        events.push_reserved(Event { step: number, what });
+    }
+}
 
 // Takes the step of this number, and appends what it tells.
 fn run_one<D: Device>(
@@ -9,11 +25,13 @@ fn run_one<D: Device>(
     number: usize,
     step: &Step,
     events: &mut Vec<Event>,
-) -> Result<(), AllocError> {
+) -> Result<(), AllocError>
+    ensures ok { OnOk result ((more : List AnyEvent) × Took D.state D.honest D.moment D.left_since world.old number step.now more world.new × (events.new.items ≡ events.old.items ++ more)) }
+    ensures err { OnErr result ((world.new ≡ world.old) × (events.new.items ≡ events.old.items)) }
+{
     events.reserve(1)?;
-    if let Some(what) = world.take(step)? {
-        events.push_reserved(Event { step: number, what });
-    }
+    let told = world.take(step)?;
+    append(events, number, told);
     Ok(())
 }
 
@@ -23,7 +41,11 @@ pub fn run<D: Device>(
     world: &mut World<D>,
     steps: &[Step],
     events: &mut Vec<Event>,
-) -> Result<(), usize> {
+) -> Result<(), usize>
+    ensures { MatchResult result
+        (λ _. (more : List AnyEvent) × TookAll D.state D.honest D.moment D.left_since world.old 0 steps.now more world.new × (events.new.items ≡ events.old.items ++ more))
+        (λ n. (n < length steps.now) × ((more : List AnyEvent) × TookAll D.state D.honest D.moment D.left_since world.old 0 (take n steps.now) more world.new × (events.new.items ≡ events.old.items ++ more))) }
+{
     for (number, step) in steps.iter().enumerate() {
         if run_one(world, number, step, events).is_err() {
             return Err(number);

@@ -1,11 +1,13 @@
 // A flow begins.
-ghost use Rattle.std.specs.Prelude.{◌≡◌, ◌≤◌, true};
+ghost use Rattle.std.specs.Prelude.{◌≡◌, ◌≤◌, ◌↔◌, IsTrue, IfOk, OnErr, OnOk};
 ghost use Rattle.records.specs.Identity.{max_shards};
-ghost use Rattle.care_flow.specs.Cares.{IsThere, begun};
-ghost use Rattle.cluster.specs.Kept.{IsNodeThere};
+ghost use Rattle.answer_flow.specs.Finding.{fresh_of};
+ghost use Rattle.cluster.specs.Begun.{IsFresh, IsInLimits, IsNodeThere, MayCare, begun_for, caring_for};
+ghost use Rattle.slab.specs.Slab.{HasRoomFor};
+ghost use Rattle.cluster.specs.Kept.{AreFlows};
+ghost use Rattle.cluster.specs.Steps.{AddsFlow, Begins};
 
 use crate::copying::copy_write;
-use crate::flow::{Caring, Checking, Reading, Watching};
 use crate::{Flow, Request, What, Writing};
 use answer_flow::{CheckFlow, Freshness, ReadFlow, WatchFlow};
 use calls::NodeName;
@@ -13,7 +15,7 @@ use care_flow::{Care, CareFlow};
 use commit_flow::WriteFlow;
 use slab::Slab;
 use std::alloc::{AllocError, Global};
-use tuples::{MAX_NUMBER, Refusal, Tupleset, Write};
+use tuples::{MAX_NUMBER, Refusal, Write};
 
 /// The most flows that run at a time.
 pub const MAX_FLOWS: usize = 1024;
@@ -25,7 +27,9 @@ const MAX_WATCHED: u64 = 256;
 
 const MAX_NAMESPACES: usize = 16;
 
-fn is_place(freshness: Freshness) -> bool {
+fn is_place(freshness: Freshness) -> bool
+    ensures { IsTrue result ↔ IsFresh (fresh_of freshness) }
+{
     match freshness {
         Freshness::Latest => true,
         Freshness::AtLeast(place) => place <= MAX_NUMBER,
@@ -33,7 +37,9 @@ fn is_place(freshness: Freshness) -> bool {
     }
 }
 
-fn is_in_limits(request: &Request) -> bool {
+fn is_in_limits(request: &Request) -> bool
+    ensures { IsTrue result ↔ IsInLimits request.now }
+{
     match request {
         Request::Write(_) => true,
         Request::Read(freshness, sets) => {
@@ -50,53 +56,50 @@ fn is_in_limits(request: &Request) -> bool {
     }
 }
 
-fn begin_write(alloc: Global, shards: u8, write: &Write) -> Result<Writing, AllocError>
+fn begin_write(alloc: Global, shards: u8, write: &Write) -> Result<Flow, AllocError>
     requires some { 1 ≤ shards }
     requires few { shards ≤ max_shards }
+    ensures { IfOk result (λ flow. flow ≡ begun_for shards (Request.Write write.now)) }
 {
     let write = copy_write(alloc, write)?;
     match WriteFlow::new(alloc, shards, write) {
-        Ok(flow) => Ok(Writing {
-            shards,
+        Ok(flow) => Ok(Flow::Write(Writing {
             flow,
             is_cancelled: false,
-        }),
+        })),
         Err(_) => Err(AllocError),
     }
-}
-
-fn begin_read(
-    alloc: Global,
-    shards: u8,
-    freshness: Freshness,
-    sets: &Vec<Tupleset>,
-) -> Result<Reading, AllocError>
-    requires some { 1 ≤ shards }
-    requires few { shards ≤ max_shards }
-{
-    let flow = ReadFlow::new(alloc, shards, freshness, sets.clone()?);
-    Ok(Reading { shards, flow })
 }
 
 fn begin(alloc: Global, shards: u8, request: &Request) -> Result<Flow, AllocError>
     requires some { 1 ≤ shards }
     requires few { shards ≤ max_shards }
+    ensures { IfOk result (λ flow. flow ≡ begun_for shards request.now) }
 {
     match request {
-        Request::Write(write) => Ok(Flow::Write(begin_write(alloc, shards, write)?)),
+        Request::Write(write) => begin_write(alloc, shards, write),
         Request::Read(freshness, sets) => {
-            Ok(Flow::Read(begin_read(alloc, shards, *freshness, sets)?))
+            let sets = sets.clone()?;
+            Ok(Flow::Read(ReadFlow::new(alloc, shards, *freshness, sets)))
         }
         Request::Check(freshness, userset, user) => {
             let user = user.clone()?;
             let flow = CheckFlow::new(alloc, shards, *freshness, userset, user)?;
-            Ok(Flow::Check(Checking { shards, flow }))
+            Ok(Flow::Check(flow))
         }
         Request::Watch(cursor, limit, namespaces) => {
-            let flow = WatchFlow::new(alloc, *cursor, *limit, namespaces.clone()?);
-            Ok(Flow::Watch(Watching { shards, flow }))
+            let namespaces = namespaces.clone()?;
+            Ok(Flow::Watch(WatchFlow::new(alloc, *cursor, *limit, namespaces)))
         }
     }
+}
+
+// Puts a flow that begins into a free slot, and tells which.
+fn add(flows: &mut Slab<Flow>, flow: Flow) -> Option<What>
+    requires { HasRoomFor flows.old 1 }
+    ensures { AddsFlow flows.old.slots flow result flows.new.slots }
+{
+    Some(What::Began(flows.insert_reserved(flow)))
 }
 
 /// A flow for the request begins, where the request lies in its limits.
@@ -108,6 +111,9 @@ pub(crate) fn start(
 ) -> Result<Option<What>, AllocError>
     requires some { 1 ≤ shards }
     requires few { shards ≤ max_shards }
+    ensures ok { IfOk result (λ told. Begins flows.old.slots (IsInLimits request.now) (begun_for shards request.now) told flows.new.slots) }
+    ensures err { OnErr result (flows.new.slots ≡ flows.old.slots) }
+    ensures kept { OnOk result (AreFlows shards flows.old.slots → AreFlows shards flows.new.slots) }
 {
     if !is_in_limits(request) {
         return Ok(None);
@@ -117,12 +123,11 @@ pub(crate) fn start(
     }
     flows.reserve(1)?;
     let flow = begin(alloc, shards, request)?;
-    Ok(Some(What::Began(flows.insert_reserved(flow))))
+    Ok(add(flows, flow))
 }
 
-/// Whether the node of this name is there in a store of so many shards.
-pub(crate) fn is_there(shards: u8, node: NodeName) -> bool
-    ensures { result ≡ true → IsNodeThere shards node }
+fn is_there(shards: u8, node: NodeName) -> bool
+    ensures { IsTrue result ↔ IsNodeThere shards node }
 {
     match node {
         NodeName::Coordinator => true,
@@ -131,11 +136,10 @@ pub(crate) fn is_there(shards: u8, node: NodeName) -> bool
 }
 
 fn may_care(shards: u8, care: Care) -> bool
-    ensures { result ≡ true → IsThere shards (begun shards care) }
+    ensures { IsTrue result ↔ MayCare shards care }
 {
     match care {
-        Care::Flush(NodeName::Coordinator) => true,
-        Care::Flush(NodeName::Shard(shard)) => shard < shards,
+        Care::Flush(node) => is_there(shards, node),
         Care::Learn(shard) => shard < shards,
         Care::Resolve(shard) => shard < shards,
         Care::Raise(place) => place <= MAX_NUMBER,
@@ -149,7 +153,11 @@ pub(crate) fn care_for(
     shards: u8,
     flows: &mut Slab<Flow>,
     care: Care,
-) -> Result<Option<What>, AllocError> {
+) -> Result<Option<What>, AllocError>
+    ensures ok { IfOk result (λ told. Begins flows.old.slots (MayCare shards care) (caring_for shards care) told flows.new.slots) }
+    ensures err { OnErr result (flows.new.slots ≡ flows.old.slots) }
+    ensures kept { OnOk result (AreFlows shards flows.old.slots → AreFlows shards flows.new.slots) }
+{
     if !may_care(shards, care) {
         return Ok(None);
     }
@@ -157,7 +165,6 @@ pub(crate) fn care_for(
         return Ok(Some(What::Refused(Refusal::Full)));
     }
     flows.reserve(1)?;
-    let flow = CareFlow::new(alloc, shards, care);
-    let caring = Caring { shards, flow };
-    Ok(Some(What::Began(flows.insert_reserved(Flow::Care(caring)))))
+    let flow = Flow::Care(CareFlow::new(alloc, shards, care));
+    Ok(add(flows, flow))
 }

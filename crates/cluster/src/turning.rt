@@ -1,26 +1,35 @@
 // The turn of a flow in its slot.
+ghost use Rattle.std.specs.Prelude.{◌≡◌, None, MatchOption};
+ghost use Rattle.slab.specs.Slab.{HasRoomFor, get};
+ghost use Rattle.cluster.specs.Flows.{IsOf};
+ghost use Rattle.cluster.specs.Kept.{AreFlows};
+ghost use Rattle.cluster.specs.Steps.{Leaves, SlotTurns, unless as unless_cancelled};
+ghost use Rattle.cluster.specs.Worlds.{flow_at};
+
 use crate::calling::turn_flow;
 use crate::{Flow, What};
 use calls::{Node, Told};
 use device::Device;
 use slab::Slab;
 
-fn unless(is_cancelled: bool, told: Option<What>) -> Option<What> {
+fn unless(is_cancelled: bool, told: Option<What>) -> Option<What>
+    ensures { result ≡ unless_cancelled is_cancelled told }
+{
     if is_cancelled {
         return None;
     }
     told
 }
 
-/// The turn of the flow in the slot, and what is told of it.
-pub(crate) fn turn<D: Device>(
-    nodes: &mut [Node<D>],
-    flows: &mut Slab<Flow>,
-    told: &mut Told,
-    slot: usize,
-) -> Option<What> {
-    let mut flow = flows.try_remove(slot)?;
-    turn_flow(nodes, told, &mut flow);
+// Puts a flow that was taken out back in its slot, or tells how it ended.
+fn leave(shards: u8, flows: &mut Slab<Flow>, flow: Flow) -> Option<What>
+    requires of { IsOf shards flow }
+    requires room { HasRoomFor flows.old 1 }
+    requires free { get flows.old flows.old.vacant_key ≡ None }
+    requires flows { AreFlows shards flows.old.slots }
+    ensures leaves { Leaves flows.old.slots flows.old.vacant_key flow result flows.new.slots }
+    ensures kept { AreFlows shards flows.new.slots }
+{
     let is_cancelled = flow.is_cancelled();
     match flow.next_name() {
         Some(name) => {
@@ -30,4 +39,22 @@ pub(crate) fn turn<D: Device>(
         }
         None => unless(is_cancelled, flow.finish()),
     }
+}
+
+/// The turn of the flow in the slot, and what is told of it.
+pub(crate) fn turn<D: Device>(
+    shards: u8,
+    nodes: &mut [Node<D>],
+    flows: &mut Slab<Flow>,
+    told: &mut Told,
+    slot: usize,
+) -> Option<What>
+    requires { AreFlows shards flows.old.slots }
+    ensures turns { MatchOption (flow_at flows.old.slots slot) ((result ≡ None) × (nodes.new ≡ nodes.old) × (flows.new.slots ≡ flows.old.slots))
+        (λ flow. SlotTurns D.state D.honest D.moment D.left_since shards nodes.old flows.old.slots slot flow result nodes.new flows.new.slots) }
+    ensures kept { AreFlows shards flows.new.slots }
+{
+    let mut flow = flows.try_remove(slot)?;
+    turn_flow(shards, nodes, told, &mut flow);
+    leave(shards, flows, flow)
 }

@@ -1,6 +1,10 @@
 // A store with its nodes and flows.
-ghost use Rattle.std.specs.Prelude.{◌≤◌};
-ghost use Rattle.records.specs.Identity.{max_shards};
+ghost use Rattle.std.specs.Prelude.{◌≡◌, Err, None, MatchOption};
+ghost use Rattle.calls.specs.Rows.{RowsOf};
+ghost use Rattle.calls.specs.declared.call.NodeName.TheVariants.{Shard as shard_name};
+ghost use Rattle.cluster.specs.Flows.{next_name_of};
+ghost use Rattle.cluster.specs.Nodes.{IsSetIn};
+ghost use Rattle.cluster.specs.Worlds.{flow_at, node_at};
 
 use crate::Flow;
 use crate::naming::index_of;
@@ -9,6 +13,7 @@ use device::{Device, Tear};
 use journal::Bank;
 use slab::Slab;
 use std::alloc::Global;
+use std::marker::Model;
 use tuples::{Refusal, Version};
 
 /// A store: its nodes over their devices, and the flows that run, each in a slot. It is made by `reopen`, and steps are taken by `run`.
@@ -21,29 +26,62 @@ pub struct World<D: Device> {
     pub(crate) nodes: Vec<Node<D>>,
     pub(crate) flows: Slab<Flow>,
     pub(crate) told: Told,
-    ghost some: { 1 ≤ shards },
-    ghost few: { shards ≤ max_shards },
+}
+
+impl<D: Device> Model for World<D> {
+    ghost use Rattle.cluster.specs.Worlds.{WorldView};
+    ghost use Rattle.cluster.specs.Kept.{IsWorld};
+
+    ghost Value = { WorldView D };
+
+    ghost view = { λ w. record { store = w.store; shards = w.shards; nodes = w.nodes.items; flows = w.flows.slots } };
+
+    ghost invariant = { λ w. IsWorld (record { store = w.store; shards = w.shards; nodes = w.nodes.items; flows = w.flows.slots }) };
+}
+
+// The versions that the shard of this number has learned.
+fn rows_of<D: Device>(nodes: &[Node<D>], shard: u8) -> Result<Vec<Version>, Refusal>
+    ensures { MatchOption (node_at nodes.now (shard_name shard)) (result ≡ Err Refusal.BadRequest) (λ node. RowsOf D.state D.honest node result) }
+{
+    let index = index_of(NodeName::Shard(shard));
+    if index >= nodes.len() {
+        return Err(Refusal::BadRequest);
+    }
+    nodes[index].rows()
+}
+
+// Sets the script of one device of the node of this name, if it is there.
+fn set_script<D: Device>(nodes: &mut [Node<D>], name: NodeName, bank: Bank, n: u64, tear: Tear)
+    ensures { MatchOption (node_at nodes.old name) (nodes.new ≡ nodes.old) (λ was. IsSetIn D.set_to_fail D.state D.honest D.moment D.left_since bank n tear nodes.old name was nodes.new) }
+{
+    let index = index_of(name);
+    if index >= nodes.len() {
+        return;
+    }
+    nodes[index].fail(bank, n, tear);
 }
 
 impl<D: Device> World<D> {
     /// The next call of the flow in the slot; none where there is no flow.
-    pub fn next(&self, slot: usize) -> Option<CallName> {
+    pub fn next(&self, slot: usize) -> Option<CallName>
+        ensures { MatchOption (flow_at self.now.flows slot) (result ≡ None) (λ flow. result ≡ next_name_of flow) }
+    {
         self.flows.get(slot)?.next_name()
     }
 
     /// The versions that the shard has learned, by tuple and then by place. It is refused with `NoMemory`, and where the shard is down or its opening was
     /// refused as the shard; and with `BadRequest` where there is no such shard.
-    pub fn rows(&self, shard: u8) -> Result<Vec<Version>, Refusal> {
-        match self.nodes.get(index_of(NodeName::Shard(shard))) {
-            Some(node) => node.rows(),
-            None => Err(Refusal::BadRequest),
-        }
+    pub fn rows(&self, shard: u8) -> Result<Vec<Version>, Refusal>
+        ensures { MatchOption (node_at self.now.nodes (shard_name shard)) (result ≡ Err Refusal.BadRequest) (λ node. RowsOf D.state D.honest node result) }
+    {
+        rows_of(&self.nodes, shard)
     }
 
     /// Sets the script of one device of the node, and changes nothing else.
-    pub fn fail(&mut self, node: NodeName, bank: Bank, n: u64, tear: Tear) {
-        if let Some(node) = self.nodes.get_mut(index_of(node)) {
-            node.fail(bank, n, tear);
-        }
+    pub fn fail(&mut self, node: NodeName, bank: Bank, n: u64, tear: Tear)
+        ensures nodes { MatchOption (node_at self.old.nodes node) (self.new.nodes ≡ self.old.nodes) (λ was. IsSetIn D.set_to_fail D.state D.honest D.moment D.left_since bank n tear self.old.nodes node was self.new.nodes) }
+        ensures rest { self.new ≡ record self.old { nodes = self.new.nodes } }
+    {
+        set_script(&mut self.nodes, node, bank, n, tear);
     }
 }

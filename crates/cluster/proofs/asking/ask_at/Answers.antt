@@ -1,12 +1,14 @@
--- The node is the one that the call names, so it may be asked.
-use Rattle.calls.proofs.Belonging.{may_ask}
-use Rattle.calls.specs.Names.{node_of}
-use Rattle.calls.specs.Belonging.{IsNodeOf}
-use Rattle.calls.specs.declared.call.NodeName.{NodeName}
-use Rattle.std.proofs.Common.{subst}
+-- The node that stands where the call's name says has answered it.
+use Rattle.std.proofs.Common.{◌∙◌, ap, get_or, subst, sym}
+use Rattle.calls.specs.Views.{NodeView}
+use Rattle.cluster.specs.Nodes.{Answers}
+use Rattle.cluster.specs.Worlds.{index_of}
+use Rattle.cluster.proofs.Answering.{called_away, called_there}
 use Rattle.cluster.proofs.asking.ask_at.Goals as goal
 
-pub ask-requires : goal.ask-requires
-ask-requires g c =
-    let is = c.is_node.ensures.0 c.if-is_node.true in
-    may_ask c.args.shards c.in-Some.node.now c.args.call c.requires (subst (λ (n : NodeName). IsNodeOf c.args.shards n c.in-Some.node.now) c.node-name.ensures is)
+pub returns-clause-called : goal.returns-clause-called
+returns-clause-called g c =
+    let at = c.index_of-index.ensures ∙ ap index_of c.node.ensures in
+    let was = c.index-nodes-index.result in
+    called_there g.D.Device.state g.D.Device.honest g.D.Device.moment g.D.Device.left_since c.args.shards c.args.nodes.now c.args.call c.index_of-index.result was c.ask_one.new.node c.ask_one.result at c.if-index-nodes.false c.index-nodes-index.is
+    (subst (λ (w : NodeView g.row.D.Denot). Answers g.D.Device.state g.D.Device.honest g.D.Device.moment g.D.Device.left_since c.args.shards w c.args.call c.ask_one.result c.ask_one.new.node) (sym c.index-nodes-index.is) c.ask_one.ensures.answers)

@@ -1,0 +1,9 @@
+pub mod Answering
+pub mod Slots
+pub mod Beginning
+pub mod Places
+pub mod Runs
+pub mod Openings
+pub mod Stepping
+pub mod Counting
+pub mod Cancels

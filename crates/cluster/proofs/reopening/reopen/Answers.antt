@@ -1,0 +1,8 @@
+-- Each node was opened, and no flow runs.
+use Rattle.std.proofs.Common.{◌≡◌, ℕ, List, [], Option, Some, None, sym, subst}
+use Rattle.cluster.specs.declared.flow.Flow.{Flow}
+use Rattle.cluster.proofs.Slots.{no_flows}
+use Rattle.cluster.proofs.reopening.reopen.Goals as goal
+
+pub invariant_of-result : goal.invariant_of-result
+invariant_of-result g c = record { some = c.requires.some; few = c.requires.few; count = c.in-Ok.ensures.count; flows = no_flows c.args.shards c.new.result.slots c.new.ensures.empty }

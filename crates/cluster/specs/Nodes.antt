@@ -1,0 +1,65 @@
+-- What a step does to the nodes.
+use Rattle.std.specs.Prelude.{◌≡◌, ◌⊎◌, ◌↔◌, ◌≤◌, ℕ, List, Option, Some, None, MatchOption, slice_get, slice_set}
+use Rattle.records.specs.Identity.{Identity, coordinator_number}
+use Rattle.device.specs.Device.{Elapses, Failed, Keeps, Revived, State, left}
+use Rattle.refusal.specs.declared.refusal.Refusal.TheVariants.{Damaged}
+use Rattle.calls.specs.Asking.{Answered, Refuses}
+use Rattle.device.specs.declared.tear.Tear.{Tear}
+use Rattle.journal.specs.declared.refused.Bank.{Bank}
+use Rattle.calls.specs.Belonging.{IsNodeOf}
+use Rattle.calls.specs.Failing.{NodeIsSet}
+use Rattle.calls.specs.Names.{node_of}
+use Rattle.calls.specs.Opening.{CoordinatorOpens, ShardOpens}
+use Rattle.calls.specs.Views.{NodeView, devices_of}
+use Rattle.calls.specs.declared.call.NodeCall.{NodeCall}
+use Rattle.calls.specs.declared.call.NodeName.{NodeName}
+use Rattle.calls.specs.declared.call.NodeName.TheVariants.{Coordinator, Shard}
+use Rattle.calls.specs.declared.reply.Reply.{Reply}
+use Rattle.cluster.specs.Worlds.{index_of, node_at}
+
+-- the identity of a node of a store
+abbrev pub identity_of : ℕ → ℕ → NodeName → Identity
+identity_of store shards Coordinator = record { store = store; shards = shards; node = coordinator_number }
+identity_of store shards (Shard s) = record { store = store; shards = shards; node = s }
+
+module _ {D : Type 0} (state : D → State) (honest : D → Type 0) (moment : D → ℕ) (left_since : D → ℕ → List ℕ → Type 0) where
+  -- The node has answered the call. Where it is not the one that the call names in a store of so many shards, the call is refused, and it is as before.
+  abbrev pub Answers : ℕ → NodeView D → NodeCall → Reply → NodeView D → Type 0
+  Answers shards was call reply is = Answered state honest moment left_since was call reply is ⊎ ((IsNodeOf shards (node_of call) was → ⊥) × (is ≡ was) × Refuses Damaged call reply)
+
+  -- the node that a call names has answered it, and no other has changed
+  pub record AnsweredBy (shards : ℕ) (old : List (NodeView D)) (was : NodeView D) (call : NodeCall) (reply : Reply) (new : List (NodeView D)) : Type 0 where
+    pub is : NodeView D
+    pub answers : Answers shards was call reply is
+    pub new_is : new ≡ slice_set old (index_of (node_of call)) is
+
+  -- One call, of the node that it names. Where there is none the call is refused, and no node has changed.
+  abbrev pub Called : ℕ → List (NodeView D) → NodeCall → Reply → List (NodeView D) → Type 0
+  Called shards old call reply new = MatchOption (node_at old (node_of call)) ((new ≡ old) × Refuses Damaged call reply) (λ was. AnsweredBy shards old was call reply new)
+
+  -- A device was revived: what a stop may have left is found; or it has failed once more, and keeps what it has.
+  pub record IsRevived (old new : D) : Type 0 where
+    pub still_honest : honest old ↔ honest new
+    pub found : ((honest old → Revived (state old) (state new)) × ((state new).failures ≡ (state old).failures)) ⊎ ((honest old → Keeps (state old) (state new)) × Failed (state old) (state new))
+    pub counts : (state old).failures ≤ (state new).failures
+    pub time : honest old → Elapses (moment old) (moment new) (left_since old) (left_since new) (left (state new))
+
+  -- what an opening of the node of this name gives over two devices
+  abbrev pub Opens : ℕ → ℕ → NodeName → D → D → NodeView D → Type 0
+  Opens store shards Coordinator a b is = CoordinatorOpens state honest moment left_since a b (identity_of store shards Coordinator) is
+  Opens store shards (Shard s) a b is = ShardOpens state honest moment left_since a b (identity_of store shards (Shard s)) is
+
+  -- A node was opened again: both of its devices were revived, and it was opened over them.
+  pub record Reopened (store shards : ℕ) (name : NodeName) (was is : NodeView D) : Type 0 where
+    pub a : D
+    pub b : D
+    pub revived_a : IsRevived (devices_of was).0 a
+    pub revived_b : IsRevived (devices_of was).1 b
+    pub opens : Opens store shards name a b is
+
+-- the script of one device of the node of this name is set, and no other node has changed
+pub record IsSetIn {D : Type 0} (set : D → ℕ → Tear → Type 0) (state : D → State) (honest : D → Type 0) (moment : D → ℕ) (left_since : D → ℕ → List ℕ → Type 0) (bank : Bank) (n : ℕ) (tear : Tear)
+    (old : List (NodeView D)) (name : NodeName) (was : NodeView D) (new : List (NodeView D)) : Type 0 where
+  pub is : NodeView D
+  pub is_set : NodeIsSet set state honest moment left_since bank n tear was is
+  pub new_is : new ≡ slice_set old (index_of name) is

@@ -1,0 +1,120 @@
+-- What one step does to a store, and what it tells.
+use Rattle.std.specs.Prelude.{◌≡◌, ◌≤◌, ◌<◌, ℕ, Bool, true, false, List, [], ◌∷◌, Option, Some, None, MatchOption, slice_set}
+use Rattle.refusal.specs.declared.refusal.Refusal.{Refusal}
+use Rattle.refusal.specs.declared.refusal.Refusal.TheVariants.{Full}
+use Rattle.device.specs.Device.{State}
+use Rattle.calls.specs.Opening.{refusal_of}
+use Rattle.calls.specs.Views.{NodeView}
+use Rattle.calls.specs.declared.call.NodeName.{NodeName}
+use Rattle.calls.specs.declared.call_name.CallName.{CallName}
+use Rattle.care_flow.specs.declared.care.Care.{Care}
+use Rattle.cluster.specs.declared.event.Event.{Event}
+use Rattle.cluster.specs.declared.event.What.{What}
+use Rattle.cluster.specs.declared.event.What.TheVariants.{Began, Next, Up, Refused}
+use Rattle.cluster.specs.declared.flow.Flow.{Flow}
+use Rattle.cluster.specs.declared.request.Request.{Request}
+use Rattle.cluster.specs.declared.step.Step.{Step}
+use Rattle.cluster.specs.declared.step.Step.TheVariants.{Start, Turn, Cancel, Care as care_for, Restart}
+use Rattle.cluster.specs.Begun.{IsInLimits, MayCare, begun_for, caring_for}
+use Rattle.cluster.specs.Ends.{EndsWith}
+use Rattle.cluster.specs.Flows.{IsNamed, is_cancelled, next_name_of}
+use Rattle.cluster.specs.Cancels.{Cancels}
+use Rattle.cluster.specs.Nodes.{Reopened}
+use Rattle.cluster.specs.Turns.{Turns}
+use Rattle.cluster.specs.Worlds.{Puts, WorldView, flow_at, flow_count, index_of, node_at}
+
+-- the most flows that run at a time
+abbrev pub most_flows : ℕ
+most_flows = 1024
+
+-- nothing of a flow that was cancelled is told
+abbrev pub unless : Bool → Option What → Option What
+unless true told = None
+unless false told = told
+
+-- what is told of a node that was opened: it is up, or refused
+abbrev pub told_of_opening : Option Refusal → What
+told_of_opening None = Up
+told_of_opening (Some e) = Refused e
+
+-- a flow is put into a free slot, which is told
+pub record AddsFlow (old : List (Option Flow)) (flow : Flow) (told : Option What) (new : List (Option Flow)) : Type 0 where
+  pub slot : ℕ
+  pub free : flow_at old slot ≡ None
+  pub puts : Puts old slot (Some flow) new
+  pub tells : told ≡ Some (Began slot)
+
+-- A flow begins in a free slot; where as many run as may, it is refused. A flow that may not be asked for begins nowhere.
+pub record Begins (old : List (Option Flow)) (may : Type 0) (flow : Flow) (told : Option What) (new : List (Option Flow)) : Type 0 where
+  pub nowhere : (may → ⊥) → (told ≡ None) × (new ≡ old)
+  pub full : may → most_flows ≤ flow_count old → (told ≡ Some (Refused Full)) × (new ≡ old)
+  pub begins : may → flow_count old < most_flows → AddsFlow old flow told new
+
+-- A flow goes on in its slot, and its next call is told.
+pub record GoesOn (old : List (Option Flow)) (slot : ℕ) (later : Flow) (name : CallName) (told : Option What) (new : List (Option Flow)) : Type 0 where
+  pub puts : Puts old slot (Some later) new
+  pub tells : told ≡ unless (is_cancelled later) (Some (Next name))
+
+-- It makes no call more: how it ended is told, and its slot is free.
+pub record HasGone (old : List (Option Flow)) (slot : ℕ) (later : Flow) (told : Option What) (new : List (Option Flow)) : Type 0 where
+  pub end : Option What
+  pub ends : EndsWith later end
+  pub puts : Puts old slot None new
+  pub tells : told ≡ unless (is_cancelled later) end
+
+-- Behind its turn a flow goes on where a call of it comes next, and is gone where none does.
+pub record Leaves (old : List (Option Flow)) (slot : ℕ) (later : Flow) (told : Option What) (new : List (Option Flow)) : Type 0 where
+  pub named : IsNamed later
+  pub leaves : MatchOption (next_name_of later) (HasGone old slot later told new) (λ name. GoesOn old slot later name told new)
+
+-- the flow in this slot is cancelled, and is left in it or not
+pub record SlotCancels (old : List (Option Flow)) (slot : ℕ) (flow : Flow) (new : List (Option Flow)) : Type 0 where
+  pub later : Option Flow
+  pub cancels : Cancels flow later
+  pub puts : Puts old slot later new
+
+module _ {D : Type 0} (state : D → State) (honest : D → Type 0) (moment : D → ℕ) (left_since : D → ℕ → List ℕ → Type 0) where
+  -- the flow in this slot makes its turn, and is left in it or not
+  pub record SlotTurns (shards : ℕ) (old : List (NodeView D)) (old_flows : List (Option Flow)) (slot : ℕ) (flow : Flow) (told : Option What) (new : List (NodeView D)) (new_flows : List (Option Flow)) : Type 0 where
+    pub later : Flow
+    pub turns : Turns state honest moment left_since shards old flow new later
+    pub leaves : Leaves old_flows slot later told new_flows
+
+  -- nothing is told, and nothing changes
+  abbrev pub IsIdle : WorldView D → Option What → WorldView D → Type 0
+  IsIdle old told new = (told ≡ None) × (new ≡ old)
+
+  -- a flow for this begins, and no node changes
+  abbrev pub BeginsIn : WorldView D → Type 0 → Flow → Option What → WorldView D → Type 0
+  BeginsIn old may flow told new = Begins old.flows may flow told new.flows × (new ≡ record old { flows = new.flows })
+
+  -- the flow in this slot makes its turn
+  abbrev pub TurnsIn : WorldView D → ℕ → Flow → Option What → WorldView D → Type 0
+  TurnsIn old slot flow told new = SlotTurns old.shards old.nodes old.flows slot flow told new.nodes new.flows × (new ≡ record old { nodes = new.nodes; flows = new.flows })
+
+  -- the flow in this slot is cancelled, which is told by nothing
+  abbrev pub CancelsIn : WorldView D → ℕ → Flow → Option What → WorldView D → Type 0
+  CancelsIn old slot flow told new = SlotCancels old.flows slot flow new.flows × (told ≡ None) × (new ≡ record old { flows = new.flows })
+
+  -- the node of this name is opened again, which is told, and no other has changed
+  pub record SlotRestarts (store shards : ℕ) (old : List (NodeView D)) (name : NodeName) (was : NodeView D) (told : Option What) (new : List (NodeView D)) : Type 0 where
+    pub is : NodeView D
+    pub reopened : Reopened state honest moment left_since store shards name was is
+    pub new_is : new ≡ slice_set old (index_of name) is
+    pub tells : told ≡ Some (told_of_opening (refusal_of is))
+
+  abbrev pub RestartsIn : WorldView D → NodeName → NodeView D → Option What → WorldView D → Type 0
+  RestartsIn old name was told new = SlotRestarts old.store old.shards old.nodes name was told new.nodes × (new ≡ record old { nodes = new.nodes })
+
+  -- One step leads from one store to another, and tells this. A step that names no flow that runs, or no node that is there, is idle.
+  abbrev pub Takes : WorldView D → Step → Option What → WorldView D → Type 0
+  Takes old (Start request) told new = BeginsIn old (IsInLimits request) (begun_for old.shards request) told new
+  Takes old (Turn slot) told new = MatchOption (flow_at old.flows slot) (IsIdle old told new) (λ flow. TurnsIn old slot flow told new)
+  Takes old (Cancel slot) told new = MatchOption (flow_at old.flows slot) (IsIdle old told new) (λ flow. CancelsIn old slot flow told new)
+  Takes old (care_for care) told new = BeginsIn old (MayCare old.shards care) (caring_for old.shards care) told new
+  Takes old (Restart name) told new = MatchOption (node_at old.nodes name) (IsIdle old told new) (λ was. RestartsIn old name was told new)
+
+-- the events of one step, under its number
+abbrev pub events_of : ℕ → Option What → List Event
+events_of number None = []
+events_of number (Some what) = record { step = number; what = what } ∷ []

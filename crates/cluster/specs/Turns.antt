@@ -1,0 +1,49 @@
+-- One turn of a flow.
+use Rattle.std.specs.Prelude.{ℕ, List}
+use Rattle.device.specs.Device.{State}
+use Rattle.answer_flow.specs.ReadViews.{ReadFlowValue}
+use Rattle.answer_flow.specs.CheckViews.{CheckFlowValue}
+use Rattle.answer_flow.specs.WatchViews.{WatchFlowValue}
+use Rattle.care_flow.specs.declared.care.CareFlow.{CareFlow}
+use Rattle.calls.specs.Views.{NodeView}
+use Rattle.calls.specs.declared.call.NodeCall.{NodeCall}
+use Rattle.calls.specs.declared.reply.Reply.{Reply}
+use Rattle.cluster.specs.declared.flow.Flow.{Flow}
+use Rattle.cluster.specs.declared.flow.Flow.TheVariants.{Write, Read, Check, Watch, Care}
+use Rattle.cluster.specs.declared.flow.Writing.{Writing}
+use Rattle.cluster.specs.Flows.{AsksCare, AsksCheck, AsksRead, AsksWatch, AsksWrite, GivesCare, GivesCheck, GivesRead, GivesWatch, GivesWrite}
+use Rattle.cluster.specs.Nodes.{Called}
+
+module _ {D : Type 0} (state : D → State) (honest : D → Type 0) (moment : D → ℕ) (left_since : D → ℕ → List ℕ → Type 0) where
+  -- The flow asks for one call, the node that it names answers it, and the flow is given the reply: by how a kind of flow asks, and what a reply makes of it.
+  pub record TurnsBy {F : Type 0} (asks : F → NodeCall → F → Type 0) (gives : F → Reply → F → Type 0) (shards : ℕ) (old : List (NodeView D)) (flow : F) (new : List (NodeView D)) (later : F) : Type 0 where
+    pub call : NodeCall
+    pub out : F
+    pub reply : Reply
+    pub asked : asks flow call out
+    pub called : Called state honest moment left_since shards old call reply new
+    pub given : gives out reply later
+
+  abbrev pub TurnsWrite : ℕ → List (NodeView D) → Writing → List (NodeView D) → Writing → Type 0
+  TurnsWrite = TurnsBy AsksWrite GivesWrite
+
+  abbrev pub TurnsRead : ℕ → List (NodeView D) → ReadFlowValue → List (NodeView D) → ReadFlowValue → Type 0
+  TurnsRead = TurnsBy AsksRead GivesRead
+
+  abbrev pub TurnsCheck : ℕ → List (NodeView D) → CheckFlowValue → List (NodeView D) → CheckFlowValue → Type 0
+  TurnsCheck = TurnsBy AsksCheck GivesCheck
+
+  abbrev pub TurnsWatch : ℕ → List (NodeView D) → WatchFlowValue → List (NodeView D) → WatchFlowValue → Type 0
+  TurnsWatch = TurnsBy AsksWatch GivesWatch
+
+  abbrev pub TurnsCare : ℕ → List (NodeView D) → CareFlow → List (NodeView D) → CareFlow → Type 0
+  TurnsCare = TurnsBy AsksCare GivesCare
+
+  -- A flow's turn, by its kind, which stays.
+  abbrev pub Turns : ℕ → List (NodeView D) → Flow → List (NodeView D) → Flow → Type 0
+  Turns shards old (Write flow) new (Write later) = TurnsWrite shards old flow new later
+  Turns shards old (Read flow) new (Read later) = TurnsRead shards old flow new later
+  Turns shards old (Check flow) new (Check later) = TurnsCheck shards old flow new later
+  Turns shards old (Watch flow) new (Watch later) = TurnsWatch shards old flow new later
+  Turns shards old (Care flow) new (Care later) = TurnsCare shards old flow new later
+  Turns shards old flow new later = ⊥
