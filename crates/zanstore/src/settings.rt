@@ -7,7 +7,7 @@ use std::alloc::Global;
 pub struct Settings {
     /// The id of the store, from 0 to 4,294,967,295.
     pub store: u64,
-    /// The number of shards, so far 1.
+    /// The number of shards, from 1 to 64.
     pub shards: u8,
 }
 
@@ -22,10 +22,10 @@ fn command<'a>(alloc: Global) -> Result<Command<'a>, Error> {
     let shards = Arg::new(alloc, "shards")
         .long("shards")
         .value_name("N")
-        .help("The number of shards, so far 1")
-        .required(true)
+        .help("The number of shards, from 1 to 64")
         .action(ArgAction::Set)
-        .value_parser(value_parser!(u8).range(1..=1));
+        .value_parser(value_parser!(u8).range(1..=64))
+        .default_value("2");
     let sim = Command::new(alloc, "sim")
         .about("Runs a script from standard input over disks in memory")
         .arg(store)?
@@ -44,7 +44,7 @@ impl Settings {
         let matches = command(alloc)?.try_get_matches_from(words)?;
         let mut settings = Settings {
             store: 1,
-            shards: 1,
+            shards: 2,
         };
         if let Some((_, sim)) = matches.subcommand() {
             if let Some(store) = sim.get_one::<u64>("store") {
