@@ -1,10 +1,14 @@
 // What a line asks of a store, as steps of it.
+ghost use Rattle.std.specs.Prelude.{◌≡◌};
+ghost use Rattle.scripts.specs.Asking as spec;
+
 use calls::NodeName;
 use care_flow::Care;
 use tuples::Userset;
 
-/// The freshness of a request.
-fn fresh_of(freshness: requests::Freshness) -> answer_flow::Freshness {
+fn fresh_of(freshness: requests::Freshness) -> answer_flow::Freshness
+    ensures { result ≡ spec.fresh_of freshness }
+{
     match freshness {
         requests::Freshness::Latest => answer_flow::Freshness::Latest,
         requests::Freshness::AtLeast(place) => answer_flow::Freshness::AtLeast(place),
@@ -13,7 +17,9 @@ fn fresh_of(freshness: requests::Freshness) -> answer_flow::Freshness {
 }
 
 /// The request that the store serves.
-pub(crate) fn request_of(request: requests::Request) -> cluster::Request {
+pub(crate) fn request_of(request: requests::Request) -> cluster::Request
+    ensures { result ≡ spec.request_of request }
+{
     match request {
         requests::Request::Write(write) => cluster::Request::Write(write),
         requests::Request::Read { freshness, sets } => {
@@ -34,14 +40,18 @@ pub(crate) fn request_of(request: requests::Request) -> cluster::Request {
     }
 }
 
-pub(crate) fn node_of(node: lines::NodeName) -> NodeName {
+pub(crate) fn node_of(node: lines::NodeName) -> NodeName
+    ensures { result ≡ spec.node_of node }
+{
     match node {
         lines::NodeName::Coordinator => NodeName::Coordinator,
         lines::NodeName::Shard(shard) => NodeName::Shard(shard),
     }
 }
 
-pub(crate) fn care_of(care: lines::Care) -> Care {
+pub(crate) fn care_of(care: lines::Care) -> Care
+    ensures { result ≡ spec.care_of care }
+{
     match care {
         lines::Care::Flush(node) => Care::Flush(node_of(node)),
         lines::Care::Learn(shard) => Care::Learn(shard),

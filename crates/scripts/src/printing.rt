@@ -1,27 +1,68 @@
 // What is printed of what a store tells.
+ghost use Rattle.std.specs.Prelude.{◌≡◌, ◌≤◌, ◌++◌, List, ℕ, OnOk, OnErr, take, vec_capacity};
+ghost use Rattle.std.specs.List.{flat_map};
+ghost use Rattle.scripts.specs.Telling.{done_line, end_text, resolved_text, told_text};
+
 use answers::{Answer, Events, Membership, Rows, Written};
 use care_flow::Resolved;
+use cluster::What;
 use printed::Printed;
 use std::alloc::AllocError;
 
-fn print_resolved(store: u64, found: &[Resolved], out: &mut Vec<u8>) -> Result<(), AllocError> {
-    for resolved in found {
-        let printed = match *resolved {
-            Resolved::Committed(id, place) => Printed::Committed(id, place),
-            Resolved::Aborted(id) => Printed::Aborted(id),
-            Resolved::Undecided(id) => Printed::Undecided(id),
-        };
-        printed.write_to(store, out)?;
-    }
-    Printed::Done.write_to(store, out)
+fn print_resolved(id: u64, resolved: Resolved, out: &mut Vec<u8>) -> Result<(), AllocError>
+    ensures ok { OnOk result (out.new.items ≡ out.old.items ++ resolved_text resolved) }
+    ensures err { OnErr result (out.new.items ≡ out.old.items) }
+    ensures capacity { vec_capacity out.old ≤ vec_capacity out.new }
+{
+    let printed = match resolved {
+        Resolved::Committed(write, place) => Printed::Committed(write, place),
+        Resolved::Aborted(write) => Printed::Aborted(write),
+        Resolved::Undecided(write) => Printed::Undecided(write),
+    };
+    printed.write_to(id, out)
 }
 
-/// Prints the end of a flow that was not refused.
-pub(crate) fn print_end(
-    store: u64,
-    end: cluster::Answer,
-    out: &mut Vec<u8>,
-) -> Result<(), AllocError> {
+// Each of them; a part of them where there is no room for all.
+fn print_each(id: u64, found: &[Resolved], out: &mut Vec<u8>) -> Result<(), AllocError>
+    ensures ok { OnOk result (out.new.items ≡ out.old.items ++ flat_map resolved_text found.now) }
+    ensures err { OnErr result ((part : List ℕ) × (out.new.items ≡ out.old.items ++ part)) }
+    ensures capacity { vec_capacity out.old ≤ vec_capacity out.new }
+{
+    for resolved in found {
+        print_resolved(id, *resolved, out)?;
+    }
+    Ok(())
+}
+
+fn print_found(id: u64, found: &[Resolved], out: &mut Vec<u8>) -> Result<(), AllocError>
+    ensures ok { OnOk result (out.new.items ≡ out.old.items ++ flat_map resolved_text found.now ++ done_line) }
+    ensures err { OnErr result ((part : List ℕ) × (out.new.items ≡ out.old.items ++ part)) }
+    ensures capacity { vec_capacity out.old ≤ vec_capacity out.new }
+{
+    print_each(id, found, out)?;
+    Printed::Done.write_to(id, out)
+}
+
+fn print_all(id: u64, found: &[Resolved], out: &mut Vec<u8>) -> Result<(), AllocError>
+    ensures ok { OnOk result (out.new.items ≡ out.old.items ++ flat_map resolved_text found.now ++ done_line) }
+    ensures err { OnErr result (out.new.items ≡ out.old.items) }
+    ensures capacity { vec_capacity out.old ≤ vec_capacity out.new }
+{
+    let start = out.len();
+    match print_found(id, found, out) {
+        Ok(()) => Ok(()),
+        Err(error) => {
+            out.truncate(start);
+            Err(error)
+        }
+    }
+}
+
+fn print_end(id: u64, end: cluster::Answer, out: &mut Vec<u8>) -> Result<(), AllocError>
+    ensures ok { OnOk result (out.new.items ≡ out.old.items ++ end_text id end) }
+    ensures err { OnErr result (out.new.items ≡ out.old.items) }
+    ensures capacity { vec_capacity out.old ≤ vec_capacity out.new }
+{
     let answer = match end {
         cluster::Answer::Wrote(place) => Answer::Written(Written { place }),
         cluster::Answer::Selected(place, sets) => Answer::Rows(Rows { sets, place }),
@@ -29,8 +70,23 @@ pub(crate) fn print_end(
             Answer::Membership(Membership { is_member, place })
         }
         cluster::Answer::Listed(heartbeat, events) => Answer::Events(Events { events, heartbeat }),
-        cluster::Answer::Resolved(found) => return print_resolved(store, &found, out),
-        cluster::Answer::Done => return Printed::Done.write_to(store, out),
+        cluster::Answer::Resolved(found) => return print_all(id, &found, out),
+        cluster::Answer::Done => return Printed::Done.write_to(id, out),
     };
-    Printed::Answer(&answer).write_to(store, out)
+    Printed::Answer(&answer).write_to(id, out)
+}
+
+/// Prints what a step told, at the store with this id.
+pub(crate) fn print_told(id: u64, told: Option<What>, out: &mut Vec<u8>) -> Result<(), AllocError>
+    ensures ok { OnOk result (out.new.items ≡ out.old.items ++ told_text id told) }
+    ensures err { OnErr result (out.new.items ≡ out.old.items) }
+    ensures capacity { vec_capacity out.old ≤ vec_capacity out.new }
+{
+    match told {
+        None | Some(What::Began(_)) => Ok(()),
+        Some(What::Next(call)) => Printed::Next(call.name().as_bytes()).write_to(id, out),
+        Some(What::Ended(end)) => print_end(id, end, out),
+        Some(What::Up) => Printed::Up.write_to(id, out),
+        Some(What::Refused(refusal)) => Printed::Refused(refusal).write_to(id, out),
+    }
 }

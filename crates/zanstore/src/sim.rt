@@ -1,9 +1,9 @@
 // Scripts from a reader, over disks in memory.
 use crate::input::{Input, read_line};
 use cluster::reopen;
-use device::{Device, SimDisk};
+use device::SimDisk;
 use printed::Printed;
-use scripts::Script;
+use scripts::{Script, Stepping, Store};
 use std::alloc::{AllocError, Global};
 use std::io;
 use std::io::{BufRead, Write};
@@ -39,7 +39,10 @@ pub fn sim<R: BufRead, W: Write>(
     let Ok(world) = reopen(alloc, disks, store, shards) else {
         return 1;
     };
-    let mut script = Script::new(alloc, store, shards, world);
+    let Ok(stepping) = Stepping::new(alloc, world) else {
+        return 1;
+    };
+    let mut script = Script::new(alloc, store, shards, stepping);
     match run(alloc, &mut script, store, reader, writer) {
         Ok(()) => 0,
         Err(_) => 1,
@@ -47,9 +50,9 @@ pub fn sim<R: BufRead, W: Write>(
 }
 
 // Answers each line of the reader.
-fn run<D: Device, R: BufRead, W: Write>(
+fn run<S: Store, R: BufRead, W: Write>(
     alloc: Global,
-    script: &mut Script<D>,
+    script: &mut Script<S>,
     store: u64,
     reader: &mut R,
     writer: &mut W,

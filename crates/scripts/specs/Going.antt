@@ -1,0 +1,47 @@
+-- The turns of a flow, one after another.
+use Rattle.std.specs.Prelude.{◌≡◌, ℕ, List, [], ◌∷◌, Option, Some, None, MatchOption}
+use Rattle.calls.specs.Names.{text_of}
+use Rattle.calls.specs.declared.call_name.CallName.{CallName}
+use Rattle.cluster.specs.declared.event.What.{What}
+use Rattle.cluster.specs.declared.step.Step.{Step}
+use Rattle.cluster.specs.declared.step.Step.TheVariants.{Turn, Cancel}
+use Rattle.lines.specs.declared.call_name.CallName as asked
+use Rattle.lines.specs.declared.flow.Handling.{Handling}
+use Rattle.lines.specs.declared.flow.Handling.TheVariants as handling
+use Rattle.lines.specs.Texts.{call_text}
+
+-- the call is the one that is asked for, by its text; where none is asked for, no call is it
+abbrev pub IsAsked : Option asked.CallName → CallName → Type 0
+IsAsked None call = ⊥
+IsAsked (Some name) call = call_text name ≡ text_of call
+
+-- a flow with this next call goes on: it has one, and that is another than the one that is asked for
+abbrev pub GoesOn : Option asked.CallName → Option CallName → Type 0
+GoesOn until None = ⊥
+GoesOn until (Some call) = IsAsked until call → ⊥
+
+-- what the last turn told
+abbrev pub last_told : List (Option What) → Option What
+last_told [] = None
+last_told (told ∷ before) = told
+
+module _ {S : Type 0} (takes : S → Step → Option What → S → Type 0) (next_call : S → ℕ → Option CallName) (slot : ℕ) (until : Option asked.CallName) where
+  -- The flow in the slot makes its turns, each because it goes on. What they tell stands with the last turn first.
+  abbrev pub Turns : List (Option What) → S → S → Type 0
+  Turns [] old new = new ≡ old
+  Turns (told ∷ before) old new = (mid : S) × Turns before old mid × GoesOn until (next_call mid slot) × takes mid (Turn slot) told new
+
+  -- it makes them until it goes on no more, and this is told by the last of them
+  pub record Goes (old : S) (told : Option What) (new : S) : Type 0 where
+    pub all : List (Option What)
+    pub turns : Turns all old new
+    pub last : told ≡ last_told all
+    pub ends : GoesOn until (next_call new slot) → ⊥
+
+module _ {S : Type 0} (takes : S → Step → Option What → S → Type 0) (next_call : S → ℕ → Option CallName) where
+  -- The flow in a slot makes one call, or its calls until the one that is asked for, or to its end. One that is cancelled makes those that take it out.
+  abbrev pub Moves : Handling → ℕ → S → Option What → S → Type 0
+  Moves handling.Turn slot old told new = takes old (Turn slot) told new
+  Moves (handling.Until call) slot old told new = Goes takes next_call slot (Some call) old told new
+  Moves handling.Run slot old told new = Goes takes next_call slot None old told new
+  Moves handling.Cancel slot old told new = (first : Option What) × (mid : S) × takes old (Cancel slot) first mid × Goes takes next_call slot None mid told new

@@ -1,0 +1,113 @@
+-- What each line of a script does with a store, and what it prints.
+use Rattle.std.specs.Prelude.{◌≡◌, ◌⊎◌, ℕ, List, [], ◌∷◌, ◌++◌, codes, Option, Some, None, MatchOption, Result, Ok, Err, slice_get}
+use Rattle.std.specs.Global.{Vec}
+use Rattle.std.specs.List.{flat_map, remove}
+use Rattle.calls.specs.declared.call.NodeName.{NodeName}
+use Rattle.calls.specs.declared.call_name.CallName.{CallName}
+use Rattle.cluster.specs.declared.event.What.{What}
+use Rattle.cluster.specs.declared.event.What.TheVariants.{Began, Next, Ended, Up, Refused}
+use Rattle.cluster.specs.declared.step.Step.{Step}
+use Rattle.cluster.specs.declared.step.Step.TheVariants as step
+use Rattle.device.specs.declared.tear.Tear.{Tear}
+use Rattle.journal.specs.declared.refused.Bank.{Bank}
+use Rattle.lines.specs.declared.command.Command.{Command}
+use Rattle.lines.specs.declared.command.Command.TheVariants.{Pass, Ask, Start, Handle, Care, Rows, Restart, Fail}
+use Rattle.lines.specs.declared.flow.Handling.{Handling}
+use Rattle.lines.specs.declared.flow.Handling.TheVariants as handling
+use Rattle.lines.specs.Causes.{Cause}
+use Rattle.lines.specs.Lines.{Spells}
+use Rattle.printed.specs.Texts.{named_line, refusal_line, version_line}
+use Rattle.refusal.specs.declared.refusal.Refusal.{Refusal}
+use Rattle.refusal.specs.declared.refusal.Refusal.TheVariants.{Future, NoMemory}
+use Rattle.tuples.specs.declared.version.Version.{Version}
+use Rattle.scripts.specs.Asking.{care_of, node_of, request_of}
+use Rattle.scripts.specs.Going.{Goes, Moves}
+use Rattle.scripts.specs.Telling.{next_line, set_line, told_text}
+
+-- A store, and the flows that run in it under names, each with its slot.
+pub record RunningView (S : Type 0) : Type 0 where
+  pub store : S
+  pub names : List (List ℕ)
+  pub slots : List ℕ
+
+-- The id of a store, how many shards it has, and what runs in it.
+pub record ScriptView (S : Type 0) : Type 0 where
+  pub id : ℕ
+  pub shards : ℕ
+  pub running : RunningView S
+
+-- the slot in which a flow has begun
+abbrev pub slot_of : Option What → Option ℕ
+slot_of (Some (Began slot)) = Some slot
+slot_of told = None
+
+-- the text of what began no flow: a refusal; a request beyond the numbers of places is ahead of every log
+abbrev pub unbegun_text : ℕ → Option What → List ℕ
+unbegun_text id None = refusal_line Future
+unbegun_text id (Some what) = told_text id (Some what)
+
+-- a flow that goes on tells its next call, and one that has ended its end
+abbrev pub turned_text : ℕ → Option CallName → Option What → List ℕ
+turned_text id (Some call) told = next_line call
+turned_text id None told = told_text id told
+
+-- what stands of each flow: this one's is gone where it has no next call
+abbrev pub KeepsIf : {A : Type 0} → Option CallName → ℕ → List A → List A → Type 0
+KeepsIf (Some call) flow old new = new ≡ old
+KeepsIf None flow old new = new ≡ remove old flow
+
+abbrev pub rows_text : Result (Vec Version) Refusal → List ℕ
+rows_text (Ok versions) = flat_map version_line versions.items
+rows_text (Err e) = refusal_line e
+
+module _ {S : Type 0} (takes : S → Step → Option What → S → Type 0) (next_call : S → ℕ → Option CallName) (shows : S → ℕ → Result (Vec Version) Refusal → Type 0) (sets : S → NodeName → Bank → ℕ → Tear → S → Type 0) where
+  -- a flow that has begun in a slot makes its calls to its end; what has begun none is told
+  abbrev pub Ends : ℕ → Option What → S → List ℕ → S → Type 0
+  Ends id told old text new = MatchOption (slot_of told) ((new ≡ old) × (text ≡ unbegun_text id told)) (λ slot. (end : Option What) × Goes takes next_call slot None old end new × (text ≡ told_text id end))
+
+  -- a flow begins, and makes its calls to its end
+  abbrev pub Serves : ℕ → Step → S → List ℕ → S → Type 0
+  Serves id first old text new = (told : Option What) × (mid : S) × takes old first told mid × Ends id told mid text new
+
+  -- a flow that has begun in a slot gets the name; what has begun none is told
+  abbrev pub Names : ℕ → Option What → List ℕ → RunningView S → List ℕ → RunningView S → Type 0
+  Names id told name old text new = MatchOption (slot_of told) ((text ≡ unbegun_text id told) × (new.names ≡ old.names) × (new.slots ≡ old.slots))
+      (λ slot. (text ≡ named_line (codes "started ") name) × (new.names ≡ old.names ++ name ∷ []) × (new.slots ≡ old.slots ++ slot ∷ []))
+
+  -- a flow begins under a name
+  abbrev pub Starts : ℕ → List ℕ → Step → RunningView S → List ℕ → RunningView S → Type 0
+  Starts id name first old text new = (told : Option What) × takes old.store first told new.store × Names id told name old text new
+
+  -- Nothing is told of a flow that is cancelled but that it is; its name is free.
+  abbrev pub Tells : ℕ → Handling → ℕ → ℕ → Option What → RunningView S → List ℕ → RunningView S → Type 0
+  Tells id handling.Cancel flow slot told old text new = (name : List ℕ) × (slice_get old.names flow ≡ Some name) × (text ≡ named_line (codes "cancelled ") name)
+      × (new.names ≡ remove old.names flow) × (new.slots ≡ remove old.slots flow)
+  Tells id h flow slot told old text new = (text ≡ turned_text id (next_call new.store slot) told)
+      × KeepsIf (next_call new.store slot) flow old.names new.names × KeepsIf (next_call new.store slot) flow old.slots new.slots
+
+  -- something is done with the flow of this number
+  abbrev pub Handles : ℕ → ℕ → Handling → RunningView S → List ℕ → RunningView S → Type 0
+  Handles id flow h old text new = (slot : ℕ) × (slice_get old.slots flow ≡ Some slot) × (told : Option What) × Moves takes next_call h slot old.store told new.store × Tells id h flow slot told old text new
+
+  -- no flow begins or ends under a name
+  abbrev pub KeepsFlows : RunningView S → RunningView S → Type 0
+  KeepsFlows old new = (new.names ≡ old.names) × (new.slots ≡ old.slots)
+
+  -- A command is carried out at the store with this id, and prints this.
+  abbrev pub CarriesOut : ℕ → Command → RunningView S → List ℕ → RunningView S → Type 0
+  CarriesOut id Pass old text new = (text ≡ []) × (new ≡ old)
+  CarriesOut id (Ask request) old text new = Serves id (step.Start (request_of request)) old.store text new.store × KeepsFlows old new
+  CarriesOut id (Care care) old text new = Serves id (step.Care (care_of care)) old.store text new.store × KeepsFlows old new
+  CarriesOut id (Start name request) old text new = Starts id name (step.Start (request_of request)) old text new
+  CarriesOut id (Handle flow h) old text new = Handles id flow h old text new
+  CarriesOut id (Rows shard) old text new = (result : Result (Vec Version) Refusal) × shows old.store shard result × (text ≡ rows_text result) × (new ≡ old)
+  CarriesOut id (Restart node) old text new = (told : Option What) × takes old.store (step.Restart (node_of node)) told new.store × (text ≡ told_text id told) × KeepsFlows old new
+  CarriesOut id (Fail f) old text new = sets old.store (node_of f.node) f.bank f.n f.tear new.store × (text ≡ set_line) × KeepsFlows old new
+
+  -- A line that spells a command carries it out. One that spells none is refused with its cause, and nothing is done. Where memory was refused behind a step,
+  -- that alone is told.
+  abbrev pub Answers : List ℕ → ScriptView S → List ℕ → ScriptView S → Type 0
+  Answers line old text new = (new.id ≡ old.id) × (new.shards ≡ old.shards)
+      × (((c : Command) × Spells old.id old.shards old.running.names line c × CarriesOut old.id c old.running text new.running)
+      ⊎ (((e : Refusal) × Cause old.id old.shards old.running.names line e × (text ≡ refusal_line e) × (new.running ≡ old.running))
+      ⊎ (text ≡ refusal_line NoMemory)))

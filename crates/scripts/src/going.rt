@@ -1,0 +1,87 @@
+// The turns of a flow, one after another.
+ghost use Rattle.std.specs.Prelude.{◌≡◌, ◌≤◌, ◌↔◌, IfOk, IsTrue, vec_capacity};
+ghost use Rattle.scripts.specs.Going.{Goes, GoesOn, IsAsked, Moves};
+
+use crate::Store;
+use calls::CallName;
+use cluster::{Step, What};
+use lines::Handling;
+use std::alloc::AllocError;
+
+// Whether the call is the one that is asked for.
+fn is_asked(until: Option<lines::CallName>, call: CallName) -> bool
+    ensures { IsTrue result ↔ IsAsked until call }
+{
+    match until {
+        None => false,
+        Some(name) => name.name() == call.name(),
+    }
+}
+
+fn goes_on(until: Option<lines::CallName>, next: Option<CallName>) -> bool
+    ensures { IsTrue result ↔ GoesOn until next }
+{
+    match next {
+        None => false,
+        Some(call) => !is_asked(until, call),
+    }
+}
+
+/// The flow in the slot makes its calls: to its end, or while the next is another than this one. What the last of them told. Each call is made once there
+/// is so much more room for the text of it all.
+pub(crate) fn go<S: Store>(
+    store: &mut S,
+    slot: usize,
+    until: Option<lines::CallName>,
+    each: usize,
+    out: &mut Vec<u8>,
+) -> Result<Option<What>, AllocError>
+    ensures goes { IfOk result (λ told. Goes S.takes S.next_call slot until store.old told store.new) }
+    ensures same { out.new.items ≡ out.old.items }
+    ensures capacity { vec_capacity out.old ≤ vec_capacity out.new }
+{
+    let mut told = None;
+    let mut room: usize = 0;
+    for _ in 0..u64::MAX {
+        if !goes_on(until, store.next(slot)) {
+            return Ok(told);
+        }
+        room = room.saturating_add(each);
+        out.reserve(room)?;
+        told = store.take(Step::Turn(slot))?;
+    }
+    Err(AllocError)
+}
+
+/// The flow in the slot is cancelled, and makes its calls to its end.
+pub(crate) fn cancel<S: Store>(
+    store: &mut S,
+    slot: usize,
+    out: &mut Vec<u8>,
+) -> Result<Option<What>, AllocError>
+    ensures moves { IfOk result (λ told. Moves S.takes S.next_call Handling.Cancel slot store.old told store.new) }
+    ensures same { out.new.items ≡ out.old.items }
+    ensures capacity { vec_capacity out.old ≤ vec_capacity out.new }
+{
+    let _ = store.take(Step::Cancel(slot))?;
+    go(store, slot, None, 0, out)
+}
+
+/// The flow in the slot makes the calls that are asked for.
+pub(crate) fn go_on<S: Store>(
+    store: &mut S,
+    slot: usize,
+    handling: Handling,
+    out: &mut Vec<u8>,
+) -> Result<Option<What>, AllocError>
+    ensures moves { IfOk result (λ told. Moves S.takes S.next_call handling slot store.old told store.new) }
+    ensures same { out.new.items ≡ out.old.items }
+    ensures capacity { vec_capacity out.old ≤ vec_capacity out.new }
+{
+    match handling {
+        Handling::Turn => store.take(Step::Turn(slot)),
+        Handling::Until(call) => go(store, slot, Some(call), 0, out),
+        Handling::Run => go(store, slot, None, 0, out),
+        Handling::Cancel => cancel(store, slot, out),
+    }
+}

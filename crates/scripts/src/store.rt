@@ -1,0 +1,46 @@
+// What takes the steps of a script.
+ghost use Rattle.std.specs.Prelude.{◌≡◌, ℕ, Option, Result, IfOk};
+ghost use Rattle.std.specs.Global.{Vec as AnyVec};
+ghost use Rattle.calls.specs.declared.call.NodeName.{NodeName as AnyNode};
+ghost use Rattle.calls.specs.declared.call_name.CallName.{CallName as AnyCall};
+ghost use Rattle.cluster.specs.declared.event.What.{What as AnyWhat};
+ghost use Rattle.cluster.specs.declared.step.Step.{Step as AnyStep};
+ghost use Rattle.device.specs.declared.tear.Tear.{Tear as AnyTear};
+ghost use Rattle.journal.specs.declared.refused.Bank.{Bank as AnyBank};
+ghost use Rattle.refusal.specs.declared.refusal.Refusal.{Refusal as AnyRefusal};
+ghost use Rattle.tuples.specs.declared.version.Version.{Version as AnyVersion};
+
+use calls::{CallName, NodeName};
+use cluster::{Step, What};
+use device::Tear;
+use journal::Bank;
+use std::alloc::AllocError;
+use tuples::{Refusal, Version};
+
+/// A store that takes steps, one at a time.
+pub trait Store: Drop {
+    /// It may take this step, which tells this, and is then that.
+    ghost takes: { Self → AnyStep → Option AnyWhat → Self → Type 0 };
+
+    /// The next call of the flow in a slot.
+    ghost next_call: { Self → ℕ → Option AnyCall };
+
+    /// The versions that a shard may show.
+    ghost shows: { Self → ℕ → Result (AnyVec AnyVersion) AnyRefusal → Type 0 };
+
+    /// It may be that once this is set on a device of this node.
+    ghost sets: { Self → AnyNode → AnyBank → ℕ → AnyTear → Self → Type 0 };
+
+    /// Takes the step. An `Err` is for want of memory.
+    fn take(&mut self, step: Step) -> Result<Option<What>, AllocError>
+        ensures { IfOk result (λ told. takes self.old step told self.new) };
+
+    fn next(&self, slot: usize) -> Option<CallName>
+        ensures { result ≡ next_call self.now slot };
+
+    fn rows(&self, shard: u8) -> Result<Vec<Version>, Refusal>
+        ensures { shows self.now shard result };
+
+    fn fail(&mut self, node: NodeName, bank: Bank, n: u64, tear: Tear)
+        ensures { sets self.old node bank n tear self.new };
+}
