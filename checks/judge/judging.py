@@ -166,16 +166,15 @@ class Judge:
 
     def goes_out(self, world, write, kind, made):
         """The write was refused, which is told at its end; a flush of one of its shards may have failed."""
-        found = []
+        found = [world]
+        name = next(name for name, flow in world.flows.items() if flow is write)
         if write.stage <= 2 and (kind == "until" or made == "flush"):
             for shard in write.shards:
                 if world.nodes[shard].may_fail and not world.nodes[shard].is_down:
                     found += world.twin().fails(shard)
-        found.append(world)
         for each in found:
-            flow = next(flow for flow in each.flows.values() if flow.kind == "write" and flow.next == write.next and flow.changes == write.changes)
-            self.is_begun(each, flow)
-            flow.stage = 5
+            self.is_begun(each, each.flows[name])
+            each.flows[name].stage = 5
         return found
 
     def write_ends(self, world, write, kind, number, printed):

@@ -33,8 +33,8 @@ class Maker:
         self.names = 0
         self.nodes = sorted({definitions.shard_of(*named, self.shards) for named in OBJECTS})
         self.waiting = []
-        kinds = {"write": 8, "answer": 6, "care": 3, "flow": 0, "restart": 0, "fail": 0, "nothing": 0.3}
-        for kind, weight in (("flow", 8), ("restart", 1), ("fail", 1)):
+        kinds = {"write": 8, "answer": 6, "care": 3, "nothing": 0.3, "flow": 0, "write_story": 0, "answer_story": 0, "restart": 0, "fail": 0}
+        for kind, weight in (("flow", 4), ("write_story", 3), ("answer_story", 1.5), ("restart", 0.7), ("fail", 0.7)):
             if self.random.random() < 0.6 and not is_plain:
                 kinds[kind] = weight
         self.kinds = kinds
@@ -45,7 +45,7 @@ class Maker:
         for _ in range(self.random.randrange(80, 240)):
             kind = self.random.choices(list(self.kinds), list(self.kinds.values()))[0]
             getattr(self, kind)()
-            if self.waiting and self.random.random() < 0.3:
+            if self.waiting and self.random.random() < 0.7:
                 self.open(self.waiting.pop())
         self.close()
         return self.lines
@@ -72,7 +72,8 @@ class Maker:
 
     def place(self):
         top = len(self.listed)
-        return max(0, self.random.choice((self.random.randint(self.raised, top), top, top + 1, top - 1, self.random.randint(0, top))))
+        low = min(self.raised, top)
+        return max(0, self.random.choice((*(self.random.randint(low, top) for _ in range(4)), self.random.randint(0, top), top, top + 1)) - self.random.choice((0, 1, 2)))
 
     def token(self):
         if self.random.random() < 0.02:
@@ -155,7 +156,7 @@ class Maker:
         name, changes, is_write = flow
         kind = self.random.choice(("turn", "turn", "turns", "until", "until", "run", "cancel"))
         if kind == "turns":
-            for _ in range(self.random.randint(2, 6)):
+            for _ in range(self.random.randint(2, 3)):
                 self.say(f"turn {name}")
         elif kind == "until":
             self.say(f"until {name} {self.random.choice(WRITE_CALLS if is_write else ANSWER_CALLS)}")
@@ -166,9 +167,49 @@ class Maker:
             if changes and kind == "run":
                 self.listed.append(changes)
 
-    def start(self):
+    def name(self):
         self.names += 1
-        name = f"f{self.names}"
+        return f"f{self.names}"
+
+    def write_story(self):
+        """A write that stops on its way, what others do meanwhile, and its end."""
+        name = self.name()
+        line = self.write_line()
+        changes = self.changes
+        shards = sorted({definitions.home(change.tuple, self.shards) for change in changes.changes})
+        self.say(f"start {name} {line}")
+        self.say(f"until {name} {self.random.choice(('stage_prepare', 'vote', 'decide', 'decide', 'outcome', 'outcome'))}")
+        meanwhile = [f"turn {name}", line, f"flush {self.random.choice(['c', *shards])}", f"resolve {self.random.choice(shards)}", f"rows {self.random.choice(shards)}\n?"]
+        if self.kinds["restart"]:
+            meanwhile += [f"restart {self.random.choice(['c', *shards])}"] * 2
+        if self.kinds["fail"]:
+            node = self.random.choice(["c", *shards])
+            meanwhile.append(f"fail {node}a {self.random.randint(1, 4)} {self.random.choice(TEARS)}")
+            self.waiting.append(node)
+        for text in self.random.sample(meanwhile, self.random.randint(0, 4)):
+            for each in text.split("\n"):
+                self.say(each)
+        self.say(f"{self.random.choice(('run', 'run', 'cancel'))} {name}")
+        if self.random.random() < 0.3:
+            self.say(f"resolve {self.random.choice(shards)}")
+        if self.lines[-1].startswith("run"):
+            self.listed.append(changes)
+
+    def answer_story(self):
+        """An answer that stops on its way while the horizon or the log moves."""
+        name = self.name()
+        self.say(f"start {name} {self.answer_line(self.random.choice(('read', 'check', 'watch')))}")
+        self.say(f"until {name} {self.random.choice(('batch', 'read', 'read', 'learned', 'flush'))}")
+        for _ in range(self.random.randint(0, 3)):
+            self.random.choice((self.care, self.write))()
+        if self.random.random() < 0.3:
+            self.raised = len(self.listed)
+            self.say(f"raise {self.raised}")
+            self.say(f"collect {self.random.choice(self.nodes)}")
+        self.say(f"{self.random.choice(('run', 'run', 'cancel'))} {name}")
+
+    def start(self):
+        name = self.name()
         request = self.request()
         self.say(f"start {name} {request}")
         self.flows.append((name, self.changes if request.startswith("write") and self.is_likely else None, request.startswith("write")))

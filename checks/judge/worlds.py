@@ -18,7 +18,7 @@ def must(is_so, why):
 
 
 class Node:
-    """A node: whether it is down, and whether a failing script of its device may wait still."""
+    """A node: whether it is down, and whether a failing script of its device may wait still. What it holds is replaced, and never changed."""
 
     def __init__(self):
         self.is_down = False
@@ -50,6 +50,11 @@ class Flow:
         self.first_horizon = world.horizon
         self.met_down = False
 
+    def twin(self):
+        other = copy.copy(self)
+        other.kept_places = set(self.kept_places)
+        return other
+
 
 class Write(Flow):
     """`stage`: 0 not begun, 1 preparing, 2 voting, 3 before its decision, 4 decided, 5 on its way out.
@@ -73,6 +78,11 @@ class Write(Flow):
         self.tuples = {part.tuple: home(part.tuple, world.count) for part in self.changes + self.conditions}
         self.shards = sorted(set(self.tuples.values()))
 
+    def twin(self):
+        other = super().twin()
+        other.opened, other.dropped = set(self.opened), set(self.dropped)
+        return other
+
 
 class World:
     def __init__(self, count):
@@ -89,7 +99,14 @@ class World:
         self.aborted = set()
 
     def twin(self):
-        return copy.deepcopy(self)
+        other = copy.copy(self)
+        other.nodes = {name: copy.copy(node) for name, node in self.nodes.items()}
+        twins = {write: write.twin() for write in self.writes}
+        other.writes = list(twins.values())
+        other.log = [twins[write] for write in self.log]
+        other.flows = {name: twins[flow] if flow in twins else flow.twin() for name, flow in self.flows.items()}
+        other.aborted = set(self.aborted)
+        return other
 
     def key(self):
         nodes = tuple((node.is_down, node.may_fail) for node in self.nodes.values())
