@@ -98,7 +98,7 @@ def spoil_seed(printed_by, is_plain, seed):
 def spoiled_scripts(pool, seeds, printed_by):
     """Where nothing fails and no flow has a name, each spoiled answer has to be noticed; else more than one may be right."""
     status = 0
-    for is_plain, name, most in ((True, "of plain scripts", 0), (False, "of others", 0.25)):
+    for is_plain, name, most in ((True, "of plain scripts", 0), (False, "of others", 0.05)):
         found = list(pool.map(partial(spoil_seed, printed_by, is_plain), seeds))
         count, passed = sum(count for count, _ in found), [text for _, texts in found for text in texts]
         print(f"spoiled answers {name}: {count}, {len(passed)} not noticed")
