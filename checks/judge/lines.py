@@ -136,7 +136,7 @@ class Reader:
         changes, conditions = words[:cut], words[cut + 1 :]
         need(changes and all(word[:1] in ("+", "-") and word for word in changes))
         need(cut == len(words) or conditions)
-        split = [(word[1:], {"?": "exists", "!": "absent"}[word[0]]) if word[:1] in ("?", "!") and word else self.place(word) for word in conditions]
+        split = [self.condition(word) for word in conditions]
         need(len(changes) <= 64 and len(split) <= 16, 3)
         made = [Change(word[0] == "+", read_tuple(word[1:])) for word in changes]
         asked = [Condition(read_tuple(text), want) for text, want in split]
@@ -144,7 +144,9 @@ class Reader:
             need(len({part.tuple for part in named}) == len(named), 4)
         return ["write", made, asked]
 
-    def place(self, word):
+    def condition(self, word):
+        if word.startswith(("?", "!")):
+            return word[1:], {"?": "exists", "!": "absent"}[word[0]]
         text, sign, place = word.rpartition("=")
         need(sign)
         return text, read_number(place)

@@ -11,7 +11,10 @@ USERS = [(0, f"u{n}") for n in range(1, 4)] + [(1, "group", id, "member") for id
 TEARS = ("old", "new", "00", "a5", "5a")
 WRITE_CALLS = "begin learned batch learn stage_prepare vote decide outcome abort inquire drop_write".split()
 ANSWER_CALLS = "heads flush learned batch learn read".split()
-NO_LINES = ("", "; nothing", "?", "write", "checkpoint c", "reshard 3", "read  latest doc:a", "turn nobody", "raise 01", "write +doc:a#viewer@", "fail ca 0 old")
+NO_LINES = (
+    *("", "; nothing", "?", "write", "checkpoint c", "reshard 3", "read  latest doc:a"),
+    *("turn nobody", "raise 01", "write +doc:a#viewer@", "fail ca 0 old"),
+)
 
 
 class Made:
@@ -19,6 +22,11 @@ class Made:
 
     def __init__(self, changes):
         self.changes = changes
+
+
+def condition_text(condition):
+    text = tuple_text(condition.tuple)
+    return f"{text}={condition.want}" if isinstance(condition.want, int) else {"exists": "?", "absent": "!"}[condition.want] + text
 
 
 class Maker:
@@ -73,7 +81,8 @@ class Maker:
     def place(self):
         top = len(self.listed)
         low = min(self.raised, top)
-        return max(0, self.random.choice((*(self.random.randint(low, top) for _ in range(4)), self.random.randint(0, top), top, top + 1)) - self.random.choice((0, 1, 2)))
+        places = [self.random.randint(low, top) for _ in range(4)] + [self.random.randint(0, top), top, top + 1]
+        return max(0, self.random.choice(places) - self.random.choice((0, 1, 2)))
 
     def token(self):
         if self.random.random() < 0.02:
@@ -87,7 +96,8 @@ class Maker:
         asked = self.tuple()
         named = f"{asked.namespace}:{asked.id}"
         user = definitions.user_text(asked.user)
-        return self.random.choice((tuple_text(asked), named, named, f"{named}#{asked.relation}", f"{asked.namespace}@{user}", f"{asked.namespace}#{asked.relation}@{user}"))
+        by_user = [f"{asked.namespace}@{user}", f"{asked.namespace}#{asked.relation}@{user}"]
+        return self.random.choice([tuple_text(asked), named, named, f"{named}#{asked.relation}", *by_user])
 
     def request(self):
         kind = self.random.choice(("write", "write", "read", "check", "watch"))
@@ -106,8 +116,8 @@ class Maker:
         self.changes = Made(tuple(changes.values()))
         self.is_likely = all(isinstance(each.want, str) or each.want <= len(self.listed) for each in conditions.values())
         self.is_likely = self.is_likely and all(definitions.holds(self.listed, each) for each in conditions.values())
-        asked = [{"exists": "?", "absent": "!"}.get(each.want, "") + tuple_text(each.tuple) + (f"={each.want}" if isinstance(each.want, int) else "") for each in conditions.values()]
-        return " ".join(["write", *map(change_text, changes.values())] + (["if", *asked] if asked else []))
+        asked = ["if", *map(condition_text, conditions.values())] if conditions else []
+        return " ".join(["write", *map(change_text, changes.values()), *asked])
 
     def answer_line(self, kind):
         if kind == "read":
@@ -179,7 +189,8 @@ class Maker:
         shards = sorted({definitions.home(change.tuple, self.shards) for change in changes.changes})
         self.say(f"start {name} {line}")
         self.say(f"until {name} {self.random.choice(('stage_prepare', 'vote', 'decide', 'decide', 'outcome', 'outcome'))}")
-        meanwhile = [f"turn {name}", line, f"flush {self.random.choice(['c', *shards])}", f"resolve {self.random.choice(shards)}", f"rows {self.random.choice(shards)}\n?"]
+        shard, node = self.random.choice(shards), self.random.choice(["c", *shards])
+        meanwhile = [f"turn {name}", line, f"flush {node}", f"resolve {shard}", f"rows {shard}\n?"]
         if self.kinds["restart"]:
             meanwhile += [f"restart {self.random.choice(['c', *shards])}"] * 2
         if self.kinds["fail"]:

@@ -213,9 +213,8 @@ class World:
 
     def is_held(self, write):
         """Whether another write is certainly in doubt at a shard and names a tuple of this one."""
-        return any(
-            self.is_in_doubt(other, shard) for other in self.flows.values() if other is not write and other.kind == "write" for _, shard in self.shared(write, other)
-        )
+        others = [flow for flow in self.flows.values() if flow is not write and flow.kind == "write"]
+        return any(self.is_in_doubt(other, shard) for other in others for _, shard in self.shared(write, other))
 
     def is_in_doubt(self, write, shard):
         """Each of its shards has prepared this flow's write, and this one was not opened since, nor can it have learned it."""
