@@ -21,7 +21,7 @@ class Cares(Told):
         if name == "c":
             world.keep()
         else:
-            world.nodes[name].settled = world.nodes[name].learned
+            world.settle(name)
         return [world]
 
     def learn(self, world, name, printed):
@@ -40,7 +40,8 @@ class Cares(Told):
             return found
         world.answers("c", name)
         node.collected = {world.horizon}
-        node.settled = node.learned = max(node.learned, world.horizon)
+        node.learned = max(node.learned, world.horizon)
+        world.settle(name)
         return [world]
 
     def raise_to(self, world, place, printed):
@@ -60,7 +61,8 @@ class Cares(Told):
             world.answers(*shards)
             for shard in shards:
                 node = world.nodes[shard]
-                node.settled = node.learned = max(node.learned, world.kept if number == 8 else place)
+                node.learned = max(node.learned, world.kept if number == 8 else place)
+                world.settle(shard)
         world.note()
         return [world]
 

@@ -59,7 +59,8 @@ class Flow:
 class Write(Flow):
     """`stage`: 0 not begun, 1 preparing, 2 voting, 3 before its decision, 4 decided, 5 on its way out.
 
-    `opened` are the nodes that were opened since it began, `dropped` the shards that were told of its abortion."""
+    `opened` are the nodes that were opened since it began, `dropped` the shards that were told of its abortion, `gone` those that have flushed
+    since they have dropped it: no opening finds it there."""
 
     def __init__(self, request, world):
         super().__init__(request, world)
@@ -73,6 +74,7 @@ class Write(Flow):
         self.is_unsure = False
         self.opened = set()
         self.dropped = set()
+        self.gone = set()
         self.met_broken = False
         self.met_held = False
         self.tuples = {part.tuple: home(part.tuple, world.count) for part in self.changes + self.conditions}
@@ -80,7 +82,7 @@ class Write(Flow):
 
     def twin(self):
         other = super().twin()
-        other.opened, other.dropped = set(self.opened), set(self.dropped)
+        other.opened, other.dropped, other.gone = set(self.opened), set(self.dropped), set(self.gone)
         return other
 
 
@@ -207,9 +209,20 @@ class World:
             return place > learned or asker is not None and asker.begun is not None and node.opened >= asker.begun
         if other.ended is None:
             return True
+        if shard in other.gone:
+            return False
         if node.resolved >= other.ended and node.opened <= node.resolved:
             return False
         return other.is_left or node.opened >= other.begun
+
+    def settle(self, shard):
+        """The shard has flushed: what its memory has learned and dropped is durable."""
+        node = self.nodes[shard]
+        node.settled = node.learned
+        for write in self.writes:
+            is_over = write.begun is not None and write.ended is not None and self.place(write) is None
+            if is_over and shard in write.shards and not self.may_be_in_doubt(write, shard):
+                write.gone.add(shard)
 
     def is_held(self, write):
         """Whether another write is certainly in doubt at a shard and names a tuple of this one."""
