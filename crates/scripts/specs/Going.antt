@@ -25,23 +25,23 @@ abbrev pub last_told : List (Option What) → Option What
 last_told [] = None
 last_told (told ∷ before) = told
 
-module _ {S : Type 0} (takes : S → Step → Option What → S → Type 0) (next_call : S → ℕ → Option CallName) (slot : ℕ) (until : Option asked.CallName) where
+module _ {S : Type 0} (takes : S → Step → Option What → S → Type 0) (nexts : S → ℕ → Option CallName → Type 0) (slot : ℕ) (until : Option asked.CallName) where
+  -- the flow in the slot goes on from here
+  abbrev pub GoesOnFrom : S → Type 0
+  GoesOnFrom s = (next : Option CallName) × nexts s slot next × GoesOn until next
+
+  -- it stands still
+  abbrev pub StandsStill : S → Type 0
+  StandsStill s = (next : Option CallName) × nexts s slot next × (GoesOn until next → ⊥)
+
   -- The flow in the slot makes its turns, each because it goes on. What they tell stands with the last turn first.
   abbrev pub Turns : List (Option What) → S → S → Type 0
   Turns [] old new = new ≡ old
-  Turns (told ∷ before) old new = (mid : S) × Turns before old mid × GoesOn until (next_call mid slot) × takes mid (Turn slot) told new
+  Turns (told ∷ before) old new = (mid : S) × Turns before old mid × GoesOnFrom mid × takes mid (Turn slot) told new
 
-  -- it makes them until it goes on no more, and this is told by the last of them
+  -- it makes them until it stands still, and this is told by the last of them
   pub record Goes (old : S) (told : Option What) (new : S) : Type 0 where
     pub all : List (Option What)
     pub turns : Turns all old new
     pub last : told ≡ last_told all
-    pub ends : GoesOn until (next_call new slot) → ⊥
-
-module _ {S : Type 0} (takes : S → Step → Option What → S → Type 0) (next_call : S → ℕ → Option CallName) where
-  -- The flow in a slot makes one call, or its calls until the one that is asked for, or to its end. One that is cancelled makes those that take it out.
-  abbrev pub Moves : Handling → ℕ → S → Option What → S → Type 0
-  Moves handling.Turn slot old told new = takes old (Turn slot) told new
-  Moves (handling.Until call) slot old told new = Goes takes next_call slot (Some call) old told new
-  Moves handling.Run slot old told new = Goes takes next_call slot None old told new
-  Moves handling.Cancel slot old told new = (first : Option What) × (mid : S) × takes old (Cancel slot) first mid × Goes takes next_call slot None mid told new
+    pub ends : StandsStill new

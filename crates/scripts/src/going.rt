@@ -1,11 +1,11 @@
 // The turns of a flow, one after another.
-ghost use Rattle.std.specs.Prelude.{◌≡◌, ◌≤◌, ◌↔◌, IfOk, IsTrue, vec_capacity};
-ghost use Rattle.scripts.specs.Going.{Goes, GoesOn, IsAsked, Moves};
+ghost use Rattle.std.specs.Prelude.{◌≡◌, ◌≤◌, ◌↔◌, IfOk, IsTrue, OnOk, vec_capacity};
+ghost use Rattle.scripts.specs.Going.{Goes, GoesOn, IsAsked};
+ghost use Rattle.scripts.specs.Scripts.{Cancels};
 
 use crate::Store;
 use calls::CallName;
 use cluster::{Step, What};
-use lines::Handling;
 use std::alloc::AllocError;
 
 // Whether the call is the one that is asked for.
@@ -36,7 +36,7 @@ pub(crate) fn go<S: Store>(
     each: usize,
     out: &mut Vec<u8>,
 ) -> Result<Option<What>, AllocError>
-    ensures goes { IfOk result (λ told. Goes S.takes S.next_call slot until store.old told store.new) }
+    ensures goes { IfOk result (λ told. Goes S.takes S.nexts slot until store.old told store.new) }
     ensures same { out.new.items ≡ out.old.items }
     ensures capacity { vec_capacity out.old ≤ vec_capacity out.new }
 {
@@ -58,30 +58,13 @@ pub(crate) fn cancel<S: Store>(
     store: &mut S,
     slot: usize,
     out: &mut Vec<u8>,
-) -> Result<Option<What>, AllocError>
-    ensures moves { IfOk result (λ told. Moves S.takes S.next_call Handling.Cancel slot store.old told store.new) }
+) -> Result<(), AllocError>
+    ensures cancels { OnOk result (Cancels S.takes S.nexts slot store.old store.new) }
     ensures same { out.new.items ≡ out.old.items }
     ensures capacity { vec_capacity out.old ≤ vec_capacity out.new }
 {
-    let _ = store.take(Step::Cancel(slot))?;
-    go(store, slot, None, 0, out)
-}
-
-/// The flow in the slot makes the calls that are asked for.
-pub(crate) fn go_on<S: Store>(
-    store: &mut S,
-    slot: usize,
-    handling: Handling,
-    out: &mut Vec<u8>,
-) -> Result<Option<What>, AllocError>
-    ensures moves { IfOk result (λ told. Moves S.takes S.next_call handling slot store.old told store.new) }
-    ensures same { out.new.items ≡ out.old.items }
-    ensures capacity { vec_capacity out.old ≤ vec_capacity out.new }
-{
-    match handling {
-        Handling::Turn => store.take(Step::Turn(slot)),
-        Handling::Until(call) => go(store, slot, Some(call), 0, out),
-        Handling::Run => go(store, slot, None, 0, out),
-        Handling::Cancel => cancel(store, slot, out),
-    }
+    // Nothing is told of either.
+    let _told = store.take(Step::Cancel(slot))?;
+    let _end = go(store, slot, None, 0, out)?;
+    Ok(())
 }

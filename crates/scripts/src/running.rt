@@ -1,18 +1,26 @@
 // A store, and the flows that run in it under names.
-ghost use Rattle.std.specs.Prelude.{◌≡◌, ◌≤◌, ◌<◌, ◌++◌, [], List, ℕ, OnOk, OnErr, length, vec_capacity};
-ghost use Rattle.scripts.specs.Scripts.{CarriesOut, Starts};
+ghost use Rattle.std.specs.Prelude.{◌≡◌, ◌<◌, ◌≤◌, ◌++◌, [], List, ℕ, IfErr, IfOk, OnOk, OnErr, Option, length, vec_capacity};
 ghost use Rattle.std.specs.List.{remove};
+ghost use Rattle.cluster.specs.declared.event.What.{What as AnyWhat};
+ghost use Rattle.cluster.specs.declared.step.Step.TheVariants as any_step;
+ghost use Rattle.lines.specs.Causes.{Cause};
+ghost use Rattle.lines.specs.Lines.{Spells};
+ghost use Rattle.scripts.specs.Asking as spec;
+ghost use Rattle.scripts.specs.Scripts.{CarriesOut, Handles, IsAmong, KeepsFlows, Shows, Starts, Tells, TellsCancel};
+ghost use Rattle.scripts.specs.Telling.{set_line, told_text};
 
 use crate::Store;
 use crate::asking::{care_of, node_of, request_of};
-use crate::going::go_on;
+use crate::going::{cancel, go};
 use crate::printing::print_told;
 use crate::serving::{print_unbegun, serve};
+use calls::NodeName;
 use cluster::{Step, What};
 use lines::{Command, Failure, Handling, Name};
 use printed::Printed;
 use std::alloc::{AllocError, Global};
 use std::marker::Model;
+use tuples::Refusal;
 
 // Room for what became of one write that was in doubt. A flow that finds out makes a call for each.
 const RESOLVED: usize = 80;
@@ -59,7 +67,7 @@ impl<S: Store> Running<S> {
         first: Step,
         out: &mut Vec<u8>,
     ) -> Result<(), AllocError>
-        ensures ok { OnOk result ((text : List ℕ) × Starts S.takes id name first self.old text self.new × (out.new.items ≡ out.old.items ++ text)) }
+        ensures ok { OnOk result ((text : List ℕ) × Starts S.takes S.nexts id name first self.old text self.new × (out.new.items ≡ out.old.items ++ text)) }
         ensures err { OnErr result (out.new.items ≡ out.old.items) }
         ensures capacity { vec_capacity out.old ≤ vec_capacity out.new }
     {
@@ -94,21 +102,26 @@ impl<S: Store> Running<S> {
         out: &mut Vec<u8>,
     ) -> Result<(), AllocError>
         requires { flow < length self.old.names }
+        ensures same { self.new.store ≡ self.old.store }
+        ensures ok { OnOk result ((text : List ℕ) × Tells S.takes S.nexts id flow told self.old text self.new × (out.new.items ≡ out.old.items ++ text)) }
+        ensures err { OnErr result (out.new.items ≡ out.old.items) }
+        ensures capacity { vec_capacity out.old ≤ vec_capacity out.new }
     {
-        let next = self.store.next(self.slots[flow]);
-        let told = match next {
-            Some(call) => Some(What::Next(call)),
-            None => told,
-        };
-        let printed = print_told(id, told, out);
-        if next.is_none() {
-            self.forget(flow);
+        match self.store.next(self.slots[flow]) {
+            Some(call) => Printed::Next(call.name().as_bytes()).write_to(id, out),
+            None => {
+                self.forget(flow);
+                print_told(id, told, out)
+            }
         }
-        printed
     }
 
     fn tell_cancelled(&mut self, id: u64, flow: usize, out: &mut Vec<u8>) -> Result<(), AllocError>
         requires { flow < length self.old.names }
+        ensures same { self.new.store ≡ self.old.store }
+        ensures ok { OnOk result ((text : List ℕ) × TellsCancel flow self.old text self.new × (out.new.items ≡ out.old.items ++ text)) }
+        ensures err { OnErr result (out.new.items ≡ out.old.items) }
+        ensures capacity { vec_capacity out.old ≤ vec_capacity out.new }
     {
         let printed = Printed::Cancelled(self.names[flow].as_bytes()).write_to(id, out);
         self.forget(flow);
@@ -123,35 +136,75 @@ impl<S: Store> Running<S> {
         out: &mut Vec<u8>,
     ) -> Result<(), AllocError>
         requires { flow < length self.old.names }
+        ensures ok { OnOk result ((text : List ℕ) × Handles S.takes S.nexts id flow handling self.old text self.new × (out.new.items ≡ out.old.items ++ text)) }
+        ensures err { OnErr result (out.new.items ≡ out.old.items) }
+        ensures capacity { vec_capacity out.old ≤ vec_capacity out.new }
     {
-        let told = go_on(&mut self.store, self.slots[flow], handling, out)?;
+        let slot = self.slots[flow];
         match handling {
-            Handling::Cancel => self.tell_cancelled(id, flow, out),
-            _ => self.tell(id, flow, told, out),
+            Handling::Turn => {
+                let told = self.store.take(Step::Turn(slot))?;
+                self.tell(id, flow, told, out)
+            }
+            Handling::Until(call) => {
+                let told = go(&mut self.store, slot, Some(call), 0, out)?;
+                self.tell(id, flow, told, out)
+            }
+            Handling::Run => {
+                let told = go(&mut self.store, slot, None, 0, out)?;
+                self.tell(id, flow, told, out)
+            }
+            Handling::Cancel => {
+                cancel(&mut self.store, slot, out)?;
+                self.tell_cancelled(id, flow, out)
+            }
         }
     }
 
-    fn rows(&self, id: u64, shard: u8, out: &mut Vec<u8>) -> Result<(), AllocError> {
+    fn rows(&self, id: u64, shard: u8, out: &mut Vec<u8>) -> Result<(), AllocError>
+        ensures ok { OnOk result ((text : List ℕ) × Shows S.shows shard self.now.store text × (out.new.items ≡ out.old.items ++ text)) }
+        ensures err { OnErr result (out.new.items ≡ out.old.items) }
+        ensures capacity { vec_capacity out.old ≤ vec_capacity out.new }
+    {
         match self.store.rows(shard) {
             Ok(versions) => Printed::Versions(&versions).write_to(id, out),
             Err(refusal) => Printed::Refused(refusal).write_to(id, out),
         }
     }
 
-    fn restart(
-        &mut self,
-        id: u64,
-        node: lines::NodeName,
-        out: &mut Vec<u8>,
-    ) -> Result<(), AllocError> {
-        let told = self.store.take(Step::Restart(node_of(node)))?;
+    fn restart(&mut self, id: u64, node: NodeName, out: &mut Vec<u8>) -> Result<(), AllocError>
+        ensures ok { OnOk result ((told : Option AnyWhat) × S.takes self.old.store (any_step.Restart node) told self.new.store × (out.new.items ≡ out.old.items ++ told_text id told)) }
+        ensures flows { KeepsFlows self.old self.new }
+        ensures err { OnErr result (out.new.items ≡ out.old.items) }
+        ensures capacity { vec_capacity out.old ≤ vec_capacity out.new }
+    {
+        let told = self.store.take(Step::Restart(node))?;
         print_told(id, told, out)
     }
 
-    fn fail(&mut self, id: u64, failure: Failure, out: &mut Vec<u8>) -> Result<(), AllocError> {
+    fn fail(&mut self, id: u64, failure: Failure, out: &mut Vec<u8>) -> Result<(), AllocError>
+        ensures ok { OnOk result (S.sets self.old.store (spec.node_of failure.node) failure.bank failure.n failure.tear self.new.store × (out.new.items ≡ out.old.items ++ set_line)) }
+        ensures flows { KeepsFlows self.old self.new }
+        ensures err { OnErr result (out.new.items ≡ out.old.items) }
+        ensures capacity { vec_capacity out.old ≤ vec_capacity out.new }
+    {
         Printed::Set.write_to(id, out)?;
         self.store.fail(node_of(failure.node), failure.bank, failure.n, failure.tear);
         Ok(())
+    }
+
+    /// What the line asks for, at the store with this id and so many shards.
+    pub(crate) fn parse(
+        &self,
+        alloc: Global,
+        id: u64,
+        shards: u8,
+        line: &[u8],
+    ) -> Result<Command, Refusal>
+        ensures ok { IfOk result (Spells id shards self.now.names line.now) }
+        ensures err { IfErr result (Cause id shards self.now.names line.now) }
+    {
+        Command::parse(alloc, line, id, shards, &self.names)
     }
 
     /// Carries the command out at the store with this id, and prints what it tells. Where memory is refused nothing is printed.
@@ -160,33 +213,29 @@ impl<S: Store> Running<S> {
         id: u64,
         command: Command,
         out: &mut Vec<u8>,
-    ) -> Result<(), AllocError> {
+    ) -> Result<(), AllocError>
+        requires { IsAmong command (length self.old.names) }
+        ensures ok { OnOk result ((text : List ℕ) × CarriesOut S.takes S.nexts S.shows S.sets id command self.old text self.new × (out.new.items ≡ out.old.items ++ text)) }
+        ensures err { OnErr result (out.new.items ≡ out.old.items) }
+        ensures capacity { vec_capacity out.old ≤ vec_capacity out.new }
+    {
         match command {
             Command::Pass => Ok(()),
             Command::Ask(request) => {
-                serve(
-                    &mut self.store,
-                    id,
-                    Step::Start(request_of(request)),
-                    0,
-                    out,
-                )
+                let step = Step::Start(request_of(request));
+                serve(&mut self.store, id, step, 0, out)
             }
             Command::Care(care) => {
-                serve(
-                    &mut self.store,
-                    id,
-                    Step::Care(care_of(care)),
-                    RESOLVED,
-                    out,
-                )
+                let step = Step::Care(care_of(care));
+                serve(&mut self.store, id, step, RESOLVED, out)
             }
             Command::Start(name, request) => {
-                self.start(id, name, Step::Start(request_of(request)), out)
+                let step = Step::Start(request_of(request));
+                self.start(id, name, step, out)
             }
             Command::Handle(flow, handling) => self.handle(id, flow, handling, out),
             Command::Rows(shard) => self.rows(id, shard, out),
-            Command::Restart(node) => self.restart(id, node, out),
+            Command::Restart(node) => self.restart(id, node_of(node), out),
             Command::Fail(failure) => self.fail(id, failure, out),
         }
     }

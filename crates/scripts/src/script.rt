@@ -1,6 +1,9 @@
 // What each line of a script does with a store.
-ghost use Rattle.std.specs.Prelude.{◌≡◌, ◌++◌, [], List, ℕ, OnOk, OnErr};
-ghost use Rattle.scripts.specs.Scripts.{Answers};
+ghost use Rattle.std.specs.Prelude.{◌≡◌, ◌≤◌, ◌+◌, ◌⊎◌, ◌++◌, [], List, ℕ, IfErr, IfOk, OnErr, OnOk, length, vec_capacity, vec_len};
+ghost use Rattle.lines.specs.Causes.{Cause};
+ghost use Rattle.lines.specs.Lines.{Spells};
+ghost use Rattle.printed.specs.Texts.{refusal_line};
+ghost use Rattle.scripts.specs.Scripts.{Answers, CarriesOut, IsAmong};
 
 use crate::Store;
 use crate::running::Running;
@@ -45,18 +48,64 @@ impl<S: Store> Script<S> {
 
     /// Carries out one line, and appends what it prints. An `Err` is for want of memory, and then nothing was done.
     pub fn line(&mut self, line: &[u8], out: &mut Vec<u8>) -> Result<(), AllocError>
-        ensures ok { OnOk result ((text : List ℕ) × Answers S.takes S.next_call S.shows S.sets line.now self.old text self.new × (out.new.items ≡ out.old.items ++ text)) }
+        ensures ok { OnOk result ((text : List ℕ) × Answers S.takes S.nexts S.shows S.sets line.now self.old text self.new × (out.new.items ≡ out.old.items ++ text)) }
         ensures err { OnErr result ((self.new ≡ self.old) × (out.new.items ≡ out.old.items)) }
     {
         out.reserve(ROOM)?;
-        let parsed = Command::parse(self.alloc, line, self.id, self.shards, &self.running.names);
-        let refusal = match parsed {
-            Err(refusal) => refusal,
-            Ok(command) => match self.running.carry_out(self.id, command, out) {
-                Ok(()) => return Ok(()),
-                Err(AllocError) => Refusal::NoMemory,
-            },
-        };
-        Printed::Refused(refusal).write_to(self.id, out)
+        self.answer(line, out);
+        Ok(())
+    }
+
+    // What the line asks for.
+    fn parse(&self, line: &[u8]) -> Result<Command, Refusal>
+        ensures ok { IfOk result (Spells self.now.id self.now.shards self.now.running.names line.now) }
+        ensures err { IfErr result (Cause self.now.id self.now.shards self.now.running.names line.now) }
+    {
+        self.running.parse(self.alloc, self.id, self.shards, line)
+    }
+
+    fn carry_out(&mut self, command: Command, out: &mut Vec<u8>) -> Result<(), AllocError>
+        requires { IsAmong command (length self.old.running.names) }
+        ensures same { (self.new.id ≡ self.old.id) × (self.new.shards ≡ self.old.shards) }
+        ensures ok { OnOk result ((text : List ℕ) × CarriesOut S.takes S.nexts S.shows S.sets self.old.id command self.old.running text self.new.running × (out.new.items ≡ out.old.items ++ text)) }
+        ensures err { OnErr result (out.new.items ≡ out.old.items) }
+        ensures capacity { vec_capacity out.old ≤ vec_capacity out.new }
+    {
+        self.running.carry_out(self.id, command, out)
+    }
+
+    // Carries the command out, or tells that memory was refused.
+    fn try_out(&mut self, command: Command, out: &mut Vec<u8>)
+        requires among { IsAmong command (length self.old.running.names) }
+        requires room { vec_len out.old + 128 ≤ vec_capacity out.old }
+        ensures same { (self.new.id ≡ self.old.id) × (self.new.shards ≡ self.old.shards) }
+        ensures told { (text : List ℕ) × (CarriesOut S.takes S.nexts S.shows S.sets self.old.id command self.old.running text self.new.running ⊎ (text ≡ refusal_line Refusal.NoMemory)) × (out.new.items ≡ out.old.items ++ text) }
+    {
+        match self.carry_out(command, out) {
+            Ok(()) => {}
+            Err(AllocError) => refuse(Refusal::NoMemory, out),
+        }
+    }
+
+    fn answer(&mut self, line: &[u8], out: &mut Vec<u8>)
+        requires { vec_len out.old + 128 ≤ vec_capacity out.old }
+        ensures { (text : List ℕ) × Answers S.takes S.nexts S.shows S.sets line.now self.old text self.new × (out.new.items ≡ out.old.items ++ text) }
+    {
+        match self.parse(line) {
+            Err(refusal) => refuse(refusal, out),
+            Ok(command) => self.try_out(command, out),
+        }
+    }
+}
+
+// Prints a refusal, for which the room is there.
+fn refuse(refusal: Refusal, out: &mut Vec<u8>)
+    requires { vec_len out.old + 128 ≤ vec_capacity out.old }
+    ensures { out.new.items ≡ out.old.items ++ refusal_line refusal }
+{
+    // It tells no place, so it is the same at every store.
+    match Printed::Refused(refusal).write_to(0, out) {
+        Ok(()) => {}
+        Err(_) => unreachable!(),
     }
 }

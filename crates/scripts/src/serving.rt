@@ -1,7 +1,6 @@
 // A flow without a name, which begins and ends within its line.
-ghost use Rattle.std.specs.Prelude.{◌≡◌, ◌≤◌, ◌++◌, List, ℕ, None, OnOk, OnErr, vec_capacity};
+ghost use Rattle.std.specs.Prelude.{◌≡◌, ◌≤◌, ◌++◌, List, ℕ, None, Option, OnOk, OnErr, vec_capacity};
 ghost use Rattle.cluster.specs.declared.event.What.{What as AnyWhat};
-ghost use Rattle.std.specs.Prelude.{Option};
 ghost use Rattle.scripts.specs.Going.{Goes};
 ghost use Rattle.scripts.specs.Scripts.{Ends, Serves, unbegun_text};
 ghost use Rattle.scripts.specs.Telling.{told_text};
@@ -38,7 +37,7 @@ fn run_out<S: Store>(
     each: usize,
     out: &mut Vec<u8>,
 ) -> Result<(), AllocError>
-    ensures ok { OnOk result ((end : Option AnyWhat) × Goes S.takes S.next_call slot None store.old end store.new × (out.new.items ≡ out.old.items ++ told_text id end)) }
+    ensures ok { OnOk result ((end : Option AnyWhat) × Goes S.takes S.nexts slot None store.old end store.new × (out.new.items ≡ out.old.items ++ told_text id end)) }
     ensures err { OnErr result (out.new.items ≡ out.old.items) }
     ensures capacity { vec_capacity out.old ≤ vec_capacity out.new }
 {
@@ -59,7 +58,7 @@ fn end<S: Store>(
     each: usize,
     out: &mut Vec<u8>,
 ) -> Result<(), AllocError>
-    ensures ok { OnOk result ((text : List ℕ) × Ends S.takes S.next_call id told store.old text store.new × (out.new.items ≡ out.old.items ++ text)) }
+    ensures ok { OnOk result ((text : List ℕ) × Ends S.takes S.nexts id told store.old text store.new × (out.new.items ≡ out.old.items ++ text)) }
     ensures err { OnErr result (out.new.items ≡ out.old.items) }
     ensures capacity { vec_capacity out.old ≤ vec_capacity out.new }
 {
@@ -77,7 +76,7 @@ pub(crate) fn serve<S: Store>(
     each: usize,
     out: &mut Vec<u8>,
 ) -> Result<(), AllocError>
-    ensures ok { OnOk result ((text : List ℕ) × Serves S.takes S.next_call id first store.old text store.new × (out.new.items ≡ out.old.items ++ text)) }
+    ensures ok { OnOk result ((text : List ℕ) × Serves S.takes S.nexts id first store.old text store.new × (out.new.items ≡ out.old.items ++ text)) }
     ensures err { OnErr result (out.new.items ≡ out.old.items) }
     ensures capacity { vec_capacity out.old ≤ vec_capacity out.new }
 {

@@ -1,6 +1,4 @@
 // A cluster that takes its steps one at a time.
-ghost use Rattle.std.specs.Prelude.{Option, Some, None};
-
 use crate::Store;
 use calls::{CallName, NodeName};
 use cluster::{Event, Step, What, World, run};
@@ -27,7 +25,7 @@ impl<D: Device> Stepping<D> {
 impl<D: Device> Store for Stepping<D> {
     ghost takes = { λ old step told new. Unit {0} };
 
-    ghost next_call = { λ s slot. None };
+    ghost nexts = { λ s slot next. Unit {0} };
 
     ghost shows = { λ s shard result. Unit {0} };
 

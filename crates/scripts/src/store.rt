@@ -1,5 +1,5 @@
 // What takes the steps of a script.
-ghost use Rattle.std.specs.Prelude.{◌≡◌, ℕ, Option, Result, IfOk};
+ghost use Rattle.std.specs.Prelude.{ℕ, Option, Result, IfOk};
 ghost use Rattle.std.specs.Global.{Vec as AnyVec};
 ghost use Rattle.calls.specs.declared.call.NodeName.{NodeName as AnyNode};
 ghost use Rattle.calls.specs.declared.call_name.CallName.{CallName as AnyCall};
@@ -22,8 +22,8 @@ pub trait Store: Drop {
     /// It may take this step, which tells this, and is then that.
     ghost takes: { Self → AnyStep → Option AnyWhat → Self → Type 0 };
 
-    /// The next call of the flow in a slot.
-    ghost next_call: { Self → ℕ → Option AnyCall };
+    /// The flow in a slot may have this next call, or none.
+    ghost nexts: { Self → ℕ → Option AnyCall → Type 0 };
 
     /// The versions that a shard may show.
     ghost shows: { Self → ℕ → Result (AnyVec AnyVersion) AnyRefusal → Type 0 };
@@ -36,7 +36,7 @@ pub trait Store: Drop {
         ensures { IfOk result (λ told. takes self.old step told self.new) };
 
     fn next(&self, slot: usize) -> Option<CallName>
-        ensures { result ≡ next_call self.now slot };
+        ensures { nexts self.now slot result };
 
     fn rows(&self, shard: u8) -> Result<Vec<Version>, Refusal>
         ensures { shows self.now shard result };

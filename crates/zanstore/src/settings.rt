@@ -1,4 +1,7 @@
 // The command line.
+ghost use Rattle.std.specs.Prelude.{◌≤◌};
+ghost use Rattle.records.specs.Identity.{max_shards};
+
 use clap::{Arg, ArgAction, Command, Error, value_parser};
 use std::alloc::Global;
 
@@ -9,7 +12,12 @@ pub struct Settings {
     pub store: u64,
     /// The number of shards, from 1 to 64.
     pub shards: u8,
+    ghost some: { 1 ≤ shards },
+    ghost few: { shards ≤ max_shards },
 }
+
+// The most shards of a store.
+const MAX_SHARDS: u8 = 64;
 
 fn command<'a>(alloc: Global) -> Result<Command<'a>, Error> {
     let store = Arg::new(alloc, "store")

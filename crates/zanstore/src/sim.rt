@@ -1,4 +1,7 @@
 // Scripts from a reader, over disks in memory.
+ghost use Rattle.std.specs.Prelude.{◌≡◌, ◌≤◌, ◌+◌, ◌*◌, IfOk, vec_len};
+ghost use Rattle.records.specs.Identity.{max_shards};
+
 use crate::input::{Input, read_line};
 use cluster::reopen;
 use device::SimDisk;
@@ -13,15 +16,26 @@ use tuples::Refusal;
 const NO_MEMORY: &[u8] = b"refused 14 NoMemory\n";
 
 // Two empty disks for each node of a store of so many shards.
-fn disks(alloc: Global, shards: u8) -> Result<Vec<SimDisk>, AllocError> {
-    let mut disks = Vec::with_capacity(alloc, 2 * (shards as usize + 1))?;
-    for _ in 0..2 * (shards as usize + 1) {
-        let Ok(disk) = SimDisk::new(alloc, Vec::new(alloc)) else {
-            return Err(AllocError);
-        };
-        disks.push_reserved(disk);
+fn disks(alloc: Global, shards: u8) -> Result<Vec<SimDisk>, AllocError>
+    ensures { IfOk result (λ disks. vec_len disks ≡ 2 * (shards + 1)) }
+{
+    let count = 2 * (shards as usize + 1);
+    let mut disks = Vec::with_capacity(alloc, count)?;
+    for _ in 0..count {
+        disks.push_reserved(SimDisk::new(alloc, Vec::new(alloc))?);
     }
     Ok(disks)
+}
+
+// A store of so many shards over empty disks.
+fn open(alloc: Global, store: u64, shards: u8) -> Result<Stepping<SimDisk>, AllocError>
+    requires some { 1 ≤ shards }
+    requires few { shards ≤ max_shards }
+{
+    match reopen(alloc, disks(alloc, shards)?, store, shards) {
+        Ok(world) => Stepping::new(alloc, world),
+        Err(_) => Err(AllocError),
+    }
 }
 
 /// Runs a script over a store of 1 to 64 shards on disks in memory: each line is answered before the next is read. The status is 0 at the
@@ -32,14 +46,11 @@ pub fn sim<R: BufRead, W: Write>(
     shards: u8,
     reader: &mut R,
     writer: &mut W,
-) -> u8 {
-    let Ok(disks) = disks(alloc, shards) else {
-        return 1;
-    };
-    let Ok(world) = reopen(alloc, disks, store, shards) else {
-        return 1;
-    };
-    let Ok(stepping) = Stepping::new(alloc, world) else {
+) -> u8
+    requires some { 1 ≤ shards }
+    requires few { shards ≤ max_shards }
+{
+    let Ok(stepping) = open(alloc, store, shards) else {
         return 1;
     };
     let mut script = Script::new(alloc, store, shards, stepping);

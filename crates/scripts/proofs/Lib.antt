@@ -1,0 +1,3 @@
+mod Short
+mod Among
+mod Within
