@@ -1,3 +1,4 @@
 mod Short
 mod Among
 mod Within
+pub mod OneStep

@@ -1,4 +1,13 @@
 // A cluster that takes its steps one at a time.
+ghost use Rattle.std.specs.Prelude.{◌≡◌, Err, None, MatchOption};
+ghost use Rattle.calls.specs.Rows.{RowsOf};
+ghost use Rattle.calls.specs.declared.call.NodeName.TheVariants.{Shard as shard_name};
+ghost use Rattle.cluster.specs.Flows.{next_name_of};
+ghost use Rattle.cluster.specs.Nodes.{IsSetIn};
+ghost use Rattle.cluster.specs.Steps.{Takes};
+ghost use Rattle.cluster.specs.Worlds.{flow_at, node_at};
+ghost use Rattle.refusal.specs.declared.refusal.Refusal.TheVariants.{BadRequest};
+
 use crate::Store;
 use calls::{CallName, NodeName};
 use cluster::{Event, Step, What, World, run};
@@ -23,13 +32,15 @@ impl<D: Device> Stepping<D> {
 }
 
 impl<D: Device> Store for Stepping<D> {
-    ghost takes = { λ old step told new. Unit {0} };
+    ghost takes = { λ old step told new. Takes D.state D.honest D.moment D.left_since old.world step told new.world };
 
-    ghost nexts = { λ s slot next. Unit {0} };
+    ghost nexts = { λ s slot next. MatchOption (flow_at s.world.flows slot) (next ≡ None) (λ flow. next ≡ next_name_of flow) };
 
-    ghost shows = { λ s shard result. Unit {0} };
+    ghost shows = { λ s shard result. MatchOption (node_at s.world.nodes (shard_name shard)) (result ≡ Err BadRequest) (λ node. RowsOf D.state D.honest node result) };
 
-    ghost sets = { λ old node bank n tear new. Unit {0} };
+    ghost sets = { λ old name bank n tear new. MatchOption (node_at old.world.nodes name) (new.world.nodes ≡ old.world.nodes)
+        (λ was. IsSetIn D.set_to_fail D.state D.honest D.moment D.left_since bank n tear old.world.nodes name was new.world.nodes)
+        × (new.world ≡ record old.world { nodes = new.world.nodes }) };
 
     fn take(&mut self, step: Step) -> Result<Option<What>, AllocError> {
         let steps = [step];
