@@ -1,5 +1,7 @@
 // Cares of the nodes: which calls they make, and what they leave to the writes behind them.
-use crate::plays::Step::{self, Care as Tend, Fail as Strike, Restart, Run, Start, Turn};
+use crate::plays::Step::{
+    self, Care as Tend, CareAcross, Fail as Strike, Restart, Run, Start, Turn,
+};
 use crate::plays::played;
 use calls::NodeName::{Coordinator, Shard};
 use care_flow::Care;
@@ -95,6 +97,81 @@ fn a_write_whose_coordinator_went_away_is_resolved(rt: HostRuntime) -> Result<()
             "begin c, learned 0, stage_prepare 0, learned 1, stage_prepare 1, vote 0, flush 0, vote 0, vote 1, flush 1, vote 1, \
              in_doubt 0, inquire c, drop_write 0, abort 1.1, done; in_doubt 1, inquire c, drop_write 1, abort 1.1, done; \
              decide c, inquire c, drop_write 0, drop_write 1, refused Aborted; ",
+        ),
+    ];
+    for (steps, wanted) in rows {
+        let log = played(rt.alloc(), steps)?;
+        assert!(rt; log.as_str() == wanted, "{log}");
+    }
+    Ok(())
+}
+
+#[test]
+fn a_shard_that_is_gone_keeps_the_write_in_doubt(rt: HostRuntime) -> Result<(), Fail> {
+    let rows = [
+        // It goes down between the verdict and the drop, and is resolved behind its next opening.
+        (
+            [
+                Start(A),
+                Turn(0, 6),
+                Restart(Coordinator),
+                Strike(Shard(1), 1, Tear::Old),
+                CareAcross(Care::Resolve(1), 2, Shard(1)),
+                Restart(Shard(1)),
+                Tend(Care::Resolve(1)),
+            ]
+            .as_slice(),
+            "begin c, learned 1, stage_prepare 1, vote 1, flush 1, vote 1, in_doubt 1, inquire c, drop_write 1, refused Down; \
+             in_doubt 1, inquire c, drop_write 1, abort 1.1, done; ",
+        ),
+        // It is opened again behind the drop, which no flush had made durable: the write is in doubt once more.
+        (
+            [
+                Start(A),
+                Turn(0, 6),
+                Restart(Coordinator),
+                Tend(Care::Resolve(1)),
+                Restart(Shard(1)),
+                Tend(Care::Resolve(1)),
+            ]
+            .as_slice(),
+            "begin c, learned 1, stage_prepare 1, vote 1, flush 1, vote 1, in_doubt 1, inquire c, drop_write 1, abort 1.1, done; \
+             in_doubt 1, inquire c, drop_write 1, abort 1.1, done; ",
+        ),
+    ];
+    for (steps, wanted) in rows {
+        let log = played(rt.alloc(), steps)?;
+        assert!(rt; log.as_str() == wanted, "{log}");
+    }
+    Ok(())
+}
+
+#[test]
+fn a_raise_goes_on_over_a_shard_that_was_opened_again(rt: HostRuntime) -> Result<(), Fail> {
+    let rows = [
+        // Before the flush it has lost what it had learned, and settles too little: it is caught up once more.
+        (
+            [
+                Start(A),
+                Turn(0, 64),
+                CareAcross(Care::Raise(1), 5, Shard(0)),
+            ]
+            .as_slice(),
+            "begin c, learned 1, stage_prepare 1, vote 1, flush 1, vote 1, decide c, outcome c, flush c, outcome c, \
+             heads c, learned 0, batch c, learn 0, learned 0, flush 0, settle 0, learned 0, batch c, learn 0, learned 0, flush 0, settle 0, \
+             learned 1, batch c, learn 1, learned 1, flush 1, settle 1, raise c, flush c, done; ",
+        ),
+        // Behind it what it settled stays so.
+        (
+            [
+                Start(A),
+                Turn(0, 64),
+                CareAcross(Care::Raise(1), 7, Shard(0)),
+            ]
+            .as_slice(),
+            "begin c, learned 1, stage_prepare 1, vote 1, flush 1, vote 1, decide c, outcome c, flush c, outcome c, \
+             heads c, learned 0, batch c, learn 0, learned 0, flush 0, settle 0, \
+             learned 1, batch c, learn 1, learned 1, flush 1, settle 1, raise c, flush c, done; ",
         ),
     ];
     for (steps, wanted) in rows {

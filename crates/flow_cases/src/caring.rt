@@ -3,7 +3,6 @@ ghost use Rattle.std.specs.Prelude.{◌≡◌, true, IfSome};
 ghost use Rattle.care_flow.specs.Cares.{IsThere, begun};
 
 use crate::call_names::Named;
-use crate::plays::MOST_TURNS;
 use crate::stores::{SHARDS, Store};
 use calls::{NodeName, Told};
 use care_flow::{Care, CareFlow};
@@ -47,16 +46,18 @@ fn turn<D: Device>(flow: &mut CareFlow, store: &mut Store<D>, told: &mut Told) -
     Some(named)
 }
 
-/// Turns it to its end, and logs its calls. One that is not at its end behind so many turns has none.
+/// Makes so many of its calls, and logs them; fewer where it ends before.
 pub(crate) fn turn_all<D: Device>(
     flow: &mut CareFlow,
+    turns: usize,
     store: &mut Store<D>,
     told: &mut Told,
     log: &mut String,
 ) -> Result<(), AllocError>
     requires { IsThere 2 flow.old }
+    ensures { IsThere 2 flow.new }
 {
-    for _turn in 0..MOST_TURNS {
+    for _turn in 0..turns {
         match turn(flow, store, told) {
             Some(named) => named.write_to(log)?,
             None => return Ok(()),

@@ -1,14 +1,14 @@
 // A group of as many usersets as a check walks, and of one more.
 use crate::checking::Checking;
+use crate::plays::write_of;
 use crate::stores::{Store, new_disks};
 use crate::turning::Turning;
 use answer_flow::{CheckEnd, Freshness};
 use calls::Told;
 use device::Device;
-use script::Command;
 use std::alloc::{AllocError, Global};
 use std::test::Fail;
-use tuples::{Refusal, Write};
+use tuples::Refusal;
 
 /// More calls than any flow here makes.
 const MOST_TURNS: usize = 20_000;
@@ -41,13 +41,6 @@ fn groups_line(alloc: Global, write: u16) -> Result<Vec<u8>, AllocError> {
         push_group(&mut line, write % WRITES * GROUPS + group)?;
     }
     Ok(line)
-}
-
-fn write_of(alloc: Global, line: &[u8]) -> Result<Write, Refusal> {
-    match Command::parse(alloc, line)? {
-        Command::WriteAll(write) => Ok(write),
-        _ => Err(Refusal::BadRequest),
-    }
 }
 
 /// A store with the large group.

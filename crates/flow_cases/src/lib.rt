@@ -22,6 +22,8 @@ mod large_groups;
 #[cfg(test)]
 mod logging;
 #[cfg(test)]
+mod one_shard;
+#[cfg(test)]
 mod plays;
 #[cfg(test)]
 mod reading;

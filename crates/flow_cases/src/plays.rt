@@ -7,7 +7,7 @@ use crate::stores::{Store, new_disks};
 use crate::turning::Turning;
 use crate::watching::{self, begin_watch};
 use crate::wide_writes::wide_line;
-use answer_flow::Freshness;
+use answer_flow::{Freshness, WatchFlow};
 use calls::{CoordinatorCall, NodeCall, NodeName, ShardCall, Told};
 use care_flow::Care;
 use commit_flow::WriteEnd;
@@ -36,8 +36,16 @@ pub(crate) enum Step {
     Run(usize),
     /// A care goes to its end.
     Care(Care),
+    /// Such a care makes so many calls; then the node is opened again, and the care goes to its end.
+    CareAcross(Care, usize, NodeName),
     /// A watch of `doc` behind a place, of so many places, goes to its end.
     Watch(u64, u64),
+    /// Such a watch is begun. It makes no call yet.
+    StartWatch(u64, u64),
+    /// The watch that was begun last makes so many calls.
+    TurnWatch(usize),
+    /// The watch that was begun last goes to its end.
+    RunWatch,
     /// A read of the tuplesets of these texts goes to its end.
     Read(Freshness, &'static str),
     /// Such a read is begun. It makes no call yet.
@@ -64,7 +72,8 @@ pub(crate) enum Step {
     Fail(NodeName, u64, Tear),
 }
 
-fn write_of(alloc: Global, line: &[u8]) -> Result<Write, Refusal> {
+/// The write of this line in a script.
+pub(crate) fn write_of(alloc: Global, line: &[u8]) -> Result<Write, Refusal> {
     match Command::parse(alloc, line)? {
         Command::WriteAll(write) => Ok(write),
         _ => Err(Refusal::BadRequest),
@@ -75,6 +84,7 @@ fn write_of(alloc: Global, line: &[u8]) -> Result<Write, Refusal> {
 pub(crate) struct Playing<D: Device> {
     store: Store<D>,
     flows: Vec<Turning>,
+    watches: Vec<WatchFlow>,
     reads: Vec<Reading>,
     checks: Vec<Checking>,
     told: Told,
@@ -157,14 +167,75 @@ impl<D: Device> Playing<D> {
         let Some(mut flow) = begin_care(alloc, care) else {
             return Err(Refusal::BadRequest);
         };
-        caring::turn_all(&mut flow, &mut self.store, &mut self.told, &mut self.log)?;
+        caring::turn_all(
+            &mut flow,
+            MOST_TURNS,
+            &mut self.store,
+            &mut self.told,
+            &mut self.log,
+        )?;
         log_care(&mut self.log, flow.finish())
     }
 
+    fn care_across(
+        &mut self,
+        alloc: Global,
+        care: Care,
+        turns: usize,
+        node: NodeName,
+    ) -> Result<(), Refusal> {
+        let Some(mut flow) = begin_care(alloc, care) else {
+            return Err(Refusal::BadRequest);
+        };
+        caring::turn_all(
+            &mut flow,
+            turns,
+            &mut self.store,
+            &mut self.told,
+            &mut self.log,
+        )?;
+        self.store.restart(node);
+        caring::turn_all(
+            &mut flow,
+            MOST_TURNS,
+            &mut self.store,
+            &mut self.told,
+            &mut self.log,
+        )?;
+        log_care(&mut self.log, flow.finish())
+    }
+
+    fn start_watch(&mut self, alloc: Global, cursor: u64, limit: u64) -> Result<(), Refusal> {
+        self.watches.reserve(1)?;
+        let watch = begin_watch(alloc, cursor, limit)?;
+        self.watches.push_reserved(watch);
+        Ok(())
+    }
+
+    fn turn_watch(&mut self, turns: usize) -> Result<(), Refusal> {
+        let Some(watch) = self.watches.last_mut() else {
+            return Err(Refusal::BadRequest);
+        };
+        for _ in 0..turns {
+            match watching::turn(watch, &mut self.store, &mut self.told) {
+                Some(named) => named.write_to(&mut self.log)?,
+                None => return Ok(()),
+            }
+        }
+        Ok(())
+    }
+
+    fn run_watch(&mut self) -> Result<(), Refusal> {
+        self.turn_watch(MOST_TURNS)?;
+        let Some(watch) = self.watches.pop() else {
+            return Err(Refusal::BadRequest);
+        };
+        log_watch(&mut self.log, watch.finish())
+    }
+
     fn watch(&mut self, alloc: Global, cursor: u64, limit: u64) -> Result<(), Refusal> {
-        let mut flow = begin_watch(alloc, cursor, limit)?;
-        watching::turn_all(&mut flow, &mut self.store, &mut self.told, &mut self.log)?;
-        log_watch(&mut self.log, flow.finish())
+        self.start_watch(alloc, cursor, limit)?;
+        self.run_watch()
     }
 
     fn start_read(
@@ -266,7 +337,11 @@ impl<D: Device> Playing<D> {
             Step::Turn(flow, turns) => self.turn(flow, turns),
             Step::Run(flow) => self.run(flow),
             Step::Care(care) => self.care(alloc, care),
+            Step::CareAcross(care, turns, node) => self.care_across(alloc, care, turns, node),
             Step::Watch(cursor, limit) => self.watch(alloc, cursor, limit),
+            Step::StartWatch(cursor, limit) => self.start_watch(alloc, cursor, limit),
+            Step::TurnWatch(turns) => self.turn_watch(turns),
+            Step::RunWatch => self.run_watch(),
             Step::Read(freshness, texts) => self.read(alloc, freshness, texts.as_bytes()),
             Step::StartRead(freshness, texts) => {
                 self.start_read(alloc, freshness, texts.as_bytes())
@@ -316,6 +391,7 @@ fn play<D: Device>(alloc: Global, devices: Vec<D>, steps: &[Step]) -> Result<Str
     let mut playing = Playing {
         store,
         flows: Vec::new(alloc),
+        watches: Vec::new(alloc),
         reads: Vec::new(alloc),
         checks: Vec::new(alloc),
         told: Told::new(),
@@ -325,6 +401,7 @@ fn play<D: Device>(alloc: Global, devices: Vec<D>, steps: &[Step]) -> Result<Str
     let Playing {
         store: _,
         flows,
+        watches: _,
         reads: _,
         checks: _,
         told: _,

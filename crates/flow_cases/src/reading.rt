@@ -10,8 +10,8 @@ use script::Command;
 use std::alloc::Global;
 use tuples::{Refusal, Tupleset};
 
-// The tuplesets of these texts, which a space parts.
-fn sets_of(alloc: Global, texts: &[u8]) -> Result<Vec<Tupleset>, Refusal> {
+/// The tuplesets of these texts, which a space parts.
+pub(crate) fn sets_of(alloc: Global, texts: &[u8]) -> Result<Vec<Tupleset>, Refusal> {
     let mut line = Vec::new(alloc);
     line.extend_from_slice(b"read latest ")?;
     line.extend_from_slice(texts)?;

@@ -1,5 +1,6 @@
-// Stores of two shards over disks in memory.
+// Stores of two shards over disks in memory, and what stores of any number of them are made of.
 ghost use Rattle.std.specs.Prelude.{◌≤◌, ◌<◌};
+ghost use Rattle.records.specs.Identity.{max_shards};
 ghost use Rattle.calls.specs.Belonging.{IsOwed, IsReplyTo};
 
 use calls::{Node, NodeCall, NodeName, Reply, Told, ask, refuse};
@@ -39,21 +40,26 @@ pub(crate) fn new_disks(alloc: Global, count: usize) -> Result<Vec<SimDisk>, Ref
     Ok(disks)
 }
 
-fn two_of<D: Device>(devices: &mut Vec<D>) -> Result<(D, D), Refusal> {
+/// The devices of one node.
+pub(crate) fn two_of<D: Device>(devices: &mut Vec<D>) -> Result<(D, D), Refusal> {
     match (devices.pop(), devices.pop()) {
         (Some(a), Some(b)) => Ok((a, b)),
         _ => Err(Refusal::Full),
     }
 }
 
-fn open_coordinator<D: Device>(alloc: Global, a: D, b: D) -> Node<D> {
-    Node::open_coordinator(alloc, a, b, Identity::coordinator(STORE, SHARDS))
+/// The coordinator of a store of so many shards.
+pub(crate) fn open_coordinator<D: Device>(alloc: Global, a: D, b: D, shards: u8) -> Node<D>
+    requires { (1 ≤ shards) × (shards ≤ max_shards) }
+{
+    Node::open_coordinator(alloc, a, b, Identity::coordinator(STORE, shards))
 }
 
-fn open_shard<D: Device>(alloc: Global, a: D, b: D, shard: u8) -> Node<D>
-    requires { shard < 2 }
+/// One of so many shards.
+pub(crate) fn open_shard<D: Device>(alloc: Global, a: D, b: D, shards: u8, shard: u8) -> Node<D>
+    requires { (shard < shards) × (shards ≤ max_shards) }
 {
-    Node::open_shard(alloc, a, b, Identity::shard(STORE, SHARDS, shard))
+    Node::open_shard(alloc, a, b, Identity::shard(STORE, shards, shard))
 }
 
 // What its devices are found with.
@@ -64,14 +70,19 @@ fn revived<D: Device>(node: Node<D>) -> (D, D) {
     (a, b)
 }
 
-// Makes the call at a node, where it is the one that is named.
-fn ask_at<D: Device>(node: &mut Option<Node<D>>, call: NodeCall, told: &mut Told) -> Reply
-    requires { IsOwed 2 call }
+/// Makes the call at a node of a store of so many shards, where it is the one that is named.
+pub(crate) fn ask_at<D: Device>(
+    node: &mut Option<Node<D>>,
+    shards: u8,
+    call: NodeCall,
+    told: &mut Told,
+) -> Reply
+    requires { IsOwed shards call }
     ensures { IsReplyTo call result }
 {
     match node {
         Some(node) => {
-            if node.is_node(SHARDS, call.node()) {
+            if node.is_node(shards, call.node()) {
                 return ask(node, call, told);
             }
             refuse(Refusal::Damaged, call)
@@ -84,11 +95,11 @@ impl<D: Device> Store<D> {
     /// Over these devices, two for each node.
     pub(crate) fn open(alloc: Global, mut devices: Vec<D>) -> Result<Store<D>, Refusal> {
         let (a, b) = two_of(&mut devices)?;
-        let coordinator = open_coordinator(alloc, a, b);
+        let coordinator = open_coordinator(alloc, a, b, SHARDS);
         let (a, b) = two_of(&mut devices)?;
-        let first = open_shard(alloc, a, b, 0);
+        let first = open_shard(alloc, a, b, SHARDS, 0);
         let (a, b) = two_of(&mut devices)?;
-        let second = open_shard(alloc, a, b, 1);
+        let second = open_shard(alloc, a, b, SHARDS, 1);
         Ok(Store {
             alloc,
             coordinator: Some(coordinator),
@@ -103,9 +114,9 @@ impl<D: Device> Store<D> {
         ensures { IsReplyTo call result }
     {
         match call.node() {
-            NodeName::Coordinator => ask_at(&mut self.coordinator, call, told),
-            NodeName::Shard(0) => ask_at(&mut self.first, call, told),
-            NodeName::Shard(_) => ask_at(&mut self.second, call, told),
+            NodeName::Coordinator => ask_at(&mut self.coordinator, SHARDS, call, told),
+            NodeName::Shard(0) => ask_at(&mut self.first, SHARDS, call, told),
+            NodeName::Shard(_) => ask_at(&mut self.second, SHARDS, call, told),
         }
     }
 
@@ -127,19 +138,19 @@ impl<D: Device> Store<D> {
             NodeName::Coordinator => {
                 if let Some(node) = self.coordinator.take() {
                     let (a, b) = revived(node);
-                    self.coordinator = Some(open_coordinator(self.alloc, a, b));
+                    self.coordinator = Some(open_coordinator(self.alloc, a, b, SHARDS));
                 }
             }
             NodeName::Shard(0) => {
                 if let Some(node) = self.first.take() {
                     let (a, b) = revived(node);
-                    self.first = Some(open_shard(self.alloc, a, b, 0));
+                    self.first = Some(open_shard(self.alloc, a, b, SHARDS, 0));
                 }
             }
             NodeName::Shard(_) => {
                 if let Some(node) = self.second.take() {
                     let (a, b) = revived(node);
-                    self.second = Some(open_shard(self.alloc, a, b, 1));
+                    self.second = Some(open_shard(self.alloc, a, b, SHARDS, 1));
                 }
             }
         }

@@ -1,5 +1,7 @@
 // Watches by their cursor: which calls they make, and which events they list.
-use crate::plays::Step::{self, Care as Tend, Start, Turn, Watch, Write};
+use crate::plays::Step::{
+    self, Care as Tend, RunWatch, Start, StartWatch, Turn, TurnWatch, Watch, Write,
+};
 use crate::plays::played;
 use care_flow::Care;
 use std::test::Fail;
@@ -57,6 +59,19 @@ fn a_watch_goes_on_from_its_cursor(rt: HostRuntime) -> Result<(), Fail> {
             [Write(TOUCH), Tend(Care::Raise(1)), Watch(0, 1), Watch(1, 1)].as_slice(),
             "heads c, learned 0, batch c, learn 0, learned 0, flush 0, settle 0, learned 1, batch c, learn 1, learned 1, flush 1, settle 1, \
              raise c, flush c, done; heads c, refused Collected; heads c, batch c, heartbeat 1; ",
+        ),
+        // And so it is where the horizon rises behind the heads.
+        (
+            [
+                Write(TOUCH),
+                StartWatch(0, 1),
+                TurnWatch(1),
+                Tend(Care::Raise(1)),
+                RunWatch,
+            ]
+            .as_slice(),
+            "heads c, heads c, learned 0, batch c, learn 0, learned 0, flush 0, settle 0, learned 1, batch c, learn 1, learned 1, flush 1, settle 1, \
+             raise c, flush c, done; batch c, refused Collected; ",
         ),
     ];
     for (steps, wanted) in rows {

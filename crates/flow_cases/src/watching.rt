@@ -1,11 +1,10 @@
 // Watches of a store, turn by turn.
 use crate::call_names::Named;
-use crate::plays::MOST_TURNS;
 use crate::stores::Store;
 use answer_flow::WatchFlow;
 use calls::Told;
 use device::Device;
-use std::alloc::{AllocError, Global};
+use std::alloc::Global;
 use tuples::{Namespace, Refusal};
 
 /// A watch of the objects named `doc`.
@@ -19,28 +18,16 @@ pub(crate) fn begin_watch(alloc: Global, cursor: u64, limit: u64) -> Result<Watc
     Ok(WatchFlow::new(alloc, cursor, limit, namespaces))
 }
 
-// Makes its next call, and gives it the reply; none where it has ended.
-fn turn<D: Device>(flow: &mut WatchFlow, store: &mut Store<D>, told: &mut Told) -> Option<Named> {
+/// Makes its next call, and gives it the reply; none where it has ended.
+pub(crate) fn turn<D: Device>(
+    flow: &mut WatchFlow,
+    store: &mut Store<D>,
+    told: &mut Told,
+) -> Option<Named> {
     let name = flow.next_name()?;
     let call = flow.next_call()?;
     let named = Named::new(name, call.node());
     let reply = store.ask(call, told);
     flow.give(reply);
     Some(named)
-}
-
-/// Turns it to its end, and logs its calls. One that is not at its end behind so many turns has none.
-pub(crate) fn turn_all<D: Device>(
-    flow: &mut WatchFlow,
-    store: &mut Store<D>,
-    told: &mut Told,
-    log: &mut String,
-) -> Result<(), AllocError> {
-    for _turn in 0..MOST_TURNS {
-        match turn(flow, store, told) {
-            Some(named) => named.write_to(log)?,
-            None => return Ok(()),
-        }
-    }
-    Ok(())
 }
