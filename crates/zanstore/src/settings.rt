@@ -46,6 +46,20 @@ fn command<'a>(alloc: Global) -> Result<Command<'a>, Error> {
     )
 }
 
+// The parser lets no other through, but its contract does not say so.
+fn within(shards: u8) -> u8
+    ensures some { 1 ≤ result }
+    ensures few { result ≤ max_shards }
+{
+    if shards < 1 {
+        return 1;
+    }
+    if shards > MAX_SHARDS {
+        return MAX_SHARDS;
+    }
+    shards
+}
+
 impl Settings {
     /// Reads the words of a command line, the name of the program first. The error's text is for the user.
     pub fn read<'a>(alloc: Global, words: &'a [String]) -> Result<Settings, Error> {
@@ -59,7 +73,7 @@ impl Settings {
                 settings.store = store;
             }
             if let Some(shards) = sim.get_one::<u8>("shards") {
-                settings.shards = shards;
+                settings.shards = within(shards);
             }
         }
         Ok(settings)
