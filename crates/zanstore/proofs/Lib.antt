@@ -1,0 +1,10 @@
+mod Keeping
+mod Running
+mod Learning
+mod Writes
+mod Selections
+mod Beginnings
+mod Applying
+mod Preparing
+mod Conditions
+mod Causes
