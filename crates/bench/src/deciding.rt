@@ -58,7 +58,7 @@ pub(crate) fn measure(
     Ok(())
 }
 
-fn new_shard<D: Device>(alloc: Global, a: D, b: D) -> Result<Shard<D>, Refusal> {
+pub(crate) fn new_shard<D: Device>(alloc: Global, a: D, b: D) -> Result<Shard<D>, Refusal> {
     match Shard::open(alloc, a, b, Identity::shard(STORE, 1, 0)) {
         Ok(shard) => Ok(shard),
         Err(refused) => Err(refused.refusal),
@@ -245,7 +245,7 @@ fn decide_all<D: Device>(
     Ok(())
 }
 
-fn decide<D: Device>(
+pub(crate) fn decide<D: Device>(
     coordinator: &mut Coordinator<D>,
     intent: Intent,
     votes: Vec<Vote>,

@@ -1,7 +1,10 @@
 // What can be measured.
 use crate::latest::Way;
 use crate::lines::Kind;
-use crate::{codec, crowd, deciding, doubts, flush, latest, lines, openings, pairs, rows, texts};
+use crate::{
+    codec, crowd, deciding, doubts, flush, latest, lines, openings, pairs, prepares, rows,
+    shard_openings, texts,
+};
 use std::alloc::Global;
 use std::rt::Clock;
 use std::sync::Wait;
@@ -20,6 +23,8 @@ pub(crate) enum Measure {
     Versions(u32),
     /// So many writes in doubt, and one more that is held and released.
     Holds(u32),
+    /// So many writes in doubt at a shard, beside which others are prepared and learned.
+    Prepares(u32),
     /// So many plain users of a userset, beside ten usersets, of which a check asks.
     Crowd(u32),
     /// So many groups of writes, begun and decided by a coordinator.
@@ -28,6 +33,10 @@ pub(crate) enum Measure {
     Log(u32),
     /// The same, and a coordinator opened over it.
     Opening(u32),
+    /// The records of so many writes at a shard, made.
+    Records(u32),
+    /// The same, and a shard opened over them.
+    ShardOpening(u32),
     /// So many lines of a session, of one kind, answered over memory.
     Lines(Kind, u32),
     /// Looks at the safe place.
@@ -73,10 +82,13 @@ impl Measure {
             "flush" => Some(Measure::Flush(u16::try_from(count).ok()?)),
             "versions" => Some(Measure::Versions(count)),
             "holds" => Some(Measure::Holds(count)),
+            "prepares" => Some(Measure::Prepares(count)),
             "crowd" => Some(Measure::Crowd(count)),
             "decisions" => Some(Measure::Decisions(count)),
             "log" => Some(Measure::Log(count)),
             "opening" => Some(Measure::Opening(count)),
+            "records" => Some(Measure::Records(count)),
+            "shard-opening" => Some(Measure::ShardOpening(count)),
             "lines-write" => Some(Measure::Lines(Kind::Write, count)),
             "lines-read" => Some(Measure::Lines(Kind::Read, count)),
             "lines-check" => Some(Measure::Lines(Kind::Check, count)),
@@ -99,10 +111,13 @@ impl Measure {
             Measure::Flush(count) => flush::measure(rt, alloc, count)?,
             Measure::Versions(rows) => rows::measure(rt, alloc, rows)?,
             Measure::Holds(writes) => doubts::measure(rt, alloc, writes)?,
+            Measure::Prepares(in_doubt) => prepares::measure(rt, alloc, in_doubt)?,
             Measure::Crowd(users) => crowd::measure(rt, alloc, users)?,
             Measure::Decisions(groups) => deciding::measure(rt, alloc, groups)?,
             Measure::Log(decisions) => openings::log(rt, alloc, decisions)?,
             Measure::Opening(decisions) => openings::opening(rt, alloc, decisions)?,
+            Measure::Records(writes) => shard_openings::records(rt, alloc, writes)?,
+            Measure::ShardOpening(writes) => shard_openings::opening(rt, alloc, writes)?,
             Measure::Lines(kind, count) => lines::measure(rt, alloc, kind, count)?,
             Measure::LatestByOne(way) => latest::by_one(rt, alloc, way)?,
             Measure::LatestByFour(way) => latest::by_four(rt, alloc, way)?,

@@ -76,7 +76,7 @@ fn opened<D: Device>(
     })
 }
 
-fn new_journal<D: Device>(alloc: Global, a: D, b: D) -> Result<Journal<D>, Refusal> {
+pub(crate) fn new_journal<D: Device>(alloc: Global, a: D, b: D) -> Result<Journal<D>, Refusal> {
     match Journal::open(alloc, a, b) {
         Ok((journal, _)) => Ok(journal),
         Err(refused) => Err(refused.refusal),
@@ -115,7 +115,7 @@ fn stage<D: Device>(journal: &mut Journal<D>, place: u64, entry: Entry) -> Resul
 }
 
 // The write with this number of the first epoch.
-fn entry(alloc: Global, number: u64) -> Result<Entry, Refusal>
+pub(crate) fn entry(alloc: Global, number: u64) -> Result<Entry, Refusal>
     requires some { 1 ≤ number }
     requires fits { number ≤ 4294967296 }
     ensures { IfOk result IsIntent }

@@ -15,9 +15,13 @@ const USERS: u32 = 10;
 // How often each read is done.
 const READS: u64 = 100;
 
-/// Applies so many rows, a write of one change each (`apply`), reads a key (`key`) and an object (`object`) of them, asks for the newest
-/// place of each tuple (`last`), and forgets half of the rows once each tuple was changed again (`collect`), and prints how long each took.
-/// What a read answers is how many tuples it found.
+// How many users the crowd has.
+const CROWD: u32 = 10_000;
+
+/// Applies so many rows, a write of one change each (`apply`), reads a key (`key`) and an object (`object`) of them, and with a crowd beside
+/// them the ten editors of what it views (`crowded`) and the ten objects of one user (`user`). Then it asks for the newest place of each
+/// tuple (`last`), and forgets half of the rows once each tuple was changed again (`collect`). It prints how long each took. What a read
+/// answers is how many tuples it found.
 pub(crate) fn measure(rt: &(impl Clock + Eprint), alloc: Global, rows: u32) -> anyhow::Result<()> {
     let changes = changes(alloc, rows)?;
     let mut versions = Versions::new(alloc);
@@ -34,6 +38,11 @@ pub(crate) fn measure(rt: &(impl Clock + Eprint), alloc: Global, rows: u32) -> a
     key.print(rt, "key")?;
     let object = read(rt, alloc, &versions, place, "doc:d5")?;
     object.print(rt, "object")?;
+    apply_all(&mut versions, place + 1, &crowd(alloc)?)?;
+    let crowded = read(rt, alloc, &versions, u64::MAX, "doc:crowd#editor")?;
+    crowded.print(rt, "crowded")?;
+    let user = read(rt, alloc, &versions, u64::MAX, "doc@me")?;
+    user.print(rt, "user")?;
     let start = Instant::now(rt)?;
     let last = Timing {
         amount: u64::from(rows),
@@ -111,12 +120,35 @@ fn changes(alloc: Global, rows: u32) -> Result<Vec<Change>, Refusal> {
     let mut changes = Vec::new(alloc);
     for row in 0..rows {
         let text = format!(in alloc; "doc:d{}#viewer@u{}", row / USERS, row % USERS)?;
-        let change = Change::Touch(Tuple::parse(alloc, text.as_bytes())?);
-        if let Err(error) = changes.push(change) {
-            return Err(AllocError::from(error).into());
-        }
+        touch(alloc, &mut changes, text.as_str())?;
     }
     Ok(changes)
+}
+
+// Touches by which many users view one object that ten of them edit, and by which one user views ten objects.
+fn crowd(alloc: Global) -> Result<Vec<Change>, Refusal> {
+    let mut changes = Vec::new(alloc);
+    for user in 0..CROWD {
+        let text = format!(in alloc; "doc:crowd#viewer@u{user}")?;
+        touch(alloc, &mut changes, text.as_str())?;
+    }
+    for user in 0..USERS {
+        let text = format!(in alloc; "doc:crowd#editor@u{user}")?;
+        touch(alloc, &mut changes, text.as_str())?;
+    }
+    for object in 0..USERS {
+        let text = format!(in alloc; "doc:m{object}#viewer@me")?;
+        touch(alloc, &mut changes, text.as_str())?;
+    }
+    Ok(changes)
+}
+
+fn touch(alloc: Global, changes: &mut Vec<Change>, text: &str) -> Result<(), Refusal> {
+    let change = Change::Touch(Tuple::parse(alloc, text.as_bytes())?);
+    match changes.push(change) {
+        Ok(()) => Ok(()),
+        Err(error) => Err(AllocError::from(error).into()),
+    }
 }
 
 // Each at a place of its own, from this one on.
