@@ -1,4 +1,3 @@
 mod Short
 mod Among
 mod Within
-pub mod OneStep

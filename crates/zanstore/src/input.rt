@@ -1,5 +1,5 @@
 // The lines of a script, as they are read.
-use script::MAX_LINE;
+use lines::MAX_LINE;
 use std::alloc::AllocError;
 use std::io;
 use std::io::BufRead;

@@ -1,25 +1,15 @@
-//! The program: a store of one shard over disks in memory, which runs scripts.
+//! The program: a store over disks in memory, which runs scripts.
 //!
-//! Keeps: what it acknowledged, whatever the disks leave.
-//! Never: answers what is not decided.
-//! Callers rely on: each line prints what its command means on the writes so far, or a refusal that changes nothing.
+//! Keeps: each line is answered before the next is read.
+//! Never: looks at what a line says; `scripts` carries it out.
+//! Callers rely on: the status, 0 at the end of the script.
 //!
-//! Start at `specs/Lines.antt`, what each line prints, and then `small.rt`.
+//! Start at `sim.rt`.
 #![tactic(auto)]
 
-mod catching_up;
-mod flushing;
-mod future;
 mod input;
-mod listing;
-mod node;
-mod opening;
-mod printing;
-mod reading;
 mod settings;
 mod sim;
-mod small;
-mod writing;
 
 use settings::Settings;
 use std::io::{BufReader, BufWriter};
@@ -51,5 +41,11 @@ fn main(rt: HostRuntime) -> ExitCode {
     ) else {
         return ExitCode::from(1);
     };
-    ExitCode::from(sim::sim(alloc, settings.store, &mut reader, &mut writer))
+    ExitCode::from(sim::sim(
+        alloc,
+        settings.store,
+        settings.shards,
+        &mut reader,
+        &mut writer,
+    ))
 }

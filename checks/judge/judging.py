@@ -1,0 +1,84 @@
+"""Judges what a script printed, line by line, by the definitions alone."""
+from judge.answering import Answers
+from judge.caring import Cares
+from judge.worlds import Flow, Write, must
+from judge.writes import Writes
+
+
+class Judge(Writes, Answers, Cares):
+    def __init__(self, store, shards):
+        self.store = store
+        self.shards = shards
+
+    # One line of a script.
+
+    def line(self, world, command, printed):
+        """The worlds that may be behind the line."""
+        world.line += 1
+        kind, *rest = command
+        if kind == "pass":
+            return [world]
+        if kind == "ask":
+            return self.ask(world, rest[0], printed)
+        if kind == "start":
+            self.is_printed(printed, f"started {rest[0]}")
+            self.begin(world, rest[0], rest[1])
+            return [world]
+        if kind in ("turn", "until", "run"):
+            return self.go_on(world, kind, rest, printed)
+        if kind == "cancel":
+            self.is_printed(printed, f"cancelled {rest[0]}")
+            return self.cancel(world, world.flows.pop(rest[0]))
+        return getattr(self, {"raise": "raise_to"}.get(kind, kind))(world, *rest, printed)
+
+    def begin(self, world, name, request):
+        flow = Write(request, world) if request[0] == "write" else Flow(request, world)
+        world.flows[name] = flow
+        if flow.kind == "write":
+            world.writes.append(flow)
+        return flow
+
+    def ask(self, world, request, printed):
+        # A flow that ends within its line: no other can have its name.
+        self.begin(world, "", request)
+        return self.go_on(world, "ask", [""], printed)
+
+    # Flows.
+
+    def go_on(self, world, kind, rest, printed):
+        name = rest[0]
+        flow = world.flows[name]
+        world.note_flow(flow)
+        number = self.refusal(printed)
+        if number is None and printed[0].startswith("next "):
+            call = printed[0][5:]
+            must(printed == ["next " + call] and kind in ("turn", "until"), "a call of a line that has an answer")
+            must(kind == "turn" or rest[1] == call, "another call than the one that was asked for")
+            if kind == "until" and flow.next == call:
+                return [world]
+            found = (self.write_goes_on if flow.kind == "write" else self.answer_goes_on)(world, flow, kind, call)
+        else:
+            found = self.write_ends(world, flow, kind, number, printed) if flow.kind == "write" else self.answer_ends(world, flow, number, printed)
+            for each in found:
+                self.end(each, name)
+        for each in found:
+            each.note()
+        return found
+
+    def end(self, world, name):
+        flow = world.flows.pop(name)
+        flow.ended = world.line
+        if flow.kind == "write":
+            flow.is_left = flow.stage == 4 and world.place(flow) is None or flow.is_unsure or flow.met_down or not world.is_up("c")
+
+    def cancel(self, world, flow):
+        world.flows[""] = flow
+        found = [world]
+        if flow.kind == "write" and flow.stage == 4 and not flow.is_unsure and world.kept < world.place(flow):
+            found = world.twin().fails("c") if world.nodes["c"].may_fail else []
+            world.keep()
+            found.append(world)
+        for each in found:
+            self.end(each, "")
+            each.note()
+        return found

@@ -1,0 +1,133 @@
+"""Which of the printed lines belong to which line of a script, and the judgement of them all."""
+import re
+
+from judge.judging import Judge
+from judge.lines import REFUSALS, Reader, Refused
+from judge.worlds import World, Wrong
+
+VERSION = re.compile(r"\d+ [+-]")
+ROW = re.compile(r"\d+ [a-z0-9_]")
+
+
+class Failed(Exception):
+    """The first line of a script whose answer is wrong."""
+
+    def __init__(self, number, line, printed, why):
+        super().__init__(f"line {number}: {line}\n  printed: {printed}\n  {why}")
+        self.number = number
+
+
+class Printed:
+    def __init__(self, lines):
+        self.lines = lines
+        self.at = 0
+
+    def one(self):
+        if self.at == len(self.lines):
+            raise Wrong("nothing more is printed")
+        self.at += 1
+        return self.lines[self.at - 1]
+
+    def while_like(self, shape):
+        begin = self.at
+        while self.at < len(self.lines) and shape.match(self.lines[self.at]):
+            self.at += 1
+        return self.lines[begin : self.at]
+
+    def up_to(self, last):
+        """Lines to the first that begins like this, or to a refusal."""
+        found = [self.one()]
+        while not found[-1].startswith((last, "refused ")):
+            found.append(self.one())
+        return found
+
+    def of_request(self, kind):
+        if kind == "watch":
+            return self.up_to("heartbeat ")
+        found = [self.one()]
+        if kind == "read" and found[0].startswith("at "):
+            found += self.while_like(ROW)
+        return found
+
+
+class Reading:
+    """Takes what each line printed, and knows which flows run."""
+
+    def __init__(self, store, shards, printed):
+        self.reader = Reader(store, shards)
+        self.printed = Printed(printed)
+        self.running = {}
+
+    def line(self, line):
+        """The command of the line, or none where it has to be refused and was; and what it printed."""
+        try:
+            command = self.reader.command(line, self.running)
+        except Refused as refused:
+            printed = [self.printed.one()]
+            if printed != [f"refused {refused.number} {REFUSALS[refused.number - 1]}"]:
+                raise Wrong(f"has to be refused with {refused.number}, and printed {printed}") from refused
+            return None, printed
+        return command, self.of_command(command)
+
+    def of_command(self, command):
+        kind, *rest = command
+        if kind == "pass":
+            return []
+        if kind == "ask":
+            return self.printed.of_request(rest[0][0])
+        if kind == "rows":
+            return self.printed.while_like(VERSION) or self.refused_rows()
+        if kind == "resolve":
+            return self.printed.up_to("done")
+        if kind == "start":
+            self.running[rest[0]] = rest[1][0]
+            return [self.printed.one()]
+        if kind in ("turn", "until", "run"):
+            return self.of_flow(rest[0])
+        if kind == "cancel":
+            del self.running[rest[0]]
+        return [self.printed.one()]
+
+    def refused_rows(self):
+        # A line that is refused for its shape stands behind each `rows` whose refusal could be taken for its own.
+        at = self.printed.at
+        if at < len(self.printed.lines) and self.printed.lines[at] == "refused 13 Down":
+            return [self.printed.one()]
+        return []
+
+    def of_flow(self, name):
+        at = self.printed.at
+        if at < len(self.printed.lines) and self.printed.lines[at].startswith("next "):
+            return [self.printed.one()]
+        return self.printed.of_request(self.running.pop(name))
+
+
+def judged(script, printed, store, shards):
+    """Judges what a script printed. Raises `Failed` at the first line whose answer no world has."""
+    judge = Judge(store, shards)
+    reading = Reading(store, shards, printed)
+    worlds = [World(shards)]
+    for number, line in enumerate(script, 1):
+        answer = None
+        try:
+            command, answer = reading.line(line)
+        except Wrong as wrong:
+            raise Failed(number, line, answer, wrong) from wrong
+        if command is not None:
+            worlds = behind(judge, worlds, command, answer, number, line)
+    if reading.printed.at != len(printed):
+        raise Failed(len(script), "the end", printed[reading.printed.at :], "more is printed than asked for")
+    return worlds
+
+
+def behind(judge, worlds, command, answer, number, line):
+    found, reasons = {}, []
+    for world in worlds:
+        try:
+            for each in judge.line(world, command, answer):
+                found[each.key()] = each
+        except Wrong as wrong:
+            reasons.append(str(wrong))
+    if not found:
+        raise Failed(number, line, answer, "; or ".join(dict.fromkeys(reasons)))
+    return list(found.values())

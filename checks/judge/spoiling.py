@@ -1,0 +1,108 @@
+"""Tests the judge: spoils what a script printed in one place, and asks that it is noticed."""
+import random
+import re
+from functools import partial
+
+from judge.lines import REFUSALS, token
+from judge.making import Maker
+from judge.reading import Failed, Reading, judged
+
+SPOILS = 24
+
+
+def refused(number):
+    return [f"refused {number} {REFUSALS[number - 1]}"]
+
+
+def shifted(text, store, by):
+    """The line with the place of its token shifted."""
+    for place in range(1, 400):
+        if token(store, place) in text:
+            return text.replace(token(store, place), token(store, place + by))
+    return None
+
+
+def without(lines, index):
+    return lines[:index] + lines[index + 1 :]
+
+
+def spoils(lines, store):
+    """Other answers in the place of this one, each with what is wrong with it."""
+    first, last = lines[0], lines[-1]
+    for by in (1, -1):
+        for index in {0, len(lines) - 1}:
+            text = shifted(lines[index], store, by)
+            if text:
+                yield "another place", lines[:index] + [text] + lines[index + 1 :]
+    if first.startswith("at "):
+        for index in range(1, len(lines)):
+            yield "a row is missing", without(lines, index)
+            yield "a row twice", lines[: index + 1] + lines[index:]
+            yield "a row of another user", lines[:index] + [lines[index] + "9"] + lines[index + 1 :]
+        for index in range(2, len(lines)):
+            yield "rows in another order", lines[: index - 1] + [lines[index], lines[index - 1]] + lines[index + 1 :]
+    if last.startswith("heartbeat "):
+        for index in range(len(lines) - 1):
+            yield "an event is missing", without(lines, index)
+            place, change = lines[index].split(" ")
+            yield "an event at another place", lines[:index] + [f"{int(place) + 1} {change}"] + lines[index + 1 :]
+            yield "an event of the other kind", lines[:index] + [f"{place} {'-' if change[0] == '+' else '+'}{change[1:]}"] + lines[index + 1 :]
+    if re.match(r"\d+ [+-]", first) and not last.startswith("heartbeat "):
+        places = [int(text.split(" ")[0]) for text in lines]
+        for index, text in enumerate(lines):
+            yield "a version at another place", lines[:index] + [f"{places[index] + 1} {text.split(' ')[1]}"] + lines[index + 1 :]
+            if places[index] < max(places):
+                yield "a version is missing", without(lines, index)
+    if first.startswith(("yes ", "no ")):
+        yield "the other membership", [first.replace("yes", "no") if first[0] == "y" else first.replace("no", "yes")]
+    if first.startswith(("ok ", "at ", "yes ", "no ")) or first in ("done", "up") or last.startswith("heartbeat "):
+        for number in (7, 8, 9, 10, 11, 12, 13, 14, 16):
+            yield "a refusal without its cause", refused(number)
+    if first.startswith("refused "):
+        for number in {7, 8, 9, 10, 11, 13} - {int(first.split(" ")[1])}:
+            yield "another refusal", refused(number)
+    if last == "done" and len(lines) > 1:
+        yield "another verdict", [first.replace("abort", "commit") if first.startswith("abort") else "abort " + first.split(" ")[1]] + lines[1:]
+    if first.startswith("next "):
+        yield "another call", ["next " + ("outcome" if first != "next outcome" else "vote")]
+
+
+def answers(maker, script, printed):
+    """Where the answer of each line begins among what was printed, and the answer."""
+    reading = Reading(maker.store, maker.shards, printed)
+    for line in script:
+        begin = reading.printed.at
+        _, answer = reading.line(line)
+        if answer and not answer[0].startswith(("started ", "cancelled ", "set", "refused 1 ")):
+            yield begin, answer
+
+
+def spoil_seed(printed_by, is_plain, seed):
+    """How many answers were spoiled, and which of them were not noticed."""
+    maker = Maker(seed, is_plain)
+    script = maker.script()
+    printed = printed_by(script, maker.store, maker.shards)
+    judged(script, printed, maker.store, maker.shards)
+    found = [(begin, answer, what, spoiled) for begin, answer in answers(maker, script, printed) for what, spoiled in spoils(answer, maker.store)]
+    chosen = random.Random(seed).sample(found, min(SPOILS, len(found)))
+    passed = []
+    for begin, answer, what, spoiled in chosen:
+        try:
+            judged(script, printed[:begin] + spoiled + printed[begin + len(answer) :], maker.store, maker.shards)
+            passed.append(f"seed {seed}: {what}: {spoiled} for {answer}")
+        except Failed:
+            pass
+    return len(chosen), passed
+
+
+def spoiled_scripts(pool, seeds, printed_by):
+    """Where nothing fails and no flow has a name, each spoiled answer has to be noticed; else more than one may be right."""
+    status = 0
+    for is_plain, name, most in ((True, "of plain scripts", 0), (False, "of others", 0.05)):
+        found = list(pool.map(partial(spoil_seed, printed_by, is_plain), seeds))
+        count, passed = sum(count for count, _ in found), [text for _, texts in found for text in texts]
+        print(f"spoiled answers {name}: {count}, {len(passed)} not noticed")
+        if len(passed) > most * count or count == 0:
+            print("\n".join(passed[:5]))
+            status = 1
+    return status
