@@ -3,6 +3,7 @@ use Rattle.std.specs.Prelude.{◌≡◌, ◌≢◌, ◌⊎◌, ◌≤◌, ◌<�
 use Rattle.records.specs.Replays.{greatest_number}
 use Rattle.device.specs.Device.{State}
 use Rattle.decisions.specs.Values.{max_batch}
+pub use Rattle.calls.specs.Fitting.{FitsItsTypes}
 use Rattle.calls.specs.Views as views
 use Rattle.calls.specs.Views.{NodeView, devices_of}
 use Rattle.calls.specs.declared.call.NodeName as names
@@ -48,19 +49,6 @@ abbrev pub KeepsMemory : {D : Type 0} → NodeView D → Store D → Store D →
 KeepsMemory (views.coordinator v) old new = Unit {0}
 KeepsMemory (views.shard v) old new = (new.open_ids ≡ old.open_ids) × (new.given ≡ old.given)
 KeepsMemory (views.refused e a b) old new = (new.open_ids ≡ old.open_ids) × (new.given ≡ old.given)
-
--- What a call carries fits its types: a batch has no more decisions than one may have, and their places are numbers; and so is a horizon.
-abbrev pub FitsCoordinator : CoordinatorCall → Type 0
-FitsCoordinator (Raise place settled) = place < 2 ^ 64
-FitsCoordinator call = Unit {0}
-
-abbrev pub FitsShard : ShardCall → Type 0
-FitsShard (Learn b) = (length b.writes ≤ max_batch) × (b.from + length b.writes ≤ greatest_number)
-FitsShard call = Unit {0}
-
-abbrev pub FitsItsTypes : NodeCall → Type 0
-FitsItsTypes (Coordinator call) = FitsCoordinator call
-FitsItsTypes (Shard s call) = FitsShard call
 
 -- The store has this id and so many shards.
 module _ (store shards : ℕ) where

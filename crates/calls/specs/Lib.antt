@@ -9,3 +9,4 @@ pub mod Opening
 pub mod Belonging
 pub mod Failing
 pub mod Rows
+pub mod Fitting

@@ -13,6 +13,7 @@
 mod asking;
 mod call;
 mod call_name;
+mod fitting;
 mod node;
 mod reply;
 mod told;

@@ -5,7 +5,8 @@ ghost use Rattle.calls.specs.Belonging.{IsNodeOf};
 ghost use Rattle.calls.specs.Failing.{NodeIsSet};
 ghost use Rattle.calls.specs.Opening.{CoordinatorOpens, ShardOpens, refusal_of};
 ghost use Rattle.calls.specs.Rows.{RowsOf};
-ghost use Rattle.calls.specs.Views.{devices_of};
+ghost use Rattle.calls.specs.Views.{devices_of, refused};
+ghost use Rattle.refusal.specs.declared.refusal.Refusal.TheVariants.{Down};
 
 use crate::NodeName;
 use coordinator::Coordinator;
@@ -81,6 +82,21 @@ impl<D: Device> Node<D> {
                 me,
                 opened: Opened::Refused(refused),
             },
+        }
+    }
+
+    /// A node that is not opened, since one of its devices failed as it was revived: its opening counts as refused with `Down`.
+    pub fn stay_down(alloc: Global, a: D, b: D, me: Identity) -> Node<D>
+        ensures { result ≡ refused Down a b }
+    {
+        Node {
+            alloc,
+            me,
+            opened: Opened::Refused(Refused {
+                refusal: Refusal::Down,
+                a,
+                b,
+            }),
         }
     }
 

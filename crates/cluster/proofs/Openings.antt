@@ -2,7 +2,7 @@
 use Rattle.std.proofs.Common.{◌≡◌, ◌+◌, ◌*◌, ◌≤◌, ◌++◌, ◌∙◌, ℕ, suc, List, [], ◌∷◌, length, refl, sym, ap, subst, append_assoc, append-nil, arith}
 use Rattle.device.specs.Device.{State}
 use Rattle.calls.specs.Views.{NodeView}
-use Rattle.cluster.specs.Nodes.{Opens}
+use Rattle.cluster.specs.Nodes.{Reopened}
 use Rattle.calls.specs.declared.call.NodeName.{NodeName}
 use Rattle.calls.specs.declared.call.NodeName.TheVariants.{Coordinator, Shard}
 use Rattle.cluster.specs.Openings.{AreOpened, OpensNext, name_at}
@@ -13,11 +13,11 @@ none_left (x ∷ xs) is = absurd (omega (arith, is))
 
 module _ {D : Type 0} (state : D → State) (honest : D → Type 0) (moment : D → ℕ) (left_since : D → ℕ → List ℕ → Type 0) (store shards : ℕ) where
   pub one_more : (place at : ℕ) (devices : List D) (nodes : List (NodeView D)) (a b : D) (is : NodeView D)
-      → AreOpened state honest moment left_since store shards place devices nodes → at ≡ place + length nodes → Opens state honest moment left_since store shards (name_at at) a b is
+      → AreOpened state honest moment left_since store shards place devices nodes → at ≡ place + length nodes → Reopened state honest moment left_since store shards (name_at at) a b is
       → AreOpened state honest moment left_since store shards place (devices ++ a ∷ b ∷ []) (nodes ++ is ∷ [])
   one_more place at [] [] a b is all e opens =
       let here : at ≡ place = omega (arith, e) in
-      (subst (λ (n : ℕ). Opens state honest moment left_since store shards (name_at n) a b is) here opens, tt)
+      (subst (λ (n : ℕ). Reopened state honest moment left_since store shards (name_at n) a b is) here opens, tt)
   one_more place at (x ∷ y ∷ devices) (node ∷ nodes) a b is all e opens =
       let later : at ≡ suc place + length nodes = omega (arith, e) in
       (all.0, one_more (suc place) at devices nodes a b is all.1 later opens)
@@ -35,7 +35,7 @@ module _ {D : Type 0} (state : D → State) (honest : D → Type 0) (moment : D 
   pub next : (all left : List D) (nodes : List (NodeView D)) (name : NodeName) (later : List D) (later_nodes : List (NodeView D))
       → SoFar all left nodes → name ≡ name_at (length nodes) → OpensNext state honest moment left_since store shards name left nodes later later_nodes → SoFar all later later_nodes
   next all left nodes name later later_nodes so is o =
-      let opens = subst (λ (n : NodeName). Opens state honest moment left_since store shards n o.a o.b o.is) is o.opens in
+      let opens = subst (λ (n : NodeName). Reopened state honest moment left_since store shards n o.a o.b o.is) is o.opens in
       let opened = one_more 0 (length nodes) so.taken nodes o.a o.b o.is so.opened (omega arith) opens in
       record {
         taken = so.taken ++ o.a ∷ o.b ∷ [];

@@ -2,7 +2,7 @@
 use Rattle.std.specs.Prelude.{◌≡◌, ◌⊎◌, ◌↔◌, ◌≤◌, ℕ, List, Option, Some, None, MatchOption, slice_get, slice_set}
 use Rattle.records.specs.Identity.{Identity, coordinator_number}
 use Rattle.device.specs.Device.{Elapses, Failed, Keeps, Revived, State, left}
-use Rattle.refusal.specs.declared.refusal.Refusal.TheVariants.{Damaged}
+use Rattle.refusal.specs.declared.refusal.Refusal.TheVariants.{Damaged, Down}
 use Rattle.calls.specs.Asking.{Answered, Refuses}
 use Rattle.device.specs.declared.tear.Tear.{Tear}
 use Rattle.journal.specs.declared.refused.Bank.{Bank}
@@ -10,7 +10,7 @@ use Rattle.calls.specs.Belonging.{IsNodeOf}
 use Rattle.calls.specs.Failing.{NodeIsSet}
 use Rattle.calls.specs.Names.{node_of}
 use Rattle.calls.specs.Opening.{CoordinatorOpens, ShardOpens}
-use Rattle.calls.specs.Views.{NodeView, devices_of}
+use Rattle.calls.specs.Views.{NodeView, refused}
 use Rattle.calls.specs.declared.call.NodeCall.{NodeCall}
 use Rattle.calls.specs.declared.call.NodeName.{NodeName}
 use Rattle.calls.specs.declared.call.NodeName.TheVariants.{Coordinator, Shard}
@@ -49,13 +49,17 @@ module _ {D : Type 0} (state : D → State) (honest : D → Type 0) (moment : D 
   Opens store shards Coordinator a b is = CoordinatorOpens state honest moment left_since a b (identity_of store shards Coordinator) is
   Opens store shards (Shard s) a b is = ShardOpens state honest moment left_since a b (identity_of store shards (Shard s)) is
 
-  -- A node was opened again: both of its devices were revived, and it was opened over them.
-  pub record Reopened (store shards : ℕ) (name : NodeName) (was is : NodeView D) : Type 0 where
+  -- what a stop may have left of it was found
+  abbrev pub IsFound : D → D → Type 0
+  IsFound old new = (honest old → Revived (state old) (state new)) × ((state new).failures ≡ (state old).failures)
+
+  -- A node was opened over two devices that were revived; or one of them failed once more, and it is not opened.
+  pub record Reopened (store shards : ℕ) (name : NodeName) (old_a old_b : D) (is : NodeView D) : Type 0 where
     pub a : D
     pub b : D
-    pub revived_a : IsRevived (devices_of was).0 a
-    pub revived_b : IsRevived (devices_of was).1 b
-    pub opens : Opens store shards name a b is
+    pub revived_a : IsRevived old_a a
+    pub revived_b : IsRevived old_b b
+    pub opens : (IsFound old_a a × IsFound old_b b × Opens store shards name a b is) ⊎ ((is ≡ refused Down a b) × (Failed (state old_a) (state a) ⊎ Failed (state old_b) (state b)))
 
 -- the script of one device of the node of this name is set, and no other node has changed
 pub record IsSetIn {D : Type 0} (set : D → ℕ → Tear → Type 0) (state : D → State) (honest : D → Type 0) (moment : D → ℕ) (left_since : D → ℕ → List ℕ → Type 0) (bank : Bank) (n : ℕ) (tear : Tear)

@@ -4,7 +4,7 @@ use Rattle.device.specs.Device.{State}
 use Rattle.calls.specs.Views.{NodeView}
 use Rattle.calls.specs.declared.call.NodeName.{NodeName}
 use Rattle.calls.specs.declared.call.NodeName.TheVariants.{Coordinator, Shard}
-use Rattle.cluster.specs.Nodes.{Opens}
+use Rattle.cluster.specs.Nodes.{Reopened}
 use Rattle.cluster.specs.Worlds.{WorldView}
 
 -- the node that stands at a place among the nodes
@@ -13,10 +13,10 @@ name_at zero = Coordinator
 name_at (suc s) = Shard s
 
 module _ {D : Type 0} (state : D → State) (honest : D → Type 0) (moment : D → ℕ) (left_since : D → ℕ → List ℕ → Type 0) (store shards : ℕ) where
-  -- these nodes, the first of which stands at a place, were opened, each over the next two of these devices
+  -- these nodes, the first of which stands at a place, were opened, each over the next two of these devices, which were revived
   abbrev pub AreOpened : ℕ → List D → List (NodeView D) → Type 0
   AreOpened place [] [] = Unit {0}
-  AreOpened place (a ∷ b ∷ devices) (is ∷ nodes) = Opens state honest moment left_since store shards (name_at place) a b is × AreOpened (suc place) devices nodes
+  AreOpened place (a ∷ b ∷ devices) (is ∷ nodes) = Reopened state honest moment left_since store shards (name_at place) a b is × AreOpened (suc place) devices nodes
   AreOpened place devices nodes = ⊥
 
   -- the node of this name was opened over the next two of these devices, and stands behind the others
@@ -24,7 +24,7 @@ module _ {D : Type 0} (state : D → State) (honest : D → Type 0) (moment : D 
     pub a : D
     pub b : D
     pub is : NodeView D
-    pub opens : Opens state honest moment left_since store shards name a b is
+    pub opens : Reopened state honest moment left_since store shards name a b is
     pub devices_are : old ≡ a ∷ b ∷ new
     pub nodes_are : new_nodes ≡ old_nodes ++ is ∷ []
 

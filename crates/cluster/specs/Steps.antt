@@ -4,7 +4,7 @@ use Rattle.refusal.specs.declared.refusal.Refusal.{Refusal}
 use Rattle.refusal.specs.declared.refusal.Refusal.TheVariants.{Full}
 use Rattle.device.specs.Device.{State}
 use Rattle.calls.specs.Opening.{refusal_of}
-use Rattle.calls.specs.Views.{NodeView}
+use Rattle.calls.specs.Views.{NodeView, devices_of}
 use Rattle.calls.specs.declared.call.NodeName.{NodeName}
 use Rattle.calls.specs.declared.call_name.CallName.{CallName}
 use Rattle.care_flow.specs.declared.care.Care.{Care}
@@ -99,7 +99,7 @@ module _ {D : Type 0} (state : D → State) (honest : D → Type 0) (moment : D 
   -- the node of this name is opened again, which is told, and no other has changed
   pub record SlotRestarts (store shards : ℕ) (old : List (NodeView D)) (name : NodeName) (was : NodeView D) (told : Option What) (new : List (NodeView D)) : Type 0 where
     pub is : NodeView D
-    pub reopened : Reopened state honest moment left_since store shards name was is
+    pub reopened : Reopened state honest moment left_since store shards name (devices_of was).0 (devices_of was).1 is
     pub new_is : new ≡ slice_set old (index_of name) is
     pub tells : told ≡ Some (told_of_opening (refusal_of is))
 

@@ -5,6 +5,7 @@ use Rattle.answer_flow.specs.ReadViews.{ReadFlowValue}
 use Rattle.answer_flow.specs.CheckViews.{CheckFlowValue}
 use Rattle.answer_flow.specs.WatchViews.{WatchFlowValue}
 use Rattle.care_flow.specs.declared.care.CareFlow.{CareFlow}
+use Rattle.calls.specs.Fitting.{FitsItsTypes, IsWhole}
 use Rattle.calls.specs.Views.{NodeView}
 use Rattle.calls.specs.declared.call.NodeCall.{NodeCall}
 use Rattle.calls.specs.declared.reply.Reply.{Reply}
@@ -15,12 +16,14 @@ use Rattle.cluster.specs.Flows.{AsksCare, AsksCheck, AsksRead, AsksWatch, AsksWr
 use Rattle.cluster.specs.Nodes.{Called}
 
 module _ {D : Type 0} (state : D → State) (honest : D → Type 0) (moment : D → ℕ) (left_since : D → ℕ → List ℕ → Type 0) where
-  -- The flow asks for one call, the node that it names answers it, and the flow is given the reply: by how a kind of flow asks, and what a reply makes of it.
+  -- The flow asks for one call, which fits its types, the node that it names answers it, and the flow is given the reply: by how a kind of flow asks, and what a reply makes of it.
   pub record TurnsBy {F : Type 0} (asks : F → NodeCall → F → Type 0) (gives : F → Reply → F → Type 0) (shards : ℕ) (old : List (NodeView D)) (flow : F) (new : List (NodeView D)) (later : F) : Type 0 where
     pub call : NodeCall
     pub out : F
     pub reply : Reply
     pub asked : asks flow call out
+    pub fits : FitsItsTypes call
+    pub whole : IsWhole call
     pub called : Called state honest moment left_since shards old call reply new
     pub given : gives out reply later
 

@@ -1,6 +1,7 @@
 // One call of the node that it names.
 ghost use Rattle.std.specs.Prelude.{◌≡◌};
 ghost use Rattle.calls.specs.Belonging.{IsOwed, IsReplyTo};
+ghost use Rattle.calls.specs.Fitting.{FitsItsTypes, IsWhole};
 ghost use Rattle.cluster.specs.Nodes.{Answers, Called};
 
 use crate::naming::index_of;
@@ -30,7 +31,10 @@ pub(crate) fn ask_at<D: Device>(
     requires { IsOwed shards call }
     ensures called { Called D.state D.honest D.moment D.left_since shards nodes.old call result nodes.new }
     ensures belongs { IsReplyTo call result }
+    ensures fits { FitsItsTypes call }
+    ensures whole { IsWhole call }
 {
+    call.fits();
     let index = index_of(call.node());
     if index >= nodes.len() {
         return refuse(Refusal::Damaged, call);

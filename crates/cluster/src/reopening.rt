@@ -6,7 +6,7 @@ ghost use Rattle.cluster.specs.Begun.{IsNodeThere};
 ghost use Rattle.cluster.specs.Openings.{AreOpened, IsOpenedOver, OpensNext};
 
 use crate::World;
-use crate::restarting::open;
+use crate::restarting::reopen_node;
 use calls::{Node, NodeName, Told};
 use device::Device;
 use slab::Slab;
@@ -43,7 +43,7 @@ fn open_next<D: Device>(
     ensures room { vec_capacity nodes.new ≡ vec_capacity nodes.old }
 {
     let (a, b) = take_two(devices);
-    nodes.push_reserved(open(alloc, store, shards, name, a, b));
+    nodes.push_reserved(reopen_node(alloc, store, shards, name, a, b));
 }
 
 // Opens each node over its own devices, the coordinator first.
@@ -85,7 +85,7 @@ fn open_all<D: Device>(
 }
 
 /// Opens the store of this number and of 1 to 64 shards over its devices: those of the coordinator, and then those of each shard, by rising number, bank a
-/// before bank b. Each node is up, or holds the refusal of its opening. Where memory is refused the devices come back untouched.
+/// before bank b. Both are revived, and each node is up, or holds the refusal of its opening. Where memory is refused the devices come back untouched.
 pub fn reopen<D: Device>(
     alloc: Global,
     devices: Vec<D>,

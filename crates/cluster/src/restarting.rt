@@ -1,10 +1,13 @@
 // A node is opened, or opened again.
-ghost use Rattle.std.specs.Prelude.{◌≡◌, ◌≤◌, ◌<◌, ◌+◌, None, MatchOption};
+ghost use Rattle.std.specs.Prelude.{◌≡◌, ◌≤◌, ◌<◌, ◌+◌, false, IsTrue, None, MatchOption};
 ghost use Rattle.std.specs.List.{insert};
 ghost use Rattle.std.specs.Vec.{vec_capacity, vec_len};
 ghost use Rattle.records.specs.Identity.{max_shards};
 ghost use Rattle.cluster.specs.Begun.{IsNodeThere};
-ghost use Rattle.cluster.specs.Nodes.{IsRevived, Opens, Reopened};
+ghost use Rattle.refusal.specs.declared.refusal.Refusal.TheVariants.{Down};
+ghost use Rattle.device.specs.Device.{Failed};
+ghost use Rattle.calls.specs.Views.{refused};
+ghost use Rattle.cluster.specs.Nodes.{IsFound, IsRevived, Opens, Reopened};
 ghost use Rattle.cluster.specs.Steps.{SlotRestarts, told_of_opening};
 ghost use Rattle.cluster.specs.Worlds.{node_at};
 
@@ -16,15 +19,17 @@ use records::Identity;
 use std::alloc::Global;
 use tuples::Refusal;
 
-// What a stop may have left of it is found. A device that fails even now answers only errors, and so the opening over it does.
-fn revive<D: Device>(device: &mut D)
-    ensures { IsRevived D.state D.honest D.moment D.left_since device.old device.new }
+// Whether what a stop may have left of it was found. A device that fails even now answers only errors.
+fn revive<D: Device>(device: &mut D) -> bool
+    ensures revived { IsRevived D.state D.honest D.moment D.left_since device.old device.new }
+    ensures found { IsTrue result → IsFound D.state D.honest D.moment D.left_since device.old device.new }
+    ensures failed { result ≡ false → Failed (D.state device.old) (D.state device.new) }
 {
-    let _ = device.revive();
+    device.revive().is_ok()
 }
 
-/// Opens the node of this name over two devices.
-pub(crate) fn open<D: Device>(
+// Opens the node of this name over two devices.
+fn open<D: Device>(
     alloc: Global,
     store: u64,
     shards: u8,
@@ -47,23 +52,46 @@ pub(crate) fn open<D: Device>(
     }
 }
 
-// Its memory is thrown away, its devices are revived, and it is opened over them.
-fn reopen<D: Device>(
+fn stay_down<D: Device>(
     alloc: Global,
     store: u64,
     shards: u8,
     name: NodeName,
-    node: Node<D>,
+    a: D,
+    b: D,
 ) -> Node<D>
     requires some { 1 ≤ shards }
     requires few { shards ≤ max_shards }
     requires there { IsNodeThere shards name }
-    ensures { Reopened D.state D.honest D.moment D.left_since store shards name node result }
+    ensures { result ≡ refused Down a b }
 {
-    let (mut a, mut b) = node.into_devices();
-    revive(&mut a);
-    revive(&mut b);
-    open(alloc, store, shards, name, a, b)
+    let me = match name {
+        NodeName::Coordinator => Identity::coordinator(store, shards),
+        NodeName::Shard(shard) => Identity::shard(store, shards, shard),
+    };
+    Node::stay_down(alloc, a, b, me)
+}
+
+/// Revives both devices, and opens the node of this name over them. Where one fails even now the node is not opened, and is `Down`.
+pub(crate) fn reopen_node<D: Device>(
+    alloc: Global,
+    store: u64,
+    shards: u8,
+    name: NodeName,
+    mut a: D,
+    mut b: D,
+) -> Node<D>
+    requires some { 1 ≤ shards }
+    requires few { shards ≤ max_shards }
+    requires there { IsNodeThere shards name }
+    ensures { Reopened D.state D.honest D.moment D.left_since store shards name a b result }
+{
+    let is_found_a = revive(&mut a);
+    let is_found_b = revive(&mut b);
+    if is_found_a && is_found_b {
+        return open(alloc, store, shards, name, a, b);
+    }
+    stay_down(alloc, store, shards, name, a, b)
 }
 
 fn told_of(refusal: Option<Refusal>) -> What
@@ -104,8 +132,9 @@ pub(crate) fn restart<D: Device>(
     if index >= nodes.len() {
         return None;
     }
-    let node = nodes.remove(index);
-    let node = reopen(alloc, store, shards, name, node);
+    // The node's memory goes, and its devices stay.
+    let (a, b) = nodes.remove(index).into_devices();
+    let node = reopen_node(alloc, store, shards, name, a, b);
     let told = told_of(node.refusal());
     put_back(nodes, index, node);
     Some(told)

@@ -3,6 +3,7 @@ use Rattle.std.specs.Prelude.{◌≤◌, ℕ, Bool, List, MatchOption}
 use Rattle.device.specs.Device.{State}
 use Rattle.decisions.specs.Values.{IsIntent}
 use Rattle.calls.specs.Asking.{Answered}
+pub use Rattle.calls.specs.Fitting.{IsWhole}
 use Rattle.calls.specs.Views.{NodeView}
 use Rattle.calls.specs.declared.call.NodeCall.{NodeCall}
 use Rattle.calls.specs.declared.call.NodeCall.TheVariants.{Coordinator, Shard}
@@ -18,19 +19,6 @@ use Rattle.turns.specs.Stores.{Store}
 use Rattle.call_turns.specs.StoreCalls.{FitsItsTypes, IsCalled, called}
 use Rattle.call_turns.specs.StoreTurns.{SlotTurns, TurnRuns}
 use Rattle.write_turns.specs.Seen.{shown, shown_until, told_of}
-
--- an intent that a call carries is one: of a write that is whole, under an id that can be given
-abbrev pub IsWholeAtCoordinator : CoordinatorCall → Type 0
-IsWholeAtCoordinator (Decide intent votes) = IsIntent intent.write
-IsWholeAtCoordinator call = Unit {0}
-
-abbrev pub IsWholeAtShard : ShardCall → Type 0
-IsWholeAtShard (StagePrepare intent) = IsIntent intent.write
-IsWholeAtShard call = Unit {0}
-
-abbrev pub IsWhole : NodeCall → Type 0
-IsWhole (Coordinator call) = IsWholeAtCoordinator call
-IsWhole (Shard s call) = IsWholeAtShard call
 
 -- Given what a device holds and whether it is honest, how often a stop may have come at it, what a stop since then may have left, and a store's id
 -- and number of shards

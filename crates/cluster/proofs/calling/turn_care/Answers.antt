@@ -16,6 +16,8 @@ returns-clause-turns g c = record {
   out = c.next_call.new.self;
   reply = c.ask_at-reply.result;
   asked = (sym c.in-Some.ensures.name.0, c.in-Some.ensures.call, λ shards there. c.in-Some.ensures.owed shards c.in-Some.call there refl);
+  fits = c.ask_at-reply.ensures.fits;
+  whole = c.ask_at-reply.ensures.whole;
   called = c.ask_at-reply.ensures.called;
   given = c.give.ensures;
 }

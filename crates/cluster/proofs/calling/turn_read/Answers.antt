@@ -17,6 +17,8 @@ returns-clause-turns g c = record {
   out = c.next_call.new.self;
   reply = c.ask_at-reply.result;
   asked = (sym c.in-Some.ensures.name, c.in-Some.ensures.asked, c.in-Some.ensures.call);
+  fits = c.ask_at-reply.ensures.fits;
+  whole = c.ask_at-reply.ensures.whole;
   called = c.ask_at-reply.ensures.called;
   given = (c.give.ensures.asked, c.give.ensures.gives);
 }

@@ -21,6 +21,8 @@ returns-clause-turns g c = record {
   out = record { flow = c.next_call.new.self; is_cancelled = c.args.writing.now.is_cancelled };
   reply = c.ask_at-reply.result;
   asked = (sym c.in-Some.ensures.name.0, refl, c.in-Some.ensures.shards, c.in-Some.ensures.call);
+  fits = c.ask_at-reply.ensures.fits;
+  whole = c.ask_at-reply.ensures.whole;
   called = c.ask_at-reply.ensures.called;
   given = (refl, c.give.ensures.shards, c.give.ensures.gives);
 }

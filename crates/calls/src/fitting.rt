@@ -1,0 +1,47 @@
+// What a call carries lies in the limits of its types: laws, each the contract of a function that does nothing.
+ghost use Rattle.calls.specs.Fitting.{FitsCoordinator, FitsItsTypes, FitsShard, IsWhole, IsWholeAtCoordinator, IsWholeAtShard};
+
+use crate::{CoordinatorCall, NodeCall, ShardCall};
+
+impl CoordinatorCall {
+    fn fits(&self)
+        ensures fits { FitsCoordinator self.now }
+        ensures whole { IsWholeAtCoordinator self.now }
+    {
+        match self {
+            CoordinatorCall::Begin(_) | CoordinatorCall::Heads | CoordinatorCall::Batch(_, _) => {}
+            CoordinatorCall::Decide(_intent, _) => {}
+            CoordinatorCall::Outcome(_) | CoordinatorCall::Abort(_) => {}
+            CoordinatorCall::Inquire(_) | CoordinatorCall::Flush => {}
+            CoordinatorCall::Raise(_place, _) => {}
+        }
+    }
+}
+
+impl ShardCall {
+    fn fits(&self)
+        ensures fits { FitsShard self.now }
+        ensures whole { IsWholeAtShard self.now }
+    {
+        match self {
+            ShardCall::Learn(_batch) => {}
+            ShardCall::StagePrepare(_intent) => {}
+            ShardCall::Learned | ShardCall::Vote(_) | ShardCall::DropWrite(_, _) => {}
+            ShardCall::InDoubt | ShardCall::Read(_, _) | ShardCall::ReadForCheck(_, _, _) => {}
+            ShardCall::Settle | ShardCall::Collect(_) | ShardCall::Flush => {}
+        }
+    }
+}
+
+impl NodeCall {
+    /// What it carries lies in the limits of its types. It does nothing: whoever makes a call by it may say so.
+    pub fn fits(&self)
+        ensures fits { FitsItsTypes self.now }
+        ensures whole { IsWhole self.now }
+    {
+        match self {
+            NodeCall::Coordinator(call) => call.fits(),
+            NodeCall::Shard(_, call) => call.fits(),
+        }
+    }
+}
