@@ -27,7 +27,7 @@ use Rattle.worlds.specs.Shown.{IsShownSlot, Shows}
 use Rattle.worlds.specs.Told.{all_told}
 use Rattle.world_turns.proofs.CareRests.{GoesOrEnds, care_rests, care_there}
 use Rattle.world_turns.proofs.Leaving.{goes_on, has_gone, others}
-use Rattle.world_turns.proofs.Lifts.{keeps_turn, shown_there}
+use Rattle.world_turns.proofs.Lifts.{keeps_turn, never_away, shown_there}
 
 -- the node of a call that may be made is there
 pub made_there : (shards : ℕ) (call : NodeCall) → MayBeMade shards call → nodes.IsThere shards (called call)
@@ -81,7 +81,7 @@ module _ {D : Type 0} (state : D → State) (honest : D → Type 0) (moment : D 
       let is_left = left old.shards old.flows slot next told new.flows l (care_there old.shards flow t.call t.out t.reply next t.asked.1 t.given there) (care_rests t.out t.reply next t.given) in
       keeps_turn state honest moment left_since old s shows new slot told t.call t.reply (shows_care flow) (in_slot (shows_care next) (end_of next)) (tells (end_of next) ∷ [])
       (is.1 ∙ ap (λ (v : FlowView). Some v) is.2.0) t.called new_is is_left.0 (others old.flows slot (Care next) told new.flows l) is_left.1
-      (λ now standing. made_there old.shards t.call (t.asked.2 old.shards there))
+      (never_away state honest moment left_since old s shows new slot t.call t.reply (in_slot (shows_care next) (end_of next)) (tells (end_of next) ∷ []) (λ now standing. made_there old.shards t.call (t.asked.2 old.shards there)))
       (λ later was node answered called_is turns. cares_turn state honest moment left_since counts_now only_now old.store old.shards flow next s later slot (record {
         there = there;
         call = t.call;

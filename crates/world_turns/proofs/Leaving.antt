@@ -25,3 +25,16 @@ module _ (old : List (Option Flow)) (slot : ℕ) (later : Flow) (told : Option W
       by_name : (o : Option CallName) → MatchOption o (HasGone old slot later told new) (λ name. GoesOn old slot later name told new) → (k : ℕ) → k ≢ slot → flow_at new k ≡ flow_at old k
       by_name None gone = gone.puts.others
       by_name (Some name) on = on.puts.others
+
+-- a flow that waits for no reply and has not ended names a call
+pub names_on : {A E : Type 0} (name : Option CallName) (out : Option A) (end : Option E) → NamesNext name out end → out ≡ None → end ≡ None → name ≢ None
+names_on name out end n rests none = n.goes_on none rests
+
+-- and one that names a call has not ended, and waits for none
+pub not_ended : {A E : Type 0} (name : Option CallName) (out : Option A) (end : Option E) → NamesNext name out end → name ≢ None → end ≡ None
+not_ended name out None n named = refl
+not_ended name out (Some e) n named = absurd (named (n.ended e refl))
+
+pub not_waiting : {A E : Type 0} (name : Option CallName) (out : Option A) (end : Option E) → NamesNext name out end → name ≢ None → out ≡ None
+not_waiting name None end n named = refl
+not_waiting name (Some call) end n named = absurd (named (n.waits call refl))

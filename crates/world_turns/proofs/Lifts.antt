@@ -115,11 +115,20 @@ module _ {D : Type 0} (state : D → State) (honest : D → Type 0) (moment : D 
         shows_node old.store old.shards nodes flows s n v is_v node.there node.named)
         (node_cases n (called call))
 
+  -- A call of a node that the store has not leads to nothing, or to a turn in which no node was called.
+  abbrev pub Stays : WorldView D → ℕ → NodeCall → Reply → Option FlowView → List Told → Type 0
+  Stays new slot call reply g t = (now : Moment) → Stand now → node_at old.nodes (named (called call)) ≡ None → new.nodes ≡ old.nodes → Refuses Damaged call reply
+      → (number : ℕ) → Ran state honest moment left_since old.store old.shards s now number (turn slot) (events_of number t) (behind new.nodes (with_slot slot g s.flows) s)
+
+  -- a call that may be made is of a node that the store has
+  pub never_away : (new : WorldView D) (slot : ℕ) (call : NodeCall) (reply : Reply) (g : Option FlowView) (t : List Told) → ((now : Moment) → Stand now → IsThere old.shards (called call)) → Stays new slot call reply g t
+  never_away new slot call reply g t there now standing none = absurd (node_there old.shards old.nodes (called call) shows.count (there now standing) none)
+
   -- The flow in a slot, which is shown so, makes a call, and is shown so behind it, or has left the slot; by the law of its kind that is a turn of a run.
   module _ (new : WorldView D) (slot : ℕ) (told : Option What) (call : NodeCall) (reply : Reply) (view : FlowView) (g : Option FlowView) (t : List Told)
       (before : s.flows slot ≡ Some view) (calls : Called state honest moment left_since old.shards old.nodes call reply new.nodes) (new_is : new ≡ record old { nodes = new.nodes; flows = new.flows })
       (is_shown : IsShownSlot old.shards (flow_at new.flows slot) g) (others : (k : ℕ) → k ≢ slot → flow_at new.flows k ≡ flow_at old.flows k) (tells : all_told told ≡ t)
-      (there : (now : Moment) → Stand now → IsThere old.shards (called call))
+      (away : Stays new slot call reply g t)
       (law : (later : Store D) (was is : NodeView D) → Answered state honest moment left_since was call reply is → IsCalled state honest moment left_since old.store old.shards (called call) was is s later
       → SlotTurns slot view g s later → TurnRuns state honest moment left_since old.store old.shards s slot t later) where
     abbrev store_then : Store D
@@ -152,12 +161,21 @@ module _ {D : Type 0} (state : D → State) (honest : D → Type 0) (moment : D 
         answered = ⊎_elim (λ is_so. is_so) (λ wrong. absurd (wrong.0 (is_node_of old.store old.shards call was (shows.nodes (called call) was at).named))) a.answers
 
         put : IsPut old.nodes (called call) a.is new.nodes
-        put = is_put old.shards old.nodes new.nodes (called call) a.is shows.count (there now standing) (a.new_is ∙ ap (λ n. set old.nodes (index_of n) a.is) (sym (named_called call)))
+        put = is_put old.shards old.nodes new.nodes (called call) a.is shows.count (is_there (called call) was at) (a.new_is ∙ ap (λ n. set old.nodes (index_of n) a.is) (sym (named_called call)))
 
     at_node : (now : Moment) → Stand now → (o : Option (NodeView D)) → node_at old.nodes (named (called call)) ≡ o
         → MatchOption o ((new.nodes ≡ old.nodes) × Refuses Damaged call reply) (λ was. AnsweredBy state honest moment left_since old.shards old.nodes was call reply new.nodes)
         → Shows (record old { nodes = new.nodes; flows = new.flows }) store_then × Runs now
-    at_node now standing None is gives = absurd (node_there old.shards old.nodes (called call) shows.count (there now standing) is)
+    at_node now standing None is gives = (
+      record {
+        some = shows.some;
+        count = ap (λ (ns : List (NodeView D)). length ns) gives.0 ∙ shows.count;
+        nodes = λ n v is_v. let node = shows.nodes n v (ap (λ (ns : List (NodeView D)). node_at ns (named n)) (sym gives.0) ∙ is_v) in
+            shows_node old.store old.shards new.nodes (with_slot slot g s.flows) s n v is_v node.there node.named;
+        flows = flows_shown;
+      },
+      away now standing is gives.0 gives.1,
+    )
     at_node now standing (Some was) is gives = by_answer now standing was is gives
 
     turned : (now : Moment) → Stand now → Shows (record old { nodes = new.nodes; flows = new.flows }) store_then × Runs now
