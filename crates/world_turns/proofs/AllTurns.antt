@@ -1,10 +1,10 @@
 -- A turn of the flow in a slot, whatever its kind, keeps the promise of a step; an empty slot has none.
-use Rattle.std.proofs.Common.{◌≡◌, ◌≤◌, ℕ, List, [], Option, Some, None, MatchOption, refl, sym, ◌∙◌, ap, subst}
+use Rattle.std.proofs.Common.{◌≡◌, ◌≤◌, ℕ, List, [], Option, Some, None, MatchOption, refl, sym, subst}
 use Rattle.device.specs.Device.{State, left}
 use Rattle.laws.specs.Nodes.{NodeName}
-use Rattle.turns.specs.Moments.{Moment, Running, flow_at as running_at}
+use Rattle.turns.specs.Moments.{Running, flow_at as running_at}
 use Rattle.turns.specs.Runs as runs
-use Rattle.turns.specs.Stores.{NamesHorizon, StandsOver, Store}
+use Rattle.turns.specs.Stores.{NamesHorizon, Store}
 use Rattle.cluster.specs.Steps.{IsIdle, Leaves, TurnsIn}
 use Rattle.cluster.specs.Turns.{Turns}
 use Rattle.cluster.specs.Worlds.{WorldView, flow_at}

@@ -1,5 +1,5 @@
 -- Behind a reply a read, a check and a watch wait for no other.
-use Rattle.std.proofs.Common.{◌≡◌, ◌≢◌, ◌⊎◌, inl, inr, ⊎_elim, ◌<◌, ◌≤◌, ◌+◌, ℕ, List, [], ◌∷◌, length, Option, Some, None, MatchOption, slice_get, Result, Ok, Err, refl, sym, ◌∙◌, ap, subst}
+use Rattle.std.proofs.Common.{◌≡◌, ◌≢◌, ⊎_elim, ◌<◌, ◌≤◌, ◌+◌, ℕ, List, [], ◌∷◌, length, Some, None, MatchOption, slice_get, Result, Ok, Err, refl, sym, ◌∙◌, ap, subst}
 use Rattle.std.proofs.lemmas.Bool.{cases_lt}
 use Rattle.refusal.specs.declared.refusal.Refusal.{Refusal}
 use Rattle.tuples.specs.declared.object.Userset.{Userset}
@@ -93,11 +93,11 @@ module _ (shards : ℕ) (fresh : Freshness) (sets : List Tupleset) where
   read_by_step : (step : ReadStep) (v : ReadView) (call : NodeCall) (out : ReadView) (reply : Reply) (after : ReadView) → reads.AsksFor step shards sets v call out
       → MatchOption out.awaited ⊥ (λ awaited. reads.GivesTo shards fresh sets out awaited reply after) → ReadRests after
   read_by_step read_views.heads v call out reply after asks gives =
-      read_by_call _ read_views.heads_call reply after (λ is. absurd cc) (subst (λ (o : ReadView). MatchOption o.awaited ⊥ (λ awaited. reads.GivesTo shards fresh sets o awaited reply after)) asks.1 gives)
+      read_by_call (read_views.waiting read_views.heads read_views.heads_call v.holds) read_views.heads_call reply after (λ is. absurd cc) (subst (λ (o : ReadView). MatchOption o.awaited ⊥ (λ awaited. reads.GivesTo shards fresh sets o awaited reply after)) asks.1 gives)
   read_by_step read_views.flush v call out reply after asks gives =
-      read_by_call _ read_views.flush_call reply after (λ is. absurd cc) (subst (λ (o : ReadView). MatchOption o.awaited ⊥ (λ awaited. reads.GivesTo shards fresh sets o awaited reply after)) asks.1 gives)
+      read_by_call (read_views.waiting read_views.flush read_views.flush_call v.holds) read_views.flush_call reply after (λ is. absurd cc) (subst (λ (o : ReadView). MatchOption o.awaited ⊥ (λ awaited. reads.GivesTo shards fresh sets o awaited reply after)) asks.1 gives)
   read_by_step read_views.catch_up v call out reply after asks gives =
-      read_by_call _ (read_views.catch_up_call asks.out.awaited) reply after (λ is. absurd cc)
+      read_by_call (read_views.waiting read_views.catch_up (read_views.catch_up_call asks.out.awaited) (record v.holds { batch = asks.out.held.batch })) (read_views.catch_up_call asks.out.awaited) reply after (λ is. absurd cc)
       (subst (λ (o : ReadView). MatchOption o.awaited ⊥ (λ awaited. reads.GivesTo shards fresh sets o awaited reply after)) asks.waits gives)
   read_by_step read_views.read v call out reply after asks gives =
       read_by_call (read_views.waiting read_views.read read_views.read_call v.holds) read_views.read_call reply after (λ is. (asks.place, asks.at_place))
@@ -174,11 +174,11 @@ module _ (shards : ℕ) (fresh : Freshness) (user : User) where
   check_by_step : (step : CheckStep) (v : CheckView) (call : NodeCall) (out : CheckView) (reply : Reply) (after : CheckView) → checks.AsksFor step shards user v call out
       → MatchOption out.awaited ⊥ (λ awaited. checks.GivesTo fresh user out awaited reply after) → CheckRests after
   check_by_step check_views.heads v call out reply after asks gives =
-      check_by_call _ check_views.heads_call reply after (λ is. absurd cc) (subst (λ (o : CheckView). MatchOption o.awaited ⊥ (λ awaited. checks.GivesTo fresh user o awaited reply after)) asks.2 gives)
+      check_by_call (check_views.waiting check_views.heads check_views.heads_call v.holds) check_views.heads_call reply after (λ is. absurd cc) (subst (λ (o : CheckView). MatchOption o.awaited ⊥ (λ awaited. checks.GivesTo fresh user o awaited reply after)) asks.2 gives)
   check_by_step check_views.flush v call out reply after asks gives =
-      check_by_call _ check_views.flush_call reply after (λ is. absurd cc) (subst (λ (o : CheckView). MatchOption o.awaited ⊥ (λ awaited. checks.GivesTo fresh user o awaited reply after)) asks.2 gives)
+      check_by_call (check_views.waiting check_views.flush check_views.flush_call v.holds) check_views.flush_call reply after (λ is. absurd cc) (subst (λ (o : CheckView). MatchOption o.awaited ⊥ (λ awaited. checks.GivesTo fresh user o awaited reply after)) asks.2 gives)
   check_by_step check_views.catch_up v call out reply after asks gives =
-      check_by_call _ (check_views.catch_up_call asks.out.awaited) reply after (λ is. absurd cc)
+      check_by_call (check_views.waiting check_views.catch_up (check_views.catch_up_call asks.out.awaited) (record v.holds { batch = asks.out.held.batch })) (check_views.catch_up_call asks.out.awaited) reply after (λ is. absurd cc)
       (subst (λ (o : CheckView). MatchOption o.awaited ⊥ (λ awaited. checks.GivesTo fresh user o awaited reply after)) asks.waits gives)
   check_by_step check_views.read v call out reply after asks gives =
       check_by_call (check_views.waiting check_views.read check_views.read_call v.holds) check_views.read_call reply after

@@ -1,6 +1,6 @@
 -- A write calls no node that the store has not, but to drop what such a node should have given: then no node is called, and the write goes on or ends.
-use Rattle.std.proofs.Common.{◌≡◌, ◌≢◌, ◌≤◌, ◌<◌, ◌++◌, inl, inr, ⊎_elim, ℕ, Bool, true, false, List, [], ◌∷◌, Option, Some, None, MatchOption, Contains, refl, sym, ◌∙◌, ap, subst}
-use Rattle.std.proofs.lemmas.List.Elements.{All-contains, Contains-append_right}
+use Rattle.std.proofs.Common.{◌≡◌, ◌≤◌, ◌<◌, ⊎_elim, ℕ, Bool, List, ◌∷◌, Option, Some, None, MatchOption, Contains, refl, sym, ◌∙◌, ap, subst}
+use Rattle.std.proofs.lemmas.List.Elements.{All-contains}
 use Rattle.tuples.specs.declared.entry.WriteId.{WriteId}
 use Rattle.device.specs.Device.{State, left}
 use Rattle.refusal.specs.declared.refusal.Refusal.TheVariants.{Damaged}
@@ -15,19 +15,18 @@ use Rattle.calls.specs.declared.call.ShardCall.TheVariants as shard_calls
 use Rattle.calls.specs.declared.reply.Reply.{Reply}
 use Rattle.calls.specs.declared.reply.Reply.TheVariants.{Shard as from_shard}
 use Rattle.calls.specs.declared.reply.ShardReply.TheVariants as told_by
-use Rattle.commit_flow.specs.Answering.{GivesTo, GoesToDrop}
+use Rattle.commit_flow.specs.Answering.{GivesTo}
 use Rattle.commit_flow.specs.Views.{WriteView, ticket_value}
 use Rattle.commit_flow.specs.Writing.{Asks, AsksShard}
-use Rattle.commit_flow.specs.WriteHolds.{HeldTicket, WriteAwaited}
-use Rattle.commit_flow.specs.WriteHolds as waits
-use Rattle.laws.specs.Nodes.{IsThere, NodeName, coordinator, shard}
-use Rattle.turns.specs.Held.{IsRightTicket, IsRightWrite, own_write}
+use Rattle.commit_flow.specs.WriteHolds.{HeldTicket}
+use Rattle.laws.specs.Nodes.{NodeName, coordinator, shard}
+use Rattle.turns.specs.Held.{IsRightTicket, own_write}
 use Rattle.turns.specs.Moments.{Moment, Running}
 use Rattle.turns.specs.Promises.{Ran, events_of}
 use Rattle.turns.specs.Runs.{turn}
 use Rattle.turns.specs.Stores.{StandsOver, Store, stops}
 use Rattle.turns.proofs.FlowBegins.{alone}
-use Rattle.call_turns.specs.StoreCalls.{IsCalled, IsNamed, KeepsMemory, called}
+use Rattle.call_turns.specs.StoreCalls.{IsCalled, KeepsMemory, called}
 use Rattle.call_turns.specs.StoreTurns.{SlotTurns}
 use Rattle.call_turns.proofs.Made.{IsQuietlyMade, still_made}
 use Rattle.write_turns.specs.Seen.{shown, shown_until, told_of}

@@ -1,5 +1,5 @@
 -- The store that shows a world behind a call: its nodes as they then are, and other flows.
-use Rattle.std.proofs.Common.{◌≡◌, ◌≢◌, ⊎_elim, ◌==◌, ℕ, Bool, true, false, true≢false, List, Option, Some, None, refl, sym, ◌∙◌, ap, subst, if◌then◌else◌}
+use Rattle.std.proofs.Common.{◌≡◌, ◌≢◌, ⊎_elim, ◌==◌, ℕ, false, List, Option, Some, None, refl, sym, ◌∙◌, ap, if◌then◌else◌}
 use Rattle.std.proofs.lemmas.Bool.{cases_Bool, eq-eqb, eqb-true}
 use Rattle.tuples.specs.declared.entry.WriteId.{WriteId}
 use Rattle.calls.specs.Views as views
@@ -7,7 +7,7 @@ use Rattle.calls.specs.Views.{NodeView, devices_of}
 use Rattle.calls.specs.declared.call.NodeName.TheVariants.{Coordinator}
 use Rattle.laws.specs.Nodes.{IsThere, NodeName, NodeState, coordinator, shard}
 use Rattle.turns.specs.Stores.{FlowView, Store}
-use Rattle.call_turns.specs.StoreCalls.{IsNamed, IsNode, KeepsMemory, ShowsMemory, shown}
+use Rattle.call_turns.specs.StoreCalls.{IsNamed, IsNode, ShowsMemory, shown}
 use Rattle.call_turns.specs.StoreTurns.{SlotTurns}
 use Rattle.cluster.specs.Worlds.{node_at}
 use Rattle.worlds.specs.Shown.{named}

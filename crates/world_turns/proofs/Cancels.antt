@@ -1,19 +1,17 @@
 -- A cancel of the flow in a slot keeps the promise of a step: a write goes out, or on to its end, and any other flow is gone.
-use Rattle.std.proofs.Common.{◌≡◌, ◌≢◌, ⊎_elim, inl, inr, ◌≤◌, ℕ, Bool, true, false, List, [], Option, Some, None, MatchOption, is_some, refl, sym, ◌∙◌, ap, subst}
+use Rattle.std.proofs.Common.{◌≡◌, ◌≢◌, ⊎_elim, ℕ, true, false, List, [], Option, Some, None, MatchOption, is_some, refl, sym, ◌∙◌, ap, subst}
 use Rattle.std.proofs.lemmas.Bool.{cases_eq}
 use Rattle.device.specs.Device.{State, left}
-use Rattle.tuples.specs.declared.object.Userset.{Userset}
 use Rattle.calls.specs.declared.call_name.CallName.{CallName}
-use Rattle.commit_flow.specs.Views.{WriteView}
 use Rattle.commit_flow.specs.declared.end.WriteEnd.{WriteEnd}
 use Rattle.care_flow.specs.declared.care.CareFlow.{CareFlow}
 use Rattle.care_flow.specs.declared.care.CareFlow.TheVariants as cares
 use Rattle.laws.specs.Nodes.{NodeName}
 use Rattle.turns.specs.Flows.{Asked, Holds, checking, reading, watching}
-use Rattle.turns.specs.Moments.{Moment, Running, flow_at as running_at, is_write}
-use Rattle.turns.specs.Promises.{Ran, RunsOne, events_of}
+use Rattle.turns.specs.Moments.{Running, flow_at as running_at, is_write}
+use Rattle.turns.specs.Promises.{RunsOne, events_of}
 use Rattle.turns.specs.Runs as runs
-use Rattle.turns.specs.Stores.{FlowView, NamesHorizon, StandsOver, Store}
+use Rattle.turns.specs.Stores.{FlowView, NamesHorizon, Store}
 use Rattle.call_turns.specs.Steps.{shown_flow}
 use Rattle.call_turns.specs.StoreTurns.{SlotTurns}
 use Rattle.call_turns.proofs.Cancels.{cancelled_flows_end}

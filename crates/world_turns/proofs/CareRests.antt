@@ -1,5 +1,5 @@
 -- Behind a reply a care makes a call next, or has ended; and it stays a care of what is there.
-use Rattle.std.proofs.Common.{◌≡◌, ◌≢◌, ◌⊎◌, inl, inr, ⊎_elim, ◌<◌, ◌≤◌, ◌+◌, ℕ, Bool, true, false, List, length, Option, Some, None, MatchOption, is_some, slice_get, Result, Ok, Err, refl, sym, ◌∙◌, ap, subst}
+use Rattle.std.proofs.Common.{◌≡◌, ◌≢◌, ◌⊎◌, inl, inr, ⊎_elim, ◌<◌, ◌≤◌, ◌+◌, ℕ, Bool, true, false, List, length, Option, Some, None, MatchOption, is_some, slice_get, Result, Ok, Err, sym, ◌∙◌, ap, subst}
 use Rattle.std.proofs.lemmas.Bool.{cases_eq, cases_lt}
 use Rattle.tuples.specs.declared.entry.WriteId.{WriteId}
 use Rattle.refusal.specs.declared.refusal.Refusal.{Refusal}

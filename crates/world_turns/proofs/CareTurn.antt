@@ -1,5 +1,5 @@
 -- A turn of a care in a slot of a world keeps the promise of a step.
-use Rattle.std.proofs.Common.{◌≡◌, ◌≢◌, ◌≤◌, ⊎_elim, ℕ, Bool, true, false, true≢false, List, [], ◌∷◌, Option, Some, None, is_some, refl, sym, ◌∙◌, ap, subst}
+use Rattle.std.proofs.Common.{◌≡◌, ◌≢◌, ◌≤◌, ⊎_elim, ℕ, true, false, true≢false, List, [], ◌∷◌, Option, Some, None, is_some, refl, sym, ◌∙◌, ap, subst}
 use Rattle.device.specs.Device.{State, left}
 use Rattle.calls.specs.Asking.{MayBeMade}
 use Rattle.calls.specs.declared.call.NodeCall.{NodeCall}
@@ -62,8 +62,8 @@ module _ (shards : ℕ) (old : List (Option Flow)) (slot : ℕ) (next : CareFlow
     ap all_told gone.tells ∙ end_told end gone.end (subst (λ (o : Option CareEnd). IfEnded TellsCare o gone.end) is gone.ends.0),
   )
 
-  left : GoesOrEnds (has_next next) (end_of next) → IsLeft (end_of next)
-  left rests = ⊎_elim
+  stands : GoesOrEnds (has_next next) (end_of next) → IsLeft (end_of next)
+  stands rests = ⊎_elim
       (λ on.
       let it = goes_on old slot (Care next) told new l (some_name (next_name_of next) (l.named ∙ on.0)) in
       subst IsLeft (sym on.1) (stays it.0 it.1))
@@ -78,7 +78,7 @@ module _ {D : Type 0} (state : D → State) (honest : D → Type 0) (moment : D 
   care_turns flow next here t l new_is =
       let is = shown_there old.shards (Care flow) (s.flows slot) (subst (λ (f : Option Flow). IsShownSlot old.shards f (s.flows slot)) here (shows.flows slot)) in
       let there = is.2.1 in
-      let is_left = left old.shards old.flows slot next told new.flows l (care_there old.shards flow t.call t.out t.reply next t.asked.1 t.given there) (care_rests t.out t.reply next t.given) in
+      let is_left = stands old.shards old.flows slot next told new.flows l (care_there old.shards flow t.call t.out t.reply next t.asked.1 t.given there) (care_rests t.out t.reply next t.given) in
       keeps_turn state honest moment left_since old s shows new slot told t.call t.reply (shows_care flow) (in_slot (shows_care next) (end_of next)) (tells (end_of next) ∷ [])
       (is.1 ∙ ap (λ (v : FlowView). Some v) is.2.0) t.called new_is is_left.0 (others old.flows slot (Care next) told new.flows l) is_left.1
       (never_away state honest moment left_since old s shows new slot t.call t.reply (in_slot (shows_care next) (end_of next)) (tells (end_of next) ∷ []) (λ now standing. made_there old.shards t.call (t.asked.2 old.shards there)))

@@ -1,5 +1,5 @@
 -- A turn of a check in a slot of a world keeps the promise of a step.
-use Rattle.std.proofs.Common.{◌≡◌, ◌≢◌, ◌≤◌, ℕ, List, [], ◌∷◌, Option, Some, None, MatchOption, refl, sym, ◌∙◌, ap, subst}
+use Rattle.std.proofs.Common.{◌≡◌, ◌≤◌, ℕ, List, [], ◌∷◌, Option, Some, None, refl, sym, ◌∙◌, ap, subst}
 use Rattle.device.specs.Device.{State, left}
 use Rattle.tuples.specs.declared.object.Userset.{Userset}
 use Rattle.calls.specs.Asking.{MayBeMade}

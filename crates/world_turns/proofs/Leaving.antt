@@ -1,5 +1,5 @@
 -- How a flow is left behind its turn: it goes on where a call of it comes next, and is gone where none does.
-use Rattle.std.proofs.Common.{◌≡◌, ◌≢◌, ℕ, Bool, List, Option, Some, None, MatchOption, refl, sym, ◌∙◌, ap, subst}
+use Rattle.std.proofs.Common.{◌≡◌, ◌≢◌, ℕ, List, Option, Some, None, MatchOption, refl, subst}
 use Rattle.calls.specs.declared.call_name.CallName.{CallName}
 use Rattle.cluster.specs.declared.event.What.{What}
 use Rattle.cluster.specs.declared.flow.Flow.{Flow}

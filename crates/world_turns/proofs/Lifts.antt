@@ -1,8 +1,8 @@
 -- A turn of a flow in a slot of a world is one in a slot of the store that shows it, whatever the flow's kind.
-use Rattle.std.proofs.Common.{◌≡◌, ◌≢◌, ◌⊎◌, inl, inr, ⊎_elim, ◌<◌, ◌≤◌, ◌+◌, ℕ, List, length, Option, Some, None, MatchOption, set, refl, sym, ◌∙◌, ap, subst, arith}
+use Rattle.std.proofs.Common.{◌≡◌, ◌≢◌, ⊎_elim, ℕ, List, length, Option, Some, None, MatchOption, set, refl, sym, ◌∙◌, ap, subst}
 use Rattle.std.proofs.lemmas.Bool.{cases_eq}
 use Rattle.std.proofs.lemmas.List.{length-set}
-use Rattle.device.specs.Device.{State, left}
+use Rattle.device.specs.Device.{State}
 use Rattle.refusal.specs.declared.refusal.Refusal.TheVariants.{Damaged}
 use Rattle.calls.specs.Asking.{Answered, Refuses}
 use Rattle.calls.specs.Belonging.{IsNodeOf}
@@ -22,7 +22,7 @@ use Rattle.call_turns.specs.StoreCalls.{IsCalled, IsNamed, IsNode, KeepsMemory, 
 use Rattle.call_turns.specs.StoreTurns.{SlotTurns, TurnRuns}
 use Rattle.call_turns.proofs.Fails.{failed_calls_have_cause}
 use Rattle.call_turns.proofs.Made.{node_cases}
-use Rattle.cluster.specs.Nodes.{AnsweredBy, Answers, Called}
+use Rattle.cluster.specs.Nodes.{AnsweredBy, Called}
 use Rattle.cluster.specs.Worlds.{WorldView, flow_at, index_of, node_at}
 use Rattle.cluster.specs.declared.event.What.{What}
 use Rattle.cluster.specs.declared.flow.Flow.{Flow}
@@ -69,7 +69,7 @@ module _ {D : Type 0} (state : D → State) (honest : D → Type 0) (moment : D 
     before = shows.nodes (called call) was at
 
     after : Node later (called call) is
-    after = shows_node old.store old.shards nodes flows s (called call) is put.here before.there (keeps_name state honest moment left_since old.store old.shards s now standing (called call) was is call reply before answered)
+    after = shows_node old.store old.shards nodes flows s (called call) is put.here before.there (keeps_name state honest moment left_since old.store old.shards s now standing (called call) was call reply is before answered)
 
     other_devices : (m : NodeName) → m ≢ called call → later.devices m ≡ s.devices m
     other_devices m ne = same_devices old.store old.shards nodes flows s m (node_at old.nodes (named m)) (put.others m ne) (λ v is_v. shows.nodes m v is_v)

@@ -1,13 +1,9 @@
 -- The nodes of a world behind a call of one of them.
-use Rattle.std.proofs.Common.{◌≡◌, ◌≢◌, ◌<◌, ◌+◌, ℕ, zero, suc, List, [], ◌∷◌, length, Option, Some, None, slice_get, set, refl, sym, ◌∙◌, ap, subst, arith}
-use Rattle.std.proofs.lemmas.List.{length-set}
-use Rattle.std.proofs.lemmas.Option.{slice_get-get_or}
+use Rattle.std.proofs.Common.{◌≡◌, ◌≢◌, ◌<◌, ◌+◌, ℕ, zero, suc, List, [], ◌∷◌, length, Some, None, slice_get, set, refl, sym, ◌∙◌, ap, arith}
 use Rattle.calls.specs.Views.{NodeView}
 use Rattle.calls.specs.Names.{node_of}
 use Rattle.calls.specs.declared.call.NodeCall.{NodeCall}
 use Rattle.calls.specs.declared.call.NodeCall.TheVariants.{Coordinator as of_coordinator, Shard as of_shard}
-use Rattle.calls.specs.declared.call.NodeName as names
-use Rattle.calls.specs.declared.call.NodeName.TheVariants as called_names
 use Rattle.laws.specs.Nodes.{IsThere, NodeName, coordinator, shard}
 use Rattle.call_turns.specs.StoreCalls.{called}
 use Rattle.cluster.specs.Worlds.{index_of, node_at}

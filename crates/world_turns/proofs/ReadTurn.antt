@@ -1,13 +1,13 @@
 -- A turn of a read in a slot of a world keeps the promise of a step.
-use Rattle.std.proofs.Common.{◌≡◌, ◌≢◌, ◌≤◌, ℕ, List, [], ◌∷◌, Option, Some, None, MatchOption, refl, sym, ◌∙◌, ap, subst}
+use Rattle.std.proofs.Common.{◌≡◌, ◌≤◌, ℕ, List, [], ◌∷◌, Option, Some, None, refl, sym, ◌∙◌, ap, subst}
 use Rattle.device.specs.Device.{State, left}
 use Rattle.tuples.specs.declared.tuple.Tuple.{Tuple}
 use Rattle.calls.specs.Asking.{MayBeMade}
 use Rattle.answer_flow.specs.ReadViews as read_views
 use Rattle.answer_flow.specs.ReadViews.{ReadEnding, ReadFlowValue, rows_of}
 use Rattle.turns.specs.Flows.{Asked, IsAsked, reading}
-use Rattle.turns.specs.Replies.{Answer, selected}
-use Rattle.turns.specs.Runs.{Told, answered}
+use Rattle.turns.specs.Replies.{selected}
+use Rattle.turns.specs.Runs.{answered}
 use Rattle.turns.specs.Stores.{FlowView, Store}
 use Rattle.answer_turns.specs.AnswerTurns.{shown_answer}
 use Rattle.answer_turns.specs.ReadTurns.{read_in_slot, read_of, read_tells}

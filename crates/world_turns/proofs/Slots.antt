@@ -1,5 +1,5 @@
 -- The slots of a world's flows: as many as run, each once.
-use Rattle.std.proofs.Common.{◌≡◌, ◌≢◌, ⊎_elim, inl, inr, ◌==◌, ◌<◌, ◌≤◌, ◌+◌, ℕ, zero, suc, Bool, true, false, true≢false, List, [], ◌∷◌, length, Option, Some, None, is_some, cond, count_by, slice_index_or, Contains, refl, sym, ◌∙◌, ap, subst, arith}
+use Rattle.std.proofs.Common.{◌≡◌, ◌≢◌, ⊎_elim, ◌<◌, ◌+◌, ℕ, zero, suc, false, List, [], ◌∷◌, length, Option, Some, None, is_some, cond, slice_index_or, Contains, refl, ◌∙◌, ap, subst, arith}
 use Rattle.std.specs.List.{AllByRecursion, IsDistinct}
 use Rattle.std.proofs.Math.Dec.{eqb}
 use Rattle.std.proofs.lemmas.Bool.{cases_Bool, eqb-true}
@@ -26,7 +26,7 @@ count (None ∷ flows) = count flows
 count (Some f ∷ flows) = 1 + count flows
 
 as_many_from : (k : ℕ) (flows : List (Option Flow)) → length (slots_from k flows) ≡ count flows
-unfolding slots_from, count
+unfolding slots_from count
 as_many_from k [] = refl
 as_many_from k (None ∷ flows) = as_many_from (suc k) flows
 as_many_from k (Some f ∷ flows) = omega (arith, as_many_from (suc k) flows)
@@ -73,7 +73,7 @@ above k m (None ∷ flows) lt = above k (suc m) flows (omega (arith, lt))
 above k m (Some f ∷ flows) lt = (not_equal k m lt, above k (suc m) flows (omega (arith, lt)))
 
 once_from : (k : ℕ) (flows : List (Option Flow)) → IsDistinct eqb (slots_from k flows)
-unfolding slots_from, IsDistinct
+unfolding slots_from IsDistinct
 once_from k [] = tt
 once_from k (None ∷ flows) = once_from (suc k) flows
 once_from k (Some f ∷ flows) = (above k (suc k) flows (omega arith), once_from (suc k) flows)
@@ -89,11 +89,11 @@ module _ (shards : ℕ) (flows : List (Option Flow)) (shown : ℕ → Option Flo
   each_taken t has =
       let found = flow_of 0 flows t has in
       let at : flow_at flows t ≡ Some found.1 = ap (λ (j : ℕ). flow_at flows j) (let e : t ≡ found.0 = omega (arith, found.2) in e) ∙ found.3 in
-      by_view (shown t) (subst (λ (o : Option Flow). IsShownSlot shards o (shown t)) at (shows t))
+      by_view found.1 (shown t) (subst (λ (o : Option Flow). IsShownSlot shards o (shown t)) at (shows t))
     where
-      by_view : {f : Flow} (o : Option FlowView) → IsShownSlot shards (Some f) o → o ≢ None
-      by_view None is none = is
-      by_view (Some v) is none = cc
+      by_view : (f : Flow) (o : Option FlowView) → IsShownSlot shards (Some f) o → o ≢ None
+      by_view f None is none = is
+      by_view f (Some v) is none = cc
 
   pub all_taken : (t : ℕ) → shown t ≢ None → Contains (taken_slots flows) t
   unfolding taken_slots

@@ -1,5 +1,5 @@
 -- The start of a flow keeps the promise of a step: it begins in a free slot, is refused where as many run as may, or may not be asked for.
-use Rattle.std.proofs.Common.{◌≡◌, ◌≢◌, ◌⊎◌, ⊎_elim, inl, inr, ◌<◌, ◌≤◌, ℕ, List, [], ◌∷◌, length, Option, Some, None, refl, sym, ◌∙◌, ap, subst, arith}
+use Rattle.std.proofs.Common.{◌≡◌, ◌⊎◌, ⊎_elim, inl, inr, ◌<◌, ◌≤◌, ℕ, List, [], length, Option, Some, refl, sym, ◌∙◌, ap, subst, arith}
 use Rattle.std.proofs.lemmas.Bool.{cases_eq, cases_lt}
 use Rattle.device.specs.Device.{State, left}
 use Rattle.refusal.specs.declared.refusal.Refusal.TheVariants.{Full}
@@ -8,17 +8,15 @@ use Rattle.decisions.specs.Flows.{Freshness, at_least, exact, latest, most_names
 use Rattle.calls.specs.declared.call.NodeName as names
 use Rattle.calls.specs.declared.call.NodeName.TheVariants as called_names
 use Rattle.answer_flow.specs.Finding.{fresh_of}
-use Rattle.care_flow.specs.Cares as cares
 use Rattle.care_flow.specs.Flushing as flushes
 use Rattle.care_flow.specs.declared.care.Care.{Care}
 use Rattle.care_flow.specs.declared.care.Care.TheVariants as any_care
 use Rattle.laws.specs.Nodes.{IsThere, NodeName}
 use Rattle.turns.specs.Flows.{Asked, IsAsked, IsFreshness, nothing_held}
-use Rattle.turns.specs.Moments.{Moment}
 use Rattle.turns.specs.Promises.{RunsOne, events_of}
 use Rattle.turns.specs.Runs as runs
 use Rattle.turns.specs.Runs.{Told, began, refuses}
-use Rattle.turns.specs.Stores.{FlowView, Store}
+use Rattle.turns.specs.Stores.{FlowView, NamesHorizon, Store}
 use Rattle.call_turns.specs.Steps.{shown_flow}
 use Rattle.call_turns.specs.StoreCalls.{name_of}
 use Rattle.call_turns.proofs.FullStores.{full_stores_refuse}
@@ -58,7 +56,7 @@ module _ {D : Type 0} (state : D → State) (honest : D → Type 0) (moment : D 
     not_asked not =
         let nothing = begins.nowhere not in
         keeps_idle state honest moment left_since only_now old new s shows step told (λ n is. no_restart n (sym is_start ∙ is)) nothing.0 (same_world nothing.1)
-        (λ now standing. subst (λ (x : runs.Step). runs.Takes old.shards _ now x [] now) (sym is_start) (inr (λ whole. not (able.wanted whole), refl, refl)))
+        (λ now standing. subst (λ (x : runs.Step). runs.Takes old.shards (NamesHorizon state honest old.store old.shards s now) now x [] now) (sym is_start) (inr (λ whole. not (able.wanted whole), (refl, refl))))
       where
         no_restart : (n : NodeName) → runs.start asked ≡ runs.restart n → ⊥
         no_restart n is = cc

@@ -1,5 +1,5 @@
 -- A node of a store that stands keeps its name, whatever it is asked.
-use Rattle.std.proofs.Common.{◌≡◌, ◌⊎◌, inl, inr, ⊎_elim, Bool, true, false, ℕ, List, Result, Ok, Err, refl, sym, ◌∙◌, ap, subst}
+use Rattle.std.proofs.Common.{◌≡◌, ◌⊎◌, ⊎_elim, true, false, ℕ, List, Ok, Err, sym, ◌∙◌, ap, subst}
 use Rattle.std.proofs.lemmas.Bool.{cases_Bool}
 use Rattle.refusal.specs.declared.refusal.Refusal.TheVariants.{Down}
 use Rattle.device.specs.Device.{State}
@@ -40,14 +40,14 @@ module _ {D : Type 0} (state : D → State) (honest : D → Type 0) (moment : D 
   stays v w (Begin write) (told.Begin (Err e)) sound a = ap me_of a.err.0
   stays v w Heads (told.Heads r) sound a = ap me_of a.0
   stays v w (Batch from to) (told.Batch r) sound a = ap me_of a.0
-  stays v w (Decide intent votes) (told.Decide (Ok d)) sound a = ⊎_elim (λ is. absurd (a.was_up is)) (λ up. ap me_of ((a.ok (sound up)).0.new_is)) (up_or_down v)
+  stays v w (Decide intent votes) (told.Decide (Ok d)) sound a = ⊎_elim (λ is. absurd (let bad : false ≡ true = a.was_up is in cc)) (λ up. ap me_of ((a.ok (sound up)).0.new_is)) (up_or_down v)
   stays v w (Decide intent votes) (told.Decide (Err e)) sound a = ap me_of a.same
   stays v w (Outcome decided) (told.Outcome r) sound a = ap me_of a.0
   stays v w (Abort intent) (told.Abort (Ok verdict)) sound a = ⊎_elim (λ is. absurd (let bad : Ok verdict ≡ Err Down = a.down.1 is in cc)) (λ up. ap me_of ((a.ok (sound up)).1.new_is)) (up_or_down v)
   stays v w (Abort intent) (told.Abort (Err e)) sound a = ap me_of a.err.0
   stays v w (Inquire id) (told.Inquire r) sound a = ap me_of a.0
   stays v w (Raise place settled) (told.Raise (Ok done)) sound a =
-      ⊎_elim (λ is. absurd (a.was_up is)) (λ up. ⊎_elim (λ one. ap me_of one.1) (λ same. ap me_of same.1) ((a.ok (sound up)).0.new_is)) (up_or_down v)
+      ⊎_elim (λ is. absurd (let bad : false ≡ true = a.was_up is in cc)) (λ up. ⊎_elim (λ one. ap me_of one.1) (λ same. ap me_of same.1) ((a.ok (sound up)).0.new_is)) (up_or_down v)
   stays v w (Raise place settled) (told.Raise (Err e)) sound a = ap me_of a.err.0
   stays v w Flush (told.Flush r) sound a = a.keeps.me
   stays v w call reply sound a = absurd a
@@ -62,9 +62,9 @@ module _ {D : Type 0} (state : D → State) (honest : D → Type 0) (moment : D 
     shard_keeps coordinator v w same name = absurd name
     shard_keeps (shard s) v w same name = same ∙ name
 
-    pub keeps_name : (n : NodeName) (was is : NodeView D) (call : NodeCall) (reply : Reply) → IsNode store shards old n was → Answered state honest moment left_since was call reply is → IsNamed store shards is n
-    keeps_name n (views.coordinator v) (views.coordinator w) (Coordinator call) (from_coordinator reply) node a = coordinator_keeps n v w call reply node a
-    keeps_name n (views.shard v) (views.shard w) (Shard s call) (from_shard reply) node a =
+    pub keeps_name : (n : NodeName) (was : NodeView D) (call : NodeCall) (reply : Reply) (is : NodeView D) → IsNode store shards old n was → Answered state honest moment left_since was call reply is → IsNamed store shards is n
+    keeps_name n (views.coordinator v) (Coordinator call) (from_coordinator reply) (views.coordinator w) node a = coordinator_keeps n v w call reply node a
+    keeps_name n (views.shard v) (Shard s call) (from_shard reply) (views.shard w) node a =
         shard_keeps n v w (shard_stays state honest moment left_since (views.shard v) (Shard s call) (from_shard reply) (views.shard w) a) node.named
-    keeps_name n (views.refused e a b) is call reply node answered = subst (λ (v : NodeView D). IsNamed store shards v n) (sym answered.0) tt
-    keeps_name n was is call reply node answered = absurd answered
+    keeps_name n (views.refused e a b) call reply is node answered = subst (λ (v : NodeView D). IsNamed store shards v n) (sym answered.0) tt
+    keeps_name n was call reply is node answered = absurd answered

@@ -1,22 +1,22 @@
 -- Steps that call no node: the store has other flows, or nothing changes.
-use Rattle.std.proofs.Common.{◌≡◌, ◌≢◌, ⊎_elim, inl, inr, ◌≤◌, ℕ, List, [], Option, Some, None, refl, sym, ◌∙◌, ap, subst}
+use Rattle.std.proofs.Common.{◌≡◌, inr, ℕ, List, [], Option, Some, None, refl, sym, ap, subst}
 use Rattle.device.specs.Device.{State, left}
 use Rattle.calls.specs.Views as views
 use Rattle.calls.specs.Views.{NodeView}
 use Rattle.laws.specs.Nodes.{NodeName}
-use Rattle.turns.specs.Moments.{Moment, Running, flow_at as running_at}
+use Rattle.turns.specs.Moments.{Moment, Running}
 use Rattle.turns.specs.Promises.{Ran, events_of}
 use Rattle.turns.specs.Runs as runs
 use Rattle.turns.specs.Runs.{Told}
 use Rattle.turns.specs.Stores.{FlowView, NamesHorizon, ShowsSlot, StandsOver, Store}
-use Rattle.call_turns.specs.StoreCalls.{IsNode, ShowsMemory}
+use Rattle.call_turns.specs.StoreCalls.{ShowsMemory}
 use Rattle.call_turns.proofs.Made.{inside_by, still_within}
-use Rattle.cluster.specs.Worlds.{WorldView, flow_at, node_at}
+use Rattle.cluster.specs.Worlds.{WorldView, flow_at}
 use Rattle.cluster.specs.declared.event.What.{What}
 use Rattle.cluster.specs.declared.flow.Flow.{Flow}
 use Rattle.cluster.specs.declared.step.Step.{Step}
 use Rattle.worlds.specs.Promised.{Keeps}
-use Rattle.worlds.specs.Shown.{IsShownSlot, Shows, named}
+use Rattle.worlds.specs.Shown.{IsShownSlot, Shows}
 use Rattle.worlds.specs.Told.{all_told, step_of}
 
 -- a store with other flows shows the nodes that it showed

@@ -1,8 +1,7 @@
 -- A turn of a watch in a slot of a world keeps the promise of a step.
-use Rattle.std.proofs.Common.{◌≡◌, ◌≢◌, ◌≤◌, ℕ, List, [], ◌∷◌, Option, Some, None, MatchOption, refl, sym, ◌∙◌, ap, subst}
+use Rattle.std.proofs.Common.{◌≡◌, ◌≢◌, ◌≤◌, ℕ, List, [], ◌∷◌, Option, Some, None, refl, sym, ◌∙◌, ap, subst}
 use Rattle.device.specs.Device.{State, left}
 use Rattle.tuples.specs.Watching.{Placed}
-use Rattle.calls.specs.declared.call_name.CallName.{CallName}
 use Rattle.answer_flow.specs.WatchViews as watch_views
 use Rattle.answer_flow.specs.WatchViews.{WatchEnding, WatchFlowValue, name_of, name_unless}
 use Rattle.turns.specs.Flows.{Asked, IsAsked, watching}

@@ -1,11 +1,11 @@
 -- Behind a reply, and behind a cancel, a write waits for no other.
-use Rattle.std.proofs.Common.{◌≡◌, ◌≢◌, ◌⊎◌, inl, inr, ⊎_elim, ℕ, Bool, true, false, Option, Some, None, MatchOption, Result, Ok, Err, refl, sym, ◌∙◌, ap, subst}
+use Rattle.std.proofs.Common.{◌≡◌, ◌≢◌, ◌⊎◌, inl, inr, ⊎_elim, ℕ, Bool, true, false, Option, Some, None, MatchOption, Result, Ok, Err, refl, sym, ◌∙◌, ap}
 use Rattle.refusal.specs.declared.refusal.Refusal.{Refusal}
 use Rattle.refusal.specs.declared.refusal.Refusal.TheVariants.{Full}
 use Rattle.tuples.specs.Writes.{WriteValue}
 use Rattle.tuples.specs.declared.entry.WriteId.{WriteId}
 use Rattle.decisions.specs.Standing.{DecidedValue}
-use Rattle.decisions.specs.Values.{IntentValue, TicketValue, VerdictValue, VoteValue}
+use Rattle.decisions.specs.Values.{IntentValue, TicketValue, VerdictValue}
 use Rattle.coordinator.specs.declared.decided.NotDecided.{NotDecided}
 use Rattle.coordinator.specs.declared.telling.Outcome as outcomes
 use Rattle.coordinator.specs.declared.telling.Outcome.TheVariants.{Kept, Later, Unsure as is_unsure}

@@ -1,19 +1,9 @@
 -- A turn of a write in a slot of a world keeps the promise of a step.
-use Rattle.std.proofs.Common.{◌≡◌, ◌≢◌, ◌≤◌, ◌<◌, ◌++◌, ⊎_elim, ℕ, Bool, true, false, List, [], ◌∷◌, Option, Some, None, MatchOption, Result, Contains, refl, sym, ◌∙◌, ap, subst}
+use Rattle.std.proofs.Common.{◌≡◌, ◌≤◌, ℕ, Bool, true, false, List, Option, Some, None, refl, sym, ◌∙◌, ap, subst}
 use Rattle.device.specs.Device.{State, left}
-use Rattle.refusal.specs.declared.refusal.Refusal.TheVariants.{Damaged}
-use Rattle.calls.specs.Asking.{Refuses}
-use Rattle.calls.specs.Views.{NodeView}
-use Rattle.calls.specs.declared.call.NodeCall.{NodeCall}
-use Rattle.calls.specs.declared.call.NodeCall.TheVariants.{Coordinator, Shard}
-use Rattle.calls.specs.declared.reply.Reply.{Reply}
-use Rattle.commit_flow.specs.Answering.{GivesTo}
-use Rattle.commit_flow.specs.Views.{WriteView}
 use Rattle.commit_flow.specs.Writing.{Asks}
-use Rattle.commit_flow.specs.WriteHolds.{WriteAwaited}
 use Rattle.commit_flow.specs.declared.end.WriteEnd.{WriteEnd}
 use Rattle.commit_flow.specs.declared.end.WriteEnd.TheVariants as write_ends
-use Rattle.turns.specs.Runs.{Told}
 use Rattle.turns.specs.SeamLaws.{told_unless}
 use Rattle.turns.specs.Stores.{FlowView, Store}
 use Rattle.write_turns.specs.Seen.{shown, shown_until, told_end, told_of}
