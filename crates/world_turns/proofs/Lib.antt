@@ -17,3 +17,4 @@ pub mod Still
 pub mod AllTurns
 pub mod Cancels
 pub mod Starts
+pub mod Chains

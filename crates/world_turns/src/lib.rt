@@ -8,4 +8,4 @@
 
 mod world_laws;
 
-pub use world_laws::{cancels_keep, starts_keep, turns_keep};
+pub use world_laws::{cancels_keep, starts_keep, steps_chain, turns_keep};

@@ -3,7 +3,7 @@ ghost use Rattle.std.specs.Prelude.{ℕ};
 ghost use Rattle.care_flow.specs.declared.care.Care.{Care};
 ghost use Rattle.cluster.specs.declared.request.Request.{Request};
 ghost use Rattle.cluster.specs.declared.step.Step.TheVariants.{Cancel, Care as care_for, Start, Turn};
-ghost use Rattle.worlds.specs.Promised.{StepKeeps};
+ghost use Rattle.worlds.specs.Promised.{RunsKeep, StepKeeps, StepsKeep};
 
 use device::Device;
 
@@ -21,4 +21,9 @@ pub fn turns_keep<D: Device>()
 /// The flow in a slot is cancelled: a write goes out, or on to its end, and any other is gone; in an empty slot nothing is.
 pub fn cancels_keep<D: Device>()
     ensures { (slot : ℕ) → StepKeeps D.state D.honest D.moment D.left_since (Cancel slot) }
+{}
+
+/// Where each step keeps the promise of one step, a list of steps keeps that of a chain, from a store that stands.
+pub fn steps_chain<D: Device>()
+    ensures { StepsKeep D.state D.honest D.moment D.left_since → RunsKeep D.state D.honest D.moment D.left_since }
 {}
