@@ -1,7 +1,10 @@
--- A start where all slots are taken keeps the promise of a step: nothing changes, and Full is told.
-use Rattle.std.proofs.Common.{◌≡◌, inl, inr, ◌≤◌, ◌<◌, ℕ, List, [], ◌∷◌, length, Option, Some, None, refl, sym, ◌∙◌, subst, arith}
+-- A start where as many slots are taken as may be keeps the promise of a step: nothing changes, and Full is told.
+use Rattle.std.proofs.Common.{◌≡◌, ◌≢◌, inl, inr, ◌≤◌, ℕ, List, [], ◌∷◌, length, Option, Some, None, refl, sym, ◌∙◌, subst, arith}
 use Rattle.std.proofs.Math.Path.{fun_ext}
-use Rattle.std.proofs.lemmas.Map.Steps.{le-length_from_below}
+use Rattle.std.proofs.lemmas.Bool.{eqb-true}
+use Rattle.std.proofs.lemmas.Cmp.{nat_eq_equiv}
+use Rattle.std.proofs.lemmas.Map.Made.{length-le_from_is_member}
+use Rattle.std.proofs.lemmas.Map.Views.{Contains-from_any}
 use Rattle.refusal.specs.declared.refusal.Refusal.TheVariants.{Full}
 use Rattle.device.specs.Device.{State, left}
 use Rattle.laws.specs.Nodes.{NodeName}
@@ -21,19 +24,20 @@ module _ {D : Type 0} (state : D → State) (honest : D → Type 0) (moment : D 
   devices : new.devices ≡ old.devices
   devices = fun_ext (λ n. there.store_stays.devices n)
 
-  -- each slot is that of a flow
-  flow_of : (t : ℕ) → t < 1024 → (r : Running) × (flow_at t now.running ≡ Some r)
-  flow_of t lt = by_flow (flow_at t now.running) refl (old.flows t) refl (standing.flows t)
+  -- each slot that is taken is that of a flow
+  flow_of : (t : ℕ) → old.flows t ≢ None → (r : Running) × (flow_at t now.running ≡ Some r)
+  flow_of t taken = by_flow (flow_at t now.running) refl (old.flows t) refl (standing.flows t)
     where
       by_flow : (o : Option Running) → flow_at t now.running ≡ o → (g : Option FlowView) → old.flows t ≡ g → ShowsSlot o g → (r : Running) × (flow_at t now.running ≡ Some r)
       by_flow (Some r) is g shown shows = (r, is)
-      by_flow None is None shown shows = absurd (there.taken t lt shown)
+      by_flow None is None shown shows = absurd (taken shown)
       by_flow None is (Some v) shown shows = absurd shows
 
   many : 1024 ≤ length now.running
   many =
-      let all = le-length_from_below (slots_of now.running) 1024 (λ t lt. let flow = flow_of t lt in at_slots t now.running flow.0 flow.1) in
-      omega (arith, all, no_fewer now.running)
+      let all = length-le_from_is_member nat_eq_equiv there.taken (slots_of now.running) there.once
+      (λ q is. let flow = flow_of q (there.each q (Contains-from_any eqb-true q there.taken is)) in at_slots q now.running flow.0 flow.1) in
+      omega (arith, all, no_fewer now.running, there.many)
 
   ran : Ran state honest moment left_since store shards old now number (start asked) (events_of number (refuses Full ∷ [])) new
   ran = record {

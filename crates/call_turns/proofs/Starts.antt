@@ -3,8 +3,8 @@ use Rattle.std.proofs.Common.{◌≡◌, ◌≢◌, inl, inr, ⊎_elim, ◌==◌
 use Rattle.std.specs.List.{AllByRecursion, IsDistinct, list_any}
 use Rattle.std.proofs.Math.Dec.{eqb}
 use Rattle.std.proofs.Math.Path.{fun_ext}
-use Rattle.std.proofs.lemmas.Bool.{cases_Bool, cases_lt, eq-eqb, eqb-true}
-use Rattle.std.proofs.lemmas.Map.Steps.{length-le_from_distinct_below}
+use Rattle.std.proofs.lemmas.Bool.{cases_Bool, eq-eqb, eqb-true}
+use Rattle.std.proofs.lemmas.Map.Made.{length-le_from_is_member}
 use Rattle.std.proofs.lemmas.Cmp.{nat_eq_equiv}
 use Rattle.std.proofs.lemmas.List.Elements.{Contains-append_right}
 use Rattle.std.proofs.lemmas.Map.Views.{Contains-from_any, list_any-from_Contains}
@@ -99,28 +99,22 @@ module _ {D : Type 0} (state : D → State) (honest : D → Type 0) (moment : D 
   free : flow_at slot now.running ≡ None
   free = shown_none (flow_at slot now.running) (old.flows slot) there.free (standing.flows slot)
 
-  -- a flow that runs has one of the 1,024 slots, and not this one
-  own_slot : (j : ℕ) (r : Running) → slice_get now.running j ≡ Some r → (r.slot < 1024) × (r.slot ≢ slot)
-  own_slot j r is =
-      let found = at_index now.running j r is in (
-        ⊎_elim
-            (λ low. low)
-            (λ high. let none = shown_none (flow_at r.slot now.running) (old.flows r.slot) (there.no_more r.slot high) (standing.flows r.slot) in
-            let both : Some found.0 ≡ None = sym found.1 ∙ none in absurd cc)
-            (cases_lt r.slot 1024),
-        λ same. let both : Some found.0 ≡ None = sym found.1 ∙ ap (λ (t : ℕ). flow_at t now.running) same ∙ free in cc,
-      )
+  shown_some : (o : Option Running) (g : Option FlowView) (r : Running) → o ≡ Some r → ShowsSlot o g → g ≢ None
+  shown_some o None r is shows none = absurd (subst (λ (x : Option Running). ShowsSlot x None) is shows)
+  shown_some o (Some v) r is shows none = cc
+
+  -- each flow that runs has one of the slots that are taken
+  in_taken : (t : ℕ) → Contains (slots_of now.running) t → Contains there.taken t
+  in_taken t has =
+      let flow = of_flow now.running t has in
+      let found = at_index now.running flow.0 flow.1 flow.2 in
+      there.all t (subst (λ (u : ℕ). old.flows u ≢ None) flow.3 (shown_some (flow_at flow.1.slot now.running) (old.flows flow.1.slot) found.0 found.1 (standing.flows flow.1.slot)))
 
   few : length now.running < 1024
-  unfolding IsDistinct
   few =
-      let all = length-le_from_distinct_below (slot ∷ slots_of now.running) 1024
-      (apart slot now.running (λ j r is. (own_slot j r is).1), distinct now.running standing.stands.flows.slots)
-      (λ q is. ⊎_elim
-      (λ first. subst (λ (t : ℕ). t < 1024) first there.within)
-      (λ rest. let flow = of_flow now.running q rest in subst (λ (t : ℕ). t < 1024) flow.3 (own_slot flow.0 flow.1 flow.2).0)
-      (among slot q (slots_of now.running) (Contains-from_any eqb-true q (slot ∷ slots_of now.running) is))) in
-      omega (arith, all, no_fewer now.running)
+      let all = length-le_from_is_member nat_eq_equiv (slots_of now.running) there.taken (distinct now.running standing.stands.flows.slots)
+      (λ q is. list_any-from_Contains nat_eq_equiv q there.taken (in_taken q (Contains-from_any eqb-true q (slots_of now.running) is))) in
+      omega (arith, all, no_fewer now.running, there.few)
 
   abbrev after : Moment
   after = with_flow now slot asked

@@ -1,5 +1,6 @@
 -- The steps of a run that call no node: a flow begins, and one that is no write is cancelled.
-use Rattle.std.specs.Prelude.{◌≡◌, ◌≢◌, ◌≤◌, ◌<◌, ℕ, false, List, [], ◌∷◌, Some, None}
+use Rattle.std.specs.Prelude.{◌≡◌, ◌≢◌, ◌≤◌, ◌<◌, ℕ, eqb, false, List, [], ◌∷◌, length, Some, None, Contains}
+use Rattle.std.specs.List.{IsDistinct}
 use Rattle.refusal.specs.declared.refusal.Refusal.TheVariants.{Full}
 use Rattle.device.specs.Device.{State}
 use Rattle.laws.specs.Nodes.{NodeName}
@@ -21,18 +22,22 @@ pub record IsUncalled {D : Type 0} (old new : Store D) : Type 0 where
 abbrev pub shown_flow : Asked → Holds → FlowView
 shown_flow asked holds = record { asked = Some asked; holds = holds; is_cancelled = false }
 
--- A flow that was asked this began in a slot that was free, one of 1,024: no flow is in any other. It holds nothing yet.
+-- A flow that was asked this began in a slot that was free, where fewer than 1,024 slots were taken: no flow was in any other. It holds nothing yet.
 pub record IsBegunThere {D : Type 0} (old new : Store D) (slot : ℕ) (asked : Asked) : Type 0 where
-  pub within : slot < 1024
+  pub taken : List ℕ
+  pub few : length taken < 1024
+  pub all : (t : ℕ) → old.flows t ≢ None → Contains taken t
   pub free : old.flows slot ≡ None
-  pub no_more : (t : ℕ) → 1024 ≤ t → old.flows t ≡ None
   pub store_stays : IsUncalled old new
   pub started : new.flows slot ≡ Some (shown_flow asked (nothing_held asked))
   pub others : (t : ℕ) → t ≢ slot → new.flows t ≡ old.flows t
 
--- All 1,024 slots were taken, and the store stays as it was.
+-- 1,024 slots or more were taken, each by a flow of its own, and the store stays as it was.
 pub record IsFullThere {D : Type 0} (old new : Store D) : Type 0 where
-  pub taken : (t : ℕ) → t < 1024 → old.flows t ≢ None
+  pub taken : List ℕ
+  pub many : 1024 ≤ length taken
+  pub once : IsDistinct eqb taken
+  pub each : (t : ℕ) → Contains taken t → old.flows t ≢ None
   pub store_stays : IsUncalled old new
   pub same : (t : ℕ) → new.flows t ≡ old.flows t
 

@@ -18,7 +18,7 @@ pub fn quiet_turns_run<D: Device>()
     ensures refuses { (store shards : ℕ) → QuietTurnsRefuse D.state D.honest D.moment D.left_since store shards }
 {}
 
-/// A flow of whatever kind keeps the promise of a step where it begins in a slot that was free, or is refused with `Full` where none was, and one that is no
+/// A flow of whatever kind keeps the promise of a step where it begins in a slot that was free, or is refused with `Full` where 1,024 run, and one that is no
 /// write where it is cancelled.
 pub fn flows_start_and_are_cancelled<D: Device>()
     ensures starts { (store shards : ℕ) → FlowsStart D.state D.honest D.moment D.left_since store shards }

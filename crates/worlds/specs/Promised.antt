@@ -10,9 +10,10 @@ use Rattle.cluster.specs.declared.event.Event.{Event}
 use Rattle.cluster.specs.declared.event.What.{What}
 use Rattle.cluster.specs.declared.step.Step.{Step}
 use Rattle.laws.specs.Nodes.{NodeName, coordinator, shard}
+use Rattle.turns.specs.Moments.{Moment}
 use Rattle.turns.specs.Promises.{RunsAll, RunsOne, events_of}
 use Rattle.turns.specs.Reopens.{Reopens}
-use Rattle.turns.specs.Stores.{Store}
+use Rattle.turns.specs.Stores.{StandsOver, Store}
 use Rattle.worlds.specs.Shown.{Shows}
 use Rattle.worlds.specs.Told.{IsWholeStep, all_told, event_of, step_of}
 
@@ -23,10 +24,10 @@ devices_at any devices (shard s) = (get_or devices (2 * (s + 1)) any, get_or dev
 
 -- Given what a device holds and whether it is honest, how often a stop may have come at it, and what a stop since then may have left
 module _ {D : Type 0} (state : D → State) (honest : D → Type 0) (moment : D → ℕ) (left_since : D → ℕ → List ℕ → Type 0) where
-  -- a store that shows the world behind a step, which keeps the promise of that step, whatever its number
+  -- A store that keeps the promise of a step, whatever its number; and where the store before it stands, it shows the world behind the step.
   pub record Keeps (old : WorldView D) (s : Store D) (step : Step) (told : Option What) (new : WorldView D) : Type 0 where
     pub later : Store D
-    pub shows : Shows new later
+    pub shows : (now : Moment) → StandsOver state honest old.store old.shards s now → Shows new later
     pub store_is : new.store ≡ old.store
     pub shards_is : new.shards ≡ old.shards
     pub runs : (number : ℕ) → RunsOne state honest moment left_since old.store old.shards s number (step_of step) (events_of number (all_told told)) later
@@ -45,10 +46,10 @@ module _ {D : Type 0} (state : D → State) (honest : D → Type 0) (moment : D 
     pub shows : Shows new later
     pub runs : RunsAll state honest moment left_since old.store old.shards s number (map step_of steps) (map event_of events) later
 
-  -- and so does a list of steps
+  -- and so does a list of steps, from a store that stands
   abbrev pub RunsKeep : Type 0
   RunsKeep = (old new : WorldView D) (s : Store D) (number : ℕ) (steps : List Step) (events : List Event) → Shows old s → All IsWholeStep steps
-      → TookAll state honest moment left_since old number steps events new → KeepsAll old s number steps events new
+      → TookAll state honest moment left_since old number steps events new → (now : Moment) → StandsOver state honest old.store old.shards s now → KeepsAll old s number steps events new
 
   -- a store that shows a world that was opened, and keeps the promise of an opening
   pub record KeepsOpened (any : D) (devices : List D) (store shards : ℕ) (new : WorldView D) : Type 0 where

@@ -278,7 +278,8 @@ module _ {D : Type 0} (state : D → State) (honest : D → Type 0) (moment : D 
     own_of None is = let both : None ≡ Some verdict.id = sym ((right state honest moment left_since store shards old new now standing number slot is_cancelled v r flow).nothing is).verdict ∙ has in absurd cc
     own_of (Some id) is = (id, is)
 
-    dropped : (next : Nodes) (m : Machine) → Made next m → (back : VerdictValue) → back ≡ verdict → GoesToDrop asked_drop back.id later → Goal later
+    -- behind a quiet call the write is dropped there
+    pub dropped : (next : Nodes) (m : Machine) → Made next m → (back : VerdictValue) → back ≡ verdict → GoesToDrop asked_drop back.id later → Goal later
     dropped next m quiet back same (inl goes) =
         let id = own_of v.holds.id refl in
         subst Goal (sym (goes ∙ ap (λ (i : VerdictValue). at_rest (record v.holds { tickets = tickets; votes = votes; verdict = Some i.id })) same))

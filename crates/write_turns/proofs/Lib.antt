@@ -11,5 +11,4 @@ pub mod Deciding
 pub mod Preparing
 pub mod All
 pub mod Cancel
-pub mod Start
 mod SmallWrites

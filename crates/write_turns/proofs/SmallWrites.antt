@@ -9,7 +9,8 @@ use Rattle.calls.specs.declared.call.NodeCall.TheVariants.{Coordinator}
 use Rattle.calls.specs.declared.call.CoordinatorCall.TheVariants.{Begin}
 use Rattle.calls.specs.declared.reply.Reply.TheVariants.{Coordinator as from_coordinator}
 use Rattle.calls.specs.declared.reply.CoordinatorReply.TheVariants as told
-use Rattle.commit_flow.specs.Views.{view_ended}
+use Rattle.commit_flow.specs.Views.{WriteView, view_ended}
+use Rattle.commit_flow.specs.WriteHolds.{nothing_begun}
 use Rattle.commit_flow.specs.WriteHolds as waits
 use Rattle.commit_flow.specs.declared.end.WriteEnd.TheVariants.{Refused}
 use Rattle.laws.specs.Nodes.{coordinator, refused}
@@ -17,13 +18,16 @@ use Rattle.turns.specs.Runs.{refuses}
 use Rattle.turns.specs.Stores.{FlowView, Store}
 use Rattle.call_turns.specs.StoreCalls.{IsNode}
 use Rattle.write_turns.specs.Seen.{shown, told_of}
-use Rattle.write_turns.specs.Starting.{fresh}
 use Rattle.write_turns.specs.Turning.{MakesCall}
 
 module _ {D : Type 0} (state : D → State) (honest : D → Type 0) (moment : D → ℕ) (left_since : D → ℕ → List ℕ → Type 0) (a b : D) (write : WriteValue) where
+  -- a write flow before its first call
+  abbrev fresh : WriteView
+  fresh = record { write = Some write; holds = nothing_begun; caught = None; awaited = None; ended = None }
+
   -- a store whose nodes were all refused, with the flow in its first slot, and without it
   abbrev first_slot : ℕ → Option FlowView
-  first_slot zero = Some (shown (fresh write) false)
+  first_slot zero = Some (shown fresh false)
   first_slot (suc t) = None
 
   abbrev before : Store D
@@ -39,10 +43,10 @@ module _ {D : Type 0} (state : D → State) (honest : D → Type 0) (moment : D 
   others zero ne = absurd (ne refl)
   others (suc t) ne = refl
 
-  makes : MakesCall state honest moment left_since 7 1 before behind 0 false (fresh write) (view_ended (Refused Down)) (Coordinator (Begin write))
+  makes : MakesCall state honest moment left_since 7 1 before behind 0 false fresh (view_ended (Refused Down)) (Coordinator (Begin write))
   makes = record {
     some = omega arith;
-    mid = record (fresh write) { write = None; awaited = Some waits.begin };
+    mid = record fresh { write = None; awaited = Some waits.begin };
     asks = (tt, ((refl, refl), refl));
     fits = tt;
     whole = tt;

@@ -1,4 +1,3 @@
 pub mod Seen
 pub mod Turning
 pub mod Cancelling
-pub mod Starting

@@ -1,15 +1,9 @@
-// The start of a write flow, whatever it asks, and its cancel: laws, each the clause of a function with an empty body.
+// A write flow, whatever it asks, and its cancel: laws, each the clause of a function with an empty body.
 ghost use Rattle.std.specs.Prelude.{ℕ};
 ghost use Rattle.write_turns.specs.Cancelling.{CancelsRun};
-ghost use Rattle.write_turns.specs.Starting.{StartsRun};
 ghost use Rattle.write_turns.specs.Turning.{AllTurn};
 
 use device::Device;
-
-/// A write flow that begins in a free slot is a step of a run.
-pub fn started_writes_run<D: Device>()
-    ensures { (store shards : ℕ) → StartsRun D.state D.honest D.moment D.left_since store shards }
-{}
 
 /// Each call that a write flow asks is a turn of a run, whatever its node answers, down or refused: the flow goes on with what it is then seen to hold, or
 /// ends with the place of its write or with a refusal that has its cause.

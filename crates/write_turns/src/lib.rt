@@ -13,7 +13,7 @@ mod flush_turns;
 mod leaving_turns;
 mod vote_turns;
 
-pub use all_turns::{cancelled_writes_run, started_writes_run, writes_take_their_turn};
+pub use all_turns::{cancelled_writes_run, writes_take_their_turn};
 pub use catch_up_turns::{batch_takes_its_turn, learn_takes_its_turn, learned_takes_its_turn};
 pub use decision_turns::{begin_takes_its_turn, decide_takes_its_turn, outcome_takes_its_turn};
 pub use flush_turns::{coordinator_flush_takes_its_turn, shard_flush_takes_its_turn};
