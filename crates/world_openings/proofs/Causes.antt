@@ -52,10 +52,10 @@ module _ {D : Type 0} (state : D → State) (honest : D → Type 0) (moment : D 
   -- one whose opening was refused
   stays_out : (e : Refusal) → (e ≡ Down → HasCause) → (e ≡ Full → (was : List Record) × stops state honest store shards old n was × (epoch_of n was ≡ greatest_number))
       → OpensWithCause state honest moment left_since store shards old new n (refused e)
-  stays_out e down full = record {
+  stays_out e of_down of_full = record {
     came_up = λ d g same. absurd (not_up e d g same);
-    down = λ same. down (same_refusal e Down same);
-    full = λ same. full (same_refusal e Full same);
+    down = λ same. of_down (same_refusal e Down same);
+    full = λ same. of_full (same_refusal e Full same);
   }
 
   module _ (a b : D) (hon_a : honest (old n).0) (hon_b : honest (old n).1) (revived_a : IsRevived state honest moment left_since (old n).0 a) (revived_b : IsRevived state honest moment left_since (old n).1 b)

@@ -5,4 +5,9 @@ pub mod Causes
 pub mod Stepped
 pub mod Inside
 pub mod Lists
+pub mod Closed
+pub mod Begun
+pub mod Opened
+pub mod Memory
 pub mod Restart
+pub mod Whole

@@ -47,8 +47,9 @@ shows_marked r (Some v) shows = record { asked = shows.asked; still_asked = show
 
 pub shows_reopened : (slot : ℕ) (running : List Running) (v : Option FlowView) → ShowsSlot (flow_at slot running) v → ShowsSlot (flow_at slot (reopened running)) v
 shows_reopened slot [] v shows = shows
-shows_reopened slot (r ∷ rs) v shows = by_test (r.slot == slot) shows
+shows_reopened slot (r ∷ rs) v shows = by_test (r.slot == slot) (λ other. shows_reopened slot rs v other) shows
   where
-    by_test : (b : Bool) → ShowsSlot (if b then Some r else flow_at slot rs) v → ShowsSlot (if b then Some (record r { is_reopened = true }) else flow_at slot (reopened rs)) v
-    by_test true here = shows_marked r v here
-    by_test false other = shows_reopened slot rs v other
+    by_test : (b : Bool) → (ShowsSlot (flow_at slot rs) v → ShowsSlot (flow_at slot (reopened rs)) v) → ShowsSlot (if b then Some r else flow_at slot rs) v
+        → ShowsSlot (if b then Some (record r { is_reopened = true }) else flow_at slot (reopened rs)) v
+    by_test true rest here = shows_marked r v here
+    by_test false rest other = rest other

@@ -30,17 +30,18 @@ use Rattle.worlds.specs.Told.{all_told}
 use Rattle.world_openings.proofs.Causes.{opens_with_cause}
 use Rattle.world_openings.proofs.Inside.{HoldsOn, holds_opened, holds_still, inside, old_horizon, sound_now}
 use Rattle.world_openings.proofs.Lists.{is_somewhere, places_apart, set_elsewhere, set_here, shows_reopened}
+use Rattle.world_openings.proofs.Memory.{memory_elsewhere, opened_node, with_node}
 use Rattle.world_openings.proofs.Places.{in_place, in_place_elsewhere, in_place_here}
 use Rattle.world_openings.proofs.Reopening.{are_over}
 use Rattle.world_openings.proofs.Stepped.{IsStepped, given_behind, ids_behind, stepped, told_by}
 
 -- behind its opening a node has staged nothing, and is not down
-pub opened_so : (n : NodeName) (after : Moment) (t : Told) → OpensAs n after t → (staged_of (after.nodes.at n) ≡ []) × (after.nodes.at n ≢ down)
-opened_so n after (runs.began slot) is = absurd is
-opened_so n after runs.goes_on is = absurd is
-opened_so n after (runs.answered answer) is = absurd is
-opened_so n after runs.came_up is = (ap staged_of is.0.1, λ gone. let both : up is.0.0 [] ≡ down = sym is.0.1 ∙ gone in cc)
-opened_so n after (runs.refuses e) is = (ap staged_of is.0, λ gone. let both : refused e ≡ down = sym is.0 ∙ gone in cc)
+pub opened_so : (shards : ℕ) (may : ℕ → Type 0) (n : NodeName) (after : Moment) (t : Told) → OpensAs shards may n after t → (staged_of (after.nodes.at n) ≡ []) × (after.nodes.at n ≢ down)
+opened_so shards may n after (runs.began slot) is = absurd is
+opened_so shards may n after runs.goes_on is = absurd is
+opened_so shards may n after (runs.answered answer) is = absurd is
+opened_so shards may n after runs.came_up is = (ap staged_of is.0.1, λ gone. let both : up is.0.0 [] ≡ down = sym is.0.1 ∙ gone in cc)
+opened_so shards may n after (runs.refuses e) is = (ap staged_of is.0, λ gone. let both : refused e ≡ down = sym is.0 ∙ gone in cc)
 
 -- the flows behind it are shown as before
 flows_behind : (n : NodeName) (may : ℕ → Type 0) (shards : ℕ) (now after : Moment) (told : List Told) (r : Restarts shards may now n told after) (slot : ℕ) (v : Option FlowView) → ShowsSlot (flow_at slot now.running) v
@@ -48,57 +49,9 @@ flows_behind : (n : NodeName) (may : ℕ → Type 0) (shards : ℕ) (now after :
 flows_behind coordinator may shards now after told r slot v shows = subst (λ (l : List Running). ShowsSlot (flow_at slot l) v) (sym r.allowed.1) (shows_reopened slot now.running v shows)
 flows_behind (shard s) may shards now after told r slot v shows = subst (λ (l : List Running). ShowsSlot (flow_at slot l) v) (sym r.allowed.1) shows
 
--- what a coordinator shows of its memory is the same of any store with the same
-same_memory : {D : Type 0} (v : NodeView D) (old new : Store D) → new.open_ids ≡ old.open_ids → new.given ≡ old.given → ShowsMemory v old → ShowsMemory v new
-same_memory (views.coordinator v) old new ids given shows = (ids ∙ shows.0, given ∙ shows.1)
-same_memory (views.shard v) old new ids given shows = tt
-same_memory (views.refused e a b) old new ids given shows = tt
-
--- a store behind the opening of one of its nodes
-abbrev pub with_node : {D : Type 0} → Store D → NodeName → NodeView D → Store D
-with_node s n is = record {
-  devices = in_place n (devices_of is) s.devices;
-  at = in_place n (shown is) s.at;
-  open_ids = ids_behind n s.open_ids;
-  given = given_behind n is s.given;
-  flows = s.flows;
-}
-
--- the other nodes' memory is as before
-pub memory_elsewhere : {D : Type 0} (store shards : ℕ) (k n : NodeName) (v is : NodeView D) (s : Store D) → k ≢ n → IsNamed store shards v k → ShowsMemory v s → ShowsMemory v (with_node s n is)
-memory_elsewhere store shards coordinator coordinator v is s ne named shows = absurd (ne refl)
-memory_elsewhere store shards coordinator (shard t) v is s ne named shows = same_memory v s (with_node s (shard t) is) refl refl shows
-memory_elsewhere store shards (shard k) n (views.coordinator v) is s ne named shows = absurd named
-memory_elsewhere store shards (shard k) n (views.shard v) is s ne named shows = tt
-memory_elsewhere store shards (shard k) n (views.refused e a b) is s ne named shows = tt
-
 module _ {D : Type 0} (state : D → State) (honest : D → Type 0) (moment : D → ℕ) (left_since : D → ℕ → List ℕ → Type 0)
     (counts_now : (d : D) (t : ℕ) (c : List ℕ) → honest d → t ≤ moment d → left (state d) c → left_since d t c) (only_now : (d : D) (c : List ℕ) → honest d → left_since d (moment d) c → left (state d) c)
     (store shards : ℕ) where
-  -- the node that was opened has its name, and a store behind the opening shows its memory
-  is_named : (n : NodeName) (a b : D) (is : NodeView D) → Opens state honest moment left_since store shards (named n) a b is → IsNamed store shards is n
-  is_named coordinator a b (views.coordinator v) o = o.fresh.2
-  is_named coordinator a b (views.shard v) o = absurd o
-  is_named coordinator a b (views.refused e x y) o = tt
-  is_named (shard s) a b (views.coordinator v) o = absurd o
-  is_named (shard s) a b (views.shard v) o = o.fresh.2
-  is_named (shard s) a b (views.refused e x y) o = tt
-
-  memory_shown : (n : NodeName) (a b : D) (is : NodeView D) (s : Store D) → Opens state honest moment left_since store shards (named n) a b is → ShowsMemory is (with_node s n is)
-  memory_shown coordinator a b (views.coordinator v) s o = (sym o.fresh.3, refl)
-  memory_shown coordinator a b (views.shard v) s o = absurd o
-  memory_shown coordinator a b (views.refused e x y) s o = tt
-  memory_shown (shard t) a b (views.coordinator v) s o = absurd o
-  memory_shown (shard t) a b (views.shard v) s o = tt
-  memory_shown (shard t) a b (views.refused e x y) s o = tt
-
-  pub opened_node : (n : NodeName) (a b : D) (is : NodeView D) (s : Store D) → Reopened state honest moment left_since store shards (named n) a b is
-      → IsNamed store shards is n × ShowsMemory is (with_node s n is)
-  opened_node n a b is s r = ⊎_elim
-      (λ found. (is_named n r.a r.b is found.2, memory_shown n r.a r.b is s found.2))
-      (λ failed. subst (λ (v : NodeView D). IsNamed store shards v n × ShowsMemory v (with_node s n v)) (sym failed.0) (tt, tt))
-      r.opens
-
   -- a node that is there was opened again
   module _ (old : Store D) (n : NodeName) (there : IsThere shards n) (is : NodeView D) (reopened : Reopened state honest moment left_since store shards (named n) (old.devices n).0 (old.devices n).1 is)
       (number : ℕ) (now : Moment) (standing : StandsOver state honest store shards old now) where
@@ -121,7 +74,7 @@ module _ {D : Type 0} (state : D → State) (honest : D → Type 0) (moment : D 
         (node_cases k n)
 
     state_now : (staged_of (is_stepped.after.nodes.at n) ≡ []) × (is_stepped.after.nodes.at n ≢ down)
-    state_now = let t = is_stepped.step.tells in opened_so n is_stepped.after t.0 t.2
+    state_now = let t = is_stepped.step.tells in opened_so shards (NamesHorizon state honest store shards old now) n is_stepped.after t.0 t.2
 
     no_new_horizon : (x : ℕ) → NamesHorizon state honest store shards later is_stepped.after x → NamesHorizon state honest store shards old now x
     no_new_horizon x high = ⊎_elim
@@ -160,7 +113,7 @@ module _ {D : Type 0} (state : D → State) (honest : D → Type 0) (moment : D 
           open_ids = is_stepped.open_ids ∙ ap (ids_behind n) standing.nodes.open_ids;
           given = is_stepped.given ∙ ap (given_behind n is) standing.nodes.given;
         };
-        flows = λ slot. flows_behind n _ shards now is_stepped.after (told_by is ∷ []) is_stepped.step slot (old.flows slot) (standing.flows slot);
+        flows = λ slot. flows_behind n (NamesHorizon state honest store shards old now) shards now is_stepped.after (told_by is ∷ []) is_stepped.step slot (old.flows slot) (standing.flows slot);
         stands = is_stepped.stands;
       };
       named = λ x high. inr (no_new_horizon x high);
@@ -246,7 +199,7 @@ module _ {D : Type 0} (state : D → State) (honest : D → Type 0) (moment : D 
     shows_node k v at_k = ⊎_elim
         (λ same.
         let one : v ≡ is = set_here old.nodes (index_of (named n)) is v (ap (λ (j : NodeName). node_at put.nodes (named j)) (sym same) ∙ at_k) in
-        let opened = opened_node state honest moment left_since counts_now only_now old.store old.shards n (s.devices n).0 (s.devices n).1 is s reopened in
+        let opened = opened_node state honest moment left_since old.store old.shards n (s.devices n).0 (s.devices n).1 is s reopened in
         subst (λ (j : NodeName). IsNode old.store old.shards (with_node s n is) j v) (sym same) (subst (IsNode old.store old.shards (with_node s n is) n) (sym one) (record {
           there = node.there;
           named = opened.0;

@@ -133,7 +133,7 @@ module _ {D : Type 0} (state : D → State) (honest : D → Type 0) (moment : D 
             }
         shard_by_view fa fb (views.refused e x y) o over =
             let revived = are_revived state honest moment left_since store shards old new (shard s) a b hon_a hon_b ra rb fa fb in
-            let honest_now = (ra.still_honest.0 hon_a, rb.still_honest.0 hon_b) in
+            let honest_now : honest a × honest b = (ra.still_honest.0 hon_a, rb.still_honest.0 hon_b) in
             let of_opening = not_for_damage e o.err (λ damaged. of_shard.no_shard_is_damaged state honest moment left_since store shards old s a b now.machine.log now.machine.kept now.machine.horizon revived lt plain some
             (λ c d in_c in_d. sound.readable (shard s) c d lt in_c in_d) (o.damaged honest_now.0 honest_now.1 damaged)) in
             let stepped = failed_shard.refused_openings_step state honest moment left_since counts_now store shards old new now s a b x y e st revived
