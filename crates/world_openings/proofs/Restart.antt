@@ -163,7 +163,7 @@ module _ {D : Type 0} (state : D → State) (honest : D → Type 0) (moment : D 
   IsKept = KeepsOf state honest moment left_since old s n told new
 
   -- it is idle
-  where_idle : node_at old.nodes (named n) ≡ None → IsIdle old told new → IsKept
+  where_idle : node_at old.nodes (named n) ≡ None → IsIdle state honest moment left_since old told new → IsKept
   where_idle none idles = record {
     later = s;
     shows = subst (λ (w : WorldView D). Shows w s) (sym idles.1) shows;
@@ -239,7 +239,7 @@ module _ {D : Type 0} (state : D → State) (honest : D → Type 0) (moment : D 
   is_kept : Takes state honest moment left_since old (Restart (named n)) told new → IsKept
   is_kept takes = by_node (node_at old.nodes (named n)) refl takes
     where
-      by_node : (o : Option (NodeView D)) → node_at old.nodes (named n) ≡ o → MatchOption o (IsIdle old told new) (λ was. RestartsIn state honest moment left_since old (named n) was told new) → IsKept
+      by_node : (o : Option (NodeView D)) → node_at old.nodes (named n) ≡ o → MatchOption o (IsIdle state honest moment left_since old told new) (λ was. RestartsIn state honest moment left_since old (named n) was told new) → IsKept
       by_node None at idles = where_idle at idles
       by_node (Some was) at restarts = where_there was at restarts
 

@@ -182,5 +182,5 @@ module _ {D : Type 0} (state : D → State) (honest : D → Type 0) (moment : D 
     reopens = reopens state honest moment left_since counts_now only_now any devices store shards new.nodes some count over.nodes;
   }
     where
-      then : Store _
+      then : Store D
       then = later state honest moment left_since counts_now only_now any devices store shards new.nodes some count over.nodes
