@@ -1,20 +1,31 @@
 -- A store that stands rests over its devices once it is closed, and unmade devices rest at the empty log.
-use Rattle.std.proofs.Common.{◌≡◌, inl, ℕ, List, [], Some, refl, sym, ◌∙◌, ap, subst, arith}
+use Rattle.std.proofs.Common.{◌≡◌, ◌≤◌, inl, ℕ, List, [], take, Some, refl, sym, ◌∙◌, ap, subst, arith}
+use Rattle.std.proofs.lemmas.List.{take_all}
+use Rattle.tuples.specs.declared.entry.Entry.{Entry}
 use Rattle.records.specs.declared.record.Record.{Record}
+use Rattle.records.specs.Coordinators.{coordinator_state}
+use Rattle.records.specs.Replays.{ShardState, shard_state}
 use Rattle.device.specs.Device.{Leaves, State, left}
 use Rattle.device.proofs.Moments.{leaves_nothing_else}
 use Rattle.gated.specs.Gated.{gated}
 use Rattle.journal.specs.Records.{found}
 use Rattle.laws.specs.Nodes.{IsThere, NodeName, coordinator, leaves, shard}
+use Rattle.laws.specs.Shards.{ShardMeans}
+use Rattle.laws.specs.Worlds.{Rests}
 use Rattle.turns.specs.Stands.{at_shards}
 use Rattle.turns.specs.StoreLaws.{ClosedStoresRest, IsUnmade, UnmadeStoresRest}
 use Rattle.turns.specs.Stores.{stops, AreSound}
 use Rattle.laws.proofs.EmptyStore.{empty_rests}
 use Rattle.laws.proofs.LessLeft.{less_rests}
+use Rattle.turns.proofs.ShardPrepareSeam.{last_sync}
 
 found_nothing : (y : List ℕ) → found [] y ≡ Some []
 unfolding found gated
 found_nothing y = refl
+
+-- what a shard's records mean, seen with the coordinator's horizon, they mean with a lower one
+pub means_lower : (shards s : ℕ) (log : List Entry) (hc h : ℕ) (found : ShardState) → h ≤ hc → ShardMeans shards s log hc h found → ShardMeans shards s log h h found
+means_lower shards s log hc h found le m = record { learned = m.learned; horizon = m.horizon; rows = m.rows; settled = omega (arith, le, m.settled); in_doubt = m.in_doubt }
 
 -- a stop leaves nothing of an unmade device
 left_nothing : (s : State) (x : List ℕ) → IsUnmade s → left s x → x ≡ []
@@ -31,6 +42,7 @@ module _ {D : Type 0} (state : D → State) (honest : D → Type 0) (moment : D 
           sound = st.sound;
           rests = (less_rests (with coordinator) (left coordinator) (at_shards with) (at_shards left) store shards now.machine.log now.machine.kept now.machine.horizon
               (λ found is. (found, is, inl refl)) (λ t found is. (found, is, inl refl))).0 st.stands.rests;
+          listed = λ t found lt is. st.stands.listed t found lt (found, is, inl refl);
           given = λ w has. (st.stands.ids.log_given w has).epoch;
         },
         λ j d lt. let verdict = st.stands.told j d lt in record { given = verdict.given.epoch; none = verdict.none },
@@ -43,6 +55,13 @@ module _ {D : Type 0} (state : D → State) (honest : D → Type 0) (moment : D 
     pub stops_none : (n : NodeName) (rs : List Record) → IsThere shards n → stops state honest store shards devices n rs → rs ≡ []
     stops_none n rs there (a, b, in_a, in_b, is) = let both : Some [] ≡ Some rs = sym (records_none n a b there in_a) ∙ is in cc
 
+    -- a stop leaves no records of the coordinator
+    pub left_empty : stops state honest store shards devices coordinator []
+    left_empty =
+        let a = state (devices coordinator).0 in
+        let b = state (devices coordinator).1 in
+        (a.durable, b.durable, last_sync a, last_sync b, records_none coordinator a.durable b.durable tt (last_sync a))
+
     pub unmade_sound : (honest_devices : (n : NodeName) → IsThere shards n → honest (devices n).0 × honest (devices n).1) → AreSound state honest store shards devices
     unmade_sound both = record {
       honest_a = λ n there. (both n there).0;
@@ -53,10 +72,16 @@ module _ {D : Type 0} (state : D → State) (honest : D → Type 0) (moment : D 
 pub unmade_stores_rest : {D : Type 0} (state : D → State) (honest : D → Type 0) (moment : D → ℕ) (left_since : D → ℕ → List ℕ → Type 0) (store shards : ℕ) → UnmadeStoresRest state honest moment left_since store shards
 unmade_stores_rest state honest moment left_since store shards devices both un =
     let left = stops state honest store shards devices in
+    let rests : Rests store shards [] 0 0 (left coordinator) (at_shards left) = empty_rests (left coordinator) (left coordinator) (at_shards left) (at_shards left) store shards
+        (λ found is. inl (stops_none state honest moment left_since store shards devices un coordinator found tt is))
+        (λ s found lt is. inl (stops_none state honest moment left_since store shards devices un (shard s) found lt is)) in
     record {
       sound = unmade_sound state honest moment left_since store shards devices un both;
-      rests = empty_rests (left coordinator) (left coordinator) (at_shards left) (at_shards left) store shards
-          (λ found is. inl (stops_none state honest moment left_since store shards devices un coordinator found tt is))
-          (λ s found lt is. inl (stops_none state honest moment left_since store shards devices un (shard s) found lt is));
+      rests = rests;
+      listed = λ s found lt is.
+          let each = rests.each [] (left_empty state honest moment left_since store shards devices un) in
+          let none : take each.0 [] ≡ [] = take_all each.0 [] (omega arith) in
+          means_lower shards s [] (coordinator_state []).horizon 0 (shard_state found) (omega arith)
+          (subst (λ (l : List Entry). ShardMeans shards s l (coordinator_state []).horizon 0 (shard_state found)) none (each.3.each_shard s found lt is).means);
       given = λ w has. absurd (omega (arith, has.1));
     }

@@ -5,6 +5,7 @@ use Rattle.tuples.specs.declared.entry.Entry.{Entry}
 use Rattle.tuples.specs.declared.entry.WriteId.{WriteId}
 use Rattle.records.specs.declared.record.Record.{Record}
 use Rattle.records.specs.Coordinators.{coordinator_state}
+use Rattle.records.specs.Replays.{shard_state}
 use Rattle.device.specs.Device.{State}
 use Rattle.journal.specs.Records.{found}
 use Rattle.decisions.specs.Standing.{IsGivenOut}
@@ -19,6 +20,7 @@ use Rattle.turns.specs.Promises.{StopsBetween, stops_since}
 use Rattle.turns.specs.Stands.{at_shards}
 use Rattle.turns.specs.StoreLaws.{IsStopOf, IsStopped}
 use Rattle.turns.specs.Stores.{AreSound, IsToldOver, RestsOver, stops}
+use Rattle.turns.proofs.ClosedStoreRests.{means_lower}
 use Rattle.turns.proofs.ShardStagesStands.{contained_at}
 
 module _ {D : Type 0} (state : D → State) (honest : D → Type 0) (moment : D → ℕ) (left_since : D → ℕ → List ℕ → Type 0) (store shards : ℕ)
@@ -94,6 +96,7 @@ module _ {D : Type 0} (state : D → State) (honest : D → Type 0) (moment : D 
                   (subst (λ (f : List Record). Means store shards (take one.n log) before.horizon f (at_shards now_left)) (sym (at_coordinator.2 found is)) means),
             );
       };
+      listed = λ s found lt is. means_lower shards s (take one.n log) (coordinator_state at_coordinator.0).horizon before.horizon (shard_state found) means.decided.above (means.each_shard s found lt is).means;
       given = λ w has found is.
           let at = contained_at (take one.n log) w has in
           let low_epoch = one.means.decided.given at.0 w at.1 in

@@ -1,14 +1,16 @@
 -- A store over devices: what it shows, and what it stands for.
-use Rattle.std.specs.Prelude.{◌≡◌, ℕ, Bool, List, map, Option, Some, None, Contains}
+use Rattle.std.specs.Prelude.{◌≡◌, ◌<◌, ℕ, Bool, List, map, Option, Some, None, Contains}
 use Rattle.tuples.specs.declared.entry.Entry.{Entry}
 use Rattle.tuples.specs.declared.entry.WriteId.{WriteId}
 use Rattle.records.specs.declared.record.Record.{Record}
+use Rattle.records.specs.Replays.{shard_state}
 use Rattle.device.specs.Device.{State, left}
 use Rattle.journal.specs.Records.{Finds, found}
 use Rattle.decisions.specs.Standing.{IsGivenOut}
 use Rattle.laws.specs.Machines.{Machine}
-use Rattle.laws.specs.Nodes.{IsThere, NodeName, NodeState, Nodes, coordinator}
+use Rattle.laws.specs.Nodes.{IsThere, NodeName, NodeState, Nodes, coordinator, shard}
 use Rattle.laws.specs.ShardLaws.{IsUnlistedAbove}
+use Rattle.laws.specs.Shards.{ShardMeans}
 use Rattle.laws.specs.Worlds.{Rests}
 use Rattle.turns.specs.Flows.{Asked, Holds, id_of}
 use Rattle.turns.specs.Moments.{Moment, Running, flow_at}
@@ -62,11 +64,13 @@ module _ {D : Type 0} (state : D → State) (honest : D → Type 0) (store shard
     pub readable : (n : NodeName) (a b : List ℕ) → IsThere shards n → left (state (devices n).0) a → left (state (devices n).1) b
         → (rs : List Record) × (found a b ≡ Some rs)
 
-  -- devices of a store that is closed: whatever a stop leaves of them means a beginning of the log that holds what is kept; and each id of
-  -- the log, those of writes that a stop may take from it among them, was given in an epoch that every stop leaves
+  -- devices of a store that is closed: whatever a stop leaves of them means a beginning of the log that holds what is kept; whatever it leaves of a
+  -- shard means the whole log, kept or not, so that none of it need be cut as long as the coordinator can't be read; and each id of the log, those
+  -- of writes that a stop may take from it among them, was given in an epoch that every stop leaves
   pub record RestsOver (devices : NodeName → D × D) (m : Machine) : Type 0 where
     pub sound : AreSound devices
     pub rests : Rests store shards m.log m.kept m.horizon (stops devices coordinator) (at_shards (stops devices))
+    pub listed : (s : ℕ) (found : List Record) → s < shards → stops devices (shard s) found → ShardMeans shards s m.log m.horizon m.horizon (shard_state found)
     pub given : (w : Entry) → Contains m.log w → IsGivenOut (stops devices coordinator) w.id
 
   -- somebody may have been told that this id is aborted: it was given in an epoch that every stop leaves, and no write above the horizon has it

@@ -1,0 +1,13 @@
+pub mod Places
+pub mod Within
+pub mod Reopening
+pub mod Causes
+pub mod Stepped
+pub mod Inside
+pub mod Lists
+pub mod Closed
+pub mod Begun
+pub mod Opened
+pub mod Memory
+pub mod Restart
+pub mod Whole
