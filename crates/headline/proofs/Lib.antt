@@ -1,1 +1,1 @@
-mod Chains
+pub mod Joined

@@ -3,9 +3,9 @@
 //! Keeps: nothing at run time; each law is the contract of a function with an empty body.
 //! Callers rely on: what `cluster`'s `run` and `reopen` promise of themselves, in the words of nodes and flows, is what `turns` promises of a store.
 //!
-//! Start at `specs/Promised.antt` of crate `worlds`.
+//! Start at `specs/Headline.antt`.
 #![tactic(auto)]
 
-mod run_laws;
+mod headline_laws;
 
-pub use run_laws::runs_keep_their_promise;
+pub use headline_laws::{headline, runs_keep_their_promise, steps_keep_their_promise};

@@ -248,7 +248,7 @@ module _ {D : Type 0} (state : D → State) (honest : D → Type 0) (moment : D 
   pub restarts_keep : (name : names.NodeName) → StepKeeps state honest moment left_since (Restart name)
   restarts_keep called.Coordinator old new s told shows whole takes =
       let kept = is_kept state honest moment left_since counts_now only_now old new s told shows coordinator takes in
-      record { later = kept.later; shows = kept.shows; store_is = kept.store_is; shards_is = kept.shards_is; runs = kept.runs }
+      record { later = kept.later; shows = λ now standing. kept.shows; store_is = kept.store_is; shards_is = kept.shards_is; runs = kept.runs }
   restarts_keep (called.Shard t) old new s told shows whole takes =
       let kept = is_kept state honest moment left_since counts_now only_now old new s told shows (shard t) takes in
-      record { later = kept.later; shows = kept.shows; store_is = kept.store_is; shards_is = kept.shards_is; runs = kept.runs }
+      record { later = kept.later; shows = λ now standing. kept.shows; store_is = kept.store_is; shards_is = kept.shards_is; runs = kept.runs }
