@@ -1,28 +1,20 @@
 -- Openings and steps joined: each step keeps its promise, a list of them is a chain, and a store that is opened and takes a list lives.
-use Rattle.std.proofs.Common.{◌≡◌, ◌≤◌, ◌+◌, ◌*◌, ℕ, List, All, length, map, sym, subst}
-use Rattle.tuples.specs.declared.entry.WriteId.{WriteId}
+use Rattle.std.proofs.Common.{◌≤◌, ℕ, List, map, sym, subst}
 use Rattle.device.specs.Device.{State, left}
-use Rattle.cluster.specs.Openings.{IsOpenedOver}
-use Rattle.cluster.specs.Runs.{TookAll}
-use Rattle.cluster.specs.Worlds.{WorldView}
-use Rattle.cluster.specs.declared.event.Event.{Event}
-use Rattle.cluster.specs.declared.step.Step.{Step}
 use Rattle.cluster.specs.declared.step.Step.TheVariants.{Cancel, Care as care_for, Restart, Start, Turn}
-use Rattle.laws.specs.Machines.{Machine}
-use Rattle.turns.specs.Moments.{Moment}
 use Rattle.turns.specs.Promises.{RunsAll}
-use Rattle.turns.specs.Stores.{IsToldOver, RestsOver, StandsOver}
+use Rattle.turns.specs.Stores.{StandsOver}
 use Rattle.turns.proofs.Chains.{chains_run}
 use Rattle.turns.proofs.ClosedStoreRests.{closed_stores_rest}
-use Rattle.worlds.specs.Promised.{RunsKeep, StepsKeep, devices_at}
-use Rattle.worlds.specs.Told.{IsWholeStep, event_of, step_of}
-use Rattle.world_openings.proofs.Restart.{restarts_keep}
-use Rattle.world_openings.proofs.Whole.{openings_keep}
-use Rattle.world_turns.proofs.AllTurns.{turns_keep}
-use Rattle.world_turns.proofs.Cancels.{cancels_keep}
-use Rattle.world_turns.proofs.Chains.{chains_keep}
-use Rattle.world_turns.proofs.Starts.{cares_keep, requests_keep}
-use Rattle.headline.specs.Headline.{Headline, Lives}
+use Rattle.headline.specs.Promised.{RunsKeep, StepsKeep}
+use Rattle.headline.specs.Told.{event_of, step_of}
+use Rattle.headline.proofs.Restart.{restarts_keep}
+use Rattle.headline.proofs.Whole.{openings_keep}
+use Rattle.headline.proofs.AllTurns.{turns_keep}
+use Rattle.headline.proofs.Cancels.{cancels_keep}
+use Rattle.headline.proofs.Chains.{chains_keep}
+use Rattle.headline.proofs.Starts.{cares_keep, requests_keep}
+use Rattle.headline.specs.Headline.{Headline}
 
 module _ {D : Type 0} (state : D → State) (honest : D → Type 0) (moment : D → ℕ) (left_since : D → ℕ → List ℕ → Type 0)
     (counts_now : (d : D) (t : ℕ) (c : List ℕ) → honest d → t ≤ moment d → left (state d) c → left_since d t c)
@@ -43,10 +35,10 @@ module _ {D : Type 0} (state : D → State) (honest : D → Type 0) (moment : D 
       let kept = k.reopens m told rests told_all in
       let reopened = kept.0 in
       let stands = subst (λ (n : ℕ). StandsOver state honest n opened.shards k.later reopened.after) (sym is_opened.store_is)
-          (subst (λ (n : ℕ). StandsOver state honest store n k.later reopened.after) (sym is_opened.shards_is) reopened.stands) in
+      (subst (λ (n : ℕ). StandsOver state honest store n k.later reopened.after) (sym is_opened.shards_is) reopened.stands) in
       let all = runs_keep opened new k.later 0 steps events k.shows whole took reopened.after stands in
       let chain = subst (λ (n : ℕ). RunsAll state honest moment left_since n shards k.later 0 (map step_of steps) (map event_of events) all.later) is_opened.store_is
-          (subst (λ (n : ℕ). RunsAll state honest moment left_since opened.store n k.later 0 (map step_of steps) (map event_of events) all.later) is_opened.shards_is all.runs) in
+      (subst (λ (n : ℕ). RunsAll state honest moment left_since opened.store n k.later 0 (map step_of steps) (map event_of events) all.later) is_opened.shards_is all.runs) in
       let run = chains_run state honest moment left_since store shards k.later all.later 0 (map step_of steps) (map event_of events) chain reopened.after reopened.stands in
       let closed = closed_stores_rest state honest moment left_since store shards all.later run.0 run.2 in
       record {

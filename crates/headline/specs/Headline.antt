@@ -15,9 +15,9 @@ use Rattle.turns.specs.Promises.{RunsAll, StopsBetween}
 use Rattle.turns.specs.Reopens.{Reopened}
 use Rattle.turns.specs.Runs.{IsRun}
 use Rattle.turns.specs.Stores.{IsToldOver, NamesHorizon, RestsOver, StandsOver, Store}
-use Rattle.worlds.specs.Promised.{devices_at}
-use Rattle.worlds.specs.Shown.{Shows}
-use Rattle.worlds.specs.Told.{IsWholeStep, event_of, step_of}
+use Rattle.headline.specs.Promised.{devices_at}
+use Rattle.headline.specs.Shown.{Shows}
+use Rattle.headline.specs.Told.{IsWholeStep, event_of, step_of}
 
 -- Given what a device holds and whether it is honest, how often a stop may have come at it, what a stop since then may have left, and a store's id
 -- and number of shards

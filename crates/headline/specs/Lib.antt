@@ -1,1 +1,4 @@
+pub mod Shown
+pub mod Told
+pub mod Promised
 pub mod Headline

@@ -1,7 +1,7 @@
 // The headline, and what it is made of: laws, each the clause of a function with an empty body.
 ghost use Rattle.std.specs.Prelude.{ℕ};
 ghost use Rattle.headline.specs.Headline.{Headline};
-ghost use Rattle.worlds.specs.Promised.{RunsKeep, StepsKeep};
+ghost use Rattle.headline.specs.Promised.{RunsKeep, StepsKeep};
 
 use device::Device;
 

@@ -1,11 +1,16 @@
-//! The headline: a list of steps that a store takes is a run of them all, and an opening of a closed store is one that the promises speak of.
+//! The headline: whatever a store's two calls, the opening of its devices and the run of a list of steps, do by their contracts, is an opening and a run as
+//! they are promised, over one list of whole writes.
 //!
 //! Keeps: nothing at run time; each law is the contract of a function with an empty body.
-//! Callers rely on: what `cluster`'s `run` and `reopen` promise of themselves, in the words of nodes and flows, is what `turns` promises of a store.
+//! Callers rely on: what `cluster`'s `reopen` and `run` promise of themselves, in the words of nodes and flows, is what `turns` promises of a store.
 //!
-//! Start at `specs/Headline.antt`.
+//! Start at `specs/Headline.antt`, the law, and then at `specs/Shown.antt`, how a store of the laws shows a world of nodes and flows.
 #![tactic(auto)]
 
 mod headline_laws;
+mod opening_laws;
+mod step_laws;
 
 pub use headline_laws::{headline, runs_keep_their_promise, steps_keep_their_promise};
+pub use opening_laws::{openings_keep, restarts_keep};
+pub use step_laws::{cancels_keep, starts_keep, turns_keep};

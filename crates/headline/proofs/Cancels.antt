@@ -1,0 +1,151 @@
+-- A cancel of the flow in a slot keeps the promise of a step: a write goes out, or on to its end, and any other flow is gone.
+use Rattle.std.proofs.Common.{◌≡◌, ◌≢◌, ⊎_elim, ℕ, true, false, List, [], Option, Some, None, MatchOption, is_some, refl, sym, ◌∙◌, ap, subst}
+use Rattle.std.proofs.lemmas.Bool.{cases_eq}
+use Rattle.device.specs.Device.{State, left}
+use Rattle.calls.specs.declared.call_name.CallName.{CallName}
+use Rattle.commit_flow.specs.declared.end.WriteEnd.{WriteEnd}
+use Rattle.care_flow.specs.declared.care.CareFlow.{CareFlow}
+use Rattle.care_flow.specs.declared.care.CareFlow.TheVariants as cares
+use Rattle.laws.specs.Nodes.{NodeName}
+use Rattle.turns.specs.Flows.{Asked, Holds, checking, reading, watching}
+use Rattle.turns.specs.Moments.{Running, flow_at as running_at, is_write}
+use Rattle.turns.specs.Promises.{RunsOne, events_of}
+use Rattle.turns.specs.Runs as runs
+use Rattle.turns.specs.Stores.{FlowView, NamesHorizon, Store}
+use Rattle.call_turns.specs.Steps.{shown_flow}
+use Rattle.call_turns.specs.StoreTurns.{SlotTurns}
+use Rattle.call_turns.proofs.Cancels.{cancelled_flows_end}
+use Rattle.write_turns.specs.Seen.{shown, shown_until}
+use Rattle.write_turns.proofs.Cancel.{cancels_run}
+use Rattle.care_turns.specs.CareTurns.{shows as shows_care}
+use Rattle.answer_turns.specs.AnswerTurns.{asked_of}
+use Rattle.answer_turns.specs.CheckTurns.{check_of}
+use Rattle.answer_turns.specs.ReadTurns.{read_of}
+use Rattle.cluster.specs.Cancels.{Cancels, CancelsWrite}
+use Rattle.cluster.specs.Steps.{CancelsIn, IsIdle}
+use Rattle.cluster.specs.Worlds.{Puts, WorldView, flow_at}
+use Rattle.cluster.specs.declared.event.What.{What}
+use Rattle.cluster.specs.declared.flow.Flow.{Flow}
+use Rattle.cluster.specs.declared.flow.Flow.TheVariants.{Write, Read, Check, Watch, Care}
+use Rattle.cluster.specs.declared.flow.Writing.{Writing}
+use Rattle.cluster.specs.declared.step.Step.TheVariants.{Cancel}
+use Rattle.headline.specs.Promised.{Keeps, StepKeeps}
+use Rattle.headline.specs.Shown.{IsShownFlow, IsShownSlot, Shows}
+use Rattle.headline.specs.Told.{all_told}
+use Rattle.headline.proofs.Behind.{at_slot, off_slot, slot_turns, with_slot}
+use Rattle.headline.proofs.Leaving.{names_on, not_ended, not_waiting}
+use Rattle.headline.proofs.Lifts.{shown_there}
+use Rattle.headline.proofs.Slots.{none_shown}
+use Rattle.headline.proofs.Still.{keeps_idle, none_runs, other_flows}
+use Rattle.headline.proofs.WriteRests.{cancelled_rests}
+
+some_name : (o : Option CallName) → is_some o ≡ true → o ≢ None
+some_name None is none = let both : false ≡ true = is in cc
+some_name (Some name) is none = cc
+
+module _ {D : Type 0} (state : D → State) (honest : D → Type 0) (moment : D → ℕ) (left_since : D → ℕ → List ℕ → Type 0)
+    (only_now : (d : D) (c : List ℕ) → honest d → left_since d (moment d) c → left (state d) c) where
+  module _ (old new : WorldView D) (s : Store D) (shows : Shows old s) (slot : ℕ) (told : Option What) (untold : told ≡ None) (new_is : new ≡ record old { flows = new.flows }) where
+    -- with this in the slot, and every other flow as it was, the store shows the world
+    module _ (view : FlowView) (g : Option FlowView) (before : s.flows slot ≡ Some view) (flow : Option Flow) (put : Puts old.flows slot flow new.flows) (is_shown : IsShownSlot old.shards flow g) where
+      abbrev store_then : Store D
+      store_then = record s { flows = with_slot slot g s.flows }
+
+      turned : SlotTurns slot view g s store_then
+      turned = slot_turns s store_then slot view g before refl
+
+      are_shown : (k : ℕ) → IsShownSlot old.shards (flow_at new.flows k) (store_then.flows k)
+      are_shown k = ⊎_elim
+          (λ same. subst (λ (j : ℕ). IsShownSlot old.shards (flow_at new.flows j) (store_then.flows j)) (sym same)
+          (subst (λ (f : Option Flow). IsShownSlot old.shards f (store_then.flows slot)) (sym put.at) (subst (IsShownSlot old.shards flow) (sym (at_slot slot g s.flows)) is_shown)))
+          (λ ne. subst (λ (f : Option Flow). IsShownSlot old.shards f (store_then.flows k)) (sym (put.others k ne))
+          (subst (IsShownSlot old.shards (flow_at old.flows k)) (sym (off_slot slot g s.flows k ne)) (shows.flows k)))
+          (cases_eq k slot)
+
+      keeps : ((number : ℕ) → RunsOne state honest moment left_since old.store old.shards s number (runs.cancel slot) [] store_then) → Keeps state honest moment left_since old s (Cancel slot) told new
+      keeps law = record {
+        later = store_then;
+        shows = λ now standing. subst (λ (w : WorldView D). Shows w store_then) (sym new_is) (other_flows old s shows new.flows (with_slot slot g s.flows) are_shown);
+        store_is = ap (λ (w : WorldView D). w.store) new_is;
+        shards_is = ap (λ (w : WorldView D). w.shards) new_is;
+        runs = λ number. subst (λ (o : Option What). RunsOne state honest moment left_since old.store old.shards s number (runs.cancel slot) (events_of number (all_told o)) store_then) (sym untold) (law number);
+      }
+
+    -- any flow but a write is gone
+    gone : (asked : Asked) (holds : Holds) → is_write asked ≡ false → s.flows slot ≡ Some (shown_flow asked holds) → Puts old.flows slot None new.flows → Keeps state honest moment left_since old s (Cancel slot) told new
+    gone asked holds no_write before put = keeps (shown_flow asked holds) None before None put tt
+        (λ number. cancelled_flows_end state honest moment left_since only_now old.store old.shards s (record s { flows = with_slot slot None s.flows }) slot asked holds (record {
+          no_write = no_write;
+          store_stays = record { devices = λ n. refl; at = λ n. refl; open_ids = refl; given = refl };
+          slots = slot_turns s (record s { flows = with_slot slot None s.flows }) slot (shown_flow asked holds) None before refl;
+        }) number)
+
+    -- a write goes out, or on to its end, or it has ended
+    module _ (v w : Writing) (before : s.flows slot ≡ Some (shown v.flow.seen v.is_cancelled)) (of : v.flow.shards ≡ old.shards) (rests : v.flow.seen.awaited ≡ None) (runs_still : v.flow.seen.ended ≡ None) (c : CancelsWrite v w) where
+      abbrev view_then : Option FlowView
+      view_then = shown_until w.flow.seen.ended w.flow.seen true
+
+      law : (number : ℕ) → RunsOne state honest moment left_since old.store old.shards s number (runs.cancel slot) [] (record s { flows = with_slot slot view_then s.flows })
+      law number = cancels_run state honest moment left_since only_now old.store old.shards s (record s { flows = with_slot slot view_then s.flows }) slot v.is_cancelled v.flow.seen w.flow.seen (record {
+        awaited = rests;
+        ended = runs_still;
+        cancels = c.cancels;
+        store_stays = record { devices = λ n. refl; at = λ n. refl; open_ids = refl; given = refl };
+        slots = slot_turns s (record s { flows = with_slot slot view_then s.flows }) slot (shown v.flow.seen v.is_cancelled) view_then before refl;
+      }) number
+
+      on : is_some w.flow.next_name ≡ true → Puts old.flows slot (Some (Write w)) new.flows → Keeps state honest moment left_since old s (Cancel slot) told new
+      on goes put =
+          let named = some_name w.flow.next_name goes in
+          let ended = not_ended w.flow.next_name w.flow.seen.awaited w.flow.seen.ended c.named named in
+          let waits = not_waiting w.flow.next_name w.flow.seen.awaited w.flow.seen.ended c.named named in
+          keeps (shown v.flow.seen v.is_cancelled) view_then before (Some (Write w)) put
+          (subst (λ (e : Option WriteEnd). IsShownSlot old.shards (Some (Write w)) (shown_until e w.flow.seen true)) (sym ended) (ap (shown w.flow.seen) (sym c.marked), c.shards ∙ of, waits, ended))
+          law
+
+      out : w.flow.next_name ≡ None → Puts old.flows slot None new.flows → Keeps state honest moment left_since old s (Cancel slot) told new
+      out none put = keeps (shown v.flow.seen v.is_cancelled) view_then before None put (by_end w.flow.seen.ended refl) law
+        where
+          by_end : (e : Option WriteEnd) → w.flow.seen.ended ≡ e → IsShownSlot old.shards None (shown_until e w.flow.seen true)
+          by_end None is = absurd (names_on w.flow.next_name w.flow.seen.awaited w.flow.seen.ended c.named (cancelled_rests v.flow.seen w.flow.seen rests runs_still c.cancels) is none)
+          by_end (Some end) is = tt
+
+    -- whichever it is
+    care_gone : (v : CareFlow) → s.flows slot ≡ Some (shows_care v) → Puts old.flows slot None new.flows → Keeps state honest moment left_since old s (Cancel slot) told new
+    care_gone (cares.Flush v) before put = gone _ _ refl before put
+    care_gone (cares.Learn v) before put = gone _ _ refl before put
+    care_gone (cares.Resolve v) before put = gone _ _ refl before put
+    care_gone (cares.Raise v) before put = gone _ _ refl before put
+    care_gone (cares.Collect v) before put = gone _ _ refl before put
+
+    put_none : (later : Option Flow) → Puts old.flows slot later new.flows → later ≡ None → Puts old.flows slot None new.flows
+    put_none later put none = subst (λ (o : Option Flow). Puts old.flows slot o new.flows) none put
+
+    by_kind : (flow : Flow) (later : Option Flow) (view : FlowView) → s.flows slot ≡ Some view → IsShownFlow old.shards flow view → Cancels flow later → Puts old.flows slot later new.flows
+        → Keeps state honest moment left_since old s (Cancel slot) told new
+    by_kind (Write v) (Some (Write w)) view before is c put = on v w (before ∙ ap (λ (x : FlowView). Some x) is.0) is.1 is.2 is.3 c.0 c.1 put
+    by_kind (Write v) None view before is c put = out v c.0 (before ∙ ap (λ (x : FlowView). Some x) is.0) is.1 is.2 is.3 c.1 c.2 put
+    by_kind (Write v) (Some later) view before is c put = absurd c
+    by_kind (Read v) later view before is c put = gone (read_of v) (reading v.seen.holds) refl (before ∙ ap (λ (x : FlowView). Some x) is.0) (put_none later put c)
+    by_kind (Check v) later view before is c put = gone (check_of is.0 v) (checking v.seen.holds) refl (before ∙ ap (λ (x : FlowView). Some x) is.1) (put_none later put c)
+    by_kind (Watch v) later view before is c put = gone (asked_of v) (watching v.seen.holds) refl (before ∙ ap (λ (x : FlowView). Some x) is.0) (put_none later put c)
+    by_kind (Care v) later view before is c put = care_gone v (before ∙ ap (λ (x : FlowView). Some x) is.0) (put_none later put c)
+
+  module _ (old new : WorldView D) (s : Store D) (shows : Shows old s) (slot : ℕ) (told : Option What) where
+    empty : flow_at old.flows slot ≡ None → IsIdle state honest moment left_since old told new → Keeps state honest moment left_since old s (Cancel slot) told new
+    empty none idle = keeps_idle state honest moment left_since only_now old new s shows (Cancel slot) told no_restart idle.0 idle.1
+        (λ now standing. subst (λ (o : Option Running). runs.IfRunning old.shards (NamesHorizon state honest old.store old.shards s now) (runs.IsCancelled old.shards (NamesHorizon state honest old.store old.shards s now)) o now [] now)
+        (sym (none_runs (running_at slot now.running) (s.flows slot) (none_shown old.shards old.flows s.flows shows.flows slot none) (standing.flows slot))) (refl, refl))
+      where
+        no_restart : (n : NodeName) → runs.cancel slot ≡ runs.restart n → ⊥
+        no_restart n is = cc
+
+    by_flow : (o : Option Flow) → flow_at old.flows slot ≡ o → MatchOption o (IsIdle state honest moment left_since old told new) (λ flow. CancelsIn state honest moment left_since old slot flow told new)
+        → Keeps state honest moment left_since old s (Cancel slot) told new
+    by_flow None none idle = empty none idle
+    by_flow (Some flow) here (cancelled, untold, is) =
+        let view = shown_there old.shards flow (s.flows slot) (subst (λ (f : Option Flow). IsShownSlot old.shards f (s.flows slot)) here (shows.flows slot)) in
+        by_kind old new s shows slot told untold is flow cancelled.later view.0 view.1 view.2 cancelled.cancels cancelled.puts
+
+  pub cancels_keep : (slot : ℕ) → StepKeeps state honest moment left_since (Cancel slot)
+  cancels_keep slot old new s told shows whole takes = by_flow old new s shows slot told (flow_at old.flows slot) refl takes

@@ -1,0 +1,48 @@
+-- A world of nodes and flows, as the store that the laws of runs speak of.
+use Rattle.std.specs.Prelude.{◌≡◌, ◌≤◌, ◌+◌, ℕ, length, Option, Some, None}
+use Rattle.tuples.specs.declared.object.Userset.{Userset}
+use Rattle.calls.specs.Views.{NodeView}
+use Rattle.calls.specs.declared.call.NodeName as names
+use Rattle.calls.specs.declared.call.NodeName.TheVariants as called
+use Rattle.care_flow.specs.Cares.{IsThere as IsCareThere}
+use Rattle.laws.specs.Nodes.{NodeName, coordinator, shard}
+use Rattle.turns.specs.Flows.{IsAsked, checking, reading, watching}
+use Rattle.turns.specs.Stores.{FlowView, Store}
+use Rattle.call_turns.specs.StoreCalls.{IsNode}
+use Rattle.write_turns.specs.Seen as writes
+use Rattle.care_turns.specs.CareTurns.{shows}
+use Rattle.answer_turns.specs.AnswerTurns.{asked_of, shown_answer}
+use Rattle.answer_turns.specs.CheckTurns.{check_of}
+use Rattle.answer_turns.specs.ReadTurns.{read_of}
+use Rattle.cluster.specs.declared.flow.Flow.{Flow}
+use Rattle.cluster.specs.declared.flow.Flow.TheVariants.{Write, Read, Check, Watch, Care}
+use Rattle.cluster.specs.Worlds.{WorldView, flow_at, node_at}
+
+-- a node's name, as the calls say it
+abbrev pub named : NodeName → names.NodeName
+named coordinator = called.Coordinator
+named (shard s) = called.Shard s
+
+-- A flow of a store of so many shards is shown so, between two of its calls: a write by what it holds, and any other by what it was asked, in range, as well.
+-- Which userset a check was asked about, the store alone says.
+abbrev pub IsShownFlow : ℕ → Flow → FlowView → Type 0
+IsShownFlow shards (Write w) view = (view ≡ writes.shown w.flow.seen w.is_cancelled) × (w.flow.shards ≡ shards) × (w.flow.seen.awaited ≡ None) × (w.flow.seen.ended ≡ None)
+IsShownFlow shards (Read v) view = (view ≡ shown_answer (read_of v) (reading v.seen.holds)) × (v.shards ≡ shards) × IsAsked shards (read_of v)
+IsShownFlow shards (Check v) view = (x : Userset) × (view ≡ shown_answer (check_of x v) (checking v.seen.holds)) × (v.shards ≡ shards) × IsAsked shards (check_of x v)
+IsShownFlow shards (Watch v) view = (view ≡ shown_answer (asked_of v) (watching v.seen.holds)) × IsAsked shards (asked_of v)
+IsShownFlow shards (Care v) view = (view ≡ shows v) × IsCareThere shards v
+
+-- and so is what is in a slot
+abbrev pub IsShownSlot : ℕ → Option Flow → Option FlowView → Type 0
+IsShownSlot shards None None = Unit {0}
+IsShownSlot shards None (Some view) = ⊥
+IsShownSlot shards (Some flow) None = ⊥
+IsShownSlot shards (Some flow) (Some view) = IsShownFlow shards flow view
+
+-- The store shows the world: each node under its name, and each flow in its slot. What lies in the memory of a coordinator whose opening was refused, the
+-- store alone says.
+pub record Shows {D : Type 0} (w : WorldView D) (s : Store D) : Type 0 where
+  pub some : 1 ≤ w.shards
+  pub count : length w.nodes ≡ w.shards + 1
+  pub nodes : (n : NodeName) (v : NodeView D) → node_at w.nodes (named n) ≡ Some v → IsNode w.store w.shards s n v
+  pub flows : (slot : ℕ) → IsShownSlot w.shards (flow_at w.flows slot) (s.flows slot)

@@ -1,0 +1,16 @@
+// What is opened again keeps the promises of runs: laws, each the clause of a function with an empty body.
+ghost use Rattle.calls.specs.declared.call.NodeName.{NodeName};
+ghost use Rattle.cluster.specs.declared.step.Step.TheVariants.{Restart};
+ghost use Rattle.headline.specs.Promised.{OpeningsKeep, StepKeeps};
+
+use device::Device;
+
+/// A restart of a node keeps the promise of a step, whatever the node was before: it comes up, or its opening is refused with its cause.
+pub fn restarts_keep<D: Device>()
+    ensures { (name : NodeName) → StepKeeps D.state D.honest D.moment D.left_since (Restart name) }
+{}
+
+/// The opening of a whole store keeps the promise of an opening, over whatever devices a run or a stop left.
+pub fn openings_keep<D: Device>()
+    ensures { OpeningsKeep D.state D.honest D.moment D.left_since }
+{}

@@ -1,5 +1,0 @@
-use Rattle.world_openings.proofs.Whole.{openings_keep}
-use Rattle.world_openings.proofs.keeping_laws.openings_keep.Goals as goal
-
-pub returns : goal.returns
-returns g c = openings_keep g.D.Device.state g.D.Device.honest g.D.Device.moment g.D.Device.left_since g.met.D.Device.counts_now g.met.D.Device.only_now
