@@ -114,8 +114,8 @@ fn a_write_is_not_decided_or_not_aborted(rt: HostRuntime) -> Result<(), Fail> {
         ),
         // One of the shards does not drop it, and the other is told all the same.
         (
-            [Refuse(11, NoMemory), Refuse(13, Down), Start(BOTH), Run(0)].as_slice(),
-            "begin c, learned 0, stage_prepare 0, learned 1, stage_prepare 1, vote 0, flush 0, vote 0, vote 1, flush 1, vote 1, \
+            [Refuse(12, NoMemory), Refuse(14, Down), Start(BOTH), Run(0)].as_slice(),
+            "begin c, learned 0, stage_prepare 0, learned 1, stage_prepare 1, vote 0, flush 0, vote 0, vote 1, flush 1, vote 1, decide c, \
              abort c, drop_write 0, drop_write 1, refused NoMemory; ",
         ),
     ];

@@ -31,7 +31,8 @@ impl Refusing {
     /// The n-th call from now on is not made, and this refusal is its answer.
     pub(crate) fn add(&mut self, n: usize, refusal: Refusal) -> Result<(), AllocError> {
         let call = self.asked.saturating_add(n);
-        self.unmade.push(Unmade { call, refusal })
+        self.unmade.push(Unmade { call, refusal })?;
+        Ok(())
     }
 
     /// One more is asked for. Its refusal, where it is not made.
