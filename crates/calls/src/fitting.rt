@@ -10,10 +10,14 @@ impl CoordinatorCall {
     {
         match self {
             CoordinatorCall::Begin(_) | CoordinatorCall::Heads | CoordinatorCall::Batch(_, _) => {}
-            CoordinatorCall::Decide(_intent, _) => {}
+            CoordinatorCall::Decide(intent, _) => {
+                let _entry = intent.entry();
+            }
             CoordinatorCall::Outcome(_) | CoordinatorCall::Abort(_) => {}
             CoordinatorCall::Inquire(_) | CoordinatorCall::Flush => {}
-            CoordinatorCall::Raise(_place, _) => {}
+            CoordinatorCall::Raise(place, _) => {
+                let _place = *place;
+            }
         }
     }
 }
@@ -24,8 +28,13 @@ impl ShardCall {
         ensures whole { IsWholeAtShard self.now }
     {
         match self {
-            ShardCall::Learn(_batch) => {}
-            ShardCall::StagePrepare(_intent) => {}
+            ShardCall::Learn(batch) => {
+                let _to = batch.to();
+                let _writes = batch.writes();
+            }
+            ShardCall::StagePrepare(intent) => {
+                let _entry = intent.entry();
+            }
             ShardCall::Learned | ShardCall::Vote(_) | ShardCall::DropWrite(_, _) => {}
             ShardCall::InDoubt | ShardCall::Read(_, _) | ShardCall::ReadForCheck(_, _, _) => {}
             ShardCall::Settle | ShardCall::Collect(_) | ShardCall::Flush => {}
