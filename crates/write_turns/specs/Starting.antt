@@ -14,7 +14,7 @@ use Rattle.write_turns.specs.Seen.{shown}
 
 -- a write flow before its first call
 abbrev pub fresh : WriteValue → WriteView
-fresh write = record { write = Some write; holds = nothing_begun; caught = None; awaited = None; ended = None }
+fresh write = record { write = Some write; holds = nothing_begun; caught = None; flushed = false; awaited = None; ended = None }
 
 -- A flow that is to make this write, which is whole, began in a slot that was free, one of 1,024: no flow is in any other.
 pub record IsStartedThere {D : Type 0} (old new : Store D) (slot : ℕ) (write : WriteValue) : Type 0 where
