@@ -46,7 +46,7 @@ MayCare shards (any_care.Collect s) = s < shards
 -- the flow of a request before its first call
 abbrev pub begun_for : ℕ → Request → Flow
 begun_for shards (requests.Write write) = Write (record {
-  flow = record { shards = shards; seen = record { write = Some write; holds = nothing_begun; caught = None; awaited = None; ended = None }; next_name = Some names.Begin };
+  flow = record { shards = shards; seen = record { write = Some write; holds = nothing_begun; caught = None; flushed = false; awaited = None; ended = None }; next_name = Some names.Begin };
   is_cancelled = false;
 })
 begun_for shards (requests.Read fresh sets) = Read (record { shards = shards; fresh = fresh_of fresh; sets = sets.items; seen = read_views.at_rest read_views.heads nothing_read; next_name = Some names.Heads })

@@ -59,7 +59,7 @@ fits_coordinator : (shards : ℕ) (v : WriteView) (call : CoordinatorCall) (repl
 fits_coordinator shards v (calls.Begin write) (told.Begin r) after may h b = waits_for shards (from_coordinator (told.Begin r)) after _ h.1 tt
 fits_coordinator shards v (calls.Batch from to) (told.Batch r) after may h b = waits_for shards (from_coordinator (told.Batch r)) after _ h.1 tt
 fits_coordinator shards v (calls.Decide intent votes) (told.Decide r) after may h b =
-    waits_for shards (from_coordinator (told.Decide r)) after _ h.4.1 (ballot_back shards intent v.holds.id votes.items r h.2 may b)
+    waits_for shards (from_coordinator (told.Decide r)) after _ h.4 (ballot_back shards intent v.holds.id votes.items r h.2 may b)
 fits_coordinator shards v (calls.Outcome decided) (told.Outcome r) after may h b = waits_for shards (from_coordinator (told.Outcome r)) after _ h.1 tt
 fits_coordinator shards v (calls.Abort intent) (told.Abort r) after may h b = waits_for shards (from_coordinator (told.Abort r)) after _ h.2 tt
 fits_coordinator shards v (calls.Inquire id) (told.Inquire r) after may h b = waits_for shards (from_coordinator (told.Inquire r)) after _ h.3 tt
@@ -76,10 +76,10 @@ fits_shard : (shards s : ℕ) (v : WriteView) (call : ShardCall) (reply : ShardR
 fits_shard shards s v shard_calls.Learned (told_by.Learned r) after may h b = waits_for shards (from_shard (told_by.Learned r)) after _ h.2 tt
 fits_shard shards s v (shard_calls.Learn batch) (told_by.Learn back r) after may h b = waits_for shards (from_shard (told_by.Learn back r)) after _ h.3.1 tt
 fits_shard shards s v (shard_calls.StagePrepare intent) (told_by.StagePrepare back r) after may h b =
-    waits_for shards (from_shard (told_by.StagePrepare back r)) after _ h.6.3 (
+    waits_for shards (from_shard (told_by.StagePrepare back r)) after _ h.6.2 (
       λ (id : WriteId) at. ap (λ (i : IntentValue). i.write.id) b.0 ∙ same_id v.holds.id intent.write.id id h.4 at,
       subst (λ (i : IntentValue). takes_part shards s i.write ≡ true) (sym b.0) may,
-      subst (λ (i : IntentValue). ArePartsOf h.6.1 shards i.write) (sym b.0) h.6.2,
+      subst (λ (i : IntentValue). ArePartsOf h.6.0 shards i.write) (sym b.0) h.6.1,
       subst (λ (i : IntentValue). IfOk r (λ t. t.id ≡ i.write.id)) (sym b.0) b.1,
     )
 fits_shard shards s v (shard_calls.Vote ticket) (told_by.Vote r) after may h b = waits_for shards (from_shard (told_by.Vote r)) after _ h.2.2 (vote_back s ticket v.holds.id r h.1 b)

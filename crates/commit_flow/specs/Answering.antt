@@ -78,10 +78,10 @@ PrepareGives v s again i (Ok t) after = GoesOn (record v.holds { intent = Some i
 PrepareGives v s again i (Err e) after = (e ≡ Full → again ≡ false → GoesToPrepare s (record v.holds { intent = Some i }) after)
     × ((e ≢ Full) ⊎ (again ≡ true) → GoesOut (record v.holds { intent = Some i }) e after)
 
--- a flush before a decision is refused as the call behind it would be
-abbrev pub FlushGives : WriteView → Result (Unit {0}) Refusal → WriteView → Type 0
-FlushGives v (Ok done) after = after ≡ record (at_rest v.holds) { caught = v.caught }
-FlushGives v (Err e) after = GoesOut v.holds e after
+-- A flush before a decision is refused as the call behind it would be. Where it was one of a node that was full, the call behind it is the last of its kind.
+abbrev pub FlushGives : WriteView → Bool → Result (Unit {0}) Refusal → WriteView → Type 0
+FlushGives v was_full (Ok done) after = after ≡ record (at_rest v.holds) { caught = v.caught; flushed = was_full }
+FlushGives v was_full (Err e) after = GoesOut v.holds e after
 
 abbrev pub VoteGives : WriteView → ℕ → VoteReply → WriteView → Type 0
 VoteGives v s (Yes vote) after = GoesOn (record v.holds { votes = v.holds.votes ++ vote ∷ [] }) after
@@ -118,11 +118,11 @@ abbrev pub GivesTo : WriteView → WriteAwaited → Reply → WriteView → Type
 GivesTo v waits.begin (Coordinator (told.Begin r)) after = BeginGives v r after
 GivesTo v (waits.catch_up awaited) reply after = CatchUpGives v awaited reply after
 GivesTo v (waits.prepare s again bits) (Shard (told_by.StagePrepare i r)) after = PrepareGives v s again i r after
-GivesTo v (waits.flush_to_prepare s) (Shard (told_by.Flush r)) after = FlushGives v r after
+GivesTo v (waits.flush_to_prepare s) (Shard (told_by.Flush r)) after = FlushGives v true r after
 GivesTo v (waits.vote s) (Shard (told_by.Vote r)) after = VoteGives v s r after
-GivesTo v (waits.flush_to_vote s) (Shard (told_by.Flush r)) after = FlushGives v r after
+GivesTo v (waits.flush_to_vote s) (Shard (told_by.Flush r)) after = FlushGives v false r after
 GivesTo v (waits.decide again) (Coordinator (told.Decide r)) after = DecideGives v again r after
-GivesTo v waits.flush_to_decide (Coordinator (told.Flush r)) after = FlushGives v r after
+GivesTo v waits.flush_to_decide (Coordinator (told.Flush r)) after = FlushGives v true r after
 GivesTo v waits.outcome (Coordinator (told.Outcome r)) after = OutcomeGives v r after
 GivesTo v waits.flush_to_outcome (Coordinator (told.Flush r)) after = GoesOn v.holds after
 GivesTo v waits.abort (Coordinator (told.Abort r)) after = AbortGives v r after

@@ -1,5 +1,5 @@
 -- What a write flow is seen as, of its phase.
-use Rattle.std.specs.Prelude.{ℕ, Bool, List, [], ◌∷◌, ◌++◌, map, Option, Some, None}
+use Rattle.std.specs.Prelude.{ℕ, Bool, true, false, List, [], ◌∷◌, ◌++◌, map, Option, Some, None}
 use Rattle.tuples.specs.declared.entry.WriteId.{WriteId}
 use Rattle.tuples.specs.Writes.{WriteValue}
 use Rattle.refusal.specs.declared.refusal.Refusal.{Refusal}
@@ -25,12 +25,13 @@ use Rattle.commit_flow.specs.declared.phase.Phase.TheVariants as phases
 use Rattle.commit_flow.specs.WriteHolds.{HeldTicket, Way, WriteAwaited, WriteHolds, nothing_begun, onward, outward}
 use Rattle.commit_flow.specs.WriteHolds as waits
 
--- A write flow as its callers see it: the write, until a call takes it; what it holds; the shard that is caught up and prepares next; the call that is
--- out; and how it ended.
+-- A write flow as its callers see it: the write, until a call takes it; what it holds; the shard that is caught up and prepares next; whether the node
+-- that was full for the next call, or for the one that is out, was flushed for it; the call that is out; and how it ended.
 pub record WriteView : Type 0 where
   pub write : Option WriteValue
   pub holds : WriteHolds
   pub caught : Option ℕ
+  pub flushed : Bool
   pub awaited : Option WriteAwaited
   pub ended : Option WriteEnd
 
@@ -185,19 +186,51 @@ caught_out (out.Abort l) = None
 caught_out (out.Inquire l) = None
 caught_out (out.DropWrite l) = None
 
--- a write that was begun, between two calls, where no shard is to prepare
+-- whether the node of the next call was flushed for it
+abbrev pub flushed_of : Ready → Bool
+flushed_of (ready.Begin write load) = false
+flushed_of (ready.CatchUp p c) = false
+flushed_of (ready.Prepare p again) = again
+flushed_of (ready.FlushToPrepare p) = false
+flushed_of (ready.Vote v t) = false
+flushed_of (ready.FlushToVote v t) = false
+flushed_of (ready.Decide b again) = again
+flushed_of (ready.FlushToDecide b) = false
+flushed_of (ready.Outcome id d) = false
+flushed_of (ready.FlushToOutcome id d) = false
+flushed_of (ready.Abort i l) = false
+flushed_of (ready.Inquire l) = false
+flushed_of (ready.DropWrite v l s h) = false
+
+-- the same of the call that is out
+abbrev pub flushed_out : Out → Bool
+flushed_out (out.Begin load) = false
+flushed_out (out.CatchUp p c) = false
+flushed_out (out.Prepare p again) = again
+flushed_out (out.FlushToPrepare p) = false
+flushed_out (out.Vote v) = false
+flushed_out (out.FlushToVote v t) = false
+flushed_out (out.Decide shards id again) = again
+flushed_out (out.FlushToDecide b) = false
+flushed_out (out.Outcome id) = false
+flushed_out (out.FlushToOutcome id d) = false
+flushed_out (out.Abort l) = false
+flushed_out (out.Inquire l) = false
+flushed_out (out.DropWrite l) = false
+
+-- a write that was begun, between two calls, where no shard is to prepare and no node was flushed
 abbrev pub at_rest : WriteHolds → WriteView
-at_rest holds = record { write = None; holds = holds; caught = None; awaited = None; ended = None }
+at_rest holds = record { write = None; holds = holds; caught = None; flushed = false; awaited = None; ended = None }
 
 -- what is seen of each phase
 abbrev pub view_ready : Ready → WriteView
-view_ready r = record { write = write_of r; holds = holds_ready r; caught = caught_of r; awaited = None; ended = None }
+view_ready r = record { write = write_of r; holds = holds_ready r; caught = caught_of r; flushed = flushed_of r; awaited = None; ended = None }
 
 abbrev pub view_out : Out → WriteView
-view_out o = record { write = None; holds = holds_out o; caught = caught_out o; awaited = Some (awaited_of o); ended = None }
+view_out o = record { write = None; holds = holds_out o; caught = caught_out o; flushed = flushed_out o; awaited = Some (awaited_of o); ended = None }
 
 abbrev pub view_ended : WriteEnd → WriteView
-view_ended end = record { write = None; holds = holds_ended end; caught = None; awaited = None; ended = Some end }
+view_ended end = record { write = None; holds = holds_ended end; caught = None; flushed = false; awaited = None; ended = Some end }
 
 abbrev pub view_of : Phase → WriteView
 view_of (phases.Ready r) = view_ready r

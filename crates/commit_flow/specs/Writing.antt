@@ -58,27 +58,27 @@ abbrev pub GaveBelow : WriteView → ℕ → Type 0
 GaveBelow v s = ((t : HeldTicket) → Contains v.holds.tickets t → t.shard < s) × (v.holds.votes ≡ [])
 
 -- A call of the coordinator, by what it may be handed. A write is decided only on its way, by its intent and its votes, and never one that is decided; it is
--- aborted only on its way out.
+-- aborted only on its way out. One that is full for the decision is flushed, and not twice.
 abbrev pub AsksCoordinator : WriteView → CoordinatorCall → WriteView → Type 0
 AsksCoordinator v (calls.Begin write) after = ((v.write ≡ Some write) × (v.holds ≡ nothing_begun)) × (after ≡ record v { write = None; awaited = Some waits.begin })
 AsksCoordinator v calls.Heads after = ⊥
 AsksCoordinator v (calls.Batch from to) after = (IsOnItsWay v × IsCaughtUpTo v to) × Waits v v.holds (waits.catch_up decisions) after
 AsksCoordinator v (calls.Decide intent votes) after = IsOnItsWay v × (v.holds.intent ≡ Some intent) × (v.holds.id ≡ Some intent.write.id) × (v.holds.votes ≡ votes.items)
-    × ((again : Bool) × Waits v (record v.holds { intent = None; votes = [] }) (waits.decide again) after)
+    × Waits v (record v.holds { intent = None; votes = [] }) (waits.decide v.flushed) after
 AsksCoordinator v (calls.Outcome decided) after = (v.holds.decided ≡ Some decided) × Waits v (record v.holds { decided = None }) waits.outcome after
 AsksCoordinator v (calls.Abort intent) after = IsOnItsWayOut v × (v.holds.intent ≡ Some intent) × Waits v (record v.holds { intent = None }) waits.abort after
 AsksCoordinator v (calls.Inquire id) after = IsOnItsWayOut v × (v.holds.intent ≡ None) × (v.holds.id ≡ Some id) × Waits v v.holds waits.inquire after
 AsksCoordinator v (calls.Raise place settled) after = ⊥
-AsksCoordinator v calls.Flush after = (IsOnItsWay v × Waits v v.holds waits.flush_to_decide after) ⊎ ((v.holds.way ≡ onward) × (v.holds.decided ≢ None) × Waits v v.holds waits.flush_to_outcome after)
+AsksCoordinator v calls.Flush after = (IsOnItsWay v × Waits v v.holds waits.flush_to_decide after × (v.flushed ≡ false)) ⊎ ((v.holds.way ≡ onward) × (v.holds.decided ≢ None) × Waits v v.holds waits.flush_to_outcome after)
 
 -- A call of a shard, by what it may be handed: on its way one that takes part in the write, which prepares its part only where it is caught up, and
--- is asked for that once; on its way out one that gave a ticket or a vote.
+-- is asked for that once, or twice where it is full and was flushed between; on its way out one that gave a ticket or a vote.
 abbrev pub AsksShard : ℕ → WriteView → ℕ → ShardCall → WriteView → Type 0
 AsksShard shards v s shard_calls.Learned after = IsOnItsWay v × HasShard shards v s × Waits v v.holds (waits.catch_up learned) after
 AsksShard shards v s (shard_calls.Learn batch) after = IsOnItsWay v × HasShard shards v s × (v.holds.batch ≡ Some batch)
     × ((again : Bool) × Waits v (record v.holds { batch = None }) (waits.catch_up (learning again)) after)
 AsksShard shards v s (shard_calls.StagePrepare intent) after = IsOnItsWay v × (v.caught ≡ Some s) × (s < shards) × (v.holds.intent ≡ Some intent) × (v.holds.id ≡ Some intent.write.id)
-    × GaveBelow v s × ((again : Bool) × (bits : ℕ) × ArePartsOf bits shards intent.write × Waits (record v { caught = None }) (record v.holds { intent = None }) (waits.prepare s again bits) after)
+    × GaveBelow v s × ((bits : ℕ) × ArePartsOf bits shards intent.write × Waits (record v { caught = None }) (record v.holds { intent = None }) (waits.prepare s v.flushed bits) after)
 AsksShard shards v s (shard_calls.Vote ticket) after = IsOnItsWay v × (v.holds.id ≡ Some ticket.id)
     × ((others : List HeldTicket) × (v.holds.tickets ≡ ticket_value (s, ticket) ∷ others) × Waits v (record v.holds { tickets = others }) (waits.vote s) after)
 AsksShard shards v s (shard_calls.DropWrite verdict None) after = ⊥
@@ -93,6 +93,7 @@ AsksShard shards v s (shard_calls.Collect heads) after = ⊥
 AsksShard shards v s shard_calls.Flush after = IsOnItsWay v
     × ((HasShard shards v s × (Waits v v.holds (waits.catch_up flushing) after ⊎ Waits v v.holds (waits.flush_to_prepare s) after))
     ⊎ ((t : TicketValue) × (others : List HeldTicket) × (v.holds.tickets ≡ ticket_value (s, t) ∷ others) × Waits v v.holds (waits.flush_to_vote s) after))
+    × (v.flushed ≡ false)
 
 -- Which call is made next: what a node is owed is kept.
 abbrev pub Asks : ℕ → WriteView → NodeCall → WriteView → Type 0

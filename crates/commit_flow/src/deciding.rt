@@ -91,7 +91,7 @@ pub(crate) fn decided(
 
 /// The coordinator was flushed, and is asked again to decide.
 pub(crate) fn flushed_to_decide(alloc: Global, ballot: Ballot, answer: Result<(), Refusal>) -> Ready
-    ensures gives { FlushGives (view_out (flush_decide_out ballot)) answer (view_ready result) }
+    ensures gives { FlushGives (view_out (flush_decide_out ballot)) true answer (view_ready result) }
     ensures kept { IsReadyOf ballot.shards result }
 {
     match answer {

@@ -1,5 +1,5 @@
 // A write flow: one call a turn.
-ghost use Rattle.std.specs.Prelude.{◌≡◌, ◌≤◌, ◌≢◌, Some, None, ℕ, IfOk, IfErr, MatchOption, option_map};
+ghost use Rattle.std.specs.Prelude.{◌≡◌, ◌≤◌, ◌≢◌, Some, None, false, ℕ, IfOk, IfErr, MatchOption, option_map};
 ghost use Rattle.calls.specs.Names.{name_of as name_of_call};
 ghost use Rattle.calls.specs.declared.call_name.CallName.TheVariants as names;
 ghost use Rattle.records.specs.Identity.{max_shards};
@@ -60,7 +60,7 @@ impl WriteFlow {
     pub fn new(alloc: Global, shards: u8, write: Write) -> Result<WriteFlow, Refusal>
         requires some { 1 ≤ shards }
         requires few { shards ≤ max_shards }
-        ensures ok { IfOk result (λ f. f ≡ record { shards = shards; seen = record { write = Some write; holds = nothing_begun; caught = None; awaited = None; ended = None }; next_name = Some names.Begin }) }
+        ensures ok { IfOk result (λ f. f ≡ record { shards = shards; seen = record { write = Some write; holds = nothing_begun; caught = None; flushed = false; awaited = None; ended = None }; next_name = Some names.Begin }) }
         ensures err { IfErr result (λ e. e ≡ Refusal.NoMemory) }
     {
         let load = Load::new(alloc, shards)?;

@@ -75,7 +75,7 @@ pub(crate) fn caught_up(preparing: Preparing, call: CatchUpCall, reply: Reply) -
 }
 
 fn refused(preparing: Preparing, refusal: Refusal) -> Ready
-    ensures gives { FlushGives (view_out (flush_out preparing)) (Err refusal) (view_ready result) }
+    ensures gives { FlushGives (view_out (flush_out preparing)) true (Err refusal) (view_ready result) }
     ensures kept { IsReadyOf preparing.load.shards result }
 {
     let Preparing {
@@ -127,7 +127,7 @@ pub(crate) fn prepared(
 
 /// The shard was flushed, and is asked again.
 pub(crate) fn flushed_to_prepare(preparing: Preparing, answer: Result<(), Refusal>) -> Ready
-    ensures gives { FlushGives (view_out (flush_out preparing)) answer (view_ready result) }
+    ensures gives { FlushGives (view_out (flush_out preparing)) true answer (view_ready result) }
     ensures kept { IsReadyOf preparing.load.shards result }
 {
     match answer {

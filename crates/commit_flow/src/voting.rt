@@ -111,7 +111,7 @@ pub(crate) fn voted(voting: Voting, answer: VoteReply) -> Ready
 /// The shard was flushed, and is asked again for its vote.
 pub(crate) fn flushed_to_vote(voting: Voting, ticket: Ticket, answer: Result<(), Refusal>) -> Ready
     requires { ticket.id ≡ voting.intent.write.id }
-    ensures gives { FlushGives (view_out (flush_vote_out voting ticket)) answer (view_ready result) }
+    ensures gives { FlushGives (view_out (flush_vote_out voting ticket)) false answer (view_ready result) }
     ensures kept { IsReadyOf voting.load.shards result }
 {
     match answer {

@@ -18,6 +18,10 @@ mod checking;
 #[cfg(test)]
 mod checks;
 #[cfg(test)]
+mod full_shards;
+#[cfg(test)]
+mod handed_refusals;
+#[cfg(test)]
 mod large_groups;
 #[cfg(test)]
 mod logging;
@@ -33,6 +37,10 @@ mod reads;
 mod refused_calls;
 #[cfg(test)]
 mod refused_writes;
+#[cfg(test)]
+mod refusing;
+#[cfg(test)]
+mod steps;
 #[cfg(test)]
 mod stores;
 #[cfg(test)]

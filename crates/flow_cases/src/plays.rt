@@ -3,74 +3,22 @@ use crate::caring::{self, begin_care};
 use crate::checking::Checking;
 use crate::logging::{log_care, log_check, log_read, log_watch, log_write};
 use crate::reading::Reading;
+pub(crate) use crate::steps::Step;
 use crate::stores::{Store, new_disks};
 use crate::turning::Turning;
 use crate::watching::{self, begin_watch};
-use crate::wide_writes::wide_line;
+use crate::wide_writes::{FILLED_BY, filling_line, wide_line};
 use answer_flow::{Freshness, WatchFlow};
 use calls::{CoordinatorCall, NodeCall, NodeName, ShardCall, Told};
 use care_flow::Care;
 use commit_flow::WriteEnd;
-use device::{Device, Tear};
+use device::Device;
 use script::Command;
 use std::alloc::Global;
 use tuples::{Refusal, Write};
 
 /// More turns than any flow of a row needs: one that is not at its end behind them has none.
 pub(crate) const MOST_TURNS: usize = 64;
-
-/// What is done with a store. Flows are numbered in the order in which they were begun, from 0 on.
-#[derive(Clone, Copy)]
-pub(crate) enum Step {
-    /// A flow makes this write, by its line in a script. It makes no call yet.
-    Start(&'static str),
-    /// A flow makes this write, and goes to its end. It is not logged.
-    Write(&'static str),
-    /// So many wide writes are begun, and each makes so many calls.
-    Crowd(u8, usize),
-    /// A flow makes the wide write of this number.
-    StartWide(u8),
-    /// The flow makes so many calls.
-    Turn(usize, usize),
-    /// The flow goes to its end.
-    Run(usize),
-    /// A care goes to its end.
-    Care(Care),
-    /// Such a care makes so many calls; then the node is opened again, and the care goes to its end.
-    CareAcross(Care, usize, NodeName),
-    /// A watch of `doc` behind a place, of so many places, goes to its end.
-    Watch(u64, u64),
-    /// Such a watch is begun. It makes no call yet.
-    StartWatch(u64, u64),
-    /// The watch that was begun last makes so many calls.
-    TurnWatch(usize),
-    /// The watch that was begun last goes to its end.
-    RunWatch,
-    /// A read of the tuplesets of these texts goes to its end.
-    Read(Freshness, &'static str),
-    /// Such a read is begun. It makes no call yet.
-    StartRead(Freshness, &'static str),
-    /// The read that was begun last makes so many calls.
-    TurnRead(usize),
-    /// The read that was begun last goes to its end.
-    RunRead,
-    /// A check of the tuple with this text goes to its end.
-    Check(Freshness, &'static str),
-    /// Such a check is begun. It makes no call yet.
-    StartCheck(Freshness, &'static str),
-    /// The check that was begun last makes so many calls.
-    TurnCheck(usize),
-    /// The check that was begun last goes to its end.
-    RunCheck,
-    /// The flow is cancelled.
-    Cancel(usize),
-    /// The node is flushed.
-    Flush(NodeName),
-    /// The node is opened again, over what its devices are found with.
-    Restart(NodeName),
-    /// The n-th call from now on of a node's first device fails, and this is found then.
-    Fail(NodeName, u64, Tear),
-}
 
 /// The write of this line in a script.
 pub(crate) fn write_of(alloc: Global, line: &[u8]) -> Result<Write, Refusal> {
@@ -135,6 +83,14 @@ impl<D: Device> Playing<D> {
         Ok(())
     }
 
+    fn fill(&mut self, alloc: Global) -> Result<(), Refusal> {
+        self.crowd(alloc, FILLED_BY, 3)?;
+        let line = filling_line(alloc)?;
+        self.start(alloc, &line)?;
+        self.turn_quietly(3);
+        Ok(())
+    }
+
     fn turn(&mut self, flow: usize, turns: usize) -> Result<(), Refusal> {
         let Some(flow) = self.flows.get_mut(flow) else {
             return Err(Refusal::BadRequest);
@@ -156,7 +112,7 @@ impl<D: Device> Playing<D> {
         let end = flow.end();
         if let Some(WriteEnd::Refused(refusal)) = end {
             // Each refusal of a write was in a reply.
-            if !self.told.has(refusal) {
+            if !self.told.has(refusal) && !self.store.refuses(refusal) {
                 self.log.push_str("untold, ")?;
             }
         }
@@ -334,6 +290,7 @@ impl<D: Device> Playing<D> {
             Step::Write(line) => self.write(alloc, line.as_bytes()),
             Step::Crowd(writes, turns) => self.crowd(alloc, writes, turns),
             Step::StartWide(write) => self.start_wide(alloc, write),
+            Step::Fill => self.fill(alloc),
             Step::Turn(flow, turns) => self.turn(flow, turns),
             Step::Run(flow) => self.run(flow),
             Step::Care(care) => self.care(alloc, care),
@@ -370,6 +327,7 @@ impl<D: Device> Playing<D> {
                 self.store.fail(node, n, tear);
                 Ok(())
             }
+            Step::Refuse(n, refusal) => Ok(self.store.refuse(n, refusal)?),
         }
     }
 

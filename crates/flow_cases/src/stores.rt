@@ -3,11 +3,12 @@ ghost use Rattle.std.specs.Prelude.{◌≤◌, ◌<◌};
 ghost use Rattle.records.specs.Identity.{max_shards};
 ghost use Rattle.calls.specs.Belonging.{IsOwed, IsReplyTo};
 
+use crate::refusing::{Refusing, answer};
 use calls::{Node, NodeCall, NodeName, Reply, Told, ask, refuse};
 use device::{Device, SimDisk, Tear};
 use journal::Bank;
 use records::Identity;
-use std::alloc::Global;
+use std::alloc::{AllocError, Global};
 use tuples::Refusal;
 
 /// The number of each store.
@@ -23,6 +24,7 @@ pub(crate) struct Store<D: Device> {
     coordinator: Option<Node<D>>,
     first: Option<Node<D>>,
     second: Option<Node<D>>,
+    refusing: Refusing,
 }
 
 /// So many new disks; each node takes two.
@@ -105,14 +107,18 @@ impl<D: Device> Store<D> {
             coordinator: Some(coordinator),
             first: Some(first),
             second: Some(second),
+            refusing: Refusing::new(alloc),
         })
     }
 
-    /// Makes the call at the node that it names.
+    /// Makes the call at the node that it names, unless it is one that is not made.
     pub(crate) fn ask(&mut self, call: NodeCall, told: &mut Told) -> Reply
         requires { IsOwed 2 call }
         ensures { IsReplyTo call result }
     {
+        if let Some(refusal) = self.refusing.next() {
+            return answer(refusal, call);
+        }
         match call.node() {
             NodeName::Coordinator => ask_at(&mut self.coordinator, SHARDS, call, told),
             NodeName::Shard(0) => ask_at(&mut self.first, SHARDS, call, told),
@@ -130,6 +136,16 @@ impl<D: Device> Store<D> {
         if let Some(node) = node {
             node.fail(Bank::A, n, tear);
         }
+    }
+
+    /// The n-th call from now on is not made, and this refusal is its answer.
+    pub(crate) fn refuse(&mut self, n: usize, refusal: Refusal) -> Result<(), AllocError> {
+        self.refusing.add(n, refusal)
+    }
+
+    /// Whether this is the answer of a call that is not made.
+    pub(crate) fn refuses(&self, refusal: Refusal) -> bool {
+        self.refusing.has(refusal)
     }
 
     /// Opens a node again, over what its devices are found with.

@@ -1,4 +1,4 @@
-// Writes whose records are so long that a batch has room for 49 of them.
+// Writes whose records are so long that a batch has room for 49 of them, and one more that leaves 4 bytes of it.
 use crate::plays::Step::{self, Crowd, Run, StartWide};
 use crate::plays::played;
 use std::alloc::{AllocError, Global};
@@ -33,6 +33,21 @@ pub(crate) fn wide_line(alloc: Global, write: u8) -> Result<Vec<u8>, AllocError>
     for change in 0..64 {
         write_tuple(&mut line, write, change)?;
     }
+    Ok(line)
+}
+
+/// So many of them leave 15,898 bytes of a batch.
+pub(crate) const FILLED_BY: u8 = 49;
+
+/// The line of the write that takes all of these but 4: its prepare has 19 bytes, 48 changes of 329, and one of 83.
+pub(crate) fn filling_line(alloc: Global) -> Result<Vec<u8>, AllocError> {
+    let mut line = Vec::new(alloc);
+    line.extend_from_slice(b"write")?;
+    for change in 0..48 {
+        write_tuple(&mut line, FILLED_BY, change)?;
+    }
+    line.extend_from_slice(b" +doc:bbbbbbbb#rr@")?;
+    fill(&mut line, b'u', 64)?;
     Ok(line)
 }
 

@@ -105,7 +105,7 @@ module _ {D : Type 0} (state : D → State) (honest : D → Type 0) (moment : D 
 
     begun_up : BeginGives mid (Ok i) later → Goal later
     begun_up is = subst Goal (sym is)
-        (going state honest moment left_since store shards old new now standing number slot is_cancelled v r flow next now.machine (record v.holds { id = Some i.write.id; intent = Some i }) None i.write.id
+        (going state honest moment left_since store shards old new now standing number slot is_cancelled v r flow next now.machine (record v.holds { id = Some i.write.id; intent = Some i }) None false i.write.id
         begun made refl refl law.1 refl (
           moved state honest moment left_since store shards old new now standing number slot is_cancelled v same_devices_then _ law.2,
           subst (λ t. Turns shards (NamesHorizon state honest store shards old now) now r t (going_on now next now.machine begun)) (ap told_unless (sym alive)) law.3,

@@ -1,5 +1,5 @@
 -- The catch-up of a shard for a write: each of its calls is a turn.
-use Rattle.std.proofs.Common.{◌≡◌, ⊎_elim, ◌≤◌, ◌<◌, ℕ, Bool, List, Result, Ok, Err, Some, None, refl, sym, ◌∙◌, ap, subst}
+use Rattle.std.proofs.Common.{◌≡◌, ⊎_elim, ◌≤◌, ◌<◌, ℕ, Bool, false, List, Result, Ok, Err, Some, None, refl, sym, ◌∙◌, ap, subst}
 use Rattle.std.specs.Prelude.{MatchOption}
 use Rattle.std.proofs.lemmas.Bool.{cases_lt}
 use Rattle.refusal.specs.declared.refusal.Refusal.{Refusal}
@@ -81,12 +81,12 @@ module _ {D : Type 0} (state : D → State) (honest : D → Type 0) (moment : D 
     -- the catch-up goes on, with decisions for the shard or without
     pub goes_next : (next : Nodes) (m : Machine) (held : CatchUpValue) → Made next m → IfHeld held.batch (IsRightBatch m) → GoesOn (record v.holds { batch = held.batch }) later → Goal later
     goes_next next m held quiet right_batch is = subst Goal (sym is)
-        (keeps state honest moment left_since store shards old new now standing number slot is_cancelled v r flow next m quiet held.batch None way.2.0.write.id way.2.2 right_batch)
+        (keeps state honest moment left_since store shards old new now standing number slot is_cancelled v r flow next m quiet held.batch None false way.2.0.write.id way.2.2 right_batch)
 
     -- the shard is caught up, and prepares its part next
     pub is_there : (next : Nodes) (m : Machine) (s : ℕ) → Made next m → GoesToPrepare s (record v.holds { batch = None }) later → Goal later
     is_there next m s quiet is = subst Goal (sym is)
-        (keeps state honest moment left_since store shards old new now standing number slot is_cancelled v r flow next m quiet None (Some s) way.2.0.write.id way.2.2 (no_batch m))
+        (keeps state honest moment left_since store shards old new now standing number slot is_cancelled v r flow next m quiet None (Some s) false way.2.0.write.id way.2.2 (no_batch m))
 
     -- a call failed, and the write goes out
     pub fails_at : (n : NodeName) (e : Refusal) → Fails n e → Calls shards r.asked n → GoesOut v.holds e later → Goal later

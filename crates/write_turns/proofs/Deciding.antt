@@ -194,7 +194,7 @@ module _ {D : Type 0} (state : D → State) (honest : D → Type 0) (moment : D 
 
     decided_up : DecideGives mid again (Ok d) later → Goal later
     decided_up is = subst Goal (sym is)
-        (going state honest moment left_since store shards old new now standing number slot is_cancelled v r flow next m (record v.holds { intent = None; votes = []; decided = Some d }) None w.id
+        (going state honest moment left_since store shards old new now standing number slot is_cancelled v r flow next m (record v.holds { intent = None; votes = []; decided = Some d }) None false w.id
         decided made_so has_id refl holds_so refl (
           moved state honest moment left_since store shards old new now standing number slot is_cancelled v same_devices_then _ law.1,
           subst (λ t. Turns shards (NamesHorizon state honest store shards old now) now r t (going_on now next m decided)) (ap told_unless (sym alive)) law.2,
@@ -264,7 +264,7 @@ module _ {D : Type 0} (state : D → State) (honest : D → Type 0) (moment : D 
           whole_again = ap (λ (o : Option IntentValue). make o back.votes.items) (ap (λ (z : IntentValue). Some z) same_i ∙ sym has) ∙ ap (make v.holds.intent) (same_votes ∙ sym has_votes)
 
           wait : back.refusal ≡ Full → again ≡ false → Goal later
-          wait full first = stays_so state honest moment left_since store shards old new now standing number slot is_cancelled v r flow now.nodes now.machine quiet later None w.id has_id
+          wait full first = stays_so state honest moment left_since store shards old new now standing number slot is_cancelled v r flow now.nodes now.machine quiet later None false w.id has_id
               (gives_i.0 full first ∙ ap at_rest whole_again)
 
           by_full : (back.refusal ≡ Full) ⊎ (back.refusal ≢ Full) → (b : Bool) → again ≡ b → Goal later
@@ -328,8 +328,8 @@ module _ {D : Type 0} (state : D → State) (honest : D → Type 0) (moment : D 
   pub decides_turn : (intent : IntentValue) (ballot : Vec VoteValue) → TurnsBy state honest moment left_since store shards (of_coordinator (coordinator_calls.Decide intent ballot))
   decides_turn intent ballot old new slot is_cancelled v later c number now standing =
       let flow = flow_there state honest moment left_since store shards old new now standing number slot is_cancelled v _ c.slots in
-      let gives = subst (λ (x : WriteView). MatchOption x.awaited ⊥ (λ awaited. GivesTo x awaited c.reply later)) c.asks.1.4.1 c.gives in
+      let gives = subst (λ (x : WriteView). MatchOption x.awaited ⊥ (λ awaited. GivesTo x awaited c.reply later)) c.asks.1.4 c.gives in
       let fits = answered_belongs state honest moment left_since c.was (of_coordinator (coordinator_calls.Decide intent ballot)) c.reply c.is
       (may_ask_coordinator store shards c.was (coordinator_calls.Decide intent ballot) c.node.before.named c.asks.0) c.answered in
       decide_reply state honest moment left_since counts_now only_now store shards old new slot is_cancelled v later number now standing flow.0 flow.1 c.asks.1.0 c.some intent ballot.items c.asks.1.1 c.asks.1.2
-      c.asks.1.3 c.asks.0 c.whole c.asks.1.4.0 ballot refl c.was c.is c.reply c.node c.answered fits gives c.slots
+      c.asks.1.3 c.asks.0 c.whole v.flushed ballot refl c.was c.is c.reply c.node c.answered fits gives c.slots

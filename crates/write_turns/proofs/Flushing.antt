@@ -1,5 +1,5 @@
 -- A flush that a write flow makes, of a shard or of the coordinator, is a turn.
-use Rattle.std.proofs.Common.{◌≡◌, ◌≢◌, ◌⊎◌, inl, inr, ◌≤◌, ◌<◌, ℕ, Bool, List, ◌∷◌, Result, Ok, Err, Option, Some, None, All, refl, sym, ◌∙◌, ap, subst}
+use Rattle.std.proofs.Common.{◌≡◌, ◌≢◌, ◌⊎◌, inl, inr, ◌≤◌, ◌<◌, ℕ, Bool, true, false, List, ◌∷◌, Result, Ok, Err, Option, Some, None, All, refl, sym, ◌∙◌, ap, subst}
 use Rattle.std.specs.Prelude.{MatchOption}
 use Rattle.std.proofs.lemmas.List.Elements.{All-head}
 use Rattle.tuples.specs.declared.entry.Entry.{Entry}
@@ -52,18 +52,18 @@ module _ {D : Type 0} (state : D → State) (honest : D → Type 0) (moment : D 
   Fails = FailsQuietly state honest moment left_since store shards old new now standing
 
   -- the flow goes on with what it held
-  as_it_was : (next : Nodes) (m : Machine) (caught : Option ℕ) (id : WriteId) → Made next m → v.holds.id ≡ Some id → later ≡ record (at_rest v.holds) { caught = caught } → Goal later
-  as_it_was next m caught id quiet has_id is = subst Goal (sym is)
-      (keeps state honest moment left_since store shards old new now standing number slot is_cancelled v r flow next m quiet v.holds.batch caught id has_id
+  as_it_was : (next : Nodes) (m : Machine) (caught : Option ℕ) (flushed : Bool) (id : WriteId) → Made next m → v.holds.id ≡ Some id → later ≡ record (at_rest v.holds) { caught = caught; flushed = flushed } → Goal later
+  as_it_was next m caught flushed id quiet has_id is = subst Goal (sym is)
+      (keeps state honest moment left_since store shards old new now standing number slot is_cancelled v r flow next m quiet v.holds.batch caught flushed id has_id
       (batch_stays state honest moment left_since store shards old new now standing number slot is_cancelled v r flow next m quiet))
 
   -- a flush of a node, before the decision
-  flush_by : (n : NodeName) (m : Machine) (way : IsOnItsWay v) (mid : WriteView) → mid.holds ≡ v.holds → Calls shards r.asked n → (answer : Result (Unit {0}) Refusal)
-      → ((done : Unit {0}) → answer ≡ Ok done → (next : Nodes) × Made next m) → ((e : Refusal) → answer ≡ Err e → Fails n e) → FlushGives mid answer later → Goal later
-  flush_by n m way mid same calls (Ok done) well ill gives =
+  flush_by : (n : NodeName) (m : Machine) (way : IsOnItsWay v) (mid : WriteView) (was_full : Bool) → mid.holds ≡ v.holds → Calls shards r.asked n → (answer : Result (Unit {0}) Refusal)
+      → ((done : Unit {0}) → answer ≡ Ok done → (next : Nodes) × Made next m) → ((e : Refusal) → answer ≡ Err e → Fails n e) → FlushGives mid was_full answer later → Goal later
+  flush_by n m way mid was_full same calls (Ok done) well ill gives =
       let made = well done refl in
-      as_it_was made.0 m mid.caught way.2.0.write.id made.1 way.2.2 (subst (λ (h : WriteHolds). later ≡ record (at_rest h) { caught = mid.caught }) same gives)
-  flush_by n m way mid same calls (Err e) well ill gives =
+      as_it_was made.0 m mid.caught was_full way.2.0.write.id made.1 way.2.2 (subst (λ (h : WriteHolds). later ≡ record (at_rest h) { caught = mid.caught; flushed = was_full }) same gives)
+  flush_by n m way mid was_full same calls (Err e) well ill gives =
       fails_at state honest moment left_since counts_now only_now store shards old new slot is_cancelled v later number now standing r flow way n e (ill e refl) calls
       (subst (λ (h : WriteHolds). GoesOut h e later) same gives)
 
@@ -81,9 +81,9 @@ module _ {D : Type 0} (state : D → State) (honest : D → Type 0) (moment : D 
     ill_done (Ok x) so e same = absurd cc
     ill_done (Err f) so e same = subst (Fails (shard s)) (let one : f ≡ e = cc in one) (shard_flushed state honest moment left_since counts_now only_now store shards old new now standing s was is (Err f) called so)
 
-    plain_reply : (mid : WriteView) → mid.holds ≡ v.holds → Calls shards r.asked (shard s) → (answer : Result (Unit {0}) Refusal)
-        → Answered state honest moment left_since was (of_shard s shard_calls.Flush) (from_shard (told_by.Flush answer)) is → FlushGives mid answer later → Goal later
-    plain_reply mid same calls answer so gives = flush_by (shard s) now.machine way mid same calls answer (well_done answer so) (ill_done answer so) gives
+    plain_reply : (mid : WriteView) (was_full : Bool) → mid.holds ≡ v.holds → Calls shards r.asked (shard s) → (answer : Result (Unit {0}) Refusal)
+        → Answered state honest moment left_since was (of_shard s shard_calls.Flush) (from_shard (told_by.Flush answer)) is → FlushGives mid was_full answer later → Goal later
+    plain_reply mid was_full same calls answer so gives = flush_by (shard s) now.machine way mid was_full same calls answer (well_done answer so) (ill_done answer so) gives
 
     catching_by : (mid : WriteView) → mid.holds ≡ v.holds → Calls shards r.asked (shard s) → (answer : Result (Unit {0}) Refusal)
         → Answered state honest moment left_since was (of_shard s shard_calls.Flush) (from_shard (told_by.Flush answer)) is
@@ -92,7 +92,7 @@ module _ {D : Type 0} (state : D → State) (honest : D → Type 0) (moment : D 
         let made = well_done (Ok done) so done refl in
         let then = subst (λ p. ProgressGives mid gives.call.held.shard p later) gives.gives gives.then_gives in
         let batch : gives.call.held.batch ≡ v.holds.batch = gives.holds ∙ ap (λ (h : WriteHolds). h.batch) same in
-        as_it_was made.0 now.machine None way.2.0.write.id made.1 way.2.2
+        as_it_was made.0 now.machine None false way.2.0.write.id made.1 way.2.2
         (subst (λ (b : Option BatchValue). later ≡ at_rest (record v.holds { batch = b })) batch (subst (λ (h : WriteHolds). later ≡ at_rest (record h { batch = gives.call.held.batch })) same then))
     catching_by mid same calls (Err e) so gives =
         let then = subst (λ p. ProgressGives mid gives.call.held.shard p later) gives.gives gives.then_gives in
@@ -107,10 +107,10 @@ module _ {D : Type 0} (state : D → State) (honest : D → Type 0) (moment : D 
     shard_reply (from_shard (told_by.Flush answer)) fits so mid (inl (has, inl then)) gives = catching_by (record v { awaited = Some (waits.catch_up flushing) }) refl
         (calls_this state honest moment left_since counts_now only_now store shards old new slot is_cancelled v later number now standing r flow way s there has) answer so
         (subst (λ (x : WriteView). MatchOption x.awaited ⊥ (λ awaited. GivesTo x awaited (from_shard (told_by.Flush answer)) later)) then gives)
-    shard_reply (from_shard (told_by.Flush answer)) fits so mid (inl (has, inr then)) gives = plain_reply (record v { awaited = Some (waits.flush_to_prepare s) }) refl
+    shard_reply (from_shard (told_by.Flush answer)) fits so mid (inl (has, inr then)) gives = plain_reply (record v { awaited = Some (waits.flush_to_prepare s) }) true refl
         (calls_this state honest moment left_since counts_now only_now store shards old new slot is_cancelled v later number now standing r flow way s there has) answer so
         (subst (λ (x : WriteView). MatchOption x.awaited ⊥ (λ awaited. GivesTo x awaited (from_shard (told_by.Flush answer)) later)) then gives)
-    shard_reply (from_shard (told_by.Flush answer)) fits so mid (inr (t, others, held, then)) gives = plain_reply (record v { awaited = Some (waits.flush_to_vote s) }) refl calls answer so
+    shard_reply (from_shard (told_by.Flush answer)) fits so mid (inr (t, others, held, then)) gives = plain_reply (record v { awaited = Some (waits.flush_to_vote s) }) false refl calls answer so
         (subst (λ (x : WriteView). MatchOption x.awaited ⊥ (λ awaited. GivesTo x awaited (from_shard (told_by.Flush answer)) later)) then gives)
       where
         own : All (IsRightTicket shards (stops state honest store shards old.devices) now mine) v.holds.tickets
@@ -126,10 +126,10 @@ module _ {D : Type 0} (state : D → State) (honest : D → Type 0) (moment : D 
   -- the coordinator's
   module _ (was is : NodeView D) (called : IsCalled state honest moment left_since store shards coordinator was is old new) where
     to_decide : (way : IsOnItsWay v) (answer : Result (Unit {0}) Refusal) → Answered state honest moment left_since was (of_coordinator coordinator_calls.Flush) (from_coordinator (told.Flush answer)) is
-        → FlushGives (record v { awaited = Some waits.flush_to_decide }) answer later → Goal later
+        → FlushGives (record v { awaited = Some waits.flush_to_decide }) true answer later → Goal later
     to_decide way (Ok done) so gives =
         let made = coordinator_flushed state honest moment left_since counts_now only_now store shards old new now standing was is (Ok done) called so in
-        as_it_was made.0 _ v.caught way.2.0.write.id made.2 way.2.2 gives
+        as_it_was made.0 _ v.caught true way.2.0.write.id made.2 way.2.2 gives
     to_decide way (Err e) so gives = fails_at state honest moment left_since counts_now only_now store shards old new slot is_cancelled v later number now standing r flow way coordinator e
         (coordinator_flushed state honest moment left_since counts_now only_now store shards old new now standing was is (Err e) called so)
         (calls_coordinator shards r.asked _ _ (asked_is state honest moment left_since store shards old new now standing number slot is_cancelled v r flow)) gives
@@ -144,16 +144,16 @@ module _ {D : Type 0} (state : D → State) (honest : D → Type 0) (moment : D 
     to_outcome some (Ok done) so gives =
         let made = coordinator_flushed state honest moment left_since counts_now only_now store shards old new now standing was is (Ok done) called so in
         let id = id_of_decided some v.holds.id refl in
-        as_it_was made.0 _ None id.0 made.2 id.1 gives
+        as_it_was made.0 _ None false id.0 made.2 id.1 gives
     to_outcome some (Err e) so gives =
         let made = coordinator_flushed state honest moment left_since counts_now only_now store shards old new now standing was is (Err e) called so in
         let id = id_of_decided some v.holds.id refl in
-        as_it_was made.0 now.machine None id.0 made.1 id.1 gives
+        as_it_was made.0 now.machine None false id.0 made.1 id.1 gives
 
     coordinator_reply : (reply : Reply) → IsReplyTo (of_coordinator coordinator_calls.Flush) reply → Answered state honest moment left_since was (of_coordinator coordinator_calls.Flush) reply is → (mid : WriteView)
-        → (IsOnItsWay v × Waits v v.holds waits.flush_to_decide mid) ⊎ ((v.holds.way ≡ onward) × (v.holds.decided ≢ None) × Waits v v.holds waits.flush_to_outcome mid)
+        → (IsOnItsWay v × Waits v v.holds waits.flush_to_decide mid × (v.flushed ≡ false)) ⊎ ((v.holds.way ≡ onward) × (v.holds.decided ≢ None) × Waits v v.holds waits.flush_to_outcome mid)
         → MatchOption mid.awaited ⊥ (λ awaited. GivesTo mid awaited reply later) → Goal later
-    coordinator_reply (from_coordinator (told.Flush answer)) fits so mid (inl (way, then)) gives =
+    coordinator_reply (from_coordinator (told.Flush answer)) fits so mid (inl (way, then, first)) gives =
         to_decide way answer so (subst (λ (x : WriteView). MatchOption x.awaited ⊥ (λ awaited. GivesTo x awaited (from_coordinator (told.Flush answer)) later)) then gives)
     coordinator_reply (from_coordinator (told.Flush answer)) fits so mid (inr (way, some, then)) gives =
         to_outcome some answer so (subst (λ (x : WriteView). MatchOption x.awaited ⊥ (λ awaited. GivesTo x awaited (from_coordinator (told.Flush answer)) later)) then gives)

@@ -127,16 +127,16 @@ module _ {D : Type 0} (state : D → State) (honest : D → Type 0) (moment : D 
         turns_id = Rattle.turns.specs.Flows.id_of
 
     -- it goes on in its slot, and holds this
-    pub going : (next : Nodes) (m : Machine) (k : WriteHolds) (caught : Option ℕ) (id : WriteId) (q : Running) → IsMade state honest moment left_since store shards old new now next m → k.id ≡ Some id
+    pub going : (next : Nodes) (m : Machine) (k : WriteHolds) (caught : Option ℕ) (flushed : Bool) (id : WriteId) (q : Running) → IsMade state honest moment left_since store shards old new now next m → k.id ≡ Some id
         → q.slot ≡ r.slot → q.holds ≡ writing k → q.is_cancelled ≡ r.is_cancelled
         → Stands store shards left_after (going_on now next m q) × Turns shards (NamesHorizon state honest store shards old now) now r (told_unless r.is_cancelled) (going_on now next m q)
-        → Promises (record (at_rest k) { caught = caught })
-    going next m k caught id q made has_id same_slot holds same_cancelled law slots = subst
+        → Promises (record (at_rest k) { caught = caught; flushed = flushed })
+    going next m k caught flushed id q made has_id same_slot holds same_cancelled law slots = subst
         (λ (told : List Told). Ran state honest moment left_since store shards old now number (turn slot) (events_of number told) new) (ap told_unless cancelled_is)
-        (ran_going state honest moment left_since store shards old new now standing number slot (shown v is_cancelled) (Some (shown (record (at_rest k) { caught = caught }) is_cancelled)) slots r is_flow.there
-        next m q (shown (record (at_rest k) { caught = caught }) is_cancelled) (told_unless r.is_cancelled) made same_slot refl shows law.0 law.1)
+        (ran_going state honest moment left_since store shards old new now standing number slot (shown v is_cancelled) (Some (shown (record (at_rest k) { caught = caught; flushed = flushed }) is_cancelled)) slots r is_flow.there
+        next m q (shown (record (at_rest k) { caught = caught; flushed = flushed }) is_cancelled) (told_unless r.is_cancelled) made same_slot refl shows law.0 law.1)
       where
-        shows : ShowsFlow q (shown (record (at_rest k) { caught = caught }) is_cancelled)
+        shows : ShowsFlow q (shown (record (at_rest k) { caught = caught; flushed = flushed }) is_cancelled)
         shows = record {
           asked = λ a is. absurd cc;
           still_asked = λ none. let both : Some id ≡ None = sym has_id ∙ ap Rattle.turns.specs.Flows.id_of (sym holds) ∙ none in absurd cc;
@@ -159,23 +159,23 @@ module _ {D : Type 0} (state : D → State) (honest : D → Type 0) (moment : D 
           (subst (λ (x : Holds). IsRight shards left_after (behind_call now next m) r r.asked x) holds_is (quiet.0.stands.flows.held r is_flow.running))).3.batch
 
       -- it goes on with other decisions on their way, or none
-      pub keeps : (b : Option BatchValue) (caught : Option ℕ) (id : WriteId) → v.holds.id ≡ Some id → IfHeld b (IsRightBatch m) → Promises (record (at_rest (record v.holds { batch = b })) { caught = caught })
-      keeps b caught id has_id right_batch = going next m (record v.holds { batch = b }) caught id (with_call r (with_batch b r.holds) r.met m) quiet.1 has_id refl (ap (with_batch b) holds_is) refl
+      pub keeps : (b : Option BatchValue) (caught : Option ℕ) (flushed : Bool) (id : WriteId) → v.holds.id ≡ Some id → IfHeld b (IsRightBatch m) → Promises (record (at_rest (record v.holds { batch = b })) { caught = caught; flushed = flushed })
+      keeps b caught flushed id has_id right_batch = going next m (record v.holds { batch = b }) caught flushed id (with_call r (with_batch b r.holds) r.met m) quiet.1 has_id refl (ap (with_batch b) holds_is) refl
           (quiet_calls_keep store shards left_before left_after now next m r b quiet.0 is_flow.running right_batch)
 
       -- it goes on with what it held
-      pub stays_so : (later : WriteView) (caught : Option ℕ) (id : WriteId) → v.holds.id ≡ Some id → later ≡ record (at_rest v.holds) { caught = caught } → Promises later
-      stays_so later caught id has_id is = subst Promises (sym is) (keeps v.holds.batch caught id has_id batch_stays)
+      pub stays_so : (later : WriteView) (caught : Option ℕ) (flushed : Bool) (id : WriteId) → v.holds.id ≡ Some id → later ≡ record (at_rest v.holds) { caught = caught; flushed = flushed } → Promises later
+      stays_so later caught flushed id has_id is = subst Promises (sym is) (keeps v.holds.batch caught flushed id has_id batch_stays)
 
       -- it goes on, and has spent some of what it held
       pub spends : (k : WriteHolds) (id : WriteId) → v.holds.id ≡ Some id → HoldsLess v.holds k → k.way ≡ v.holds.way → Promises (at_rest k)
-      spends k id has_id less same_way = going next m k None id (with_call r (writing k) r.met m) quiet.1 (less.id ∙ has_id) refl refl refl
+      spends k id has_id less same_way = going next m k None false id (with_call r (writing k) r.met m) quiet.1 (less.id ∙ has_id) refl refl refl
           (writes_spend store shards left_before left_after now next m r v.holds k changes conditions quiet.0 is_flow.running asked_is holds_is less same_way)
 
       -- it goes out with a refusal that has its cause
       pub goes_out : (k : WriteHolds) (id : WriteId) (e : Refusal) → v.holds.id ≡ Some id → v.holds.decided ≡ None → HoldsLess v.holds k → k.way ≡ outward (Some e)
           → ((ran : Moment) → ran.nodes ≡ next → HasItsCause shards now ran r e) → Promises (at_rest k)
-      goes_out k id e has_id none less way cause = going next m k None id (with_call r (writing k) (Some e) m) quiet.1 (less.id ∙ has_id) refl refl refl
+      goes_out k id e has_id none less way cause = going next m k None false id (with_call r (writing k) (Some e) m) quiet.1 (less.id ∙ has_id) refl refl refl
           (refused_writes_go_out store shards left_before left_after now next m r v.holds k changes conditions e quiet.0 is_flow.running asked_is holds_is less way (none_decided none)
           (cause (going_on now next m (with_call r (writing k) (Some e) m)) refl))
 

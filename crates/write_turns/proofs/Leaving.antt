@@ -124,7 +124,7 @@ module _ {D : Type 0} (state : D → State) (honest : D → Type 0) (moment : D 
 
       aborted_going : (id : WriteId) → id ≡ w.id → GoesOn (record v.holds { intent = None; verdict = Some id }) later → Goal later
       aborted_going id same is = subst Goal (sym (is ∙ ap (λ (i : WriteId). at_rest (record v.holds { intent = None; verdict = Some i })) same))
-          (going state honest moment left_since store shards old new now standing number slot is_cancelled v r flow next now.machine (record v.holds { intent = None; verdict = Some w.id }) None w.id
+          (going state honest moment left_since store shards old new now standing number slot is_cancelled v r flow next now.machine (record v.holds { intent = None; verdict = Some w.id }) None false w.id
           (with_verdict now r v.holds w) made has_id refl refl refl
           (moved state honest moment left_since store shards old new now standing number slot is_cancelled v same_devices_then _ law.1, law.2))
 
@@ -219,7 +219,7 @@ module _ {D : Type 0} (state : D → State) (honest : D → Type 0) (moment : D 
             let verdict_right = (inquiries_answer store shards before D now x id standing.stands (is_seen state honest store shards old now standing x called.before is_up)).1 told_is.1 in
             let law = verdicts_turn store shards before now r _ _ v.holds id standing.stands flow.running asked_to (holds_is state honest moment left_since store shards old new now standing number slot is_cancelled v r flow) has_id verdict_right in
             subst Goal (sym (goes ∙ ap (λ (i : WriteId). at_rest (record v.holds { verdict = Some i })) told_is.0))
-            (going state honest moment left_since store shards old new now standing number slot is_cancelled v r flow now.nodes now.machine (record v.holds { verdict = Some id }) None id
+            (going state honest moment left_since store shards old new now standing number slot is_cancelled v r flow now.nodes now.machine (record v.holds { verdict = Some id }) None false id
             (with_call r (writing (record v.holds { verdict = Some id })) r.met now.machine) quiet.1 has_id refl refl refl
             (moved state honest moment left_since store shards old new now standing number slot is_cancelled v same_then _ law.0, law.1))
         by_drop (inr stops_here) = quiet_end now.nodes now.machine quiet stops_here.2

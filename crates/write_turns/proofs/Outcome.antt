@@ -96,7 +96,7 @@ module _ {D : Type 0} (state : D → State) (honest : D → Type 0) (moment : D 
         let own = (so.1.later back runs refl).0 in
         let id = own_id v.holds.id refl in
         stays_so state honest moment left_since store shards old new now standing number slot is_cancelled v r flow now.nodes now.machine
-        (quiet (views.coordinator x) (views.coordinator y) called (ap views.coordinator same)) later None id.0 id.1
+        (quiet (views.coordinator x) (views.coordinator y) called (ap views.coordinator same)) later None false id.0 id.1
         (goes ∙ ap at_rest (ap (λ (o : Option DecidedValue). make o) (ap (λ (z : DecidedValue). Some z) own ∙ sym has)))
       where
         make : Option DecidedValue → WriteHolds

@@ -110,7 +110,7 @@ module _ {D : Type 0} (state : D → State) (honest : D → Type 0) (moment : D 
         make o = record v.holds { intent = o }
 
         wait : e ≡ Full → again ≡ false → Goal later
-        wait full first = stays_so state honest moment left_since store shards old new now standing number slot is_cancelled v r flow next now.machine quiet later (Some s) w.id has_id
+        wait full first = stays_so state honest moment left_since store shards old new now standing number slot is_cancelled v r flow next now.machine quiet later (Some s) false w.id has_id
             (gives.0 full first ∙ ap (λ (k : WriteHolds). record (at_rest k) { caught = Some s }) (ap make intent_back))
 
         out : (e ≢ Full) ⊎ (again ≡ true) → Goal later
@@ -161,7 +161,7 @@ module _ {D : Type 0} (state : D → State) (honest : D → Type 0) (moment : D 
       prepared back same_back is =
           let law = prepare_turns_of store shards before state honest now x y s w t r v.holds standing.stands seen holder takes prepares in
           subst Goal (sym (is ∙ ap (λ (o : Option IntentValue). at_rest (record v.holds { intent = o; tickets = v.holds.tickets ++ ticket_value (s, t) ∷ [] })) (ap (λ (i : IntentValue). Some i) same_back ∙ sym has)))
-          (going state honest moment left_since store shards old new now standing number slot is_cancelled v r flow next now.machine (record v.holds { tickets = v.holds.tickets ++ ticket_value (s, t) ∷ [] }) None w.id
+          (going state honest moment left_since store shards old new now standing number slot is_cancelled v r flow next now.machine (record v.holds { tickets = v.holds.tickets ++ ticket_value (s, t) ∷ [] }) None false w.id
           (with_call r (writing (record v.holds { tickets = v.holds.tickets ++ held_ticket s t ∷ [] })) r.met now.machine) made has_id refl refl refl
           (moved state honest moment left_since store shards old new now standing number slot is_cancelled v devices _ law.1.0, law.1.1))
 
@@ -245,8 +245,8 @@ module _ {D : Type 0} (state : D → State) (honest : D → Type 0) (moment : D 
   pub prepares_turn : (s : ℕ) (intent : IntentValue) → TurnsBy state honest moment left_since store shards (of_shard s (shard_calls.StagePrepare intent))
   prepares_turn s intent old new slot is_cancelled v later c number now standing =
       let flow = flow_there state honest moment left_since store shards old new now standing number slot is_cancelled v _ c.slots in
-      let gives = subst (λ (x : WriteView). MatchOption x.awaited ⊥ (λ awaited. GivesTo x awaited c.reply later)) c.asks.1.6.3 c.gives in
+      let gives = subst (λ (x : WriteView). MatchOption x.awaited ⊥ (λ awaited. GivesTo x awaited c.reply later)) c.asks.1.6.2 c.gives in
       let fits = answered_belongs state honest moment left_since c.was (of_shard s (shard_calls.StagePrepare intent)) c.reply c.is
       (may_ask_shard store shards s c.was (shard_calls.StagePrepare intent) c.node.before.named c.asks.0) c.answered in
       prepare_reply state honest moment left_since counts_now only_now store shards old new slot is_cancelled v later number now standing flow.0 flow.1 c.asks.1.0 s intent c.asks.1.2 c.asks.1.3 c.asks.1.4
-      c.asks.0 c.whole c.asks.1.5 c.asks.1.6.0 c.asks.1.6.1 c.was c.is c.reply c.node c.answered fits gives c.slots
+      c.asks.0 c.whole c.asks.1.5 v.flushed c.asks.1.6.0 c.was c.is c.reply c.node c.answered fits gives c.slots

@@ -131,13 +131,13 @@ module _ {D : Type 0} (state : D → State) (honest : D → Type 0) (moment : D 
         let law = vote_turns_of store shards before state honest now x s w ticket vote r v.holds others standing.stands (shard_is_seen state honest store shards old now standing s x called.before is_up) holder
         has_ticket among this_or_others up (so.1.yes vote up refl) in
         let k : WriteHolds = record v.holds { tickets = others; votes = v.holds.votes ++ vote ∷ [] } in
-        subst Goal (sym is) (going state honest moment left_since store shards old new now standing number slot is_cancelled v r flow now.nodes now.machine k None way.2.0.write.id
+        subst Goal (sym is) (going state honest moment left_since store shards old new now standing number slot is_cancelled v r flow now.nodes now.machine k None false way.2.0.write.id
         (with_call r (writing k) r.met now.machine) quiet.1 way.2.2 refl refl refl
         (moved state honest moment left_since store shards old new now standing number slot is_cancelled v devices _ law.0, law.1))
     told (Later t) so is_up is =
         let back = so.1.back t refl in
         let whole : record v.holds { tickets = ticket_value (s, t) ∷ others } ≡ v.holds = ap (λ (ts : List HeldTicket). make ts) (ap (λ (x : TicketValue). ticket_value (s, x) ∷ others) back ∙ sym held) in
-        stays_so state honest moment left_since store shards old new now standing number slot is_cancelled v r flow now.nodes now.machine quiet later None way.2.0.write.id way.2.2 (is ∙ ap at_rest whole)
+        stays_so state honest moment left_since store shards old new now standing number slot is_cancelled v r flow now.nodes now.machine quiet later None false way.2.0.write.id way.2.2 (is ∙ ap at_rest whole)
       where
         make : List HeldTicket → WriteHolds
         make ts = record v.holds { tickets = ts }

@@ -17,10 +17,10 @@ pub returns-in-FlushToVote-clause-asks : goal.returns-in-FlushToVote-clause-asks
 returns-in-FlushToVote-clause-asks c =
     let v = c.in-FlushToVote.voting in
     let asked = c.flush_shard-in-FlushToVote.ensures in
-    rw (c.in-FlushToVote.is, asked.0, asked.1) (tt, ((refl, refl, (v.intent, refl, refl)), inr (c.in-FlushToVote.ticket, tickets_of v.load, refl, refl)))
+    rw (c.in-FlushToVote.is, asked.0, asked.1) (tt, ((refl, refl, (v.intent, refl, refl)), inr (c.in-FlushToVote.ticket, tickets_of v.load, refl, refl), refl))
 
 pub returns-in-FlushToDecide-clause-asks : goal.returns-in-FlushToDecide-clause-asks
 returns-in-FlushToDecide-clause-asks c =
     let asked = c.ask_coordinator-in-FlushToDecide.ensures in
     let b = c.in-FlushToDecide.ballot in
-    rw (c.in-FlushToDecide.is, asked.0, asked.1) (tt, inl ((refl, refl, (b.intent, refl, refl)), refl))
+    rw (c.in-FlushToDecide.is, asked.0, asked.1) (tt, inl ((refl, refl, (b.intent, refl, refl)), refl, refl))

@@ -25,7 +25,7 @@ returns-clause-asks c = (
     refl,
     refl,
     (given_below c.args.preparing.load.shards c.args.preparing.intent.write c.args.preparing.load.tickets.items c.args.preparing.shard c.args.preparing.asked, c.args.preparing.none),
-    (c.args.is_again, c.participants-participants.result, c.participants-participants.ensures.each, ap waits_under c.id-id.ensures),
+    (c.participants-participants.result, c.participants-participants.ensures.each, ap waits_under c.id-id.ensures),
   ),
 )
   where
@@ -34,6 +34,7 @@ returns-clause-asks c = (
       write = None;
       holds = holds_onward id None (tickets_of c.args.preparing.load) c.args.preparing.load.votes.items None;
       caught = None;
+      flushed = c.args.is_again;
       awaited = Some (prepare c.args.preparing.shard c.args.is_again c.participants-participants.result);
       ended = None;
     }
