@@ -23,7 +23,7 @@ use Rattle.write_turns.specs.Turning.{MakesCall}
 module _ {D : Type 0} (state : D → State) (honest : D → Type 0) (moment : D → ℕ) (left_since : D → ℕ → List ℕ → Type 0) (a b : D) (write : WriteValue) where
   -- a write flow before its first call
   abbrev fresh : WriteView
-  fresh = record { write = Some write; holds = nothing_begun; caught = None; awaited = None; ended = None }
+  fresh = record { write = Some write; holds = nothing_begun; caught = None; flushed = false; awaited = None; ended = None }
 
   -- a store whose nodes were all refused, with the flow in its first slot, and without it
   abbrev first_slot : ℕ → Option FlowView
