@@ -29,14 +29,7 @@ fn revive<D: Device>(device: &mut D) -> bool
 }
 
 // Opens the node of this name over two devices.
-fn open<D: Device>(
-    alloc: Global,
-    store: u64,
-    shards: u8,
-    name: NodeName,
-    a: D,
-    b: D,
-) -> Node<D>
+fn open<D: Device>(alloc: Global, store: u64, shards: u8, name: NodeName, a: D, b: D) -> Node<D>
     requires some { 1 ≤ shards }
     requires few { shards ≤ max_shards }
     requires there { IsNodeThere shards name }

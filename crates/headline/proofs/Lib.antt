@@ -18,6 +18,7 @@ pub mod AllTurns
 pub mod Cancels
 pub mod Starts
 pub mod Chains
+pub mod DeviceScripts
 pub mod Places
 pub mod Within
 pub mod Reopening

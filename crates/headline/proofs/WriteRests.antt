@@ -60,9 +60,9 @@ prepares : (v : WriteView) (s : ℕ) (again : Bool) (i : IntentValue) (r : Resul
 prepares v s again i (Ok t) after gives = same after _ gives refl
 prepares v s again i (Err e) after gives = once_more (Rests after) e again (λ full first. same after _ (gives.0 full first) refl) (λ out. same after _ (gives.1 out) refl)
 
-flushes : (v : WriteView) (r : Result (Unit {0}) Refusal) (after : WriteView) → FlushGives v r after → Rests after
-flushes v (Ok done) after gives = same after _ gives refl
-flushes v (Err e) after gives = same after _ gives refl
+flushes : (v : WriteView) (was_full : Bool) (r : Result (Unit {0}) Refusal) (after : WriteView) → FlushGives v was_full r after → Rests after
+flushes v was_full (Ok done) after gives = same after _ gives refl
+flushes v was_full (Err e) after gives = same after _ gives refl
 
 votes : (v : WriteView) (s : ℕ) (r : VoteReply) (after : WriteView) → VoteGives v s r after → Rests after
 votes v s (Yes vote) after gives = same after _ gives refl
@@ -96,11 +96,11 @@ by_call : (v : WriteView) (awaited : WriteAwaited) (reply : Reply) (after : Writ
 by_call v waits.begin (Coordinator (told.Begin r)) after gives = begins v r after gives
 by_call v (waits.catch_up awaited) reply after gives = progresses_so v gives.call.held.shard gives.progress after gives.then_gives
 by_call v (waits.prepare s again bits) (Shard (told_by.StagePrepare i r)) after gives = prepares v s again i r after gives
-by_call v (waits.flush_to_prepare s) (Shard (told_by.Flush r)) after gives = flushes v r after gives
+by_call v (waits.flush_to_prepare s) (Shard (told_by.Flush r)) after gives = flushes v _ r after gives
 by_call v (waits.vote s) (Shard (told_by.Vote r)) after gives = votes v s r after gives
-by_call v (waits.flush_to_vote s) (Shard (told_by.Flush r)) after gives = flushes v r after gives
+by_call v (waits.flush_to_vote s) (Shard (told_by.Flush r)) after gives = flushes v _ r after gives
 by_call v (waits.decide again) (Coordinator (told.Decide r)) after gives = decides v again r after gives
-by_call v waits.flush_to_decide (Coordinator (told.Flush r)) after gives = flushes v r after gives
+by_call v waits.flush_to_decide (Coordinator (told.Flush r)) after gives = flushes v _ r after gives
 by_call v waits.outcome (Coordinator (told.Outcome r)) after gives = outcomes_so v r after gives
 by_call v waits.flush_to_outcome (Coordinator (told.Flush r)) after gives = same after _ gives refl
 by_call v waits.abort (Coordinator (told.Abort r)) after gives = aborts v r after gives

@@ -1,4 +1,5 @@
 pub mod Shown
 pub mod Told
 pub mod Promised
+pub mod DeviceScripts
 pub mod Headline

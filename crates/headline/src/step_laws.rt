@@ -3,6 +3,7 @@ ghost use Rattle.std.specs.Prelude.{ℕ};
 ghost use Rattle.care_flow.specs.declared.care.Care.{Care};
 ghost use Rattle.cluster.specs.declared.request.Request.{Request};
 ghost use Rattle.cluster.specs.declared.step.Step.TheVariants.{Cancel, Care as care_for, Start, Turn};
+ghost use Rattle.headline.specs.DeviceScripts.{ScriptsKeep};
 ghost use Rattle.headline.specs.Promised.{StepKeeps};
 
 use device::Device;
@@ -21,4 +22,10 @@ pub fn turns_keep<D: Device>()
 /// The flow in a slot is cancelled: a write goes out, or on to its end, and any other is gone; in an empty slot nothing is.
 pub fn cancels_keep<D: Device>()
     ensures { (slot : ℕ) → StepKeeps D.state D.honest D.moment D.left_since (Cancel slot) }
+{}
+
+/// The script of one device is set, which is no step: a store that shows the world before leads to one that shows the world behind, stands for whatever
+/// the first stands for, and names no horizon that the first does not.
+pub fn scripts_keep<D: Device>()
+    ensures { ScriptsKeep D.set_to_fail D.state D.honest D.moment D.left_since }
 {}

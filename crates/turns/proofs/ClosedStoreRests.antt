@@ -73,8 +73,8 @@ pub unmade_stores_rest : {D : Type 0} (state : D → State) (honest : D → Type
 unmade_stores_rest state honest moment left_since store shards devices both un =
     let left = stops state honest store shards devices in
     let rests : Rests store shards [] 0 0 (left coordinator) (at_shards left) = empty_rests (left coordinator) (left coordinator) (at_shards left) (at_shards left) store shards
-        (λ found is. inl (stops_none state honest moment left_since store shards devices un coordinator found tt is))
-        (λ s found lt is. inl (stops_none state honest moment left_since store shards devices un (shard s) found lt is)) in
+    (λ found is. inl (stops_none state honest moment left_since store shards devices un coordinator found tt is))
+    (λ s found lt is. inl (stops_none state honest moment left_since store shards devices un (shard s) found lt is)) in
     record {
       sound = unmade_sound state honest moment left_since store shards devices un both;
       rests = rests;
