@@ -36,6 +36,8 @@ mod reads;
 #[cfg(test)]
 mod refused_calls;
 #[cfg(test)]
+mod refused_catch_ups;
+#[cfg(test)]
 mod refused_writes;
 #[cfg(test)]
 mod refusing;
