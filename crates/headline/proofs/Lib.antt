@@ -32,4 +32,5 @@ pub mod Opened
 pub mod Memory
 pub mod Restart
 pub mod Whole
+pub mod HandsBack
 pub mod Joined

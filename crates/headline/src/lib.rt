@@ -12,5 +12,5 @@ mod opening_laws;
 mod step_laws;
 
 pub use headline_laws::{headline, runs_keep_their_promise, steps_keep_their_promise};
-pub use opening_laws::{openings_keep, restarts_keep};
+pub use opening_laws::{openings_keep, refused_openings_hand_back, restarts_keep};
 pub use step_laws::{cancels_keep, scripts_keep, starts_keep, turns_keep};

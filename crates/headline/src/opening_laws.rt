@@ -1,7 +1,10 @@
 // What is opened again keeps the promises of runs: laws, each the clause of a function with an empty body.
+ghost use Rattle.std.specs.Prelude.{ℕ};
 ghost use Rattle.calls.specs.declared.call.NodeName.{NodeName};
 ghost use Rattle.cluster.specs.declared.step.Step.TheVariants.{Restart};
 ghost use Rattle.headline.specs.Promised.{OpeningsKeep, StepKeeps};
+ghost use Rattle.laws.specs.Nodes.{NodeName as NodeAt};
+ghost use Rattle.turns.specs.Reopens.{HandsBack};
 
 use device::Device;
 
@@ -13,4 +16,9 @@ pub fn restarts_keep<D: Device>()
 /// The opening of a whole store keeps the promise of an opening, over whatever devices a run or a stop left.
 pub fn openings_keep<D: Device>()
     ensures { OpeningsKeep D.state D.honest D.moment D.left_since }
+{}
+
+/// An opening that ends for lack of memory gives its devices back untouched, and so keeps the promise of one that does.
+pub fn refused_openings_hand_back<D: Device>()
+    ensures { (store shards : ℕ) (devices : NodeAt → D × D) → HandsBack D.state D.honest D.moment D.left_since store shards devices devices }
 {}
