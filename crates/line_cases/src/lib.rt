@@ -1,5 +1,5 @@
-//! Tables of cases for the lines of a server and of a script: requests and commands as they are read, answers as they are written, and whole
-//! sessions.
+//! Tables of cases for the texts of answers, and sessions whose reader or writer fails. What is read of a line stands in
+//! `checks/request_lines.tsv` for a server, and in `examples/` for a script, and so does what a script prints.
 //!
 //! Keeps: nothing at run time; it has tests alone.
 //! They stand here, over public calls, since a crate with tests of its own is proved once more for them.
@@ -8,10 +8,4 @@
 #[cfg(test)]
 mod answer_texts;
 #[cfg(test)]
-mod printed_texts;
-#[cfg(test)]
-mod request_lines;
-#[cfg(test)]
-mod script_lines;
-#[cfg(test)]
-mod served_sessions;
+mod broken_sessions;

@@ -1,7 +1,7 @@
-//! A session over a plain list of tuples, from standard input to standard output: what `checks/refused_session` runs.
+//! A session over a plain list of touches, from standard input to standard output: what `checks/request_lines` and `checks/refused_session` run.
 //!
-//! Keeps: a request that is refused changes no tuple.
-//! Never: keeps more than the tuples that were touched; a delete, a condition or a freshness changes no answer.
+//! Keeps: a request that is refused changes no tuple; each answer tells the place, the condition or the limit that was asked for.
+//! Never: keeps more than the touches; a delete changes no answer, a read finds the tuples of objects alone, and a limit counts touches.
 //! Callers rely on: status 0 at the end of the input, and 1 where the session broke off.
 #![tactic(auto)]
 
