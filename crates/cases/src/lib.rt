@@ -9,26 +9,16 @@ mod batch_bytes;
 #[cfg(test)]
 mod file_devices;
 #[cfg(test)]
-mod held_writes;
-#[cfg(test)]
 mod journal_bytes;
 #[cfg(test)]
 mod log_bytes;
 #[cfg(test)]
-mod object_shards;
-#[cfg(test)]
 mod refusal_names;
-#[cfg(test)]
-mod script_lines;
 #[cfg(test)]
 mod shard_replay;
 #[cfg(test)]
 mod struck_disks;
 #[cfg(test)]
 mod token_texts;
-#[cfg(test)]
-mod tuple_order;
-#[cfg(test)]
-mod tuple_texts;
 #[cfg(test)]
 mod version_rows;

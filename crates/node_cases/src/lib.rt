@@ -13,20 +13,10 @@ mod batches;
 #[cfg(test)]
 mod horizons;
 #[cfg(test)]
-mod ids;
-#[cfg(test)]
-mod inquiries;
-#[cfg(test)]
 mod logs;
-#[cfg(test)]
-mod outcomes;
 #[cfg(test)]
 mod shard_bytes;
 #[cfg(test)]
-mod shard_states;
-#[cfg(test)]
 mod stores;
-#[cfg(test)]
-mod whole_writes;
 #[cfg(test)]
 mod writes;

@@ -91,35 +91,6 @@ pub(crate) fn open_shards<D: Device>(
     Ok(opened)
 }
 
-/// A store of so many shards over these devices, two for each node.
-pub(crate) fn open<D: Device>(
-    alloc: Global,
-    shards: u8,
-    devices: &mut Vec<D>,
-) -> Result<Store<D>, Refusal>
-    requires some { 1 ≤ shards }
-    requires few { shards ≤ max_shards }
-{
-    let opened = open_shards(alloc, shards, devices)?;
-    let (a, b) = two_of(devices)?;
-    let coordinator = open_coordinator(alloc, a, b, Identity::coordinator(STORE, shards))?;
-    Ok(Store {
-        coordinator,
-        shards: opened,
-    })
-}
-
-/// The same coordinator after another opening over its devices.
-pub(crate) fn reopen<D: Device>(
-    alloc: Global,
-    coordinator: Coordinator<D>,
-) -> Result<Coordinator<D>, Refusal> {
-    let shards = coordinator.identity().shards();
-    let me = Identity::coordinator(STORE, shards);
-    let (a, b) = coordinator.into_devices();
-    open_coordinator(alloc, a, b, me)
-}
-
 /// Raises the horizon of a coordinator; none where the values don't settle the place at each shard of its store.
 pub(crate) fn raise<D: Device>(
     coordinator: &mut Coordinator<D>,

@@ -1,14 +1,14 @@
-// One write on its way: it is begun, prepared and voted for at its shards, decided, kept and learned.
+// One write on its way: it is begun, prepared and voted for at its shards, and decided.
 ghost use Rattle.std.specs.Prelude.{IfOk};
 ghost use Rattle.records.specs.Replays.{AskOfLog};
 
 use crate::stores::{Store, push};
-use coordinator::{Coordinator, Decided, NotDecided, Outcome, votes_match};
+use coordinator::{Coordinator, Decided, NotDecided, votes_match};
 use decisions::{Intent, Ticket, Vote};
 use device::Device;
-use shard::{ReadReply, Shard, VoteReply};
+use shard::{Shard, VoteReply};
 use std::alloc::Global;
-use tuples::{Change, Condition, Refusal, Tuple, Tupleset, Want, Write, WriteId};
+use tuples::{Change, Condition, Refusal, Tuple, Want, Write, WriteId};
 
 fn touches(alloc: Global, texts: &str) -> Result<Vec<Change>, Refusal> {
     let mut changes = Vec::new(alloc);
@@ -133,84 +133,4 @@ pub(crate) fn decide<D: Device>(
         Ok(()) => decide_by(&mut store.coordinator, intent, votes),
         Err(refusal) => Err(leave(refusal, intent, votes)),
     }
-}
-
-/// The place of a decision that a flush keeps: its outcome comes later before it.
-pub(crate) fn keep<D: Device>(
-    coordinator: &mut Coordinator<D>,
-    decided: Decided,
-) -> Result<u64, Refusal> {
-    let decided = match coordinator.outcome(decided) {
-        Outcome::Later(decided) => decided,
-        Outcome::Kept(_) => return Err(Refusal::BadRequest),
-        Outcome::Unsure => return Err(Refusal::Unsure),
-    };
-    if let Err(refusal) = coordinator.flush() {
-        decided.leave();
-        return Err(refusal);
-    }
-    match coordinator.outcome(decided) {
-        Outcome::Kept(place) => Ok(place),
-        Outcome::Later(decided) => {
-            decided.leave();
-            Err(Refusal::BadRequest)
-        }
-        Outcome::Unsure => Err(Refusal::Unsure),
-    }
-}
-
-/// Teaches each shard the kept decisions up to a place, and makes that durable.
-pub(crate) fn learn<D: Device>(
-    alloc: Global,
-    store: &mut Store<D>,
-    to: u64,
-) -> Result<(), Refusal> {
-    for shard in store.shards.iter_mut() {
-        let from = shard.learned()?;
-        if from > to {
-            return Err(Refusal::BadRequest);
-        }
-        let batch = store.coordinator.batch(alloc, from, to)?;
-        if !shard.learn(alloc, &batch)? {
-            return Err(Refusal::BadRequest);
-        }
-        shard.flush()?;
-    }
-    Ok(())
-}
-
-/// Makes a write as a whole, and tells its place.
-pub(crate) fn write<D: Device>(
-    alloc: Global,
-    store: &mut Store<D>,
-    write: Write,
-) -> Result<u64, Refusal> {
-    let decided = decide(alloc, store, write)?;
-    let place = keep(&mut store.coordinator, decided)?;
-    learn(alloc, store, place)?;
-    Ok(place)
-}
-
-fn count_of<D: Device>(
-    alloc: Global,
-    shard: &Shard<D>,
-    place: u64,
-    set: &Tupleset,
-) -> Result<usize, Refusal> {
-    match shard.read(alloc, place, set) {
-        Ok(ReadReply::Rows(tuples)) => Ok(tuples.len()),
-        Ok(ReadReply::Behind) => Err(Refusal::Future),
-        Err(refusal) => Err(refusal),
-    }
-}
-
-/// How many tuples of a tupleset a shard has at a place; `Future` where it has not learned so far.
-pub(crate) fn count<D: Device>(
-    alloc: Global,
-    shard: &Shard<D>,
-    place: u64,
-    set: &str,
-) -> Result<usize, Refusal> {
-    let set = Tupleset::parse(alloc, set.as_bytes())?;
-    count_of(alloc, shard, place, &set)
 }

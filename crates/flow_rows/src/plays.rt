@@ -1,0 +1,240 @@
+// What a row does with a store, and what comes of it.
+use crate::asking::Asking;
+use crate::caring::{self, begin_care};
+use crate::logging::{log_care, log_write};
+use crate::steps::MOST_TURNS;
+use crate::stores::Store;
+use crate::texts::command;
+use crate::turning::Turning;
+use calls::{CoordinatorCall, NodeCall, NodeName, ShardCall, Told};
+use care_flow::Care;
+use commit_flow::WriteEnd;
+use device::{Device, Tear};
+use lines::Command;
+use requests::Request;
+use std::alloc::Global;
+use tuples::{Refusal, Write};
+
+/// A store, its flows, and what they did.
+pub(crate) struct Playing<D: Device> {
+    store: Store<D>,
+    writes: Vec<Turning>,
+    questions: Vec<Asking>,
+    told: Told,
+    log: String,
+}
+
+fn leave_writes(mut writes: Vec<Turning>) {
+    while let Some(flow) = writes.pop() {
+        flow.leave();
+    }
+    writes.destroy_empty();
+}
+
+impl<D: Device> Playing<D> {
+    /// Begins the write of this line, which makes no call yet.
+    pub(crate) fn start(&mut self, alloc: Global, line: &str) -> Result<(), Refusal> {
+        match command(alloc, line)? {
+            Command::Ask(Request::Write(write)) => self.begin_write(alloc, write),
+            _ => Err(Refusal::BadRequest),
+        }
+    }
+
+    pub(crate) fn begin_write(&mut self, alloc: Global, write: Write) -> Result<(), Refusal> {
+        self.writes.reserve(1)?;
+        let flow = Turning::new(alloc, write)?;
+        self.writes.push_reserved(flow);
+        Ok(())
+    }
+
+    /// The write that was begun last makes so many calls, which are not logged.
+    pub(crate) fn turn_quietly(&mut self, turns: usize) {
+        if let Some(flow) = self.writes.last_mut() {
+            for _ in 0..turns {
+                if flow.turn(&mut self.store, &mut self.told).is_none() {
+                    return;
+                }
+            }
+        }
+    }
+
+    /// The write makes so many calls.
+    pub(crate) fn turn(&mut self, flow: usize, turns: usize) -> Result<(), Refusal> {
+        let Some(flow) = self.writes.get_mut(flow) else {
+            return Err(Refusal::BadRequest);
+        };
+        for _ in 0..turns {
+            match flow.turn(&mut self.store, &mut self.told) {
+                Some(named) => named.write_to(&mut self.log)?,
+                None => return Ok(()),
+            }
+        }
+        Ok(())
+    }
+
+    /// The write goes to its end.
+    pub(crate) fn run(&mut self, flow: usize) -> Result<(), Refusal> {
+        self.turn(flow, MOST_TURNS)?;
+        let Some(flow) = self.writes.get(flow) else {
+            return Err(Refusal::BadRequest);
+        };
+        let end = flow.end();
+        if let Some(WriteEnd::Refused(refusal)) = end {
+            // Each refusal of a write was in a reply.
+            if !self.told.has(refusal) && !self.store.refuses(refusal) {
+                self.log.push_str("untold, ")?;
+            }
+        }
+        log_write(&mut self.log, end)
+    }
+
+    pub(crate) fn cancel(&mut self, flow: usize) {
+        if let Some(flow) = self.writes.get_mut(flow) {
+            flow.cancel();
+        }
+    }
+
+    /// A care goes to its end.
+    pub(crate) fn care(&mut self, alloc: Global, care: Care) -> Result<(), Refusal> {
+        let Some(mut flow) = begin_care(alloc, care) else {
+            return Err(Refusal::BadRequest);
+        };
+        caring::turn_all(
+            &mut flow,
+            MOST_TURNS,
+            &mut self.store,
+            &mut self.told,
+            &mut self.log,
+        )?;
+        log_care(&mut self.log, flow.finish())
+    }
+
+    /// A care makes so many calls; then the node is opened again, and the care goes to its end.
+    pub(crate) fn care_across(
+        &mut self,
+        alloc: Global,
+        care: Care,
+        turns: usize,
+        node: NodeName,
+    ) -> Result<(), Refusal> {
+        let Some(mut flow) = begin_care(alloc, care) else {
+            return Err(Refusal::BadRequest);
+        };
+        caring::turn_all(
+            &mut flow,
+            turns,
+            &mut self.store,
+            &mut self.told,
+            &mut self.log,
+        )?;
+        self.store.restart(node);
+        caring::turn_all(
+            &mut flow,
+            MOST_TURNS,
+            &mut self.store,
+            &mut self.told,
+            &mut self.log,
+        )?;
+        log_care(&mut self.log, flow.finish())
+    }
+
+    /// Begins a read, a check or a watch, which makes no call yet.
+    pub(crate) fn begin(&mut self, alloc: Global, request: Request) -> Result<(), Refusal> {
+        self.questions.reserve(1)?;
+        let question = Asking::new(alloc, request)?;
+        self.questions.push_reserved(question);
+        Ok(())
+    }
+
+    /// The one that was begun last makes so many calls.
+    pub(crate) fn ask(&mut self, turns: usize) -> Result<(), Refusal> {
+        let Some(question) = self.questions.last_mut() else {
+            return Err(Refusal::BadRequest);
+        };
+        for _ in 0..turns {
+            match question.turn(&mut self.store, &mut self.told) {
+                Some(named) => named.write_to(&mut self.log)?,
+                None => return Ok(()),
+            }
+        }
+        Ok(())
+    }
+
+    /// The one that was begun last makes all its calls, which are not logged.
+    pub(crate) fn ask_quietly(&mut self) {
+        if let Some(question) = self.questions.last_mut() {
+            for _ in 0..MOST_TURNS {
+                if question.turn(&mut self.store, &mut self.told).is_none() {
+                    return;
+                }
+            }
+        }
+    }
+
+    /// The one that was begun last goes to its end.
+    pub(crate) fn end(&mut self, alloc: Global) -> Result<(), Refusal> {
+        self.ask(MOST_TURNS)?;
+        let Some(question) = self.questions.pop() else {
+            return Err(Refusal::BadRequest);
+        };
+        question.log_end(alloc, &mut self.log)
+    }
+
+    /// Flushes the node; no flow asks for it.
+    pub(crate) fn flush(&mut self, node: NodeName) {
+        let call = match node {
+            NodeName::Coordinator => NodeCall::Coordinator(CoordinatorCall::Flush),
+            NodeName::Shard(shard) => NodeCall::Shard(shard, ShardCall::Flush),
+        };
+        self.store.ask(call, &mut self.told).leave();
+    }
+
+    /// Opens the node again, over what its devices are found with.
+    pub(crate) fn restart(&mut self, node: NodeName) {
+        self.store.restart(node);
+    }
+
+    /// The n-th call from now on of the node's first device fails, and this is found then.
+    pub(crate) fn fail(&mut self, node: NodeName, n: u64, tear: Tear) {
+        self.store.fail(node, n, tear);
+    }
+
+    /// The n-th call from now on is not made, and this refusal is its answer.
+    pub(crate) fn refuse(&mut self, n: usize, refusal: Refusal) -> Result<(), Refusal> {
+        Ok(self.store.refuse(n, refusal)?)
+    }
+
+    fn steps(&mut self, alloc: Global, row: &str) -> Result<(), Refusal> {
+        for line in row.split('\n') {
+            self.step(alloc, line)?;
+        }
+        Ok(())
+    }
+}
+
+/// The calls that the flows of a row made, and how each ended that was run to its end.
+pub(crate) fn play<D: Device>(
+    alloc: Global,
+    devices: Vec<D>,
+    row: &str,
+) -> Result<String, Refusal> {
+    let store = Store::open(alloc, devices)?;
+    let mut playing = Playing {
+        store,
+        writes: Vec::new(alloc),
+        questions: Vec::new(alloc),
+        told: Told::new(),
+        log: String::new(alloc),
+    };
+    let done = playing.steps(alloc, row);
+    let Playing {
+        store: _,
+        writes,
+        questions: _,
+        told: _,
+        log,
+    } = playing;
+    leave_writes(writes);
+    done?;
+    Ok(log)
+}

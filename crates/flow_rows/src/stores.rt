@@ -1,0 +1,174 @@
+// Stores of two shards over disks in memory, and what stores of any number of them are made of.
+ghost use Rattle.std.specs.Prelude.{◌≤◌, ◌<◌};
+ghost use Rattle.records.specs.Identity.{max_shards};
+ghost use Rattle.calls.specs.Belonging.{IsOwed, IsReplyTo};
+
+use crate::refusing::{Refusing, answer};
+use calls::{Node, NodeCall, NodeName, Reply, Told, ask, refuse};
+use device::{Device, SimDisk, Tear};
+use journal::Bank;
+use records::Identity;
+use std::alloc::{AllocError, Global};
+use tuples::Refusal;
+
+/// The number of each store.
+pub(crate) const STORE: u64 = 1;
+
+/// How many shards each store has.
+pub(crate) const SHARDS: u8 = 2;
+
+/// The nodes of a store. One is not there while it is opened again.
+#[derive(Drop)]
+pub(crate) struct Store<D: Device> {
+    alloc: Global,
+    coordinator: Option<Node<D>>,
+    first: Option<Node<D>>,
+    second: Option<Node<D>>,
+    refusing: Refusing,
+}
+
+/// So many new disks; each node takes two.
+pub(crate) fn new_disks(alloc: Global, count: usize) -> Result<Vec<SimDisk>, Refusal> {
+    let mut disks = Vec::new(alloc);
+    for _ in 0..count {
+        match SimDisk::new(alloc, Vec::new(alloc)) {
+            Ok(disk) => {
+                disks.reserve(1)?;
+                disks.push_reserved(disk);
+            }
+            Err(_) => return Err(Refusal::NoMemory),
+        }
+    }
+    Ok(disks)
+}
+
+/// The devices of one node.
+pub(crate) fn two_of<D: Device>(devices: &mut Vec<D>) -> Result<(D, D), Refusal> {
+    match (devices.pop(), devices.pop()) {
+        (Some(a), Some(b)) => Ok((a, b)),
+        _ => Err(Refusal::Full),
+    }
+}
+
+/// The coordinator of a store of so many shards.
+pub(crate) fn open_coordinator<D: Device>(alloc: Global, a: D, b: D, shards: u8) -> Node<D>
+    requires { (1 ≤ shards) × (shards ≤ max_shards) }
+{
+    Node::open_coordinator(alloc, a, b, Identity::coordinator(STORE, shards))
+}
+
+/// One of so many shards.
+pub(crate) fn open_shard<D: Device>(alloc: Global, a: D, b: D, shards: u8, shard: u8) -> Node<D>
+    requires { (shard < shards) × (shards ≤ max_shards) }
+{
+    Node::open_shard(alloc, a, b, Identity::shard(STORE, shards, shard))
+}
+
+// What its devices are found with.
+fn revived<D: Device>(node: Node<D>) -> (D, D) {
+    let (mut a, mut b) = node.into_devices();
+    let _ = a.revive();
+    let _ = b.revive();
+    (a, b)
+}
+
+/// Makes the call at a node of a store of so many shards, where it is the one that is named.
+pub(crate) fn ask_at<D: Device>(
+    node: &mut Option<Node<D>>,
+    shards: u8,
+    call: NodeCall,
+    told: &mut Told,
+) -> Reply
+    requires { IsOwed shards call }
+    ensures { IsReplyTo call result }
+{
+    match node {
+        Some(node) => {
+            if node.is_node(shards, call.node()) {
+                return ask(node, call, told);
+            }
+            refuse(Refusal::Damaged, call)
+        }
+        None => refuse(Refusal::Damaged, call),
+    }
+}
+
+impl<D: Device> Store<D> {
+    /// Over these devices, two for each node.
+    pub(crate) fn open(alloc: Global, mut devices: Vec<D>) -> Result<Store<D>, Refusal> {
+        let (a, b) = two_of(&mut devices)?;
+        let coordinator = open_coordinator(alloc, a, b, SHARDS);
+        let (a, b) = two_of(&mut devices)?;
+        let first = open_shard(alloc, a, b, SHARDS, 0);
+        let (a, b) = two_of(&mut devices)?;
+        let second = open_shard(alloc, a, b, SHARDS, 1);
+        Ok(Store {
+            alloc,
+            coordinator: Some(coordinator),
+            first: Some(first),
+            second: Some(second),
+            refusing: Refusing::new(alloc),
+        })
+    }
+
+    /// Makes the call at the node that it names, unless it is one that is not made.
+    pub(crate) fn ask(&mut self, call: NodeCall, told: &mut Told) -> Reply
+        requires { IsOwed 2 call }
+        ensures { IsReplyTo call result }
+    {
+        if let Some(refusal) = self.refusing.next() {
+            return answer(refusal, call);
+        }
+        match call.node() {
+            NodeName::Coordinator => ask_at(&mut self.coordinator, SHARDS, call, told),
+            NodeName::Shard(0) => ask_at(&mut self.first, SHARDS, call, told),
+            NodeName::Shard(_) => ask_at(&mut self.second, SHARDS, call, told),
+        }
+    }
+
+    /// Sets the script of a node's first device.
+    pub(crate) fn fail(&mut self, name: NodeName, n: u64, tear: Tear) {
+        let node = match name {
+            NodeName::Coordinator => &mut self.coordinator,
+            NodeName::Shard(0) => &mut self.first,
+            NodeName::Shard(_) => &mut self.second,
+        };
+        if let Some(node) = node {
+            node.fail(Bank::A, n, tear);
+        }
+    }
+
+    /// The n-th call from now on is not made, and this refusal is its answer.
+    pub(crate) fn refuse(&mut self, n: usize, refusal: Refusal) -> Result<(), AllocError> {
+        self.refusing.add(n, refusal)
+    }
+
+    /// Whether this is the answer of a call that is not made.
+    pub(crate) fn refuses(&self, refusal: Refusal) -> bool {
+        self.refusing.has(refusal)
+    }
+
+    /// Opens a node again, over what its devices are found with.
+    pub(crate) fn restart(&mut self, name: NodeName) {
+        match name {
+            NodeName::Coordinator => {
+                if let Some(node) = self.coordinator.take() {
+                    let (a, b) = revived(node);
+                    self.coordinator = Some(open_coordinator(self.alloc, a, b, SHARDS));
+                }
+            }
+            NodeName::Shard(0) => {
+                if let Some(node) = self.first.take() {
+                    let (a, b) = revived(node);
+                    self.first = Some(open_shard(self.alloc, a, b, SHARDS, 0));
+                }
+            }
+            NodeName::Shard(_) => {
+                if let Some(node) = self.second.take() {
+                    let (a, b) = revived(node);
+                    self.second = Some(open_shard(self.alloc, a, b, SHARDS, 1));
+                }
+            }
+        }
+    }
+}

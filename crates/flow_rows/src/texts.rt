@@ -1,0 +1,76 @@
+// The words of a step.
+use crate::stores::{SHARDS, STORE};
+use answer_flow::Freshness;
+use calls::NodeName;
+use care_flow::Care;
+use lines::Command;
+use std::alloc::Global;
+use tuples::Refusal;
+
+pub(crate) fn number(text: &str) -> Result<usize, Refusal> {
+    text.parse::<usize>().map_err(|_| Refusal::BadRequest)
+}
+
+/// Two numbers, with a space between.
+pub(crate) fn two_numbers(text: &str) -> Result<(usize, usize), Refusal> {
+    let (first, second) = text.split_once(' ').ok_or(Refusal::BadRequest)?;
+    Ok((number(first)?, number(second)?))
+}
+
+pub(crate) fn node_of(node: lines::NodeName) -> NodeName {
+    match node {
+        lines::NodeName::Coordinator => NodeName::Coordinator,
+        lines::NodeName::Shard(shard) => NodeName::Shard(shard),
+    }
+}
+
+pub(crate) fn freshness_of(freshness: requests::Freshness) -> Freshness {
+    match freshness {
+        requests::Freshness::Latest => Freshness::Latest,
+        requests::Freshness::AtLeast(place) => Freshness::AtLeast(place),
+        requests::Freshness::Exact(place) => Freshness::Exact(place),
+    }
+}
+
+fn care_of(care: lines::Care) -> Care {
+    match care {
+        lines::Care::Flush(node) => Care::Flush(node_of(node)),
+        lines::Care::Learn(shard) => Care::Learn(shard),
+        lines::Care::Resolve(shard) => Care::Resolve(shard),
+        lines::Care::Raise(place) => Care::Raise(place),
+        lines::Care::Collect(shard) => Care::Collect(shard),
+    }
+}
+
+/// The line of a script, in which no flow has a name.
+pub(crate) fn command(alloc: Global, line: &str) -> Result<Command, Refusal> {
+    Command::parse(alloc, line.as_bytes(), STORE, SHARDS, &[])
+}
+
+/// A care, as a script spells it.
+pub(crate) fn care(alloc: Global, line: &str) -> Result<Care, Refusal> {
+    match command(alloc, line)? {
+        Command::Care(care) => Ok(care_of(care)),
+        _ => Err(Refusal::BadRequest),
+    }
+}
+
+/// A refusal by its name; those that a node answers.
+pub(crate) fn refusal(name: &str) -> Result<Refusal, Refusal> {
+    for refusal in [
+        Refusal::Future,
+        Refusal::Collected,
+        Refusal::Precondition,
+        Refusal::Busy,
+        Refusal::Aborted,
+        Refusal::Down,
+        Refusal::NoMemory,
+        Refusal::Full,
+        Refusal::Damaged,
+    ] {
+        if refusal.name() == name {
+            return Ok(refusal);
+        }
+    }
+    Err(Refusal::BadRequest)
+}
