@@ -9,12 +9,11 @@ use Rattle.records.specs.Identity.{coordinator_number}
 use Rattle.records.specs.Replays.{Identity, greatest_number}
 use Rattle.records.proofs.CoordinatorStates.{coordinator_empty, coordinator_image_push, coordinator_push}
 use Rattle.device.specs.Device.{State, left}
-use Rattle.journal.specs.Records.{HasNoRoom, HasOldOrNew, HasRecords, LeavesBoth, View, found}
+use Rattle.journal.specs.Records.{both, HasNoRoom, HasOldOrNew, HasRecords, LeavesBoth, View, found}
 use Rattle.ledger.specs.Ledgers.{LedgerValue}
 use Rattle.decisions.specs.Coordinators.{WasLeftOrReopened, coordinator_opening}
-use Rattle.journal.specs.Records.{both}
 use Rattle.journal.specs.Unread.{IsRead, Left}
-use Rattle.journal.proofs.Left.{all_read, both-nil, read_among, read_more}
+use Rattle.journal.proofs.Left.{both-nil, read_among, read_more}
 use Rattle.coordinator.specs.Keeping.{AreReplayed, HasFoundOrOpened, IsGivenNumber, IsKept, Remembers}
 
 -- the record of an opening is short
@@ -47,23 +46,15 @@ nothing_read me left m is = record {
   image = coordinator_empty me;
 }
 
-module _ (me : Identity) (whole : Option (List Record)) (old : Left) (m : CoordinatorState) (so_far : SoFar me whole old m) where
-  pub all_replayed_of : old.records ≡ Some [] → AreReplayed me whole m
-  all_replayed_of none = record { rs = so_far.done; found = all_read whole so_far.done old so_far.all none; replayed = so_far.replayed; image = so_far.image }
-
-  module _ (r : Record) (new : Left) (read : IsRead old r new) where
-    pub one_replayed : (n : CoordinatorState) → MayComeNext me m r → n ≡ coordinator_step m r → SoFar me whole new n
-    one_replayed n may stepped = record {
-      done = so_far.done ++ r ∷ [];
-      all = read_more whole so_far.done old so_far.all r new read;
-      replayed = stepped ∙ ap (λ (s : CoordinatorState). coordinator_step s r) so_far.replayed ∙ sym (coordinator_push so_far.done r);
-      image = coordinator_image_push me so_far.done r so_far.image (subst (λ (s : CoordinatorState). MayComeNext me s r) so_far.replayed may);
-    }
-
-    pub may_follow : (rs : List Record) → whole ≡ Some rs → IsCoordinatorImage me rs → MayComeNext me m r
-    may_follow rs was image =
-        let among = read_among whole so_far.done old so_far.all r new read rs was in
-        subst (λ (s : CoordinatorState). MayComeNext me s r) (sym so_far.replayed) (image so_far.done among.0 r among.1)
+-- one more
+module _ (me : Identity) (whole : Option (List Record)) (old : Left) (m : CoordinatorState) (so_far : SoFar me whole old m) (r : Record) (new : Left) (read : IsRead old r new) where
+  pub one_replayed : (n : CoordinatorState) → MayComeNext me m r → n ≡ coordinator_step m r → SoFar me whole new n
+  one_replayed n may stepped = record {
+    done = so_far.done ++ r ∷ [];
+    all = read_more whole so_far.done old so_far.all r new read;
+    replayed = stepped ∙ ap (λ (s : CoordinatorState). coordinator_step s r) so_far.replayed ∙ sym (coordinator_push so_far.done r);
+    image = coordinator_image_push me so_far.done r so_far.image (subst (λ (s : CoordinatorState). MayComeNext me s r) so_far.replayed may);
+  }
 
 -- the records of the journal are those that were replayed
 pub same_records : (me : Identity) (records : Option (List Record)) (m : CoordinatorState) (r : AreReplayed me records m) (durable : List Record) → records ≡ Some durable → durable ≡ r.rs
@@ -188,17 +179,6 @@ module _ (me : Identity) (node : me.node ≡ coordinator_number) (records : Opti
 pub opened_or_found : (me : Identity) (sa sb : State) (rs : List Record) → found sa.seen sb.seen ≡ Some rs → (x y : List ℕ) → HasFoundOrOpened me rs x y → WasLeftOrReopened me sa sb x y
 opened_or_found me sa sb rs was x y (inl has) = inl (inr (has ∙ sym was))
 opened_or_found me sa sb rs was x y (inr opened) = inr (rs, was, opened.0, opened.1)
-
--- nothing was done: what is there was found
-pub leaves_found : {D : Type 0} (state : D → State) (moment : D → ℕ) (left_since : D → ℕ → List ℕ → Type 0) (a b : D) (me : Identity) (rs : List Record)
-    → ((x : List ℕ) → left_since a (moment a) x → left (state a) x) → ((y : List ℕ) → left_since b (moment b) y → left (state b) y)
-    → HasRecords (state a) (state b) rs → LeavesBoth moment left_since a b a b (HasFoundOrOpened me rs)
-leaves_found state moment left_since a b me rs only_a only_b has = record {
-  later_a = omega arith;
-  later_b = omega arith;
-  each = λ x y in_x in_y. inl (has x y (only_a x in_x) (only_b y in_y));
-  before = λ t u x y le_t le_u in_x in_y. inl (in_x, in_y);
-}
 
 -- time during a call, and during the next
 pub leaves_then : {D : Type 0} (moment : D → ℕ) (left_since : D → ℕ → List ℕ → Type 0) (a b c d e f : D) (P Q R : List ℕ → List ℕ → Type 0) → LeavesBoth moment left_since a b c d P → LeavesBoth moment left_since c d e f Q

@@ -1,6 +1,5 @@
 -- What is left to read.
 use Rattle.std.proofs.Common.{◌≡◌, ◌++◌, [], ◌∷◌, List, Option, Some, None, refl, sym, ap, ◌∙◌, append_assoc}
-use Rattle.std.proofs.lemmas.List.{append-nil}
 use Rattle.records.specs.declared.record.Record.{Record}
 use Rattle.journal.specs.Records.{both}
 use Rattle.journal.specs.Unread.{IsRead, Left}
@@ -13,19 +12,9 @@ pub both-both : (rs more : List Record) (o : Option (List Record)) → both (Som
 both-both rs more None = refl
 both-both rs more (Some last) = ap (λ (l : List Record). Some l) (sym (append_assoc rs more last))
 
--- these records were read, and then there are those that are left
-module _ (whole : Option (List Record)) (done : List Record) (old : Left) (is : whole ≡ both (Some done) old.records) where
-  -- one more
-  pub read_more : (r : Record) (new : Left) → IsRead old r new → whole ≡ both (Some (done ++ r ∷ [])) new.records
-  read_more r new read = is ∙ ap (both (Some done)) read.records ∙ both-both done (r ∷ []) new.records
-
-  -- none is left
-  pub all_read : old.records ≡ Some [] → whole ≡ Some done
-  all_read none = is ∙ ap (both (Some done)) none ∙ ap (λ (l : List Record). Some l) (append-nil done)
-
-  -- one of them can't be read
-  pub none_whole : old.records ≡ None → whole ≡ None
-  none_whole none = is ∙ ap (both (Some done)) none
+-- these records were read, and then there are those that are left: one more
+pub read_more : (whole : Option (List Record)) (done : List Record) (old : Left) → whole ≡ both (Some done) old.records → (r : Record) (new : Left) → IsRead old r new → whole ≡ both (Some (done ++ r ∷ [])) new.records
+read_more whole done old is r new read = is ∙ ap (both (Some done)) read.records ∙ both-both done (r ∷ []) new.records
 
 -- where a record was read, all are those before it, the record, and some behind it
 behind : (done : List Record) (r : Record) (o : Option (List Record)) (rs : List Record) → both (Some (done ++ r ∷ [])) o ≡ Some rs → (rest : List Record) × (rs ≡ done ++ r ∷ rest)

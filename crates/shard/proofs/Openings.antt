@@ -11,11 +11,10 @@ use Rattle.records.specs.Replays.{Identity, IsShardImage, MayCome, MayOpen, Shar
 use Rattle.replay.specs.Alike.{IsAlike}
 use Rattle.replay.proofs.Alike.{alike_same, alike_step, alike_sym, alike_trans, may_come_alike}
 use Rattle.replay.proofs.States.{image_empty, image_push, shard_push}
-use Rattle.device.specs.Device.{HasFailed, State, left}
-use Rattle.journal.specs.Records.{HasNoRoom, HasRecords, LacksRoom, HasOldOrNew, LeavesBoth, View, found}
-use Rattle.journal.specs.Records.{both}
+use Rattle.device.specs.Device.{State, left}
+use Rattle.journal.specs.Records.{both, HasNoRoom, HasRecords, HasOldOrNew, LeavesBoth, View, found}
 use Rattle.journal.specs.Unread.{IsRead, Left}
-use Rattle.journal.proofs.Left.{all_read, both-nil, read_among, read_more}
+use Rattle.journal.proofs.Left.{both-nil, read_among, read_more}
 use Rattle.shard.specs.Keeping.{HasFoundOrOpened, IsKept, IsReplayed, has_id, prepared_ids}
 use Rattle.shard.specs.Shards.{IsUp, WasLeftOrOpened, opening}
 use Rattle.shard.proofs.Kept.{view_of}
@@ -50,23 +49,20 @@ nothing_read me left m is = record {
   image = image_empty me;
 }
 
-module _ (me : Identity) (whole : Option (List Record)) (old : Left) (m : ShardState) (so_far : SoFar me whole old m) where
-  pub all_replayed_of : old.records ≡ Some [] → IsReplayed me whole m
-  all_replayed_of none = record { rs = so_far.done; found = all_read whole so_far.done old so_far.all none; replayed = so_far.replayed; image = so_far.image }
+-- one more
+module _ (me : Identity) (whole : Option (List Record)) (old : Left) (m : ShardState) (so_far : SoFar me whole old m) (r : Record) (new : Left) (read : IsRead old r new) where
+  pub one_replayed : (n : ShardState) → MayCome me m r → IsAlike n (shard_step m r) → SoFar me whole new n
+  one_replayed n may stepped = record {
+    done = so_far.done ++ r ∷ [];
+    all = read_more whole so_far.done old so_far.all r new read;
+    replayed = alike_trans stepped (subst (IsAlike (shard_step m r)) (sym (shard_push so_far.done r)) (alike_step so_far.replayed r));
+    image = image_push me so_far.done r so_far.image (may_come_alike so_far.replayed me r may);
+  }
 
-  module _ (r : Record) (new : Left) (read : IsRead old r new) where
-    pub one_replayed : (n : ShardState) → MayCome me m r → IsAlike n (shard_step m r) → SoFar me whole new n
-    one_replayed n may stepped = record {
-      done = so_far.done ++ r ∷ [];
-      all = read_more whole so_far.done old so_far.all r new read;
-      replayed = alike_trans stepped (subst (IsAlike (shard_step m r)) (sym (shard_push so_far.done r)) (alike_step so_far.replayed r));
-      image = image_push me so_far.done r so_far.image (may_come_alike so_far.replayed me r may);
-    }
-
-    pub may_follow : (rs : List Record) → whole ≡ Some rs → IsShardImage me rs → MayCome me m r
-    may_follow rs was image =
-        let among = read_among whole so_far.done old so_far.all r new read rs was in
-        may_come_alike (alike_sym so_far.replayed) me r (image so_far.done among.0 r among.1)
+  pub may_follow : (rs : List Record) → whole ≡ Some rs → IsShardImage me rs → MayCome me m r
+  may_follow rs was image =
+      let among = read_among whole so_far.done old so_far.all r new read rs was in
+      may_come_alike (alike_sym so_far.replayed) me r (image so_far.done among.0 r among.1)
 
 -- the records of the journal are those that were replayed
 pub same_records : (me : Identity) (records : Option (List Record)) (m : ShardState) (r : IsReplayed me records m) (durable : List Record) → records ≡ Some durable → durable ≡ r.rs
@@ -127,17 +123,6 @@ module _ {D : Type 0} (moment : D → ℕ) (left_since : D → ℕ → List ℕ 
         (λ now. inr (q x y now))
         (m.before t u x y (omega (arith, le_t, l.later_a)) (omega (arith, le_u, l.later_b)) in_x in_y);
   }
-
--- nothing was done: what is there was found
-pub leaves_found : {D : Type 0} (state : D → State) (moment : D → ℕ) (left_since : D → ℕ → List ℕ → Type 0) (a b : D) (me : Identity) (rs : List Record)
-    → ((x : List ℕ) → left_since a (moment a) x → left (state a) x) → ((y : List ℕ) → left_since b (moment b) y → left (state b) y)
-    → HasRecords (state a) (state b) rs → LeavesBoth moment left_since a b a b (HasFoundOrOpened me rs)
-leaves_found state moment left_since a b me rs only_a only_b has = record {
-  later_a = omega arith;
-  later_b = omega arith;
-  each = λ x y in_x in_y. inl (has x y (only_a x in_x) (only_b y in_y));
-  before = λ t u x y le_t le_u in_x in_y. inl (in_x, in_y);
-}
 
 pub opened_or_found : (me : Identity) (sa sb : State) (rs : List Record) → found sa.seen sb.seen ≡ Some rs → (x y : List ℕ) → HasFoundOrOpened me rs x y → WasLeftOrOpened me sa sb x y
 opened_or_found me sa sb rs was x y (inl held) = inl (inr (held ∙ sym was))

@@ -1,4 +1,3 @@
-use Rattle.std.proofs.Common.{◌≡◌}
 use Rattle.journal.specs.Unread.{IsRead}
 use Rattle.coordinator.proofs.Openings.{nothing_read, one_replayed}
 use Rattle.coordinator.proofs.opening.replayed.Goals as goal
