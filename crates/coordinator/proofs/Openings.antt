@@ -1,18 +1,20 @@
 -- Opening a coordinator once more.
-use Rattle.std.proofs.Common.{◌≡◌, inl, inr, ⊎_elim, ◌≤◌, ◌<◌, ◌+◌, ◌-◌, ◌++◌, ℕ, List, [], ◌∷◌, Some, None, All, length, length-drop, take, drop, get_or, refl, sym, ap, ◌∙◌, subst, arith, length-append, false, rules}
-use Rattle.std.proofs.lemmas.List.{at_drop_more, take-append-drop, take_more, append-nil}
+use Rattle.std.proofs.Common.{◌≡◌, inl, inr, ⊎_elim, ◌≤◌, ◌<◌, ◌+◌, ◌-◌, ◌++◌, ℕ, List, [], ◌∷◌, Option, Some, None, All, length, length-drop, drop, refl, sym, ap, ◌∙◌, subst, arith, false, rules}
+use Rattle.std.proofs.lemmas.List.{append-nil}
 use Rattle.records.specs.declared.record.Record.{Record}
 use Rattle.records.specs.declared.record.Record.TheVariants.{Epoch}
 use Rattle.records.specs.Format.{batch_bytes, record_bytes}
 use Rattle.records.specs.Coordinators.{CoordinatorState, IsCoordinatorImage, MayComeNext, MayOpenAgain, coordinator_state, coordinator_step, empty_coordinator, end_of}
 use Rattle.records.specs.Identity.{coordinator_number}
 use Rattle.records.specs.Replays.{Identity, greatest_number}
-use Rattle.records.proofs.CoordinatorStates.{coordinator_image_push, coordinator_push}
+use Rattle.records.proofs.CoordinatorStates.{coordinator_empty, coordinator_image_push, coordinator_push}
 use Rattle.device.specs.Device.{State, left}
-use Rattle.journal.specs.Records.{HasNoRoom, HasOldOrNew, HasRecords, LeavesBoth, View, found}
+use Rattle.journal.specs.Records.{both, HasNoRoom, HasOldOrNew, HasRecords, LeavesBoth, View, found}
 use Rattle.ledger.specs.Ledgers.{LedgerValue}
 use Rattle.decisions.specs.Coordinators.{WasLeftOrReopened, coordinator_opening}
-use Rattle.coordinator.specs.Keeping.{HasFoundOrOpened, IsGivenNumber, IsKept, Remembers}
+use Rattle.journal.specs.Unread.{IsRead, Left}
+use Rattle.journal.proofs.Left.{both-nil, read_among, read_more}
+use Rattle.coordinator.specs.Keeping.{AreReplayed, HasFoundOrOpened, IsGivenNumber, IsKept, Remembers}
 
 -- the record of an opening is short
 pub opening_fits : (staged : List Record) (epoch store shards node : ℕ) → staged ≡ [] → HasNoRoom staged (Epoch epoch store shards node) → ⊥
@@ -22,29 +24,41 @@ opening_fits staged epoch store shards node none (inr long) =
     let short : 1048576 < length (batch_bytes false ([] ++ Epoch epoch store shards node ∷ [])) = subst (λ (l : List Record). 1048576 < length (batch_bytes false (l ++ Epoch epoch store shards node ∷ []))) none long in
     omega (arith, short)
 
+some_is : {X : Type 0} (x y : X) → Some x ≡ Some y → x ≡ y
+some_is x y is = cc
+
 pub nothing_replayed : empty_coordinator ≡ coordinator_state []
 unfolding coordinator_state
 nothing_replayed = refl
 
--- one record more of those found
-module _ (me : Identity) (records yielded : List Record) (x : Record) (lt : length yielded < length records) (at : x ≡ get_or records (length yielded) x) where
-  whole : records ≡ take (length yielded) records ++ x ∷ drop (length yielded + 1) records
-  whole = sym (take-append-drop (length yielded) records) ∙ ap (λ (l : List Record). take (length yielded) records ++ l) (at_drop_more (λ (l : List Record). l) records (length yielded) x lt ∙ ap (λ (y : Record). y ∷ drop (length yielded + 1) records) (sym at))
+-- records that were read are replayed
+pub record SoFar (me : Identity) (whole : Option (List Record)) (left : Left) (m : CoordinatorState) : Type 0 where
+  pub done : List Record
+  pub all : whole ≡ both (Some done) left.records
+  pub replayed : m ≡ coordinator_state done
+  pub image : IsCoordinatorImage me done
 
-  pub may_follow : IsCoordinatorImage me records → MayComeNext me (coordinator_state (take (length yielded) records)) x
-  may_follow image = image (take (length yielded) records) (drop (length yielded + 1) records) x whole
+pub nothing_read : (me : Identity) (left : Left) (m : CoordinatorState) → m ≡ empty_coordinator → SoFar me left.records left m
+nothing_read me left m is = record {
+  done = [];
+  all = sym (both-nil left.records);
+  replayed = is ∙ nothing_replayed;
+  image = coordinator_empty me;
+}
 
-  next_front : take (length (yielded ++ x ∷ [])) records ≡ take (length yielded) records ++ x ∷ []
-  next_front =
-      let len : length (yielded ++ x ∷ []) ≡ length yielded + 1 = omega (arith, length-append yielded (x ∷ [])) in
-      ap (λ (n : ℕ). take n records) len ∙ take_more records (length yielded) x lt ∙ ap (λ (y : Record). take (length yielded) records ++ y ∷ []) (sym at)
+-- one more
+module _ (me : Identity) (whole : Option (List Record)) (old : Left) (m : CoordinatorState) (so_far : SoFar me whole old m) (r : Record) (new : Left) (read : IsRead old r new) where
+  pub one_replayed : (n : CoordinatorState) → MayComeNext me m r → n ≡ coordinator_step m r → SoFar me whole new n
+  one_replayed n may stepped = record {
+    done = so_far.done ++ r ∷ [];
+    all = read_more whole so_far.done old so_far.all r new read;
+    replayed = stepped ∙ ap (λ (s : CoordinatorState). coordinator_step s r) so_far.replayed ∙ sym (coordinator_push so_far.done r);
+    image = coordinator_image_push me so_far.done r so_far.image (subst (λ (s : CoordinatorState). MayComeNext me s r) so_far.replayed may);
+  }
 
-  module _ (m n : CoordinatorState) (is : m ≡ coordinator_state (take (length yielded) records)) where
-    pub replayed_more : n ≡ coordinator_step m x → n ≡ coordinator_state (take (length (yielded ++ x ∷ [])) records)
-    replayed_more stepped = stepped ∙ ap (λ (s : CoordinatorState). coordinator_step s x) is ∙ sym (coordinator_push (take (length yielded) records) x) ∙ ap coordinator_state (sym next_front)
-
-    pub image_more : IsCoordinatorImage me (take (length yielded) records) → MayComeNext me m x → IsCoordinatorImage me (take (length (yielded ++ x ∷ [])) records)
-    image_more image may = subst (IsCoordinatorImage me) (sym next_front) (coordinator_image_push me (take (length yielded) records) x image (subst (λ (s : CoordinatorState). MayComeNext me s x) is may))
+-- the records of the journal are those that were replayed
+pub same_records : (me : Identity) (records : Option (List Record)) (m : CoordinatorState) (r : AreReplayed me records m) (durable : List Record) → records ≡ Some durable → durable ≡ r.rs
+same_records me records m r durable is = some_is durable r.rs (sym is ∙ r.found)
 
 pub opened_state : (before : List Record) (epoch store shards node : ℕ) → coordinator_state (before ++ Epoch epoch store shards node ∷ []) ≡ record (coordinator_state before) { epoch = epoch }
 unfolding coordinator_step
@@ -143,27 +157,28 @@ module _ (me : Identity) (records : List Record) (node : me.node ≡ coordinator
   longer : (durable : List Record) → durable ≡ records → durable ++ Epoch (s.epoch + 1) me.store me.shards me.node ∷ [] ≡ records ++ coordinator_opening me records ∷ []
   longer durable same = ap (λ (l : List Record). l ++ Epoch (s.epoch + 1) me.store me.shards me.node ∷ []) same ∙ ap (λ (x : CoordinatorState). records ++ Epoch (x.epoch + 1) me.store me.shards me.node ∷ []) is
 
-  pub found_or_opened : (durable : List Record) → durable ≡ records → (x y : List ℕ) → HasOldOrNew durable (Epoch (s.epoch + 1) me.store me.shards me.node ∷ []) x y → HasFoundOrOpened me records x y
+  found_or_opened : (durable : List Record) → durable ≡ records → (x y : List ℕ) → HasOldOrNew durable (Epoch (s.epoch + 1) me.store me.shards me.node ∷ []) x y → HasFoundOrOpened me records x y
   found_or_opened durable same x y (inl old) = inl (old ∙ ap (λ (l : List Record). Some l) same)
   found_or_opened durable same x y (inr new) = inr (opened_image me records node image (subst (λ (x : CoordinatorState). x.epoch < greatest_number) is below), new ∙ ap (λ (l : List Record). Some l) (longer durable same))
 
-  pub opened_durable : (old new : List Record) → old ≡ records → new ≡ old ++ Epoch (s.epoch + 1) me.store me.shards me.node ∷ [] → new ≡ records ++ coordinator_opening me records ∷ []
+  opened_durable : (old new : List Record) → old ≡ records → new ≡ old ++ Epoch (s.epoch + 1) me.store me.shards me.node ∷ [] → new ≡ records ++ coordinator_opening me records ∷ []
   opened_durable old new same more = more ∙ longer old same
+
+-- an opening goes on from records that are replayed
+module _ (me : Identity) (node : me.node ≡ coordinator_number) (records : Option (List Record)) (s : CoordinatorState) (r : AreReplayed me records s) (below : s.epoch < greatest_number) (durable : List Record) (is : records ≡ Some durable) where
+  same : durable ≡ r.rs
+  same = same_records me records s r durable is
+
+  pub start_found : (x y : List ℕ) → HasOldOrNew durable (Epoch (s.epoch + 1) me.store me.shards me.node ∷ []) x y → HasFoundOrOpened me durable x y
+  start_found = subst (λ (rs : List Record). (x y : List ℕ) → HasOldOrNew durable (Epoch (s.epoch + 1) me.store me.shards me.node ∷ []) x y → HasFoundOrOpened me rs x y) (sym same)
+      (found_or_opened me r.rs node r.image s r.replayed below durable same)
+
+  pub start_durable : (new : List Record) → new ≡ durable ++ Epoch (s.epoch + 1) me.store me.shards me.node ∷ [] → new ≡ durable ++ coordinator_opening me durable ∷ []
+  start_durable new more = opened_durable me r.rs node r.image s r.replayed below durable new same more ∙ ap (λ (rs : List Record). rs ++ coordinator_opening me rs ∷ []) (sym same)
 
 pub opened_or_found : (me : Identity) (sa sb : State) (rs : List Record) → found sa.seen sb.seen ≡ Some rs → (x y : List ℕ) → HasFoundOrOpened me rs x y → WasLeftOrReopened me sa sb x y
 opened_or_found me sa sb rs was x y (inl has) = inl (inr (has ∙ sym was))
 opened_or_found me sa sb rs was x y (inr opened) = inr (rs, was, opened.0, opened.1)
-
--- nothing was done: what is there was found
-pub leaves_found : {D : Type 0} (state : D → State) (moment : D → ℕ) (left_since : D → ℕ → List ℕ → Type 0) (a b : D) (me : Identity) (rs : List Record)
-    → ((x : List ℕ) → left_since a (moment a) x → left (state a) x) → ((y : List ℕ) → left_since b (moment b) y → left (state b) y)
-    → HasRecords (state a) (state b) rs → LeavesBoth moment left_since a b a b (HasFoundOrOpened me rs)
-leaves_found state moment left_since a b me rs only_a only_b has = record {
-  later_a = omega arith;
-  later_b = omega arith;
-  each = λ x y in_x in_y. inl (has x y (only_a x in_x) (only_b y in_y));
-  before = λ t u x y le_t le_u in_x in_y. inl (in_x, in_y);
-}
 
 -- time during a call, and during the next
 pub leaves_then : {D : Type 0} (moment : D → ℕ) (left_since : D → ℕ → List ℕ → Type 0) (a b c d e f : D) (P Q R : List ℕ → List ℕ → Type 0) → LeavesBoth moment left_since a b c d P → LeavesBoth moment left_since c d e f Q

@@ -79,6 +79,13 @@ pub record IsKept {D : Type 0} (state : D → State) (honest : D → Type 0) (jo
 abbrev pub HasFoundOrOpened : Identity → List Record → List ℕ → List ℕ → Type 0
 HasFoundOrOpened me rs x y = (found x y ≡ Some rs) ⊎ (IsCoordinatorImage me (rs ++ coordinator_opening me rs ∷ []) × (found x y ≡ Some (rs ++ coordinator_opening me rs ∷ [])))
 
+-- the records were found, they are those of this coordinator, and this is what they stand for
+pub record AreReplayed (me : Identity) (records : Option (List Record)) (so_far : CoordinatorState) : Type 0 where
+  pub rs : List Record
+  pub found : records ≡ Some rs
+  pub replayed : so_far ≡ coordinator_state rs
+  pub image : IsCoordinatorImage me rs
+
 -- a journal that was opened over these devices has no room for the record of an opening
 pub record HasNoRoomToOpen {D : Type 0} (state : D → State) (honest : D → Type 0) (a b : D) (me : Identity) : Type 0 where
   pub rs : List Record

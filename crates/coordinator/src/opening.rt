@@ -1,5 +1,5 @@
 // Opening a coordinator: its records are replayed, and one opening more is made durable.
-ghost use Rattle.std.specs.Prelude.{◌≡◌, ◌⊎◌, ◌↔◌, ◌≤◌, ◌<◌, ◌+◌, ◌++◌, ◌∷◌, [], ℕ, List, Some, true, false, OnOk, OnErr, IfOk, IfErr, IsErr, IsErrOf, MatchResult};
+ghost use Rattle.std.specs.Prelude.{◌≡◌, ◌⊎◌, ◌↔◌, ◌≤◌, ◌<◌, ◌+◌, ◌++◌, ◌∷◌, [], List, Option, Some, true, false, OnOk, OnErr, IfOk, IfErr, IsErr, IsErrOf, MatchResult};
 ghost use Rattle.device.specs.Device.{HasFailed};
 ghost use Rattle.journal.specs.Records.{HasCause, HasOldOrNew, HasRecords, LacksRoom, LeavesBoth, found};
 ghost use Rattle.records.specs.declared.record.Record.{Record as AnyRecord};
@@ -8,40 +8,38 @@ ghost use Rattle.records.specs.Identity.{coordinator_number};
 ghost use Rattle.records.specs.Coordinators.{IsCoordinatorImage, coordinator_state};
 ghost use Rattle.records.specs.Replays.{greatest_number};
 ghost use Rattle.decisions.specs.Coordinators.{IsOpenedCoordinator, IsRunning, WasLeftOrReopened, coordinator_opening};
-ghost use Rattle.coordinator.specs.Keeping.{HasFoundOrOpened, HasNoRoomToOpen};
+ghost use Rattle.coordinator.specs.Keeping.{AreReplayed, HasFoundOrOpened, HasNoRoomToOpen};
 
 use crate::Coordinator;
 use crate::staging::stage_fitting;
 use device::Device;
-use journal::{Journal, Refused};
+use journal::{Journal, Opening, Refused, Unread};
 use records::{Identity, Record};
 use recovery::Recovery;
 use std::alloc::Global;
 use tuples::{MAX_NUMBER, Refusal};
 
 // What the records of the coordinator stand for; `Damaged` where they are not those of this one.
-fn replayed(alloc: Global, me: Identity, records: Vec<Record>) -> Result<Recovery, Refusal>
-    ensures state { IfOk result (λ r. r ≡ coordinator_state records.items) }
-    ensures image { OnOk result (IsCoordinatorImage me records.items) }
-    ensures damaged { IsErrOf result Refusal.Damaged → IsCoordinatorImage me records.items → ⊥ }
+fn replayed(alloc: Global, me: Identity, mut unread: Unread) -> Result<Recovery, Refusal>
+    ensures ok { IfOk result (λ r. AreReplayed me unread.records r) }
+    ensures damaged { IsErrOf result Refusal.Damaged → (rs : List AnyRecord) → unread.records ≡ Some rs → IsCoordinatorImage me rs → ⊥ }
     ensures err { IfErr result (λ e. (e ≡ Refusal.Damaged) ⊎ (e ≡ Refusal.NoMemory)) }
 {
     let mut so_far = Recovery::new(alloc);
-    for record in records {
+    while let Some(record) = unread.next(alloc)? {
         so_far = so_far.replay(me, record)?;
     }
     Ok(so_far)
 }
 
 // As `replayed`, and `Full` after the last epoch.
-fn restored(alloc: Global, me: Identity, records: Vec<Record>) -> Result<Recovery, Refusal>
-    ensures state { IfOk result (λ r. (r ≡ coordinator_state records.items) × (r.epoch < greatest_number)) }
-    ensures image { OnOk result (IsCoordinatorImage me records.items) }
-    ensures damaged { IsErrOf result Refusal.Damaged → IsCoordinatorImage me records.items → ⊥ }
-    ensures full { IsErrOf result Refusal.Full → IsCoordinatorImage me records.items × ((coordinator_state records.items).epoch ≡ greatest_number) }
+fn restored(alloc: Global, me: Identity, unread: Unread) -> Result<Recovery, Refusal>
+    ensures ok { IfOk result (λ r. AreReplayed me unread.records r × (r.epoch < greatest_number)) }
+    ensures damaged { IsErrOf result Refusal.Damaged → (rs : List AnyRecord) → unread.records ≡ Some rs → IsCoordinatorImage me rs → ⊥ }
+    ensures full { IsErrOf result Refusal.Full → (rs : List AnyRecord) × (unread.records ≡ Some rs) × IsCoordinatorImage me rs × ((coordinator_state rs).epoch ≡ greatest_number) }
     ensures err { IfErr result (λ e. (e ≡ Refusal.Damaged) ⊎ ((e ≡ Refusal.NoMemory) ⊎ (e ≡ Refusal.Full))) }
 {
-    let so_far = replayed(alloc, me, records)?;
+    let so_far = replayed(alloc, me, unread)?;
     if so_far.epoch() >= MAX_NUMBER {
         return Err(Refusal::Full);
     }
@@ -113,33 +111,27 @@ fn started<D: Device>(
     }
 }
 
-// Opens the coordinator over a journal in which these records were found.
+// Opens the coordinator over a journal whose records are replayed.
 fn start<D: Device>(
     alloc: Global,
     mut journal: Journal<D>,
-    records: Vec<Record>,
+    so_far: Recovery,
     me: Identity,
 ) -> Result<Coordinator<D>, Refused<D>>
     requires coordinator { me.node ≡ coordinator_number }
     requires fresh { journal.staged ≡ [] }
     requires up { journal.is_down ≡ false }
-    requires found { D.honest journal.a → D.honest journal.b → (journal.durable ≡ records.items) × HasRecords (D.state journal.a) (D.state journal.b) records.items }
+    requires below { so_far.epoch < greatest_number }
+    requires replayed { (records : Option (List AnyRecord)) × AreReplayed me records so_far × (D.honest journal.a → D.honest journal.b → records ≡ Some journal.durable) }
     ensures honest { MatchResult result (λ s. (D.honest journal.a ↔ D.honest s.a) × (D.honest journal.b ↔ D.honest s.b)) (λ e. (D.honest journal.a ↔ D.honest e.a) × (D.honest journal.b ↔ D.honest e.b)) }
-    ensures ok { D.honest journal.a → D.honest journal.b → IfOk result (λ s. IsCoordinatorImage me records.items
-        × (s.durable ≡ records.items ++ coordinator_opening me records.items ∷ []) × IsRunning D.state D.honest s) }
+    ensures ok { D.honest journal.a → D.honest journal.b → IfOk result (λ s. (s.durable ≡ journal.durable ++ coordinator_opening me journal.durable ∷ []) × IsRunning D.state D.honest s) }
     ensures fresh { IfOk result (λ s. (s.staged ≡ []) × (s.is_down ≡ false) × (s.me ≡ me) × (s.open_ids ≡ []) × (s.given ≡ 0)) }
-    ensures damaged { IfErr result (λ e. e.refusal ≡ Refusal.Damaged → IsCoordinatorImage me records.items → ⊥) }
-    ensures full { IfErr result (λ e. e.refusal ≡ Refusal.Full → IsCoordinatorImage me records.items × ((coordinator_state records.items).epoch ≡ greatest_number)) }
-    ensures down { IfErr result (λ e. e.refusal ≡ Refusal.Down → HasFailed (D.state journal.a) (D.state e.a) ⊎ (HasFailed (D.state journal.b) (D.state e.b) ⊎ ((epoch : ℕ) × LacksRoom D.state D.honest journal.a journal.end (epoch_record epoch me.store me.shards me.node ∷ [])))) }
-    ensures err { IfErr result (λ e. (e.refusal ≡ Refusal.Down) ⊎ ((e.refusal ≡ Refusal.NoMemory) ⊎ ((e.refusal ≡ Refusal.Full) ⊎ (e.refusal ≡ Refusal.Damaged)))) }
+    ensures down { IfErr result (λ e. HasFailed (D.state journal.a) (D.state e.a) ⊎ (HasFailed (D.state journal.b) (D.state e.b) ⊎ LacksRoom D.state D.honest journal.a journal.end (epoch_record (so_far.epoch + 1) me.store me.shards me.node ∷ []))) }
+    ensures err { IfErr result (λ e. e.refusal ≡ Refusal.Down) }
     ensures any_moment { D.honest journal.a → D.honest journal.b → MatchResult result
-        (λ s. LeavesBoth D.moment D.left_since journal.a journal.b s.a s.b (HasFoundOrOpened me records.items))
-        (λ e. LeavesBoth D.moment D.left_since journal.a journal.b e.a e.b (HasFoundOrOpened me records.items)) }
+        (λ s. LeavesBoth D.moment D.left_since journal.a journal.b s.a s.b (HasFoundOrOpened me journal.durable))
+        (λ e. LeavesBoth D.moment D.left_since journal.a journal.b e.a e.b (HasFoundOrOpened me journal.durable)) }
 {
-    let so_far = match restored(alloc, me, records) {
-        Ok(so_far) => so_far,
-        Err(refusal) => return Err(refused(refusal, journal)),
-    };
     match count_opening(&mut journal, so_far.epoch() + 1, me) {
         Ok(()) => Ok(started(alloc, journal, me, so_far)),
         Err(refusal) => Err(refused(refusal, journal)),
@@ -171,9 +163,13 @@ impl<D: Device> Coordinator<D> {
             (λ s. LeavesBoth D.moment D.left_since a b s.a s.b (WasLeftOrReopened me (D.state a) (D.state b)))
             (λ e. LeavesBoth D.moment D.left_since a b e.a e.b (WasLeftOrReopened me (D.state a) (D.state b))) }
     {
-        match Journal::open(alloc, a, b) {
-            Ok((journal, records)) => start(alloc, journal, records, me),
-            Err(refused) => Err(refused),
+        let (opening, unread) = match Opening::find(alloc, a, b) {
+            Ok(found) => found,
+            Err(refused) => return Err(refused),
+        };
+        match restored(alloc, me, unread) {
+            Ok(so_far) => start(alloc, opening.into_journal(), so_far, me),
+            Err(refusal) => Err(opening.refuse(refusal)),
         }
     }
 }

@@ -52,7 +52,7 @@ reach_least : (w : List (ℕ × ℕ)) (n : ℕ) → n ≤ reach w n
 reach_least [] n = omega arith
 reach_least (r ∷ w) n = omega (arith, reach_least w n)
 
-durable_left : (s : State) → left s s.durable
+pub durable_left : (s : State) → left s s.durable
 durable_left s = record { no_shorter = omega arith; no_longer = reach_least s.written (length s.durable); same = λ i lt un. refl }
 
 pub has_records : (sa sb : State) (rs : List Record) → BankHas sa rs → HasRecords sa sb rs

@@ -1,3 +1,4 @@
 pub mod Records
 pub mod Staging
 pub mod Rest
+pub mod Unread

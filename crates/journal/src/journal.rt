@@ -1,16 +1,15 @@
 // A journal: records are staged, and become durable by one append.
-ghost use Rattle.std.specs.Prelude.{◌≡◌, ◌⊎◌, ◌↔◌, ◌≤◌, ◌<◌, ◌+◌, ◌^◌, ◌++◌, ◌∷◌, [], List, ℕ, Some, None, OnOk, OnErr, IfOk, IfErr, IsErr, IsErrOf, MatchResult, map, length, true, false, min, ◌-◌};
+ghost use Rattle.std.specs.Prelude.{◌≡◌, ◌⊎◌, ◌↔◌, ◌≤◌, ◌<◌, ◌+◌, ◌^◌, ◌++◌, ◌∷◌, [], List, ℕ, Some, None, OnOk, OnErr, IfOk, IfErr, IsErr, IsErrOf, MatchResult, length, true, false, min, ◌-◌};
 ghost use Rattle.device.specs.Device.{Elapses, HasFailed, Keeps, LeavesOnly, left};
 ghost use Rattle.gated.specs.Gated.{record_head};
-ghost use Rattle.journal.specs.Records.{View, IsOpened, IsSetOn, after_batch, HasCause, HasNoRoom, HasRecords, LacksRoom, HasOldOrNew, LeavesBoth, WasLeftOrFound, found, batch_size, batches};
+ghost use Rattle.journal.specs.Records.{IsSetOn, after_batch, HasCause, HasNoRoom, HasRecords, LacksRoom, HasOldOrNew, LeavesBoth, batch_size, durable_of};
 ghost use Rattle.journal.specs.Rest.{bank_records, BankHas, IsAtRest};
 ghost use Rattle.records.specs.declared.record.Record.{Record as AnyRecord};
 ghost use Rattle.records.specs.declared.record.Record.TheVariants.{Prepare as prepare_record};
 ghost use Rattle.records.specs.Format.{IsPrepared, IsRecord};
 
+use crate::Bank;
 use crate::batch::Batch;
-use crate::batches::decode_batches;
-use crate::{Bank, Refused};
 use device::{Device, Tear};
 use gated::GatedLog;
 use records::Record;
@@ -41,20 +40,6 @@ impl<D: Device> Model for Journal<D> {
     ghost invariant = { λ j. j.is_down ≡ false → D.honest j.log.device → IsAtRest (D.state j.log.device) };
 }
 
-// The records of the batches, and room for one batch more.
-fn read(alloc: Global, bodies: &[Vec<u8>]) -> Result<(Batch, Vec<Record>), Refusal>
-    ensures ok { IfOk result (λ r. batches (map (λ b. b.items) bodies.now) ≡ Some r.1.items) }
-    ensures fresh { IfOk result (λ r. r.0 ≡ []) }
-    ensures damaged { IsErrOf result Refusal.Damaged → batches (map (λ b. b.items) bodies.now) ≡ None }
-    ensures err { IfErr result (λ e. (e ≡ Refusal.NoMemory) ⊎ (e ≡ Refusal.Damaged)) }
-{
-    let records = decode_batches(alloc, bodies)?;
-    let Ok(staged) = Batch::new(alloc) else {
-        return Err(Refusal::NoMemory);
-    };
-    Ok((staged, records))
-}
-
 // Appends what is staged as one batch.
 fn append_batch<D: Device>(log: &mut GatedLog<D>, staged: &mut Batch) -> Result<(), Refusal>
     requires some { 1 ≤ length staged.old }
@@ -75,50 +60,16 @@ fn append_batch<D: Device>(log: &mut GatedLog<D>, staged: &mut Batch) -> Result<
 }
 
 impl<D: Device> Journal<D> {
-    /// Opens the journal of two devices, with the records found, oldest first. It reserves the memory for a whole batch.
-    ///
-    /// Each refusal gives the devices back: `Down` where a call of a device failed, `NoMemory`, and `Damaged` where the devices
-    /// have no list of batches. Bank a alone is read, and no call is made on bank b.
-    pub fn open(alloc: Global, a: D, b: D) -> Result<(Journal<D>, Vec<Record>), Refused<D>>
-        ensures honest { MatchResult result (λ r. (D.honest a ↔ D.honest r.0.a) × (D.honest b ↔ D.honest r.0.b)) (λ e. (D.honest a ↔ D.honest e.a) × (D.honest b ↔ D.honest e.b)) }
-
-        // Exactly the records that the devices have.
-        ensures ok { D.honest a → D.honest b → IfOk result (λ r. IsOpened D.state a b r.1.items r.0) }
-        ensures fresh { IfOk result (λ r. (r.0.staged ≡ []) × (r.0.is_down ≡ false)) }
-        ensures damaged { D.honest a → D.honest b → IfErr result (λ e. e.refusal ≡ Refusal.Damaged → found (D.state a).seen (D.state b).seen ≡ None) }
-        ensures down { IfErr result (λ e. e.refusal ≡ Refusal.Down → HasFailed (D.state a) (D.state e.a) ⊎ HasFailed (D.state b) (D.state e.b)) }
-        ensures err { IfErr result (λ e. (e.refusal ≡ Refusal.Down) ⊎ ((e.refusal ≡ Refusal.NoMemory) ⊎ (e.refusal ≡ Refusal.Damaged))) }
-        ensures stopped { (D.state a).stopped ≡ true → IsErr result }
-        ensures counts_a { MatchResult result (λ r. (D.state a).failures ≤ (D.state r.0.a).failures) (λ e. (D.state a).failures ≤ (D.state e.a).failures) }
-        ensures counts_b { MatchResult result (λ r. (D.state b).failures ≤ (D.state r.0.b).failures) (λ e. (D.state b).failures ≤ (D.state e.b).failures) }
-        ensures none { MatchResult result (λ r. ((D.state r.0.a).failures ≡ (D.state a).failures) × ((D.state r.0.b).failures ≡ (D.state b).failures))
-            (λ e. (e.refusal ≡ Refusal.Down) ⊎ (((D.state e.a).failures ≡ (D.state a).failures) × ((D.state e.b).failures ≡ (D.state b).failures))) }
-        ensures end { D.honest a → IfOk result (λ r. r.0.end < length (D.state r.0.a).seen) }
-
-        // At every moment of the call a stop leaves what it could leave before, or the records found.
-        ensures any_moment { D.honest a → D.honest b → MatchResult result
-            (λ r. LeavesBoth D.moment D.left_since a b r.0.a r.0.b (WasLeftOrFound (D.state a) (D.state b)))
-            (λ e. LeavesBoth D.moment D.left_since a b e.a e.b (WasLeftOrFound (D.state a) (D.state b))) }
+    /// A journal over what was found, with nothing staged.
+    pub(crate) fn new(log: GatedLog<D>, spare: D, staged: Batch) -> Journal<D>
+        requires { D.honest log.device → IsAtRest (D.state log.device) }
+        ensures { result ≡ record { a = log.device; b = spare; end = log.end; durable = durable_of (D.state log.device) (D.state spare); staged = staged; is_down = false } }
     {
-        let (log, bodies) = match GatedLog::open(alloc, a) {
-            Ok(opened) => opened,
-            Err((refusal, a)) => return Err(Refused { refusal, a, b }),
-        };
-        match read(alloc, &bodies) {
-            Ok((staged, records)) => {
-                let journal = Journal {
-                    log,
-                    spare: b,
-                    staged,
-                    is_down: false,
-                };
-                Ok((journal, records))
-            }
-            Err(refusal) => Err(Refused {
-                refusal,
-                a: log.into_device(),
-                b,
-            }),
+        Journal {
+            log,
+            spare,
+            staged,
+            is_down: false,
         }
     }
 

@@ -8,10 +8,13 @@
 #![tactic(auto)]
 
 mod batch;
-mod batches;
 mod journal;
+mod opening;
 mod refused;
 mod room;
+mod unread;
 
 pub use journal::Journal;
+pub use opening::Opening;
 pub use refused::{Bank, Refused};
+pub use unread::Unread;

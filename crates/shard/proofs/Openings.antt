@@ -1,6 +1,6 @@
 -- Opening a shard once more.
-use Rattle.std.proofs.Common.{◌≡◌, inl, inr, ⊎_elim, ◌≤◌, ◌<◌, ◌+◌, ◌++◌, ℕ, List, [], ◌∷◌, Some, length, take, drop, get_or, refl, sym, ap, ◌∙◌, subst, arith, append_assoc, length-append, false, Contains}
-use Rattle.std.proofs.lemmas.List.{at_drop_more, take-append-drop, take_more, append-nil}
+use Rattle.std.proofs.Common.{◌≡◌, inl, inr, ⊎_elim, ◌≤◌, ◌<◌, ◌+◌, ◌++◌, ℕ, List, [], ◌∷◌, Option, Some, length, refl, sym, ap, ◌∙◌, subst, arith, append_assoc, false, Contains}
+use Rattle.std.proofs.lemmas.List.{append-nil}
 use Rattle.std.proofs.lemmas.List.Elements.{Contains-append_right}
 use Rattle.tuples.specs.declared.entry.WriteId.{WriteId}
 use Rattle.records.specs.declared.record.Record.{Record}
@@ -9,11 +9,13 @@ use Rattle.records.specs.Format.{batch_bytes, record_bytes}
 use Rattle.records.specs.Identity.{max_shards}
 use Rattle.records.specs.Replays.{Identity, IsShardImage, MayCome, MayOpen, ShardState, empty_shard, greatest_number, shard_state, shard_step}
 use Rattle.replay.specs.Alike.{IsAlike}
-use Rattle.replay.proofs.Alike.{alike_step, alike_trans, may_come_alike}
-use Rattle.replay.proofs.States.{image_push, shard_push}
-use Rattle.device.specs.Device.{HasFailed, State, left}
-use Rattle.journal.specs.Records.{HasNoRoom, HasRecords, LacksRoom, HasOldOrNew, LeavesBoth, View, found}
-use Rattle.shard.specs.Keeping.{HasFoundOrOpened, IsKept, has_id, prepared_ids}
+use Rattle.replay.proofs.Alike.{alike_same, alike_step, alike_sym, alike_trans, may_come_alike}
+use Rattle.replay.proofs.States.{image_empty, image_push, shard_push}
+use Rattle.device.specs.Device.{State, left}
+use Rattle.journal.specs.Records.{both, HasNoRoom, HasRecords, HasOldOrNew, LeavesBoth, View, found}
+use Rattle.journal.specs.Unread.{IsRead, Left}
+use Rattle.journal.proofs.Left.{both-nil, read_among, read_more}
+use Rattle.shard.specs.Keeping.{HasFoundOrOpened, IsKept, IsReplayed, has_id, prepared_ids}
 use Rattle.shard.specs.Shards.{IsUp, WasLeftOrOpened, opening}
 use Rattle.shard.proofs.Kept.{view_of}
 
@@ -25,29 +27,46 @@ opening_fits staged epoch store shards node none (inr long) =
     let short : 1048576 < length (batch_bytes false ([] ++ Epoch epoch store shards node ∷ [])) = subst (λ (l : List Record). 1048576 < length (batch_bytes false (l ++ Epoch epoch store shards node ∷ []))) none long in
     omega (arith, short)
 
+some_is : {X : Type 0} (x y : X) → Some x ≡ Some y → x ≡ y
+some_is x y is = cc
+
 pub nothing_replayed : empty_shard ≡ shard_state []
 unfolding shard_state
 nothing_replayed = refl
 
--- one record more of those found
-module _ (me : Identity) (records yielded : List Record) (x : Record) (lt : length yielded < length records) (at : x ≡ get_or records (length yielded) x) where
-  whole : records ≡ take (length yielded) records ++ x ∷ drop (length yielded + 1) records
-  whole = sym (take-append-drop (length yielded) records) ∙ ap (λ (l : List Record). take (length yielded) records ++ l) (at_drop_more (λ (l : List Record). l) records (length yielded) x lt ∙ ap (λ (y : Record). y ∷ drop (length yielded + 1) records) (sym at))
+-- records that were read are replayed
+pub record SoFar (me : Identity) (whole : Option (List Record)) (left : Left) (m : ShardState) : Type 0 where
+  pub done : List Record
+  pub all : whole ≡ both (Some done) left.records
+  pub replayed : IsAlike m (shard_state done)
+  pub image : IsShardImage me done
 
-  pub may_follow : IsShardImage me records → MayCome me (shard_state (take (length yielded) records)) x
-  may_follow image = image (take (length yielded) records) (drop (length yielded + 1) records) x whole
+pub nothing_read : (me : Identity) (left : Left) (m : ShardState) → m ≡ empty_shard → SoFar me left.records left m
+nothing_read me left m is = record {
+  done = [];
+  all = sym (both-nil left.records);
+  replayed = alike_same _ _ (is ∙ nothing_replayed);
+  image = image_empty me;
+}
 
-  next_front : take (length (yielded ++ x ∷ [])) records ≡ take (length yielded) records ++ x ∷ []
-  next_front =
-      let len : length (yielded ++ x ∷ []) ≡ length yielded + 1 = omega (arith, length-append yielded (x ∷ [])) in
-      ap (λ (n : ℕ). take n records) len ∙ take_more records (length yielded) x lt ∙ ap (λ (y : Record). take (length yielded) records ++ y ∷ []) (sym at)
+-- one more
+module _ (me : Identity) (whole : Option (List Record)) (old : Left) (m : ShardState) (so_far : SoFar me whole old m) (r : Record) (new : Left) (read : IsRead old r new) where
+  pub one_replayed : (n : ShardState) → MayCome me m r → IsAlike n (shard_step m r) → SoFar me whole new n
+  one_replayed n may stepped = record {
+    done = so_far.done ++ r ∷ [];
+    all = read_more whole so_far.done old so_far.all r new read;
+    replayed = alike_trans stepped (subst (IsAlike (shard_step m r)) (sym (shard_push so_far.done r)) (alike_step so_far.replayed r));
+    image = image_push me so_far.done r so_far.image (may_come_alike so_far.replayed me r may);
+  }
 
-  module _ (m n : ShardState) (is : IsAlike m (shard_state (take (length yielded) records))) where
-    pub replayed_more : IsAlike n (shard_step m x) → IsAlike n (shard_state (take (length (yielded ++ x ∷ [])) records))
-    replayed_more stepped = alike_trans stepped (subst (IsAlike (shard_step m x)) (sym (shard_push (take (length yielded) records) x) ∙ ap shard_state (sym next_front)) (alike_step is x))
+  pub may_follow : (rs : List Record) → whole ≡ Some rs → IsShardImage me rs → MayCome me m r
+  may_follow rs was image =
+      let among = read_among whole so_far.done old so_far.all r new read rs was in
+      may_come_alike (alike_sym so_far.replayed) me r (image so_far.done among.0 r among.1)
 
-    pub image_more : IsShardImage me (take (length yielded) records) → MayCome me m x → IsShardImage me (take (length (yielded ++ x ∷ [])) records)
-    image_more image may = subst (IsShardImage me) (sym next_front) (image_push me (take (length yielded) records) x image (may_come_alike is me x may))
+-- the records of the journal are those that were replayed
+pub same_records : (me : Identity) (records : Option (List Record)) (m : ShardState) (r : IsReplayed me records m) (durable : List Record) → records ≡ Some durable → durable ≡ r.rs
+same_records me records m r durable is = some_is durable r.rs (sym is ∙ r.found)
 
 step_epoch : (me : Identity) (s : ShardState) (r : Record) → s.epoch ≤ greatest_number → MayCome me s r → (shard_step s r).epoch ≤ greatest_number
 unfolding shard_step
@@ -105,17 +124,6 @@ module _ {D : Type 0} (moment : D → ℕ) (left_since : D → ℕ → List ℕ 
         (m.before t u x y (omega (arith, le_t, l.later_a)) (omega (arith, le_u, l.later_b)) in_x in_y);
   }
 
--- nothing was done: what is there was found
-pub leaves_found : {D : Type 0} (state : D → State) (moment : D → ℕ) (left_since : D → ℕ → List ℕ → Type 0) (a b : D) (me : Identity) (rs : List Record)
-    → ((x : List ℕ) → left_since a (moment a) x → left (state a) x) → ((y : List ℕ) → left_since b (moment b) y → left (state b) y)
-    → HasRecords (state a) (state b) rs → LeavesBoth moment left_since a b a b (HasFoundOrOpened me rs)
-leaves_found state moment left_since a b me rs only_a only_b has = record {
-  later_a = omega arith;
-  later_b = omega arith;
-  each = λ x y in_x in_y. inl (has x y (only_a x in_x) (only_b y in_y));
-  before = λ t u x y le_t le_u in_x in_y. inl (in_x, in_y);
-}
-
 pub opened_or_found : (me : Identity) (sa sb : State) (rs : List Record) → found sa.seen sb.seen ≡ Some rs → (x y : List ℕ) → HasFoundOrOpened me rs x y → WasLeftOrOpened me sa sb x y
 opened_or_found me sa sb rs was x y (inl held) = inl (inr (held ∙ sym was))
 opened_or_found me sa sb rs was x y (inr opened) = inr (rs, was, opened.0, opened.1)
@@ -128,19 +136,19 @@ module _ (me : Identity) (records : List Record) (image : IsShardImage me record
   longer : (durable : List Record) → durable ≡ records → durable ++ epoch_of me e ∷ [] ≡ records ++ opening me records ∷ []
   longer durable same = ap (λ (l : List Record). l ++ epoch_of me e ∷ []) same ∙ ap (λ (n : ℕ). records ++ epoch_of me n ∷ []) is
 
-  pub has_found_or_opened : (durable : List Record) → durable ≡ records → (x y : List ℕ) → HasOldOrNew durable (epoch_of me e ∷ []) x y → HasFoundOrOpened me records x y
+  has_found_or_opened : (durable : List Record) → durable ≡ records → (x y : List ℕ) → HasOldOrNew durable (epoch_of me e ∷ []) x y → HasFoundOrOpened me records x y
   has_found_or_opened durable same x y (inl old) = inl (old ∙ ap (λ (l : List Record). Some l) same)
   has_found_or_opened durable same x y (inr new) = inr (opened_image me records image below, new ∙ ap (λ (l : List Record). Some l) (longer durable same))
 
   module _ {D : Type 0} (state : D → State) (honest : D → Type 0) (j k : View D) (was : honest j.a → honest j.b → j.durable ≡ records)
       (now : honest j.a → honest j.b → (k.durable ≡ j.durable ++ epoch_of me e ∷ []) × HasRecords (state k.a) (state k.b) k.durable) (fresh : k.staged ≡ []) where
-    pub opened_durable : honest j.a → honest j.b → k.durable ≡ records ++ opening me records ∷ []
+    opened_durable : honest j.a → honest j.b → k.durable ≡ records ++ opening me records ∷ []
     opened_durable ha hb = (now ha hb).0 ∙ longer j.durable (was ha hb)
 
     opened_whole : honest j.a → honest j.b → records ++ opening me records ∷ [] ≡ k.durable ++ k.staged
     opened_whole ha hb = sym (opened_durable ha hb) ∙ sym (append-nil k.durable) ∙ ap (λ (l : List Record). k.durable ++ l) (sym fresh)
 
-    pub opened_up : k.is_down ≡ false → honest j.a → honest j.b → honest k.a → honest k.b → IsUp state honest (view_of k me)
+    opened_up : k.is_down ≡ false → honest j.a → honest j.b → honest k.a → honest k.b → IsUp state honest (view_of k me)
     opened_up up ha hb ka kb = record {
       honest_a = ka;
       honest_b = kb;
@@ -156,7 +164,7 @@ module _ (me : Identity) (records : List Record) (image : IsShardImage me record
           let now : IsAlike (record m { epoch = e }) (shard_step (shard_state records) (opening me records)) = record { in_doubt = replayed.in_doubt; learned = replayed.learned; horizon = replayed.horizon; epoch = is; rows = replayed.rows } in
           subst (λ (s : ShardState). IsAlike s (shard_state (records ++ opening me records ∷ []))) (sym stepped) (subst (IsAlike (record m { epoch = e })) (sym (shard_push records (opening me records))) now)
 
-      pub opened_kept : 1 ≤ me.shards → me.shards ≤ max_shards → me.node < me.shards → (honest k.a → honest j.a) → (honest k.b → honest j.b) → IsKept state honest k me n ids settled
+      opened_kept : 1 ≤ me.shards → me.shards ≤ max_shards → me.node < me.shards → (honest k.a → honest j.a) → (honest k.b → honest j.b) → IsKept state honest k me n ids settled
       opened_kept some few node back_a back_b = record {
         rs = records ++ opening me records ∷ [];
         replayed = all_replayed;
@@ -176,6 +184,33 @@ module _ (me : Identity) (records : List Record) (image : IsShardImage me record
         settled_is = λ up ka kb. place ∙ all_replayed.learned ∙ ap (λ (l : List Record). (shard_state l).learned) (sym (opened_durable (back_a ka) (back_b kb)));
       }
 
-pub lacks_room : {D : Type 0} (state : D → State) (honest : D → Type 0) (j : View D) (me : Identity) (records : List Record) (e : ℕ) → e ≡ (shard_state records).epoch + 1
-    → LacksRoom state honest j.a j.end (epoch_of me e ∷ []) → LacksRoom state honest j.a j.end (opening me records ∷ [])
-lacks_room state honest j me records e is lacks = subst (λ (n : ℕ). LacksRoom state honest j.a j.end (epoch_of me n ∷ [])) is lacks
+-- an opening goes on from the memory of records that are replayed
+module _ (me : Identity) (records : Option (List Record)) (m : ShardState) (r : IsReplayed me records m) (e : ℕ) (below : m.epoch < greatest_number) (next : e ≡ m.epoch + 1) where
+  epochs : m.epoch ≡ (shard_state r.rs).epoch
+  epochs = r.replayed.epoch
+
+  few : (shard_state r.rs).epoch < greatest_number
+  few = omega (arith, below, epochs)
+
+  next_of : e ≡ (shard_state r.rs).epoch + 1
+  next_of = omega (arith, next, epochs)
+
+  pub start_found : (durable : List Record) → records ≡ Some durable → (x y : List ℕ) → HasOldOrNew durable (epoch_of me e ∷ []) x y → HasFoundOrOpened me durable x y
+  start_found durable is =
+      let same = same_records me records m r durable is in
+      subst (λ (rs : List Record). (x y : List ℕ) → HasOldOrNew durable (epoch_of me e ∷ []) x y → HasFoundOrOpened me rs x y) (sym same) (has_found_or_opened me r.rs r.image e few next_of durable same)
+
+  module _ {D : Type 0} (state : D → State) (honest : D → Type 0) (j k : View D) (is : honest j.a → honest j.b → records ≡ Some j.durable)
+      (now : honest j.a → honest j.b → (k.durable ≡ j.durable ++ epoch_of me e ∷ []) × HasRecords (state k.a) (state k.b) k.durable) (fresh : k.staged ≡ []) where
+    same : honest j.a → honest j.b → j.durable ≡ r.rs
+    same ha hb = same_records me records m r j.durable (is ha hb)
+
+    pub start_durable : honest j.a → honest j.b → k.durable ≡ j.durable ++ opening me j.durable ∷ []
+    start_durable ha hb = opened_durable me r.rs r.image e few next_of state honest j k same now fresh ha hb ∙ ap (λ (rs : List Record). rs ++ opening me rs ∷ []) (sym (same ha hb))
+
+    pub start_up : k.is_down ≡ false → honest j.a → honest j.b → honest k.a → honest k.b → IsUp state honest (view_of k me)
+    start_up = opened_up me r.rs r.image e few next_of state honest j k same now fresh
+
+    pub start_kept : (n : ShardState) (ids : List WriteId) (settled : ℕ) → n ≡ record m { epoch = e } → ids ≡ [] → settled ≡ n.learned
+        → 1 ≤ me.shards → me.shards ≤ max_shards → me.node < me.shards → (honest k.a → honest j.a) → (honest k.b → honest j.b) → IsKept state honest k me n ids settled
+    start_kept n ids settled stepped none place = opened_kept me r.rs r.image e few next_of state honest j k same now fresh m n ids settled r.replayed stepped none place

@@ -1,48 +1,45 @@
 // Opening a shard: its records are replayed, and one opening more is made durable.
-ghost use Rattle.std.specs.Prelude.{◌≡◌, ◌⊎◌, ◌↔◌, ◌≤◌, ◌<◌, ◌+◌, ◌++◌, ◌∷◌, [], List, Some, true, false, OnOk, OnErr, IfOk, IfErr, IsErr, IsErrOf, MatchResult};
+ghost use Rattle.std.specs.Prelude.{◌≡◌, ◌⊎◌, ◌↔◌, ◌≤◌, ◌<◌, ◌+◌, ◌++◌, ◌∷◌, [], List, Option, Some, true, false, OnOk, OnErr, IfOk, IfErr, IsErr, IsErrOf, MatchResult};
 ghost use Rattle.device.specs.Device.{HasFailed, left};
 ghost use Rattle.journal.specs.Records.{HasOldOrNew, HasRecords, LacksRoom, LeavesBoth, found};
 ghost use Rattle.records.specs.declared.record.Record.{Record as AnyRecord};
 ghost use Rattle.records.specs.declared.record.Record.TheVariants.{Epoch as epoch_record};
 ghost use Rattle.records.specs.Identity.{IsIdentity};
 ghost use Rattle.records.specs.Replays.{IsShardImage, greatest_number, shard_state};
-ghost use Rattle.replay.specs.Alike.{IsAlike};
-ghost use Rattle.shard.specs.Keeping.{HasFoundOrOpened};
+ghost use Rattle.shard.specs.Keeping.{HasFoundOrOpened, IsReplayed};
 ghost use Rattle.shard.specs.Shards.{IsOpenedShard, IsUp, LacksRoomToOpen, WasLeftOrOpened, opening};
 
 use crate::Shard;
 use crate::preparing::stage_fitting;
 use crate::write_ids::WriteIds;
 use device::Device;
-use journal::{Journal, Refused};
+use journal::{Journal, Opening, Refused, Unread};
 use records::{Identity, Record};
 use replay::Memory;
 use std::alloc::Global;
 use tuples::{MAX_NUMBER, Refusal};
 
 // What the records of the shard stand for; `Damaged` where they are not those of this shard.
-fn replayed(alloc: Global, me: Identity, records: Vec<Record>) -> Result<Memory, Refusal>
-    ensures memory { IfOk result (λ m. IsAlike m (shard_state records.items)) }
-    ensures image { OnOk result (IsShardImage me records.items) }
-    ensures damaged { IsErrOf result Refusal.Damaged → IsShardImage me records.items → ⊥ }
+fn replayed(alloc: Global, me: Identity, mut unread: Unread) -> Result<Memory, Refusal>
+    ensures ok { IfOk result (λ m. IsReplayed me unread.records m) }
+    ensures damaged { IsErrOf result Refusal.Damaged → (rs : List AnyRecord) → unread.records ≡ Some rs → IsShardImage me rs → ⊥ }
     ensures err { IfErr result (λ e. (e ≡ Refusal.Damaged) ⊎ (e ≡ Refusal.NoMemory)) }
 {
     let mut memory = Memory::new(alloc);
-    for record in records {
+    while let Some(record) = unread.next(alloc)? {
         memory.replay(alloc, me, record)?;
     }
     Ok(memory)
 }
 
 // As `replayed`, and `Full` after the last epoch.
-fn restored(alloc: Global, me: Identity, records: Vec<Record>) -> Result<Memory, Refusal>
-    ensures memory { IfOk result (λ m. IsAlike m (shard_state records.items) × (m.epoch < greatest_number)) }
-    ensures image { OnOk result (IsShardImage me records.items) }
-    ensures damaged { IsErrOf result Refusal.Damaged → IsShardImage me records.items → ⊥ }
-    ensures full { IsErrOf result Refusal.Full → IsShardImage me records.items × ((shard_state records.items).epoch ≡ greatest_number) }
+fn restored(alloc: Global, me: Identity, unread: Unread) -> Result<Memory, Refusal>
+    ensures ok { IfOk result (λ m. IsReplayed me unread.records m × (m.epoch < greatest_number)) }
+    ensures damaged { IsErrOf result Refusal.Damaged → (rs : List AnyRecord) → unread.records ≡ Some rs → IsShardImage me rs → ⊥ }
+    ensures full { IsErrOf result Refusal.Full → (rs : List AnyRecord) × (unread.records ≡ Some rs) × IsShardImage me rs × ((shard_state rs).epoch ≡ greatest_number) }
     ensures err { IfErr result (λ e. (e ≡ Refusal.Damaged) ⊎ ((e ≡ Refusal.NoMemory) ⊎ (e ≡ Refusal.Full))) }
 {
-    let memory = replayed(alloc, me, records)?;
+    let memory = replayed(alloc, me, unread)?;
     if memory.epoch() >= MAX_NUMBER {
         return Err(Refusal::Full);
     }
@@ -85,38 +82,31 @@ fn refused<D: Device>(refusal: Refusal, journal: Journal<D>) -> Refused<D>
     Refused { refusal, a, b }
 }
 
-// Opens the shard over a journal in which these records were found.
+// Opens the shard over a journal whose records are replayed.
 fn start<D: Device>(
     alloc: Global,
     mut journal: Journal<D>,
-    records: Vec<Record>,
+    mut memory: Memory,
     me: Identity,
 ) -> Result<Shard<D>, Refused<D>>
     requires node { me.node < me.shards }
     requires fresh { journal.staged ≡ [] }
     requires up { journal.is_down ≡ false }
-    requires found { D.honest journal.a → D.honest journal.b → (journal.durable ≡ records.items) × HasRecords (D.state journal.a) (D.state journal.b) records.items }
+    requires below { memory.epoch < greatest_number }
+    requires replayed { (records : Option (List AnyRecord)) × IsReplayed me records memory × (D.honest journal.a → D.honest journal.b → records ≡ Some journal.durable) }
     ensures honest { MatchResult result (λ s. (D.honest journal.a ↔ D.honest s.a) × (D.honest journal.b ↔ D.honest s.b)) (λ e. (D.honest journal.a ↔ D.honest e.a) × (D.honest journal.b ↔ D.honest e.b)) }
-    ensures ok { D.honest journal.a → D.honest journal.b → IfOk result (λ s. IsShardImage me records.items
-        × (s.durable ≡ records.items ++ opening me records.items ∷ []) × IsUp D.state D.honest s) }
+    ensures ok { D.honest journal.a → D.honest journal.b → IfOk result (λ s. (s.durable ≡ journal.durable ++ opening me journal.durable ∷ []) × IsUp D.state D.honest s) }
     ensures fresh { IfOk result (λ s. (s.staged ≡ []) × (s.is_down ≡ false) × (s.me ≡ me)) }
-    ensures damaged { IfErr result (λ e. e.refusal ≡ Refusal.Damaged → IsShardImage me records.items → ⊥) }
-    ensures full { IfErr result (λ e. e.refusal ≡ Refusal.Full → IsShardImage me records.items × ((shard_state records.items).epoch ≡ greatest_number)) }
-    ensures err { IfErr result (λ e. (e.refusal ≡ Refusal.Down) ⊎ ((e.refusal ≡ Refusal.NoMemory) ⊎ ((e.refusal ≡ Refusal.Full) ⊎ (e.refusal ≡ Refusal.Damaged)))) }
-    ensures down { IfErr result (λ e. e.refusal ≡ Refusal.Down → HasFailed (D.state journal.a) (D.state e.a) ⊎ (HasFailed (D.state journal.b) (D.state e.b)
-        ⊎ LacksRoom D.state D.honest journal.a journal.end (opening me records.items ∷ []))) }
+    ensures err { IfErr result (λ e. e.refusal ≡ Refusal.Down) }
+    ensures down { IfErr result (λ e. HasFailed (D.state journal.a) (D.state e.a) ⊎ (HasFailed (D.state journal.b) (D.state e.b)
+        ⊎ LacksRoom D.state D.honest journal.a journal.end (epoch_record (memory.epoch + 1) me.store me.shards me.node ∷ []))) }
     ensures counts_a { MatchResult result (λ s. (D.state journal.a).failures ≤ (D.state s.a).failures) (λ e. (D.state journal.a).failures ≤ (D.state e.a).failures) }
     ensures counts_b { MatchResult result (λ s. (D.state journal.b).failures ≤ (D.state s.b).failures) (λ e. (D.state journal.b).failures ≤ (D.state e.b).failures) }
-    ensures none { MatchResult result (λ s. ((D.state s.a).failures ≡ (D.state journal.a).failures) × ((D.state s.b).failures ≡ (D.state journal.b).failures))
-        (λ e. (e.refusal ≡ Refusal.Down) ⊎ (((D.state e.a).failures ≡ (D.state journal.a).failures) × ((D.state e.b).failures ≡ (D.state journal.b).failures))) }
+    ensures none { IfOk result (λ s. ((D.state s.a).failures ≡ (D.state journal.a).failures) × ((D.state s.b).failures ≡ (D.state journal.b).failures)) }
     ensures any_moment { D.honest journal.a → D.honest journal.b → MatchResult result
-        (λ s. LeavesBoth D.moment D.left_since journal.a journal.b s.a s.b (HasFoundOrOpened me records.items))
-        (λ e. LeavesBoth D.moment D.left_since journal.a journal.b e.a e.b (HasFoundOrOpened me records.items)) }
+        (λ s. LeavesBoth D.moment D.left_since journal.a journal.b s.a s.b (HasFoundOrOpened me journal.durable))
+        (λ e. LeavesBoth D.moment D.left_since journal.a journal.b e.a e.b (HasFoundOrOpened me journal.durable)) }
 {
-    let mut memory = match restored(alloc, me, records) {
-        Ok(memory) => memory,
-        Err(refusal) => return Err(refused(refusal, journal)),
-    };
     let epoch = memory.epoch() + 1;
     match begin(&mut journal, epoch, me) {
         Ok(()) => {
@@ -167,9 +157,13 @@ impl<D: Device> Shard<D> {
             (λ s. LeavesBoth D.moment D.left_since a b s.a s.b (WasLeftOrOpened me (D.state a) (D.state b)))
             (λ e. LeavesBoth D.moment D.left_since a b e.a e.b (WasLeftOrOpened me (D.state a) (D.state b))) }
     {
-        match Journal::open(alloc, a, b) {
-            Ok((journal, records)) => start(alloc, journal, records, me),
-            Err(refused) => Err(refused),
+        let (opening, unread) = match Opening::find(alloc, a, b) {
+            Ok(found) => found,
+            Err(refused) => return Err(refused),
+        };
+        match restored(alloc, me, unread) {
+            Ok(memory) => start(alloc, opening.into_journal(), memory, me),
+            Err(refusal) => Err(opening.refuse(refusal)),
         }
     }
 }

@@ -1,9 +1,8 @@
-use Rattle.std.proofs.Common.{◌≡◌, length, take}
-use Rattle.records.specs.Coordinators.{IsCoordinatorImage, coordinator_state}
+use Rattle.coordinator.proofs.Openings.{SoFar}
 use Rattle.coordinator.proofs.opening.replayed.Given as goal
 
-abbrev pub invariant-loop-record : goal.invariant-loop-record
-invariant-loop-record l = record {
-  state : l.so_far ≡ coordinator_state (take (length l.yielded) l.fn.records.items);
-  image : IsCoordinatorImage l.me (take (length l.yielded) l.fn.records.items);
-}
+abbrev pub invariant-loop-so_far : goal.invariant-loop-so_far
+invariant-loop-so_far l = SoFar l.me l.fn.unread.records l.unread l.so_far
+
+abbrev pub decreases-loop-so_far : goal.decreases-loop-so_far
+decreases-loop-so_far l = l.unread.steps

@@ -1,41 +1,23 @@
-use Rattle.std.proofs.Common.{Err, ◌≡◌, ◌∙◌, ap}
-use Rattle.std.proofs.lemmas.Iterator.Adapters.{YieldsList-from_vec}
-use Rattle.std.proofs.lemmas.Iterator.Consumers.{YieldsList-turn}
+use Rattle.std.proofs.Common.{Err, ◌≡◌, ap}
 use Rattle.std.proofs.lemmas.Result.{err_from_is_err_and}
 use Rattle.refusal.specs.declared.refusal.Refusal.{Refusal}
 use Rattle.refusal.specs.declared.refusal.Refusal.TheVariants.{Damaged}
-use Rattle.records.specs.Replays.{Identity, MayCome}
-use Rattle.replay.proofs.Alike.{alike_same, alike_sym, may_come_alike}
-use Rattle.replay.proofs.States.{image_empty}
-use Rattle.shard.proofs.Openings.{image_more, may_follow, nothing_replayed, replayed_more}
+use Rattle.journal.specs.Unread.{IsRead}
+use Rattle.shard.proofs.Openings.{may_follow, nothing_read, one_replayed}
 use Rattle.shard.proofs.opening.replayed.Goals as goal
 
-pub loop-record-init : goal.loop-record-init
-loop-record-init c = record {
-  memory = alike_same _ _ (c.new-memory.ensures ∙ nothing_replayed);
-  image = image_empty c.args.me;
-}
+pub loop-memory-init : goal.loop-memory-init
+loop-memory-init c = nothing_read c.args.me c.args.unread c.new-memory.result c.new-memory.ensures
 
-pub loop-record-preserved : goal.loop-record-preserved
-loop-record-preserved c =
-    let me : Identity = c.args.me in
-    let records = c.args.records.items in
-    let x = c.in-Some.record in
-    let e1 = c.into_iter-record-iterator.ensures.into_iter_gives in
-    let t = YieldsList-turn (YieldsList-from_vec records (cc) (cc)) c.loop-record.yielded c.loop-record.record-iterator c.loop-record.yielded_by c.next.result c.next.new.self x c.in-Some.is c.next.ensures.steps in
-    let v = c.loop-record.invariant in
-    record {
-      memory = replayed_more me records c.loop-record.yielded x t.0 t.1 c.loop-record.memory c.replay.new.self v.memory c.in_ok-replay.ensures.ok.1;
-      image = image_more me records c.loop-record.yielded x t.0 t.1 c.loop-record.memory c.replay.new.self v.memory v.image c.in_ok-replay.ensures.ok.0;
-    }
+pub loop-memory-preserved : goal.loop-memory-preserved
+loop-memory-preserved c =
+    let read : IsRead c.loop-memory.unread c.in-Some.record c.next.new.self = rw c.in-Some.is at c.in_ok-record.ensures.ok in
+    one_replayed c.args.me c.args.unread.records c.loop-memory.unread c.loop-memory.memory c.loop-memory.invariant c.in-Some.record c.next.new.self read c.replay.new.self c.in_ok-replay.ensures.ok.0 c.in_ok-replay.ensures.ok.1
 
 pub returns-in_err-replay-clause-damaged : goal.returns-in_err-replay-clause-damaged
-returns-in_err-replay-clause-damaged c = λ is image.
-    let me : Identity = c.args.me in
-    let records = c.args.records.items in
-    let x = c.in-Some.record in
-    let t = YieldsList-turn (YieldsList-from_vec records (cc) (cc)) c.loop-record.yielded c.loop-record.record-iterator c.loop-record.yielded_by c.next.result c.next.new.self x c.in-Some.is c.next.ensures.steps in
-    let p = err_from_is_err_and c.from_residual.result c.from_residual.ensures.1 in
+returns-in_err-replay-clause-damaged c = λ is rs was image.
+    let read : IsRead c.loop-memory.unread c.in-Some.record c.next.new.self = rw c.in-Some.is at c.in_ok-record.ensures.ok in
+    let p = err_from_is_err_and c.from_residual-in_err-replay.result c.from_residual-in_err-replay.ensures.1 in
     let same : c.in_err-replay.field-0.0 ≡ Damaged = (let e = rw (p.1, p.2) at is in cc) in
-    let may : MayCome me c.loop-record.memory x = may_come_alike (alike_sym c.loop-record.invariant.memory) me x (may_follow me records c.loop-record.yielded x t.0 t.1 image) in
-    c.in_err-replay.ensures.damaged (ap (λ (e : Refusal). Err e) same) may
+    c.in_err-replay.ensures.damaged (ap (λ (e : Refusal). Err e) same)
+    (may_follow c.args.me c.args.unread.records c.loop-memory.unread c.loop-memory.memory c.loop-memory.invariant c.in-Some.record c.next.new.self read rs was image)

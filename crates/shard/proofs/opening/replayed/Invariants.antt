@@ -1,10 +1,8 @@
-use Rattle.std.proofs.Common.{length, take}
-use Rattle.records.specs.Replays.{IsShardImage, shard_state}
-use Rattle.replay.specs.Alike.{IsAlike}
+use Rattle.shard.proofs.Openings.{SoFar}
 use Rattle.shard.proofs.opening.replayed.Given as goal
 
-abbrev pub invariant-loop-record : goal.invariant-loop-record
-invariant-loop-record l = record {
-  memory : IsAlike l.memory (shard_state (take (length l.yielded) l.fn.records.items));
-  image : IsShardImage l.me (take (length l.yielded) l.fn.records.items);
-}
+abbrev pub invariant-loop-memory : goal.invariant-loop-memory
+invariant-loop-memory l = SoFar l.me l.fn.unread.records l.unread l.memory
+
+abbrev pub decreases-loop-memory : goal.decreases-loop-memory
+decreases-loop-memory l = l.unread.steps
