@@ -7,7 +7,7 @@ use crate::touches::{new_shard, two_disks, write_of};
 use decisions::{Batch, Intent, MAX_BATCH, Ticket};
 use device::Device;
 use shard::{Shard, VoteReply};
-use std::alloc::{AllocError, Global};
+use std::alloc::Global;
 use std::rt::Clock;
 use std::time::{Duration, Instant};
 use tuples::{MAX_NUMBER, Refusal, WriteId};
