@@ -1,10 +1,11 @@
 // The measure of crates/bench/src/rows.rt in plain Rust: the same rows in a map by tuple, and the same reads.
-use std::collections::BTreeMap;
+use std::collections::{BTreeMap, BTreeSet};
 use std::env;
 use std::time::Instant;
 
 const USERS: u64 = 10;
 const READS: u64 = 100;
+const CROWD: u64 = 10_000;
 
 #[derive(Clone, PartialEq, Eq, PartialOrd, Ord)]
 struct Object {
@@ -37,17 +38,57 @@ struct Row {
     is_touch: bool,
 }
 
-type Versions = BTreeMap<Tuple, Vec<Row>>;
+// A tuple in the order of namespaces and users.
+#[derive(PartialEq, Eq, PartialOrd, Ord)]
+struct ByUser {
+    namespace: Vec<u8>,
+    user: User,
+    id: Vec<u8>,
+    relation: Vec<u8>,
+}
 
-fn tuple(object: u64, user: u64) -> Tuple {
+impl ByUser {
+    fn of(tuple: Tuple) -> ByUser {
+        let Object { namespace, id } = tuple.object;
+        ByUser {
+            namespace,
+            user: tuple.user,
+            id,
+            relation: tuple.relation,
+        }
+    }
+
+    fn tuple(&self) -> Tuple {
+        Tuple {
+            object: Object {
+                namespace: self.namespace.clone(),
+                id: self.id.clone(),
+            },
+            relation: self.relation.clone(),
+            user: self.user.clone(),
+        }
+    }
+}
+
+#[derive(Default)]
+struct Versions {
+    rows: BTreeMap<Tuple, Vec<Row>>,
+    users: BTreeSet<ByUser>,
+}
+
+fn tuple(object: String, relation: &str, user: String) -> Tuple {
     Tuple {
         object: Object {
             namespace: b"doc".to_vec(),
-            id: format!("d{object}").into_bytes(),
+            id: object.into_bytes(),
         },
-        relation: b"viewer".to_vec(),
-        user: User::Id(format!("u{user}").into_bytes()),
+        relation: relation.into(),
+        user: User::Id(user.into_bytes()),
     }
+}
+
+fn viewer(object: u64, user: u64) -> Tuple {
+    tuple(format!("d{object}"), "viewer", format!("u{user}"))
 }
 
 fn apply(versions: &mut Versions, place: u64, tuple: &Tuple) {
@@ -55,11 +96,12 @@ fn apply(versions: &mut Versions, place: u64, tuple: &Tuple) {
         place,
         is_touch: true,
     };
-    if let Some(rows) = versions.get_mut(tuple) {
+    if let Some(rows) = versions.rows.get_mut(tuple) {
         rows.push(row);
         return;
     }
-    versions.insert(tuple.clone(), vec![row]);
+    versions.users.insert(ByUser::of(tuple.clone()));
+    versions.rows.insert(tuple.clone(), vec![row]);
 }
 
 fn is_there_at(rows: &[Row], place: u64) -> bool {
@@ -75,7 +117,7 @@ fn is_there_at(rows: &[Row], place: u64) -> bool {
 // The first tuples from this one on that meet the test, where they are there.
 fn kept_from(versions: &Versions, place: u64, first: Tuple, meets: impl Fn(&Tuple) -> bool) -> Vec<Tuple> {
     let mut kept = Vec::new();
-    for (tuple, rows) in versions.range(first..) {
+    for (tuple, rows) in versions.rows.range(first..) {
         if !meets(tuple) {
             break;
         }
@@ -90,28 +132,53 @@ fn read_key(versions: &Versions, place: u64, key: &Tuple) -> usize {
     kept_from(versions, place, key.clone(), |tuple| tuple == key).len()
 }
 
-fn read_object(versions: &Versions, place: u64, object: &Object) -> usize {
+fn read_object(versions: &Versions, place: u64, object: &Object, relation: Option<&[u8]>) -> usize {
     let first = Tuple {
         object: object.clone(),
-        relation: b"0".to_vec(),
+        relation: relation.unwrap_or(b"0").to_vec(),
         user: User::Id(b"!".to_vec()),
     };
-    kept_from(versions, place, first, |tuple| tuple.object == *object).len()
+    kept_from(versions, place, first, |tuple| tuple.object == *object && relation.is_none_or(|given| tuple.relation == given)).len()
+}
+
+fn read_user(versions: &Versions, place: u64, namespace: &[u8], user: &User) -> usize {
+    let first = ByUser {
+        namespace: namespace.to_vec(),
+        user: user.clone(),
+        id: b"!".to_vec(),
+        relation: b"0".to_vec(),
+    };
+    let mut kept = Vec::new();
+    for named in versions.users.range(first..) {
+        if named.namespace != namespace || named.user != *user {
+            break;
+        }
+        let tuple = named.tuple();
+        if is_there_at(&versions.rows[&tuple], place) {
+            kept.push(tuple);
+        }
+    }
+    kept.len()
 }
 
 fn newest(versions: &Versions, changes: &[Tuple]) -> u64 {
-    let last = |tuple| versions.get(tuple).map_or(0, |rows| rows.iter().map(|row| row.place).max().unwrap_or(0));
+    let last = |tuple| versions.rows.get(tuple).map_or(0, |rows| rows.iter().map(|row| row.place).max().unwrap_or(0));
     changes.iter().map(last).max().unwrap_or(0)
 }
 
 // Forgets what another version at or below the horizon follows, and deletions there.
 fn collect(versions: &mut Versions, horizon: u64) {
-    versions.retain(|_, rows| {
+    let count = versions.rows.len();
+    versions.rows.retain(|_, rows| {
         let under = rows.iter().map(|row| row.place).filter(|place| *place <= horizon);
         let newest = under.max().unwrap_or(0);
         rows.retain(|row| horizon < row.place || (row.is_touch && newest <= row.place));
         !rows.is_empty()
     });
+    if versions.rows.len() < count {
+        let rows = &versions.rows;
+        versions.users.retain(|named| rows.contains_key(&named.tuple()));
+    }
 }
 
 fn print(name: &str, amount: u64, start: Instant, answer: usize) {
@@ -119,14 +186,14 @@ fn print(name: &str, amount: u64, start: Instant, answer: usize) {
 }
 
 fn measure(rows: u64) {
-    let changes: Vec<Tuple> = (0..rows).map(|row| tuple(row / USERS, row % USERS)).collect();
-    let mut versions = Versions::new();
+    let changes: Vec<Tuple> = (0..rows).map(|row| viewer(row / USERS, row % USERS)).collect();
+    let mut versions = Versions::default();
     let start = Instant::now();
     for (i, change) in changes.iter().enumerate() {
         apply(&mut versions, i as u64 + 1, change);
     }
     print("apply", rows, start, changes.len());
-    let key = tuple(5, 3);
+    let key = viewer(5, 3);
     let mut found = 0;
     let start = Instant::now();
     for _ in 0..READS {
@@ -135,9 +202,27 @@ fn measure(rows: u64) {
     print("key", READS, start, found);
     let start = Instant::now();
     for _ in 0..READS {
-        found = read_object(&versions, rows, &key.object);
+        found = read_object(&versions, rows, &key.object, None);
     }
     print("object", READS, start, found);
+    let crowd = (0..CROWD).map(|user| tuple("crowd".into(), "viewer", format!("u{user}")));
+    let editors = (0..USERS).map(|user| tuple("crowd".into(), "editor", format!("u{user}")));
+    let mine = (0..USERS).map(|object| tuple(format!("m{object}"), "viewer", "me".into()));
+    for (i, change) in crowd.chain(editors).chain(mine).enumerate() {
+        apply(&mut versions, rows + i as u64 + 1, &change);
+    }
+    let edited = tuple("crowd".into(), "editor", "me".into()).object;
+    let start = Instant::now();
+    for _ in 0..READS {
+        found = read_object(&versions, u64::MAX, &edited, Some(b"editor"));
+    }
+    print("crowded", READS, start, found);
+    let me = User::Id(b"me".to_vec());
+    let start = Instant::now();
+    for _ in 0..READS {
+        found = read_user(&versions, u64::MAX, b"doc", &me);
+    }
+    print("user", READS, start, found);
     let start = Instant::now();
     let last = newest(&versions, &changes);
     print("last", rows, start, last as usize);

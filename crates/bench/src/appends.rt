@@ -1,12 +1,12 @@
 // How many bodies a log over a file appends, each durable when the call returns.
-use crate::timing::Timing;
+use crate::timing::{Done, print};
+use device::Device;
 use files::open;
 use gated::GatedLog;
-use refusal::Refusal;
 use std::alloc::Global;
 use std::fs;
-use std::io::{self, ErrorKind};
-use std::time::Instant;
+use std::rt::Clock;
+use std::time::{Duration, Instant};
 
 // The file in the current folder, which the measure makes and removes.
 const NAME: &str = "bench.log";
@@ -27,30 +27,44 @@ pub(crate) fn count_of(words: &[String]) -> Option<u32> {
     }
 }
 
-fn refused(_refusal: Refusal) -> io::Error {
-    io::Error::from(ErrorKind::Other)
+/// Appends so many bodies to a log over a file of the current folder, and prints how long they took. What it answers is the bytes of the file.
+pub(crate) fn measure(rt: &HostRuntime, alloc: Global, count: u32) -> anyhow::Result<()> {
+    let _ = fs::remove_file(rt, NAME);
+    let elapsed = append_to_file(rt, alloc, count)?;
+    let done = Done {
+        amount: u64::from(count),
+        answer: fs::metadata(rt, NAME)?.len(),
+    };
+    fs::remove_file(rt, NAME)?;
+    print(rt, "append", elapsed, done)
 }
 
-/// Appends so many bodies to a log over a file of the current folder, and prints how long they took. What it answers is the bytes of the file.
-pub(crate) fn measure(rt: &HostRuntime, alloc: Global, count: u32) -> io::Result<()> {
-    let _ = fs::remove_file(rt, NAME);
-    let device = open(rt, alloc, ".", NAME).map_err(refused)?;
-    let (mut log, _) = match GatedLog::open(alloc, device) {
-        Ok(opened) => opened,
-        Err((refusal, _)) => return Err(refused(refusal)),
-    };
+fn append_to_file(rt: &HostRuntime, alloc: Global, count: u32) -> anyhow::Result<Duration> {
+    let device = open(rt, alloc, ".", NAME)?;
+    append_to(rt, alloc, device, count)
+}
+
+fn append_to<D: Device>(
+    rt: &impl Clock,
+    alloc: Global,
+    device: D,
+    count: u32,
+) -> anyhow::Result<Duration> {
+    match GatedLog::open(alloc, device) {
+        Ok((mut log, _)) => append_all(rt, &mut log, count),
+        Err((refusal, _)) => Err(refusal.into()),
+    }
+}
+
+fn append_all<D: Device>(
+    rt: &impl Clock,
+    log: &mut GatedLog<D>,
+    count: u32,
+) -> anyhow::Result<Duration> {
     let mut buffer = [7; BUFFER];
     let start = Instant::now(rt)?;
     for _ in 0..count {
-        log.append(&mut buffer).map_err(refused)?;
+        log.append(&mut buffer)?;
     }
-    let elapsed = start.elapsed(rt)?;
-    let answer = fs::metadata(rt, NAME)?.len();
-    fs::remove_file(rt, NAME)?;
-    let appended = Timing {
-        amount: u64::from(count),
-        elapsed,
-        answer,
-    };
-    appended.print(rt, "append")
+    Ok(start.elapsed(rt)?)
 }

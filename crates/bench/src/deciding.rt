@@ -1,11 +1,10 @@
 // How fast a coordinator begins writes and decides them, a hundred in one flush. Each has the vote of a real shard, whose work is not
 // measured.
-use crate::timing::Timing;
-use crate::touches::{STORE, open_coordinator, touch, two_disks};
+use crate::timing::{Done, print};
+use crate::touches::{new_shard, open_coordinator, touch, two_disks};
 use coordinator::{Coordinator, Decided, NotDecided, Outcome, votes_match};
 use decisions::{Intent, Vote};
-use device::Device;
-use records::Identity;
+use device::{Device, SimDisk};
 use shard::{Shard, VoteReply};
 use std::alloc::Global;
 use std::rt::Clock;
@@ -38,39 +37,43 @@ pub(crate) fn measure(
     alloc: Global,
     groups: u32,
 ) -> anyhow::Result<()> {
-    let (a, b) = two_disks(alloc)?;
-    let shard = new_shard(alloc, a, b)?;
-    let (a, b) = two_disks(alloc)?;
-    let spent = time_groups(rt, alloc, open_coordinator(alloc, a, b)?, shard, groups)?;
+    let spent = time(rt, alloc, groups)?;
     let amount = u64::from(groups).saturating_mul(u64::from(GROUP));
-    let begun = Timing {
+    let begun = Done {
         amount,
-        elapsed: spent.beginning,
         answer: amount,
     };
-    begun.print(rt, "begin")?;
-    let decided = Timing {
+    print(rt, "begin", spent.beginning, begun)?;
+    let decided = Done {
         amount,
-        elapsed: spent.deciding,
         answer: spent.answer,
     };
-    decided.print(rt, "decide")?;
-    Ok(())
+    print(rt, "decide", spent.deciding, decided)
 }
 
-fn new_shard<D: Device>(alloc: Global, a: D, b: D) -> Result<Shard<D>, Refusal> {
-    match Shard::open(alloc, a, b, Identity::shard(STORE, 1, 0)) {
-        Ok(shard) => Ok(shard),
-        Err(refused) => Err(refused.refusal),
-    }
+// What it takes to begin and to decide so many groups. What is measured is lent, since each way out of a function that owns it is proved.
+fn time(rt: &impl Clock, alloc: Global, groups: u32) -> anyhow::Result<Spent> {
+    let (a, b) = two_disks(alloc)?;
+    let mut shard = new_shard(alloc, a, b)?;
+    time_at(rt, alloc, &mut shard, groups)
 }
 
-// What it takes to begin and to decide so many groups.
+fn time_at(
+    rt: &impl Clock,
+    alloc: Global,
+    shard: &mut Shard<SimDisk>,
+    groups: u32,
+) -> anyhow::Result<Spent> {
+    let (a, b) = two_disks(alloc)?;
+    let mut coordinator = open_coordinator(alloc, a, b)?;
+    time_groups(rt, alloc, &mut coordinator, shard, groups)
+}
+
 fn time_groups<D: Device>(
     rt: &impl Clock,
     alloc: Global,
-    mut coordinator: Coordinator<D>,
-    mut shard: Shard<D>,
+    coordinator: &mut Coordinator<D>,
+    shard: &mut Shard<D>,
     groups: u32,
 ) -> anyhow::Result<Spent> {
     let mut spent = Spent {
@@ -78,7 +81,7 @@ fn time_groups<D: Device>(
         deciding: Duration::ZERO,
         answer: 0,
     };
-    decide_groups(rt, alloc, &mut coordinator, &mut shard, groups, &mut spent)?;
+    decide_groups(rt, alloc, coordinator, shard, groups, &mut spent)?;
     Ok(spent)
 }
 
@@ -136,19 +139,36 @@ fn go<D: Device>(
     begun: &mut Begun,
     spent: &mut Spent,
 ) -> anyhow::Result<()> {
-    let start = Instant::now(rt)?;
-    begin_all(coordinator, writes, &mut begun.intents)?;
-    let beginning = start.elapsed(rt)?;
+    let beginning = time_beginning(rt, coordinator, writes, begun)?;
     vote_all(alloc, shard, &mut begun.intents, &mut begun.voted)?;
-    let start = Instant::now(rt)?;
-    decide_all(coordinator, &mut begun.voted, &mut begun.decided)?;
-    coordinator.flush()?;
-    let sum = tell_all(coordinator, &mut begun.decided)?;
-    let deciding = start.elapsed(rt)?;
+    let (sum, deciding) = time_deciding(rt, coordinator, begun)?;
     spent.beginning = spent.beginning.saturating_add(beginning);
     spent.deciding = spent.deciding.saturating_add(deciding);
     spent.answer = spent.answer.wrapping_add(sum);
     Ok(())
+}
+
+fn time_beginning<D: Device>(
+    rt: &impl Clock,
+    coordinator: &mut Coordinator<D>,
+    writes: Vec<Write>,
+    begun: &mut Begun,
+) -> anyhow::Result<Duration> {
+    let start = Instant::now(rt)?;
+    begin_all(coordinator, writes, &mut begun.intents)?;
+    Ok(start.elapsed(rt)?)
+}
+
+fn time_deciding<D: Device>(
+    rt: &impl Clock,
+    coordinator: &mut Coordinator<D>,
+    begun: &mut Begun,
+) -> anyhow::Result<(u64, Duration)> {
+    let start = Instant::now(rt)?;
+    decide_all(coordinator, &mut begun.voted, &mut begun.decided)?;
+    coordinator.flush()?;
+    let sum = tell_all(coordinator, &mut begun.decided)?;
+    Ok((sum, start.elapsed(rt)?))
 }
 
 fn begin_all<D: Device>(

@@ -1,5 +1,5 @@
 // How long a write takes to be held and released beside others that are in doubt.
-use crate::timing::Timing;
+use crate::timing::{Done, print_since};
 use holds::Holds;
 use std::alloc::{AllocError, Global};
 use std::rt::Clock;
@@ -17,15 +17,23 @@ pub(crate) fn measure(
     writes: u32,
 ) -> anyhow::Result<()> {
     let mut holds = held(alloc, writes)?;
+    measure_in(rt, alloc, &mut holds, writes)
+}
+
+// What is measured is lent, since each way out of a function that owns it is proved.
+fn measure_in(
+    rt: &(impl Clock + Eprint),
+    alloc: Global,
+    holds: &mut Holds,
+    writes: u32,
+) -> anyhow::Result<()> {
     let start = Instant::now(rt)?;
-    take_and_release(alloc, &mut holds, writes)?;
-    let turned = Timing {
+    take_and_release(alloc, holds, writes)?;
+    let done = Done {
         amount: u64::from(TURNS),
-        elapsed: start.elapsed(rt)?,
         answer: holds.len() as u64,
     };
-    turned.print(rt, "holds")?;
-    Ok(())
+    print_since(rt, "holds", start, done)
 }
 
 fn held(alloc: Global, writes: u32) -> Result<Holds, Refusal> {

@@ -2,40 +2,33 @@
 ghost use Rattle.records.specs.Format.{AreRecords};
 
 use crate::sample::{batch_of, records_of};
-use crate::timing::Timing;
-use device::SimDisk;
+use crate::timing::{Done, print};
+use crate::touches::two_disks;
+use device::{Device, SimDisk};
 use journal::Journal;
 use records::Record;
 use std::alloc::Global;
-use std::io::{self, ErrorKind};
 use std::rt::Clock;
-use std::time::Instant;
+use std::time::{Duration, Instant};
 use tuples::Refusal;
 
 /// How many records are flushed in all, at least.
 const RECORDS: u32 = 200_000;
 
-fn refused(_refusal: Refusal) -> io::Error {
-    io::Error::from(ErrorKind::Other)
-}
-
-fn new_journal(alloc: Global) -> io::Result<Journal<SimDisk>> {
-    let a = SimDisk::new(alloc, Vec::new(alloc))?;
-    let b = SimDisk::new(alloc, Vec::new(alloc))?;
+fn open<D: Device>(alloc: Global, a: D, b: D) -> Result<Journal<D>, Refusal> {
     match Journal::open(alloc, a, b) {
         Ok((journal, _)) => Ok(journal),
-        Err(e) => Err(refused(e.refusal)),
+        Err(refused) => Err(refused.refusal),
     }
 }
 
-fn stage_and_flush(journal: &mut Journal<SimDisk>, records: &[Record]) -> Result<(), Refusal>
+fn stage_and_flush<D: Device>(journal: &mut Journal<D>, records: &[Record]) -> Result<(), Refusal>
     requires { AreRecords records.now }
 {
     for record in records {
         journal.stage(record)?;
     }
-    journal.flush()?;
-    Ok(())
+    journal.flush()
 }
 
 fn calls_of_a(journal: &Journal<SimDisk>) -> u64 {
@@ -44,23 +37,57 @@ fn calls_of_a(journal: &Journal<SimDisk>) -> u64 {
 }
 
 /// Flushes batches of so many records, and prints the bytes and how long they took. What it answers is the device calls of a flush.
-pub(crate) fn measure(rt: &(impl Clock + Eprint), alloc: Global, count: u16) -> io::Result<()> {
+pub(crate) fn measure(rt: &(impl Clock + Eprint), alloc: Global, count: u16) -> anyhow::Result<()> {
     let bytes = batch_of(alloc, count)?;
     let records = records_of(alloc, &bytes)?;
-    let mut journal = new_journal(alloc)?;
-    let rounds = RECORDS / u32::from(count).max(1);
-    let before = calls_of_a(&journal);
+    measure_of(rt, alloc, &records, bytes.len(), count)
+}
 
+// What is measured is lent, since each way out of a function that owns it is proved.
+fn measure_of(
+    rt: &(impl Clock + Eprint),
+    alloc: Global,
+    records: &[Record],
+    size: usize,
+    count: u16,
+) -> anyhow::Result<()>
+    requires { AreRecords records.now }
+{
+    let (a, b) = two_disks(alloc)?;
+    let mut journal = open(alloc, a, b)?;
+    measure_in(rt, &mut journal, records, size, count)
+}
+
+fn measure_in(
+    rt: &(impl Clock + Eprint),
+    journal: &mut Journal<SimDisk>,
+    records: &[Record],
+    size: usize,
+    count: u16,
+) -> anyhow::Result<()>
+    requires { AreRecords records.now }
+{
+    let rounds = RECORDS / u32::from(count).max(1);
+    let before = calls_of_a(journal);
+    let elapsed = flush_rounds(rt, journal, records, rounds)?;
+    let done = Done {
+        amount: u64::from(rounds).saturating_mul(size as u64),
+        answer: calls_of_a(journal).saturating_sub(before) / u64::from(rounds).max(1),
+    };
+    print(rt, "flush", elapsed, done)
+}
+
+fn flush_rounds<D: Device>(
+    rt: &impl Clock,
+    journal: &mut Journal<D>,
+    records: &[Record],
+    rounds: u32,
+) -> anyhow::Result<Duration>
+    requires { AreRecords records.now }
+{
     let start = Instant::now(rt)?;
     for _ in 0..rounds {
-        stage_and_flush(&mut journal, &records).map_err(refused)?;
+        stage_and_flush(journal, records)?;
     }
-    let elapsed = start.elapsed(rt)?;
-
-    let flushed = Timing {
-        amount: u64::from(rounds).saturating_mul(bytes.len() as u64),
-        elapsed,
-        answer: calls_of_a(&journal).saturating_sub(before) / u64::from(rounds).max(1),
-    };
-    flushed.print(rt, "flush")
+    Ok(start.elapsed(rt)?)
 }

@@ -1,10 +1,9 @@
 // Loads of the safe place.
 ghost use Rattle.std.specs.Prelude.{◌≡◌};
 
-use crate::timing::Timing;
+use crate::timing::{Done, print_since};
 use published::{Published, SessionPass};
 use std::alloc::Global;
-use std::io;
 use std::thread::{Threads, join};
 use std::time::{Clock, Instant};
 
@@ -12,7 +11,7 @@ use std::time::{Clock, Instant};
 const LOADS: u64 = 100_000_000;
 
 /// Whether the load stands in the loop, or in a function that the loop calls.
-#[derive(Clone, Copy, Debug, PartialEq, Eq)]
+#[derive(Clone, Copy)]
 pub(crate) enum Way {
     Inlined,
     Called,
@@ -70,17 +69,16 @@ fn look(words: &Published<u64>, pass: SessionPass<u64>) -> (u64, SessionPass<u64
 }
 
 /// Loads by one thread; prints how long they took.
-pub(crate) fn by_one<R: Clock + Eprint>(rt: &R, alloc: Global, way: Way) -> io::Result<()> {
+pub(crate) fn by_one<R: Clock + Eprint>(rt: &R, alloc: Global, way: Way) -> anyhow::Result<()> {
+    let start = Instant::now(rt)?;
     let (words, mut log) = Published::new(alloc)?;
     let pass = words.session(&mut log);
-    let start = Instant::now(rt)?;
     let answer = load(&words, pass, way);
-    let timing = Timing {
+    let done = Done {
         amount: LOADS,
-        elapsed: start.elapsed(rt)?,
         answer,
     };
-    timing.print(rt, "latest")
+    print_since(rt, "latest", start, done)
 }
 
 // Loads by two threads at once.
@@ -110,12 +108,12 @@ pub(crate) fn by_four<R: Clock + Eprint + Threads + Sync>(
     rt: &R,
     alloc: Global,
     way: Way,
-) -> io::Result<()> {
+) -> anyhow::Result<()> {
+    let start = Instant::now(rt)?;
     let (words, mut log) = Published::new(alloc)?;
     let one = (words.session(&mut log), words.session(&mut log));
     let other = (words.session(&mut log), words.session(&mut log));
     let words = &words;
-    let start = Instant::now(rt)?;
     let (one, other) = join(
         rt,
         move ||
@@ -125,10 +123,9 @@ pub(crate) fn by_four<R: Clock + Eprint + Threads + Sync>(
             requires { (other.0.table ≡ words.now) × (other.1.table ≡ words.now) }
         { load_by_two(rt, words, other, way) },
     );
-    let timing = Timing {
+    let done = Done {
         amount: 4 * LOADS,
-        elapsed: start.elapsed(rt)?,
         answer: one.wrapping_add(other),
     };
-    timing.print(rt, "latest")
+    print_since(rt, "latest", start, done)
 }

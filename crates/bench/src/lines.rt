@@ -1,10 +1,9 @@
 // How many request lines a session answers, over memory, where what it asks costs nothing.
-use crate::timing::Timing;
+use crate::timing::{Done, print_since};
 use answers::{Events, Membership, Rows, Written};
 use requests::Freshness;
 use sessions::{Answers, serve_stream};
 use std::alloc::{AllocError, Global};
-use std::io;
 use std::rt::Clock;
 use std::time::Instant;
 use tuples::{Namespace, Refusal, Tuple, Tupleset, Write};
@@ -12,7 +11,7 @@ use tuples::{Namespace, Refusal, Tuple, Tupleset, Write};
 const PLACE: u64 = 1;
 
 /// The request of each line.
-#[derive(Clone, Copy, Debug, PartialEq, Eq)]
+#[derive(Clone, Copy)]
 pub(crate) enum Kind {
     Write,
     Read,
@@ -107,18 +106,28 @@ pub(crate) fn measure(
     alloc: Global,
     kind: Kind,
     count: u32,
-) -> io::Result<()> {
+) -> anyhow::Result<()> {
     let input = input_of(alloc, kind, count)?;
-    let mut rest = input.as_slice();
-    let mut output = Vec::new(alloc);
     let mut idle = Idle { alloc, asked: 0 };
+    let mut output = Vec::new(alloc);
+    measure_in(rt, alloc, &input, &mut output, &mut idle, count)
+}
+
+// What is measured is lent, since each way out of a function that owns it is proved.
+fn measure_in(
+    rt: &(impl Clock + Eprint),
+    alloc: Global,
+    input: &[u8],
+    output: &mut Vec<u8>,
+    idle: &mut Idle,
+    count: u32,
+) -> anyhow::Result<()> {
+    let mut rest = input;
     let start = Instant::now(rt)?;
-    serve_stream(alloc, 1, &mut rest, &mut output, &mut idle)?;
-    let elapsed = start.elapsed(rt)?;
-    let served = Timing {
+    serve_stream(alloc, 1, &mut rest, output, idle)?;
+    let done = Done {
         amount: u64::from(count),
-        elapsed,
         answer: idle.asked.saturating_add(output.len() as u64),
     };
-    served.print(rt, "lines")
+    print_since(rt, "lines", start, done)
 }

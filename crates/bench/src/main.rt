@@ -18,8 +18,10 @@ mod lines;
 mod measure;
 mod openings;
 mod pairs;
+mod prepares;
 mod rows;
 mod sample;
+mod shard_openings;
 mod texts;
 mod timing;
 mod touches;
@@ -58,8 +60,7 @@ fn main(rt: HostRuntime) -> ExitCode {
 
 // The one measure over a file of the system, which only the host's own runtime opens.
 fn append(rt: &HostRuntime, alloc: Global, count: u32) -> anyhow::Result<()> {
-    appends::measure(rt, alloc, count)?;
-    Ok(())
+    appends::measure(rt, alloc, count)
 }
 
 // The words of the command line, the program's own first.
@@ -70,7 +71,7 @@ fn run<R: Runtime + Threads + Wait + Sync>(
 ) -> anyhow::Result<()> {
     if words.len() <= 1 {
         println!(rt;
-            "measures: texts COUNT, codec ROUNDS, flush RECORDS, versions ROWS, holds WRITES, crowd USERS, decisions GROUPS, log DECISIONS, opening DECISIONS, lines-write COUNT, lines-read COUNT, lines-check COUNT, lines-watch COUNT, appends COUNT, pairs-by-one COUNT, pairs-by-two COUNT, latest-by-one, latest-by-four, called-by-one, called-by-four"
+            "measures: texts COUNT, codec ROUNDS, flush RECORDS, versions ROWS, holds WRITES, prepares WRITES, write-path WRITES, crowd USERS, decisions GROUPS, log DECISIONS, opening DECISIONS, records WRITES, shard-opening WRITES, lines-write COUNT, lines-read COUNT, lines-check COUNT, lines-watch COUNT, appends COUNT, pairs-by-one COUNT, pairs-by-two COUNT, latest-by-one, latest-by-four, called-by-one, called-by-four"
         )?;
         return Ok(());
     }

@@ -1,14 +1,17 @@
 // What can be measured.
 use crate::latest::Way;
 use crate::lines::Kind;
-use crate::{codec, crowd, deciding, doubts, flush, latest, lines, openings, pairs, rows, texts};
+use crate::{
+    codec, crowd, deciding, doubts, flush, latest, lines, openings, pairs, prepares, rows,
+    shard_openings, texts,
+};
 use std::alloc::Global;
 use std::rt::Clock;
 use std::sync::Wait;
 use std::thread::Threads;
 
 /// What was asked for, and how much of it.
-#[derive(Clone, Copy, Debug, PartialEq, Eq)]
+#[derive(Clone, Copy)]
 pub(crate) enum Measure {
     /// So many tuples, to the next thousand below, read from their texts and written.
     Texts(u32),
@@ -20,6 +23,10 @@ pub(crate) enum Measure {
     Versions(u32),
     /// So many writes in doubt, and one more that is held and released.
     Holds(u32),
+    /// So many writes in doubt at a shard, beside which others are prepared and learned.
+    Prepares(u32),
+    /// So many writes at a shard, each from its text until it is learned.
+    WritePath(u32),
     /// So many plain users of a userset, beside ten usersets, of which a check asks.
     Crowd(u32),
     /// So many groups of writes, begun and decided by a coordinator.
@@ -28,6 +35,10 @@ pub(crate) enum Measure {
     Log(u32),
     /// The same, and a coordinator opened over it.
     Opening(u32),
+    /// The records of so many writes at a shard, made.
+    Records(u32),
+    /// The same, and a shard opened over them.
+    ShardOpening(u32),
     /// So many lines of a session, of one kind, answered over memory.
     Lines(Kind, u32),
     /// Looks at the safe place.
@@ -41,13 +52,13 @@ pub(crate) enum Measure {
 }
 
 impl Measure {
-    /// What the words after the program's name ask for: a name, and a count from 1 on where the measure takes one.
+    /// What the words after the program's name ask for: a name, and a count where the measure takes one, from 1 on but for writes in doubt.
     pub(crate) fn read(words: &[String]) -> Option<Measure> {
         match words {
             [_, name] => Measure::named(name.as_str()),
             [_, name, count] => {
                 let count = count.as_str().parse::<u32>().ok()?;
-                if count == 0 {
+                if count == 0 && name.as_str() != "prepares" {
                     return None;
                 }
                 Measure::counted(name.as_str(), count)
@@ -74,15 +85,26 @@ impl Measure {
             "versions" => Some(Measure::Versions(count)),
             "holds" => Some(Measure::Holds(count)),
             "crowd" => Some(Measure::Crowd(count)),
-            "decisions" => Some(Measure::Decisions(count)),
-            "log" => Some(Measure::Log(count)),
-            "opening" => Some(Measure::Opening(count)),
             "lines-write" => Some(Measure::Lines(Kind::Write, count)),
             "lines-read" => Some(Measure::Lines(Kind::Read, count)),
             "lines-check" => Some(Measure::Lines(Kind::Check, count)),
             "lines-watch" => Some(Measure::Lines(Kind::Watch, count)),
             "pairs-by-one" => Some(Measure::PairsByOne(count)),
             "pairs-by-two" => Some(Measure::PairsByTwo(count)),
+            _ => Measure::of_a_node(name, count),
+        }
+    }
+
+    // What measures a shard or a coordinator.
+    fn of_a_node(name: &str, count: u32) -> Option<Measure> {
+        match name {
+            "prepares" => Some(Measure::Prepares(count)),
+            "write-path" => Some(Measure::WritePath(count)),
+            "decisions" => Some(Measure::Decisions(count)),
+            "log" => Some(Measure::Log(count)),
+            "opening" => Some(Measure::Opening(count)),
+            "records" => Some(Measure::Records(count)),
+            "shard-opening" => Some(Measure::ShardOpening(count)),
             _ => None,
         }
     }
@@ -94,21 +116,24 @@ impl Measure {
         alloc: Global,
     ) -> anyhow::Result<()> {
         match self {
-            Measure::Texts(count) => texts::measure(rt, alloc, count)?,
-            Measure::Codec(rounds) => codec::measure(rt, alloc, rounds)?,
-            Measure::Flush(count) => flush::measure(rt, alloc, count)?,
-            Measure::Versions(rows) => rows::measure(rt, alloc, rows)?,
-            Measure::Holds(writes) => doubts::measure(rt, alloc, writes)?,
-            Measure::Crowd(users) => crowd::measure(rt, alloc, users)?,
-            Measure::Decisions(groups) => deciding::measure(rt, alloc, groups)?,
-            Measure::Log(decisions) => openings::log(rt, alloc, decisions)?,
-            Measure::Opening(decisions) => openings::opening(rt, alloc, decisions)?,
-            Measure::Lines(kind, count) => lines::measure(rt, alloc, kind, count)?,
-            Measure::LatestByOne(way) => latest::by_one(rt, alloc, way)?,
-            Measure::LatestByFour(way) => latest::by_four(rt, alloc, way)?,
-            Measure::PairsByOne(count) => pairs::by_one(rt, alloc, count)?,
-            Measure::PairsByTwo(count) => pairs::by_two(rt, alloc, count)?,
+            Measure::Texts(count) => texts::measure(rt, alloc, count),
+            Measure::Codec(rounds) => codec::measure(rt, alloc, rounds),
+            Measure::Flush(count) => flush::measure(rt, alloc, count),
+            Measure::Versions(rows) => rows::measure(rt, alloc, rows),
+            Measure::Holds(writes) => doubts::measure(rt, alloc, writes),
+            Measure::Prepares(in_doubt) => prepares::measure(rt, alloc, in_doubt),
+            Measure::WritePath(writes) => prepares::path(rt, alloc, writes),
+            Measure::Crowd(users) => crowd::measure(rt, alloc, users),
+            Measure::Decisions(groups) => deciding::measure(rt, alloc, groups),
+            Measure::Log(decisions) => openings::log(rt, alloc, decisions),
+            Measure::Opening(decisions) => openings::opening(rt, alloc, decisions),
+            Measure::Records(writes) => shard_openings::records(rt, alloc, writes),
+            Measure::ShardOpening(writes) => shard_openings::opening(rt, alloc, writes),
+            Measure::Lines(kind, count) => lines::measure(rt, alloc, kind, count),
+            Measure::LatestByOne(way) => latest::by_one(rt, alloc, way),
+            Measure::LatestByFour(way) => latest::by_four(rt, alloc, way),
+            Measure::PairsByOne(count) => pairs::by_one(rt, alloc, count),
+            Measure::PairsByTwo(count) => pairs::by_two(rt, alloc, count),
         }
-        Ok(())
     }
 }

@@ -2,7 +2,7 @@
 ghost use Rattle.std.specs.Prelude.{◌≤◌, IfOk};
 ghost use Rattle.decisions.specs.Values.{IsIntent};
 
-use crate::timing::Timing;
+use crate::timing::{Done, print, print_since};
 use crate::touches::{STORE, open_coordinator, touch, two_disks};
 use decisions::Intent;
 use device::Device;
@@ -16,11 +16,10 @@ use tuples::{Entry, Refusal, WriteId};
 /// Makes a log of so many decisions (`log`), and prints how long that took; its answer is the bytes of the log. Until it opens a coordinator,
 /// `opening` takes the same memory.
 pub(crate) fn log(rt: &(impl Clock + Eprint), alloc: Global, decisions: u32) -> anyhow::Result<()> {
-    let (a, b) = two_disks(alloc)?;
     let start = Instant::now(rt)?;
-    let made = made_in(rt, start, made(alloc, a, b, decisions)?, decisions)?;
-    made.print(rt, "log")?;
-    Ok(())
+    let (a, b) = two_disks(alloc)?;
+    let devices = made(alloc, a, b, decisions)?;
+    print_made(rt, "log", start, devices, u64::from(decisions))
 }
 
 /// Opens a coordinator over such a log (`opening`), and prints how long that took. What it answers is the place of the last decision.
@@ -31,9 +30,7 @@ pub(crate) fn opening(
 ) -> anyhow::Result<()> {
     let (a, b) = two_disks(alloc)?;
     let (a, b) = made(alloc, a, b, decisions)?;
-    let opened = opened(rt, alloc, a, b, decisions)?;
-    opened.print(rt, "opening")?;
-    Ok(())
+    open(rt, alloc, a, b, decisions)
 }
 
 // Devices with a log of so many decisions.
@@ -43,40 +40,40 @@ fn made<D: Device>(alloc: Global, a: D, b: D, decisions: u32) -> Result<(D, D), 
     Ok(journal.into_devices())
 }
 
-// What making these devices took since then.
-fn made_in<D: Device>(
-    rt: &impl Clock,
+/// Prints what making devices with so many records took since then.
+pub(crate) fn print_made<D: Device>(
+    rt: &(impl Clock + Eprint),
+    name: &str,
     start: Instant,
     (mut a, _b): (D, D),
-    decisions: u32,
-) -> anyhow::Result<Timing> {
+    records: u64,
+) -> anyhow::Result<()> {
     let elapsed = start.elapsed(rt)?;
-    Ok(Timing {
-        amount: u64::from(decisions),
-        elapsed,
+    let done = Done {
+        amount: records,
         answer: a.len().unwrap_or(0) as u64,
-    })
+    };
+    print(rt, name, elapsed, done)
 }
 
-// What opening a coordinator over these devices takes.
-fn opened<D: Device>(
-    rt: &impl Clock,
+// Prints what opening a coordinator over these devices takes.
+fn open<D: Device>(
+    rt: &(impl Clock + Eprint),
     alloc: Global,
     a: D,
     b: D,
     decisions: u32,
-) -> anyhow::Result<Timing> {
+) -> anyhow::Result<()> {
     let start = Instant::now(rt)?;
     let coordinator = open_coordinator(alloc, a, b)?;
-    let elapsed = start.elapsed(rt)?;
-    Ok(Timing {
+    let done = Done {
         amount: u64::from(decisions),
-        elapsed,
         answer: coordinator.kept(),
-    })
+    };
+    print_since(rt, "opening", start, done)
 }
 
-fn new_journal<D: Device>(alloc: Global, a: D, b: D) -> Result<Journal<D>, Refusal> {
+pub(crate) fn new_journal<D: Device>(alloc: Global, a: D, b: D) -> Result<Journal<D>, Refusal> {
     match Journal::open(alloc, a, b) {
         Ok((journal, _)) => Ok(journal),
         Err(refused) => Err(refused.refusal),
@@ -115,7 +112,7 @@ fn stage<D: Device>(journal: &mut Journal<D>, place: u64, entry: Entry) -> Resul
 }
 
 // The write with this number of the first epoch.
-fn entry(alloc: Global, number: u64) -> Result<Entry, Refusal>
+pub(crate) fn entry(alloc: Global, number: u64) -> Result<Entry, Refusal>
     requires some { 1 ≤ number }
     requires fits { number ≤ 4294967296 }
     ensures { IfOk result IsIntent }

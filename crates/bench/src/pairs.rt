@@ -1,13 +1,12 @@
 // Connections that are put and taken.
 ghost use Rattle.std.specs.Prelude.{◌≡◌};
 
-use crate::timing::Timing;
+use crate::timing::{Done, print_since};
 use connections::{AcceptorPass, Connections, WorkerPass};
 use std::alloc::Global;
 use std::sync::Wait;
-use std::thread::{Threads, join};
+use std::thread::{self, Threads, join};
 use std::time::{Clock, Instant};
-use std::{io, thread};
 
 // Puts connections and takes each at once, and adds up their numbers.
 fn put_and_take<R: Wait>(
@@ -38,19 +37,18 @@ pub(crate) fn by_one<R: Clock + Eprint + Wait>(
     rt: &R,
     alloc: Global,
     count: u32,
-) -> io::Result<()> {
+) -> anyhow::Result<()> {
+    let start = Instant::now(rt)?;
     let (queue, mut acceptor, mut workers) = Connections::new(alloc, 1)?;
     let Some(worker) = workers.pop() else {
-        return Err(io::Error::from(io::ErrorKind::OutOfMemory));
+        anyhow::bail!("no worker");
     };
-    let start = Instant::now(rt)?;
     let answer = put_and_take(rt, &queue, &mut acceptor, worker, count);
-    let timing = Timing {
+    let done = Done {
         amount: u64::from(count),
-        elapsed: start.elapsed(rt)?,
         answer,
     };
-    timing.print(rt, "pairs")
+    print_since(rt, "pairs", start, done)
 }
 
 // Puts all connections. One that comes back is put again.
@@ -117,17 +115,16 @@ pub(crate) fn by_two<R: Clock + Eprint + Threads + Wait + Sync>(
     rt: &R,
     alloc: Global,
     count: u32,
-) -> io::Result<()> {
+) -> anyhow::Result<()> {
+    let start = Instant::now(rt)?;
     let (queue, acceptor, mut workers) = Connections::new(alloc, 1)?;
     let Some(worker) = workers.pop() else {
-        return Err(io::Error::from(io::ErrorKind::OutOfMemory));
+        anyhow::bail!("no worker");
     };
-    let start = Instant::now(rt)?;
     let answer = hand_over(rt, &queue, acceptor, worker, count);
-    let timing = Timing {
+    let done = Done {
         amount: u64::from(count),
-        elapsed: start.elapsed(rt)?,
         answer,
     };
-    timing.print(rt, "pairs")
+    print_since(rt, "pairs", start, done)
 }

@@ -3,7 +3,7 @@ ghost use Rattle.std.specs.Prelude.{◌≡◌, OnOk, OnErr, map, IfOk, length};
 ghost use Rattle.std.specs.List.{flat_map};
 ghost use Rattle.tuples.specs.Texts.{tuple_text};
 
-use crate::timing::Timing;
+use crate::timing::{Done, print_since};
 use std::alloc::{AllocError, Global};
 use std::rt::Clock;
 use std::time::Instant;
@@ -15,32 +15,49 @@ const TEXTS: u32 = 1000;
 /// Reads so many tuples, to the next thousand below, from their texts (`parse`) and writes them (`write`), and prints how long
 /// each took. What it answers is how many tuples or bytes the last pass made.
 pub(crate) fn measure(rt: &(impl Clock + Eprint), alloc: Global, count: u32) -> anyhow::Result<()> {
-    let passes = count / TEXTS;
-    let amount = u64::from(count - count % TEXTS);
     let texts = texts(alloc)?;
     let mut tuples = Vec::new(alloc);
-    let start = Instant::now(rt)?;
-    for _ in 0..passes {
-        parse_all(alloc, &texts, &mut tuples)?;
-    }
-    let parsed = Timing {
-        amount,
-        elapsed: start.elapsed(rt)?,
-        answer: tuples.len() as u64,
-    };
     let mut out = Vec::new(alloc);
+    measure_all(rt, alloc, &texts, &mut tuples, &mut out, count)
+}
+
+// What is measured is lent, since each way out of a function that owns it is proved.
+fn measure_all(
+    rt: &(impl Clock + Eprint),
+    alloc: Global,
+    texts: &[Vec<u8>],
+    tuples: &mut Vec<Tuple>,
+    out: &mut Vec<u8>,
+    count: u32,
+) -> anyhow::Result<()> {
+    measure_reading(rt, alloc, texts, tuples, count)?;
     let start = Instant::now(rt)?;
-    for _ in 0..passes {
-        write_all(&tuples, &mut out)?;
+    for _ in 0..count / TEXTS {
+        write_all(tuples, out)?;
     }
-    let written = Timing {
-        amount,
-        elapsed: start.elapsed(rt)?,
-        answer: out.len() as u64,
-    };
-    parsed.print(rt, "parse")?;
-    written.print(rt, "write")?;
-    Ok(())
+    print_since(rt, "write", start, done_in(count, out.len()))
+}
+
+fn measure_reading(
+    rt: &(impl Clock + Eprint),
+    alloc: Global,
+    texts: &[Vec<u8>],
+    tuples: &mut Vec<Tuple>,
+    count: u32,
+) -> anyhow::Result<()> {
+    let start = Instant::now(rt)?;
+    for _ in 0..count / TEXTS {
+        parse_all(alloc, texts, tuples)?;
+    }
+    print_since(rt, "parse", start, done_in(count, tuples.len()))
+}
+
+// So many, to the next thousand below.
+fn done_in(count: u32, answer: usize) -> Done {
+    Done {
+        amount: u64::from(count - count % TEXTS),
+        answer: answer as u64,
+    }
 }
 
 // Half of them name a user, and half a userset.

@@ -1,21 +1,35 @@
 // What a measure found.
-use std::io;
-use std::time::Duration;
+use std::rt::Clock;
+use std::time::{Duration, Instant};
 
-/// How much was done, and how long it took.
-#[derive(Drop)]
-pub(crate) struct Timing {
+/// How much was done, and what it gave.
+#[derive(Clone, Copy)]
+pub(crate) struct Done {
     /// Calls, records, tuples or bytes.
     pub(crate) amount: u64,
-    pub(crate) elapsed: Duration,
     /// Made of what the calls gave, so that none can be left out.
     pub(crate) answer: u64,
 }
 
-impl Timing {
-    /// Prints the name, the amount, the nanoseconds and the answer.
-    pub(crate) fn print(&self, rt: &impl Eprint, name: &str) -> io::Result<()> {
-        let nanoseconds = self.elapsed.as_nanos();
-        eprintln!(rt; "{name} {} {nanoseconds} {}", self.amount, self.answer)
-    }
+/// Prints the name, the amount, the nanoseconds since then and the answer.
+pub(crate) fn print_since(
+    rt: &(impl Clock + Eprint),
+    name: &str,
+    start: Instant,
+    done: Done,
+) -> anyhow::Result<()> {
+    let elapsed = start.elapsed(rt)?;
+    print(rt, name, elapsed, done)
+}
+
+/// The same, of what took so long.
+pub(crate) fn print(
+    rt: &impl Eprint,
+    name: &str,
+    elapsed: Duration,
+    done: Done,
+) -> anyhow::Result<()> {
+    let nanoseconds = elapsed.as_nanos();
+    eprintln!(rt; "{name} {} {nanoseconds} {}", done.amount, done.answer)?;
+    Ok(())
 }

@@ -5,6 +5,7 @@ ghost use Rattle.records.specs.Replays.{AskOfLog};
 use coordinator::Coordinator;
 use device::{Device, SimDisk};
 use records::Identity;
+use shard::Shard;
 use std::alloc::{AllocError, Global};
 use tuples::{Change, Refusal, Tuple, Write};
 
@@ -29,12 +30,27 @@ pub(crate) fn open_coordinator<D: Device>(
     }
 }
 
+/// The only shard of the store.
+pub(crate) fn new_shard<D: Device>(alloc: Global, a: D, b: D) -> Result<Shard<D>, Refusal> {
+    match Shard::open(alloc, a, b, Identity::shard(STORE, 1, 0)) {
+        Ok(shard) => Ok(shard),
+        Err(refused) => Err(refused.refusal),
+    }
+}
+
 /// A write of one touch; each number has a tuple of its own.
 pub(crate) fn touch(alloc: Global, number: u64) -> Result<Write, Refusal>
     ensures { IfOk result (λ w. AskOfLog w.conditions) }
 {
     let text = format!(in alloc; "doc:d{number}#viewer@u1")?;
-    let tuple = Tuple::parse(alloc, text.as_bytes())?;
+    write_of(alloc, text.as_bytes())
+}
+
+/// A touch of the tuple with this text.
+pub(crate) fn write_of(alloc: Global, text: &[u8]) -> Result<Write, Refusal>
+    ensures { IfOk result (λ w. AskOfLog w.conditions) }
+{
+    let tuple = Tuple::parse(alloc, text)?;
     let mut changes = Vec::new(alloc);
     changes.reserve(1)?;
     changes.push_reserved(Change::Touch(tuple));
