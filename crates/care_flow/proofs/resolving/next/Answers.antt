@@ -13,6 +13,6 @@ returns-in-CatchUp-clause-call c =
     let ensured = c.next_call-call.ensures in
     let kept = asking_keeps v r.0 r.1 ensured.asks in
     let own = rw c.in-CatchUp.is at c.requires in
-    let of_shard = subst (λ (s : ℕ). catching.Asks (record (on_its_way s v.to v.batch) { next = v.next }) r.0 r.1) own.0 ensured.asks in
-    let asks = subst (λ (n : CallName). catching.Asks (record (on_its_way c.args.shard v.to v.batch) { next = n }) r.0 r.1) (sym ensured.name) of_shard in
-    rw c.in-CatchUp.is (own.1, (r.1, asks, rw kept.1 refl))
+    let of_shard = subst (λ (s : ℕ). catching.Asks (record (on_its_way s v.to v.batch) { next = v.next; from = v.from; flushed = v.flushed }) r.0 r.1) own.0 ensured.asks in
+    let asks = subst (λ (n : CallName). catching.Asks (record (on_its_way c.args.shard v.to v.batch) { next = n; from = v.from; flushed = v.flushed }) r.0 r.1) (sym ensured.name) of_shard in
+    rw c.in-CatchUp.is (own.1, (r.1, (v.from, (v.flushed, asks)), rw kept.1 refl))
