@@ -22,7 +22,7 @@ use Rattle.calls.specs.declared.reply.Reply.TheVariants.{Coordinator as from_coo
 use Rattle.calls.specs.declared.reply.CoordinatorReply.TheVariants as told
 use Rattle.calls.specs.declared.reply.ShardReply.TheVariants as told_by
 use Rattle.catch_up.specs.CatchingUp.{Asks, AsksCoordinator, AsksShard, Gives, LearnGives}
-use Rattle.catch_up.specs.Held.{Awaited, CatchUpCallValue, CatchUpValue, decisions, flushing, learned, learning}
+use Rattle.catch_up.specs.Held.{CatchUpCallValue, CatchUpValue, decisions, flushing, learned, learning}
 use Rattle.catch_up.specs.declared.caught.Progress.{Progress}
 use Rattle.catch_up.specs.declared.caught.Progress.TheVariants.{Next, There, Refused}
 use Rattle.laws.specs.Nodes.{NodeName, Nodes, ShardKnows, coordinator, shard}
