@@ -6,7 +6,7 @@ use Rattle.calls.specs.declared.reply.Reply.TheVariants.{Coordinator as from_coo
 use Rattle.calls.specs.declared.reply.CoordinatorReply.TheVariants as told
 use Rattle.calls.specs.declared.reply.ShardReply.TheVariants as told_by
 use Rattle.catch_up.specs.CatchingUp.{Gives}
-use Rattle.catch_up.specs.Held.{Awaited, CatchUpCallValue, CatchUpValue}
+use Rattle.catch_up.specs.Held.{CatchUpCallValue}
 use Rattle.catch_up.specs.declared.caught.Progress.{Progress}
 
 pub whichever_next : (call : CatchUpCallValue) (name : CallName) (from : Option ℕ) (flushed : Bool) (reply : Reply) (progress : Progress) → Gives call reply progress
