@@ -1,5 +1,5 @@
 -- A shard that is brought up to a place, whatever flow does it: each call of that is quiet, and what the flow then holds of decisions is right.
-use Rattle.std.proofs.Common.{◌≡◌, ◌≢◌, ◌⊎◌, inl, inr, ⊎_elim, ◌≤◌, ◌<◌, ℕ, Bool, List, Some, None, Result, Ok, Err, Contains, refl, sym, ◌∙◌, ap, subst, arith}
+use Rattle.std.proofs.Common.{◌≡◌, ◌≢◌, ◌⊎◌, inl, inr, ⊎_elim, ◌≤◌, ◌<◌, ℕ, Bool, false, List, Some, None, Result, Ok, Err, Contains, refl, sym, ◌∙◌, ap, subst, arith}
 use Rattle.std.proofs.lemmas.Bool.{cases_Bool, cases_lt}
 use Rattle.std.proofs.lemmas.Option.{same_Some}
 use Rattle.refusal.specs.declared.refusal.Refusal.{Refusal}
@@ -22,7 +22,7 @@ use Rattle.calls.specs.declared.reply.Reply.TheVariants.{Coordinator as from_coo
 use Rattle.calls.specs.declared.reply.CoordinatorReply.TheVariants as told
 use Rattle.calls.specs.declared.reply.ShardReply.TheVariants as told_by
 use Rattle.catch_up.specs.CatchingUp.{Asks, AsksCoordinator, AsksShard, Gives, LearnGives}
-use Rattle.catch_up.specs.Held.{Awaited, CatchUpCallValue, CatchUpValue, decisions, flushing, learned, learning}
+use Rattle.catch_up.specs.Held.{CatchUpCallValue, CatchUpValue, decisions, flushing, learned, learning}
 use Rattle.catch_up.specs.declared.caught.Progress.{Progress}
 use Rattle.catch_up.specs.declared.caught.Progress.TheVariants.{Next, There, Refused}
 use Rattle.laws.specs.Nodes.{NodeName, Nodes, ShardKnows, coordinator, shard}
@@ -90,7 +90,7 @@ module _ {D : Type 0} (state : D → State) (honest : D → Type 0) (moment : D 
 
     by_batch : (was is : NodeView D) (from : ℕ) (x : Result BatchValue Refusal) (progress : Progress) → from < v.to → IsCalled state honest moment left_since store shards coordinator was is old new
         → Answered state honest moment left_since was (of_coordinator (coordinator_calls.Batch from v.to)) (from_coordinator (told.Batch x)) is
-        → Gives (record { held = v; awaited = decisions }) (from_coordinator (told.Batch x)) progress → Here progress
+        → Gives (record { held = record v { from = None }; awaited = decisions }) (from_coordinator (told.Batch x)) progress → Here progress
     by_batch was is from (Ok b) progress low c so gives =
         let it = batch_told state honest moment left_since counts_now only_now store shards old new now standing was is from v.to (Ok b) c so in
         let right = batch_answers store shards (stops state honest store shards old.devices) D now it.1.0 from v.to b standing.stands it.1.1 (omega (arith, low)) it.1.2 in
@@ -119,7 +119,7 @@ module _ {D : Type 0} (state : D → State) (honest : D → Type 0) (moment : D 
     by_learn : (was is : NodeView D) (b back : BatchValue) (again : Bool) (x : Result Bool Refusal) (progress : Progress) → v.batch ≡ Some b → FitsItsTypes (of_shard v.shard (shard_calls.Learn b))
         → IsCalled state honest moment left_since store shards (shard v.shard) was is old new
         → Answered state honest moment left_since was (of_shard v.shard (shard_calls.Learn b)) (from_shard (told_by.Learn back x)) is
-        → LearnGives (record v { batch = None }) (learning again) back x progress → Here progress
+        → LearnGives (record v { batch = None; flushed = false }) (learning again) back x progress → Here progress
     by_learn was is b back again (Ok all) progress has fits c so gives =
         let it = (learn_told state honest moment left_since counts_now only_now store shards old new now standing v.shard was is b back (Ok all) c so).1 in
         let quiet = learns_quietly store shards (stops state honest store shards old.devices) state honest now it.0 v.shard r standing.stands it.2 b (on.right b has) it.1 all it.3 in
@@ -172,13 +172,13 @@ module _ {D : Type 0} (state : D → State) (honest : D → Type 0) (moment : D 
 
     learn_answered : (b : BatchValue) (again : Bool) (reply : Reply) (progress : Progress) (was is : NodeView D) → v.batch ≡ Some b → FitsItsTypes (of_shard v.shard (shard_calls.Learn b))
         → IsReplyTo (of_shard v.shard (shard_calls.Learn b)) reply → IsCalled state honest moment left_since store shards (shard v.shard) was is old new
-        → Answered state honest moment left_since was (of_shard v.shard (shard_calls.Learn b)) reply is → Gives (record { held = record v { batch = None }; awaited = learning again }) reply progress → Here progress
+        → Answered state honest moment left_since was (of_shard v.shard (shard_calls.Learn b)) reply is → Gives (record { held = record v { batch = None; flushed = false }; awaited = learning again }) reply progress → Here progress
     learn_answered b again (from_shard (told_by.Learn back x)) progress was is has fits belongs c so gives = by_learn was is b back again x progress has fits c so gives
     learn_answered b again reply progress was is has fits belongs c so gives = absurd belongs
 
     batch_answered : (from : ℕ) (reply : Reply) (progress : Progress) (was is : NodeView D) → from < v.to → IsReplyTo (of_coordinator (coordinator_calls.Batch from v.to)) reply
         → IsCalled state honest moment left_since store shards coordinator was is old new
-        → Answered state honest moment left_since was (of_coordinator (coordinator_calls.Batch from v.to)) reply is → Gives (record { held = v; awaited = decisions }) reply progress → Here progress
+        → Answered state honest moment left_since was (of_coordinator (coordinator_calls.Batch from v.to)) reply is → Gives (record { held = record v { from = None }; awaited = decisions }) reply progress → Here progress
     batch_answered from (from_coordinator (told.Batch x)) progress was is low belongs c so gives = by_batch was is from x progress low c so gives
     batch_answered from reply progress was is low belongs c so gives = absurd belongs
 
@@ -192,8 +192,8 @@ module _ {D : Type 0} (state : D → State) (honest : D → Type 0) (moment : D 
     by_shard shard_calls.Learned then reply progress was is asks fits c so gives =
         learned_answered reply progress was is (belongs_here (of_shard v.shard shard_calls.Learned) reply was is c tt so) c so (subst (λ (t : CatchUpCallValue). Gives t reply progress) asks gives)
     by_shard (shard_calls.Learn b) then reply progress was is asks fits c so gives =
-        learn_answered b asks.2.0 reply progress was is asks.0 fits (belongs_here (of_shard v.shard (shard_calls.Learn b)) reply was is c tt so) c so
-        (subst (λ (a : Awaited). Gives (record { held = record v { batch = None }; awaited = a }) reply progress) asks.2.1 (subst (λ (h : CatchUpValue). Gives (record { held = h; awaited = then.awaited }) reply progress) asks.1 gives))
+        learn_answered b v.flushed reply progress was is asks.0 fits (belongs_here (of_shard v.shard (shard_calls.Learn b)) reply was is c tt so) c so
+        (subst (λ (t : CatchUpCallValue). Gives t reply progress) asks.1 gives)
     by_shard shard_calls.Flush then reply progress was is asks fits c so gives =
         flush_answered reply progress was is (belongs_here (of_shard v.shard shard_calls.Flush) reply was is c tt so) c so (subst (λ (t : CatchUpCallValue). Gives t reply progress) asks gives)
     by_shard call then reply progress was is asks fits c so gives = absurd asks
@@ -202,10 +202,10 @@ module _ {D : Type 0} (state : D → State) (honest : D → Type 0) (moment : D 
     by_coordinator : (call : CoordinatorCall) (then : CatchUpCallValue) (reply : Reply) (progress : Progress) (was is : NodeView D) → AsksCoordinator v call then
         → IsCalled state honest moment left_since store shards coordinator was is old new → Answered state honest moment left_since was (of_coordinator call) reply is → Gives then reply progress → Here progress
     by_coordinator (coordinator_calls.Batch from to) then reply progress was is asks c so gives =
-        let low = subst (λ (t : ℕ). from < t) asks.1 asks.0 in
-        let so_here = subst (λ (t : ℕ). Answered state honest moment left_since was (of_coordinator (coordinator_calls.Batch from t)) reply is) asks.1 so in
+        let low = subst (λ (t : ℕ). from < t) asks.2 asks.1 in
+        let so_here = subst (λ (t : ℕ). Answered state honest moment left_since was (of_coordinator (coordinator_calls.Batch from t)) reply is) asks.2 so in
         batch_answered from reply progress was is low (belongs_here (of_coordinator (coordinator_calls.Batch from v.to)) reply was is c (omega (arith, low)) so_here) c so_here
-        (subst (λ (t : CatchUpCallValue). Gives t reply progress) asks.2 gives)
+        (subst (λ (t : CatchUpCallValue). Gives t reply progress) asks.3 gives)
     by_coordinator call then reply progress was is asks c so gives = absurd asks
 
     -- whichever call it is
@@ -216,17 +216,21 @@ module _ {D : Type 0} (state : D → State) (honest : D → Type 0) (moment : D 
         (subst (λ (k : ℕ). FitsItsTypes (of_shard k call)) asks.0 fits) (subst (λ (k : ℕ). IsCalled state honest moment left_since store shards (shard k) was is old new) asks.0 c)
         (subst (λ (k : ℕ). Answered state honest moment left_since was (of_shard k call) reply is) asks.0 so) gives
 
--- while a call is out the shard and the place are the same
-pub same_way : (v : CatchUpValue) (call : NodeCall) (then : CatchUpCallValue) → Asks v call then → then.held ≡ record { shard = v.shard; to = v.to; batch = then.held.batch; next = then.held.next }
+-- while a call is out, with what is held then of decisions, of the call's name and of what it carries
+abbrev on_the_way : CatchUpValue → CatchUpValue → CatchUpValue
+on_the_way v out = record { shard = v.shard; to = v.to; batch = out.batch; next = out.next; from = out.from; flushed = out.flushed }
+
+-- the shard and the place are the same
+pub same_way : (v : CatchUpValue) (call : NodeCall) (then : CatchUpCallValue) → Asks v call then → then.held ≡ on_the_way v then.held
 same_way v (of_coordinator call) then asks = by_call call asks
   where
-    by_call : (c : CoordinatorCall) → AsksCoordinator v c then → then.held ≡ record { shard = v.shard; to = v.to; batch = then.held.batch; next = then.held.next }
-    by_call (coordinator_calls.Batch from to) is = let same : then.held ≡ v = ap (λ (t : CatchUpCallValue). t.held) is.2 in subst (λ (x : CatchUpValue). x ≡ record { shard = v.shard; to = v.to; batch = x.batch; next = x.next }) (sym same) refl
+    by_call : (c : CoordinatorCall) → AsksCoordinator v c then → then.held ≡ on_the_way v then.held
+    by_call (coordinator_calls.Batch from to) is = subst (λ (t : CatchUpCallValue). t.held ≡ on_the_way v t.held) (sym is.3) refl
     by_call c is = absurd is
 same_way v (of_shard s call) then asks = by_call call asks.1
   where
-    by_call : (c : ShardCall) → AsksShard v c then → then.held ≡ record { shard = v.shard; to = v.to; batch = then.held.batch; next = then.held.next }
-    by_call shard_calls.Learned is = let same : then.held ≡ v = ap (λ (t : CatchUpCallValue). t.held) is in subst (λ (x : CatchUpValue). x ≡ record { shard = v.shard; to = v.to; batch = x.batch; next = x.next }) (sym same) refl
-    by_call (shard_calls.Learn b) is = subst (λ (x : CatchUpValue). x ≡ record { shard = v.shard; to = v.to; batch = x.batch; next = x.next }) (sym is.1) refl
-    by_call shard_calls.Flush is = let same : then.held ≡ v = ap (λ (t : CatchUpCallValue). t.held) is in subst (λ (x : CatchUpValue). x ≡ record { shard = v.shard; to = v.to; batch = x.batch; next = x.next }) (sym same) refl
+    by_call : (c : ShardCall) → AsksShard v c then → then.held ≡ on_the_way v then.held
+    by_call shard_calls.Learned is = subst (λ (t : CatchUpCallValue). t.held ≡ on_the_way v t.held) (sym is) refl
+    by_call (shard_calls.Learn b) is = subst (λ (t : CatchUpCallValue). t.held ≡ on_the_way v t.held) (sym is.1) refl
+    by_call shard_calls.Flush is = subst (λ (t : CatchUpCallValue). t.held ≡ on_the_way v t.held) (sym is) refl
     by_call c is = absurd is

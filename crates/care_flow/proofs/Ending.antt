@@ -9,7 +9,6 @@ use Rattle.catch_up.specs.Held.{Awaited, learning}
 use Rattle.catch_up.specs.CatchingUp as catching
 use Rattle.catch_up.specs.declared.caught.Progress.{Progress}
 use Rattle.catch_up.specs.declared.caught.Progress.TheVariants.{Next, There, Refused as is_refused}
-use Rattle.calls.specs.declared.call_name.CallName.TheVariants as names
 use Rattle.calls.specs.declared.reply.Reply.{Reply}
 use Rattle.calls.specs.declared.reply.Reply.TheVariants.{Coordinator as from_coordinator, Shard as from_shard}
 use Rattle.calls.specs.declared.reply.CoordinatorReply.TheVariants as told
@@ -56,15 +55,15 @@ not_fetched e anew end on out goes ends = elsewhere end out (ends (λ collected.
 -- a catch-up is there only behind that answer
 pub there_so_far : (s to : ℕ) (batch : Option BatchValue) (awaited : Awaited) (reply : Reply) → catching.Fits awaited reply
     → catching.Gives (record { held = on_its_way s to batch; awaited = awaited }) reply There → AnswersSoFar to reply
-there_so_far s to batch awaited (from_coordinator (told.Batch (Ok b))) fits gives = elsewhere (Next (record { shard = s; to = to; batch = Some b; next = names.Learn })) refl gives
+there_so_far s to batch awaited (from_coordinator (told.Batch (Ok b))) fits gives = elsewhere (Next (catching.to_hand_over (Some b) false (on_its_way s to batch))) refl gives
 there_so_far s to batch awaited (from_coordinator (told.Batch (Err e))) fits gives = absurd (not_fetched e (Next (on_its_way s to None)) (is_refused e) refl refl gives.0 gives.1)
 there_so_far s to batch awaited (from_coordinator reply) fits gives = absurd gives
-there_so_far s to batch awaited (from_shard (told_by.Learned (Ok n))) fits gives = (n, refl, far_enough to n (Next (record (on_its_way s to None) { next = names.Batch })) refl gives.1 (cases_order n to))
+there_so_far s to batch awaited (from_shard (told_by.Learned (Ok n))) fits gives = (n, refl, far_enough to n (Next (catching.to_fetch n (on_its_way s to None))) refl gives.1 (cases_order n to))
 there_so_far s to batch awaited (from_shard (told_by.Learned (Err e))) fits gives = elsewhere (is_refused e) refl gives
 there_so_far s to batch awaited (from_shard (told_by.Learn b (Ok k))) fits gives = elsewhere (Next (on_its_way s to None)) refl gives
-there_so_far s to batch (learning again) (from_shard (told_by.Learn b (Err e))) fits gives = absurd (not_learned again e (Next (record (on_its_way s to (Some b)) { next = names.Flush })) (is_refused e) refl refl gives.0 gives.1)
+there_so_far s to batch (learning again) (from_shard (told_by.Learn b (Err e))) fits gives = absurd (not_learned again e (Next (catching.to_flush b (on_its_way s to batch))) (is_refused e) refl refl gives.0 gives.1)
 there_so_far s to batch awaited (from_shard (told_by.Learn b (Err e))) fits gives = absurd fits
-there_so_far s to batch awaited (from_shard (told_by.Flush (Ok done))) fits gives = elsewhere (Next (record (on_its_way s to batch) { next = names.Learn })) refl gives
+there_so_far s to batch awaited (from_shard (told_by.Flush (Ok done))) fits gives = elsewhere (Next (catching.to_hand_over batch true (on_its_way s to batch))) refl gives
 there_so_far s to batch awaited (from_shard (told_by.Flush (Err e))) fits gives = elsewhere (is_refused e) refl gives
 there_so_far s to batch awaited (from_shard reply) fits gives = absurd gives
 

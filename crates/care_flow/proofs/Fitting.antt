@@ -78,7 +78,7 @@ learn_caught : (s : ℕ) (h : HeadsHeld) (heads : Option HeadsValue) (call : Nod
     → IsReplyTo call reply → MatchOption after.awaited ⊥ (λ step. learning.Fits step reply)
 learn_caught s h None call after reply a b = absurd a
 learn_caught s h (Some x) call after reply a b =
-    waits learning.Fits after (record h { batch = a.0.held.batch }) (learning.catch_up (Some a.0.awaited)) reply a.2 (caught.fits (record (on_its_way s x.kept h.batch) { next = name_of call }) call reply a.0 a.1 b)
+    waits learning.Fits after (record h { batch = a.0.held.batch }) (learning.catch_up (Some a.0.awaited)) reply a.2 (caught.fits (record (on_its_way s x.kept h.batch) { next = name_of call; from = a.1.0; flushed = a.1.1 }) call reply a.0 a.1.2 b)
 
 learn_fits : (s : ℕ) (h : HeadsHeld) (step : learning.LearnStep) (call : NodeCall) (after : learning.LearnView) (reply : Reply)
     → learning.Asks s h step call after → IsReplyTo call reply → MatchOption after.awaited ⊥ (λ step. learning.Fits step reply)
@@ -102,7 +102,7 @@ resolve_fits : (s : ℕ) (h : ResolveHolds) (step : resolving.ResolveStep) (call
 resolve_fits s h resolving.in_doubt call after reply a b = waits resolving.Fits after h resolving.in_doubt reply a.1 (in_doubt_fits s reply (to_call call _ reply a.0 b))
 resolve_fits s h (resolving.inquire id) call after reply a b = waits resolving.Fits after h (resolving.inquire id) reply a.1 (inquire_fits id reply (to_call call _ reply a.0 b))
 resolve_fits s h (resolving.catch_up to is_out) call after reply a b =
-    waits resolving.Fits after (record h { batch = a.1.0.held.batch }) (resolving.catch_up to (Some a.1.0.awaited)) reply a.1.2 (caught.fits (record (on_its_way s to h.batch) { next = name_of call }) call reply a.1.0 a.1.1 b)
+    waits resolving.Fits after (record h { batch = a.1.0.held.batch }) (resolving.catch_up to (Some a.1.0.awaited)) reply a.1.2 (caught.fits (record (on_its_way s to h.batch) { next = name_of call; from = a.1.1.0; flushed = a.1.1.1 }) call reply a.1.0 a.1.1.2 b)
 resolve_fits s h resolving.drop_write call after reply a b =
     waits resolving.Fits after (record h { verdict = None }) resolving.drop_write reply a.3 (drop_fits s a.0 reply (to_call call _ reply a.2 b))
 
@@ -164,7 +164,7 @@ module _ (n place : ℕ) where
       → IsReplyTo call reply → MatchOption after.awaited ⊥ (λ step. raising.Fits n place step reply)
   raise_caught s h None call after reply a b = absurd a
   raise_caught s h (Some x) call after reply a b =
-      waits (raising.Fits n place) after (record h { batch = a.0.held.batch }) (raising.catch_up s (Some a.0.awaited)) reply a.2 (caught.fits (record (on_its_way s x.kept h.batch) { next = name_of call }) call reply a.0 a.1 b)
+      waits (raising.Fits n place) after (record h { batch = a.0.held.batch }) (raising.catch_up s (Some a.0.awaited)) reply a.2 (caught.fits (record (on_its_way s x.kept h.batch) { next = name_of call; from = a.1.0; flushed = a.1.1 }) call reply a.0 a.1.2 b)
 
   raise_fits : (h : RaiseHolds) (step : raising.RaiseStep) (call : NodeCall) (after : raising.RaiseView) (reply : Reply)
       → raising.Asks n place h step call after → IsReplyTo call reply → MatchOption after.awaited ⊥ (λ step. raising.Fits n place step reply)

@@ -1,5 +1,5 @@
 // What the shards have settled.
-ghost use Rattle.std.specs.Prelude.{◌≡◌, ◌≤◌, ◌<◌, ◌+◌, ◌++◌, ◌∷◌, ◌↔◌, [], None, IfOk, IsTrue};
+ghost use Rattle.std.specs.Prelude.{◌≡◌, ◌≤◌, ◌<◌, ◌+◌, ◌++◌, ◌∷◌, ◌↔◌, [], None, false, IfOk, IsTrue};
 ghost use Rattle.decisions.specs.Coordinators.{HaveSettled};
 ghost use Rattle.calls.specs.declared.call_name.CallName.TheVariants.{Learned};
 
@@ -87,7 +87,7 @@ impl Gathering {
 
     /// That shard on its way to the kept place.
     pub(crate) fn catch_up(&self) -> CatchUp
-        ensures { result ≡ record { shard = self.now.next; to = self.now.heads.kept; batch = None; next = Learned } }
+        ensures { result ≡ record { shard = self.now.next; to = self.now.heads.kept; batch = None; next = Learned; from = None; flushed = false } }
     {
         CatchUp::new(self.next, self.heads.kept())
     }

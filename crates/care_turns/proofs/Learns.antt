@@ -1,5 +1,5 @@
 -- A shard's learning takes its turn.
-use Rattle.std.proofs.Common.{◌≡◌, ◌≤◌, ◌<◌, ℕ, List, [], ◌∷◌, Option, Some, None, Result, Ok, Err, MatchOption, refl, sym, ◌∙◌, ap, subst}
+use Rattle.std.proofs.Common.{◌≡◌, ◌≤◌, ◌<◌, ℕ, Bool, List, [], ◌∷◌, Option, Some, None, Result, Ok, Err, MatchOption, refl, sym, ◌∙◌, ap, subst}
 use Rattle.std.proofs.lemmas.Option.{same_Some}
 use Rattle.refusal.specs.declared.refusal.Refusal.{Refusal}
 use Rattle.device.specs.Device.{State, left}
@@ -86,11 +86,11 @@ module _ {D : Type 0} (state : D → State) (honest : D → Type 0) (moment : D 
 
     -- it brings the shard to their kept place
     module _ (heads : HeadsValue) (has : h.heads ≡ Some heads) where
-      abbrev way : CallName → CatchUpValue
-      way name = record (on_its_way s heads.kept h.batch) { next = name }
+      abbrev way : CallName → Option ℕ → Bool → CatchUpValue
+      way name from flushed = record (on_its_way s heads.kept h.batch) { next = name; from = from; flushed = flushed }
 
-      on : (name : CallName) (now : Moment) (standing : StandsOver state honest store shards old now) (r : Running) → Is now r → IsCatchingUp state honest moment left_since counts_now only_now store shards old new now standing r (way name)
-      on name now standing r flow =
+      on : (name : CallName) (from : Option ℕ) (flushed : Bool) (now : Moment) (standing : StandsOver state honest store shards old now) (r : Running) → Is now r → IsCatchingUp state honest moment left_since counts_now only_now store shards old new now standing r (way name from flushed)
+      on name from flushed now standing r flow =
           let k = held now standing r flow in record {
             runs = flow.runs;
             calls_coordinator = subst (λ (a : Asked). Calls shards a coordinator) (sym flow.asked_is) calls_coordinator;
@@ -119,12 +119,12 @@ module _ {D : Type 0} (state : D → State) (honest : D → Type 0) (moment : D 
         → MatchOption mid.awaited ⊥ (λ step. Gives s mid.holds step reply after) → FitsItsTypes call → IsCalled state honest moment left_since store shards (called call) was is old new
         → Answered state honest moment left_since was call reply is → Leads after
     by_way None has call mid reply after was is asks gives fits c so = absurd asks
-    by_way (Some heads) has call mid reply after was is (then, asks, mid_is) gives fits c so =
+    by_way (Some heads) has call mid reply after was is (then, (from, flushed, asks), mid_is) gives fits c so =
         let given = subst (λ (m : LearnView). MatchOption m.awaited ⊥ (λ step. Gives s m.holds step reply after)) mid_is gives in
         let it = subst (λ (o : Option HeadsValue). MatchOption o ⊥ (λ heads. CatchUpGives (on_its_way s heads.kept then.held.batch) then.awaited reply (λ progress. ProgressGives (record h { batch = then.held.batch }) progress after))) has given in
-        let same : then ≡ record { held = record (on_its_way s heads.kept then.held.batch) { next = then.held.next }; awaited = then.awaited } = ap (λ (x : CatchUpValue). record { held = x; awaited = then.awaited }) (same_way (way heads has (name_of call)) call then asks) in
-        by_progress heads has it.0 then.held.batch after (λ now standing r flow. caught_up state honest moment left_since counts_now only_now store shards old new now standing r (way heads has (name_of call)) (on heads has (name_of call) now standing r flow) call then reply it.0 was is asks fits c so
-        (subst (λ (t : CatchUpCallValue). catching.Gives t reply it.0) (sym same) (whichever_next (record { held = on_its_way s heads.kept then.held.batch; awaited = then.awaited }) then.held.next reply it.0 it.1))) it.2
+        let same : then ≡ record { held = record (on_its_way s heads.kept then.held.batch) { next = then.held.next; from = then.held.from; flushed = then.held.flushed }; awaited = then.awaited } = ap (λ (x : CatchUpValue). record { held = x; awaited = then.awaited }) (same_way (way heads has (name_of call) from flushed) call then asks) in
+        by_progress heads has it.0 then.held.batch after (λ now standing r flow. caught_up state honest moment left_since counts_now only_now store shards old new now standing r (way heads has (name_of call) from flushed) (on heads has (name_of call) from flushed now standing r flow) call then reply it.0 was is asks fits c so
+        (subst (λ (t : CatchUpCallValue). catching.Gives t reply it.0) (sym same) (whichever_next (record { held = on_its_way s heads.kept then.held.batch; awaited = then.awaited }) then.held.next then.held.from then.held.flushed reply it.0 it.1))) it.2
 
     -- whichever call it makes
     by_step : (step : LearnStep) (call : NodeCall) (mid : LearnView) (reply : Reply) (after : LearnView) (was is : NodeView D) → Asks s h step call mid

@@ -1,5 +1,5 @@
 -- A resolution of the writes in doubt at a shard takes its turn.
-use Rattle.std.proofs.Common.{◌≡◌, ◌≢◌, ⊎_elim, inl, inr, ◌≤◌, ◌<◌, ◌++◌, ℕ, List, [], ◌∷◌, map, length, slice_get, Option, Some, None, Result, Ok, Err, MatchOption, Contains, All, refl, sym, ◌∙◌, ap, subst}
+use Rattle.std.proofs.Common.{◌≡◌, ◌≢◌, ⊎_elim, inl, inr, ◌≤◌, ◌<◌, ◌++◌, ℕ, Bool, List, [], ◌∷◌, map, length, slice_get, Option, Some, None, Result, Ok, Err, MatchOption, Contains, All, refl, sym, ◌∙◌, ap, subst}
 use Rattle.std.proofs.lemmas.List.Elements.{All-contains, All-push}
 use Rattle.std.proofs.lemmas.Option.{same_Some}
 use Rattle.std.specs.Global.{Vec}
@@ -166,11 +166,11 @@ module _ {D : Type 0} (state : D → State) (honest : D → Type 0) (moment : D 
 
     -- it brings the shard to the place of a write that was decided
     module _ (to : ℕ) (decided : HasCommitted h.found to) where
-      abbrev way : CallName → CatchUpValue
-      way name = record (on_its_way s to h.batch) { next = name }
+      abbrev way : CallName → Option ℕ → Bool → CatchUpValue
+      way name from flushed = record (on_its_way s to h.batch) { next = name; from = from; flushed = flushed }
 
-      on : (name : CallName) (now : Moment) (standing : StandsOver state honest store shards old now) (r : Running) → Is now r → IsCatchingUp state honest moment left_since counts_now only_now store shards old new now standing r (way name)
-      on name now standing r flow =
+      on : (name : CallName) (from : Option ℕ) (flushed : Bool) (now : Moment) (standing : StandsOver state honest store shards old now) (r : Running) → Is now r → IsCatchingUp state honest moment left_since counts_now only_now store shards old new now standing r (way name from flushed)
+      on name from flushed now standing r flow =
           let k = held now standing r flow in
           let is_so : IsResolved now.machine (committed decided.0 to) = All-contains (IsRightResolved shards (stops state honest store shards old.devices) now) h.found (committed decided.0 to) k.found decided.1 in
           record {
@@ -225,11 +225,11 @@ module _ {D : Type 0} (state : D → State) (honest : D → Type 0) (moment : D 
       by_step : (step : ResolveStep) → Asks s h step call mid → Leads after_it
       by_step in_doubt asks = doubts_replied doubts ids was is reply after_it (c_as _ asks.0) (so_as _ asks.0) (gives_as _ asks.1)
       by_step (inquire id) asks = inquiry_replied doubts ids id was is reply after_it (c_as _ asks.0) (so_as _ asks.0) (gives_as _ asks.1)
-      by_step (catch_up to is_out) (decided, (then, asks, mid_is)) =
+      by_step (catch_up to is_out) (decided, (then, (from, flushed, asks), mid_is)) =
           let it = (gives_as _ mid_is).1 in
-          let same : then ≡ record { held = record (on_its_way s to then.held.batch) { next = then.held.next }; awaited = then.awaited } = ap (λ (x : CatchUpValue). record { held = x; awaited = then.awaited }) (same_way (way to decided (name_of call)) call then asks) in
-          by_progress to decided doubts it.0 then.held.batch after_it (λ now standing r flow. caught_up state honest moment left_since counts_now only_now store shards old new now standing r (way to decided (name_of call)) (on to decided (name_of call) now standing r flow) call then reply it.0 was is asks fits c so
-          (subst (λ (t : CatchUpCallValue). catching.Gives t reply it.0) (sym same) (whichever_next (record { held = on_its_way s to then.held.batch; awaited = then.awaited }) then.held.next reply it.0 it.1))) it.2
+          let same : then ≡ record { held = record (on_its_way s to then.held.batch) { next = then.held.next; from = then.held.from; flushed = then.held.flushed }; awaited = then.awaited } = ap (λ (x : CatchUpValue). record { held = x; awaited = then.awaited }) (same_way (way to decided (name_of call) from flushed) call then asks) in
+          by_progress to decided doubts it.0 then.held.batch after_it (λ now standing r flow. caught_up state honest moment left_since counts_now only_now store shards old new now standing r (way to decided (name_of call) from flushed) (on to decided (name_of call) from flushed now standing r flow) call then reply it.0 was is asks fits c so
+          (subst (λ (t : CatchUpCallValue). catching.Gives t reply it.0) (sym same) (whichever_next (record { held = on_its_way s to then.held.batch; awaited = then.awaited }) then.held.next then.held.from then.held.flushed reply it.0 it.1))) it.2
       by_step drop_write (verdict, has, call_is, mid_is) = drop_replied doubts ids verdict has was is reply after_it (c_as _ call_is) (so_as _ call_is) (gives_as _ mid_is)
 
       by_next : (next : Option ResolveStep) (A : Type 0) → MatchOption next ((Some call ≡ None) × A) (λ step. Asks s h step call mid) → Leads after_it

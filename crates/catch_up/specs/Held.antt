@@ -3,12 +3,15 @@ use Rattle.std.specs.Prelude.{ℕ, Bool, Option}
 use Rattle.decisions.specs.Values.{BatchValue}
 use Rattle.calls.specs.declared.call_name.CallName.{CallName}
 
--- between two calls: the shard, the place to which it is brought, the decisions on their way to it, and the name of the call that comes next
+-- between two calls: the shard, the place to which it is brought, the decisions on their way to it, and the name of the call that comes next; where
+-- that one fetches decisions, the place behind which; and whether the shard was flushed for those that it is handed next
 pub record CatchUpValue : Type 0 where
   pub shard : ℕ
   pub to : ℕ
   pub batch : Option BatchValue
   pub next : CallName
+  pub from : Option ℕ
+  pub flushed : Bool
 
 -- The call that is out: how far has the shard learned; the decisions behind a place; that the shard learn, for the first time or again behind a flush;
 -- that flush.

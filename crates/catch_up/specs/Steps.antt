@@ -1,5 +1,5 @@
 -- What is seen of the steps.
-use Rattle.std.specs.Prelude.{◌<◌, ℕ, Option, Some, None}
+use Rattle.std.specs.Prelude.{◌<◌, ℕ, Bool, false, Option, Some, None}
 use Rattle.decisions.specs.Values.{BatchValue}
 use Rattle.calls.specs.declared.call_name.CallName.{CallName}
 use Rattle.calls.specs.declared.call_name.CallName.TheVariants as names
@@ -22,6 +22,20 @@ name_of Learned = names.Learned
 name_of (Batch from) = names.Batch
 name_of (Learn batch again) = names.Learn
 name_of (Flush batch) = names.Flush
+
+-- the place behind which decisions are fetched
+abbrev pub from_of : Step → Option ℕ
+from_of Learned = None
+from_of (Batch from) = Some from
+from_of (Learn batch again) = None
+from_of (Flush batch) = None
+
+-- whether the shard was flushed for what it is handed
+abbrev pub flushed_of : Step → Bool
+flushed_of Learned = false
+flushed_of (Batch from) = false
+flushed_of (Learn batch again) = again
+flushed_of (Flush batch) = false
 
 -- decisions are fetched from below the place
 abbrev pub IsBelow : ℕ → Step → Type 0

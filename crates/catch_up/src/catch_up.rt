@@ -1,5 +1,5 @@
 // A shard on its way to a place, between two calls.
-ghost use Rattle.std.specs.Prelude.{◌≡◌, None};
+ghost use Rattle.std.specs.Prelude.{◌≡◌, None, false};
 ghost use Rattle.calls.specs.Asking.{MayBeMade};
 ghost use Rattle.calls.specs.Names.{name_of as name_of_call};
 ghost use Rattle.calls.specs.declared.call_name.CallName.TheVariants as names;
@@ -36,9 +36,9 @@ impl Model for CatchUp {
 
     ghost Value = { CatchUpValue };
 
-    ghost use Rattle.catch_up.specs.Steps.{batch_of, IsBelow, name_of};
+    ghost use Rattle.catch_up.specs.Steps.{batch_of, flushed_of, from_of, IsBelow, name_of};
 
-    ghost view = { λ c. record { shard = c.shard; to = c.to; batch = batch_of c.step; next = name_of c.step } };
+    ghost view = { λ c. record { shard = c.shard; to = c.to; batch = batch_of c.step; next = name_of c.step; from = from_of c.step; flushed = flushed_of c.step } };
 
     ghost invariant = { λ c. IsBelow c.to c.step };
 }
@@ -46,7 +46,7 @@ impl Model for CatchUp {
 impl CatchUp {
     /// Of this shard, up to this place.
     pub fn new(shard: u8, to: u64) -> CatchUp
-        ensures { result ≡ record { shard = shard; to = to; batch = None; next = names.Learned } }
+        ensures { result ≡ record { shard = shard; to = to; batch = None; next = names.Learned; from = None; flushed = false } }
     {
         CatchUp {
             shard,
@@ -67,7 +67,7 @@ impl CatchUp {
         }
     }
 
-    /// Its next call.
+    /// Its next call. It asks for decisions from the place on that the shard told, and tells a learning behind a flush from the first one.
     pub fn next_call(self) -> (NodeCall, CatchUpCall)
         ensures asks { Asks self result.0 result.1 }
         ensures name { name_of_call result.0 ≡ self.next }
@@ -96,7 +96,7 @@ impl CatchUp {
 
 // A call of it is out.
 fn awaiting(shard: u8, to: u64, asked: Asked) -> CatchUpCall
-    ensures { result ≡ record { held = record { shard = shard; to = to; batch = held_by asked; next = name_out asked }; awaited = awaited_by asked } }
+    ensures { result ≡ record { held = record { shard = shard; to = to; batch = held_by asked; next = name_out asked; from = None; flushed = false }; awaited = awaited_by asked } }
 {
     CatchUpCall { shard, to, asked }
 }

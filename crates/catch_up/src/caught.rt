@@ -1,9 +1,9 @@
 // A shard on its way to a place, while a call is out.
-ghost use Rattle.std.specs.Prelude.{◌≡◌, Some, None};
+ghost use Rattle.std.specs.Prelude.{◌≡◌, Some, None, false};
 ghost use Rattle.calls.specs.declared.call_name.CallName.TheVariants as names;
 ghost use Rattle.catch_up.specs.CatchingUp.{BatchGives, Fits, FlushGives, Gives, LearnGives, LearnedGives};
 ghost use Rattle.catch_up.specs.Held.{learning};
-ghost use Rattle.catch_up.specs.Steps.{IsBelow, batch_of, name_of};
+ghost use Rattle.catch_up.specs.Steps.{IsBelow, batch_of, flushed_of, from_of, name_of};
 
 use crate::CatchUp;
 use crate::catch_up::Step;
@@ -32,13 +32,14 @@ pub struct CatchUpCall {
 }
 
 impl Model for CatchUpCall {
+    ghost use Rattle.std.specs.Prelude.{None, false};
     ghost use Rattle.catch_up.specs.Held.{CatchUpCallValue};
 
     ghost Value = { CatchUpCallValue };
 
     ghost use Rattle.catch_up.specs.Steps.{awaited_by, held_by, name_out};
 
-    ghost view = { λ c. record { held = record { shard = c.shard; to = c.to; batch = held_by c.asked; next = name_out c.asked }; awaited = awaited_by c.asked } };
+    ghost view = { λ c. record { held = record { shard = c.shard; to = c.to; batch = held_by c.asked; next = name_out c.asked; from = None; flushed = false }; awaited = awaited_by c.asked } };
 }
 
 /// What a reply made of it.
@@ -55,13 +56,13 @@ pub enum Progress {
 // The next turn of it.
 fn next(shard: u8, to: u64, step: Step) -> Progress
     requires { IsBelow to step }
-    ensures { result ≡ Progress.Next (record { shard = shard; to = to; batch = batch_of step; next = name_of step }) }
+    ensures { result ≡ Progress.Next (record { shard = shard; to = to; batch = batch_of step; next = name_of step; from = from_of step; flushed = flushed_of step }) }
 {
     Progress::Next(CatchUp { shard, to, step })
 }
 
 fn learned(shard: u8, to: u64, answer: Result<u64, Refusal>) -> Progress
-    ensures { LearnedGives (record { shard = shard; to = to; batch = None; next = names.Learned }) answer result }
+    ensures { LearnedGives (record { shard = shard; to = to; batch = None; next = names.Learned; from = None; flushed = false }) answer result }
 {
     match answer {
         Ok(place) => {
@@ -75,7 +76,7 @@ fn learned(shard: u8, to: u64, answer: Result<u64, Refusal>) -> Progress
 }
 
 fn fetched(shard: u8, to: u64, answer: Result<Batch, Refusal>) -> Progress
-    ensures { BatchGives (record { shard = shard; to = to; batch = None; next = names.Batch }) answer result }
+    ensures { BatchGives (record { shard = shard; to = to; batch = None; next = names.Batch; from = None; flushed = false }) answer result }
 {
     match answer {
         Ok(batch) => next(shard, to, Step::Learn(batch, false)),
@@ -92,7 +93,7 @@ fn handed_over(
     batch: Batch,
     answer: Result<bool, Refusal>,
 ) -> Progress
-    ensures { LearnGives (record { shard = shard; to = to; batch = None; next = names.Learn }) (learning is_again) batch answer result }
+    ensures { LearnGives (record { shard = shard; to = to; batch = None; next = names.Learn; from = None; flushed = false }) (learning is_again) batch answer result }
 {
     match answer {
         Ok(_) => next(shard, to, Step::Learned),
@@ -106,7 +107,7 @@ fn handed_over(
 }
 
 fn flushed(shard: u8, to: u64, batch: Batch, answer: Result<(), Refusal>) -> Progress
-    ensures { FlushGives (record { shard = shard; to = to; batch = Some batch; next = names.Flush }) answer result }
+    ensures { FlushGives (record { shard = shard; to = to; batch = Some batch; next = names.Flush; from = None; flushed = false }) answer result }
 {
     match answer {
         Ok(()) => next(shard, to, Step::Learn(batch, true)),

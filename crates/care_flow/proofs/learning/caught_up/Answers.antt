@@ -1,5 +1,5 @@
 -- The refusal is that of the catch-up, whichever of its calls was out.
-use Rattle.std.proofs.Common.{ap}
+use Rattle.std.proofs.Common.{ap, None, false}
 use Rattle.calls.specs.declared.call_name.CallName.TheVariants.{Learned}
 use Rattle.catch_up.specs.declared.caught.Progress.TheVariants.{Refused}
 use Rattle.care_flow.specs.LearnPhases.{view_of}
@@ -9,5 +9,5 @@ use Rattle.care_flow.proofs.learning.caught_up.Goals as goal
 pub returns-in-Refused-clause-gives : goal.returns-in-Refused-clause-gives
 returns-in-Refused-clause-gives c =
     let refused = Refused c.in-Refused.refusal in
-    let gives = whichever_next c.args.call Learned c.args.reply refused (rw c.in-Refused.is at c.give.ensures) in
+    let gives = whichever_next c.args.call Learned None false c.args.reply refused (rw c.in-Refused.is at c.give.ensures) in
     (refused, rw c.requires.to at gives, ap view_of c.refused.ensures)

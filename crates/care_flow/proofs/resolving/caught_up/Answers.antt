@@ -1,5 +1,5 @@
 -- The catch-up stays of its shard, up to its place.
-use Rattle.std.proofs.Common.{◌≡◌, arith, refl}
+use Rattle.std.proofs.Common.{◌≡◌, None, false, arith, refl}
 use Rattle.std.proofs.lemmas.Grind.{common_steps}
 use Rattle.calls.specs.declared.call_name.CallName.TheVariants.{Learned}
 use Rattle.catch_up.specs.declared.caught.Progress.TheVariants.{Refused}
@@ -16,5 +16,5 @@ returns-in-Next-clause-kept c =
 pub returns-in-Refused-clause-gives : goal.returns-in-Refused-clause-gives
 returns-in-Refused-clause-gives c =
     let refused = Refused c.in-Refused.refusal in
-    let gives = whichever_next c.args.call Learned c.args.reply refused (rw c.in-Refused.is at c.give.ensures) in
+    let gives = whichever_next c.args.call Learned None false c.args.reply refused (rw c.in-Refused.is at c.give.ensures) in
     (refl, (refused, rw c.requires.shard at gives, refl))
