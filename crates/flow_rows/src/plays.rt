@@ -204,6 +204,19 @@ impl<D: Device> Playing<D> {
         Ok(self.store.refuse(n, refusal)?)
     }
 
+    // Spends the flows, and keeps what they did.
+    fn leave(self) -> String {
+        let Playing {
+            store: _,
+            writes,
+            questions: _,
+            told: _,
+            log,
+        } = self;
+        leave_writes(writes);
+        log
+    }
+
     fn steps(&mut self, alloc: Global, row: &str) -> Result<(), Refusal> {
         for line in row.split('\n') {
             self.step(alloc, line)?;
@@ -218,23 +231,14 @@ pub(crate) fn play<D: Device>(
     devices: Vec<D>,
     row: &str,
 ) -> Result<String, Refusal> {
-    let store = Store::open(alloc, devices)?;
     let mut playing = Playing {
-        store,
+        store: Store::open(alloc, devices),
         writes: Vec::new(alloc),
         questions: Vec::new(alloc),
         told: Told::new(),
         log: String::new(alloc),
     };
     let done = playing.steps(alloc, row);
-    let Playing {
-        store: _,
-        writes,
-        questions: _,
-        told: _,
-        log,
-    } = playing;
-    leave_writes(writes);
-    done?;
-    Ok(log)
+    let log = playing.leave();
+    done.map(|()| log)
 }

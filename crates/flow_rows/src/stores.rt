@@ -42,11 +42,11 @@ pub(crate) fn new_disks(alloc: Global, count: usize) -> Result<Vec<SimDisk>, Ref
     Ok(disks)
 }
 
-/// The devices of one node.
-pub(crate) fn two_of<D: Device>(devices: &mut Vec<D>) -> Result<(D, D), Refusal> {
+// The devices of one node.
+fn two_of<D: Device>(devices: &mut Vec<D>) -> Option<(D, D)> {
     match (devices.pop(), devices.pop()) {
-        (Some(a), Some(b)) => Ok((a, b)),
-        _ => Err(Refusal::Full),
+        (Some(a), Some(b)) => Some((a, b)),
+        _ => None,
     }
 }
 
@@ -62,6 +62,18 @@ pub(crate) fn open_shard<D: Device>(alloc: Global, a: D, b: D, shards: u8, shard
     requires { (shard < shards) × (shards ≤ max_shards) }
 {
     Node::open_shard(alloc, a, b, Identity::shard(STORE, shards, shard))
+}
+
+fn next_coordinator<D: Device>(alloc: Global, devices: &mut Vec<D>) -> Option<Node<D>> {
+    let (a, b) = two_of(devices)?;
+    Some(open_coordinator(alloc, a, b, SHARDS))
+}
+
+fn next_shard<D: Device>(alloc: Global, devices: &mut Vec<D>, shard: u8) -> Option<Node<D>>
+    requires { shard < 2 }
+{
+    let (a, b) = two_of(devices)?;
+    Some(open_shard(alloc, a, b, SHARDS, shard))
 }
 
 // What its devices are found with.
@@ -94,21 +106,15 @@ pub(crate) fn ask_at<D: Device>(
 }
 
 impl<D: Device> Store<D> {
-    /// Over these devices, two for each node.
-    pub(crate) fn open(alloc: Global, mut devices: Vec<D>) -> Result<Store<D>, Refusal> {
-        let (a, b) = two_of(&mut devices)?;
-        let coordinator = open_coordinator(alloc, a, b, SHARDS);
-        let (a, b) = two_of(&mut devices)?;
-        let first = open_shard(alloc, a, b, SHARDS, 0);
-        let (a, b) = two_of(&mut devices)?;
-        let second = open_shard(alloc, a, b, SHARDS, 1);
-        Ok(Store {
+    /// Over these devices, two for each node; a node without two is not there.
+    pub(crate) fn open(alloc: Global, mut devices: Vec<D>) -> Store<D> {
+        Store {
             alloc,
-            coordinator: Some(coordinator),
-            first: Some(first),
-            second: Some(second),
+            coordinator: next_coordinator(alloc, &mut devices),
+            first: next_shard(alloc, &mut devices, 0),
+            second: next_shard(alloc, &mut devices, 1),
             refusing: Refusing::new(alloc),
-        })
+        }
     }
 
     /// Makes the call at the node that it names, unless it is one that is not made.
