@@ -4,7 +4,7 @@ use std::env;
 use std::time::Instant;
 
 const USERS: u64 = 10;
-const READS: u64 = 100;
+const READS: u64 = 10_000;
 const CROWD: u64 = 10_000;
 
 #[derive(Clone, PartialEq, Eq, PartialOrd, Ord)]
@@ -185,6 +185,16 @@ fn print(name: &str, amount: u64, start: Instant, answer: usize) {
     eprintln!("{name} {amount} {} {answer}", start.elapsed().as_nanos());
 }
 
+// One read stands before the clock, as in the proved program.
+fn print_reads(name: &str, read: impl Fn() -> usize) {
+    let mut found = read();
+    let start = Instant::now();
+    for _ in 0..READS {
+        found = read();
+    }
+    print(name, READS, start, found);
+}
+
 fn measure(rows: u64) {
     let changes: Vec<Tuple> = (0..rows).map(|row| viewer(row / USERS, row % USERS)).collect();
     let mut versions = Versions::default();
@@ -194,17 +204,8 @@ fn measure(rows: u64) {
     }
     print("apply", rows, start, changes.len());
     let key = viewer(5, 3);
-    let mut found = 0;
-    let start = Instant::now();
-    for _ in 0..READS {
-        found = read_key(&versions, rows, &key);
-    }
-    print("key", READS, start, found);
-    let start = Instant::now();
-    for _ in 0..READS {
-        found = read_object(&versions, rows, &key.object, None);
-    }
-    print("object", READS, start, found);
+    print_reads("key", || read_key(&versions, rows, &key));
+    print_reads("object", || read_object(&versions, rows, &key.object, None));
     let crowd = (0..CROWD).map(|user| tuple("crowd".into(), "viewer", format!("u{user}")));
     let editors = (0..USERS).map(|user| tuple("crowd".into(), "editor", format!("u{user}")));
     let mine = (0..USERS).map(|object| tuple(format!("m{object}"), "viewer", "me".into()));
@@ -212,17 +213,9 @@ fn measure(rows: u64) {
         apply(&mut versions, rows + i as u64 + 1, &change);
     }
     let edited = tuple("crowd".into(), "editor", "me".into()).object;
-    let start = Instant::now();
-    for _ in 0..READS {
-        found = read_object(&versions, u64::MAX, &edited, Some(b"editor"));
-    }
-    print("crowded", READS, start, found);
+    print_reads("crowded", || read_object(&versions, u64::MAX, &edited, Some(b"editor")));
     let me = User::Id(b"me".to_vec());
-    let start = Instant::now();
-    for _ in 0..READS {
-        found = read_user(&versions, u64::MAX, b"doc", &me);
-    }
-    print("user", READS, start, found);
+    print_reads("user", || read_user(&versions, u64::MAX, b"doc", &me));
     let start = Instant::now();
     let last = newest(&versions, &changes);
     print("last", rows, start, last as usize);

@@ -144,10 +144,6 @@ impl CheckFlow {
     pub fn finish(self) -> Option<CheckEnd>
         ensures { option_map ending_of result ≡ self.seen.ended }
     {
-        let CheckFlow { asked: _, phase } = self;
-        match phase {
-            Phase::Ended(end) => Some(end),
-            Phase::Ready(_) | Phase::Out(_) => None,
-        }
+        self.phase.into_end()
     }
 }

@@ -1,7 +1,7 @@
 // Where a check is between two of its calls, and while one is out.
-ghost use Rattle.std.specs.Prelude.{◌≡◌, ◌≤◌};
+ghost use Rattle.std.specs.Prelude.{◌≡◌, ◌≤◌, option_map};
 ghost use Rattle.records.specs.Identity.{max_shards};
-ghost use Rattle.answer_flow.specs.CheckViews.{name_ready};
+ghost use Rattle.answer_flow.specs.CheckViews.{ending_of, name_ready, view_of};
 
 use crate::freshness::Freshness;
 use crate::walk::Walk;
@@ -63,4 +63,19 @@ pub(crate) enum Phase {
     Ready(Ready),
     Out(Out),
     Ended(CheckEnd),
+}
+
+impl Phase {
+    /// How it ended, where it has.
+    pub(crate) fn into_end(self) -> Option<CheckEnd>
+        ensures { option_map ending_of result ≡ (view_of self).ended }
+    {
+        match self {
+            Phase::Ended(end) => Some(end),
+            other => {
+                drop(other);
+                None
+            }
+        }
+    }
 }

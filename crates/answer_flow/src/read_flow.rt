@@ -133,10 +133,6 @@ impl ReadFlow {
     pub fn finish(self) -> Option<ReadEnd>
         ensures { option_map ending_of result ≡ self.seen.ended }
     {
-        let ReadFlow { asked: _, phase } = self;
-        match phase {
-            Phase::Ended(end) => Some(end),
-            Phase::Ready(_) | Phase::Out(_) => None,
-        }
+        self.phase.into_end()
     }
 }

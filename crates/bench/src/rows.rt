@@ -13,7 +13,7 @@ use versions::Versions;
 const USERS: u32 = 10;
 
 // How often each read is done.
-const READS: u64 = 100;
+const READS: u64 = 10_000;
 
 // How many users the crowd has.
 const CROWD: u32 = 10_000;
@@ -145,7 +145,8 @@ fn read_set(
     name: &str,
     set: &Tupleset,
 ) -> anyhow::Result<()> {
-    let mut tuples = 0;
+    // One read stands before the clock: what was freed before it is joined by the C library at the first larger piece of memory.
+    let mut tuples = found(alloc, versions, place, set)?;
     let start = Instant::now(rt)?;
     for _ in 0..READS {
         tuples = found(alloc, versions, place, set)?;

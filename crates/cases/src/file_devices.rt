@@ -2,6 +2,7 @@
 use device::{Device, SimDisk, Stopped};
 use files::{Broken, FileDevice, RawFile, open};
 use refusal::Refusal;
+use std::alloc::{AllocError, Global};
 use std::fs;
 use std::test::Fail;
 
@@ -128,39 +129,59 @@ fn are_alike<A: Device, B: Device>(a: &mut A, b: &mut B) -> Result<bool, Stopped
     Ok(true)
 }
 
+// The device is taken, so that who asks has nothing to let go on a way out.
+fn reads_as_a_disk<D: Device>(alloc: Global, mut device: D) -> Result<bool, Fail> {
+    let mut disk = SimDisk::new(alloc, Vec::new(alloc))?;
+    match are_alike(&mut device, &mut disk) {
+        Ok(are_alike) => Ok(are_alike),
+        Err(Stopped) => Err("a device stopped".into()),
+    }
+}
+
+fn recorded(
+    alloc: Global,
+    bytes: Vec<u8>,
+    room: usize,
+    content: Vec<u8>,
+) -> Result<FileDevice<Kept>, AllocError> {
+    let kept = Kept {
+        bytes,
+        room,
+        is_broken: false,
+    };
+    FileDevice::recorded(alloc, kept, content)
+}
+
 #[test]
 fn a_file_reads_as_a_disk_in_memory(rt: HostRuntime) -> Result<(), Fail> {
     let alloc = rt.alloc();
     let _ = fs::remove_dir_all(&rt, FOLDER);
     fs::create_dir(&rt, FOLDER)?;
-    let mut device = open(&rt, alloc, FOLDER, NAME)?;
-    let mut disk = SimDisk::new(alloc, Vec::new(alloc))?;
-    assert!(rt; are_alike(&mut device, &mut disk)?);
-    let kept = Kept {
-        bytes: Vec::new(alloc),
-        room: 1_000,
-        is_broken: false,
-    };
-    let mut recorded = FileDevice::recorded(alloc, kept, Vec::new(alloc))?;
-    let mut disk = SimDisk::new(alloc, Vec::new(alloc))?;
-    assert!(rt; are_alike(&mut recorded, &mut disk)?);
+    let device = open(&rt, alloc, FOLDER, NAME)?;
+    assert!(rt; reads_as_a_disk(alloc, device)?);
+    let device = recorded(alloc, Vec::new(alloc), 1_000, Vec::new(alloc))?;
+    assert!(rt; reads_as_a_disk(alloc, device)?);
     fs::remove_dir_all(&rt, FOLDER)?;
     Ok(())
+}
+
+// Whether the first read of eight bytes stops the device.
+fn stops_at_its_first_read<F: RawFile>(device: &mut FileDevice<F>) -> Result<bool, Stopped> {
+    let mut buf = [0; 8];
+    if device.len()? != 8 {
+        return Ok(false);
+    }
+    let is_told = device.read_at(0, &mut buf) == Err(Stopped);
+    Ok(is_told && device.failures() == 1 && device.len() == Err(Stopped))
 }
 
 #[test]
 fn a_record_tells_a_file_that_lies(rt: HostRuntime) -> Result<(), Fail> {
     let alloc = rt.alloc();
-    let kept = Kept {
-        bytes: Vec::from_slice(alloc, b"abcdefgX")?,
-        room: 8,
-        is_broken: false,
-    };
+    let bytes = Vec::from_slice(alloc, b"abcdefgX")?;
     let content = Vec::from_slice(alloc, b"abcdefgh")?;
-    let mut recorded = FileDevice::recorded(alloc, kept, content)?;
-    let mut disk = SimDisk::new(alloc, Vec::from_slice(alloc, b"abcdefgh")?)?;
-    assert!(rt; read_both(&mut recorded, &mut disk, 0) == Err(Stopped));
-    assert!(rt; recorded.failures() == 1 && recorded.len() == Err(Stopped));
+    let mut device = recorded(alloc, bytes, 8, content)?;
+    assert!(rt; stops_at_its_first_read(&mut device)?);
     Ok(())
 }
 
@@ -185,9 +206,28 @@ fn begins_with<D: Device>(device: &mut D, bytes: &[u8; 8]) -> Result<bool, Stopp
     Ok(buf == *bytes)
 }
 
+// Whether a device over a file of eight bytes, on a disk with this room, is stopped by eight bytes more there, and has these first bytes once it
+// is revived.
+fn stops_and_begins_with(
+    alloc: Global,
+    room: usize,
+    at: usize,
+    content: &[u8; 8],
+) -> Result<(bool, bool), Fail> {
+    let kept = Kept {
+        bytes: Vec::from_slice(alloc, b"abcdefgh")?,
+        room,
+        is_broken: false,
+    };
+    let mut device = FileDevice::new(alloc, kept)?;
+    match stops(&mut device, at) {
+        Ok(stopped) => Ok((stopped, begins_with(&mut device, content)?)),
+        Err(Stopped) => Err("the device stays down".into()),
+    }
+}
+
 #[test]
 fn a_full_disk_stops_its_device_until_it_is_revived(rt: HostRuntime) -> Result<(), Fail> {
-    let alloc = rt.alloc();
     // how much room the disk has, where eight bytes are written, and what is read afterwards
     let rows = [
         (0, 0, true, b"abcdefgh"),
@@ -197,14 +237,8 @@ fn a_full_disk_stops_its_device_until_it_is_revived(rt: HostRuntime) -> Result<(
         (8, 0, false, b"ABCDEFGH"),
     ];
     for (room, at, stopped, content) in rows {
-        let kept = Kept {
-            bytes: Vec::from_slice(alloc, b"abcdefgh")?,
-            room,
-            is_broken: false,
-        };
-        let mut device = FileDevice::new(alloc, kept)?;
-        assert!(rt; stops(&mut device, at)? == stopped, "{room} {at}");
-        assert!(rt; begins_with(&mut device, content)?, "{room} {at}");
+        let (is_stopped, is_left) = stops_and_begins_with(rt.alloc(), room, at, content)?;
+        assert!(rt; is_stopped == stopped && is_left, "{room} {at}");
     }
     Ok(())
 }
@@ -237,28 +271,49 @@ fn what_is_no_file_is_down(rt: HostRuntime) -> Result<(), Fail> {
     Ok(())
 }
 
+fn write_synced<D: Device>(device: &mut D) -> Result<(), Stopped> {
+    if device.len()? == 0 {
+        device.write_at(0, b"abcdefgh")?;
+    }
+    device.sync()
+}
+
+// Whether the device has noticed that its file is shorter, and fails each call.
+fn has_noticed<F: RawFile>(device: &mut FileDevice<F>) -> bool {
+    let mut buf = [0; 8];
+    !device.is_recorded()
+        && device.read_at(0, &mut buf) == Err(Stopped)
+        && device.len() == Err(Stopped)
+        && device.sync() == Err(Stopped)
+        && device.failures() == 3
+}
+
+// Whether it reads what its file has, once it is revived.
+fn reads_what_is_left<F: RawFile>(device: &mut FileDevice<F>) -> Result<bool, Stopped> {
+    device.revive()?;
+    if device.len()? != 3 || device.is_recorded() {
+        return Ok(false);
+    }
+    let mut buf = [0; 3];
+    device.read_at(0, &mut buf)?;
+    Ok(buf == *b"xyz")
+}
+
+const CUT: &str = "files_cut";
+
+fn cut_and_revive<F: RawFile>(rt: &HostRuntime, device: &mut FileDevice<F>) -> Result<bool, Fail> {
+    write_synced(device)?;
+    fs::write(rt, "files_cut/0.a", b"xyz".as_slice())?;
+    Ok(has_noticed(device) && reads_what_is_left(device)?)
+}
+
 #[test]
 fn a_file_cut_short_stops_its_device_until_it_is_revived(rt: HostRuntime) -> Result<(), Fail> {
-    const CUT: &str = "files_cut";
     let alloc = rt.alloc();
     let _ = fs::remove_dir_all(&rt, CUT);
     fs::create_dir(&rt, CUT)?;
     let mut device = open(&rt, alloc, CUT, NAME)?;
-    let mut disk = SimDisk::new(alloc, Vec::new(alloc))?;
-    write_both(&mut device, &mut disk, 0, b"abcdefgh")?;
-    device.sync()?;
-    fs::write(&rt, "files_cut/0.a", b"xyz".as_slice())?;
-    assert!(rt; !device.is_recorded());
-    let mut buf = [0; 8];
-    assert!(rt; device.read_at(0, &mut buf) == Err(Stopped));
-    assert!(rt; device.len() == Err(Stopped) && device.sync() == Err(Stopped));
-    assert!(rt; device.failures() == 3);
-    device.revive()?;
-    assert!(rt; device.len() == Ok(3));
-    assert!(rt; !device.is_recorded());
-    let mut buf = [0; 3];
-    device.read_at(0, &mut buf)?;
-    assert!(rt; buf == *b"xyz");
+    assert!(rt; cut_and_revive(&rt, &mut device)?);
     fs::remove_dir_all(&rt, CUT)?;
     Ok(())
 }

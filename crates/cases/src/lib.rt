@@ -19,6 +19,4 @@ mod shard_replay;
 #[cfg(test)]
 mod struck_disks;
 #[cfg(test)]
-mod token_texts;
-#[cfg(test)]
 mod version_rows;

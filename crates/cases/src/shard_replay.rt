@@ -119,20 +119,35 @@ fn apply_all(alloc: Global, steps: &[Step]) -> Result<Memory, usize> {
     Ok(memory)
 }
 
-fn count(alloc: Global, memory: &Memory, place: u64, set: &Tupleset) -> Result<usize, AllocError> {
-    let tuples = memory.at(alloc, place, set)?;
-    Ok(tuples.len())
+// The tupleset is taken, so that who asks has nothing to let go on a way out, and there is one way out here.
+fn count(alloc: Global, memory: &Memory, place: u64, set: Tupleset) -> Result<usize, AllocError> {
+    memory.at(alloc, place, &set).map(|tuples| tuples.len())
 }
 
 /// How many tuples of `doc:a#viewer` are there at a place.
-fn there(alloc: Global, memory: &Memory, place: u64) -> Result<usize, Refusal> {
+fn there(alloc: Global, memory: &Memory, place: u64) -> Result<u64, Refusal> {
     let set = Tupleset::parse(alloc, b"doc:a#viewer")?;
-    Ok(count(alloc, memory, place, &set)?)
+    match count(alloc, memory, place, set) {
+        Ok(found) => Ok(found as u64),
+        Err(_) => Err(Refusal::NoMemory),
+    }
 }
 
-/// What a shard that was opened twice, learned a write and dropped another knows: its openings, what it has learned, its horizon, and
-/// how many tuples are there before the write and after it.
-fn known(alloc: Global) -> Result<[u64; 5], Refusal> {
+/// Its openings, what it has learned, its horizon, and how many tuples are there before the write and after it.
+fn known(alloc: Global, memory: &Memory) -> Result<[u64; 5], Refusal> {
+    let before = there(alloc, memory, 2)?;
+    let after = there(alloc, memory, 5)?;
+    Ok([
+        memory.epoch(),
+        memory.learned(),
+        memory.horizon(),
+        before,
+        after,
+    ])
+}
+
+/// What a shard that was opened twice, learned a write and dropped another knows.
+fn known_after_all(alloc: Global) -> Result<[u64; 5], Refusal> {
     let steps = [
         Step::Opened,
         Step::Prepared,
@@ -142,22 +157,15 @@ fn known(alloc: Global) -> Result<[u64; 5], Refusal> {
         Step::Dropped,
         Step::OpenedAgain,
     ];
-    let Ok(memory) = apply_all(alloc, &steps) else {
-        return Err(Refusal::Damaged);
-    };
-    let (before, after) = (there(alloc, &memory, 2)?, there(alloc, &memory, 5)?);
-    Ok([
-        memory.epoch(),
-        memory.learned(),
-        memory.horizon(),
-        before as u64,
-        after as u64,
-    ])
+    match apply_all(alloc, &steps) {
+        Ok(memory) => known(alloc, &memory),
+        Err(_) => Err(Refusal::Damaged),
+    }
 }
 
 #[test]
 fn a_shard_knows_what_its_records_stand_for(rt: HostRuntime) {
-    assert_eq!(rt; known(rt.alloc()), Ok([2, 5, 4, 0, 1]));
+    assert_eq!(rt; known_after_all(rt.alloc()), Ok([2, 5, 4, 0, 1]));
 }
 
 /// How many records are applied before the first that may not come next, where this one is the fifth.

@@ -17,14 +17,14 @@ fn apply(alloc: Global, versions: &mut Versions, place: u64, text: &str) -> Resu
 // How many tuples are read.
 fn read_counted(alloc: Global, versions: &Versions, place: u64, set: &str) -> Result<usize, Fail> {
     let set = Tupleset::parse(alloc, set.as_bytes())?;
-    counted::<Brand>(alloc, versions, place, &set, Blank::new(1))
+    counted::<Brand>(alloc, versions, place, set, Blank::new(1))
 }
 
 fn counted<L: Ledger>(
     alloc: Global,
     versions: &Versions,
     place: u64,
-    set: &Tupleset,
+    set: Tupleset,
     blank: Blank,
 ) -> Result<usize, Fail>
     requires name { blank.name ≡ L.name }
@@ -32,8 +32,10 @@ fn counted<L: Ledger>(
     requires some { 0 < blank.parts }
 {
     let mut steps = Steps::<L>::new(blank);
-    let tuples = versions.at_counted(alloc, place, set, &mut steps)?;
-    Ok(tuples.len())
+    match versions.at_counted(alloc, place, &set, &mut steps) {
+        Ok(tuples) => Ok(tuples.len()),
+        Err(_) => Err("memory was refused".into()),
+    }
 }
 
 #[test]
