@@ -19,4 +19,6 @@ mod shard_replay;
 #[cfg(test)]
 mod struck_disks;
 #[cfg(test)]
+mod token_texts;
+#[cfg(test)]
 mod version_rows;
