@@ -145,7 +145,7 @@ fn read_set(
     name: &str,
     set: &Tupleset,
 ) -> anyhow::Result<()> {
-    // One read stands before the clock: what was freed before it is joined by the C library at the first larger piece of memory.
+    // One read stands before the clock, so that what came before the reads, as memory that was just given back, does not count.
     let mut tuples = found(alloc, versions, place, set)?;
     let start = Instant::now(rt)?;
     for _ in 0..READS {
