@@ -6,8 +6,8 @@ use Rattle.tuples.specs.declared.user.User.{User}
 use Rattle.tuples.specs.Parts.{shard_of}
 use Rattle.decisions.specs.Flows.{CheckHolds, Freshness}
 use Rattle.decisions.specs.Values.{BatchValue}
-use Rattle.calls.specs.declared.call_name.CallName.{CallName}
-use Rattle.calls.specs.declared.call_name.CallName.TheVariants as names
+use Rattle.names.specs.declared.call_name.CallName.{CallName}
+use Rattle.names.specs.declared.call_name.CallName.TheVariants as names
 use Rattle.catch_up.specs.Held.{Awaited, CatchUpValue}
 use Rattle.answer_flow.specs.Walking.{WalkValue}
 use Rattle.answer_flow.specs.declared.check_phase.CheckEnd as ends

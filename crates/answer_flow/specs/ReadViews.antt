@@ -8,8 +8,8 @@ use Rattle.tuples.specs.declared.tupleset.Tupleset.TheVariants.{Key, OfObject, O
 use Rattle.tuples.specs.Parts.{shard_of}
 use Rattle.decisions.specs.Flows.{Freshness, ReadHolds, nothing_read}
 use Rattle.decisions.specs.Values.{BatchValue}
-use Rattle.calls.specs.declared.call_name.CallName.{CallName}
-use Rattle.calls.specs.declared.call_name.CallName.TheVariants as names
+use Rattle.names.specs.declared.call_name.CallName.{CallName}
+use Rattle.names.specs.declared.call_name.CallName.TheVariants as names
 use Rattle.catch_up.specs.Held.{Awaited, CatchUpValue}
 use Rattle.answer_flow.specs.declared.read_phase.Gathered.{Gathered}
 use Rattle.answer_flow.specs.declared.read_phase.ReadEnd as ends

@@ -2,8 +2,8 @@
 use Rattle.std.specs.Prelude.{◌≤◌, ℕ, List, Option, Some, None}
 use Rattle.refusal.specs.declared.refusal.Refusal.{Refusal}
 use Rattle.tuples.specs.Watching.{Placed}
-use Rattle.calls.specs.declared.call_name.CallName.{CallName}
-use Rattle.calls.specs.declared.call_name.CallName.TheVariants as names
+use Rattle.names.specs.declared.call_name.CallName.{CallName}
+use Rattle.names.specs.declared.call_name.CallName.TheVariants as names
 use Rattle.decisions.specs.Flows.{HeadsHeld, no_heads}
 use Rattle.decisions.specs.Standing.{HeadsValue}
 use Rattle.answer_flow.specs.declared.watch_phase.WatchEnd as ends

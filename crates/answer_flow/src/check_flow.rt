@@ -1,7 +1,7 @@
 // A check: one call a turn.
 ghost use Rattle.std.specs.Prelude.{◌≡◌, ◌≢◌, ◌≤◌, Some, None, IfOk, MatchOption, is_some, option_map};
 ghost use Rattle.calls.specs.Names.{name_of as name_of_call};
-ghost use Rattle.calls.specs.declared.call_name.CallName.TheVariants as names;
+ghost use Rattle.names.specs.declared.call_name.CallName.TheVariants as names;
 ghost use Rattle.records.specs.Identity.{max_shards};
 ghost use Rattle.answer_flow.specs.Finding.{fresh_of};
 ghost use Rattle.answer_flow.specs.Checking.{Asks, Fits, GivesTo};
@@ -11,7 +11,8 @@ use crate::check_phase::{AskedCheck, CheckEnd, Phase, Ready};
 use crate::check_turns::{give, next};
 use crate::freshness::Freshness;
 use crate::walk::Walk;
-use calls::{CallName, NodeCall, Reply};
+use calls::{NodeCall, Reply};
+use names::CallName;
 use std::alloc::{AllocError, Global};
 use std::marker::Model;
 use std::mem;

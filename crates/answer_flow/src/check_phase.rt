@@ -5,8 +5,8 @@ ghost use Rattle.answer_flow.specs.CheckViews.{ending_of, name_ready, view_of};
 
 use crate::freshness::Freshness;
 use crate::walk::Walk;
-use calls::CallName;
 use catch_up::{CatchUp, CatchUpCall};
+use names::CallName;
 use tuples::{Refusal, User, Userset};
 
 /// About whom a check is asked, in a store of so many shards.

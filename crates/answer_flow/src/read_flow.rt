@@ -1,7 +1,7 @@
 // A read: one call a turn.
 ghost use Rattle.std.specs.Prelude.{◌≡◌, ◌≢◌, ◌≤◌, Some, None, MatchOption, is_some, option_map};
 ghost use Rattle.calls.specs.Names.{name_of as name_of_call};
-ghost use Rattle.calls.specs.declared.call_name.CallName.TheVariants as names;
+ghost use Rattle.names.specs.declared.call_name.CallName.TheVariants as names;
 ghost use Rattle.records.specs.Identity.{max_shards};
 ghost use Rattle.decisions.specs.Flows.{nothing_read};
 ghost use Rattle.answer_flow.specs.Finding.{fresh_of};
@@ -11,7 +11,8 @@ ghost use Rattle.answer_flow.specs.ReadViews.{at_rest, ending_of, heads};
 use crate::freshness::Freshness;
 use crate::read_phase::{AskedRead, Phase, ReadEnd, Ready};
 use crate::read_turns::{give, next};
-use calls::{CallName, NodeCall, Reply};
+use calls::{NodeCall, Reply};
+use names::CallName;
 use std::alloc::Global;
 use std::marker::Model;
 use std::mem;

@@ -4,8 +4,8 @@ ghost use Rattle.records.specs.Identity.{max_shards};
 ghost use Rattle.answer_flow.specs.ReadViews.{ending_of, name_ready, view_of};
 
 use crate::freshness::Freshness;
-use calls::CallName;
 use catch_up::{CatchUp, CatchUpCall};
+use names::CallName;
 use std::alloc::Global;
 use tuples::{Refusal, Tuple, Tupleset};
 

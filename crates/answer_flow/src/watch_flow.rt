@@ -7,7 +7,8 @@ ghost use Rattle.answer_flow.specs.WatchViews.{at_rest, ending_of, heads, next_n
 
 use crate::watch_phase::{Phase, Ready, WatchEnd};
 use crate::watching::{give, next};
-use calls::{CallName, NodeCall, Reply};
+use calls::{NodeCall, Reply};
+use names::CallName;
 use std::alloc::Global;
 use std::marker::Model;
 use std::mem;

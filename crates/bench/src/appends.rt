@@ -1,8 +1,8 @@
 // How many bodies a log over a file appends, each durable when the call returns.
-use crate::timing::{Done, print};
 use device::Device;
 use files::open;
 use gated::GatedLog;
+use measures::timing::{Done, print};
 use std::alloc::Global;
 use std::fs;
 use std::rt::Clock;

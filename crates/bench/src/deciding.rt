@@ -1,10 +1,10 @@
 // How fast a coordinator begins writes and decides them, a hundred in one flush. Each has the vote of a real shard, whose work is not
 // measured.
-use crate::timing::{Done, print};
 use crate::touches::{new_shard, open_coordinator, touch, two_disks};
 use coordinator::{Coordinator, Decided, NotDecided, Outcome, votes_match};
 use decisions::{Intent, Vote};
 use device::{Device, SimDisk};
+use measures::timing::{Done, print};
 use shard::{Shard, VoteReply};
 use std::alloc::Global;
 use std::rt::Clock;

@@ -1,11 +1,11 @@
 // Records staged and flushed, to a disk in memory.
 ghost use Rattle.records.specs.Format.{AreRecords};
 
-use crate::sample::{batch_of, records_of};
-use crate::timing::{Done, print};
 use crate::touches::two_disks;
 use device::{Device, SimDisk};
 use journal::Journal;
+use measures::sample::{batch_of, records_of};
+use measures::timing::{Done, print};
 use records::Record;
 use std::alloc::Global;
 use std::rt::Clock;

@@ -1,29 +1,19 @@
-//! Measures of the store's parts, which `bench/run` at the top sets beside the same in plain Rust.
+//! Measures of the store's parts, those of its nodes here, which `bench/run` at the top sets beside the same in plain Rust.
 //!
 //! Keeps: what a measure runs is what the other crates prove.
 //! Never: measures anything without arguments, where it says which measures there are and ends.
 //! Callers rely on: each line on standard error is a name, how much was done, the nanoseconds, and what it answered.
 //!
-//! Start at `measure.rt`, what can be asked for. Each measure has a file; `sample.rt` has the records of two.
+//! Start at `measure.rt`, what can be asked for. Each measure of a node has a file; those of values and tables are in `measures`.
 #![tactic(auto)]
 
 mod appends;
-mod codec;
-mod crowd;
 mod deciding;
-mod doubts;
 mod flush;
-mod latest;
-mod lines;
 mod measure;
 mod openings;
-mod pairs;
 mod prepares;
-mod rows;
-mod sample;
 mod shard_openings;
-mod texts;
-mod timing;
 mod touches;
 
 use measure::Measure;

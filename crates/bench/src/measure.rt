@@ -1,10 +1,8 @@
 // What can be measured.
-use crate::latest::Way;
-use crate::lines::Kind;
-use crate::{
-    codec, crowd, deciding, doubts, flush, latest, lines, openings, pairs, prepares, rows,
-    shard_openings, texts,
-};
+use crate::{deciding, flush, openings, prepares, shard_openings};
+use measures::latest::Way;
+use measures::lines::Kind;
+use measures::{codec, crowd, doubts, latest, lines, pairs, rows, texts};
 use std::alloc::Global;
 use std::rt::Clock;
 use std::sync::Wait;

@@ -2,11 +2,11 @@
 ghost use Rattle.std.specs.Prelude.{◌≤◌, IfOk};
 ghost use Rattle.decisions.specs.Values.{IsIntent};
 
-use crate::timing::{Done, print, print_since};
 use crate::touches::{STORE, open_coordinator, touch, two_disks};
 use decisions::Intent;
 use device::Device;
 use journal::Journal;
+use measures::timing::{Done, print, print_since};
 use records::{COORDINATOR, Record};
 use std::alloc::Global;
 use std::rt::Clock;

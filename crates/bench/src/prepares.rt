@@ -2,10 +2,10 @@
 // coordinator: the shard is told that each was decided.
 ghost use Rattle.std.specs.Prelude.{◌≡◌, []};
 
-use crate::timing::{Done, print};
 use crate::touches::{new_shard, two_disks, write_of};
 use decisions::{Batch, Intent, MAX_BATCH, Ticket};
 use device::Device;
+use measures::timing::{Done, print};
 use shard::{Shard, VoteReply};
 use std::alloc::Global;
 use std::rt::Clock;

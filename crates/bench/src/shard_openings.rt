@@ -3,10 +3,10 @@ ghost use Rattle.std.specs.Prelude.{◌≤◌, IfOk};
 ghost use Rattle.records.specs.Format.{IsPrepared, IsRecord};
 
 use crate::openings::{entry, new_journal, print_made};
-use crate::timing::{Done, print};
 use crate::touches::{STORE, new_shard, two_disks};
 use device::Device;
 use journal::Journal;
+use measures::timing::{Done, print};
 use records::{PlacedId, PlacedIds, Record};
 use shard::Shard;
 use std::alloc::{AllocError, Global};

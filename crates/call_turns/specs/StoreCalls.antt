@@ -6,8 +6,8 @@ use Rattle.decisions.specs.Values.{max_batch}
 pub use Rattle.calls.specs.Fitting.{FitsItsTypes}
 use Rattle.calls.specs.Views as views
 use Rattle.calls.specs.Views.{NodeView, devices_of}
-use Rattle.calls.specs.declared.call.NodeName as names
-use Rattle.calls.specs.declared.call.NodeName.TheVariants.{Coordinator as name_coordinator, Shard as name_shard}
+use Rattle.names.specs.declared.node_name.NodeName as names
+use Rattle.names.specs.declared.node_name.NodeName.TheVariants.{Coordinator as name_coordinator, Shard as name_shard}
 use Rattle.calls.specs.declared.call.NodeCall.{NodeCall}
 use Rattle.calls.specs.declared.call.NodeCall.TheVariants.{Coordinator, Shard}
 use Rattle.calls.specs.declared.call.CoordinatorCall.{CoordinatorCall}

@@ -1,15 +1,14 @@
--- Which node a call is for, and what it is called.
-use Rattle.std.specs.Prelude.{ℕ, List, codes}
-use Rattle.calls.specs.declared.call.NodeName.{NodeName}
-use Rattle.calls.specs.declared.call.NodeName.TheVariants.{Coordinator, Shard}
+-- Which node a call is for, and which call it is.
+use Rattle.names.specs.declared.node_name.NodeName.{NodeName}
+use Rattle.names.specs.declared.node_name.NodeName.TheVariants.{Coordinator, Shard}
 use Rattle.calls.specs.declared.call.NodeCall.{NodeCall}
 use Rattle.calls.specs.declared.call.NodeCall.TheVariants.{Coordinator as of_coordinator, Shard as of_shard}
 use Rattle.calls.specs.declared.call.CoordinatorCall.{CoordinatorCall}
 use Rattle.calls.specs.declared.call.CoordinatorCall.TheVariants as coordinator_calls
 use Rattle.calls.specs.declared.call.ShardCall.{ShardCall}
 use Rattle.calls.specs.declared.call.ShardCall.TheVariants as shard_calls
-use Rattle.calls.specs.declared.call_name.CallName.{CallName}
-use Rattle.calls.specs.declared.call_name.CallName.TheVariants as names
+use Rattle.names.specs.declared.call_name.CallName.{CallName}
+use Rattle.names.specs.declared.call_name.CallName.TheVariants as names
 
 -- the node that is called
 abbrev pub node_of : NodeCall → NodeName
@@ -46,24 +45,3 @@ name_at_shard shard_calls.Flush = names.Flush
 abbrev pub name_of : NodeCall → CallName
 name_of (of_coordinator call) = name_at_coordinator call
 name_of (of_shard s call) = name_at_shard call
-
--- the text of a name
-abbrev pub text_of : CallName → List ℕ
-text_of names.Begin = codes "begin"
-text_of names.Heads = codes "heads"
-text_of names.Learned = codes "learned"
-text_of names.Batch = codes "batch"
-text_of names.Learn = codes "learn"
-text_of names.StagePrepare = codes "stage_prepare"
-text_of names.Flush = codes "flush"
-text_of names.Vote = codes "vote"
-text_of names.Decide = codes "decide"
-text_of names.Outcome = codes "outcome"
-text_of names.Abort = codes "abort"
-text_of names.DropWrite = codes "drop_write"
-text_of names.Inquire = codes "inquire"
-text_of names.InDoubt = codes "in_doubt"
-text_of names.Read = codes "read"
-text_of names.Settle = codes "settle"
-text_of names.Raise = codes "raise"
-text_of names.Collect = codes "collect"

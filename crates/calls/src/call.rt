@@ -1,15 +1,8 @@
 // The calls of nodes, with what is handed in.
-use crate::CallName;
 use coordinator::Decided;
 use decisions::{Batch, Heads, Held, Intent, Settled, Ticket, Verdict, Vote};
+use names::{CallName, NodeName};
 use tuples::{Tupleset, User, Userset, Write, WriteId};
-
-/// Which node of a store.
-#[derive(Clone, Copy, Debug, PartialEq, Eq)]
-pub enum NodeName {
-    Coordinator,
-    Shard(u8),
-}
 
 /// A call of the coordinator.
 #[must_use]

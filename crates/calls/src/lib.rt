@@ -12,15 +12,13 @@
 
 mod asking;
 mod call;
-mod call_name;
 mod fitting;
 mod node;
 mod reply;
 mod told;
 
 pub use asking::{ask, refuse};
-pub use call::{CoordinatorCall, NodeCall, NodeName, ShardCall};
-pub use call_name::CallName;
+pub use call::{CoordinatorCall, NodeCall, ShardCall};
 pub use node::Node;
 pub use reply::{CoordinatorReply, Reply, ShardReply};
 pub use told::Told;

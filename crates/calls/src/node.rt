@@ -8,10 +8,10 @@ ghost use Rattle.calls.specs.Rows.{RowsOf};
 ghost use Rattle.calls.specs.Views.{devices_of, refused};
 ghost use Rattle.refusal.specs.declared.refusal.Refusal.TheVariants.{Down};
 
-use crate::NodeName;
 use coordinator::Coordinator;
 use device::{Device, Tear};
 use journal::{Bank, Refused};
+use names::NodeName;
 use records::Identity;
 use shard::Shard;
 use std::alloc::Global;

@@ -8,8 +8,8 @@ use Rattle.decisions.specs.Values.{HeadsValue, SettledValue}
 use Rattle.coordinator.specs.declared.raising.NotRaised.{NotRaised}
 use Rattle.calls.specs.Names.{name_of}
 use Rattle.calls.specs.Belonging.{GivesSettledBack, IsReplyTo}
-use Rattle.calls.specs.declared.call.NodeName.{NodeName}
-use Rattle.calls.specs.declared.call.NodeName.TheVariants as nodes
+use Rattle.names.specs.declared.node_name.NodeName.{NodeName}
+use Rattle.names.specs.declared.node_name.NodeName.TheVariants as nodes
 use Rattle.calls.specs.declared.call.NodeCall.{NodeCall}
 use Rattle.calls.specs.declared.call.NodeCall.TheVariants.{Coordinator as of_coordinator, Shard as of_shard}
 use Rattle.calls.specs.declared.call.CoordinatorCall.{CoordinatorCall}

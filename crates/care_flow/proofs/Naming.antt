@@ -1,6 +1,6 @@
 -- What a reply makes of a catch-up does not rest on which of its calls comes next, nor on what that one carries.
 use Rattle.std.proofs.Common.{ℕ, Bool, Option, Ok, Err}
-use Rattle.calls.specs.declared.call_name.CallName.{CallName}
+use Rattle.names.specs.declared.call_name.CallName.{CallName}
 use Rattle.calls.specs.declared.reply.Reply.{Reply}
 use Rattle.calls.specs.declared.reply.Reply.TheVariants.{Coordinator as from_coordinator, Shard as from_shard}
 use Rattle.calls.specs.declared.reply.CoordinatorReply.TheVariants as told

@@ -2,13 +2,13 @@
 use Rattle.std.specs.Prelude.{◌≡◌, ◌<◌, ℕ, Bool, [], map, Option, Some, is_some, option_map}
 use Rattle.decisions.specs.Flows.{no_heads, nothing_raised}
 use Rattle.calls.specs.declared.call.NodeCall.{NodeCall}
-use Rattle.calls.specs.declared.call_name.CallName.{CallName}
-use Rattle.calls.specs.declared.call_name.CallName.TheVariants as names
+use Rattle.names.specs.declared.call_name.CallName.{CallName}
+use Rattle.names.specs.declared.call_name.CallName.TheVariants as names
 use Rattle.calls.specs.declared.reply.Reply.{Reply}
 use Rattle.care_flow.specs.declared.end.CareEnd.{CareEnd}
 use Rattle.care_flow.specs.declared.end.CareEnd.TheVariants.{Resolved as all_resolved}
-use Rattle.care_flow.specs.declared.care.Care.{Care}
-use Rattle.care_flow.specs.declared.care.Care.TheVariants as cares
+use Rattle.names.specs.declared.care.Care.{Care}
+use Rattle.names.specs.declared.care.Care.TheVariants as cares
 use Rattle.care_flow.specs.declared.care.CareFlow.{CareFlow}
 use Rattle.care_flow.specs.declared.care.CareFlow.TheVariants.{Flush, Learn, Resolve, Raise, Collect}
 use Rattle.care_flow.specs.Ends.{id_of}

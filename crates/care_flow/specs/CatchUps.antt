@@ -6,7 +6,7 @@ use Rattle.catch_up.specs.CatchingUp as catching
 use Rattle.catch_up.specs.declared.caught.Progress.{Progress}
 use Rattle.calls.specs.Names.{name_of}
 use Rattle.calls.specs.declared.call.NodeCall.{NodeCall}
-use Rattle.calls.specs.declared.call_name.CallName.TheVariants.{Learned}
+use Rattle.names.specs.declared.call_name.CallName.TheVariants.{Learned}
 use Rattle.calls.specs.declared.reply.Reply.{Reply}
 
 -- a shard on its way to a place, with these decisions; which of its calls comes next, and what it carries, is said where that counts

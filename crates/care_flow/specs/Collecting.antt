@@ -5,8 +5,8 @@ use Rattle.refusal.specs.declared.refusal.Refusal.TheVariants.{Full}
 use Rattle.decisions.specs.Values.{HeadsValue}
 use Rattle.decisions.specs.Flows.{HeadsHeld, no_heads}
 use Rattle.calls.specs.declared.call.NodeCall.{NodeCall}
-use Rattle.calls.specs.declared.call_name.CallName.{CallName}
-use Rattle.calls.specs.declared.call_name.CallName.TheVariants as names
+use Rattle.names.specs.declared.call_name.CallName.{CallName}
+use Rattle.names.specs.declared.call_name.CallName.TheVariants as names
 use Rattle.calls.specs.declared.call.NodeCall.TheVariants.{Coordinator as of_coordinator, Shard as of_shard}
 use Rattle.calls.specs.declared.call.CoordinatorCall.TheVariants.{Heads}
 use Rattle.calls.specs.declared.call.ShardCall.TheVariants.{Collect, Flush}

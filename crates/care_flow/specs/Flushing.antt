@@ -1,10 +1,10 @@
 -- The one call of a flush, and what its reply makes of it.
 use Rattle.std.specs.Prelude.{◌≡◌, ◌<◌, ℕ, Option, Some, None, MatchOption}
-use Rattle.calls.specs.declared.call.NodeName.{NodeName}
-use Rattle.calls.specs.declared.call.NodeName.TheVariants.{Coordinator, Shard}
+use Rattle.names.specs.declared.node_name.NodeName.{NodeName}
+use Rattle.names.specs.declared.node_name.NodeName.TheVariants.{Coordinator, Shard}
 use Rattle.calls.specs.declared.call.NodeCall.{NodeCall}
-use Rattle.calls.specs.declared.call_name.CallName.{CallName}
-use Rattle.calls.specs.declared.call_name.CallName.TheVariants as names
+use Rattle.names.specs.declared.call_name.CallName.{CallName}
+use Rattle.names.specs.declared.call_name.CallName.TheVariants as names
 use Rattle.calls.specs.declared.call.NodeCall.TheVariants.{Coordinator as of_coordinator, Shard as of_shard}
 use Rattle.calls.specs.declared.call.CoordinatorCall.TheVariants as coordinator_calls
 use Rattle.calls.specs.declared.call.ShardCall.TheVariants as shard_calls

@@ -1,8 +1,8 @@
 -- What is seen of the phases of a learning.
 use Rattle.std.specs.Prelude.{◌≡◌, ℕ, Option, Some, None}
 use Rattle.decisions.specs.Flows.{no_heads}
-use Rattle.calls.specs.declared.call_name.CallName.{CallName}
-use Rattle.calls.specs.declared.call_name.CallName.TheVariants as names
+use Rattle.names.specs.declared.call_name.CallName.{CallName}
+use Rattle.names.specs.declared.call_name.CallName.TheVariants as names
 use Rattle.care_flow.specs.declared.learning.Phase.{Phase}
 use Rattle.care_flow.specs.declared.learning.Phase.TheVariants.{Ask, Asked, CatchUp, CatchingUp, Ended}
 use Rattle.care_flow.specs.Learning.{LearnView, ask, catch_up}

@@ -8,7 +8,7 @@ use Rattle.catch_up.specs.CatchingUp as catching
 use Rattle.catch_up.specs.declared.caught.Progress as progresses
 use Rattle.catch_up.specs.declared.caught.Progress.TheVariants.{Next, There, Refused as is_refused}
 use Rattle.calls.specs.declared.call.NodeCall.{NodeCall}
-use Rattle.calls.specs.declared.call_name.CallName.{CallName}
+use Rattle.names.specs.declared.call_name.CallName.{CallName}
 use Rattle.calls.specs.declared.call.NodeCall.TheVariants.{Coordinator as of_coordinator}
 use Rattle.calls.specs.declared.call.CoordinatorCall.TheVariants.{Heads}
 use Rattle.calls.specs.declared.reply.Reply.{Reply}

@@ -2,8 +2,8 @@
 use Rattle.std.specs.Prelude.{◌≡◌, ◌<◌, ℕ, true, false, Option, Some, None}
 use Rattle.decisions.specs.Values.{BatchValue, HeadsValue}
 use Rattle.decisions.specs.Flows.{RaiseHolds, nothing_raised}
-use Rattle.calls.specs.declared.call_name.CallName.{CallName}
-use Rattle.calls.specs.declared.call_name.CallName.TheVariants as names
+use Rattle.names.specs.declared.call_name.CallName.{CallName}
+use Rattle.names.specs.declared.call_name.CallName.TheVariants as names
 use Rattle.care_flow.specs.Gatherings.{GatheredValue, GatheringValue}
 use Rattle.care_flow.specs.declared.raising.Phase.{Phase}
 use Rattle.care_flow.specs.declared.raising.Phase.TheVariants.{Ask, Asked, FlushToAsk, FlushingToAsk, CatchUp, CatchingUp, Flush, Flushing, Settle, Settling, Raise, Raising, FlushToRaise, FlushingToRaise, FlushRaised, FlushingRaised, Ended}

@@ -3,8 +3,8 @@ use Rattle.std.specs.Prelude.{◌≡◌, ℕ, map, [], Option, Some, None}
 use Rattle.tuples.specs.declared.entry.WriteId.{WriteId}
 use Rattle.decisions.specs.Values.{BatchValue}
 use Rattle.decisions.specs.Flows.{ResolveHolds}
-use Rattle.calls.specs.declared.call_name.CallName.{CallName}
-use Rattle.calls.specs.declared.call_name.CallName.TheVariants as names
+use Rattle.names.specs.declared.call_name.CallName.{CallName}
+use Rattle.names.specs.declared.call_name.CallName.TheVariants as names
 use Rattle.care_flow.specs.declared.end.CareEnd.TheVariants.{Refused as is_refused, Resolved as all_resolved}
 use Rattle.care_flow.specs.declared.findings.Findings.{Findings}
 use Rattle.care_flow.specs.declared.resolving.Phase.{Phase}

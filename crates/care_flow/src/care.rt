@@ -10,23 +10,9 @@ use crate::flushing::FlushFlow;
 use crate::learning::LearnFlow;
 use crate::raising::RaiseFlow;
 use crate::resolving::ResolveFlow;
-use calls::{CallName, NodeCall, NodeName, Reply};
+use calls::{NodeCall, Reply};
+use names::{CallName, Care};
 use std::alloc::Global;
-
-/// What a node needs from time to time.
-#[derive(Clone, Copy, Debug, PartialEq, Eq)]
-pub enum Care {
-    /// All that the node has staged becomes durable.
-    Flush(NodeName),
-    /// The shard learns what is kept.
-    Learn(u8),
-    /// What became of each write in doubt at the shard is found out, and done there.
-    Resolve(u8),
-    /// The horizon is raised to the place.
-    Raise(u64),
-    /// The shard forgets what no read from the horizon on needs.
-    Collect(u8),
-}
 
 /// A care on its way. It can be let go between two calls, and nothing is lost by that.
 #[derive(Drop)]

@@ -7,8 +7,9 @@ ghost use Rattle.care_flow.specs.CollectPhases.{having, view_of};
 ghost use Rattle.care_flow.specs.Views.{ready};
 
 use crate::end::{CareEnd, end_by, foreign};
-use calls::{CallName, CoordinatorCall, CoordinatorReply, NodeCall, Reply, ShardCall, ShardReply};
+use calls::{CoordinatorCall, CoordinatorReply, NodeCall, Reply, ShardCall, ShardReply};
 use decisions::Heads;
+use names::CallName;
 use std::marker::Model;
 use std::mem;
 use tuples::Refusal;

@@ -5,9 +5,8 @@ ghost use Rattle.care_flow.specs.Flushing.{Answered, Awaits, Fits, Gives, IsTher
 ghost use Rattle.care_flow.specs.Views.{out, ready};
 
 use crate::end::{CareEnd, end_by, foreign};
-use calls::{
-    CallName, CoordinatorCall, CoordinatorReply, NodeCall, NodeName, Reply, ShardCall, ShardReply,
-};
+use calls::{CoordinatorCall, CoordinatorReply, NodeCall, Reply, ShardCall, ShardReply};
+use names::{CallName, NodeName};
 use std::marker::Model;
 
 #[derive(Drop)]

@@ -1,7 +1,7 @@
 // What the shards have settled.
 ghost use Rattle.std.specs.Prelude.{◌≡◌, ◌≤◌, ◌<◌, ◌+◌, ◌++◌, ◌∷◌, ◌↔◌, [], None, false, IfOk, IsTrue};
 ghost use Rattle.decisions.specs.Coordinators.{HaveSettled};
-ghost use Rattle.calls.specs.declared.call_name.CallName.TheVariants.{Learned};
+ghost use Rattle.names.specs.declared.call_name.CallName.TheVariants.{Learned};
 
 use catch_up::CatchUp;
 use decisions::{Heads, Settled};

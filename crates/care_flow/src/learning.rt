@@ -3,16 +3,17 @@ ghost use Rattle.std.specs.Prelude.{◌≡◌, ◌<◌, ℕ, None, Some, MatchOp
 ghost use Rattle.decisions.specs.Flows.{no_heads};
 ghost use Rattle.calls.specs.Asking.{MayBeMade};
 ghost use Rattle.calls.specs.Names.{name_of as name_of_call};
-ghost use Rattle.calls.specs.declared.call_name.CallName.TheVariants as names;
+ghost use Rattle.names.specs.declared.call_name.CallName.TheVariants as names;
 ghost use Rattle.catch_up.specs.CatchingUp.{Fits as FitsCatchUp};
 ghost use Rattle.care_flow.specs.Learning.{Answered, Asks, Awaits, Fits, Gives, HasLearned, HeadsGive, IsDone, NextCall, ask, catch_up as catching};
 ghost use Rattle.care_flow.specs.LearnPhases.{IsOf, name_of, view_of};
 ghost use Rattle.care_flow.specs.Views.{ready};
 
 use crate::end::{CareEnd, foreign};
-use calls::{CallName, CoordinatorCall, CoordinatorReply, NodeCall, Reply};
+use calls::{CoordinatorCall, CoordinatorReply, NodeCall, Reply};
 use catch_up::{CatchUp, CatchUpCall, Progress};
 use decisions::Heads;
+use names::CallName;
 use std::marker::Model;
 use std::mem;
 use tuples::Refusal;

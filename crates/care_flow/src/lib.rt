@@ -20,7 +20,7 @@ mod raise_replies;
 mod raising;
 mod resolving;
 
-pub use care::{Care, CareFlow};
+pub use care::CareFlow;
 pub use collecting::CollectFlow;
 pub use end::{CareEnd, Resolved};
 pub use flushing::FlushFlow;

@@ -2,7 +2,7 @@
 ghost use Rattle.std.specs.Prelude.{◌≡◌, ◌<◌, None, Some, MatchOption, option_map};
 ghost use Rattle.calls.specs.Asking.{MayBeMade};
 ghost use Rattle.calls.specs.Names.{name_of as name_of_call};
-ghost use Rattle.calls.specs.declared.call_name.CallName.TheVariants as names;
+ghost use Rattle.names.specs.declared.call_name.CallName.TheVariants as names;
 ghost use Rattle.care_flow.specs.Raising.{Asks, catch_up as catching, raise as raising};
 ghost use Rattle.care_flow.specs.RaisePhases.{IsOf, IsRoundOf, name_of, view_of};
 

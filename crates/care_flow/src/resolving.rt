@@ -2,7 +2,7 @@
 ghost use Rattle.std.specs.Prelude.{◌≡◌, ◌<◌, [], ℕ, List, None, Some, MatchOption, is_some, map, option_map};
 ghost use Rattle.calls.specs.Asking.{MayBeMade};
 ghost use Rattle.calls.specs.Names.{name_of as name_of_call};
-ghost use Rattle.calls.specs.declared.call_name.CallName.TheVariants as names;
+ghost use Rattle.names.specs.declared.call_name.CallName.TheVariants as names;
 ghost use Rattle.catch_up.specs.CatchingUp.{Fits as FitsCatchUp};
 ghost use Rattle.care_flow.specs.declared.end.CareEnd.TheVariants.{Resolved as all_resolved};
 ghost use Rattle.decisions.specs.Flows.{ResolveHolds};
@@ -13,10 +13,11 @@ ghost use Rattle.care_flow.specs.Views.{ready};
 
 use crate::end::{CareEnd, Resolved, foreign};
 use crate::findings::Findings;
-use calls::{CallName, CoordinatorCall, CoordinatorReply, NodeCall, Reply, ShardCall, ShardReply};
+use calls::{CoordinatorCall, CoordinatorReply, NodeCall, Reply, ShardCall, ShardReply};
 use catch_up::{CatchUp, CatchUpCall, Progress};
 use coordinator::Inquiry;
 use decisions::Verdict;
+use names::CallName;
 use std::alloc::Global;
 use std::marker::Model;
 use std::mem;

@@ -6,8 +6,8 @@ use Rattle.device.specs.Device.{State, left}
 use Rattle.refusal.specs.declared.refusal.Refusal.{Refusal}
 use Rattle.calls.specs.Asking.{Answered}
 use Rattle.calls.specs.Views.{NodeView}
-use Rattle.calls.specs.declared.call.NodeName as names
-use Rattle.calls.specs.declared.call.NodeName.TheVariants.{Coordinator, Shard}
+use Rattle.names.specs.declared.node_name.NodeName as names
+use Rattle.names.specs.declared.node_name.NodeName.TheVariants.{Coordinator, Shard}
 use Rattle.calls.specs.declared.call.NodeCall.{NodeCall}
 use Rattle.calls.specs.declared.reply.Reply.{Reply}
 use Rattle.calls.specs.declared.reply.Reply.TheVariants.{Coordinator as from_coordinator, Shard as from_shard}

@@ -39,7 +39,7 @@ use Rattle.call_turns.specs.StoreCalls.{FitsItsTypes, IsCalled, called}
 use Rattle.call_turns.specs.StoreTurns.{SlotTurns, TurnRuns}
 use Rattle.call_turns.proofs.Asked.{heads_told}
 use Rattle.calls.specs.Names.{name_of}
-use Rattle.calls.specs.declared.call_name.CallName.{CallName}
+use Rattle.names.specs.declared.call_name.CallName.{CallName}
 use Rattle.care_flow.proofs.Naming.{whichever_next}
 use Rattle.call_turns.proofs.CaughtUp.{CatchUpComes, IsCatchingUp, caught_up, same_way}
 use Rattle.care_turns.specs.CareTurns.{LearnsTurn, in_slot, shown_care, shows, tells}

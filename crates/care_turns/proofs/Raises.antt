@@ -57,7 +57,7 @@ use Rattle.call_turns.specs.StoreTurns.{SlotTurns, TurnRuns}
 use Rattle.call_turns.proofs.Asked.{heads_told}
 use Rattle.call_turns.proofs.Belongs.{belongs_to}
 use Rattle.calls.specs.Names.{name_of}
-use Rattle.calls.specs.declared.call_name.CallName.{CallName}
+use Rattle.names.specs.declared.call_name.CallName.{CallName}
 use Rattle.care_flow.proofs.Naming.{whichever_next}
 use Rattle.call_turns.proofs.CaughtUp.{CatchUpComes, IsCatchingUp, caught_up, same_way}
 use Rattle.call_turns.proofs.Flushed.{coordinator_flushed, shard_flushed}

@@ -1,7 +1,7 @@
 -- What is held on the way of a shard to a place.
 use Rattle.std.specs.Prelude.{ℕ, Bool, Option}
 use Rattle.decisions.specs.Values.{BatchValue}
-use Rattle.calls.specs.declared.call_name.CallName.{CallName}
+use Rattle.names.specs.declared.call_name.CallName.{CallName}
 
 -- between two calls: the shard, the place to which it is brought, the decisions on their way to it, and the name of the call that comes next; where
 -- that one fetches decisions, the place behind which; and whether the shard was flushed for those that it is handed next

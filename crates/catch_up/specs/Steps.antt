@@ -1,8 +1,8 @@
 -- What is seen of the steps.
 use Rattle.std.specs.Prelude.{◌<◌, ℕ, Bool, false, Option, Some, None}
 use Rattle.decisions.specs.Values.{BatchValue}
-use Rattle.calls.specs.declared.call_name.CallName.{CallName}
-use Rattle.calls.specs.declared.call_name.CallName.TheVariants as names
+use Rattle.names.specs.declared.call_name.CallName.{CallName}
+use Rattle.names.specs.declared.call_name.CallName.TheVariants as names
 use Rattle.catch_up.specs.Held.{Awaited, decisions, flushing, learned, learning}
 use Rattle.catch_up.specs.declared.catch_up.Step.{Step}
 use Rattle.catch_up.specs.declared.catch_up.Step.TheVariants.{Learned, Batch, Learn, Flush}

@@ -2,13 +2,14 @@
 ghost use Rattle.std.specs.Prelude.{◌≡◌, None, false};
 ghost use Rattle.calls.specs.Asking.{MayBeMade};
 ghost use Rattle.calls.specs.Names.{name_of as name_of_call};
-ghost use Rattle.calls.specs.declared.call_name.CallName.TheVariants as names;
+ghost use Rattle.names.specs.declared.call_name.CallName.TheVariants as names;
 ghost use Rattle.catch_up.specs.CatchingUp.{Asks};
 ghost use Rattle.catch_up.specs.Steps.{awaited_by, held_by, name_out};
 
 use crate::caught::{Asked, CatchUpCall};
-use calls::{CallName, CoordinatorCall, NodeCall, ShardCall};
+use calls::{CoordinatorCall, NodeCall, ShardCall};
 use decisions::Batch;
+use names::CallName;
 use std::marker::Model;
 
 #[derive(Drop)]

@@ -1,6 +1,6 @@
 // A shard on its way to a place, while a call is out.
 ghost use Rattle.std.specs.Prelude.{◌≡◌, Some, None, false};
-ghost use Rattle.calls.specs.declared.call_name.CallName.TheVariants as names;
+ghost use Rattle.names.specs.declared.call_name.CallName.TheVariants as names;
 ghost use Rattle.catch_up.specs.CatchingUp.{BatchGives, Fits, FlushGives, Gives, LearnGives, LearnedGives};
 ghost use Rattle.catch_up.specs.Held.{learning};
 ghost use Rattle.catch_up.specs.Steps.{IsBelow, batch_of, flushed_of, from_of, name_of};

@@ -9,7 +9,7 @@ use Rattle.calls.specs.Asking.{Refuses}
 use Rattle.calls.specs.Names.{node_of}
 use Rattle.calls.specs.Views.{NodeView}
 use Rattle.calls.specs.declared.call.NodeCall.{NodeCall}
-use Rattle.calls.specs.declared.call.NodeName.{NodeName}
+use Rattle.names.specs.declared.node_name.NodeName.{NodeName}
 use Rattle.calls.specs.declared.reply.Reply.{Reply}
 use Rattle.cluster.specs.declared.flow.Flow.{Flow}
 use Rattle.cluster.specs.declared.flow.Flow.TheVariants.{Write, Read, Check, Watch, Care}

@@ -3,8 +3,8 @@ use Rattle.std.proofs.Common.{◌≡◌, ◌+◌, ◌*◌, ◌≤◌, ◌++◌, 
 use Rattle.device.specs.Device.{State}
 use Rattle.calls.specs.Views.{NodeView}
 use Rattle.cluster.specs.Nodes.{Reopened}
-use Rattle.calls.specs.declared.call.NodeName.{NodeName}
-use Rattle.calls.specs.declared.call.NodeName.TheVariants.{Coordinator, Shard}
+use Rattle.names.specs.declared.node_name.NodeName.{NodeName}
+use Rattle.names.specs.declared.node_name.NodeName.TheVariants.{Coordinator, Shard}
 use Rattle.cluster.specs.Openings.{AreOpened, OpensNext, name_at}
 
 none_left : {X : Type 0} (xs : List X) → length xs ≡ 0 → xs ≡ []

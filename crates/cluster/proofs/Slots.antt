@@ -2,7 +2,7 @@
 use Rattle.std.proofs.Common.{◌≡◌, ◌≢◌, ◌∙◌, ℕ, List, [], Option, Some, None, MatchOption, true, is_some, inl, inr, refl, sym, ap, subst}
 use Rattle.std.proofs.lemmas.Bool.{cases_eq}
 use Rattle.slab.specs.Slab.{Slab, Updates}
-use Rattle.calls.specs.declared.call_name.CallName.{CallName}
+use Rattle.names.specs.declared.call_name.CallName.{CallName}
 use Rattle.cluster.specs.declared.event.What.{What}
 use Rattle.cluster.specs.declared.event.What.TheVariants.{Next}
 use Rattle.cluster.specs.declared.flow.Flow.{Flow}

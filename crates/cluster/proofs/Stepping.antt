@@ -3,10 +3,10 @@ use Rattle.std.proofs.Common.{◌≡◌, ◌∙◌, ℕ, List, Option, Some, Non
 use Rattle.std.specs.declared.alloc.AllocError.{AllocError}
 use Rattle.device.specs.Device.{State}
 use Rattle.calls.specs.Views.{NodeView}
-use Rattle.calls.specs.declared.call.NodeName.{NodeName}
+use Rattle.names.specs.declared.node_name.NodeName.{NodeName}
 use Rattle.cluster.specs.declared.event.What.{What}
 use Rattle.cluster.specs.declared.flow.Flow.{Flow}
-use Rattle.care_flow.specs.declared.care.Care.{Care}
+use Rattle.names.specs.declared.care.Care.{Care}
 use Rattle.cluster.specs.declared.request.Request.{Request}
 use Rattle.cluster.specs.declared.step.Step.{Step}
 use Rattle.cluster.specs.declared.step.Step.TheVariants.{Start, Turn, Cancel, Care as care_for, Restart}

@@ -7,11 +7,11 @@ use Rattle.answer_flow.specs.ReadViews as read_views
 use Rattle.answer_flow.specs.CheckViews as check_views
 use Rattle.answer_flow.specs.WatchViews as watch_views
 use Rattle.care_flow.specs.Cares as cares
-use Rattle.care_flow.specs.declared.care.Care.{Care}
-use Rattle.care_flow.specs.declared.care.Care.TheVariants as any_care
-use Rattle.calls.specs.declared.call.NodeName.{NodeName}
-use Rattle.calls.specs.declared.call_name.CallName.TheVariants as names
-use Rattle.calls.specs.declared.call.NodeName.TheVariants.{Coordinator, Shard}
+use Rattle.names.specs.declared.care.Care.{Care}
+use Rattle.names.specs.declared.care.Care.TheVariants as any_care
+use Rattle.names.specs.declared.node_name.NodeName.{NodeName}
+use Rattle.names.specs.declared.call_name.CallName.TheVariants as names
+use Rattle.names.specs.declared.node_name.NodeName.TheVariants.{Coordinator, Shard}
 use Rattle.cluster.specs.declared.flow.Flow.{Flow}
 use Rattle.cluster.specs.declared.flow.Flow.TheVariants.{Write, Read, Check, Watch, Care as a_care}
 use Rattle.cluster.specs.declared.request.Request.{Request}

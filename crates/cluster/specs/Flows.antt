@@ -3,7 +3,7 @@ use Rattle.std.specs.Prelude.{◌≡◌, ◌≢◌, ℕ, Bool, true, false, Opti
 use Rattle.calls.specs.Asking.{MayBeMade}
 use Rattle.calls.specs.Names.{name_of}
 use Rattle.calls.specs.declared.call.NodeCall.{NodeCall}
-use Rattle.calls.specs.declared.call_name.CallName.{CallName}
+use Rattle.names.specs.declared.call_name.CallName.{CallName}
 use Rattle.calls.specs.declared.reply.Reply.{Reply}
 use Rattle.commit_flow.specs.Writing as writes
 use Rattle.commit_flow.specs.Answering as write_replies

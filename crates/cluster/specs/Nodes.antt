@@ -12,8 +12,8 @@ use Rattle.calls.specs.Names.{node_of}
 use Rattle.calls.specs.Opening.{CoordinatorOpens, ShardOpens}
 use Rattle.calls.specs.Views.{NodeView, refused}
 use Rattle.calls.specs.declared.call.NodeCall.{NodeCall}
-use Rattle.calls.specs.declared.call.NodeName.{NodeName}
-use Rattle.calls.specs.declared.call.NodeName.TheVariants.{Coordinator, Shard}
+use Rattle.names.specs.declared.node_name.NodeName.{NodeName}
+use Rattle.names.specs.declared.node_name.NodeName.TheVariants.{Coordinator, Shard}
 use Rattle.calls.specs.declared.reply.Reply.{Reply}
 use Rattle.cluster.specs.Worlds.{index_of, node_at}
 

@@ -5,9 +5,9 @@ use Rattle.refusal.specs.declared.refusal.Refusal.TheVariants.{Full}
 use Rattle.device.specs.Device.{State}
 use Rattle.calls.specs.Opening.{refusal_of}
 use Rattle.calls.specs.Views.{NodeView, devices_of}
-use Rattle.calls.specs.declared.call.NodeName.{NodeName}
-use Rattle.calls.specs.declared.call_name.CallName.{CallName}
-use Rattle.care_flow.specs.declared.care.Care.{Care}
+use Rattle.names.specs.declared.node_name.NodeName.{NodeName}
+use Rattle.names.specs.declared.call_name.CallName.{CallName}
+use Rattle.names.specs.declared.care.Care.{Care}
 use Rattle.cluster.specs.declared.event.Event.{Event}
 use Rattle.cluster.specs.declared.event.What.{What}
 use Rattle.cluster.specs.declared.event.What.TheVariants.{Began, Next, Up, Refused}

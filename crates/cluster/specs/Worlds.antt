@@ -1,8 +1,8 @@
 -- A store with its nodes and flows, as its callers see it.
 use Rattle.std.specs.Prelude.{◌≡◌, ◌≢◌, ◌+◌, ℕ, List, Option, Some, None, count_by, is_some, slice_get, slice_index_or}
 use Rattle.calls.specs.Views.{NodeView}
-use Rattle.calls.specs.declared.call.NodeName.{NodeName}
-use Rattle.calls.specs.declared.call.NodeName.TheVariants.{Coordinator, Shard}
+use Rattle.names.specs.declared.node_name.NodeName.{NodeName}
+use Rattle.names.specs.declared.node_name.NodeName.TheVariants.{Coordinator, Shard}
 use Rattle.cluster.specs.declared.flow.Flow.{Flow}
 
 -- The number of the store and of its shards; its nodes, the coordinator before the shards; and what is in each slot.

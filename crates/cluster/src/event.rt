@@ -1,6 +1,6 @@
 // What steps tell.
-use calls::CallName;
 use care_flow::Resolved;
+use names::CallName;
 use tuples::{Refusal, Tuple, Version};
 
 /// How a flow ended that was not refused.

@@ -4,9 +4,9 @@ ghost use Rattle.cluster.specs.Cancels.{Cancels, CancelsWrite, left_of};
 ghost use Rattle.cluster.specs.Flows.{IsNamed, is_cancelled as is_cancelled_flow, next_name_of};
 
 use answer_flow::{CheckFlow, ReadFlow, WatchFlow};
-use calls::CallName;
 use care_flow::CareFlow;
 use commit_flow::{WriteEnd, WriteFlow};
+use names::CallName;
 
 /// A write on its way, and whether it was cancelled: then nothing more is told of it.
 pub struct Writing {

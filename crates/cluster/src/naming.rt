@@ -2,7 +2,7 @@
 ghost use Rattle.std.specs.Prelude.{◌≡◌};
 ghost use Rattle.cluster.specs.Worlds.{index_of};
 
-use calls::NodeName;
+use names::NodeName;
 
 /// Its place among the nodes, the coordinator first.
 pub(crate) fn index_of(name: NodeName) -> usize

@@ -7,8 +7,9 @@ ghost use Rattle.cluster.specs.Openings.{AreOpened, IsOpenedOver, OpensNext};
 
 use crate::World;
 use crate::restarting::reopen_node;
-use calls::{Node, NodeName, Told};
+use calls::{Node, Told};
 use device::Device;
+use names::NodeName;
 use slab::Slab;
 use std::alloc::Global;
 

@@ -13,8 +13,9 @@ ghost use Rattle.cluster.specs.Worlds.{node_at};
 
 use crate::What;
 use crate::naming::index_of;
-use calls::{Node, NodeName};
+use calls::Node;
 use device::Device;
+use names::NodeName;
 use records::Identity;
 use std::alloc::Global;
 use tuples::Refusal;

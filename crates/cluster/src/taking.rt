@@ -7,9 +7,8 @@ use crate::restarting::restart;
 use crate::starting::{care_for, start};
 use crate::turning::turn;
 use crate::{Request, Step, What, World};
-use calls::NodeName;
-use care_flow::Care;
 use device::Device;
+use names::{Care, NodeName};
 use std::alloc::AllocError;
 
 impl<D: Device> World<D> {

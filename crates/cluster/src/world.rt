@@ -1,16 +1,17 @@
 // A store with its nodes and flows.
 ghost use Rattle.std.specs.Prelude.{◌≡◌, Err, None, MatchOption};
 ghost use Rattle.calls.specs.Rows.{RowsOf};
-ghost use Rattle.calls.specs.declared.call.NodeName.TheVariants.{Shard as shard_name};
+ghost use Rattle.names.specs.declared.node_name.NodeName.TheVariants.{Shard as shard_name};
 ghost use Rattle.cluster.specs.Flows.{next_name_of};
 ghost use Rattle.cluster.specs.Nodes.{IsSetIn};
 ghost use Rattle.cluster.specs.Worlds.{flow_at, node_at};
 
 use crate::Flow;
 use crate::naming::index_of;
-use calls::{CallName, Node, NodeName, Told};
+use calls::{Node, Told};
 use device::{Device, Tear};
 use journal::Bank;
+use names::{CallName, NodeName};
 use slab::Slab;
 use std::alloc::Global;
 use std::marker::Model;

@@ -1,6 +1,6 @@
 -- A write flow as its callers see it.
 use Rattle.std.specs.Prelude.{ℕ, Option}
-use Rattle.calls.specs.declared.call_name.CallName.{CallName}
+use Rattle.names.specs.declared.call_name.CallName.{CallName}
 use Rattle.commit_flow.specs.Views.{WriteView}
 
 -- in a store of so many shards, with the name of its next call, if there is one

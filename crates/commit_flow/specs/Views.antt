@@ -7,8 +7,8 @@ use Rattle.decisions.specs.Values.{BatchValue, IntentValue, TicketValue, Verdict
 use Rattle.decisions.specs.Standing.{DecidedValue}
 use Rattle.decisions.specs.declared.held.Held.{Held}
 use Rattle.decisions.specs.declared.held.Held.TheVariants.{Ticket, Vote as held_vote}
-use Rattle.calls.specs.declared.call_name.CallName.{CallName}
-use Rattle.calls.specs.declared.call_name.CallName.TheVariants as names
+use Rattle.names.specs.declared.call_name.CallName.{CallName}
+use Rattle.names.specs.declared.call_name.CallName.TheVariants as names
 use Rattle.commit_flow.specs.declared.end.WriteEnd.{WriteEnd}
 use Rattle.commit_flow.specs.declared.end.WriteEnd.TheVariants.{Wrote, Refused, Cancelled}
 use Rattle.commit_flow.specs.declared.load.Load.{Load}

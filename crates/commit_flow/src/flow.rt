@@ -1,7 +1,7 @@
 // A write flow: one call a turn.
 ghost use Rattle.std.specs.Prelude.{◌≡◌, ◌≤◌, ◌≢◌, Some, None, false, ℕ, IfOk, IfErr, MatchOption, option_map};
 ghost use Rattle.calls.specs.Names.{name_of as name_of_call};
-ghost use Rattle.calls.specs.declared.call_name.CallName.TheVariants as names;
+ghost use Rattle.names.specs.declared.call_name.CallName.TheVariants as names;
 ghost use Rattle.records.specs.Identity.{max_shards};
 ghost use Rattle.commit_flow.specs.Answering.{GivesTo, MayGive};
 ghost use Rattle.commit_flow.specs.Cancelling.{Cancels};
@@ -15,7 +15,8 @@ use crate::giving::give;
 use crate::load::Load;
 use crate::next::next;
 use crate::phase::{Phase, Ready};
-use calls::{CallName, NodeCall, Reply};
+use calls::{NodeCall, Reply};
+use names::CallName;
 use std::alloc::Global;
 use std::marker::Model;
 use std::mem;

@@ -1,7 +1,7 @@
 // The next call of each phase.
 ghost use Rattle.std.specs.Prelude.{ℕ, ◌≡◌};
 ghost use Rattle.calls.specs.Names.{name_of as name_of_call};
-ghost use Rattle.calls.specs.declared.call_name.CallName.TheVariants as names;
+ghost use Rattle.names.specs.declared.call_name.CallName.TheVariants as names;
 ghost use Rattle.commit_flow.specs.Kept.{IsOutOf, IsReadyOf};
 ghost use Rattle.commit_flow.specs.Views.{name_ready, view_out, view_ready};
 ghost use Rattle.commit_flow.specs.Writing.{Asks};
@@ -9,9 +9,10 @@ ghost use Rattle.commit_flow.specs.declared.phase.Ready.TheVariants.{CatchUp as 
 
 use crate::ballot::Ballot;
 use crate::phase::{AskedPrepare, Out, Preparing, Ready, Voting};
-use calls::{CallName, CoordinatorCall, NodeCall, ShardCall};
+use calls::{CoordinatorCall, NodeCall, ShardCall};
 use catch_up::CatchUp;
 use decisions::Ticket;
+use names::CallName;
 
 fn catch_up(preparing: Preparing, catch_up: CatchUp) -> (NodeCall, Out)
     requires shard { catch_up.shard ≡ preparing.shard }

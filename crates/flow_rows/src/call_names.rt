@@ -1,5 +1,5 @@
 // The names of calls, as a script has them, with the node behind them.
-use calls::{CallName, NodeName};
+use names::{CallName, NodeName};
 use std::alloc::AllocError;
 
 /// The name of a call, and the node that is called.

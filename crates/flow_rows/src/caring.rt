@@ -4,9 +4,10 @@ ghost use Rattle.care_flow.specs.Cares.{IsThere, begun};
 
 use crate::call_names::Named;
 use crate::stores::{SHARDS, Store};
-use calls::{NodeName, Told};
-use care_flow::{Care, CareFlow};
+use calls::Told;
+use care_flow::CareFlow;
 use device::Device;
+use names::{Care, NodeName};
 use std::alloc::{AllocError, Global};
 
 // Whether the node that it cares for is there.

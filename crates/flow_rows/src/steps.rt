@@ -1,7 +1,7 @@
 // The steps of a row, a line each. Write flows are numbered in the order in which they were begun, from 0 on; of the other flows a step names
 // the one that was begun last.
 use crate::plays::Playing;
-use crate::texts::{care, command, node_of, number, refusal, two_numbers};
+use crate::texts::{care, command, number, refusal, two_numbers};
 use device::Device;
 use lines::Command;
 use requests::Request;
@@ -114,8 +114,8 @@ impl<D: Device> Playing<D> {
 
     fn flush_by(&mut self, alloc: Global, rest: &str) -> Result<(), Refusal> {
         match command(alloc, rest)? {
-            Command::Care(lines::Care::Flush(node)) => {
-                self.flush(node_of(node));
+            Command::Care(names::Care::Flush(node)) => {
+                self.flush(node);
                 Ok(())
             }
             _ => Err(Refusal::BadRequest),
@@ -127,7 +127,7 @@ impl<D: Device> Playing<D> {
         let (restart, rest) = rest.split_once(", ").ok_or(Refusal::BadRequest)?;
         match command(alloc, restart)? {
             Command::Restart(node) => {
-                self.care_across(alloc, care(alloc, rest)?, number(turns)?, node_of(node))
+                self.care_across(alloc, care(alloc, rest)?, number(turns)?, node)
             }
             _ => Err(Refusal::BadRequest),
         }
@@ -152,11 +152,11 @@ impl<D: Device> Playing<D> {
             }
             Command::Care(_) => self.care(alloc, care(alloc, line)?),
             Command::Restart(node) => {
-                self.restart(node_of(node));
+                self.restart(node);
                 Ok(())
             }
             Command::Fail(failure) => {
-                self.fail(node_of(failure.node), failure.n, failure.tear);
+                self.fail(failure.node, failure.n, failure.tear);
                 Ok(())
             }
             _ => Err(Refusal::BadRequest),

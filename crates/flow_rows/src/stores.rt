@@ -4,9 +4,10 @@ ghost use Rattle.records.specs.Identity.{max_shards};
 ghost use Rattle.calls.specs.Belonging.{IsOwed, IsReplyTo};
 
 use crate::refusing::{Refusing, answer};
-use calls::{Node, NodeCall, NodeName, Reply, Told, ask, refuse};
+use calls::{Node, NodeCall, Reply, Told, ask, refuse};
 use device::{Device, SimDisk, Tear};
 use journal::Bank;
+use names::NodeName;
 use records::Identity;
 use std::alloc::{AllocError, Global};
 use tuples::Refusal;

@@ -1,9 +1,8 @@
 // The words of a step.
 use crate::stores::{SHARDS, STORE};
 use answer_flow::Freshness;
-use calls::NodeName;
-use care_flow::Care;
 use lines::Command;
+use names::Care;
 use std::alloc::Global;
 use tuples::Refusal;
 
@@ -17,28 +16,11 @@ pub(crate) fn two_numbers(text: &str) -> Result<(usize, usize), Refusal> {
     Ok((number(first)?, number(second)?))
 }
 
-pub(crate) fn node_of(node: lines::NodeName) -> NodeName {
-    match node {
-        lines::NodeName::Coordinator => NodeName::Coordinator,
-        lines::NodeName::Shard(shard) => NodeName::Shard(shard),
-    }
-}
-
 pub(crate) fn freshness_of(freshness: requests::Freshness) -> Freshness {
     match freshness {
         requests::Freshness::Latest => Freshness::Latest,
         requests::Freshness::AtLeast(place) => Freshness::AtLeast(place),
         requests::Freshness::Exact(place) => Freshness::Exact(place),
-    }
-}
-
-fn care_of(care: lines::Care) -> Care {
-    match care {
-        lines::Care::Flush(node) => Care::Flush(node_of(node)),
-        lines::Care::Learn(shard) => Care::Learn(shard),
-        lines::Care::Resolve(shard) => Care::Resolve(shard),
-        lines::Care::Raise(place) => Care::Raise(place),
-        lines::Care::Collect(shard) => Care::Collect(shard),
     }
 }
 
@@ -50,7 +32,7 @@ pub(crate) fn command(alloc: Global, line: &str) -> Result<Command, Refusal> {
 /// A care, as a script spells it.
 pub(crate) fn care(alloc: Global, line: &str) -> Result<Care, Refusal> {
     match command(alloc, line)? {
-        Command::Care(care) => Ok(care_of(care)),
+        Command::Care(care) => Ok(care),
         _ => Err(Refusal::BadRequest),
     }
 }

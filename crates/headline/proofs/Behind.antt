@@ -4,7 +4,7 @@ use Rattle.std.proofs.lemmas.Bool.{cases_Bool, eq-eqb, eqb-true}
 use Rattle.tuples.specs.declared.entry.WriteId.{WriteId}
 use Rattle.calls.specs.Views as views
 use Rattle.calls.specs.Views.{NodeView, devices_of}
-use Rattle.calls.specs.declared.call.NodeName.TheVariants.{Coordinator}
+use Rattle.names.specs.declared.node_name.NodeName.TheVariants.{Coordinator}
 use Rattle.laws.specs.Nodes.{IsThere, NodeName, NodeState, coordinator, shard}
 use Rattle.turns.specs.Stores.{FlowView, Store}
 use Rattle.call_turns.specs.StoreCalls.{IsNamed, IsNode, ShowsMemory, shown}

@@ -2,7 +2,7 @@
 use Rattle.std.proofs.Common.{◌≡◌, ◌≢◌, ⊎_elim, ℕ, true, false, List, [], Option, Some, None, MatchOption, is_some, refl, sym, ◌∙◌, ap, subst}
 use Rattle.std.proofs.lemmas.Bool.{cases_eq}
 use Rattle.device.specs.Device.{State, left}
-use Rattle.calls.specs.declared.call_name.CallName.{CallName}
+use Rattle.names.specs.declared.call_name.CallName.{CallName}
 use Rattle.commit_flow.specs.declared.end.WriteEnd.{WriteEnd}
 use Rattle.care_flow.specs.declared.care.CareFlow.{CareFlow}
 use Rattle.care_flow.specs.declared.care.CareFlow.TheVariants as cares

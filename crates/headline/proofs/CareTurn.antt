@@ -4,7 +4,7 @@ use Rattle.device.specs.Device.{State, left}
 use Rattle.calls.specs.Asking.{MayBeMade}
 use Rattle.calls.specs.declared.call.NodeCall.{NodeCall}
 use Rattle.calls.specs.declared.call.NodeCall.TheVariants.{Coordinator, Shard}
-use Rattle.calls.specs.declared.call_name.CallName.{CallName}
+use Rattle.names.specs.declared.call_name.CallName.{CallName}
 use Rattle.care_flow.specs.Cares.{IsThere, end_of, has_next, next_name_of}
 use Rattle.care_flow.specs.declared.care.CareFlow.{CareFlow}
 use Rattle.care_flow.specs.declared.end.CareEnd.{CareEnd}

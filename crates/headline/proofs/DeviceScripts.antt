@@ -10,7 +10,7 @@ use Rattle.records.specs.declared.record.Record.{Record}
 use Rattle.calls.specs.Failing.{DevicesAreSet, NodeIsSet}
 use Rattle.calls.specs.Views as views
 use Rattle.calls.specs.Views.{NodeView, devices_of}
-use Rattle.calls.specs.declared.call.NodeName.TheVariants.{Coordinator, Shard}
+use Rattle.names.specs.declared.node_name.NodeName.TheVariants.{Coordinator, Shard}
 use Rattle.laws.specs.Nodes.{IsThere, NodeName, coordinator, down, refused, shard, up}
 use Rattle.turns.specs.Moments.{Moment}
 use Rattle.turns.specs.Stands.{IsHorizonIn, Stands}

@@ -3,8 +3,8 @@ use Rattle.std.proofs.Common.{◌≡◌, ◌≢◌, inl, inr, ⊎_elim, ◌≤�
 use Rattle.std.proofs.lemmas.List.{length-set}
 use Rattle.device.specs.Device.{State, left}
 use Rattle.calls.specs.Views.{NodeView, devices_of}
-use Rattle.calls.specs.declared.call.NodeName as names
-use Rattle.calls.specs.declared.call.NodeName.TheVariants as called
+use Rattle.names.specs.declared.node_name.NodeName as names
+use Rattle.names.specs.declared.node_name.NodeName.TheVariants as called
 use Rattle.cluster.specs.Nodes.{Reopened}
 use Rattle.cluster.specs.Steps.{IsIdle, RestartsIn, Takes}
 use Rattle.cluster.specs.Worlds.{WorldView, index_of, node_at}

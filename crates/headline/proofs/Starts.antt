@@ -5,12 +5,12 @@ use Rattle.device.specs.Device.{State, left}
 use Rattle.refusal.specs.declared.refusal.Refusal.TheVariants.{Full}
 use Rattle.tuples.specs.Limits.{max_number}
 use Rattle.decisions.specs.Flows.{Freshness, at_least, exact, latest, most_namespaces, most_sets, most_watched}
-use Rattle.calls.specs.declared.call.NodeName as names
-use Rattle.calls.specs.declared.call.NodeName.TheVariants as called_names
+use Rattle.names.specs.declared.node_name.NodeName as names
+use Rattle.names.specs.declared.node_name.NodeName.TheVariants as called_names
 use Rattle.answer_flow.specs.Finding.{fresh_of}
 use Rattle.care_flow.specs.Flushing as flushes
-use Rattle.care_flow.specs.declared.care.Care.{Care}
-use Rattle.care_flow.specs.declared.care.Care.TheVariants as any_care
+use Rattle.names.specs.declared.care.Care.{Care}
+use Rattle.names.specs.declared.care.Care.TheVariants as any_care
 use Rattle.laws.specs.Nodes.{IsThere, NodeName}
 use Rattle.turns.specs.Flows.{Asked, IsAsked, IsFreshness, nothing_held}
 use Rattle.turns.specs.Promises.{RunsOne, events_of}

@@ -14,7 +14,7 @@ use Rattle.cluster.specs.Turns.{TurnsWrite}
 use Rattle.cluster.specs.Worlds.{WorldView, flow_at}
 use Rattle.cluster.specs.declared.event.What.{What}
 use Rattle.cluster.specs.declared.event.What.TheVariants.{Next}
-use Rattle.calls.specs.declared.call_name.CallName.{CallName}
+use Rattle.names.specs.declared.call_name.CallName.{CallName}
 use Rattle.cluster.specs.declared.flow.Flow.{Flow}
 use Rattle.cluster.specs.declared.flow.Flow.TheVariants.{Write}
 use Rattle.cluster.specs.declared.flow.Writing.{Writing}

@@ -3,7 +3,7 @@ use Rattle.std.specs.Prelude.{◌≡◌, ℕ, List, MatchOption}
 use Rattle.device.specs.Device.{State}
 use Rattle.device.specs.declared.tear.Tear.{Tear}
 use Rattle.journal.specs.declared.refused.Bank.{Bank}
-use Rattle.calls.specs.declared.call.NodeName.{NodeName}
+use Rattle.names.specs.declared.node_name.NodeName.{NodeName}
 use Rattle.cluster.specs.Nodes.{IsSetIn}
 use Rattle.cluster.specs.Worlds.{WorldView, node_at}
 use Rattle.turns.specs.Moments.{Moment}

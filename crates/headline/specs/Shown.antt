@@ -2,8 +2,8 @@
 use Rattle.std.specs.Prelude.{◌≡◌, ◌≤◌, ◌+◌, ℕ, length, Option, Some, None}
 use Rattle.tuples.specs.declared.object.Userset.{Userset}
 use Rattle.calls.specs.Views.{NodeView}
-use Rattle.calls.specs.declared.call.NodeName as names
-use Rattle.calls.specs.declared.call.NodeName.TheVariants as called
+use Rattle.names.specs.declared.node_name.NodeName as names
+use Rattle.names.specs.declared.node_name.NodeName.TheVariants as called
 use Rattle.care_flow.specs.Cares.{IsThere as IsCareThere}
 use Rattle.laws.specs.Nodes.{NodeName, coordinator, shard}
 use Rattle.turns.specs.Flows.{IsAsked, checking, reading, watching}

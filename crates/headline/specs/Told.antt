@@ -4,8 +4,8 @@ use Rattle.tuples.specs.Changes.{IsWrite}
 use Rattle.answer_flow.specs.Finding.{fresh_of}
 use Rattle.answer_flow.specs.ReadViews.{rows_of}
 use Rattle.care_flow.specs.Ends.{resolved_value}
-use Rattle.care_flow.specs.declared.care.Care.{Care}
-use Rattle.care_flow.specs.declared.care.Care.TheVariants as cares
+use Rattle.names.specs.declared.care.Care.{Care}
+use Rattle.names.specs.declared.care.Care.TheVariants as cares
 use Rattle.turns.specs.Flows.{Asked, to_check, to_collect, to_flush, to_learn, to_raise, to_read, to_resolve, to_watch, to_write}
 use Rattle.turns.specs.Replies as replies
 use Rattle.turns.specs.Runs as runs

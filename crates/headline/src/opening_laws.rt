@@ -1,6 +1,6 @@
 // What is opened again keeps the promises of runs: laws, each the clause of a function with an empty body.
 ghost use Rattle.std.specs.Prelude.{ℕ};
-ghost use Rattle.calls.specs.declared.call.NodeName.{NodeName};
+ghost use Rattle.names.specs.declared.node_name.NodeName.{NodeName};
 ghost use Rattle.cluster.specs.declared.step.Step.TheVariants.{Restart};
 ghost use Rattle.headline.specs.Promised.{OpeningsKeep, StepKeeps};
 ghost use Rattle.laws.specs.Nodes.{NodeName as NodeAt};

@@ -7,15 +7,16 @@ use Rattle.tuples.specs.Texts.{IsTuple, IsTupleset, tuple_text, tupleset_text}
 use Rattle.zookie.specs.Zookies.{zookie_text}
 use Rattle.requests.specs.declared.request.Request.{Request}
 use Rattle.requests.specs.declared.request.Request.TheVariants.{Write, Read, Check, Watch}
-use Rattle.lines.specs.declared.care.Care.{Care}
-use Rattle.lines.specs.declared.care.Care.TheVariants as care
+use Rattle.names.specs.declared.care.Care.{Care}
+use Rattle.names.specs.declared.care.Care.TheVariants as care
 use Rattle.lines.specs.declared.command.Command.{Command}
 use Rattle.lines.specs.declared.fail.Failure.{Failure}
 use Rattle.lines.specs.declared.flow.Handling.{Handling}
 use Rattle.lines.specs.declared.flow.Handling.TheVariants as handling
-use Rattle.lines.specs.declared.node.NodeName.{NodeName}
+use Rattle.names.specs.declared.node_name.NodeName.{NodeName}
 use Rattle.lines.specs.declared.command.Command.TheVariants as command
-use Rattle.lines.specs.Texts.{IsCount, IsFlowName, IsFreshness, IsLimit, IsNode, IsPlace, IsTear, bank_text, call_text, change_text, condition_text, fresh_text, node_text, tear_text}
+use Rattle.names.specs.Names.{call_text}
+use Rattle.lines.specs.Texts.{IsCount, IsFlowName, IsFreshness, IsLimit, IsNode, IsPlace, IsTear, bank_text, change_text, condition_text, fresh_text, node_text, tear_text}
 use Rattle.lines.specs.Words.{AreWanted, if_words, words_of}
 
 -- the words of a request at this store

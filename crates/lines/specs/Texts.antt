@@ -16,10 +16,8 @@ use Rattle.journal.specs.declared.refused.Bank.{Bank}
 use Rattle.journal.specs.declared.refused.Bank.TheVariants.{A, B}
 use Rattle.requests.specs.declared.request.Freshness.{Freshness}
 use Rattle.requests.specs.declared.request.Freshness.TheVariants.{Latest, AtLeast, Exact}
-use Rattle.lines.specs.declared.call_name.CallName.{CallName}
-use Rattle.lines.specs.declared.call_name.CallName.TheVariants as call
-use Rattle.lines.specs.declared.node.NodeName.{NodeName}
-use Rattle.lines.specs.declared.node.NodeName.TheVariants as node
+use Rattle.names.specs.declared.node_name.NodeName.{NodeName}
+use Rattle.names.specs.declared.node_name.NodeName.TheVariants as node
 
 -- +tuple or -tuple
 abbrev pub change_text : Change → List ℕ
@@ -85,27 +83,6 @@ abbrev pub IsTear : Tear → Type 0
 IsTear tear.Old = Unit {0}
 IsTear tear.New = Unit {0}
 IsTear (tear.Fill b) = b < 2 ^ 8
-
--- the names of the calls of nodes
-abbrev pub call_text : CallName → List ℕ
-call_text call.Begin = codes "begin"
-call_text call.Heads = codes "heads"
-call_text call.Learned = codes "learned"
-call_text call.Batch = codes "batch"
-call_text call.Learn = codes "learn"
-call_text call.StagePrepare = codes "stage_prepare"
-call_text call.Flush = codes "flush"
-call_text call.Vote = codes "vote"
-call_text call.Decide = codes "decide"
-call_text call.Outcome = codes "outcome"
-call_text call.Abort = codes "abort"
-call_text call.DropWrite = codes "drop_write"
-call_text call.Inquire = codes "inquire"
-call_text call.InDoubt = codes "in_doubt"
-call_text call.Read = codes "read"
-call_text call.Settle = codes "settle"
-call_text call.Raise = codes "raise"
-call_text call.Collect = codes "collect"
 
 -- a to z, 0 to 9
 abbrev pub is_flow_byte : ℕ → Bool

@@ -4,14 +4,15 @@ ghost use Rattle.lines.specs.Causes.{Cause, WordsCause};
 ghost use Rattle.lines.specs.Lines.{IsPassed, SpellNoOrder, Spells, SpellsWords};
 ghost use Rattle.lines.specs.Words.{texts, words_of};
 
-use crate::care::{Care, parse_care};
+use crate::care::parse_care;
 use crate::fail::{Failure, parse_fail};
 use crate::flow::{Handling, parse_handling};
 use crate::name::{Name, is_free};
-use crate::node::{NodeName, parse_restart, parse_rows};
+use crate::node::{parse_restart, parse_rows};
 use crate::request::request_of;
 use crate::shapes::shape_of;
 use crate::words::{behind, split_words};
+use names::{Care, NodeName};
 use requests::Request;
 use std::alloc::Global;
 use tuples::Refusal;

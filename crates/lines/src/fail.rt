@@ -5,11 +5,12 @@ ghost use Rattle.lines.specs.Lines.{SpellsFailure};
 ghost use Rattle.lines.specs.Texts.{IsTear, ReadsText, tear_text};
 ghost use Rattle.lines.specs.Words.{texts};
 
-use crate::node::{NodeName, parse_bank};
+use crate::node::parse_bank;
 use crate::numbers::{parse_count, parse_hex};
 use crate::words::three_behind;
 use device::Tear;
 use journal::Bank;
+use names::NodeName;
 
 /// A failure that is set on one device of a node.
 #[derive(Clone, Copy, Debug, PartialEq, Eq)]

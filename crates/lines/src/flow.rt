@@ -1,13 +1,13 @@
 // What is done with a flow that runs, as `turn w` or `until w decide`.
 ghost use Rattle.std.specs.Prelude.{ℕ, MatchOption};
-ghost use Rattle.lines.specs.declared.call_name.CallName.{CallName as AnyCall};
+ghost use Rattle.names.specs.declared.call_name.CallName.{CallName as AnyCall};
 ghost use Rattle.lines.specs.declared.flow.Handling.{Handling as AnyHandling};
 ghost use Rattle.lines.specs.Lines.{SpellsHandling};
 ghost use Rattle.lines.specs.Words.{texts};
 
-use crate::call_name::{CallName, parse_call};
 use crate::name::{Name, find};
 use crate::words::{one_behind, two_behind};
+use names::CallName;
 
 /// What is done with a flow that runs.
 #[derive(Clone, Copy, Debug, PartialEq, Eq)]
@@ -46,5 +46,5 @@ fn parse_until(words: &[&[u8]], running: &[Name]) -> Option<(usize, Handling)>
 {
     let (name, call) = two_behind(words, b"until")?;
     let flow = find(name, running)?;
-    Some((flow, Handling::Until(parse_call(call)?)))
+    Some((flow, Handling::Until(CallName::parse(call)?)))
 }

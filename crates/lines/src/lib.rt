@@ -7,7 +7,6 @@
 //! Start at `specs/Lines.antt`, which line spells which command, and `specs/Causes.antt`, why a line is refused.
 #![tactic(auto)]
 
-mod call_name;
 mod care;
 mod command;
 mod conditions;
@@ -23,10 +22,7 @@ mod shapes;
 mod texts;
 mod words;
 
-pub use call_name::CallName;
-pub use care::Care;
 pub use command::{Command, MAX_LINE};
 pub use fail::Failure;
 pub use flow::Handling;
 pub use name::Name;
-pub use node::NodeName;

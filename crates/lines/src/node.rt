@@ -1,7 +1,7 @@
 // The nodes of a store, by their texts.
 ghost use Rattle.std.specs.Prelude.{◌<◌, ℕ, MatchOption};
 ghost use Rattle.std.specs.Fmt.{decimal};
-ghost use Rattle.lines.specs.declared.node.NodeName.{NodeName as AnyNode};
+ghost use Rattle.names.specs.declared.node_name.NodeName.{NodeName as AnyNode};
 ghost use Rattle.lines.specs.Lines.{SpellsRestart, SpellsRows};
 ghost use Rattle.lines.specs.Texts.{IsNode, ReadsText, bank_text, node_text};
 ghost use Rattle.lines.specs.Words.{texts};
@@ -9,15 +9,7 @@ ghost use Rattle.lines.specs.Words.{texts};
 use crate::numbers::parse_place;
 use crate::words::one_behind;
 use journal::Bank;
-
-/// Which node of a store.
-#[derive(Clone, Copy, Debug, PartialEq, Eq)]
-pub enum NodeName {
-    /// `c`
-    Coordinator,
-    /// `0`, or another number below that of the shards.
-    Shard(u8),
-}
+use names::NodeName;
 
 /// The node with this text, in a store of so many shards.
 pub(crate) fn parse_node(text: &[u8], shards: u8) -> Option<NodeName>

@@ -1,22 +1,19 @@
 -- The turns of a flow, one after another.
 use Rattle.std.specs.Prelude.{◌≡◌, ℕ, List, [], ◌∷◌, Option, Some, None, MatchOption}
-use Rattle.calls.specs.Names.{text_of}
-use Rattle.calls.specs.declared.call_name.CallName.{CallName}
+use Rattle.names.specs.declared.call_name.CallName.{CallName}
 use Rattle.cluster.specs.declared.event.What.{What}
 use Rattle.cluster.specs.declared.step.Step.{Step}
 use Rattle.cluster.specs.declared.step.Step.TheVariants.{Turn, Cancel}
-use Rattle.lines.specs.declared.call_name.CallName as asked
 use Rattle.lines.specs.declared.flow.Handling.{Handling}
 use Rattle.lines.specs.declared.flow.Handling.TheVariants as handling
-use Rattle.lines.specs.Texts.{call_text}
 
--- the call is the one that is asked for, by its text; where none is asked for, no call is it
-abbrev pub IsAsked : Option asked.CallName → CallName → Type 0
+-- the call is the one that is asked for; where none is asked for, no call is it
+abbrev pub IsAsked : Option CallName → CallName → Type 0
 IsAsked None call = ⊥
-IsAsked (Some name) call = call_text name ≡ text_of call
+IsAsked (Some name) call = name ≡ call
 
 -- a flow with this next call goes on: it has one, and that is another than the one that is asked for
-abbrev pub GoesOn : Option asked.CallName → Option CallName → Type 0
+abbrev pub GoesOn : Option CallName → Option CallName → Type 0
 GoesOn until None = ⊥
 GoesOn until (Some call) = IsAsked until call → ⊥
 
@@ -25,7 +22,7 @@ abbrev pub last_told : List (Option What) → Option What
 last_told [] = None
 last_told (told ∷ before) = told
 
-module _ {S : Type 0} (takes : S → Step → Option What → S → Type 0) (nexts : S → ℕ → Option CallName → Type 0) (slot : ℕ) (until : Option asked.CallName) where
+module _ {S : Type 0} (takes : S → Step → Option What → S → Type 0) (nexts : S → ℕ → Option CallName → Type 0) (slot : ℕ) (until : Option CallName) where
   -- the flow in the slot goes on from here
   abbrev pub GoesOnFrom : S → Type 0
   GoesOnFrom s = (next : Option CallName) × nexts s slot next × GoesOn until next

@@ -2,8 +2,8 @@
 use Rattle.std.specs.Prelude.{◌≡◌, ◌<◌, ◌⊎◌, ℕ, List, [], ◌∷◌, ◌++◌, codes, Option, Some, None, MatchOption, Result, Ok, Err, slice_get, slice_index}
 use Rattle.std.specs.Global.{Vec}
 use Rattle.std.specs.List.{flat_map, remove}
-use Rattle.calls.specs.declared.call.NodeName.{NodeName}
-use Rattle.calls.specs.declared.call_name.CallName.{CallName}
+use Rattle.names.specs.declared.node_name.NodeName.{NodeName}
+use Rattle.names.specs.declared.call_name.CallName.{CallName}
 use Rattle.cluster.specs.declared.event.What.{What}
 use Rattle.cluster.specs.declared.event.What.TheVariants.{Began, Next, Ended, Up, Refused}
 use Rattle.cluster.specs.declared.step.Step.{Step}
@@ -20,7 +20,7 @@ use Rattle.printed.specs.Texts.{named_line, refusal_line, version_line}
 use Rattle.refusal.specs.declared.refusal.Refusal.{Refusal}
 use Rattle.refusal.specs.declared.refusal.Refusal.TheVariants.{Future, NoMemory}
 use Rattle.tuples.specs.declared.version.Version.{Version}
-use Rattle.scripts.specs.Asking.{care_of, node_of, request_of}
+use Rattle.scripts.specs.Asking.{request_of}
 use Rattle.scripts.specs.Going.{Goes}
 use Rattle.scripts.specs.Telling.{next_line, set_line, told_text}
 
@@ -112,12 +112,12 @@ module _ {S : Type 0} (takes : S → Step → Option What → S → Type 0) (nex
   abbrev pub CarriesOut : ℕ → Command → RunningView S → List ℕ → RunningView S → Type 0
   CarriesOut id Pass old text new = (text ≡ []) × (new ≡ old)
   CarriesOut id (Ask request) old text new = Serves takes nexts id (step.Start (request_of request)) old.store text new.store × KeepsFlows old new
-  CarriesOut id (Care care) old text new = Serves takes nexts id (step.Care (care_of care)) old.store text new.store × KeepsFlows old new
+  CarriesOut id (Care care) old text new = Serves takes nexts id (step.Care care) old.store text new.store × KeepsFlows old new
   CarriesOut id (Start name request) old text new = Starts takes nexts id name (step.Start (request_of request)) old text new
   CarriesOut id (Handle flow h) old text new = Handles takes nexts id flow h old text new
   CarriesOut id (Rows shard) old text new = Shows shows shard old.store text × (new ≡ old)
-  CarriesOut id (Restart node) old text new = (told : Option What) × takes old.store (step.Restart (node_of node)) told new.store × (text ≡ told_text id told) × KeepsFlows old new
-  CarriesOut id (Fail f) old text new = sets old.store (node_of f.node) f.bank f.n f.tear new.store × (text ≡ set_line) × KeepsFlows old new
+  CarriesOut id (Restart node) old text new = (told : Option What) × takes old.store (step.Restart node) told new.store × (text ≡ told_text id told) × KeepsFlows old new
+  CarriesOut id (Fail f) old text new = sets old.store f.node f.bank f.n f.tear new.store × (text ≡ set_line) × KeepsFlows old new
 
   -- A line that spells a command carries it out. One that spells none is refused with its cause, and nothing is done. Where memory was refused behind a step,
   -- that alone is told.

@@ -2,8 +2,8 @@
 use Rattle.std.specs.Prelude.{ℕ, List, [], ◌∷◌, ◌++◌, map, codes, Option, Some, None}
 use Rattle.std.specs.List.{flat_map}
 use Rattle.std.specs.Fmt.{decimal}
-use Rattle.calls.specs.Names.{text_of}
-use Rattle.calls.specs.declared.call_name.CallName.{CallName}
+use Rattle.names.specs.declared.call_name.CallName.{CallName}
+use Rattle.names.specs.Names.{call_text}
 use Rattle.care_flow.specs.declared.end.Resolved.{Resolved}
 use Rattle.care_flow.specs.declared.end.Resolved.TheVariants as resolved
 use Rattle.cluster.specs.declared.event.Answer.{Answer}
@@ -37,7 +37,7 @@ end_text id (ended.Resolved found) = flat_map resolved_text found.items ++ done_
 end_text id ended.Done = done_line
 
 abbrev pub next_line : CallName → List ℕ
-next_line call = named_line (codes "next ") (text_of call)
+next_line call = named_line (codes "next ") (call_text call)
 
 -- what a step tells; of a flow that has begun its name is told, and not its slot
 abbrev pub told_text : ℕ → Option What → List ℕ

@@ -2,8 +2,6 @@
 ghost use Rattle.std.specs.Prelude.{◌≡◌};
 ghost use Rattle.scripts.specs.Asking as spec;
 
-use calls::NodeName;
-use care_flow::Care;
 use tuples::Userset;
 
 fn fresh_of(freshness: requests::Freshness) -> answer_flow::Freshness
@@ -37,26 +35,5 @@ pub(crate) fn request_of(request: requests::Request) -> cluster::Request
             limit,
             namespaces,
         } => cluster::Request::Watch(from, u64::from(limit), namespaces),
-    }
-}
-
-pub(crate) fn node_of(node: lines::NodeName) -> NodeName
-    ensures { result ≡ spec.node_of node }
-{
-    match node {
-        lines::NodeName::Coordinator => NodeName::Coordinator,
-        lines::NodeName::Shard(shard) => NodeName::Shard(shard),
-    }
-}
-
-pub(crate) fn care_of(care: lines::Care) -> Care
-    ensures { result ≡ spec.care_of care }
-{
-    match care {
-        lines::Care::Flush(node) => Care::Flush(node_of(node)),
-        lines::Care::Learn(shard) => Care::Learn(shard),
-        lines::Care::Resolve(shard) => Care::Resolve(shard),
-        lines::Care::Raise(place) => Care::Raise(place),
-        lines::Care::Collect(shard) => Care::Collect(shard),
     }
 }

@@ -4,21 +4,21 @@ ghost use Rattle.scripts.specs.Going.{Goes, GoesOn, IsAsked};
 ghost use Rattle.scripts.specs.Scripts.{Cancels};
 
 use crate::Store;
-use calls::CallName;
 use cluster::{Step, What};
+use names::CallName;
 use std::alloc::AllocError;
 
 // Whether the call is the one that is asked for.
-fn is_asked(until: Option<lines::CallName>, call: CallName) -> bool
+fn is_asked(until: Option<CallName>, call: CallName) -> bool
     ensures { IsTrue result ↔ IsAsked until call }
 {
     match until {
         None => false,
-        Some(name) => name.name() == call.name(),
+        Some(name) => name == call,
     }
 }
 
-fn goes_on(until: Option<lines::CallName>, next: Option<CallName>) -> bool
+fn goes_on(until: Option<CallName>, next: Option<CallName>) -> bool
     ensures { IsTrue result ↔ GoesOn until next }
 {
     match next {
@@ -32,7 +32,7 @@ fn goes_on(until: Option<lines::CallName>, next: Option<CallName>) -> bool
 pub(crate) fn go<S: Store>(
     store: &mut S,
     slot: usize,
-    until: Option<lines::CallName>,
+    until: Option<CallName>,
     each: usize,
     out: &mut Vec<u8>,
 ) -> Result<Option<What>, AllocError>

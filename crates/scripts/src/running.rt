@@ -10,13 +10,13 @@ ghost use Rattle.scripts.specs.Scripts.{CarriesOut, Handles, IsAmong, KeepsFlows
 ghost use Rattle.scripts.specs.Telling.{set_line, told_text};
 
 use crate::Store;
-use crate::asking::{care_of, node_of, request_of};
+use crate::asking::request_of;
 use crate::going::{cancel, go};
 use crate::printing::print_told;
 use crate::serving::{print_unbegun, serve};
-use calls::NodeName;
 use cluster::{Step, What};
 use lines::{Command, Failure, Handling, Name};
+use names::NodeName;
 use printed::Printed;
 use std::alloc::{AllocError, Global};
 use std::marker::Model;
@@ -183,13 +183,14 @@ impl<S: Store> Running<S> {
     }
 
     fn fail(&mut self, id: u64, failure: Failure, out: &mut Vec<u8>) -> Result<(), AllocError>
-        ensures ok { OnOk result (S.sets self.old.store (spec.node_of failure.node) failure.bank failure.n failure.tear self.new.store × (out.new.items ≡ out.old.items ++ set_line)) }
+        ensures ok { OnOk result (S.sets self.old.store failure.node failure.bank failure.n failure.tear self.new.store × (out.new.items ≡ out.old.items ++ set_line)) }
         ensures flows { KeepsFlows self.old self.new }
         ensures err { OnErr result (out.new.items ≡ out.old.items) }
         ensures capacity { vec_capacity out.old ≤ vec_capacity out.new }
     {
         Printed::Set.write_to(id, out)?;
-        self.store.fail(node_of(failure.node), failure.bank, failure.n, failure.tear);
+        self.store
+            .fail(failure.node, failure.bank, failure.n, failure.tear);
         Ok(())
     }
 
@@ -226,7 +227,7 @@ impl<S: Store> Running<S> {
                 serve(&mut self.store, id, step, 0, out)
             }
             Command::Care(care) => {
-                let step = Step::Care(care_of(care));
+                let step = Step::Care(care);
                 serve(&mut self.store, id, step, RESOLVED, out)
             }
             Command::Start(name, request) => {
@@ -235,7 +236,7 @@ impl<S: Store> Running<S> {
             }
             Command::Handle(flow, handling) => self.handle(id, flow, handling, out),
             Command::Rows(shard) => self.rows(id, shard, out),
-            Command::Restart(node) => self.restart(id, node_of(node), out),
+            Command::Restart(node) => self.restart(id, node, out),
             Command::Fail(failure) => self.fail(id, failure, out),
         }
     }

@@ -1,7 +1,7 @@
 // A cluster that takes its steps one at a time.
 ghost use Rattle.std.specs.Prelude.{◌≡◌, Err, None, MatchOption};
 ghost use Rattle.calls.specs.Rows.{RowsOf};
-ghost use Rattle.calls.specs.declared.call.NodeName.TheVariants.{Shard as shard_name};
+ghost use Rattle.names.specs.declared.node_name.NodeName.TheVariants.{Shard as shard_name};
 ghost use Rattle.cluster.specs.Flows.{next_name_of};
 ghost use Rattle.cluster.specs.Nodes.{IsSetIn};
 ghost use Rattle.cluster.specs.Steps.{Takes};
@@ -9,10 +9,10 @@ ghost use Rattle.cluster.specs.Worlds.{flow_at, node_at};
 ghost use Rattle.refusal.specs.declared.refusal.Refusal.TheVariants.{BadRequest};
 
 use crate::Store;
-use calls::{CallName, NodeName};
 use cluster::{Event, Step, What, World, run};
 use device::{Device, Tear};
 use journal::Bank;
+use names::{CallName, NodeName};
 use std::alloc::{AllocError, Global};
 use tuples::{Refusal, Version};
 

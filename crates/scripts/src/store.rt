@@ -1,8 +1,8 @@
 // What takes the steps of a script.
 ghost use Rattle.std.specs.Prelude.{ℕ, Option, Result, IfOk};
 ghost use Rattle.std.specs.Global.{Vec as AnyVec};
-ghost use Rattle.calls.specs.declared.call.NodeName.{NodeName as AnyNode};
-ghost use Rattle.calls.specs.declared.call_name.CallName.{CallName as AnyCall};
+ghost use Rattle.names.specs.declared.node_name.NodeName.{NodeName as AnyNode};
+ghost use Rattle.names.specs.declared.call_name.CallName.{CallName as AnyCall};
 ghost use Rattle.cluster.specs.declared.event.What.{What as AnyWhat};
 ghost use Rattle.cluster.specs.declared.step.Step.{Step as AnyStep};
 ghost use Rattle.device.specs.declared.tear.Tear.{Tear as AnyTear};
@@ -10,10 +10,10 @@ ghost use Rattle.journal.specs.declared.refused.Bank.{Bank as AnyBank};
 ghost use Rattle.refusal.specs.declared.refusal.Refusal.{Refusal as AnyRefusal};
 ghost use Rattle.tuples.specs.declared.version.Version.{Version as AnyVersion};
 
-use calls::{CallName, NodeName};
 use cluster::{Step, What};
 use device::Tear;
 use journal::Bank;
+use names::{CallName, NodeName};
 use std::alloc::AllocError;
 use tuples::{Refusal, Version};
 

@@ -1,6 +1,6 @@
 -- The refusal is that of the catch-up, whichever of its calls was out.
 use Rattle.std.proofs.Common.{ap, None, false}
-use Rattle.calls.specs.declared.call_name.CallName.TheVariants.{Learned}
+use Rattle.names.specs.declared.call_name.CallName.TheVariants.{Learned}
 use Rattle.catch_up.specs.declared.caught.Progress.TheVariants.{Refused}
 use Rattle.care_flow.specs.LearnPhases.{view_of}
 use Rattle.care_flow.proofs.Naming.{whichever_next}

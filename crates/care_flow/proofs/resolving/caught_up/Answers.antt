@@ -1,7 +1,7 @@
 -- The catch-up stays of its shard, up to its place.
 use Rattle.std.proofs.Common.{◌≡◌, None, false, arith, refl}
 use Rattle.std.proofs.lemmas.Grind.{common_steps}
-use Rattle.calls.specs.declared.call_name.CallName.TheVariants.{Learned}
+use Rattle.names.specs.declared.call_name.CallName.TheVariants.{Learned}
 use Rattle.catch_up.specs.declared.caught.Progress.TheVariants.{Refused}
 use Rattle.care_flow.proofs.Naming.{whichever_next}
 use Rattle.care_flow.proofs.resolving.caught_up.Goals as goal

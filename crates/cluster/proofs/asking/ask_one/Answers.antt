@@ -2,7 +2,7 @@
 use Rattle.std.proofs.Common.{subst}
 use Rattle.calls.proofs.Belonging.{may_ask}
 use Rattle.calls.specs.Belonging.{IsNodeOf}
-use Rattle.calls.specs.declared.call.NodeName.{NodeName}
+use Rattle.names.specs.declared.node_name.NodeName.{NodeName}
 use Rattle.cluster.proofs.asking.ask_one.Goals as goal
 
 pub ask-requires : goal.ask-requires

@@ -1,5 +1,5 @@
 -- The node that stands where the shard's name says tells its rows.
-use Rattle.calls.specs.declared.call.NodeName.TheVariants.{Shard}
+use Rattle.names.specs.declared.node_name.NodeName.TheVariants.{Shard}
 use Rattle.cluster.specs.Worlds.{node_at}
 use Rattle.cluster.proofs.Answering.{there}
 use Rattle.cluster.proofs.Slots.{at_some}

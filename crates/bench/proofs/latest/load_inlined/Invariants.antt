@@ -1,5 +1,0 @@
-use Rattle.std.proofs.Common.{◌≡◌}
-use Rattle.bench.proofs.latest.load_inlined.Given as goal
-
-abbrev pub invariant-loop : goal.invariant-loop
-invariant-loop l = record { own : l.pass.table ≡ l.words }

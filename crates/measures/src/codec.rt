@@ -1,0 +1,110 @@
+// Records as bytes and back.
+ghost use Rattle.records.specs.Format.{AreRecords};
+
+use crate::sample::{batch_of, records_of};
+use crate::timing::{Done, print_since};
+use records::Record;
+use std::alloc::{AllocError, Global};
+use std::io;
+use std::rt::Clock;
+use std::time::Instant;
+
+const RECORDS: u16 = 1_000;
+
+// The version, and the number of records.
+const HEAD: usize = 3;
+
+fn encode_all(records: &[Record], out: &mut Vec<u8>) -> Result<(), AllocError>
+    requires { AreRecords records.now }
+{
+    out.clear();
+    for record in records {
+        record.encode(out)?;
+    }
+    Ok(())
+}
+
+// How many bytes were written in so many rounds.
+fn encode_rounds(records: &[Record], out: &mut Vec<u8>, rounds: u32) -> Result<u64, AllocError>
+    requires { AreRecords records.now }
+{
+    let mut size: u64 = 0;
+    for _ in 0..rounds {
+        encode_all(records, out)?;
+        size = size.saturating_add(out.len() as u64);
+    }
+    Ok(size)
+}
+
+// How many records were read in so many rounds.
+fn decode_rounds(alloc: Global, bytes: &[u8], rounds: u32) -> io::Result<u64> {
+    let mut count: u64 = 0;
+    for _ in 0..rounds {
+        count = count.saturating_add(records_of(alloc, bytes)?.len() as u64);
+    }
+    Ok(count)
+}
+
+/// Writes (`encode`) and reads (`decode`) a batch so often, and prints how many records that were, and how long each took.
+pub fn measure(rt: &(impl Clock + Eprint), alloc: Global, rounds: u32) -> anyhow::Result<()> {
+    let bytes = batch_of(alloc, RECORDS)?;
+    measure_of(rt, alloc, &bytes, rounds)
+}
+
+// What is measured is lent, since each way out of a function that owns it is proved.
+fn measure_of(
+    rt: &(impl Clock + Eprint),
+    alloc: Global,
+    bytes: &[u8],
+    rounds: u32,
+) -> anyhow::Result<()> {
+    let records = records_of(alloc, bytes)?;
+    measure_writing(rt, alloc, bytes, &records, rounds)?;
+    let start = Instant::now(rt)?;
+    let answer = decode_rounds(alloc, bytes, rounds)?;
+    print_since(rt, "decode", start, done_in(rounds, answer))
+}
+
+fn measure_writing(
+    rt: &(impl Clock + Eprint),
+    alloc: Global,
+    bytes: &[u8],
+    records: &[Record],
+    rounds: u32,
+) -> anyhow::Result<()>
+    requires { AreRecords records.now }
+{
+    let mut out = Vec::with_capacity(alloc, bytes.len())?;
+    measure_writing_to(rt, bytes, records, &mut out, rounds)
+}
+
+fn measure_writing_to(
+    rt: &(impl Clock + Eprint),
+    bytes: &[u8],
+    records: &[Record],
+    out: &mut Vec<u8>,
+    rounds: u32,
+) -> anyhow::Result<()>
+    requires { AreRecords records.now }
+{
+    let start = Instant::now(rt)?;
+    let answer = encode_rounds(records, out, rounds)?;
+    print_since(rt, "encode", start, done_in(rounds, answer))?;
+    if !is_written(bytes, out, rounds, answer) {
+        anyhow::bail!("what was written is not what was read");
+    }
+    Ok(())
+}
+
+fn done_in(rounds: u32, answer: u64) -> Done {
+    Done {
+        amount: u64::from(rounds).saturating_mul(u64::from(RECORDS)),
+        answer,
+    }
+}
+
+// Whether what was written, this much in all rounds, is what was read.
+fn is_written(bytes: &[u8], out: &[u8], rounds: u32, size: u64) -> bool {
+    let wanted = bytes.get(HEAD..).unwrap_or(&[]);
+    out == wanted && size == u64::from(rounds).saturating_mul(wanted.len() as u64)
+}

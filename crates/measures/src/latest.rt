@@ -1,0 +1,131 @@
+// Loads of the safe place.
+ghost use Rattle.std.specs.Prelude.{◌≡◌};
+
+use crate::timing::{Done, print_since};
+use published::{Published, SessionPass};
+use std::alloc::Global;
+use std::thread::{Threads, join};
+use std::time::{Clock, Instant};
+
+// A constant, so that a compiler may unroll the loop as far as it can.
+const LOADS: u64 = 100_000_000;
+
+/// Whether the load stands in the loop, or in a function that the loop calls.
+#[derive(Clone, Copy)]
+pub enum Way {
+    Inlined,
+    Called,
+}
+
+fn load(words: &Published<u64>, pass: SessionPass<u64>, way: Way) -> u64
+    requires { pass.table ≡ words.now }
+{
+    match way {
+        Way::Inlined => load_inlined(words, pass),
+        Way::Called => load_called(words, pass),
+    }
+}
+
+// Looks again and again whether the safe place fell.
+fn load_inlined(words: &Published<u64>, pass: SessionPass<u64>) -> u64
+    requires { pass.table ≡ words.now }
+{
+    let mut pass = pass;
+    let mut last = 0u64;
+    for _ in 0..LOADS {
+        let (place, later) = words.latest(pass);
+        pass = later;
+        if place < last {
+            break;
+        }
+        last = place;
+    }
+    last
+}
+
+// The same, by a call for each look.
+fn load_called(words: &Published<u64>, pass: SessionPass<u64>) -> u64
+    requires { pass.table ≡ words.now }
+{
+    let mut pass = pass;
+    let mut last = 0u64;
+    for _ in 0..LOADS {
+        let (place, later) = look(words, pass);
+        pass = later;
+        if place < last {
+            break;
+        }
+        last = place;
+    }
+    last
+}
+
+#[inline(never)]
+fn look(words: &Published<u64>, pass: SessionPass<u64>) -> (u64, SessionPass<u64>)
+    requires { pass.table ≡ words.now }
+    ensures { result.1.table ≡ words.now }
+{
+    words.latest(pass)
+}
+
+/// Loads by one thread; prints how long they took.
+pub fn by_one<R: Clock + Eprint>(rt: &R, alloc: Global, way: Way) -> anyhow::Result<()> {
+    let start = Instant::now(rt)?;
+    let (words, mut log) = Published::new(alloc)?;
+    let pass = words.session(&mut log);
+    let answer = load(&words, pass, way);
+    let done = Done {
+        amount: LOADS,
+        answer,
+    };
+    print_since(rt, "latest", start, done)
+}
+
+// Loads by two threads at once.
+fn load_by_two<R: Threads + Sync>(
+    rt: &R,
+    words: &Published<u64>,
+    passes: (SessionPass<u64>, SessionPass<u64>),
+    way: Way,
+) -> u64
+    requires { (passes.0.table ≡ words.now) × (passes.1.table ≡ words.now) }
+{
+    let (one, other) = passes;
+    let (one, other) = join(
+        rt,
+        move ||
+            requires { one.table ≡ words.now }
+        { load(words, one, way) },
+        move ||
+            requires { other.table ≡ words.now }
+        { load(words, other, way) },
+    );
+    one.wrapping_add(other)
+}
+
+/// Loads by four threads at once; prints how long they took.
+pub fn by_four<R: Clock + Eprint + Threads + Sync>(
+    rt: &R,
+    alloc: Global,
+    way: Way,
+) -> anyhow::Result<()> {
+    let start = Instant::now(rt)?;
+    let (words, mut log) = Published::new(alloc)?;
+    let one = (words.session(&mut log), words.session(&mut log));
+    let other = (words.session(&mut log), words.session(&mut log));
+    let words = &words;
+    let (one, other) = join(
+        rt,
+        move ||
+            requires { (one.0.table ≡ words.now) × (one.1.table ≡ words.now) }
+        { load_by_two(rt, words, one, way) },
+        move ||
+            requires { (other.0.table ≡ words.now) × (other.1.table ≡ words.now) }
+        { load_by_two(rt, words, other, way) },
+    );
+    let done = Done {
+        amount: 4 * LOADS,
+        answer: one.wrapping_add(other),
+    };
+    print_since(rt, "latest", start, done)
+}

@@ -1,0 +1,126 @@
+// Connections that are put and taken.
+ghost use Rattle.std.specs.Prelude.{◌≡◌};
+
+use crate::timing::{Done, print_since};
+use connections::{AcceptorPass, Connections, WorkerPass};
+use std::alloc::Global;
+use std::sync::Wait;
+use std::thread::{self, Threads, join};
+use std::time::{Clock, Instant};
+
+// Puts connections and takes each at once, and adds up their numbers.
+fn put_and_take<R: Wait>(
+    rt: &R,
+    queue: &Connections<u64>,
+    acceptor: &mut AcceptorPass<u64>,
+    worker: WorkerPass<u64>,
+    count: u32,
+) -> u64
+    requires acceptor { (acceptor.old.queue ≡ queue.now) × (acceptor.old.put ≡ 0) }
+    requires worker { worker.queue ≡ queue.now }
+{
+    let mut worker = worker;
+    let mut sum = 0u64;
+    for connection in 0..u64::from(count) {
+        if queue.put(rt, acceptor, connection).is_err() {
+            break;
+        }
+        if let Some((number, _connection)) = queue.take(rt, &mut worker) {
+            sum = sum.wrapping_add(number);
+        }
+    }
+    sum
+}
+
+/// So many pairs of a put and a take by one thread; prints how long they took.
+pub fn by_one<R: Clock + Eprint + Wait>(rt: &R, alloc: Global, count: u32) -> anyhow::Result<()> {
+    let start = Instant::now(rt)?;
+    let (queue, mut acceptor, mut workers) = Connections::new(alloc, 1)?;
+    let Some(worker) = workers.pop() else {
+        anyhow::bail!("no worker");
+    };
+    let answer = put_and_take(rt, &queue, &mut acceptor, worker, count);
+    let done = Done {
+        amount: u64::from(count),
+        answer,
+    };
+    print_since(rt, "pairs", start, done)
+}
+
+// Puts all connections. One that comes back is put again.
+fn put_all<R: Wait>(rt: &R, queue: &Connections<u64>, acceptor: AcceptorPass<u64>, count: u32)
+    requires { (acceptor.queue ≡ queue.now) × (acceptor.put ≡ 0) }
+{
+    let mut acceptor = acceptor;
+    for _ in rt.forever() {
+        let number = acceptor.count();
+        if number >= u64::from(count) {
+            break;
+        }
+        if queue.put(rt, &mut acceptor, number).is_err() {
+            thread::yield_now();
+        }
+    }
+}
+
+// Takes until the last connection, and adds up their numbers.
+fn take_all<R: Wait>(rt: &R, queue: &Connections<u64>, worker: WorkerPass<u64>, count: u32) -> u64
+    requires { worker.queue ≡ queue.now }
+{
+    let mut worker = worker;
+    let mut sum = 0u64;
+    for _ in rt.forever() {
+        match queue.take(rt, &mut worker) {
+            Some((number, _connection)) => {
+                sum = sum.wrapping_add(number);
+                if number >= u64::from(count) {
+                    break;
+                }
+            }
+            None => thread::yield_now(),
+        }
+    }
+    sum
+}
+
+// One thread puts, and another takes.
+fn hand_over<R: Threads + Wait + Sync>(
+    rt: &R,
+    queue: &Connections<u64>,
+    acceptor: AcceptorPass<u64>,
+    worker: WorkerPass<u64>,
+    count: u32,
+) -> u64
+    requires acceptor { (acceptor.queue ≡ queue.now) × (acceptor.put ≡ 0) }
+    requires worker { worker.queue ≡ queue.now }
+{
+    let ((), sum) = join(
+        rt,
+        move ||
+            requires { (acceptor.queue ≡ queue.now) × (acceptor.put ≡ 0) }
+        { put_all(rt, queue, acceptor, count) },
+        move ||
+            requires { worker.queue ≡ queue.now }
+        { take_all(rt, queue, worker, count) },
+    );
+    sum
+}
+
+/// So many pairs of a put by one thread and a take by another; prints how long they took.
+pub fn by_two<R: Clock + Eprint + Threads + Wait + Sync>(
+    rt: &R,
+    alloc: Global,
+    count: u32,
+) -> anyhow::Result<()> {
+    let start = Instant::now(rt)?;
+    let (queue, acceptor, mut workers) = Connections::new(alloc, 1)?;
+    let Some(worker) = workers.pop() else {
+        anyhow::bail!("no worker");
+    };
+    let answer = hand_over(rt, &queue, acceptor, worker, count);
+    let done = Done {
+        amount: u64::from(count),
+        answer,
+    };
+    print_since(rt, "pairs", start, done)
+}
