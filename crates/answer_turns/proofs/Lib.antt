@@ -5,3 +5,4 @@ pub mod Ways
 pub mod ReadsTurn
 pub mod TupleLists
 pub mod ChecksTurn
+pub mod SmallAnswers
