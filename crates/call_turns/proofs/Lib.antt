@@ -15,3 +15,4 @@ pub mod Starts
 pub mod FullStores
 pub mod Cancels
 pub mod Fails
+pub mod SmallCalls
