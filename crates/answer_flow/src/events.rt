@@ -1,7 +1,5 @@
 // The events of decisions.
-ghost use Rattle.std.specs.Prelude.{◌≡◌, ◌≤◌, ◌+◌, ◌++◌, IfOk, OnOk, filter, length};
-ghost use Rattle.std.specs.List.{list_any};
-ghost use Rattle.records.specs.Replays.{greatest_number};
+ghost use Rattle.std.specs.Prelude.{◌≡◌, ◌+◌, ◌++◌, IfOk, OnOk, filter};
 ghost use Rattle.tuples.specs.Versions.{placed};
 ghost use Rattle.tuples.specs.Watching.{events_from, is_among};
 

@@ -1,5 +1,5 @@
 // Two ascending lists of rows become one.
-ghost use Rattle.std.specs.Prelude.{◌≡◌, IfOk};
+ghost use Rattle.std.specs.Prelude.{IfOk};
 ghost use Rattle.tuples.specs.Reads.{AreAscending};
 ghost use Rattle.decisions.specs.Merging.{IsMerged};
 ghost use Rattle.answer_flow.specs.Merges.{TakesLast};

@@ -1,5 +1,5 @@
 // What is gathered of a read, shard by shard and tupleset by tupleset.
-ghost use Rattle.std.specs.Prelude.{◌≡◌, ◌⊎◌, ◌<◌, ◌≤◌, ◌+◌, ◌++◌, ◌∷◌, [], IfOk, IsTrue, ◌↔◌, Some, None, length, slice_get};
+ghost use Rattle.std.specs.Prelude.{◌≡◌, ◌⊎◌, ◌<◌, ◌≤◌, ◌+◌, IfOk, IsTrue, ◌↔◌, Some, None};
 ghost use Rattle.decisions.specs.Flows.{nothing_read};
 ghost use Rattle.records.specs.Identity.{max_shards};
 ghost use Rattle.answer_flow.specs.Finding.{fresh_of};

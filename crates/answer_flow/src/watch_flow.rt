@@ -1,5 +1,5 @@
 // A watch: one call a turn.
-ghost use Rattle.std.specs.Prelude.{◌≡◌, ◌≢◌, Some, None, ℕ, MatchOption, is_some, option_map};
+ghost use Rattle.std.specs.Prelude.{◌≡◌, ◌≢◌, Some, None, MatchOption, is_some, option_map};
 ghost use Rattle.calls.specs.Names.{name_of as name_of_call};
 ghost use Rattle.decisions.specs.Flows.{no_heads};
 ghost use Rattle.answer_flow.specs.Watching.{Asks, Fits, GivesTo};

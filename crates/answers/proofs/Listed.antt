@@ -1,7 +1,7 @@
 -- One element more of a list.
-use Rattle.std.proofs.Common.{◌≡◌, ℕ, ◌+◌, ◌<◌, ◌≤◌, Bool, true, false, List, [], ◌∷◌, ◌++◌, map, length, drop, get_or, refl, sym, ap, ◌∙◌, arith}
+use Rattle.std.proofs.Common.{◌≡◌, ℕ, ◌+◌, ◌<◌, ◌≤◌, Bool, true, List, [], ◌∷◌, ◌++◌, map, length, drop, get_or, sym, ap, ◌∙◌}
 use Rattle.std.proofs.lemmas.List.{append_assoc, at_drop_all, at_drop_more}
-use Rattle.serde_json.specs.Data.{Data, Items, item, array}
+use Rattle.serde_json.specs.Data.{Data}
 use Rattle.serde_json.specs.View.{items_of}
 use Rattle.serde_json.specs.Written.{comma_if, compact_text, items_text}
 

@@ -1,5 +1,5 @@
 -- The text of a refusal, in its parts.
-use Rattle.std.proofs.Common.{◌≡◌, ℕ, List, [], ◌∷◌, ◌++◌, codes, refl}
+use Rattle.std.proofs.Common.{◌≡◌, [], ◌∷◌, ◌++◌, codes, refl}
 use Rattle.std.specs.Fmt.{decimal}
 use Rattle.json.specs.Print.{escape_byte, quoted}
 use Rattle.refusal.specs.declared.refusal.Refusal.{Refusal}

@@ -1,5 +1,5 @@
 -- The texts of answers: compact JSON with the keys in byte order.
-use Rattle.std.specs.Prelude.{ℕ, Bool, List, codes, map}
+use Rattle.std.specs.Prelude.{ℕ, List, codes, map}
 use Rattle.serde_json.specs.Data.{Data, unsigned, number, string, boolean, array, object, member, no_members}
 use Rattle.serde_json.specs.View.{items_of}
 use Rattle.serde_json.specs.Written.{compact_text}

@@ -1,11 +1,11 @@
 -- A node that goes down in a call: it was flushed, and a device of it has the cause.
-use Rattle.std.proofs.Common.{◌≡◌, ◌≢◌, ◌⊎◌, inl, inr, ⊎_elim, Bool, true, false, ℕ, List, Result, Ok, Err, refl, sym, ◌∙◌, ap, subst, if◌then◌else◌}
-use Rattle.std.specs.Result.{IfOk, IfErr, OnOk, OnErr}
+use Rattle.std.proofs.Common.{◌≡◌, ◌≢◌, ◌⊎◌, inl, inr, Bool, true, false, ℕ, List, Result, Ok, Err, refl, sym, ◌∙◌, ap, if◌then◌else◌}
+use Rattle.std.specs.Result.{OnOk, OnErr}
 use Rattle.refusal.specs.declared.refusal.Refusal.{Refusal}
 use Rattle.tuples.specs.Writes.{WriteValue}
 use Rattle.records.specs.declared.record.Record.{Record}
 use Rattle.device.specs.Device.{State}
-use Rattle.journal.specs.Records.{HasCause, View}
+use Rattle.journal.specs.Records.{HasCause}
 use Rattle.decisions.specs.Coordinators.{CoordinatorView, IsRunning, coordinator_journal}
 use Rattle.decisions.specs.Standing.{DecidedValue}
 use Rattle.decisions.specs.Values.{IntentValue, SettledValue, VerdictValue, VoteValue}
@@ -29,7 +29,7 @@ use Rattle.calls.specs.declared.reply.CoordinatorReply.{CoordinatorReply}
 use Rattle.calls.specs.declared.reply.CoordinatorReply.TheVariants as told
 use Rattle.calls.specs.declared.reply.ShardReply.{ShardReply}
 use Rattle.calls.specs.declared.reply.ShardReply.TheVariants as told_by
-use Rattle.laws.specs.Nodes.{NodeName, NodeState, coordinator, down, shard, up}
+use Rattle.laws.specs.Nodes.{NodeName, coordinator, down, shard, up}
 use Rattle.turns.specs.Moments.{Moment}
 use Rattle.turns.specs.Promises.{HasDeviceCause}
 use Rattle.turns.specs.Stores.{StandsOver, Store}

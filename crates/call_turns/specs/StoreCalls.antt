@@ -1,8 +1,6 @@
 -- A call of one node of a store, as the store shows it before and behind.
-use Rattle.std.specs.Prelude.{◌≡◌, ◌≢◌, ◌⊎◌, ◌≤◌, ◌<◌, ◌+◌, ◌^◌, ℕ, List, length, Contains, if◌then◌else◌}
-use Rattle.records.specs.Replays.{greatest_number}
+use Rattle.std.specs.Prelude.{◌≡◌, ◌≢◌, ◌⊎◌, ℕ, List, Contains, if◌then◌else◌}
 use Rattle.device.specs.Device.{State}
-use Rattle.decisions.specs.Values.{max_batch}
 pub use Rattle.calls.specs.Fitting.{FitsItsTypes}
 use Rattle.calls.specs.Views as views
 use Rattle.calls.specs.Views.{NodeView, devices_of}
@@ -10,10 +8,6 @@ use Rattle.names.specs.declared.node_name.NodeName as names
 use Rattle.names.specs.declared.node_name.NodeName.TheVariants.{Coordinator as name_coordinator, Shard as name_shard}
 use Rattle.calls.specs.declared.call.NodeCall.{NodeCall}
 use Rattle.calls.specs.declared.call.NodeCall.TheVariants.{Coordinator, Shard}
-use Rattle.calls.specs.declared.call.CoordinatorCall.{CoordinatorCall}
-use Rattle.calls.specs.declared.call.CoordinatorCall.TheVariants.{Raise}
-use Rattle.calls.specs.declared.call.ShardCall.{ShardCall}
-use Rattle.calls.specs.declared.call.ShardCall.TheVariants.{Learn}
 use Rattle.laws.specs.Machines.{Machine}
 use Rattle.laws.specs.Nodes.{IsThere, NodeName, NodeState, Nodes, coordinator, shard, up, down, refused}
 use Rattle.laws.specs.Worlds.{coordinator_node, shard_node}

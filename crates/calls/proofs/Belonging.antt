@@ -10,7 +10,6 @@ use Rattle.coordinator.specs.declared.raising.NotRaised.{NotRaised}
 use Rattle.shard.specs.Shards.{ShardView}
 use Rattle.shard.specs.declared.replies.VoteReply.{VoteReply}
 use Rattle.shard.specs.declared.replies.VoteReply.TheVariants.{Yes, Later as votes_later, No}
-use Rattle.names.specs.declared.node_name.NodeName.TheVariants.{Coordinator as name_coordinator, Shard as name_shard}
 use Rattle.calls.specs.declared.call.NodeCall.{NodeCall}
 use Rattle.calls.specs.declared.call.NodeCall.TheVariants.{Coordinator, Shard}
 use Rattle.calls.specs.declared.call.CoordinatorCall.{CoordinatorCall}

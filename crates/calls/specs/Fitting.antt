@@ -1,5 +1,5 @@
 -- The limits of what a call carries, which its types keep.
-use Rattle.std.specs.Prelude.{◌≤◌, ◌<◌, ◌+◌, ◌^◌, ℕ, length}
+use Rattle.std.specs.Prelude.{◌≤◌, ◌<◌, ◌+◌, ◌^◌, length}
 use Rattle.records.specs.Replays.{greatest_number}
 use Rattle.decisions.specs.Values.{IsIntent, max_batch}
 use Rattle.calls.specs.declared.call.NodeCall.{NodeCall}

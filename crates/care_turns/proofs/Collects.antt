@@ -1,5 +1,5 @@
 -- A shard's collection takes its turn.
-use Rattle.std.proofs.Common.{◌≡◌, ◌≢◌, ⊎_elim, inl, inr, ◌⊎◌, ◌≤◌, ◌<◌, ℕ, Bool, true, false, List, [], ◌∷◌, Option, Some, None, Result, Ok, Err, MatchOption, refl, sym, ◌∙◌, ap, subst}
+use Rattle.std.proofs.Common.{◌≡◌, ◌≢◌, ⊎_elim, inl, inr, ◌⊎◌, ◌≤◌, ℕ, Bool, true, false, List, [], ◌∷◌, Option, Some, None, Result, Ok, Err, MatchOption, refl, sym, ◌∙◌, ap, subst}
 use Rattle.std.proofs.lemmas.Bool.{cases_Bool}
 use Rattle.std.proofs.lemmas.Option.{same_Some}
 use Rattle.refusal.specs.declared.refusal.Refusal.{Refusal}
@@ -19,7 +19,6 @@ use Rattle.calls.specs.declared.reply.CoordinatorReply.TheVariants as told
 use Rattle.calls.specs.declared.reply.ShardReply.TheVariants as told_by
 use Rattle.care_flow.specs.Cares as cares
 use Rattle.care_flow.specs.Collecting.{Asks, CollectFlowValue, CollectGives, CollectStep, CollectView, Gives, ask, collect, flush, flush_to_collect}
-use Rattle.care_flow.specs.Ends.{ended_by}
 use Rattle.care_flow.specs.Views.{out, over, ready}
 use Rattle.care_flow.specs.declared.end.CareEnd.TheVariants.{Refused}
 use Rattle.care_flow.specs.declared.care.CareFlow.{CareFlow}
@@ -33,7 +32,7 @@ use Rattle.turns.specs.QuietTurns.{ending, with_call}
 use Rattle.turns.specs.Stores.{StandsOver, Store, stops}
 use Rattle.turns.proofs.CoordinatorCalls.{right_heads}
 use Rattle.turns.proofs.ShardLearnSeam.{collects_quietly, refused_collects_have_cause}
-use Rattle.call_turns.specs.StoreCalls.{FitsItsTypes, IsCalled, called}
+use Rattle.call_turns.specs.StoreCalls.{IsCalled, called}
 use Rattle.call_turns.specs.StoreTurns.{SlotTurns, TurnRuns}
 use Rattle.call_turns.proofs.Asked.{heads_told}
 use Rattle.call_turns.proofs.AskedMore.{collect_told}

@@ -1,5 +1,5 @@
 -- A flush of a node takes its turn.
-use Rattle.std.proofs.Common.{◌≡◌, ◌≤◌, ℕ, false, List, [], ◌∷◌, Option, Some, None, Result, Ok, Err, MatchOption, refl, sym, ◌∙◌, ap, subst}
+use Rattle.std.proofs.Common.{◌≡◌, ◌≤◌, ℕ, List, [], ◌∷◌, Option, Some, None, Result, Ok, Err, MatchOption, refl, sym, ap, subst}
 use Rattle.std.proofs.lemmas.List.Elements.{All-nil}
 use Rattle.std.proofs.lemmas.Option.{same_Some}
 use Rattle.device.specs.Device.{State, left}
@@ -16,7 +16,7 @@ use Rattle.calls.specs.declared.reply.ShardReply.TheVariants as told_by
 use Rattle.care_flow.specs.Cares as cares
 use Rattle.care_flow.specs.Ends.{ended_by}
 use Rattle.care_flow.specs.Flushing.{FlushFlowValue, FlushStep, FlushView, Gives, flush, flush_of}
-use Rattle.care_flow.specs.Views.{out, over}
+use Rattle.care_flow.specs.Views.{out}
 use Rattle.care_flow.specs.declared.care.CareFlow.{CareFlow}
 use Rattle.care_flow.specs.declared.care.CareFlow.TheVariants.{Flush, Learn, Resolve, Raise, Collect}
 use Rattle.care_flow.specs.declared.end.CareEnd.{CareEnd}

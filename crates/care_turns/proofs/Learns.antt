@@ -1,9 +1,8 @@
 -- A shard's learning takes its turn.
-use Rattle.std.proofs.Common.{◌≡◌, ◌≤◌, ◌<◌, ℕ, Bool, List, [], ◌∷◌, Option, Some, None, Result, Ok, Err, MatchOption, refl, sym, ◌∙◌, ap, subst}
+use Rattle.std.proofs.Common.{◌≡◌, ◌≤◌, ℕ, Bool, List, [], ◌∷◌, Option, Some, None, Result, Ok, Err, MatchOption, refl, sym, ◌∙◌, ap, subst}
 use Rattle.std.proofs.lemmas.Option.{same_Some}
 use Rattle.refusal.specs.declared.refusal.Refusal.{Refusal}
 use Rattle.device.specs.Device.{State, left}
-use Rattle.decisions.specs.Coordinators.{heads_of}
 use Rattle.decisions.specs.Flows.{HeadsHeld, no_heads}
 use Rattle.decisions.specs.Values.{BatchValue, HeadsValue}
 use Rattle.calls.specs.Asking.{Answered}
@@ -21,14 +20,12 @@ use Rattle.catch_up.specs.declared.caught.Progress.TheVariants.{Next, There, Ref
 use Rattle.care_flow.specs.Cares as cares
 use Rattle.care_flow.specs.CatchUps.{AsksToCatchUp, CatchUpGives, on_its_way}
 use Rattle.care_flow.specs.Learning.{Asks, Gives, LearnFlowValue, LearnStep, LearnView, ProgressGives, ask, catch_up}
-use Rattle.care_flow.specs.Views.{out, over, ready}
+use Rattle.care_flow.specs.Views.{out}
 use Rattle.care_flow.specs.declared.care.CareFlow.{CareFlow}
 use Rattle.care_flow.specs.declared.care.CareFlow.TheVariants.{Flush, Learn, Resolve, Raise, Collect}
-use Rattle.care_flow.specs.declared.end.CareEnd.{CareEnd}
-use Rattle.care_flow.specs.declared.end.CareEnd.TheVariants.{Done, Refused}
 use Rattle.laws.specs.Nodes.{coordinator, shard}
 use Rattle.turns.specs.Causes.{Calls, LetsLearn}
-use Rattle.turns.specs.Flows.{Asked, Holds, learning, to_flush, to_learn}
+use Rattle.turns.specs.Flows.{Asked, Holds, learning, to_learn}
 use Rattle.turns.specs.Held.{AreHeldHeads, AreRightHeads, IsRight}
 use Rattle.turns.specs.Moments.{Moment, Running}
 use Rattle.turns.specs.QuietTurns.{batch_of, ending, with_call}

@@ -1,13 +1,12 @@
 -- A raise of the horizon takes its turn.
-use Rattle.std.proofs.Common.{◌≡◌, ◌≢◌, ◌⊎◌, inl, inr, ⊎_elim, ◌≤◌, ◌<◌, ◌+◌, ◌^◌, ◌==◌, ◌++◌, ℕ, Bool, true, false, true≢false, List, [], ◌∷◌, Option, Some, None, Result, Ok, Err, MatchOption, Contains, All, refl, sym, ◌∙◌, ap, subst, arith}
+use Rattle.std.proofs.Common.{◌≡◌, ◌≢◌, ◌⊎◌, inl, inr, ⊎_elim, ◌≤◌, ◌<◌, ◌+◌, ◌^◌, ◌==◌, ◌++◌, ℕ, Bool, true, false, true≢false, List, [], ◌∷◌, Option, Some, None, Result, Ok, Err, MatchOption, All, refl, sym, ◌∙◌, ap, subst}
 use Rattle.std.proofs.lemmas.Bool.{cases_Bool, cases_lt, eq-eqb, eqb-true}
-use Rattle.std.proofs.lemmas.List.Elements.{All-nil, All-push}
+use Rattle.std.proofs.lemmas.List.Elements.{All-push}
 use Rattle.std.proofs.lemmas.Option.{same_Some}
 use Rattle.std.specs.Global.{Vec}
 use Rattle.refusal.specs.declared.refusal.Refusal.{Refusal}
 use Rattle.refusal.specs.declared.refusal.Refusal.TheVariants.{Collected, Full, Future, NoMemory, Unsure}
 use Rattle.device.specs.Device.{State, left}
-use Rattle.records.specs.Identity.{Identity}
 use Rattle.decisions.specs.Coordinators.{HaveSettled, heads_of}
 use Rattle.decisions.specs.Flows.{RaiseHolds, nothing_raised}
 use Rattle.decisions.specs.Standing.{IsSettled}
@@ -31,13 +30,12 @@ use Rattle.catch_up.specs.declared.caught.Progress.TheVariants.{Next, There, Ref
 use Rattle.care_flow.specs.Cares as cares
 use Rattle.care_flow.specs.CatchUps.{AsksToCatchUp, CatchUpGives, on_its_way}
 use Rattle.care_flow.specs.Ends.{ended_by}
-use Rattle.care_flow.specs.Raising.{AnsweredHeads, Asks, FlushGives, Gives, GoesRound, ProgressGives, RaiseFlowValue, RaiseGives, RaiseStep, RaiseView, SettleGives, ask, catch_up, flush, flush_raised, flush_to_ask, flush_to_raise, raise, settle}
+use Rattle.care_flow.specs.Raising.{Asks, FlushGives, Gives, GoesRound, ProgressGives, RaiseFlowValue, RaiseGives, RaiseStep, RaiseView, SettleGives, ask, catch_up, flush, flush_raised, flush_to_ask, flush_to_raise, raise, settle}
 use Rattle.care_flow.specs.Views.{out, over, ready}
 use Rattle.care_flow.specs.declared.care.CareFlow.{CareFlow}
 use Rattle.care_flow.specs.declared.care.CareFlow.TheVariants.{Flush, Learn, Resolve, Raise, Collect}
 use Rattle.care_flow.specs.declared.end.CareEnd.TheVariants.{Done, Refused}
-use Rattle.laws.specs.Machines.{Machine}
-use Rattle.laws.specs.Nodes.{NodeName, Nodes, coordinator, shard}
+use Rattle.laws.specs.Nodes.{NodeName, coordinator, shard}
 use Rattle.turns.specs.CoordinatorSeamLaws.{AsksAbove}
 use Rattle.turns.specs.Causes.{Calls, HasItsCause, LetsLearn}
 use Rattle.turns.specs.Flows.{Asked, Holds, raising, to_raise}

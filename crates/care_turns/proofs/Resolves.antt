@@ -1,5 +1,5 @@
 -- A resolution of the writes in doubt at a shard takes its turn.
-use Rattle.std.proofs.Common.{◌≡◌, ◌≢◌, ⊎_elim, inl, inr, ◌≤◌, ◌<◌, ◌++◌, ℕ, Bool, List, [], ◌∷◌, map, length, slice_get, Option, Some, None, Result, Ok, Err, MatchOption, Contains, All, refl, sym, ◌∙◌, ap, subst}
+use Rattle.std.proofs.Common.{◌≡◌, ◌≢◌, ⊎_elim, inl, ◌≤◌, ◌<◌, ℕ, Bool, List, [], ◌∷◌, map, length, slice_get, Option, Some, None, Result, Ok, Err, MatchOption, All, refl, sym, ◌∙◌, ap, subst}
 use Rattle.std.proofs.lemmas.List.Elements.{All-contains, All-push}
 use Rattle.std.proofs.lemmas.Option.{same_Some}
 use Rattle.std.specs.Global.{Vec}
@@ -13,7 +13,6 @@ use Rattle.decisions.specs.Values.{BatchValue, VerdictValue}
 use Rattle.coordinator.specs.declared.telling.Inquiry.{Inquiry}
 use Rattle.coordinator.specs.declared.telling.Inquiry.TheVariants.{Commit, Abort, Undecided}
 use Rattle.calls.specs.Asking.{Answered}
-use Rattle.calls.specs.Belonging.{IsOwed, IsReplyTo}
 use Rattle.calls.specs.Views.{NodeView}
 use Rattle.calls.specs.declared.call.NodeCall.{NodeCall}
 use Rattle.calls.specs.declared.call.NodeCall.TheVariants.{Coordinator as of_coordinator, Shard as of_shard}
@@ -28,7 +27,7 @@ use Rattle.catch_up.specs.Held.{CatchUpCallValue, CatchUpValue}
 use Rattle.catch_up.specs.declared.caught.Progress.{Progress}
 use Rattle.catch_up.specs.declared.caught.Progress.TheVariants.{Next, There, Refused as is_refused}
 use Rattle.care_flow.specs.Cares as cares
-use Rattle.care_flow.specs.CatchUps.{AsksToCatchUp, CatchUpGives, on_its_way}
+use Rattle.care_flow.specs.CatchUps.{on_its_way}
 use Rattle.care_flow.specs.Ends.{resolved_value}
 use Rattle.care_flow.specs.Resolving.{Asks, DoubtsGive, DropGives, Gives, GoesThrough, HasCommitted, InquiryGives, ProgressGives, ResolveFlowValue, ResolveStep, ResolveView, catch_up, drop_write, finding, in_doubt, inquire}
 use Rattle.care_flow.specs.Views.{out, over, ready}
@@ -41,9 +40,9 @@ use Rattle.laws.specs.Machines.{Machine}
 use Rattle.laws.specs.Nodes.{NodeName, Nodes, coordinator, shard}
 use Rattle.turns.specs.Causes.{Calls, HasItsCause, LetsLearn}
 use Rattle.turns.specs.Flows.{Asked, Holds, resolving, to_resolve}
-use Rattle.turns.specs.Held.{IfHeld, IsRight, IsRightBatch, IsRightResolve, IsRightResolved, IsRightVerdict}
+use Rattle.turns.specs.Held.{IfHeld, IsRight, IsRightResolve, IsRightResolved, IsRightVerdict}
 use Rattle.turns.specs.Moments.{Moment, Running}
-use Rattle.turns.specs.QuietTurns.{batch_of, behind_call, ending, with_call}
+use Rattle.turns.specs.QuietTurns.{batch_of, behind_call, ending}
 use Rattle.turns.specs.Replies.{IsResolved, resolved}
 use Rattle.turns.specs.Stores.{StandsOver, Store, stops}
 use Rattle.turns.proofs.AnswerTurns.{resolves_end}
@@ -51,7 +50,6 @@ use Rattle.turns.proofs.CoordinatorCalls.{inquiries_answer}
 use Rattle.turns.proofs.ShardLearnSeam.{drops_quietly}
 use Rattle.call_turns.specs.StoreCalls.{FitsItsTypes, IsCalled, called}
 use Rattle.call_turns.specs.StoreTurns.{SlotTurns, TurnRuns}
-use Rattle.call_turns.proofs.Belongs.{belongs_to}
 use Rattle.calls.specs.Names.{name_of}
 use Rattle.names.specs.declared.call_name.CallName.{CallName}
 use Rattle.care_flow.proofs.Naming.{whichever_next}

@@ -1,5 +1,5 @@
 -- A turn of a care of the nodes: its next call is made, and the care makes of the reply what it makes.
-use Rattle.std.specs.Prelude.{◌≡◌, ℕ, List, [], ◌∷◌, Option, Some, None, MatchOption, map, false}
+use Rattle.std.specs.Prelude.{ℕ, List, [], ◌∷◌, Option, Some, None, map, false}
 use Rattle.device.specs.Device.{State}
 use Rattle.calls.specs.Asking as asking
 use Rattle.calls.specs.Views.{NodeView}

@@ -1,5 +1,5 @@
 -- A call is answered by the node that stands where its name says.
-use Rattle.std.proofs.Common.{◌≡◌, ◌<◌, ◌≤◌, ◌⊎◌, ℕ, List, Option, Some, None, MatchOption, length, get_or, set, slice_get, refl, subst, sym}
+use Rattle.std.proofs.Common.{◌≡◌, ◌<◌, ◌≤◌, ℕ, List, Option, Some, None, MatchOption, length, get_or, set, slice_get, refl, subst, sym}
 use Rattle.std.proofs.lemmas.Option.{slice_get_past, slice_get_read}
 use Rattle.device.specs.Device.{State}
 use Rattle.refusal.specs.declared.refusal.Refusal.TheVariants.{Damaged}
@@ -26,9 +26,3 @@ module _ {D : Type 0} (state : D → State) (honest : D → Type 0) (moment : D 
       subst (λ (o : Option (NodeView D)). MatchOption o ((set nodes index is ≡ nodes) × Refuses Damaged call reply) (λ w. AnsweredBy state honest moment left_since shards nodes w call reply (set nodes index is)))
       (sym (there nodes (node_of call) index was at within read))
       (record { is = is; answers = answers; new_is = subst (λ (i : ℕ). set nodes index is ≡ set nodes i is) at refl })
-
-  pub called_away : (shards : ℕ) (nodes : List (NodeView D)) (call : NodeCall) (index : ℕ) (reply : Reply)
-      → index ≡ index_of (node_of call) → length nodes ≤ index → Refuses Damaged call reply → Called state honest moment left_since shards nodes call reply nodes
-  called_away shards nodes call index reply at past refuses =
-      subst (λ (o : Option (NodeView D)). MatchOption o ((nodes ≡ nodes) × Refuses Damaged call reply) (λ w. AnsweredBy state honest moment left_since shards nodes w call reply nodes))
-      (sym (away nodes (node_of call) index at past)) (refl, refuses)

@@ -1,22 +1,18 @@
 -- A flow begins: what was begun runs, and the others run as before.
-use Rattle.std.proofs.Common.{◌≡◌, ◌<◌, ◌≤◌, ◌↔◌, ℕ, Bool, true, false, List, Option, Some, None, Result, Ok, Err, OnErr, OnOk, IsTrue, refl, subst, sym, arith}
+use Rattle.std.proofs.Common.{◌≡◌, ◌↔◌, ℕ, Bool, true, List, Option, Result, Ok, Err, OnErr, OnOk, IsTrue, refl, subst, sym}
 use Rattle.std.specs.declared.alloc.AllocError.{AllocError}
-use Rattle.slab.specs.Slab.{Slab, slab_len}
+use Rattle.slab.specs.Slab.{Slab}
 use Rattle.names.specs.declared.call_name.CallName.TheVariants as names
-use Rattle.care_flow.specs.Cares.{IsThere, begun}
 use Rattle.names.specs.declared.care.Care.{Care}
 use Rattle.names.specs.declared.care.Care.TheVariants as cares
 use Rattle.names.specs.declared.node_name.NodeName.TheVariants.{Coordinator, Shard}
-use Rattle.refusal.specs.declared.refusal.Refusal.TheVariants.{Full}
 use Rattle.cluster.specs.declared.event.What.{What}
-use Rattle.cluster.specs.declared.event.What.TheVariants.{Refused}
 use Rattle.cluster.specs.declared.flow.Flow.{Flow}
 use Rattle.cluster.specs.declared.request.Request.{Request}
 use Rattle.cluster.specs.declared.request.Request.TheVariants.{Write, Read, Check, Watch}
 use Rattle.cluster.specs.Begun.{MayCare, begun_for, caring_for}
 use Rattle.cluster.specs.Kept.{AreFlows, IsRunning}
-use Rattle.cluster.specs.Steps.{AddsFlow, Begins, most_flows}
-use Rattle.cluster.specs.Worlds.{flow_count}
+use Rattle.cluster.specs.Steps.{AddsFlow}
 use Rattle.cluster.proofs.Slots.{keeps_flow}
 
 pub request_runs : (shards : ℕ) (request : Request) → IsRunning shards (begun_for shards request)
@@ -32,16 +28,6 @@ care_runs shards (cares.Learn s) may = record { of = may; goes_on = refl }
 care_runs shards (cares.Resolve s) may = record { of = may; goes_on = refl }
 care_runs shards (cares.Raise place) may = record { of = refl; goes_on = refl }
 care_runs shards (cares.Collect s) may = record { of = may; goes_on = refl }
-
--- the three ways in which it begins, or does not
-pub begins_nowhere : (old : List (Option Flow)) (may : Type 0) (flow : Flow) → (may → ⊥) → Begins old may flow None old
-begins_nowhere old may flow none = record { nowhere = λ no. (refl, refl); full = λ is. absurd (none is); begins = λ is. absurd (none is) }
-
-pub begins_full : (old : List (Option Flow)) (may : Type 0) (flow : Flow) → may → most_flows ≤ flow_count old → Begins old may flow (Some (Refused Full)) old
-begins_full old may flow is many = record { nowhere = λ no. absurd (no is); full = λ i m. (refl, refl); begins = λ i few. absurd (omega (arith, many, few)) }
-
-pub begins_here : (old new : List (Option Flow)) (may : Type 0) (flow : Flow) (told : Option What) → may → flow_count old < most_flows → AddsFlow old flow told new → Begins old may flow told new
-begins_here old new may flow told is few adds = record { nowhere = λ no. absurd (no is); full = λ i many. absurd (omega (arith, many, few)); begins = λ i f. adds }
 
 pub adds_keep : (shards : ℕ) (old new : List (Option Flow)) (flow : Flow) (told : Option What) → AddsFlow old flow told new → IsRunning shards flow → AreFlows shards old → AreFlows shards new
 adds_keep shards old new flow told adds runs all = keeps_flow shards old new adds.slot flow adds.puts all runs

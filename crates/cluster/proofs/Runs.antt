@@ -1,6 +1,6 @@
 -- One step more makes a run one step longer.
-use Rattle.std.proofs.Common.{◌≡◌, ◌+◌, ◌<◌, ◌≤◌, ◌++◌, ◌∙◌, ℕ, List, [], ◌∷◌, length, get_or, take, Bool, true, false, Result, Ok, Err, OnOk, OnErr, is_err, refl, sym, ap, subst, append_assoc, append-nil, arith}
-use Rattle.std.proofs.lemmas.List.{length-take-le, take_all, take_more}
+use Rattle.std.proofs.Common.{◌≡◌, ◌+◌, ◌<◌, ◌++◌, ◌∙◌, ℕ, List, [], ◌∷◌, length, get_or, take, true, false, Result, Ok, Err, OnOk, OnErr, is_err, refl, sym, ap, subst, append_assoc, append-nil, arith}
+use Rattle.std.proofs.lemmas.List.{length-take-le, take_more}
 use Rattle.std.specs.declared.alloc.AllocError.{AllocError}
 use Rattle.device.specs.Device.{State}
 use Rattle.cluster.specs.declared.event.Event.{Event}
@@ -41,11 +41,6 @@ module _ {D : Type 0} (state : D → State) (honest : D → Type 0) (moment : D 
         runs = subst (λ (ss : List Step). TookAll state honest moment left_since old 0 ss (so.more ++ more) new) (sym taken) (one_more old mid new 0 n (take n steps) step so.more more so.runs count took);
         told = told ∙ ap (λ (es : List Event). es ++ more) so.told ∙ append_assoc before so.more more;
       }
-
-  pub ran_all : (old new : WorldView D) (steps : List Step) (n : ℕ) (before events : List Event) → RanSoFar old steps n before new events → length steps ≤ n
-      → (more : List Event) × TookAll state honest moment left_since old 0 steps more new × (events ≡ before ++ more)
-  ran_all old new steps n before events so past =
-      (so.more, subst (λ (ss : List Step). TookAll state honest moment left_since old 0 ss so.more new) (take_all n steps past) so.runs, so.told)
 
 -- a result that is no error
 pub on_ok : (result : Result (Unit {0}) AllocError) (P : Type 0) → is_err result ≡ false → OnOk result P → P

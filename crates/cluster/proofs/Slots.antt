@@ -1,5 +1,5 @@
 -- What is put into a slot, one after another, and that flows of a store stay such.
-use Rattle.std.proofs.Common.{◌≡◌, ◌≢◌, ◌∙◌, ℕ, List, [], Option, Some, None, MatchOption, true, is_some, inl, inr, refl, sym, ap, subst}
+use Rattle.std.proofs.Common.{◌≡◌, ◌∙◌, ℕ, List, [], Option, Some, None, MatchOption, true, is_some, inl, inr, refl, sym, ap, subst}
 use Rattle.std.proofs.lemmas.Bool.{cases_eq}
 use Rattle.slab.specs.Slab.{Slab, Updates}
 use Rattle.names.specs.declared.call_name.CallName.{CallName}

@@ -1,5 +1,5 @@
 -- What a flow begins with, and which requests begin one.
-use Rattle.std.specs.Prelude.{◌≡◌, ◌≤◌, ◌<◌, ℕ, false, [], length, Some, None}
+use Rattle.std.specs.Prelude.{◌≤◌, ◌<◌, ℕ, false, length, Some, None}
 use Rattle.tuples.specs.Limits.{max_number}
 use Rattle.decisions.specs.Flows.{Freshness, at_least, exact, latest, most_namespaces, most_sets, most_watched, no_heads, nothing_begun, nothing_read}
 use Rattle.answer_flow.specs.Finding.{fresh_of}

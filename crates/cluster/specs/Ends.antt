@@ -1,7 +1,5 @@
 -- What is told of a flow that has ended.
-use Rattle.std.specs.Prelude.{◌≡◌, List, Option, Some, None}
-use Rattle.refusal.specs.declared.refusal.Refusal.{Refusal}
-use Rattle.tuples.specs.declared.tuple.Tuple.{Tuple}
+use Rattle.std.specs.Prelude.{◌≡◌, Option, Some, None}
 use Rattle.commit_flow.specs.declared.end.WriteEnd.{WriteEnd}
 use Rattle.commit_flow.specs.declared.end.WriteEnd.TheVariants as write_ends
 use Rattle.answer_flow.specs.ReadViews.{ReadEnding, rows_of, selected}
@@ -13,7 +11,6 @@ use Rattle.answer_flow.specs.WatchViews as watch_views
 use Rattle.care_flow.specs.declared.end.CareEnd.{CareEnd}
 use Rattle.care_flow.specs.declared.end.CareEnd.TheVariants as care_ends
 use Rattle.care_flow.specs.Cares.{TellsOfEach, end_of}
-use Rattle.cluster.specs.declared.event.Answer.{Answer}
 use Rattle.cluster.specs.declared.event.Answer.TheVariants as answers
 use Rattle.cluster.specs.declared.event.What.{What}
 use Rattle.cluster.specs.declared.event.What.TheVariants.{Ended, Refused}

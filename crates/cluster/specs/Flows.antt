@@ -1,5 +1,5 @@
 -- What a flow asks, and what a reply makes of it, in the words of the flow that it is.
-use Rattle.std.specs.Prelude.{◌≡◌, ◌≢◌, ℕ, Bool, true, false, Option, Some, None, MatchOption, is_some}
+use Rattle.std.specs.Prelude.{◌≡◌, ◌≢◌, ℕ, Bool, false, Option, Some, None, MatchOption, is_some}
 use Rattle.calls.specs.Asking.{MayBeMade}
 use Rattle.calls.specs.Names.{name_of}
 use Rattle.calls.specs.declared.call.NodeCall.{NodeCall}

@@ -1,5 +1,5 @@
 -- What a step does to the nodes.
-use Rattle.std.specs.Prelude.{◌≡◌, ◌⊎◌, ◌↔◌, ◌≤◌, ℕ, List, Option, Some, None, MatchOption, slice_get, slice_set}
+use Rattle.std.specs.Prelude.{◌≡◌, ◌⊎◌, ◌↔◌, ◌≤◌, ℕ, List, MatchOption, slice_set}
 use Rattle.records.specs.Identity.{Identity, coordinator_number}
 use Rattle.device.specs.Device.{Elapses, Failed, Keeps, Revived, State, left}
 use Rattle.refusal.specs.declared.refusal.Refusal.TheVariants.{Damaged, Down}

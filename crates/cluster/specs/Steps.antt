@@ -7,12 +7,10 @@ use Rattle.calls.specs.Opening.{refusal_of}
 use Rattle.calls.specs.Views.{NodeView, devices_of}
 use Rattle.names.specs.declared.node_name.NodeName.{NodeName}
 use Rattle.names.specs.declared.call_name.CallName.{CallName}
-use Rattle.names.specs.declared.care.Care.{Care}
 use Rattle.cluster.specs.declared.event.Event.{Event}
 use Rattle.cluster.specs.declared.event.What.{What}
 use Rattle.cluster.specs.declared.event.What.TheVariants.{Began, Next, Up, Refused}
 use Rattle.cluster.specs.declared.flow.Flow.{Flow}
-use Rattle.cluster.specs.declared.request.Request.{Request}
 use Rattle.cluster.specs.declared.step.Step.{Step}
 use Rattle.cluster.specs.declared.step.Step.TheVariants.{Start, Turn, Cancel, Care as care_for, Restart}
 use Rattle.cluster.specs.Begun.{IsInLimits, MayCare, begun_for, caring_for}

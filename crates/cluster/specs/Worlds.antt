@@ -1,5 +1,5 @@
 -- A store with its nodes and flows, as its callers see it.
-use Rattle.std.specs.Prelude.{◌≡◌, ◌≢◌, ◌+◌, ℕ, List, Option, Some, None, count_by, is_some, slice_get, slice_index_or}
+use Rattle.std.specs.Prelude.{◌≡◌, ◌≢◌, ◌+◌, ℕ, List, Option, None, count_by, is_some, slice_get, slice_index_or}
 use Rattle.calls.specs.Views.{NodeView}
 use Rattle.names.specs.declared.node_name.NodeName.{NodeName}
 use Rattle.names.specs.declared.node_name.NodeName.TheVariants.{Coordinator, Shard}

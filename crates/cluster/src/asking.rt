@@ -1,5 +1,4 @@
 // One call of the node that it names.
-ghost use Rattle.std.specs.Prelude.{◌≡◌};
 ghost use Rattle.calls.specs.Belonging.{IsOwed, IsReplyTo};
 ghost use Rattle.calls.specs.Fitting.{FitsItsTypes, IsWhole};
 ghost use Rattle.cluster.specs.Nodes.{Answers, Called};

@@ -1,5 +1,5 @@
 // What is told of a flow that has ended.
-ghost use Rattle.std.specs.Prelude.{◌≡◌, Some};
+ghost use Rattle.std.specs.Prelude.{Some};
 ghost use Rattle.answer_flow.specs.ReadViews.{ending_of as read_ending};
 ghost use Rattle.answer_flow.specs.CheckViews.{ending_of as check_ending};
 ghost use Rattle.answer_flow.specs.WatchViews.{ending_of as watch_ending};

@@ -1,8 +1,7 @@
 -- The shards of a write one after another: which have prepared, and that their votes are all.
-use Rattle.std.proofs.Common.{◌≡◌, ◌≢◌, ◌⊎◌, inl, inr, ⊎_elim, ◌↔◌, ◌<◌, ◌≤◌, ◌+◌, ◌++◌, ℕ, zero, suc, Bool, true, false, List, [], ◌∷◌, length, map, get_or, All, Contains, refl, sym, ap, ◌∙◌, subst, arith}
+use Rattle.std.proofs.Common.{◌≡◌, ◌≢◌, ◌⊎◌, inl, inr, ⊎_elim, ◌<◌, ◌≤◌, ◌+◌, ◌++◌, ℕ, zero, suc, Bool, true, false, List, [], ◌∷◌, length, map, get_or, Contains, refl, sym, ap, ◌∙◌, subst, arith}
 use Rattle.std.specs.Prelude.{if◌then◌else◌}
 use Rattle.std.specs.List.{AllPairs}
-use Rattle.std.specs.Int.{IsBitSet}
 use Rattle.std.proofs.lemmas.Bool.{cases_eq}
 use Rattle.std.proofs.lemmas.List.{append-nil, get_or-map, length-map, map-append}
 use Rattle.std.proofs.lemmas.List.Elements.{Contains-append_left, Contains-append_right, Contains-get_or, Contains-push, Contains-push_cases}
@@ -11,10 +10,10 @@ use Rattle.tuples.specs.declared.entry.Entry.{Entry}
 use Rattle.tuples.specs.declared.entry.WriteId.{WriteId}
 use Rattle.tuples.specs.Parts.{takes_part}
 use Rattle.decisions.specs.Values.{TicketValue, VoteValue}
-use Rattle.decisions.specs.Coordinators.{HaveVoted, IsVoteFor}
+use Rattle.decisions.specs.Coordinators.{HaveVoted}
 use Rattle.commit_flow.specs.Views.{ticket_value}
 use Rattle.commit_flow.specs.WriteHolds.{HeldTicket}
-use Rattle.commit_flow.specs.Participants.{ArePartsOf, AreTicketsFor, AreVotesFor, participants_below, ticket_shards, vote_shards}
+use Rattle.commit_flow.specs.Participants.{ArePartsOf, AreVotesFor, participants_below, ticket_shards, vote_shards}
 
 either : (b : Bool) → (b ≡ true) ⊎ (b ≡ false)
 either true = inl refl
@@ -143,8 +142,3 @@ one_asked shards w tickets s t asked takes =
     let next : s + 1 ≡ suc s = omega arith in
     map-append (λ (t : ℕ × TicketValue). t.0) tickets ((s, t) ∷ []) ∙ ap (λ (xs : List ℕ). xs ++ s ∷ []) asked ∙ sym (below_takes shards w s takes)
     ∙ ap (λ (n : ℕ). participants_below shards w n) (sym next)
-
-pub one_ticket_more : (id : WriteId) (tickets : List (ℕ × TicketValue)) (s : ℕ) (t : TicketValue) → AreTicketsFor id tickets → t.id ≡ id → AreTicketsFor id (tickets ++ (s, t) ∷ [])
-one_ticket_more id tickets s t for is =
-    map-append (λ (t : ℕ × TicketValue). t.1.id) tickets ((s, t) ∷ []) ∙ ap (λ (xs : List WriteId). xs ++ t.id ∷ []) for ∙ ap (λ (x : WriteId). map (λ (t : ℕ × TicketValue). id) tickets ++ x ∷ []) is
-    ∙ sym (map-append (λ (t : ℕ × TicketValue). id) tickets ((s, t) ∷ []))

@@ -3,7 +3,7 @@ use Rattle.std.specs.Prelude.{◌≡◌, ◌≢◌, ◌⊎◌, ◌++◌, ℕ, Bo
 use Rattle.tuples.specs.declared.entry.WriteId.{WriteId}
 use Rattle.tuples.specs.Parts.{takes_part}
 use Rattle.refusal.specs.declared.refusal.Refusal.{Refusal}
-use Rattle.refusal.specs.declared.refusal.Refusal.TheVariants.{Aborted, Full, Unsure}
+use Rattle.refusal.specs.declared.refusal.Refusal.TheVariants.{Full, Unsure}
 use Rattle.decisions.specs.Coordinators.{HaveVoted}
 use Rattle.decisions.specs.Standing.{DecidedValue}
 use Rattle.decisions.specs.Values.{IntentValue, TicketValue, VerdictValue, VoteValue}
@@ -16,9 +16,7 @@ use Rattle.shard.specs.declared.replies.VoteReply.{VoteReply}
 use Rattle.shard.specs.declared.replies.VoteReply.TheVariants.{Yes, Later as votes_later, No}
 use Rattle.calls.specs.declared.reply.Reply.{Reply}
 use Rattle.calls.specs.declared.reply.Reply.TheVariants.{Coordinator, Shard}
-use Rattle.calls.specs.declared.reply.CoordinatorReply.{CoordinatorReply}
 use Rattle.calls.specs.declared.reply.CoordinatorReply.TheVariants as told
-use Rattle.calls.specs.declared.reply.ShardReply.{ShardReply}
 use Rattle.calls.specs.declared.reply.ShardReply.TheVariants as told_by
 use Rattle.catch_up.specs.Held.{CatchUpCallValue}
 use Rattle.catch_up.specs.CatchingUp as catching

@@ -1,5 +1,5 @@
 -- What a cancel makes of a write flow.
-use Rattle.std.specs.Prelude.{◌≡◌, ◌≢◌, ◌⊎◌, Option, Some, None}
+use Rattle.std.specs.Prelude.{◌≡◌, ◌≢◌, None}
 use Rattle.commit_flow.specs.declared.end.WriteEnd.TheVariants.{Cancelled}
 use Rattle.commit_flow.specs.WriteHolds.{onward, outward}
 use Rattle.commit_flow.specs.Views.{WriteView, at_rest, view_ended}

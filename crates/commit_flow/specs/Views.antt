@@ -1,9 +1,8 @@
 -- What a write flow is seen as, of its phase.
-use Rattle.std.specs.Prelude.{ℕ, Bool, true, false, List, [], ◌∷◌, ◌++◌, map, Option, Some, None}
+use Rattle.std.specs.Prelude.{ℕ, Bool, false, List, [], ◌∷◌, ◌++◌, map, Option, Some, None}
 use Rattle.tuples.specs.declared.entry.WriteId.{WriteId}
 use Rattle.tuples.specs.Writes.{WriteValue}
-use Rattle.refusal.specs.declared.refusal.Refusal.{Refusal}
-use Rattle.decisions.specs.Values.{BatchValue, IntentValue, TicketValue, VerdictValue, VoteValue}
+use Rattle.decisions.specs.Values.{BatchValue, IntentValue, TicketValue, VoteValue}
 use Rattle.decisions.specs.Standing.{DecidedValue}
 use Rattle.decisions.specs.declared.held.Held.{Held}
 use Rattle.decisions.specs.declared.held.Held.TheVariants.{Ticket, Vote as held_vote}
@@ -13,7 +12,6 @@ use Rattle.commit_flow.specs.declared.end.WriteEnd.{WriteEnd}
 use Rattle.commit_flow.specs.declared.end.WriteEnd.TheVariants.{Wrote, Refused, Cancelled}
 use Rattle.commit_flow.specs.declared.load.Load.{Load}
 use Rattle.commit_flow.specs.declared.phase.Preparing.{Preparing}
-use Rattle.commit_flow.specs.declared.phase.AskedPrepare.{AskedPrepare}
 use Rattle.commit_flow.specs.declared.phase.Voting.{Voting}
 use Rattle.commit_flow.specs.declared.phase.Leaving.{Leaving}
 use Rattle.commit_flow.specs.declared.phase.Ready.{Ready}

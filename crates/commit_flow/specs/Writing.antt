@@ -1,20 +1,10 @@
 -- The calls of a write flow, and what each reply makes of it.
-use Rattle.std.specs.Prelude.{◌≡◌, ◌≢◌, ◌⊎◌, ◌≤◌, ◌<◌, ◌++◌, ℕ, Bool, true, false, List, [], ◌∷◌, Option, Some, None, Result, Ok, Err, Contains}
-use Rattle.tuples.specs.declared.entry.WriteId.{WriteId}
+use Rattle.std.specs.Prelude.{◌≡◌, ◌≢◌, ◌⊎◌, ◌<◌, ◌++◌, ℕ, Bool, true, false, List, [], ◌∷◌, Option, Some, None, Contains}
 use Rattle.tuples.specs.Parts.{takes_part}
 use Rattle.refusal.specs.declared.refusal.Refusal.{Refusal}
-use Rattle.refusal.specs.declared.refusal.Refusal.TheVariants.{Aborted, Full, Unsure}
-use Rattle.decisions.specs.Coordinators.{HaveVoted}
-use Rattle.decisions.specs.Standing.{DecidedValue}
-use Rattle.decisions.specs.Values.{BatchValue, IntentValue, TicketValue, VerdictValue, VoteValue}
-use Rattle.decisions.specs.declared.held.Held.{Held}
-use Rattle.coordinator.specs.declared.decided.NotDecided.{NotDecided}
+use Rattle.decisions.specs.Values.{IntentValue, TicketValue, VoteValue}
 use Rattle.coordinator.specs.declared.telling.Outcome as outcomes
-use Rattle.coordinator.specs.declared.telling.Outcome.TheVariants.{Kept, Later, Unsure as is_unsure}
 use Rattle.coordinator.specs.declared.telling.Inquiry as inquiries
-use Rattle.coordinator.specs.declared.telling.Inquiry.TheVariants.{Commit, Abort as is_aborted, Undecided}
-use Rattle.shard.specs.declared.replies.VoteReply.{VoteReply}
-use Rattle.shard.specs.declared.replies.VoteReply.TheVariants.{Yes, Later as votes_later, No}
 use Rattle.calls.specs.Asking.{MayAskCoordinator, MayAskShard}
 use Rattle.calls.specs.declared.call.NodeCall.{NodeCall}
 use Rattle.calls.specs.declared.call.NodeCall.TheVariants.{Coordinator, Shard}
@@ -23,11 +13,10 @@ use Rattle.calls.specs.declared.call.CoordinatorCall.TheVariants as calls
 use Rattle.calls.specs.declared.call.ShardCall.{ShardCall}
 use Rattle.calls.specs.declared.call.ShardCall.TheVariants as shard_calls
 use Rattle.catch_up.specs.Held.{decisions, flushing, learned, learning}
-use Rattle.commit_flow.specs.declared.end.WriteEnd.TheVariants.{Wrote, Refused, Cancelled}
 use Rattle.commit_flow.specs.Participants.{ArePartsOf}
-use Rattle.commit_flow.specs.WriteHolds.{HeldTicket, Way, WriteAwaited, WriteHolds, nothing_begun, onward, outward}
+use Rattle.commit_flow.specs.WriteHolds.{HeldTicket, WriteAwaited, WriteHolds, nothing_begun, onward, outward}
 use Rattle.commit_flow.specs.WriteHolds as waits
-use Rattle.commit_flow.specs.Views.{WriteView, as_tickets, as_votes, holds_ended, ticket_value, view_ended}
+use Rattle.commit_flow.specs.Views.{WriteView, as_tickets, as_votes, ticket_value}
 
 -- it holds the intent of its write
 abbrev pub HasIntent : WriteView → Type 0

@@ -1,7 +1,7 @@
 // The decision of a write, and what became of it.
-ghost use Rattle.std.specs.Prelude.{◌≡◌, ◌⊎◌, ◌≢◌, ◌≤◌, ◌++◌, [], Some, None, true, false, ℕ};
+ghost use Rattle.std.specs.Prelude.{◌≡◌, [], Some, None, true, ℕ};
 ghost use Rattle.decisions.specs.Coordinators.{HaveVoted};
-ghost use Rattle.commit_flow.specs.Answering.{DecideGives, FlushGives, IfBack, NotDecidedGives, OutcomeGives, RefusedBack};
+ghost use Rattle.commit_flow.specs.Answering.{DecideGives, FlushGives, NotDecidedGives, OutcomeGives, RefusedBack};
 ghost use Rattle.commit_flow.specs.Kept.{IsReadyOf, IsPhaseOf};
 ghost use Rattle.commit_flow.specs.Views.{at_rest, holds_onward, view_of, view_out, view_ready};
 ghost use Rattle.commit_flow.specs.WriteHolds.{outward};

@@ -1,5 +1,5 @@
 // A write that was refused or cancelled, on its way out.
-ghost use Rattle.std.specs.Prelude.{◌≡◌, ◌⊎◌, ◌++◌, [], Some, None, ℕ};
+ghost use Rattle.std.specs.Prelude.{◌≡◌, Some, None, ℕ};
 ghost use Rattle.commit_flow.specs.Answering.{AbortGives, GoesToDrop, InquireGives, end_of};
 ghost use Rattle.commit_flow.specs.Kept.{IsPhaseOf};
 ghost use Rattle.commit_flow.specs.Views.{view_ended, view_of, view_out};

@@ -1,11 +1,10 @@
 // A write flow: one call a turn.
-ghost use Rattle.std.specs.Prelude.{◌≡◌, ◌≤◌, ◌≢◌, Some, None, false, ℕ, IfOk, IfErr, MatchOption, option_map};
+ghost use Rattle.std.specs.Prelude.{◌≡◌, ◌≤◌, ◌≢◌, Some, None, false, IfOk, IfErr, MatchOption, option_map};
 ghost use Rattle.calls.specs.Names.{name_of as name_of_call};
 ghost use Rattle.names.specs.declared.call_name.CallName.TheVariants as names;
 ghost use Rattle.records.specs.Identity.{max_shards};
 ghost use Rattle.commit_flow.specs.Answering.{GivesTo, MayGive};
 ghost use Rattle.commit_flow.specs.Cancelling.{Cancels};
-ghost use Rattle.commit_flow.specs.Views.{WriteView};
 ghost use Rattle.commit_flow.specs.WriteHolds.{nothing_begun};
 ghost use Rattle.commit_flow.specs.Writing.{Asks};
 

@@ -1,7 +1,6 @@
 // What a reply makes of the phase that waits for it.
 ghost use Rattle.std.specs.Prelude.{ℕ, ◌≡◌, ◌≤◌};
 ghost use Rattle.records.specs.Identity.{max_shards};
-ghost use Rattle.catch_up.specs.CatchingUp.{Fits as FitsCatchUp};
 ghost use Rattle.commit_flow.specs.Answering.{Fits, GivesTo};
 ghost use Rattle.commit_flow.specs.Kept.{IsFresh, IsOutOf, IsPhaseOf};
 ghost use Rattle.commit_flow.specs.Views.{awaited_of, view_of, view_out};

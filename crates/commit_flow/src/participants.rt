@@ -1,5 +1,5 @@
 // The shards that take part in a write, one after another.
-ghost use Rattle.std.specs.Prelude.{◌≡◌, ◌≤◌, ◌<◌, ◌↔◌, IsBitSet, IsTrue};
+ghost use Rattle.std.specs.Prelude.{◌≤◌, ◌<◌, ◌↔◌, IsBitSet, IsTrue};
 ghost use Rattle.records.specs.Identity.{max_shards};
 ghost use Rattle.commit_flow.specs.Participants.{IsNextShard};
 

@@ -1,12 +1,12 @@
 // The shards prepare their parts, one after another.
-ghost use Rattle.std.specs.Prelude.{◌≡◌, ◌⊎◌, ◌≢◌, ◌≤◌, ◌<◌, ◌+◌, ◌++◌, ◌∷◌, [], Some, None, true, false, length, IfOk};
+ghost use Rattle.std.specs.Prelude.{◌≡◌, ◌≤◌, ◌<◌, ◌+◌, [], Some, None, true, false, IfOk};
 ghost use Rattle.std.specs.Vec.{vec_len};
 ghost use Rattle.tuples.specs.Parts.{takes_part};
 ghost use Rattle.catch_up.specs.CatchingUp.{Fits as FitsCatchUp};
 ghost use Rattle.commit_flow.specs.Answering.{BeginGives, CatchUpGives, FlushGives, GoesOn, PrepareGives};
 ghost use Rattle.commit_flow.specs.Kept.{IsFresh, IsReadyOf, IsPhaseOf};
 ghost use Rattle.commit_flow.specs.Participants.{ArePartsOf, AreTicketsFor, participants_below, ticket_shards};
-ghost use Rattle.commit_flow.specs.Views.{holds_onward, holds_preparing, tickets_of, view_of, view_out, view_ready};
+ghost use Rattle.commit_flow.specs.Views.{holds_onward, tickets_of, view_of, view_out, view_ready};
 ghost use Rattle.commit_flow.specs.declared.phase.Out.TheVariants.{Begin as begin_out, CatchUp as catch_up_out, FlushToPrepare as flush_out, Prepare as prepare_out};
 
 use crate::end::WriteEnd;

@@ -1,10 +1,10 @@
 // The shards vote, one after another, and the write is decided by their votes.
-ghost use Rattle.std.specs.Prelude.{◌≡◌, ◌⊎◌, ◌≢◌, ◌≤◌, ◌<◌, ◌+◌, ◌++◌, ◌∷◌, [], Some, None, true, false, length, Option, map};
+ghost use Rattle.std.specs.Prelude.{◌≡◌, ◌≤◌, ◌<◌, ◌+◌, ◌++◌, [], Some, None, false, Option};
 ghost use Rattle.std.specs.Vec.{vec_len};
 ghost use Rattle.commit_flow.specs.Answering.{FlushGives, GoesOn, IsVoteOf, VoteGives};
 ghost use Rattle.commit_flow.specs.Kept.{IsReadyOf};
 ghost use Rattle.commit_flow.specs.Participants.{AreTicketsFor, AreVotesFor, participants_below, ticket_shards, vote_shards};
-ghost use Rattle.commit_flow.specs.Views.{at_rest, holds_onward, in_hand, ticket_value, tickets_of, view_out, view_ready};
+ghost use Rattle.commit_flow.specs.Views.{at_rest, holds_onward, in_hand, tickets_of, view_out, view_ready};
 ghost use Rattle.commit_flow.specs.WriteHolds.{outward};
 ghost use Rattle.commit_flow.specs.declared.phase.Out.TheVariants.{FlushToVote as flush_vote_out, Vote as vote_out};
 

@@ -11,9 +11,9 @@ use Rattle.records.proofs.CoordinatorStates.{coordinator_empty, coordinator_imag
 use Rattle.device.specs.Device.{State, left}
 use Rattle.journal.specs.Records.{both, HasNoRoom, HasOldOrNew, HasRecords, LeavesBoth, View, found}
 use Rattle.ledger.specs.Ledgers.{LedgerValue}
-use Rattle.decisions.specs.Coordinators.{WasLeftOrReopened, coordinator_opening}
+use Rattle.decisions.specs.Coordinators.{coordinator_opening}
 use Rattle.journal.specs.Unread.{IsRead, Left}
-use Rattle.journal.proofs.Left.{both-nil, read_among, read_more}
+use Rattle.journal.proofs.Left.{both-nil, read_more}
 use Rattle.coordinator.specs.Keeping.{AreReplayed, HasFoundOrOpened, IsGivenNumber, IsKept, Remembers}
 
 -- the record of an opening is short
@@ -175,20 +175,3 @@ module _ (me : Identity) (node : me.node ≡ coordinator_number) (records : Opti
 
   pub start_durable : (new : List Record) → new ≡ durable ++ Epoch (s.epoch + 1) me.store me.shards me.node ∷ [] → new ≡ durable ++ coordinator_opening me durable ∷ []
   start_durable new more = opened_durable me r.rs node r.image s r.replayed below durable new same more ∙ ap (λ (rs : List Record). rs ++ coordinator_opening me rs ∷ []) (sym same)
-
-pub opened_or_found : (me : Identity) (sa sb : State) (rs : List Record) → found sa.seen sb.seen ≡ Some rs → (x y : List ℕ) → HasFoundOrOpened me rs x y → WasLeftOrReopened me sa sb x y
-opened_or_found me sa sb rs was x y (inl has) = inl (inr (has ∙ sym was))
-opened_or_found me sa sb rs was x y (inr opened) = inr (rs, was, opened.0, opened.1)
-
--- time during a call, and during the next
-pub leaves_then : {D : Type 0} (moment : D → ℕ) (left_since : D → ℕ → List ℕ → Type 0) (a b c d e f : D) (P Q R : List ℕ → List ℕ → Type 0) → LeavesBoth moment left_since a b c d P → LeavesBoth moment left_since c d e f Q
-    → ((x y : List ℕ) → P x y → R x y) → ((x y : List ℕ) → Q x y → R x y) → LeavesBoth moment left_since a b e f R
-leaves_then moment left_since a b c d e f P Q R l m p q = record {
-  later_a = omega (arith, l.later_a, m.later_a);
-  later_b = omega (arith, l.later_b, m.later_b);
-  each = λ x y in_x in_y. ⊎_elim (λ was. p x y (l.each x y was.0 was.1)) (λ now. q x y now) (m.before (moment a) (moment b) x y l.later_a l.later_b in_x in_y);
-  before = λ t u x y le_t le_u in_x in_y. ⊎_elim
-      (λ was. ⊎_elim (λ first. inl first) (λ now. inr (p x y now)) (l.before t u x y le_t le_u was.0 was.1))
-      (λ now. inr (q x y now))
-      (m.before t u x y (omega (arith, le_t, l.later_a)) (omega (arith, le_u, l.later_b)) in_x in_y);
-}

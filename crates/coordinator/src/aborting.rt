@@ -1,5 +1,5 @@
 // Aborting an open write.
-ghost use Rattle.std.specs.Prelude.{◌≡◌, ◌⊎◌, ◌↔◌, true, IfOk, IfErr, OnErr, IsErrOf};
+ghost use Rattle.std.specs.Prelude.{◌≡◌, ◌⊎◌, ◌↔◌, true, IfOk, IfErr, IsErrOf};
 ghost use Rattle.decisions.specs.Coordinators.{AbortsAt, IsDecidedAbove, IsGivenAt, IsRunning};
 
 use crate::Coordinator;

@@ -1,5 +1,5 @@
 // Beginning a write.
-ghost use Rattle.std.specs.Prelude.{◌≡◌, ◌⊎◌, ◌↔◌, ◌≤◌, ◌<◌, true, false, All, OnOk, OnErr, IfOk, IfErr, IsErrOf, IsTrue};
+ghost use Rattle.std.specs.Prelude.{◌≡◌, ◌⊎◌, ◌↔◌, ◌≤◌, ◌<◌, true, false, All, OnOk, IfOk, IfErr, IsErrOf, IsTrue};
 ghost use Rattle.tuples.specs.declared.change.Condition.{Condition as AnyCondition};
 ghost use Rattle.decisions.specs.Coordinators.{BeginsAt, FirstIs, HasNoId, IsInRange, IsRunning, NamesCollected, NamesFuture, most_open};
 ghost use Rattle.records.specs.Replays.{greatest_number};

@@ -1,5 +1,5 @@
 // Deciding an open write.
-ghost use Rattle.std.specs.Prelude.{ℕ, ◌≡◌, ◌⊎◌, ◌↔◌, ◌≤◌, ◌<◌, ◌+◌, ◌++◌, ◌∷◌, [], true, length, Some, None, Contains, IfOk, IfErr, OnErr, OnOk, IsErr, IsTrue};
+ghost use Rattle.std.specs.Prelude.{ℕ, ◌≡◌, ◌⊎◌, ◌↔◌, ◌≤◌, ◌<◌, ◌+◌, ◌++◌, ◌∷◌, [], true, length, Some, None, Contains, IfOk, IfErr, OnErr, OnOk, IsErr};
 ghost use Rattle.journal.specs.Records.{HasNoRoom};
 ghost use Rattle.ledger.specs.Ledgers.{IsOther};
 ghost use Rattle.records.specs.declared.record.Record.TheVariants.{Decision as decision_record};

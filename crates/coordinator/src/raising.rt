@@ -1,5 +1,5 @@
 // Raising the horizon.
-ghost use Rattle.std.specs.Prelude.{◌≡◌, ◌⊎◌, ◌↔◌, ◌≤◌, ◌<◌, ◌++◌, ◌∷◌, [], ℕ, Some, true, false, IfOk, IfErr, OnOk, OnErr, IsErr, IsErrOf, IsTrue};
+ghost use Rattle.std.specs.Prelude.{◌≡◌, ◌⊎◌, ◌↔◌, ◌≤◌, ◌<◌, ℕ, Some, true, false, IfErr, OnOk, IsErr, IsErrOf, IsTrue};
 ghost use Rattle.journal.specs.Records.{HasNoRoom};
 ghost use Rattle.records.specs.declared.record.Record.TheVariants.{Horizon as horizon_record};
 ghost use Rattle.records.specs.Coordinators.{end_of};

@@ -1,7 +1,7 @@
 // What a coordinator tells of its decisions.
-ghost use Rattle.std.specs.Prelude.{◌≡◌, ◌≢◌, ◌⊎◌, ◌↔◌, ◌≤◌, ◌<◌, Ok, true, IfOk, IfErr, IsErr, IsErrOf, Contains, IsTrue};
+ghost use Rattle.std.specs.Prelude.{◌≡◌, ◌⊎◌, ◌↔◌, ◌≤◌, ◌<◌, Ok, true, IfOk, IfErr, IsErr, IsErrOf, Contains, IsTrue};
 ghost use Rattle.records.specs.Coordinators.{end_of};
-ghost use Rattle.decisions.specs.Coordinators.{BatchesAt, FindsAt, FindsNone, FindsNothingYet, IsDecidedAbove, IsGivenAt, IsKeptBy, IsOfNow, IsRunning, IsStagedBy, heads_of, kept_of};
+ghost use Rattle.decisions.specs.Coordinators.{BatchesAt, FindsAt, FindsNone, FindsNothingYet, IsGivenAt, IsKeptBy, IsOfNow, IsRunning, IsStagedBy, heads_of, kept_of};
 ghost use Rattle.coordinator.specs.declared.telling.Inquiry.TheVariants.{Commit, Abort, Undecided};
 ghost use Rattle.coordinator.specs.declared.telling.Outcome.TheVariants.{Kept, Later, Unsure};
 

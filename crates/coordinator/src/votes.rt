@@ -1,5 +1,5 @@
 // Whether the votes for a write are exactly one of each shard that takes part in it.
-ghost use Rattle.std.specs.Prelude.{ℕ, ◌≡◌, ◌≢◌, ◌↔◌, ◌<◌, ◌≤◌, IsTrue, IsBitSet};
+ghost use Rattle.std.specs.Prelude.{ℕ, ◌≢◌, ◌↔◌, ◌<◌, ◌≤◌, IsTrue, IsBitSet};
 ghost use Rattle.tuples.specs.Limits.{IsShardCount, max_shards};
 ghost use Rattle.decisions.specs.Coordinators.{HaveVoted};
 

@@ -1,6 +1,6 @@
 -- A coordinator as its callers see it, and what each of its calls does, over lists of records alone: what stops leave, locks and logs are the
 -- matter of whoever calls.
-use Rattle.std.specs.Prelude.{◌≡◌, ◌≢◌, ◌⊎◌, ◌≤◌, ◌<◌, ◌+◌, ◌-◌, ℕ, min, Bool, false, true, List, [], ◌∷◌, ◌++◌, length, take, drop, All, AllPairs, Some, None, Contains, if◌then◌else◌, slice_get}
+use Rattle.std.specs.Prelude.{◌≡◌, ◌≢◌, ◌⊎◌, ◌≤◌, ◌<◌, ◌+◌, ◌-◌, ℕ, min, Bool, false, true, List, [], ◌∷◌, ◌++◌, length, take, drop, All, AllPairs, Some, Contains, if◌then◌else◌, slice_get}
 use Rattle.tuples.specs.declared.change.Change.{Change}
 use Rattle.tuples.specs.declared.change.Condition.{Condition}
 use Rattle.tuples.specs.declared.change.Want.TheVariants.{NotAfter}

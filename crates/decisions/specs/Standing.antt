@@ -1,9 +1,9 @@
 -- What the values that pass between the nodes stand for, in whatever records a stop may leave of a node.
-use Rattle.std.specs.Prelude.{◌≡◌, ◌≤◌, ◌+◌, ◌-◌, ℕ, List, Some, slice_get}
+use Rattle.std.specs.Prelude.{◌≡◌, ◌≤◌, ℕ, List, Some}
 use Rattle.tuples.specs.declared.entry.Entry.{Entry}
 use Rattle.tuples.specs.declared.entry.WriteId.{WriteId}
 use Rattle.records.specs.declared.record.Record.{Record}
-use Rattle.records.specs.Coordinators.{coordinator_state, end_of, IsNotAbove}
+use Rattle.records.specs.Coordinators.{coordinator_state, IsNotAbove}
 use Rattle.records.specs.Replays.{shard_state, find_in_doubt}
 pub use Rattle.decisions.specs.Values.{HeadsValue, SettledValue}
 
@@ -32,17 +32,3 @@ IsGivenOut stops id = (found : List Record) → stops found → id.epoch ≤ (co
 pub record IsAborted (stops : List Record → Type 0) (id : WriteId) : Type 0 where
   pub given : IsGivenOut stops id
   pub none : (found : List Record) → stops found → IsNotAbove id (coordinator_state found)
-
--- An outcome that names a place: the log reaches up to it.
-abbrev pub IsKeptAt : (List Record → Type 0) → ℕ → Type 0
-IsKeptAt stops place = (found : List Record) → stops found → place ≤ end_of (coordinator_state found)
-
--- Heads: the log reaches up to the kept place, and the horizon is at least the one named.
-pub record AreHeads (stops : List Record → Type 0) (heads : HeadsValue) : Type 0 where
-  pub kept : IsKeptAt stops heads.kept
-  pub horizon : (found : List Record) → stops found → heads.horizon ≤ (coordinator_state found).horizon
-
--- A batch: its writes are the decisions behind a place, so far as the coordinator still knows them.
-abbrev pub AreDecided : (List Record → Type 0) → ℕ → List Entry → Type 0
-AreDecided stops from writes = (found : List Record) → stops found → (j : ℕ) (w : Entry) → slice_get writes j ≡ Some w → (coordinator_state found).base ≤ from + j
-    → slice_get (coordinator_state found).log (from + j - (coordinator_state found).base) ≡ Some w

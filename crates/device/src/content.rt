@@ -1,5 +1,5 @@
 // Contents in memory, and what writes make of them.
-ghost use Rattle.std.specs.Prelude.{◌≡◌, length, is_ok, if◌then◌else◌, OnOk};
+ghost use Rattle.std.specs.Prelude.{◌≡◌, is_ok, if◌then◌else◌, OnOk};
 ghost use Rattle.device.specs.Device.{patched};
 ghost use Rattle.device.specs.Sim.{filled, found};
 ghost use Rattle.device.specs.Unsynced.{rewritten, ranges, unsynced};

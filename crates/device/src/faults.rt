@@ -1,5 +1,5 @@
 // Which calls of a disk in memory fail, and what is found after it.
-ghost use Rattle.std.specs.Prelude.{◌≡◌, ◌≤◌, ◌<◌, ◌+◌, ◌-◌, ◌^◌, ◌⊎◌, min, is_some, Some, None, true, false};
+ghost use Rattle.std.specs.Prelude.{◌≡◌, ◌≤◌, ◌<◌, ◌+◌, ◌-◌, ◌^◌, ◌⊎◌, min, is_some, Some, None};
 ghost use Rattle.device.specs.Faults.{IsDue, IsLater, nearer, or_old};
 ghost use Rattle.device.specs.declared.tear.Tear.{Tear as AnyTear};
 

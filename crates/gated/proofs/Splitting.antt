@@ -1,5 +1,5 @@
 -- A content that is read record by record.
-use Rattle.std.proofs.Common.{◌≡◌, ◌≢◌, ◌⊎◌, inl, inr, ⊎_elim, ℕ, zero, suc, Bool, true, false, not, ◌+◌, ◌-◌, ◌<◌, ◌≤◌, ◌==◌, ◌&&◌, nat_lt, nat_le, List, [], ◌∷◌, ◌++◌, length, take, drop, get_or, Some, None, refl, sym, ◌∙◌, ap, subst, arith, cond, length-append, length-drop}
+use Rattle.std.proofs.Common.{◌≡◌, ◌⊎◌, inl, inr, ⊎_elim, ℕ, zero, suc, Bool, true, false, not, ◌+◌, ◌-◌, ◌<◌, ◌≤◌, ◌==◌, ◌&&◌, nat_lt, nat_le, List, [], ◌∷◌, ◌++◌, length, take, drop, get_or, Some, None, refl, sym, ◌∙◌, ap, subst, arith, cond, length-append, length-drop}
 use Rattle.std.proofs.lemmas.Bool.{cases_eq, lt-ltb, ne_eqb, eq-eqb, ltb-true, leb-true, cases_lt, and_left, and_from, and_parts}
 use Rattle.std.proofs.lemmas.List.{take_all, drop-drop, take-append-drop, length-take-le, drop_more, get_or-take, get_or-drop, get_or_past, length-take}
 use Rattle.std.proofs.lemmas.Nat.{be_bytes_4}
@@ -21,13 +21,6 @@ pub record Reads (content : List ℕ) (bodies : List (List ℕ)) (end : ℕ) : T
 
 fair_long : (rest : List ℕ) → 2 ≤ length rest → IsFair rest
 fair_long rest long = record { some = omega arith; fair = and_left _ _ (ne_eqb (length rest) 1 (λ is. omega (arith, is))) }
-
-pub reads_none : (content : List ℕ) → 2 ≤ length content → Reads content [] 0
-reads_none content long = record { fit = tt; content_is = refl; end_is = refl; fair = fair_long content long }
-
--- there is a gate to read
-pub reads_gate : (content : List ℕ) (bodies : List (List ℕ)) (end : ℕ) → Reads content bodies end → end < length content
-reads_gate content bodies end r = omega (arith, r.fair.some, length-drop end content)
 
 one_or_more : (n : ℕ) → 1 ≤ n → (n ≡ 1) ⊎ (1 < n)
 one_or_more n some = ⊎_elim (λ is. inl is) (λ ne. inr (omega (arith, ne))) (cases_eq n 1)
@@ -97,17 +90,6 @@ module _ (content : List ℕ) (bodies : List (List ℕ)) (end : ℕ) (r : Reads 
         end_is = omega (arith, next_is, r.end_is, length-spelled_push bodies b);
         fair = subst IsFair behind_is (record { some = omega (arith, parts.2, length-drop (5 + n) rest); fair = parts.3 });
       }
-
-  -- the end of the list
-  pub reads_closed : get_or content end 0 ≢ 165 → IsSpelled content bodies end
-  reads_closed ne = record {
-    gate = get_or content end 0;
-    rest = drop (end + 1) content;
-    fit = r.fit;
-    closed = ne;
-    content_is = r.content_is ∙ ap (spelled bodies) (drop_more content end 0 (reads_gate content bodies end r));
-    end_is = r.end_is;
-  }
 
 length-behind : (bodies : List (List ℕ)) (rest : List ℕ) → length bodies + length rest ≤ length (spelled bodies rest)
 length-behind bodies rest = omega (arith, ap length (spelled-split bodies rest), length-append (spelled bodies []) rest, length-spelled bodies [])

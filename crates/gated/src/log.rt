@@ -1,5 +1,5 @@
 // A log of bodies behind gates: a body counts once its gate is open.
-ghost use Rattle.std.specs.Prelude.{◌≡◌, ◌≤◌, ◌<◌, ◌+◌, ◌^◌, ◌↔◌, ◌⊎◌, ◌∷◌, [], ◌++◌, Some, None, false, true, length, map, List, ℕ, OnOk, IsErr, IfOk, IfErr, MatchResult, IsErrOf};
+ghost use Rattle.std.specs.Prelude.{◌≡◌, ◌≤◌, ◌<◌, ◌+◌, ◌^◌, ◌↔◌, ◌⊎◌, ◌∷◌, [], ◌++◌, None, false, true, length, map, List, ℕ, OnOk, IsErr, IfOk, IfErr, MatchResult, IsErrOf};
 ghost use Rattle.device.specs.Device.{LeavesOnly, Failed, HasFailed, Keeps, Elapses, left};
 ghost use Rattle.gated.specs.Gated.{HasList, IsOldOrNew, body_of, gated, max_body, max_device, record_head, IsFoundList};
 

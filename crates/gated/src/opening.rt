@@ -1,7 +1,7 @@
 // The list of a device, found at its opening.
 ghost use Rattle.std.specs.Prelude.{◌≡◌, ◌≤◌, ◌⊎◌, ◌↔◌, [], None, true, false, length, map, OnOk, OnErr, IsErr, IsErrOf, IfOk, IfErr, vec_len};
 ghost use Rattle.gated.specs.Gated.{gated, IsReady, IsFoundList};
-ghost use Rattle.device.specs.Device.{Synced, Keeps, LeavesOnly, Failed, HasFailed, left};
+ghost use Rattle.device.specs.Device.{Keeps, LeavesOnly, Failed, HasFailed, left};
 
 use crate::format::CLOSED;
 use crate::split::split;

@@ -16,7 +16,7 @@ use Rattle.turns.specs.Moments.{Moment}
 use Rattle.turns.specs.ReopenLaws.{closed_nodes}
 use Rattle.turns.specs.Reopens.{FoundHorizon, IsOpenedFrom}
 use Rattle.turns.specs.Runs as runs
-use Rattle.turns.specs.Runs.{IsOfOpening, MayRise, OpensAs, Restarts, Told}
+use Rattle.turns.specs.Runs.{IsOfOpening, MayRise, OpensAs, Told}
 use Rattle.turns.specs.Stands.{IsHorizonIn, Stands}
 use Rattle.turns.specs.Stores.{AreSound, stops}
 use Rattle.turns.proofs.ShardStages.{shard_number}

@@ -14,7 +14,7 @@ use Rattle.laws.specs.Nodes.{IsThere, NodeName, NodeState, coordinator, down, re
 use Rattle.turns.specs.Moments.{Moment, Running, flow_at}
 use Rattle.turns.specs.Promises.{OpensWithCause, Ran, RunsOne, events_of}
 use Rattle.turns.specs.Runs as runs
-use Rattle.turns.specs.Runs.{OpeningMoves, OpensAs, Restarts, Told, restart}
+use Rattle.turns.specs.Runs.{OpensAs, Restarts, Told, restart}
 use Rattle.turns.specs.Stores.{FlowView, NamesHorizon, ShowsSlot, StandsOver, Store, stops}
 use Rattle.call_turns.specs.StoreCalls.{IsNode, shown}
 use Rattle.call_turns.proofs.Made.{inside_by, node_cases, still_within}

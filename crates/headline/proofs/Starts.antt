@@ -15,7 +15,6 @@ use Rattle.laws.specs.Nodes.{IsThere, NodeName}
 use Rattle.turns.specs.Flows.{Asked, IsAsked, IsFreshness, nothing_held}
 use Rattle.turns.specs.Promises.{RunsOne, events_of}
 use Rattle.turns.specs.Runs as runs
-use Rattle.turns.specs.Runs.{Told, began, refuses}
 use Rattle.turns.specs.Stores.{FlowView, NamesHorizon, Store}
 use Rattle.call_turns.specs.Steps.{shown_flow}
 use Rattle.call_turns.specs.StoreCalls.{name_of}

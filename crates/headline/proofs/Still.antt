@@ -7,7 +7,6 @@ use Rattle.laws.specs.Nodes.{NodeName}
 use Rattle.turns.specs.Moments.{Moment, Running}
 use Rattle.turns.specs.Promises.{Ran, events_of}
 use Rattle.turns.specs.Runs as runs
-use Rattle.turns.specs.Runs.{Told}
 use Rattle.turns.specs.Stores.{FlowView, NamesHorizon, ShowsSlot, StandsOver, Store}
 use Rattle.call_turns.specs.StoreCalls.{ShowsMemory}
 use Rattle.call_turns.proofs.Made.{inside_by, still_within}

@@ -47,18 +47,6 @@ or_false : (b : Bool) → (b || false) ≡ b
 or_false true = refl
 or_false false = refl
 
-or_swap : (a b c : Bool) → (a || (b || c)) ≡ ((b || a) || c)
-or_swap true true c = refl
-or_swap true false c = refl
-or_swap false true c = refl
-or_swap false false c = refl
-
-and_swap : (a b c : Bool) → (not a && (not b && c)) ≡ (not (b || a) && c)
-and_swap true true c = refl
-and_swap true false c = refl
-and_swap false true c = refl
-and_swap false false c = refl
-
 module _ {X : Type 0} (tuple : X → Tuple) where
   pub has_more : (t : Tuple) (xs : List X) (i : ℕ) (x : X) → i < length xs → x ≡ get_or xs i x → has_tuple t (map tuple (take (i + 1) xs)) ≡ (has_tuple t (map tuple (take i xs)) || tuple_eq t (tuple x))
   has_more t xs i x within at =
@@ -77,18 +65,7 @@ module _ {X : Type 0} (tuple : X → Tuple) where
         ∙ has_take t xs i (ap (λ (b : Bool). b || has_tuple t (map tuple xs)) (sym apart) ∙ none)
   ]
 
--- one more is put in
-pub more_in : (e h o n m : Bool) → n ≡ (e || m) → m ≡ (h || o) → n ≡ ((h || e) || o)
-more_in e h o n m is before = is ∙ ap (λ (b : Bool). e || b) before ∙ or_swap e h o
-
--- one more is taken out
-pub more_out : (e h o n m : Bool) → n ≡ (not e && m) → m ≡ (not h && o) → n ≡ (not (h || e) && o)
-more_out e h o n m is before = is ∙ ap (λ (b : Bool). not e && b) before ∙ and_swap e h o
-
 -- ---- the tuples of a write
-
-pub has_named : (t : Tuple) (us vs : List Tuple) → has_tuple t (us ++ vs) ≡ (has_tuple t us || has_tuple t vs)
-has_named t us vs = list_any-append (tuple_eq t) us vs
 
 -- ---- the writes that hold them
 

@@ -1,5 +1,5 @@
 // A journal: records are staged, and become durable by one append.
-ghost use Rattle.std.specs.Prelude.{◌≡◌, ◌⊎◌, ◌↔◌, ◌≤◌, ◌<◌, ◌+◌, ◌^◌, ◌++◌, ◌∷◌, [], List, ℕ, Some, None, OnOk, OnErr, IfOk, IfErr, IsErr, IsErrOf, MatchResult, length, true, false, min, ◌-◌};
+ghost use Rattle.std.specs.Prelude.{◌≡◌, ◌⊎◌, ◌↔◌, ◌≤◌, ◌<◌, ◌+◌, ◌^◌, ◌++◌, ◌∷◌, [], List, Some, OnOk, OnErr, IfErr, IsErrOf, length, true, false, min, ◌-◌};
 ghost use Rattle.device.specs.Device.{Elapses, HasFailed, Keeps, LeavesOnly, left};
 ghost use Rattle.gated.specs.Gated.{record_head};
 ghost use Rattle.journal.specs.Records.{IsSetOn, after_batch, HasCause, HasNoRoom, HasRecords, LacksRoom, HasOldOrNew, LeavesBoth, batch_size, durable_of};

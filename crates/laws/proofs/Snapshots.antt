@@ -11,11 +11,7 @@ use Rattle.tuples.specs.Changes.{tuple_of}
 use Rattle.tuples.specs.Log.{is_at, there_after}
 use Rattle.tuples.specs.Parts.{shard_of}
 use Rattle.tuples.specs.Versions.{placed, changes_from, collected, of_shard, there_at, versions}
-use Rattle.records.specs.Replays.{ShardState}
-use Rattle.laws.specs.Shards.{ShardMeans}
 use Rattle.laws.proofs.Rows.{above_changes, kept_all}
-use Rattle.versions.proofs.Alike.{alike_same, alike_trans, there_at_alike}
-use Rattle.versions.specs.Alike.{AreAlike}
 
 abbrev at_or_below : ℕ → Version → Bool
 at_or_below s v = nat_le v.place s
@@ -99,11 +95,3 @@ of_one_shard (v ∷ rows) = rw (shard_of_one (tuple_of v.change)) (ap (λ (l : L
 pub versions_all : (log : List Entry) (p : ℕ) → versions log p 0 ≡ changes_from 1 (take p log)
 unfolding versions collected
 versions_all log p = kept_all 0 (changes_from 1 (take p log)) (changes_from 1 (take p log)) (above_changes 0 1 (take p log) (omega arith))
-
--- the rows of a store's only shard, with no horizon, show each snapshot up to the learned place
-pub there_at_one : (log : List Entry) (hc : ℕ) (state : ShardState) (s : ℕ) (t : Tuple) → ShardMeans 1 0 log hc 0 state → s ≤ state.learned → there_at state.rows s t ≡ is_at log s t
-there_at_one log hc state s t m le =
-    let none : state.horizon ≡ 0 = omega (arith, m.horizon) in
-    let rows : AreAlike state.rows (changes_from 1 (take state.learned log)) =
-    alike_trans m.rows (alike_same _ _ (of_one_shard (versions log state.learned state.horizon) ∙ ap (versions log state.learned) none ∙ versions_all log state.learned)) in
-    there_at_alike rows s t ∙ there_at-changes log state.learned s t le

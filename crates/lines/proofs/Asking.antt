@@ -9,7 +9,6 @@ use Rattle.std.proofs.lemmas.List.{get_or-drop, length-drop}
 use Rattle.std.proofs.lemmas.List.Elements.{All-from_get_or, All-weaker}
 use Rattle.std.proofs.lemmas.List.Folds.{list_any_none}
 use Rattle.std.proofs.Math.Seq.{split_at}
-use Rattle.tuples.specs.declared.change.Condition.{Condition}
 use Rattle.tuples.specs.declared.change.Want.{Want}
 use Rattle.tuples.specs.declared.change.Want.TheVariants.{NotAfter, Exists, Absent}
 use Rattle.tuples.specs.declared.tuple.Tuple.{Tuple}
@@ -17,8 +16,7 @@ use Rattle.tuples.specs.Names.{IsName, is_name_byte}
 use Rattle.tuples.specs.Parsing.{Lacks, SpellsNone}
 use Rattle.tuples.specs.Texts.{IsTuple, object_text, tuple_text, user_text}
 use Rattle.tuples.proofs.Cuts.{cut_nowhere}
-use Rattle.tuples.proofs.Once.{tuple_text_once}
-use Rattle.lines.specs.Texts.{IsPlace, IsWanted, condition_text, wanted_text}
+use Rattle.lines.specs.Texts.{IsPlace, IsWanted, wanted_text}
 use Rattle.lines.specs.Words.{AsksNothing, IsAskedOf, IsPlacedOf, NamesNoPlace}
 use Rattle.lines.proofs.Lists.{heads, tails}
 use Rattle.lines.proofs.Digits.{decimal_lacks}
@@ -89,9 +87,6 @@ tuple_never mark other t v =
     longer_never mark (object_text t.object ++ 35 ∷ t.relation) (64 ∷ user_text t.user)
     (longer_never mark (object_text t.object) (35 ∷ t.relation) (longer_never mark t.object.namespace (58 ∷ t.object.id) (name_never mark other t.object.namespace v.object.namespace)))
 
-never_first : (mark : ℕ) → is_name_byte mark ≡ false → (t : Tuple) → IsTuple t → (more word rest : List ℕ) → tuple_text t ++ more ≡ word → word ≡ mark ∷ rest → ⊥
-never_first mark other t v more word rest is e = tuple_never mark other t v more rest (is ∙ e)
-
 marks_differ : (◌≡◌ {A = ℕ} 63 33) → ⊥
 marks_differ e = omega arith
 
@@ -131,22 +126,6 @@ pub asks_nothing : (word : List ℕ) → ((rest : List ℕ) → word ≢ 63 ∷ 
 asks_nothing word no_question no_exclamation none text (NotAfter place) w e = none text place w e
 asks_nothing word no_question no_exclamation none text Exists w e = no_question text e
 asks_nothing word no_question no_exclamation none text Absent w e = no_exclamation text e
-
--- a condition's text is that of no other
-pub condition_text_once : (a b : Condition) → IsTuple a.tuple × IsWanted a.want → IsTuple b.tuple × IsWanted b.want → condition_text a ≡ condition_text b → a ≡ b
-condition_text_once a b va vb e =
-    let texts = same_asked (tuple_text a.tuple) a.tuple a.want b vb e va.0 va.1 in
-    let tuples = tuple_text_once a.tuple b.tuple va.0 vb.0 texts.0 in
-    ap (λ (t : Tuple). record { tuple = t; want = a.want }) tuples ∙ ap (λ (w : Want). record { tuple = b.tuple; want = w }) (sym texts.1)
-  where
-    same_asked : (text : List ℕ) (t : Tuple) (want : Want) (b : Condition) → IsTuple b.tuple × IsWanted b.want → wanted_text (tuple_text t) want ≡ condition_text b → IsTuple t → IsWanted want
-        → (tuple_text t ≡ tuple_text b.tuple) × (b.want ≡ want)
-    same_asked text t (NotAfter place) b vb e v w =
-        let p = asks_place (condition_text b) (tuple_text t) (NotAfter place) (λ rest. never_first 63 refl t v (61 ∷ decimal place) (condition_text b) rest e) (λ rest. never_first 33 refl t v (61 ∷ decimal place) (condition_text b) rest e)
-        (placed_of (condition_text b) (tuple_text t) (decimal place) place (sym e) (decimal_lacks 61 place (inl (omega arith)) w) w refl) in
-        p.only b vb.0 vb.1 refl
-    same_asked text t Exists b vb e v w = asked_exists (tuple_text t) b.tuple b.want vb.0 e
-    same_asked text t Absent b vb e v w = asked_absent (tuple_text t) b.tuple b.want vb.0 e
 
 -- a byte that is known stands first
 pub first_byte : (word rest : List ℕ) (first mark : ℕ) → word ≡ first ∷ rest → first ≡ mark → word ≡ mark ∷ rest

@@ -1,5 +1,5 @@
 -- Which refusal each thing that is wrong with a line has.
-use Rattle.std.proofs.Common.{◌≡◌, ℕ, ◌<◌, ◌≤◌, Bool, true, false, eqb, not, ◌&&◌, List, [], ◌∷◌, ◌++◌, map, codes, length, refl, sym, ap, ◌∙◌, subst, ◌⊎◌, inl, inr, Bor, IsTrue, arith}
+use Rattle.std.proofs.Common.{◌≡◌, ℕ, ◌<◌, ◌≤◌, Bool, true, false, eqb, not, List, [], ◌∷◌, ◌++◌, map, codes, length, refl, sym, ap, ◌∙◌, subst, ◌⊎◌, inl, inr, Bor, arith}
 use Rattle.std.specs.List.{All, list_all, list_any}
 use Rattle.std.proofs.lemmas.Bool.{false≢true}
 use Rattle.std.proofs.lemmas.Bool.Decides.{nat_tests}
@@ -20,7 +20,7 @@ use Rattle.lines.specs.Lines.{IsFree, SpellNoOrder, SpellsWords}
 use Rattle.lines.specs.Shapes.{AreListed, ArePartsShaped, HasShape, Shape, check, read, watch, write}
 use Rattle.lines.specs.Words.{AreBehind, AreChanges, AreConditions, AreFull, HasConditionShape, if_words, is_marked, texts}
 use Rattle.lines.proofs.Firsts.{start_is_no_order, start_is_no_request, write_only}
-use Rattle.lines.proofs.Lists.{heads, tails, not_both}
+use Rattle.lines.proofs.Lists.{tails, not_both}
 use Rattle.lines.proofs.Spelled.{spelled_shape}
 use Rattle.lines.proofs.Writing.{cut_marked, if_behind, if_words_once}
 
@@ -148,12 +148,6 @@ pub start_shapeless : (store shards : ℕ) (running : List (List ℕ)) (words re
     → WordsCause store shards running (codes "start" ∷ texts words) BadRequest
 start_shapeless store shards running words rest name cut none = start_refused store shards running (texts words)
     (λ other more e free shape has. none shape (subst (λ l. HasShape l shape) (sym (tails name.now other (texts rest) more (sym (ap texts cut) ∙ e))) has))
-
--- or its name is not free
-pub start_taken : (store shards : ℕ) (running : List (List ℕ)) (words rest : List (Bor (List ℕ))) (name : Bor (List ℕ)) → words ≡ name ∷ rest → (IsFree running name.now → ⊥)
-    → WordsCause store shards running (codes "start" ∷ texts words) BadRequest
-start_taken store shards running words rest name cut taken = start_refused store shards running (texts words)
-    (λ other more e free shape has. taken (subst (IsFree running) (sym (heads name.now other (texts rest) more (sym (ap texts cut) ∙ e))) free))
 
 -- a request behind `start` that is refused
 pub start_cause : (store shards : ℕ) (running : List (List ℕ)) (words rest : List (Bor (List ℕ))) (name : Bor (List ℕ)) (shape : Shape) (e : Refusal) → words ≡ name ∷ rest → IsFree running name.now → HasShape (texts rest) shape → ShapeCause store shape e

@@ -1,10 +1,9 @@
 -- Which command the first word of a line tells.
-use Rattle.std.proofs.Common.{◌≡◌, ℕ, ◌≤◌, Bool, true, false, eqb, List, [], ◌∷◌, ◌++◌, map, codes, get_or, length, refl, sym, ap, ◌∙◌, inl, inr, arith}
+use Rattle.std.proofs.Common.{◌≡◌, ℕ, true, false, eqb, List, [], ◌∷◌, ◌++◌, codes, get_or, refl, sym, ap, ◌∙◌}
 use Rattle.std.proofs.lemmas.Bool.{false≢true}
 use Rattle.std.proofs.lemmas.Bool.Decides.{Decides-eqb}
 use Rattle.names.specs.declared.care.Care.{Care}
 use Rattle.names.specs.declared.care.Care.TheVariants as care
-use Rattle.lines.specs.declared.command.Command.{Command}
 use Rattle.lines.specs.declared.command.Command.TheVariants as command
 use Rattle.journal.specs.declared.refused.Bank.{Bank}
 use Rattle.names.specs.declared.call_name.CallName.{CallName}
@@ -12,7 +11,7 @@ use Rattle.lines.specs.declared.fail.Failure.{Failure}
 use Rattle.names.specs.declared.node_name.NodeName.{NodeName}
 use Rattle.lines.specs.declared.flow.Handling.{Handling}
 use Rattle.lines.specs.declared.flow.Handling.TheVariants as handling
-use Rattle.lines.specs.Lines.{IsFree, SpellNoOrder, SpellsCare, SpellsFailure, SpellsHandling, SpellsRestart, SpellsRows}
+use Rattle.lines.specs.Lines.{SpellNoOrder, SpellsCare, SpellsFailure, SpellsHandling, SpellsRestart, SpellsRows}
 use Rattle.lines.specs.Shapes.{ArePartsShaped, HasShape, Shape, check, read, watch, write}
 use Rattle.lines.specs.Texts.{IsNode, bank_text}
 use Rattle.lines.specs.Words.{if_words}

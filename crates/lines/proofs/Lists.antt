@@ -1,5 +1,5 @@
 -- Small facts on lists and tests.
-use Rattle.std.proofs.Common.{◌≡◌, ◌≢◌, ℕ, ◌<◌, ◌≤◌, Bool, true, false, not, eqb, List, [], ◌∷◌, map, length, get_or, refl, sym, ap, ◌∙◌, Bor, arith}
+use Rattle.std.proofs.Common.{◌≡◌, ◌≢◌, ℕ, Bool, true, false, not, eqb, List, ◌∷◌, refl, sym, ◌∙◌}
 use Rattle.std.specs.Cmp.Lexicographic.{pointwise}
 use Rattle.std.proofs.lemmas.Bool.{false≢true}
 use Rattle.std.proofs.lemmas.Bool.Decides.{Decides-eqb}
@@ -28,14 +28,3 @@ not_true false r e was = refl
 pub not_false : (b r : Bool) → r ≡ not b → r ≡ false → b ≡ true
 not_false true r e was = refl
 not_false false r e was = absurd (not_both r e was)
-
-pub same_text_by_not : (s t u : List ℕ) (r : Bool) → r ≡ not (pointwise eqb s t) → t ≡ u → r ≡ false → s ≡ u
-same_text_by_not s t u r e tu was = same_text s t u (pointwise eqb s t) refl tu (not_false (pointwise eqb s t) r e was)
-
-pub other_text_by_not : (s t u : List ℕ) (r : Bool) → r ≡ not (pointwise eqb s t) → t ≡ u → r ≡ true → s ≢ u
-other_text_by_not s t u r e tu was = other_text s t u (pointwise eqb s t) refl tu (not_true (pointwise eqb s t) r e was)
-
-pub one_text : (words : List (Bor (List ℕ))) (d : Bor (List ℕ)) (t : List ℕ) → 1 ≤ length words → length words < 2 → (get_or words 0 d).now ≡ t → map (λ w. w.now) words ≡ t ∷ []
-one_text [] d t low high e = absurd (omega arith)
-one_text (w ∷ []) d t low high e = ap (λ (x : List ℕ). x ∷ []) e
-one_text (w ∷ v ∷ words) d t low high e = absurd (omega arith)

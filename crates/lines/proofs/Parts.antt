@@ -1,5 +1,5 @@
 -- What the words of a list say of the values that they spell.
-use Rattle.std.proofs.Common.{◌≡◌, subst, true, ℕ, suc, zero, ◌+◌, ◌<◌, List, [], ◌∷◌, ◌++◌, map, take, length, get_or, Option, Some, None, MatchOption, is_some, false, sym, ap, ◌∙◌, ◌⊎◌, inl, inr, Bor, arith}
+use Rattle.std.proofs.Common.{◌≡◌, subst, true, ℕ, suc, zero, ◌+◌, ◌<◌, List, [], ◌∷◌, ◌++◌, map, take, length, get_or, Option, Some, None, MatchOption, is_some, false, sym, ap, ◌∙◌, inl, inr, Bor, arith}
 use Rattle.std.specs.List.{All}
 use Rattle.std.proofs.lemmas.Bool.{false≢true}
 use Rattle.std.proofs.lemmas.List.{take_more, map-append}

@@ -1,5 +1,5 @@
 -- Which words are a write.
-use Rattle.std.proofs.Common.{◌<◌, ◌≡◌, eqb, ◌≤◌, ℕ, Bool, true, false, List, [], ◌∷◌, ◌++◌, map, codes, length, refl, sym, ap, ◌∙◌, Bor, arith}
+use Rattle.std.proofs.Common.{◌≡◌, eqb, ℕ, Bool, true, false, List, [], ◌∷◌, ◌++◌, map, codes, length, refl, sym, ap, ◌∙◌, Bor, arith}
 use Rattle.std.specs.List.{list_all}
 use Rattle.std.proofs.lemmas.Bool.Decides.{nat_tests}
 use Rattle.lines.specs.Words.{AreBehind, if_words, is_marked}

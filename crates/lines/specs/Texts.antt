@@ -1,5 +1,5 @@
 -- The texts of the parts of a line.
-use Rattle.std.specs.Prelude.{◌≡◌, ◌≤◌, ◌<◌, ◌+◌, ◌/◌, ◌%◌, ◌^◌, ◌||◌, ◌&&◌, ◌==◌, ℕ, nat_lt, if◌then◌else◌, Bool, true, List, [], ◌∷◌, ◌++◌, length, codes, All, Option, Some, None}
+use Rattle.std.specs.Prelude.{◌≡◌, ◌≤◌, ◌<◌, ◌+◌, ◌/◌, ◌%◌, ◌^◌, ◌||◌, ◌&&◌, ℕ, nat_lt, if◌then◌else◌, Bool, true, List, [], ◌∷◌, ◌++◌, length, codes, Option, Some, None}
 use Rattle.std.specs.List.{list_all}
 use Rattle.std.specs.Fmt.{decimal}
 use Rattle.tuples.specs.declared.change.Change.{Change}
@@ -107,10 +107,6 @@ IsHex d = d < 16
 -- how many places a watch may tell of
 abbrev pub IsLimit : ℕ → Type 0
 IsLimit n = (1 ≤ n) × (n ≤ 256)
-
--- each value is in the grammar
-abbrev pub Always : {A : Type 0} → A → Type 0
-Always a = Unit {0}
 
 -- the value of the grammar that has this text, or none has it
 abbrev pub ReadsText : {A : Type 0} → (A → Type 0) → (A → List ℕ) → List ℕ → Option A → Type 0

@@ -1,8 +1,8 @@
 // The commands of a script.
-ghost use Rattle.std.specs.Prelude.{◌≡◌, ◌≤◌, ◌<◌, ◌↔◌, ◌∷◌, ℕ, IfOk, IfErr, IsErrOf, IsTrue, MatchOption, codes, length};
+ghost use Rattle.std.specs.Prelude.{◌≤◌, ◌<◌, ◌↔◌, ◌∷◌, ℕ, IfOk, IfErr, IsErrOf, IsTrue, MatchOption, codes, length};
 ghost use Rattle.lines.specs.Causes.{Cause, WordsCause};
 ghost use Rattle.lines.specs.Lines.{IsPassed, SpellNoOrder, Spells, SpellsWords};
-ghost use Rattle.lines.specs.Words.{texts, words_of};
+ghost use Rattle.lines.specs.Words.{texts};
 
 use crate::care::parse_care;
 use crate::fail::{Failure, parse_fail};

@@ -1,5 +1,5 @@
 // A request, from its shape.
-ghost use Rattle.std.specs.Prelude.{◌≡◌, ◌≤◌, List, ℕ, All, IfErr, IfOk, length, map};
+ghost use Rattle.std.specs.Prelude.{◌≡◌, ◌≤◌, List, All, IfErr, IfOk, length, map};
 ghost use Rattle.tuples.specs.declared.tuple.Tuple.{Tuple as AnyTuple};
 ghost use Rattle.tuples.specs.declared.tupleset.Tupleset.{Tupleset as AnySet};
 ghost use Rattle.tuples.specs.Changes.{IsWrite};

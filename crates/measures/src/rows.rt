@@ -1,5 +1,5 @@
 // How long versions take to be applied and to be read.
-ghost use Rattle.std.specs.Prelude.{◌≡◌, IfOk, length};
+ghost use Rattle.std.specs.Prelude.{IfOk};
 ghost use Rattle.measures.specs.Reads.{Found};
 
 use crate::timing::{Done, print, print_since};

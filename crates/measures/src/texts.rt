@@ -1,5 +1,5 @@
 // How long tuples take to be read from their texts, and to be written.
-ghost use Rattle.std.specs.Prelude.{◌≡◌, OnOk, OnErr, map, IfOk, length};
+ghost use Rattle.std.specs.Prelude.{◌≡◌, OnOk, map};
 ghost use Rattle.std.specs.List.{flat_map};
 ghost use Rattle.tuples.specs.Texts.{tuple_text};
 

@@ -1,5 +1,5 @@
 -- Beginnings of one list: for the rule, and for the crates above, whose facts about passes are of this kind.
-use Rattle.std.proofs.Common.{◌≡◌, ℕ, zero, suc, ◌≤◌, List, [], ◌∷◌, ◌++◌, length, Some, slice_get, refl, ap, sym, ◌∙◌, arith, append_assoc, length-append}
+use Rattle.std.proofs.Common.{◌≡◌, ℕ, zero, suc, ◌≤◌, List, [], ◌∷◌, ◌++◌, length, Some, slice_get, refl, ap, sym, ◌∙◌, arith, append_assoc}
 use mathlib.Core.List.{IsPrefix}
 
 module _ {A : Type 0} where
@@ -33,10 +33,6 @@ module _ {A : Type 0} where
   prefix_whole (x ∷ xs) [] p le = absurd (cc (p.1))
   prefix_whole (x ∷ xs) (y ∷ ys) p le =
       let rest = prefix_whole xs ys (p.0, cc (p.1)) (omega arith) in cc (p.1, rest)
-
-  -- a beginning is no longer than the whole
-  pub prefix_length : (xs ys : List A) → IsPrefix xs ys → length xs ≤ length ys
-  prefix_length xs ys p = omega (arith, sym (ap length p.1) ∙ length-append xs p.0)
 
   -- what stands in a beginning stands in the whole, at the same place
   pub prefix_get : (xs ys : List A) (k : ℕ) (x : A) → IsPrefix xs ys → slice_get xs k ≡ Some x → slice_get ys k ≡ Some x

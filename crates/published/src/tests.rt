@@ -1,5 +1,4 @@
 ghost use Rattle.std.specs.Prelude.{◌≡◌, ◌≤◌, ◌<◌, ◌+◌, ◌*◌, ◌++◌, ◌^◌, [], ◌∷◌, length, Some, slice_get};
-ghost use mathlib.Core.List.{IsPrefix};
 
 use crate::{Adds, LogPass, Published, SessionPass};
 use std::marker::{Brand, Model};

@@ -1,5 +1,5 @@
 // The two words, and the calls on them.
-ghost use Rattle.std.specs.Prelude.{◌≡◌, ◌≤◌, ◌+◌, ◌++◌, ◌^◌, ◌<◌, [], length, max, IfOk};
+ghost use Rattle.std.specs.Prelude.{◌≡◌, ◌≤◌, ◌+◌, ◌++◌, ◌<◌, [], length, max, IfOk};
 ghost use mathlib.Core.List.{IsPrefix};
 
 use crate::pass::{LogPass, SessionPass};

@@ -1,5 +1,5 @@
 -- One more record at the coordinator: what the records stand for then, and that they are still a coordinator's.
-use Rattle.std.proofs.Common.{◌≡◌, ◌⊎◌, inl, inr, ⊎_elim, List, [], ◌∷◌, ◌++◌, refl, ◌∙◌, ap, subst, append_assoc}
+use Rattle.std.proofs.Common.{◌≡◌, ◌⊎◌, inl, inr, ⊎_elim, List, [], ◌∷◌, ◌++◌, refl, subst}
 use Rattle.records.specs.declared.record.Record.{Record}
 use Rattle.records.specs.Coordinators.{CoordinatorState, IsCoordinatorImage, MayComeNext, coordinator_from, coordinator_state, coordinator_step, empty_coordinator}
 use Rattle.records.specs.Replays.{Identity}
@@ -14,9 +14,6 @@ coordinator_push rs r = coordinator_from-append empty_coordinator rs (r ∷ [])
 
 pub coordinator_last : (me : Identity) (rs : List Record) (r : Record) → IsCoordinatorImage me (rs ++ r ∷ []) → MayComeNext me (coordinator_state rs) r
 coordinator_last me rs r image = image rs [] r refl
-
-pub coordinator_front : (me : Identity) (rs more : List Record) → IsCoordinatorImage me (rs ++ more) → IsCoordinatorImage me rs
-coordinator_front me rs more image before after r is = image before (after ++ more) r (ap (λ (l : List Record). l ++ more) is ∙ append_assoc before (r ∷ after) more)
 
 no_element : {X : Type 0} (before after : List X) (x : X) → [] ≡ before ++ x ∷ after → ⊥
 no_element [] after x is = absurd cc

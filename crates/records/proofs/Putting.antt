@@ -23,9 +23,6 @@ put_more a b c x y (Err e) p q = (
 abbrev pub Stops : Vec ℕ → Vec ℕ → List ℕ → Type 0
 Stops old new text = ((more : List ℕ) × (new.items ≡ old.items ++ more)) × (vec_capacity old < length old.items + length text) × (vec_capacity old ≤ vec_capacity new)
 
-pub put_stop : (a b : Vec ℕ) (x y : List ℕ) → Stops a b x → Stops a b (x ++ y)
-put_stop a b x y q = (q.0, omega (arith, q.1, length-append x y), q.2)
-
 -- nothing was put yet
 pub put_none : (a : Vec ℕ) → HasPut a a []
 put_none a = (sym (append-nil a.items), omega arith)

@@ -1,5 +1,5 @@
 // Bytes, numbers and texts at the end of a vector.
-ghost use Rattle.std.specs.Prelude.{◌≡◌, ◌<◌, [], ◌∷◌, length};
+ghost use Rattle.std.specs.Prelude.{◌<◌, [], ◌∷◌, length};
 ghost use Rattle.std.specs.Int.{w16, w64, to_be_bytes};
 ghost use Rattle.records.specs.Format.{text_bytes};
 ghost use Rattle.records.specs.Putting.{Puts};

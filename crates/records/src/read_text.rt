@@ -1,5 +1,4 @@
 // Numbers and texts at the front of bytes, each with the bytes after it.
-ghost use Rattle.std.specs.Prelude.{◌≡◌, List, length};
 ghost use Rattle.std.specs.Int.{w16, w64};
 ghost use Rattle.records.specs.Giving.{Gives};
 ghost use Rattle.records.specs.Reading.{byte_at, id_at, name_at, number_at, positive_at, text_at};

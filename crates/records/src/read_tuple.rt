@@ -1,5 +1,4 @@
 // Tuples at the front of bytes, each with the bytes after it.
-ghost use Rattle.std.specs.Prelude.{◌≡◌, List};
 ghost use Rattle.records.specs.Giving.{Gives};
 ghost use Rattle.records.specs.Reading.{object_at, tuple_at, user_at, user_of_kind_at, userset_at};
 

@@ -1,5 +1,4 @@
 // writes and what is learned of them at the front of bytes, each with the bytes after it.
-ghost use Rattle.std.specs.Prelude.{◌≡◌, List};
 ghost use Rattle.records.specs.Giving.{Gives};
 ghost use Rattle.records.specs.Reading.{change_at, change_of_kind_at, changes_at, condition_at, conditions_at, entry_at, list_at, not_after_at, placed_id_at, placed_ids_at, want_at, want_of_kind_at, write_id_at};
 

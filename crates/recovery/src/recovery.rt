@@ -1,5 +1,5 @@
 // The state of a coordinator, as its records are replayed.
-ghost use Rattle.std.specs.Prelude.{◌≡◌, ◌⊎◌, ◌↔◌, ◌≤◌, [], drop, IfOk, IfErr, IsErrOf, IsTrue, All, None};
+ghost use Rattle.std.specs.Prelude.{◌≡◌, ◌⊎◌, ◌↔◌, ◌≤◌, drop, IfOk, IfErr, IsErrOf, IsTrue, All, None};
 ghost use Rattle.records.specs.declared.record.Record.TheVariants.{Decision as decision_record, Epoch as epoch_record, Horizon as horizon_record};
 ghost use Rattle.records.specs.Coordinators.{HoldsKnown, IsNotDecided, MayComeNext, MayDecide, MayOpenAgain, MayRaise, coordinator_step, empty_coordinator, end_of};
 ghost use Rattle.records.specs.Replays.{greatest_number};

@@ -1,5 +1,5 @@
 // Which record may come next at a coordinator.
-ghost use Rattle.std.specs.Prelude.{◌≡◌, ◌↔◌, ◌≤◌, IsTrue};
+ghost use Rattle.std.specs.Prelude.{◌↔◌, ◌≤◌, IsTrue};
 ghost use Rattle.records.specs.Coordinators.{MayDecide, MayOpenAgain, MayRaise};
 ghost use Rattle.records.specs.Replays.{greatest_number};
 

@@ -1,5 +1,5 @@
 -- One more record: what the records stand for then, and that they are still a shard's.
-use Rattle.std.proofs.Common.{◌≡◌, ◌⊎◌, inl, inr, ⊎_elim, List, [], ◌∷◌, ◌++◌, refl, ◌∙◌, ap, subst, append_assoc}
+use Rattle.std.proofs.Common.{◌≡◌, ◌⊎◌, inl, inr, ⊎_elim, List, [], ◌∷◌, ◌++◌, refl, subst}
 use Rattle.records.specs.declared.record.Record.{Record}
 use Rattle.records.specs.Replays.{Identity, IsShardImage, MayCome, ShardState, empty_shard, shard_from, shard_state, shard_step}
 
@@ -36,9 +36,6 @@ image_push me rs r image may before after x is = ⊎_elim
     (λ new. subst (λ (y : Record). MayCome me (shard_state before) y) new.1 (subst (λ (ys : List Record). MayCome me (shard_state ys) r) new.0 may))
     (λ old. image before old.0 x old.1)
     (cut_last rs before after r x is)
-
-pub image_front : (me : Identity) (rs more : List Record) → IsShardImage me (rs ++ more) → IsShardImage me rs
-image_front me rs more image before after r is = image before (after ++ more) r (ap (λ (l : List Record). l ++ more) is ∙ append_assoc before (r ∷ after) more)
 
 pub image_last : (me : Identity) (rs : List Record) (r : Record) → IsShardImage me (rs ++ r ∷ []) → MayCome me (shard_state rs) r
 image_last me rs r image = image rs [] r refl

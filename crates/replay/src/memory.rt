@@ -1,5 +1,5 @@
 // What a shard knows, as the replay of its records.
-ghost use Rattle.std.specs.Prelude.{◌≡◌, ◌⊎◌, ◌↔◌, ◌≤◌, Contains, OnOk, OnErr, IfOk, IfErr, IsErrOf, IsTrue, Some, None, MatchOption};
+ghost use Rattle.std.specs.Prelude.{◌≡◌, ◌⊎◌, ◌↔◌, Contains, OnOk, OnErr, IfOk, IfErr, IsErrOf, IsTrue, Some, None, MatchOption};
 ghost use Rattle.holds.specs.Holds.{AreAscendingIds, IsFree, ids};
 ghost use Rattle.records.specs.declared.record.Record.TheVariants.{Dropped as dropped_record, Epoch as epoch_record, Horizon as horizon_record, Learned as learned_record, Prepare as prepare_record};
 ghost use Rattle.records.specs.Replays.{MayCollect, MayCome, MayDrop, MayLearn, MayOpen, MayPrepare, empty_shard, find_in_doubt, is_held, shard_step};

@@ -2,7 +2,7 @@
 use Rattle.std.proofs.Common.{◌≡◌, ℕ, zero, suc, ◌+◌, ◌<◌, ◌≤◌, List, [], ◌∷◌, ◌++◌, map, take, drop, length, get_or, sym, subst, ap, ◌∙◌, ◌⊎◌, inl, inr, arith, refl, append_assoc, Some, None}
 use Rattle.std.proofs.lemmas.List.{length-map, map-append, take_more}
 use Rattle.std.proofs.lemmas.List.Elements.{All-push}
-use Rattle.serde_json.specs.Data.{Data, Members, object}
+use Rattle.serde_json.specs.Data.{Data}
 use Rattle.serde_json.specs.Read.{read}
 use Rattle.tuples.specs.declared.change.Want.{Want}
 use Rattle.tuples.specs.Texts.{tuple_text}
@@ -16,9 +16,9 @@ use Rattle.refusal.specs.declared.refusal.Refusal.{Refusal}
 use Rattle.refusal.specs.declared.refusal.Refusal.TheVariants.{BadRequest, TooLarge, Repeated, BadZookie, WrongStore, NoMemory}
 use Rattle.requests.specs.declared.shape.ChangeShape.{ChangeShape}
 use Rattle.requests.specs.declared.shape.ConditionShape.{ConditionShape}
-use Rattle.requests.specs.Causes.{AreFew, ArePlaced, AreSpelled, AreTuples, Cause, IsMisplaced, IsOfStore, IsPlaced, FormCause, WriteCause, changed_text, conditioned_text}
+use Rattle.requests.specs.Causes.{AreFew, ArePlaced, AreSpelled, AreTuples, Cause, IsMisplaced, IsOfStore, IsPlaced, WriteCause, changed_text, conditioned_text}
 use Rattle.requests.specs.Lines.{IsObject, SpellsWrite, written_change, written_condition, written_want}
-use Rattle.requests.specs.Shapes.{Field, Form, Writes, Reads, Checks, Watches, HasForm, IsMisshapen, change_json, condition_json, members_with, object_with, write_with}
+use Rattle.requests.specs.Shapes.{Field, Form, HasForm, IsMisshapen, change_json, condition_json, object_with, write_with}
 use Rattle.requests.specs.Spelling.{IsMisspelled, IsUnplaced, IsUnread, ReadsWant}
 
 -- the condition at a place is the first whose zookie is bad
@@ -50,14 +50,6 @@ write_refused store cs ds ts us e few placed spelled asked no_shape no_size repe
     subst (WriteCause store cs ds) (sym was) (few, placed, (ts, us, spelled, asked, λ a b. repeated was (a, b)))
 
 -- ---- lines
-
-pub shape_refused : (store : ℕ) (line : List ℕ) (e : Refusal) (fields : List Field) (form : Form) → IsObject line fields → HasForm fields form → FormCause store form e → Cause store line e
-shape_refused store line NoMemory fields form is has h = tt
-shape_refused store line BadRequest fields (Writes cs ds) is has h = absurd h
-shape_refused store line BadRequest fields (Reads f sets) is has h = absurd h
-shape_refused store line BadRequest fields (Checks f tuple) is has h = absurd h
-shape_refused store line BadRequest fields (Watches from limit names) is has h = absurd h
-shape_refused store line _ fields form is has h = (fields, form, is, has, h)
 
 -- a line that is nothing of a kind, or no memory
 pub line_refused : {A : Type 0} (store : ℕ) (line : List ℕ) (e : Refusal) (Is : A → Type 0) → ((fields : List Field) (form : Form) → IsObject line fields → HasForm fields form → (a : A) × Is a) → IsMisshapen Is e → Cause store line e
@@ -111,9 +103,6 @@ pub same_fields : (line : List ℕ) (d : Data) (fields own : List Field) → rea
 same_fields line d fields own was is told =
     let same : d ≡ object_with fields = cc (was, told.1) in
     objects_once fields own (sym same ∙ is)
-
-pub members_refused : (store : ℕ) (line : List ℕ) (e : Refusal) (d : Data) → read line ≡ Some d → IsMisshapen (λ ms. d ≡ object ms) e → Cause store line e
-members_refused store line e d was h = line_refused store line e (λ (ms : Members). d ≡ object ms) (λ fields form is has. (members_with fields, let same : d ≡ object_with fields = cc (was, is.1) in same)) h
 
 pub fields_refused : (store : ℕ) (line : List ℕ) (e : Refusal) (d : Data) (own : List Field) → read line ≡ Some d → d ≡ object_with own → IsMisshapen (HasForm own) e → Cause store line e
 fields_refused store line e d own was is h = line_refused store line e (HasForm own) (λ fields form told has. (form, subst (λ (f : List Field). HasForm f form) (same_fields line d fields own was is told) has)) h

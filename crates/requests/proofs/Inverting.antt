@@ -130,21 +130,6 @@ write_empty d rest cs is none s h =
 pub write_unended : (d : Data) (rest : List Field) → (rest ≡ (codes "op", string (codes "write")) ∷ [] → ⊥) → ((x : Data) (more : List Field) → rest ≡ (codes "conditions", x) ∷ more → ⊥) → (s : Form) → HasForm ((codes "changes", d) ∷ rest) s → ⊥
 write_unended d rest no_op no_conditions s h = elim (write_parts d rest s h).behind [ inl e ↦ no_op e | inr e ↦ no_conditions _ _ e.1 ]
 
--- behind conditions
-pub behind_conditions : (d x : Data) (rest more : List Field) → rest ≡ (codes "conditions", x) ∷ more → (s : Form) → HasForm ((codes "changes", d) ∷ rest) s
-    → (ds : List ConditionShape) × (x ≡ list_with (map condition_json ds)) × (more ≡ (codes "op", string (codes "write")) ∷ [])
-behind_conditions d x rest more is s h = elim (write_parts d rest s h).behind [
-  | inl e ↦ let same = first_bytes _ _ more _ (sym is ∙ e) in absurd (omega arith)
-  | inr e ↦ (e.0, seconds (codes "conditions") x _ more _ (sym is ∙ e.1), tails _ _ more _ (sym is ∙ e.1))
-]
-
-pub conditions_misshapen : (d x : Data) (rest more : List Field) (e : Refusal) → rest ≡ (codes "conditions", x) ∷ more → IsMisshapen (λ ds. x ≡ list_with (map condition_json ds)) e → IsMisshapen (HasForm ((codes "changes", d) ∷ rest)) e
-conditions_misshapen d x rest more e is (inl r) = inl (r.0, λ s h. let p = behind_conditions d x rest more is s h in r.1 p.0 p.1)
-conditions_misshapen d x rest more e is (inr r) = inr r
-
-pub conditions_unended : (d x : Data) (rest more : List Field) → rest ≡ (codes "conditions", x) ∷ more → (more ≡ (codes "op", string (codes "write")) ∷ [] → ⊥) → (s : Form) → HasForm ((codes "changes", d) ∷ rest) s → ⊥
-conditions_unended d x rest more is no_op s h = no_op (behind_conditions d x rest more is s h).2
-
 pub watch_nothing : (d : Data) (rest : List Field) → ((z : List ℕ) (n : ℕ) (x : Data) → 1 ≤ n → n ≤ 256 → d ≡ string z → rest ≡ watch_rest n x → ⊥) → (s : Form) → HasForm ((codes "from", d) ∷ rest) s → ⊥
 watch_nothing d rest none s h = let p = watch_parts d rest s h in none p.zookie p.limit (texts_json p.list) p.low p.high p.from_is p.behind
 
@@ -153,10 +138,6 @@ watched : (d x : Data) (rest : List Field) (n : ℕ) → rest ≡ watch_rest n x
 watched d x rest n is s h =
     let p = watch_parts d rest s h in
     (p.list, p.some, seconds (codes "namespaces") x (texts_json p.list) _ _ (tails _ _ _ _ (sym is ∙ p.behind)))
-
-pub watched_misshapen : (d x : Data) (rest : List Field) (n : ℕ) (e : Refusal) → rest ≡ watch_rest n x → IsMisshapen (λ texts. x ≡ texts_json texts) e → IsMisshapen (HasForm ((codes "from", d) ∷ rest)) e
-watched_misshapen d x rest n e is (inl r) = inl (r.0, λ s h. let p = watched d x rest n is s h in r.1 p.0 p.2)
-watched_misshapen d x rest n e is (inr r) = inr r
 
 -- an empty list is no list that has a text
 pub no_texts : (x : Data) (texts : List (Bor (List ℕ))) → x ≡ texts_json (map (λ t. t.now) texts) → length texts ≡ 0 → (list : List (List ℕ)) → 1 ≤ length list → x ≡ texts_json list → ⊥
@@ -171,16 +152,8 @@ watched_empty d x rest n texts is list none s h = let p = watched d x rest n is 
 pub question_none : (fields : List Field) (f : FreshnessShape) (op : List ℕ) (asked : Field) → fields ≡ question_with (freshness_fields f) op asked → (IsOfRead op asked → ⊥) → (IsOfCheck op asked → ⊥) → (s : Form) → HasForm fields s → ⊥
 question_none fields f op asked is no_read no_check s h = elim (question_parts fields f op asked is s h) [ inl r ↦ no_read r | inr r ↦ no_check r ]
 
-pub no_check_op : (op : List ℕ) (asked : Field) → op ≡ codes "read" → IsOfCheck op asked → ⊥
-no_check_op op asked is h = let same = ap (λ (t : List ℕ). get_or t 0 0) (sym is ∙ h.0) in omega arith
-
 pub no_read_op : (op : List ℕ) (asked : Field) → op ≡ codes "check" → IsOfRead op asked → ⊥
 no_read_op op asked is h = let same = ap (λ (t : List ℕ). get_or t 0 0) (sym is ∙ h.0) in omega arith
-
-pub sets_misshapen : (fields : List Field) (f : FreshnessShape) (op : List ℕ) (asked : Field) (e : Refusal) → fields ≡ question_with (freshness_fields f) op asked → op ≡ codes "read"
-    → IsMisshapen (λ sets. (1 ≤ length sets) × (asked ≡ asks_sets sets)) e → IsMisshapen (HasForm fields) e
-sets_misshapen fields f op asked e is read (inl r) = inl (r.0, question_none fields f op asked is (λ h. r.1 h.1.0 (h.1.1, h.1.2)) (no_check_op op asked read))
-sets_misshapen fields f op asked e is read (inr r) = inr r
 
 pub tuple_misshapen : (fields : List Field) (f : FreshnessShape) (op : List ℕ) (asked : Field) → fields ≡ question_with (freshness_fields f) op asked → op ≡ codes "check" → ((t : List ℕ) → asked ≡ asks_tuple t → ⊥) → (s : Form) → HasForm fields s → ⊥
 tuple_misshapen fields f op asked is check none = question_none fields f op asked is (no_read_op op asked check) (λ h. none h.1.0 h.1.1)

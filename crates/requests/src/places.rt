@@ -3,7 +3,7 @@ ghost use Rattle.std.specs.Prelude.{◌≡◌, ◌<◌, ◌^◌, IfErr, IfOk, Ma
 ghost use Rattle.tuples.specs.Changes.{conditioned};
 ghost use Rattle.zookie.specs.Zookies.{zookie_text};
 ghost use Rattle.requests.specs.Causes.{ArePlaced, AreTuples, conditioned_text, IsFresh, IsMisplaced};
-ghost use Rattle.requests.specs.Lines.{written_condition, written_freshness, written_want};
+ghost use Rattle.requests.specs.Lines.{written_condition, written_freshness};
 ghost use Rattle.requests.specs.Shapes.{condition_json, freshness_fields};
 ghost use Rattle.requests.specs.Spelling.{IsUnplaced, IsUnread, ReadsWant};
 

@@ -1,6 +1,6 @@
 // The tuples, tuplesets and namespaces of a request, from their texts.
 ghost use Rattle.std.specs.Prelude.{◌≡◌, All, MatchResult, map};
-ghost use Rattle.tuples.specs.Changes.{changed, tuple_of};
+ghost use Rattle.tuples.specs.Changes.{changed};
 ghost use Rattle.tuples.specs.Names.{IsName};
 ghost use Rattle.tuples.specs.Texts.{IsTuple, tuple_text};
 ghost use Rattle.requests.specs.Causes.{AreSets, AreTuples, changed_text, conditioned_text};

@@ -1,11 +1,11 @@
 -- How short the text of a refusal is.
-use Rattle.std.proofs.Common.{◌≡◌, ◌≤◌, ◌<◌, ◌^◌, ◌+◌, ◌++◌, ◌∷◌, [], ℕ, suc, List, length, codes, refl, arith, rules}
+use Rattle.std.proofs.Common.{◌≡◌, ◌≤◌, ◌<◌, ◌+◌, ◌++◌, ◌∷◌, [], ℕ, suc, List, length, codes, arith, rules}
 use Rattle.std.specs.Fmt.{decimal}
 use Rattle.std.proofs.lemmas.Fmt.{length-decimal-le}
 use Rattle.std.proofs.lemmas.List.{length-append}
 use Rattle.refusal.specs.declared.refusal.Refusal.{Refusal}
 use Rattle.refusal.specs.declared.refusal.Refusal.TheVariants.{BadRequest, BadTuple, TooLarge, Repeated, BadZookie, WrongStore, Future, Collected, Precondition, Busy, Aborted, Unsure, Down, NoMemory, Full, Damaged}
-use Rattle.refusal.specs.Refusals.{name_of, number_of}
+use Rattle.refusal.specs.Refusals.{name_of}
 use Rattle.printed.specs.Texts.{refusal_line}
 
 line_short : (number : ℕ) (name : List ℕ) → number < 100 → length name ≤ 100 → length (codes "refused " ++ decimal number ++ 32 ∷ name ++ 10 ∷ []) ≤ 128

@@ -1,10 +1,9 @@
 -- The turns of a flow, one after another.
-use Rattle.std.specs.Prelude.{◌≡◌, ℕ, List, [], ◌∷◌, Option, Some, None, MatchOption}
+use Rattle.std.specs.Prelude.{◌≡◌, ℕ, List, [], ◌∷◌, Option, Some, None}
 use Rattle.names.specs.declared.call_name.CallName.{CallName}
 use Rattle.cluster.specs.declared.event.What.{What}
 use Rattle.cluster.specs.declared.step.Step.{Step}
-use Rattle.cluster.specs.declared.step.Step.TheVariants.{Turn, Cancel}
-use Rattle.lines.specs.declared.flow.Handling.{Handling}
+use Rattle.cluster.specs.declared.step.Step.TheVariants.{Turn}
 use Rattle.lines.specs.declared.flow.Handling.TheVariants as handling
 
 -- the call is the one that is asked for; where none is asked for, no call is it

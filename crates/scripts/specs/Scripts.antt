@@ -5,7 +5,7 @@ use Rattle.std.specs.List.{flat_map, remove}
 use Rattle.names.specs.declared.node_name.NodeName.{NodeName}
 use Rattle.names.specs.declared.call_name.CallName.{CallName}
 use Rattle.cluster.specs.declared.event.What.{What}
-use Rattle.cluster.specs.declared.event.What.TheVariants.{Began, Next, Ended, Up, Refused}
+use Rattle.cluster.specs.declared.event.What.TheVariants.{Began}
 use Rattle.cluster.specs.declared.step.Step.{Step}
 use Rattle.cluster.specs.declared.step.Step.TheVariants as step
 use Rattle.device.specs.declared.tear.Tear.{Tear}

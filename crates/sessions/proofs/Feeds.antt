@@ -1,5 +1,5 @@
 -- Where the first line feed is.
-use Rattle.std.proofs.Common.{◌≡◌, ℕ, ◌+◌, ◌<◌, ◌≤◌, List, [], ◌∷◌, ◌++◌, ◌-◌, Bool, true, false, length, take, drop, get_or, subst, refl, sym, ap, ◌∙◌, arith, eq-eqb, take-append-drop}
+use Rattle.std.proofs.Common.{◌≡◌, ℕ, ◌+◌, ◌<◌, ◌≤◌, List, ◌∷◌, ◌++◌, ◌-◌, true, false, length, take, drop, get_or, subst, refl, sym, ap, ◌∙◌, arith, eq-eqb, take-append-drop}
 use Rattle.std.proofs.lemmas.List.{drop-drop, drop_all, drop_more, get_or-take, length-take-le}
 use Rattle.std.proofs.lemmas.List.Elements.{All-append, All-from_get_or, All-get_or}
 use Rattle.std.proofs.lemmas.Bool.{eqb-true}

@@ -1,24 +1,11 @@
 -- How a line is gathered.
 use Rattle.std.proofs.Common.{◌≡◌, ℕ, Bool, true, false, List, [], ◌∷◌, ◌++◌, refl, sym, ap, ◌∙◌, append_assoc, append-nil, Option}
-use Rattle.std.proofs.KnownBytes.{Consumes-kept, Consumes-nil, Consumes-trans}
-use Rattle.std.proofs.lemmas.List.Elements.{All-nil}
-use Rattle.std.specs.Prelude.{◌≢◌}
-use Rattle.std.specs.Io.KnownBytes.{Consumes, IsAtEnd, Keeps}
-use Rattle.sessions.specs.Blocks.{Gathers, HasRead, HasTaken, Refills, TakesPart}
+use Rattle.std.proofs.KnownBytes.{Consumes-trans}
+use Rattle.std.specs.Io.KnownBytes.{Consumes, IsAtEnd}
+use Rattle.sessions.specs.Blocks.{Gathers, HasTaken, Refills, TakesPart}
 use Rattle.sessions.specs.declared.input.Ending.TheVariants.{Feed, Input}
 use Rattle.sessions.specs.declared.line.Line.{Line}
-use Rattle.sessions.specs.Lines.{HasNoFeed, Holds}
 use Rattle.sessions.proofs.Feeds.{no_feed_in}
-
-pub gathers_none : (before : Option (List ℕ)) (first : List ℕ) (line : Line) → Holds line [] → Gathers before before first first line
-gathers_none before first line h = record {
-  read = [];
-  front = [];
-  consumed = Consumes-nil before;
-  whole = append-nil first;
-  no_feed = All-nil (λ b. b ≢ 10);
-  held = h;
-}
 
 module _ (before now after : Option (List ℕ)) (first left : List ℕ) (line : Line) where
   pub refilled : (has : Bool) (new : List ℕ) → Gathers before now first left line → Refills has now after left new → Gathers before after first new line
@@ -30,12 +17,6 @@ module _ (before now after : Option (List ℕ)) (first left : List ℕ) (line : 
     no_feed = g.no_feed;
     held = g.held;
   }
-
-  pub read_so_far : Gathers before now first left line → HasRead before now
-  read_so_far g = (g.read, g.consumed)
-
-  pub read_until_failure : Gathers before now first left line → Keeps now after → HasRead before after
-  read_until_failure g k = (g.read, Consumes-kept before now after g.read g.consumed k)
 
   pub part_more : (new : List ℕ) (then_line : Line) → (g : Gathers before now first left line) → TakesPart false left new g.front then_line → Gathers before now first new then_line
   part_more new then_line g t = record {

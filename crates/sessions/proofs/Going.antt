@@ -3,21 +3,18 @@ use Rattle.std.proofs.Common.{◌≡◌, ℕ, List, [], ◌∷◌, ◌++◌, ref
 use Rattle.std.proofs.KnownBytes.{Appends-nil, Appends-trans, Consumes-nil, Consumes-trans}
 use Rattle.std.proofs.lemmas.Grind.{flat_map-append}
 use Rattle.std.proofs.lemmas.List.Elements.{All-nil, All-push}
-use Rattle.std.specs.Io.KnownBytes.{Appends, Consumes, IsAtEnd}
+use Rattle.std.specs.Io.KnownBytes.{Appends, Consumes}
 use Rattle.std.specs.Prelude.{Result}
 use Rattle.refusal.specs.declared.refusal.Refusal.{Refusal}
 use Rattle.answers.specs.declared.answer.Answer.{Answer}
 use Rattle.sessions.specs.Blocks.{HasRead, HasTaken}
 use Rattle.sessions.specs.declared.input.Ending.TheVariants.{Feed, Input}
 use Rattle.sessions.specs.declared.line.Line.{Line}
-use Rattle.sessions.specs.Lines.{HasNoFeed, Holds}
+use Rattle.sessions.specs.Lines.{HasNoFeed}
 use Rattle.sessions.specs.Outputs.{HasBegun, Sends}
 use Rattle.sessions.specs.Sessions.{Broke, Giving, RepliesTo, Served, Serving, Session, end_text, joined, reply_line}
 
 -- ---- what is written
-
-pub begun_whole : (before after : Option (List ℕ)) (bytes : List ℕ) → Appends before after bytes → HasBegun before after bytes
-begun_whole before after bytes h = record { sent = bytes; unsent = []; whole = sym (append-nil bytes); written = h }
 
 pub begun_none : (o : Option (List ℕ)) (bytes : List ℕ) → HasBegun o o bytes
 begun_none o bytes = record { sent = []; unsent = bytes; whole = refl; written = Appends-nil o }

@@ -1,5 +1,5 @@
 -- A line while it is read.
-use Rattle.std.specs.Prelude.{◌≡◌, ◌≢◌, ◌≤◌, ◌<◌, ◌-◌, ◌^◌, ◌⊎◌, ℕ, Bool, false, min, List, [], ◌∷◌, length, All, Option, Some, None, nat_lt, if◌then◌else◌}
+use Rattle.std.specs.Prelude.{◌≡◌, ◌≢◌, ◌≤◌, ◌<◌, ◌-◌, ◌^◌, ◌⊎◌, ℕ, false, min, List, [], ◌∷◌, length, All, Option, Some, None, nat_lt, if◌then◌else◌}
 use Rattle.refusal.specs.declared.refusal.Refusal.{Refusal}
 use Rattle.refusal.specs.declared.refusal.Refusal.TheVariants.{BadRequest, TooLarge, NoMemory}
 use Rattle.sessions.specs.declared.line.Line.{Line}

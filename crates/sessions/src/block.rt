@@ -1,5 +1,5 @@
 // What is read and taken of a block.
-ghost use Rattle.std.specs.Prelude.{◌≡◌, ◌≤◌, ◌<◌, ◌↔◌, [], List, ℕ, IfOk, OnOk, OnErr, IsTrue, length, take, vec_len};
+ghost use Rattle.std.specs.Prelude.{◌≡◌, ◌<◌, ◌↔◌, [], List, ℕ, IfOk, OnOk, OnErr, IsTrue};
 ghost use Rattle.std.specs.Io.KnownBytes.{Consumes, IsAtEnd, Keeps};
 ghost use Rattle.sessions.specs.Lines.{HasNoFeed, Holds};
 ghost use Rattle.sessions.specs.Blocks.{unread as unread_of, Refills, TakesPart};

@@ -1,5 +1,5 @@
 // Lines from a reader.
-ghost use Rattle.std.specs.Prelude.{List, ℕ, IfOk, OnErr};
+ghost use Rattle.std.specs.Prelude.{IfOk, OnErr};
 ghost use Rattle.sessions.specs.Blocks.{unread, HasRead, HasTaken};
 ghost use Rattle.sessions.specs.Outputs.{MayWait};
 

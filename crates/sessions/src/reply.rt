@@ -1,5 +1,5 @@
 // One line and its answer.
-ghost use Rattle.std.specs.Prelude.{◌≡◌, ◌++◌, ◌∷◌, [], List, ℕ, OnOk, OnErr};
+ghost use Rattle.std.specs.Prelude.{◌≡◌, ◌++◌, List, ℕ, OnOk, OnErr};
 ghost use Rattle.sessions.specs.Lines.{Holds};
 ghost use Rattle.sessions.specs.Sessions.{RepliesTo, reply_line};
 

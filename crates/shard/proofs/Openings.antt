@@ -16,7 +16,7 @@ use Rattle.journal.specs.Records.{both, HasNoRoom, HasRecords, HasOldOrNew, Leav
 use Rattle.journal.specs.Unread.{IsRead, Left}
 use Rattle.journal.proofs.Left.{both-nil, read_among, read_more}
 use Rattle.shard.specs.Keeping.{HasFoundOrOpened, IsKept, IsReplayed, has_id, prepared_ids}
-use Rattle.shard.specs.Shards.{IsUp, WasLeftOrOpened, opening}
+use Rattle.shard.specs.Shards.{IsUp, opening}
 use Rattle.shard.proofs.Kept.{view_of}
 
 -- the record of an opening is short
@@ -111,22 +111,6 @@ module _ {D : Type 0} (moment : D → ℕ) (left_since : D → ℕ → List ℕ 
     each = λ x y in_x in_y. f x y (l.each x y in_x in_y);
     before = λ t u x y le_t le_u in_x in_y. ⊎_elim (λ was. inl was) (λ p. inr (f x y p)) (l.before t u x y le_t le_u in_x in_y);
   }
-
-  pub leaves_then : (c d e f : D) (P Q R : List ℕ → List ℕ → Type 0) → LeavesBoth moment left_since a b c d P → LeavesBoth moment left_since c d e f Q
-      → ((x y : List ℕ) → P x y → R x y) → ((x y : List ℕ) → Q x y → R x y) → LeavesBoth moment left_since a b e f R
-  leaves_then c d e f P Q R l m p q = record {
-    later_a = omega (arith, l.later_a, m.later_a);
-    later_b = omega (arith, l.later_b, m.later_b);
-    each = λ x y in_x in_y. ⊎_elim (λ was. p x y (l.each x y was.0 was.1)) (λ now. q x y now) (m.before (moment a) (moment b) x y l.later_a l.later_b in_x in_y);
-    before = λ t u x y le_t le_u in_x in_y. ⊎_elim
-        (λ was. ⊎_elim (λ first. inl first) (λ now. inr (p x y now)) (l.before t u x y le_t le_u was.0 was.1))
-        (λ now. inr (q x y now))
-        (m.before t u x y (omega (arith, le_t, l.later_a)) (omega (arith, le_u, l.later_b)) in_x in_y);
-  }
-
-pub opened_or_found : (me : Identity) (sa sb : State) (rs : List Record) → found sa.seen sb.seen ≡ Some rs → (x y : List ℕ) → HasFoundOrOpened me rs x y → WasLeftOrOpened me sa sb x y
-opened_or_found me sa sb rs was x y (inl held) = inl (inr (held ∙ sym was))
-opened_or_found me sa sb rs was x y (inr opened) = inr (rs, was, opened.0, opened.1)
 
 abbrev epoch_of : Identity → ℕ → Record
 epoch_of me e = Epoch e me.store me.shards me.node

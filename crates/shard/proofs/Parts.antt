@@ -15,8 +15,8 @@ use Rattle.records.specs.declared.record.PlacedId.{PlacedId}
 use Rattle.records.specs.Replays.{ArePrepared, Identity, MayLearn, ShardState, find_in_doubt, greatest_number, without}
 use Rattle.replay.proofs.Doubts.{find_without_other, same_id_refl, same_id_true}
 use Rattle.shard.specs.Keeping.{has_id}
-use Rattle.shard.specs.Own.{AreHereTo, AreNewIdsTo}
-use Rattle.shard.specs.Shards.{AreLearnable, AreNewIds, ArePreparedHere, placed_ids_from, unlearned}
+use Rattle.shard.specs.Own.{AreNewIdsTo}
+use Rattle.shard.specs.Shards.{AreLearnable, AreNewIds, placed_ids_from, unlearned}
 use Rattle.shard.proofs.Given.{AllGiven, given_placed_ids}
 
 module _ (shards s : ℕ) where
@@ -100,22 +100,10 @@ seen_more writes n w lt at ids more seen put j =
     ∙ sym (list_any-append named (take n writes) (w ∷ []))
     ∙ ap (list_any named) (sym front)
 
--- one write more is in doubt with its part, where it has one
-pub here_more : (shards s : ℕ) (ws writes : List Entry) (n : ℕ) (w : Entry) → AreHereTo shards s n ws writes → slice_get writes n ≡ Some w → (takes_part shards s w ≡ true → find_in_doubt w.id ws ≡ Some (part shards s w)) → AreHereTo shards s (n + 1) ws writes
-here_more shards s ws writes n w here at this j v lt is takes = ⊎_elim
-    (λ (last : (j == n) ≡ true).
-    let same : v ≡ w = (let e : Some v ≡ Some w = sym is ∙ ap (slice_get writes) (eqb-true j n last) ∙ at in cc) in
-    subst (λ (x : Entry). takes_part shards s x ≡ true → find_in_doubt x.id ws ≡ Some (part shards s x)) (sym same) this takes)
-    (λ (earlier : (j == n) ≡ false). here j v (let ne : j ≡ n → ⊥ = λ e. both_ways (j == n) earlier (eq-eqb j n e) in omega (arith, lt, ne)) is takes)
-    (cases_Bool (j == n))
-
 get_within : (writes : List Entry) (j : ℕ) (v : Entry) → slice_get writes j ≡ Some v → j < length writes
 get_within [] j v is = absurd cc
 get_within (w ∷ writes) zero v is = omega arith
 get_within (w ∷ writes) (suc j) v is = let lt = get_within writes j v is in omega (arith, lt)
-
-pub all_here : (me : Identity) (m : ShardState) (writes : List Entry) (n : ℕ) → AreHereTo me.shards me.node n m.in_doubt writes → length writes ≤ n → ArePreparedHere me m writes
-all_here me m writes n here le j v is takes = here j v (omega (arith, le, get_within writes j v is)) is takes
 
 pub all_new : (writes : List Entry) (n : ℕ) → AreNewIdsTo n writes → length writes ≤ n → AreNewIds writes
 all_new writes n new le i j v w is_i is_j same = new i j v w (omega (arith, le, get_within writes i v is_i)) (omega (arith, le, get_within writes j w is_j)) is_i is_j same

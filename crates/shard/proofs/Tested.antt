@@ -14,14 +14,12 @@ use Rattle.tuples.specs.declared.change.Want.{Want}
 use Rattle.tuples.specs.declared.change.Want.TheVariants.{NotAfter, Exists, Absent}
 use Rattle.tuples.specs.declared.entry.Entry.{Entry}
 use Rattle.tuples.specs.Changes.{changed, conditioned, tuple_of}
-use Rattle.tuples.specs.Log.{meets_want}
 use Rattle.tuples.specs.Parts.{is_of, own_changes, own_conditions, part, shard_of, takes_part}
-use Rattle.tuples.specs.Versions.{last_version, there_at}
 use Rattle.tuples.proofs.Kept.{of_condition, part_is_part}
 use Rattle.records.specs.Format.{ConditionsFit, IsPrepared, WantFits}
 use Rattle.records.specs.Replays.{AskOfLog, AsksOfLog, Identity, MayPrepare, ShardState, find_in_doubt, is_held, named}
 use Rattle.decisions.specs.Values.{IsIntent}
-use Rattle.shard.specs.Shards.{AreFree, HoldHere}
+use Rattle.shard.specs.Shards.{AreFree}
 
 -- where none passes, all fail
 pub none_passes : {X : Type 0} (p : X → Bool) (xs : List X) → list_any p xs ≡ false → All (λ x. p x ≡ false) xs
@@ -77,20 +75,11 @@ module _ (ws : List Entry) (w : Entry) where
 pub is_free_part : (m : ShardState) (w : Entry) → find_in_doubt w.id m.in_doubt ≡ None → changes_held m.in_doubt w ≡ false → conditions_held m.in_doubt w ≡ false → AreFree m w
 is_free_part m w new changes conditions = record { new = new; tuples = free_tuples m.in_doubt w changes conditions }
 
-pub free_has_new_id : (m : ShardState) (w p : Entry) → find_in_doubt w.id m.in_doubt ≡ Some p → AreFree m w → ⊥
-free_has_new_id m w p is free = let gone : Some p ≡ None = sym is ∙ free.new in absurd cc
-
 pub free_changes_of : (m : ShardState) (w : Entry) → AreFree m w → changes_held m.in_doubt w ≡ false
 free_changes_of m w free = free_changes m.in_doubt w free.tuples
 
 pub free_conditions_of : (m : ShardState) (w : Entry) → AreFree m w → conditions_held m.in_doubt w ≡ false
 free_conditions_of m w free = free_conditions m.in_doubt w free.tuples
-
--- the test of conditions decides whether they hold
-pub hold_decided : (m : ShardState) (cs : List Condition) (result : Bool) → result ≡ list_all (λ (c : Condition). meets_want c.want (last_version m.rows c.tuple) (there_at m.rows m.learned c.tuple)) cs → IsTrue result ↔ HoldHere m cs
-hold_decided m cs result is =
-    let meets : Condition → Bool = λ c. meets_want c.want (last_version m.rows c.tuple) (there_at m.rows m.learned c.tuple) in
-    (λ yes. all_pass meets cs (sym is ∙ yes), λ hold. is ∙ passed meets cs hold)
 
 passing : {X : Type 0} (p : X → Bool) (xs : List X) → All (λ x. p x ≡ true) (filter p xs)
 passing p [] = All-nil (λ x. p x ≡ true)
@@ -162,10 +151,6 @@ part_may_come me m w opened intent free = record {
   number = intent.id.number;
   places = places_of me.shards me.node w intent;
 }
-
-pub some_looked_up : (id : WriteId) (ws : List Entry) (o : Option (Bor Entry)) → MatchOption o (find_in_doubt id ws ≡ None) (λ w. find_in_doubt id ws ≡ Some w.now) → is_some o ≡ true → (p : Entry) × (find_in_doubt id ws ≡ Some p)
-some_looked_up id ws None is some = absurd cc
-some_looked_up id ws (Some w) is some = (w.now, is)
 
 pub none_looked_up : (id : WriteId) (ws : List Entry) (o : Option (Bor Entry)) → MatchOption o (find_in_doubt id ws ≡ None) (λ w. find_in_doubt id ws ≡ Some w.now) → is_some o ≡ false → find_in_doubt id ws ≡ None
 none_looked_up id ws None is none = is

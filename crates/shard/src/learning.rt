@@ -3,7 +3,7 @@ ghost use Rattle.std.specs.Prelude.{◌≡◌, ◌⊎◌, ◌↔◌, ◌≤◌, 
 ghost use Rattle.std.specs.List.{list_any};
 ghost use Rattle.journal.specs.Records.{HasNoRoom};
 ghost use Rattle.records.specs.Format.{IsLearned, max_placed_ids};
-ghost use Rattle.records.specs.Replays.{ArePrepared, MayLearn, find_in_doubt, greatest_number, shard_step};
+ghost use Rattle.records.specs.Replays.{MayLearn, find_in_doubt, greatest_number, shard_step};
 ghost use Rattle.records.specs.declared.record.Record.TheVariants.{Learned as learned_record};
 ghost use Rattle.tuples.specs.Log.{same_id};
 ghost use Rattle.tuples.specs.Parts.{part as part_of, takes_part as takes_part_of};

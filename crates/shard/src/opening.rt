@@ -1,6 +1,6 @@
 // Opening a shard: its records are replayed, and one opening more is made durable.
 ghost use Rattle.std.specs.Prelude.{◌≡◌, ◌⊎◌, ◌↔◌, ◌≤◌, ◌<◌, ◌+◌, ◌++◌, ◌∷◌, [], List, Option, Some, true, false, OnOk, OnErr, IfOk, IfErr, IsErr, IsErrOf, MatchResult};
-ghost use Rattle.device.specs.Device.{HasFailed, left};
+ghost use Rattle.device.specs.Device.{HasFailed};
 ghost use Rattle.journal.specs.Records.{HasOldOrNew, HasRecords, LacksRoom, LeavesBoth, found};
 ghost use Rattle.records.specs.declared.record.Record.{Record as AnyRecord};
 ghost use Rattle.records.specs.declared.record.Record.TheVariants.{Epoch as epoch_record};

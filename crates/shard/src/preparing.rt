@@ -1,5 +1,5 @@
 // Preparing a write: its part is tested, staged and held in doubt.
-ghost use Rattle.std.specs.Prelude.{◌≡◌, ◌||◌, ◌⊎◌, ◌≤◌, ◌↔◌, ◌++◌, ◌∷◌, [], true, false, OnOk, OnErr, IfOk, IfErr, IsErrOf};
+ghost use Rattle.std.specs.Prelude.{◌≡◌, ◌||◌, ◌⊎◌, ◌↔◌, ◌++◌, ◌∷◌, [], true, false, OnOk, IfOk, IfErr, IsErrOf};
 ghost use Rattle.decisions.specs.Values.{IsIntent};
 ghost use Rattle.holds.specs.Holds.{IsFree};
 ghost use Rattle.journal.specs.Records.{HasNoRoom};

@@ -1,5 +1,5 @@
 // A shard over two devices.
-ghost use Rattle.std.specs.Prelude.{◌≡◌, ◌≢◌, ◌⊎◌, ◌≤◌, ◌<◌, ◌+◌, ◌-◌, ◌^◌, ◌++◌, ◌∷◌, [], ℕ, List, Some, None, true, false, length, min, OnOk, OnErr, IfOk, IfErr, IsErr, IsErrOf, ◌↔◌, Contains, is_some};
+ghost use Rattle.std.specs.Prelude.{◌≡◌, ◌⊎◌, ◌≤◌, ◌<◌, ◌+◌, ◌-◌, ◌^◌, ◌++◌, [], Some, None, true, min, OnOk, OnErr, IfOk, IfErr, IsErr, ◌↔◌, Contains, is_some};
 ghost use Rattle.records.specs.declared.record.Record.TheVariants.{Prepare as prepare_record};
 ghost use Rattle.records.specs.Replays.{find_in_doubt};
 ghost use Rattle.device.specs.Device.{Elapses, Keeps, left};
@@ -38,7 +38,7 @@ pub struct Shard<D: Device> {
 }
 
 impl<D: Device> Model for Shard<D> {
-    ghost use Rattle.std.specs.Prelude.{◌≡◌, ◌≤◌, ◌<◌, false, ◌++◌};
+    ghost use Rattle.std.specs.Prelude.{◌≡◌, ◌≤◌, ◌<◌, ◌++◌};
     ghost use Rattle.shard.specs.Shards.{ShardView};
     ghost use Rattle.shard.specs.Keeping.{IsKept};
 

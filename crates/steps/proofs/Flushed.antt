@@ -1,5 +1,5 @@
 -- A flush of the coordinator of a store that stands, by its own contract.
-use Rattle.std.proofs.Common.{◌≡◌, ◌≢◌, ◌≤◌, ◌++◌, ℕ, List, [], Some, refl, sym, ◌∙◌, ap, subst}
+use Rattle.std.proofs.Common.{◌≡◌, ◌≢◌, ◌≤◌, ◌++◌, ℕ, List, [], Some, sym, ◌∙◌, ap, subst}
 use Rattle.device.specs.Device.{State, left}
 use Rattle.journal.specs.Records.{HasOldOrNew, LeavesBoth, found}
 use Rattle.records.specs.declared.record.Record.{Record}

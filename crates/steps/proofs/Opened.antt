@@ -1,14 +1,14 @@
 -- An opening of the coordinator of a store that stands, by its own contract.
-use Rattle.std.proofs.Common.{◌≡◌, ◌≢◌, ◌⊎◌, inl, inr, ◌↔◌, ◌≤◌, ℕ, List, [], Result, Ok, Err, IfOk, IfErr, MatchResult, false, sym, ap, subst}
+use Rattle.std.proofs.Common.{◌≡◌, ◌≢◌, ◌⊎◌, inl, inr, ◌↔◌, ◌≤◌, ℕ, List, [], Result, Ok, Err, IfOk, IfErr, MatchResult, false, ap, subst}
 use Rattle.refusal.specs.declared.refusal.Refusal.{Refusal}
 use Rattle.refusal.specs.declared.refusal.Refusal.TheVariants.{Damaged, Down, Full, NoMemory}
 use Rattle.device.specs.Device.{State, left}
 use Rattle.journal.specs.Records.{LeavesBoth}
 use Rattle.records.specs.Identity.{Identity, coordinator_number}
 use Rattle.decisions.specs.Coordinators.{CoordinatorView, IsOpenedCoordinator, WasLeftOrReopened}
-use Rattle.laws.specs.Nodes.{IsOfRefusedOpening, NodeName, coordinator}
+use Rattle.laws.specs.Nodes.{IsOfRefusedOpening, NodeName}
 use Rattle.laws.specs.Worlds.{coordinator_node}
-use Rattle.turns.specs.CoordinatorOpeningLaws.{IsFresh, OpensOverDevices}
+use Rattle.turns.specs.CoordinatorOpeningLaws.{OpensOverDevices}
 use Rattle.turns.specs.Moments.{Moment}
 use Rattle.turns.proofs.CoordinatorOpeningSeam.{coordinator_openings_step, refused_openings_step}
 use Rattle.steps.specs.OpeningSteps.{IsReopening, OpensInStep, StaysOutInStep}

@@ -1,5 +1,5 @@
 -- Calls that the coordinator of a store that stands only answers, each a turn by its own contract.
-use Rattle.std.proofs.Common.{◌≡◌, ◌≤◌, ℕ, false, [], ◌∷◌, refl, sym, subst}
+use Rattle.std.proofs.Common.{◌≡◌, ◌≤◌, ℕ, [], ◌∷◌, refl, sym, subst}
 use Rattle.tuples.specs.declared.entry.WriteId.{WriteId}
 use Rattle.device.specs.Device.{State}
 use Rattle.decisions.specs.Coordinators.{BatchesAt, CoordinatorView, FindsAt, FindsNone, IsKeptBy, IsOfNow, IsRunning, heads_of}

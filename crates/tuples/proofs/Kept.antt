@@ -1,6 +1,6 @@
 -- What a write has, each part of it has.
 use Rattle.std.proofs.Common.{◌≡◌, ◌≤◌, ℕ, Bool, true, false, cond, List, [], ◌∷◌, ◌++◌, length, map, arith, All, filter, ◌==◌}
-use Rattle.std.proofs.lemmas.List.Elements.{All-cons, All-head, All-tail, All-push, All-filter}
+use Rattle.std.proofs.lemmas.List.Elements.{All-cons, All-head, All-tail, All-push}
 use Rattle.std.proofs.lemmas.List.{map-append}
 use Rattle.std.proofs.lemmas.List.Sums.{length-filter, count_by-le-length}
 use Rattle.std.proofs.lemmas.Bool.Decides.{nat_tests}
@@ -12,9 +12,6 @@ use Rattle.tuples.specs.Order.{tuple_eq}
 use Rattle.tuples.specs.Texts.{IsTuple}
 use Rattle.tuples.specs.Changes.{AreDistinct, IsPart, has_tuple, tuple_of}
 use Rattle.tuples.specs.Parts.{shard_of, part}
-
-pub tuples_filtered : (p : Tuple → Bool) (ts : List Tuple) → All IsTuple ts → All IsTuple (filter p ts)
-tuples_filtered p ts h = All-filter p IsTuple ts h
 
 -- of values that name tuples, those that are kept name tuples of the grammar
 pub valid_filtered : {X : Type 0} (named : X → Tuple) (p : X → Bool) (xs : List X) → All IsTuple (map named xs) → All IsTuple (map named (filter p xs))

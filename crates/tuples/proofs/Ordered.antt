@@ -1,5 +1,5 @@
 -- The order of tuples is strict and total, and ties only a tuple with itself.
-use Rattle.std.proofs.Common.{◌≡◌, ◌≢◌, ◌⊎◌, ℕ, Bool, true, false, List, refl, sym, ap, ◌∙◌, inl, inr, Decides}
+use Rattle.std.proofs.Common.{◌≡◌, ◌⊎◌, ℕ, Bool, true, false, List, refl, sym, ap, ◌∙◌, inl, inr}
 use Rattle.std.specs.Cmp.{IsTotalOrder}
 use Rattle.std.specs.Ordering.{ordering_reverse, is_eq, is_lt}
 use Rattle.std.specs.declared.cmp.Ordering.{Ordering}
@@ -58,9 +58,6 @@ tuple_eq_refl a = ap is_eq (tied_itself tuple_total a)
 pub tuple_eq_from_same : (a b : Tuple) → a ≡ b → tuple_eq a b ≡ true
 tuple_eq_from_same a b e = ap (λ (t : Tuple). tuple_eq a t) (sym e) ∙ tuple_eq_refl a
 
-pub tuple_eq_decides : (a b : Tuple) → Decides (tuple_eq a b) (a ≡ b)
-tuple_eq_decides a b = (tuple_same a b, tuple_eq_from_same a b)
-
 same_tests : (x y : Bool) → (x ≡ true → y ≡ true) → (y ≡ true → x ≡ true) → x ≡ y
 same_tests true y f g = sym (f refl)
 same_tests false true f g = absurd (let h : false ≡ true = g refl in cc)
@@ -68,12 +65,6 @@ same_tests false false f g = refl
 
 pub tuple_eq_symm : (a b : Tuple) → tuple_eq a b ≡ tuple_eq b a
 tuple_eq_symm a b = same_tests (tuple_eq a b) (tuple_eq b a) (λ h. tuple_eq_from_same b a (sym (tuple_same a b h))) (λ h. tuple_eq_from_same a b (sym (tuple_same b a h)))
-
-pub tuple_eq_trans : (a b d : Tuple) → tuple_eq a b ≡ true → tuple_eq b d ≡ true → tuple_eq a d ≡ true
-tuple_eq_trans a b d h k = tuple_eq_from_same a d (tuple_same a b h ∙ tuple_same b d k)
-
-pub tuple_apart : (a b : Tuple) → tuple_eq a b ≡ false → a ≢ b
-tuple_apart a b h e = let k = tuple_eq_from_same a b e in absurd cc
 
 pub name_tied : (a : List ℕ) → is_eq (name_cmp a a) ≡ true
 name_tied a = ap is_eq (tied_itself nat_list_cmp_total a)

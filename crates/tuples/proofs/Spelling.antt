@@ -11,7 +11,6 @@ use Rattle.refusal.specs.declared.refusal.Refusal.{Refusal}
 use Rattle.refusal.specs.declared.refusal.Refusal.TheVariants.{BadTuple}
 use Rattle.tuples.specs.declared.object.Object.{Object}
 use Rattle.tuples.specs.declared.object.Userset.{Userset}
-use Rattle.tuples.specs.declared.user.User.TheVariants.{Id, Set}
 use Rattle.tuples.proofs.Cuts.{cut_once, cut_nowhere}
 
 -- bytes that all pass a test lack one that does not
@@ -45,9 +44,6 @@ spells_none IsValid text_of t e (inr h) was = absurd cc
 pub object_parts : (t a b : List ℕ) → IsCut 58 t a b → (o : Object) → IsObject o → t ≡ object_text o → (a ≡ o.namespace) × (b ≡ o.id)
 object_parts t a b cut o v e = cut_once 58 a b o.namespace o.id cut.first (name_lacks 58 refl o.namespace v.namespace) (sym cut.whole ∙ e)
 
-pub object_has_cut : (t : List ℕ) → Lacks 58 t → SpellsNone IsObject object_text t
-object_has_cut t h o v e = cut_nowhere 58 o.namespace o.id (subst (Lacks 58) e h)
-
 pub object_by_namespace : (t a b : List ℕ) → IsCut 58 t a b → SpellsNone IsName own_text a → SpellsNone IsObject object_text t
 object_by_namespace t a b cut none o v e = none o.namespace v.namespace (object_parts t a b cut o v e).0
 
@@ -68,9 +64,6 @@ object_lacks mark in_name in_id apart o v =
 pub userset_parts : (t a b : List ℕ) → IsCut 35 t a b → (s : Userset) → IsUserset s → t ≡ userset_text s → (a ≡ object_text s.object) × (b ≡ s.relation)
 userset_parts t a b cut s v e = cut_once 35 a b (object_text s.object) s.relation cut.first (object_lacks 35 refl refl refl s.object v.object) (sym cut.whole ∙ e)
 
-pub userset_has_cut : (t : List ℕ) → Lacks 35 t → SpellsNone IsUserset userset_text t
-userset_has_cut t h s v e = cut_nowhere 35 (object_text s.object) s.relation (subst (Lacks 35) e h)
-
 pub userset_by_object : (t a b : List ℕ) → IsCut 35 t a b → SpellsNone IsObject object_text a → SpellsNone IsUserset userset_text t
 userset_by_object t a b cut none s v e = none s.object v.object (userset_parts t a b cut s v e).0
 
@@ -83,14 +76,6 @@ userset_has_colon s h =
     let whole : has_byte 58 (userset_text s) ≡ (has_byte 58 (object_text s.object) || has_byte 58 (35 ∷ s.relation)) = list_any-append (λ b. eqb b 58) (object_text s.object) (35 ∷ s.relation) in
     let object : Lacks 58 (object_text s.object) = grind (arith, nat_tests) in
     cut_nowhere 58 s.object.namespace s.object.id object
-
-pub user_by_id : (t : List ℕ) → Lacks 58 t → SpellsNone IsId own_text t → SpellsNone IsUser user_text t
-user_by_id t h none (Id i) v e = none i v e
-user_by_id t h none (Set s) v e = userset_has_colon s (subst (Lacks 58) e h)
-
-pub user_by_userset : (t : List ℕ) → has_byte 58 t ≡ true → SpellsNone IsUserset userset_text t → SpellsNone IsUser user_text t
-user_by_userset t h none (Id i) v e = let l : Lacks 58 t = subst (Lacks 58) (sym e) (id_lacks 58 refl i v) in cc
-user_by_userset t h none (Set s) v e = none s v e
 
 pub userset_lacks : (mark : ℕ) → is_name_byte mark ≡ false → is_id_byte mark ≡ false → eqb 58 mark ≡ false → eqb 35 mark ≡ false → (s : Userset) → IsUserset s → Lacks mark (userset_text s)
 userset_lacks mark in_name in_id apart also s v =

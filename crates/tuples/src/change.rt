@@ -1,5 +1,5 @@
 // Changes and conditions, and lists of them.
-ghost use Rattle.std.specs.Prelude.{◌≡◌, IfOk};
+ghost use Rattle.std.specs.Prelude.{◌≡◌};
 
 use crate::Tuple;
 use std::alloc::{AllocError, Global};

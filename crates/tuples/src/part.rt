@@ -1,7 +1,6 @@
 // A shard's part of a write, borrowed from the write.
 ghost use Rattle.std.specs.Prelude.{◌≡◌, ◌↔◌, ◌∷◌, [], IfOk, IsTrue, MatchOption};
 ghost use Rattle.std.specs.Iterator.{YieldsFirstRef, item_count};
-ghost use Rattle.tuples.specs.Changes.{tuple_of};
 ghost use Rattle.tuples.specs.Limits.{IsShardCount};
 ghost use Rattle.tuples.specs.Parts.{is_of, own_changes, own_conditions, part};
 

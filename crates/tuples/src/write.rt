@@ -1,5 +1,5 @@
 // Whole writes.
-ghost use Rattle.std.specs.Prelude.{◌≡◌, ◌≢◌, ◌≤◌, ◌<◌, ◌⊎◌, ◌↔◌, [], All, length, IfOk, IfErr, IsErrOf, IsTrue, ◌&&◌, drop};
+ghost use Rattle.std.specs.Prelude.{◌≡◌, ◌≢◌, ◌<◌, ◌⊎◌, ◌↔◌, [], All, length, IfOk, IfErr, IsErrOf, IsTrue};
 ghost use Rattle.tuples.specs.Changes.{AreDistinct, IsWrite, changed, conditioned, has_tuple};
 ghost use Rattle.tuples.specs.Limits.{max_changes, max_conditions};
 ghost use Rattle.tuples.specs.Texts.{IsTuple};

@@ -1,14 +1,10 @@
 -- Banks that have no room for a batch more.
 use Rattle.std.proofs.Common.{inl, inr, ⊎_elim, ◌≡◌, ◌⊎◌, ◌≤◌, ◌<◌, ◌+◌, ◌^◌, ℕ, List, length, subst, ap, arith}
 use Rattle.records.specs.declared.record.Record.{Record}
-use Rattle.device.specs.Device.{HasFailed, Leaves, State, left, reach}
-use Rattle.journal.specs.Records.{LacksRoom, View}
+use Rattle.device.specs.Device.{HasFailed, State, left}
+use Rattle.journal.specs.Records.{LacksRoom}
 use Rattle.turns.specs.Promises.{IsNearlyFull}
 use Rattle.turns.specs.RoomLaws.{FailedFlushesHaveCause, OpeningsWithoutRoomHaveCause}
-
--- what reads is as long as that
-nearly_full : (s : State) (n : ℕ) → n ≤ length s.seen → 2 ^ 40 < n + 1048581 → IsNearlyFull s
-nearly_full s n le past = omega (arith, le, past)
 
 module _ {D : Type 0} (state : D → State) (honest : D → Type 0) (bank : D) (end : ℕ) (staged : List Record) (lacks : LacksRoom state honest bank end staged) (hon : honest bank) where
   pub past_the_most : 2 ^ 40 < length (state bank).seen + 1048581

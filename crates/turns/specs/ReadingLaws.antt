@@ -1,12 +1,11 @@
 -- Laws of reads: what shards answer, one after another, is what a tupleset selects of the whole store at one place.
-use Rattle.std.specs.Prelude.{◌≡◌, ◌≤◌, ◌<◌, ◌+◌, ◌⊎◌, ◌↔◌, ◌&&◌, ◌==◌, ℕ, Bool, List, [], ◌∷◌, ◌++◌, length, Some, None, Contains, slice_get}
+use Rattle.std.specs.Prelude.{◌≡◌, ◌≤◌, ◌<◌, ◌+◌, ◌&&◌, ◌==◌, ℕ, Bool, List, [], ◌∷◌, ◌++◌, length, Some, None, slice_get}
 use Rattle.tuples.specs.declared.entry.Entry.{Entry}
 use Rattle.tuples.specs.declared.tuple.Tuple.{Tuple}
 use Rattle.tuples.specs.declared.tupleset.Tupleset.{Tupleset}
-use Rattle.tuples.specs.declared.tupleset.Tupleset.TheVariants.{Key, OfObject, OfUser}
 use Rattle.tuples.specs.Log.{is_at}
 use Rattle.tuples.specs.Parts.{shard_of}
-use Rattle.tuples.specs.Reads.{AreAscending, IsSelection}
+use Rattle.tuples.specs.Reads.{IsSelection}
 use Rattle.tuples.specs.Versions.{there_at}
 use Rattle.records.specs.declared.record.Record.{Record}
 use Rattle.records.specs.Replays.{ShardState}

@@ -85,10 +85,6 @@ module _ {D : Type 0} (state : D → State) (honest : D → Type 0) (store shard
     pub flows : (slot : ℕ) → ShowsSlot (flow_at slot now.running) (s.flows slot)
     pub stands : Stands store shards (stops s.devices) now
 
-  -- a store stands for a machine, with whatever its flows have seen
-  abbrev pub StandsFor : Store D → Machine → Type 0
-  StandsFor s m = (now : Moment) × (now.machine ≡ m) × StandsOver s now
-
   -- whatever a stop may leave of the coordinator, with what is staged or without, has this horizon
   abbrev pub NamesHorizon : Store D → Moment → ℕ → Type 0
   NamesHorizon s now = IsHorizonIn store shards (stops s.devices) now.nodes

@@ -43,27 +43,6 @@ either x u t =
     spread (is_eq (object_cmp t.object x.object)) (same_name t.relation x.relation) (is_eq (user_cmp t.user u)) (is_set t.user)
     ∙ ap (λ (b : Bool). b || is_set_of x t) (sym (is_holding x u t))
 
-set_alone : (y : Userset) (v : User) → (is_eq (user_cmp v (Set y)) || is_set v) ≡ is_set v
-set_alone y (Id i) = refl
-set_alone y (Set z) = or_true (is_eq (user_cmp (Set z) (Set y)))
-  where
-    or_true : (b : Bool) → (b || true) ≡ true
-    or_true true = refl
-    or_true false = refl
-
--- where the user is a userset, its tuple is one of those
-only_sets : (x y : Userset) (t : Tuple) → meets_check x (Set y) t ≡ is_set_of x t
-only_sets x y t = ap (λ (b : Bool). is_eq (object_cmp t.object x.object) && (same_name t.relation x.relation && b)) (set_alone y t.user)
-
-pub of_set : (there : Tuple → Bool) (x y : Userset) (rows : List Tuple) → IsPicked there (is_set_of x) rows → IsCheckSelection there x (Set y) rows
-of_set there x y rows picked = record {
-  ascending = picked.ascending;
-  exact = λ t. (
-    λ has. let both = (picked.exact t).0 has in (both.0, only_sets x y t ∙ both.1),
-    λ both. (picked.exact t).1 (both.0, sym (only_sets x y t) ∙ both.1),
-  );
-}
-
 -- ---- the tuple of a plain user stands before those of usersets
 
 both : (a b : Bool) → (a && b) ≡ true → (a ≡ true) × (b ≡ true)

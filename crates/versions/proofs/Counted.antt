@@ -1,9 +1,8 @@
 -- How many versions are looked at.
-use Rattle.std.proofs.Common.{◌≡◌, ◌≤◌, ℕ, suc, ◌+◌, Bool, true, false, ◌&&◌, cond, List, [], ◌∷◌, ◌++◌, length, map, filter, inl, inr, refl, sym, ap, subst, ◌∙◌, arith}
+use Rattle.std.proofs.Common.{◌≡◌, ◌≤◌, ℕ, suc, ◌+◌, Bool, true, false, ◌&&◌, cond, List, [], ◌∷◌, length, map, filter, inl, inr, refl, sym, ap, subst, ◌∙◌, arith}
 use Rattle.std.specs.Global.{Vec}
 use Rattle.std.specs.List.{AllByRecursion}
 use Rattle.std.specs.List.Sorted.{IsStrictlySortedBy}
-use Rattle.std.specs.Map.{keys_of}
 use Rattle.std.specs.Ordering.{is_eq}
 use Rattle.std.specs.declared.cmp.Ordering.TheVariants.{Less}
 use Rattle.std.proofs.lemmas.Bool.{cases_Bool}
@@ -17,11 +16,11 @@ use Rattle.tuples.proofs.Ordered.{tuple_eq_symm}
 use Rattle.tuples.proofs.Same.{tuple_same}
 use Rattle.versions.specs.Alike.{of_tuple}
 use Rattle.versions.specs.Index.{by_user_cmp, count_of}
-use Rattle.versions.specs.Rows.{change_of, found, listed, rows_in, version_of, versions_of}
+use Rattle.versions.specs.Rows.{listed, version_of, versions_of}
 use Rattle.versions.specs.declared.history.Row.{Row}
 use Rattle.versions.proofs.Histories.{tuple_of_change}
 use Rattle.versions.proofs.Index.{by_user_tie}
-use Rattle.versions.proofs.Tables.{AreSorted, Entries, of_listed}
+use Rattle.versions.proofs.Tables.{Entries}
 
 -- ---- entry by entry
 

@@ -1,9 +1,9 @@
 -- An index by user beside its table.
-use Rattle.std.proofs.Common.{◌≡◌, ℕ, ◌+◌, Bool, true, false, ◌&&◌, ◌||◌, cond, List, [], ◌∷◌, length, filter, Option, None, Some, inl, inr, refl, sym, ap, subst, ◌∙◌, arith}
+use Rattle.std.proofs.Common.{◌≡◌, ℕ, Bool, true, false, ◌&&◌, ◌||◌, cond, List, [], ◌∷◌, filter, Option, None, inl, inr, refl, sym, ap, ◌∙◌}
 use Rattle.std.specs.Global.{Vec}
 use Rattle.std.specs.Prelude.{is_some}
-use Rattle.std.specs.List.{AllByRecursion, list_any}
-use Rattle.std.specs.Map.{keys_of, lookup}
+use Rattle.std.specs.List.{list_any}
+use Rattle.std.specs.Map.{keys_of}
 use Rattle.std.specs.BTreeMap.{is_at}
 use Rattle.std.specs.Ordering.{eq_by_cmp, is_eq, ordering_then}
 use Rattle.std.specs.declared.cmp.Ordering.{Ordering}
@@ -11,12 +11,11 @@ use Rattle.std.specs.declared.cmp.Ordering.TheVariants.{Less, Equal, Greater}
 use Rattle.std.proofs.lemmas.Bool.{cases_Bool}
 use Rattle.std.proofs.lemmas.Cmp.{tied_itself}
 use Rattle.std.proofs.lemmas.Map.Views.{any-filter_same}
-use Rattle.tuples.specs.declared.object.Object.{Object}
 use Rattle.tuples.specs.declared.tuple.Tuple.{Tuple}
 use Rattle.tuples.specs.declared.user.User.{User}
 use Rattle.tuples.specs.contracts.tuple.TupleOrd.TheImpl.{ghosts}
 use Rattle.tuples.specs.Order.{name_cmp, tuple_eq, user_cmp}
-use Rattle.tuples.proofs.Ordered.{tuple_eq_from_same, tuple_eq_refl}
+use Rattle.tuples.proofs.Ordered.{tuple_eq_from_same}
 use Rattle.tuples.proofs.Same.{name_same, tuple_same, user_same}
 use Rattle.versions.specs.Index.{HasSame, IsIndex, by_user_cmp, by_user_total, is_listed}
 use Rattle.versions.specs.Rows.{found}

@@ -15,11 +15,11 @@ use Rattle.tuples.specs.declared.tuple.Tuple.{Tuple}
 use Rattle.tuples.specs.declared.tupleset.Tupleset.{Tupleset}
 use Rattle.tuples.specs.declared.tupleset.Tupleset.TheVariants.{OfUser}
 use Rattle.tuples.specs.declared.user.User.{User}
-use Rattle.tuples.specs.Order.{name_cmp, object_cmp, tuple_cmp, tuple_eq, tuple_lt, user_cmp}
+use Rattle.tuples.specs.Order.{name_cmp, tuple_eq, tuple_lt, user_cmp}
 use Rattle.tuples.specs.Reads.{AreAscending, IsSelection, meets}
 use Rattle.tuples.specs.Texts.{IsTuple}
 use Rattle.tuples.specs.Versions.{there_at}
-use Rattle.tuples.proofs.Ordered.{name_tied, tuple_eq_refl, user_tied}
+use Rattle.tuples.proofs.Ordered.{tuple_eq_refl}
 use Rattle.tuples.proofs.Same.{name_same, tuple_same, user_same}
 use Rattle.versions.specs.Index.{IsFirstOf, IsIndex, by_user_cmp, is_of_user}
 use Rattle.versions.specs.Rows.{IsTable, found, listed, rows_in, versions_of}

@@ -3,7 +3,7 @@ ghost use Rattle.std.specs.Prelude.{◌≡◌, ◌≤◌, ◌+◌, IfOk};
 ghost use Rattle.tuples.specs.Reads.{IsSelection};
 ghost use Rattle.tuples.specs.Versions.{there_at};
 ghost use Rattle.tuples.specs.declared.tupleset.Tupleset.TheVariants.{OfUser as of_user};
-ghost use Rattle.versions.specs.Index.{IsFirstOf, IsIndex, count_met, is_of_user};
+ghost use Rattle.versions.specs.Index.{IsIndex, count_met, is_of_user};
 ghost use Rattle.versions.specs.Rows.{IsTable, listed};
 
 use crate::Steps;

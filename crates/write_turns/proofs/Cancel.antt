@@ -23,7 +23,8 @@ use Rattle.turns.proofs.FlowGoesOn.{flows_go_on}
 use Rattle.call_turns.specs.StoreTurns.{SlotTurns}
 use Rattle.call_turns.proofs.Made.{inside_by, still_within}
 use Rattle.call_turns.proofs.Turned.{shows_ended, shows_going}
-use Rattle.write_turns.specs.Cancelling.{CancelsRun, IsCancelledThere, IsUncalled}
+use Rattle.write_turns.specs.Cancelling.{CancelsRun, IsCancelledThere}
+use Rattle.call_turns.specs.Steps.{IsUncalled}
 use Rattle.write_turns.specs.Seen.{asked_of, shown, shown_until}
 use Rattle.write_turns.proofs.Going.{IsFlow, asked_is, changes, conditions, flow_there, holds_is, right}
 

@@ -22,7 +22,6 @@ use Rattle.catch_up.specs.Held.{CatchUpValue, learned}
 use Rattle.commit_flow.specs.Answering.{CatchUpGives, GivesTo, GoesOn, GoesOut, GoesToPrepare, ProgressGives}
 use Rattle.commit_flow.specs.Views.{WriteView}
 use Rattle.commit_flow.specs.WriteHolds as waits
-use Rattle.commit_flow.specs.WriteHolds.{WriteAwaited}
 use Rattle.commit_flow.specs.Writing.{HasShard, IsOnItsWay}
 use Rattle.laws.specs.Machines.{Machine}
 use Rattle.laws.specs.Nodes.{NodeName, Nodes, coordinator, shard}

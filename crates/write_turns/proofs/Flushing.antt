@@ -22,7 +22,6 @@ use Rattle.catch_up.specs.Held.{flushing}
 use Rattle.commit_flow.specs.Answering.{CatchUpGives, FlushGives, GivesTo, GoesOn, GoesOut, ProgressGives}
 use Rattle.commit_flow.specs.Views.{WriteView, at_rest, ticket_value}
 use Rattle.commit_flow.specs.WriteHolds as waits
-use Rattle.commit_flow.specs.WriteHolds.{WriteAwaited}
 use Rattle.commit_flow.specs.Writing.{HasShard, IsOnItsWay, Waits}
 use Rattle.laws.specs.Machines.{Machine}
 use Rattle.laws.specs.Nodes.{NodeName, Nodes, coordinator, shard}

@@ -17,7 +17,7 @@ use Rattle.commit_flow.specs.declared.end.WriteEnd.TheVariants.{Refused}
 use Rattle.laws.specs.Machines.{Machine}
 use Rattle.laws.specs.Nodes.{NodeName, Nodes, coordinator, shard}
 use Rattle.turns.specs.Causes.{Calls, CallsShard, HasItsCause}
-use Rattle.turns.specs.Flows.{Asked, Holds, WriteHolds, checking, collecting, flushing, learning, onward, outward, raising, reading, resolving, to_check, to_collect, to_flush, to_learn, to_raise, to_read, to_resolve, to_watch, to_write, watching, writing}
+use Rattle.turns.specs.Flows.{Asked, Holds, WriteHolds, outward, to_check, to_collect, to_flush, to_learn, to_raise, to_read, to_resolve, to_watch, to_write, writing}
 use Rattle.turns.specs.Held.{IfHeld, IsRight, IsRightBatch, IsRightWrite, own_write}
 use Rattle.turns.specs.Moments.{Moment, Running, flow_at}
 use Rattle.turns.specs.Promises.{Ran, events_of}

@@ -3,19 +3,12 @@ use Rattle.std.specs.Prelude.{◌≡◌, ℕ, Bool, true, List, [], None}
 use Rattle.device.specs.Device.{State}
 use Rattle.commit_flow.specs.Cancelling.{Cancels}
 use Rattle.commit_flow.specs.Views.{WriteView}
-use Rattle.laws.specs.Nodes.{NodeName}
 use Rattle.turns.specs.Promises.{RunsOne}
 use Rattle.turns.specs.Runs.{cancel}
 use Rattle.turns.specs.Stores.{Store}
+use Rattle.call_turns.specs.Steps.{IsUncalled}
 use Rattle.call_turns.specs.StoreTurns.{SlotTurns}
 use Rattle.write_turns.specs.Seen.{shown, shown_until}
-
--- no node of the store was called
-pub record IsUncalled {D : Type 0} (old new : Store D) : Type 0 where
-  pub devices : (n : NodeName) → new.devices n ≡ old.devices n
-  pub at : (n : NodeName) → new.at n ≡ old.at n
-  pub open_ids : new.open_ids ≡ old.open_ids
-  pub given : new.given ≡ old.given
 
 -- Given what a device holds and whether it is honest, how often a stop may have come at it, what a stop since then may have left, and a store's id
 -- and number of shards

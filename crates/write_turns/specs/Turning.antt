@@ -1,16 +1,10 @@
 -- A turn of a write flow: `next_call` asks a call, `ask` makes it of the node that it names, and `give` makes of the flow what the reply makes of it.
 use Rattle.std.specs.Prelude.{◌≤◌, ℕ, Bool, List, MatchOption}
 use Rattle.device.specs.Device.{State}
-use Rattle.decisions.specs.Values.{IsIntent}
 use Rattle.calls.specs.Asking.{Answered}
 pub use Rattle.calls.specs.Fitting.{IsWhole}
 use Rattle.calls.specs.Views.{NodeView}
 use Rattle.calls.specs.declared.call.NodeCall.{NodeCall}
-use Rattle.calls.specs.declared.call.NodeCall.TheVariants.{Coordinator, Shard}
-use Rattle.calls.specs.declared.call.CoordinatorCall.{CoordinatorCall}
-use Rattle.calls.specs.declared.call.CoordinatorCall.TheVariants.{Decide}
-use Rattle.calls.specs.declared.call.ShardCall.{ShardCall}
-use Rattle.calls.specs.declared.call.ShardCall.TheVariants.{StagePrepare}
 use Rattle.calls.specs.declared.reply.Reply.{Reply}
 use Rattle.commit_flow.specs.Answering.{GivesTo}
 use Rattle.commit_flow.specs.Views.{WriteView}

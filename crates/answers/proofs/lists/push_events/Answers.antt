@@ -1,4 +1,4 @@
-use Rattle.std.proofs.Common.{◌++◌, ap}
+use Rattle.std.proofs.Common.{◌++◌}
 use Rattle.serde_json.specs.Written.{comma_if, compact_text}
 use Rattle.answers.specs.Texts.{event_json}
 use Rattle.answers.proofs.Growing.{grown_as, grown_then}

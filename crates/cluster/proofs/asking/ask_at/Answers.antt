@@ -1,9 +1,9 @@
 -- The node that stands where the call's name says has answered it.
-use Rattle.std.proofs.Common.{◌∙◌, ap, get_or, subst, sym}
+use Rattle.std.proofs.Common.{◌∙◌, ap, subst, sym}
 use Rattle.calls.specs.Views.{NodeView}
 use Rattle.cluster.specs.Nodes.{Answers}
 use Rattle.cluster.specs.Worlds.{index_of}
-use Rattle.cluster.proofs.Answering.{called_away, called_there}
+use Rattle.cluster.proofs.Answering.{called_there}
 use Rattle.cluster.proofs.asking.ask_at.Goals as goal
 
 pub returns-clause-called : goal.returns-clause-called

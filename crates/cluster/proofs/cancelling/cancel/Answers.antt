@@ -1,5 +1,5 @@
 -- The flows that stay are such as were there, but for the one that was cancelled.
-use Rattle.std.proofs.Common.{◌≡◌, Bool, None, Some, subst, sym}
+use Rattle.std.proofs.Common.{Bool, None, Some, subst, sym}
 use Rattle.cluster.specs.Cancels.{Cancels, left_of}
 use Rattle.cluster.proofs.Cancels.{still_runs}
 use Rattle.cluster.proofs.Slots.{keeps_flow, keeps_none, puts}

@@ -1,6 +1,6 @@
 -- With each node that is opened, one more of them is.
-use Rattle.std.proofs.Common.{rules, ◌≡◌, ◌+◌, ◌∙◌, ℕ, length, ap, sym}
-use Rattle.std.specs.Vec.{vec_capacity, vec_len}
+use Rattle.std.proofs.Common.{rules, ◌+◌, ◌∙◌, ℕ, length, ap, sym}
+use Rattle.std.specs.Vec.{vec_len}
 use Rattle.cluster.proofs.Openings.{count_all, first, first_two, more, next_two, one_up, opened}
 use Rattle.cluster.proofs.reopening.open_all.Goals as goal
 

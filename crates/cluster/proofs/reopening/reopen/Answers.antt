@@ -1,6 +1,4 @@
 -- Each node was opened, and no flow runs.
-use Rattle.std.proofs.Common.{◌≡◌, ℕ, List, [], Option, Some, None, sym, subst}
-use Rattle.cluster.specs.declared.flow.Flow.{Flow}
 use Rattle.cluster.proofs.Slots.{no_flows}
 use Rattle.cluster.proofs.reopening.reopen.Goals as goal
 

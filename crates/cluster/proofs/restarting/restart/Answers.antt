@@ -1,5 +1,5 @@
 -- The node that stands where the name says is opened again, and put back there.
-use Rattle.std.proofs.Common.{◌≡◌, ◌<◌, ◌∙◌, ℕ, List, Some, ap, set, sym, subst}
+use Rattle.std.proofs.Common.{◌<◌, ◌∙◌, ℕ, List, Some, ap, set, subst}
 use Rattle.std.specs.List.{insert}
 use Rattle.calls.specs.Views.{NodeView}
 use Rattle.cluster.specs.Nodes.{Reopened}

@@ -1,6 +1,5 @@
 -- The flow of the slot turns, and is left in the slot from which it was taken.
-use Rattle.std.proofs.Common.{◌≡◌, ◌∙◌, ℕ, None, Option, sym, subst}
-use Rattle.cluster.specs.declared.flow.Flow.{Flow}
+use Rattle.std.proofs.Common.{◌≡◌, ℕ, None, sym, subst}
 use Rattle.cluster.specs.Steps.{Leaves}
 use Rattle.cluster.specs.Worlds.{flow_at}
 use Rattle.cluster.proofs.Slots.{at_some, keeps_none, leaves_over, puts}

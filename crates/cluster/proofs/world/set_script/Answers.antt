@@ -1,5 +1,5 @@
 -- The script is set at the node that stands where the name says.
-use Rattle.std.proofs.Common.{◌≡◌, ℕ, ap, get_or, set, subst, sym}
+use Rattle.std.proofs.Common.{ℕ, ap, set, subst, sym}
 use Rattle.calls.specs.Failing.{NodeIsSet}
 use Rattle.calls.specs.Views.{NodeView}
 use Rattle.cluster.specs.Worlds.{node_at}

@@ -1,4 +1,3 @@
-use Rattle.std.proofs.Common.{◌≡◌}
 use Rattle.sessions.specs.Blocks.{unread}
 use Rattle.sessions.specs.Sessions.{Serving}
 use Rattle.sessions.proofs.serve.serve_stream.Given as goal

@@ -1,12 +1,11 @@
-use Rattle.std.proofs.Common.{◌≡◌, ◌≤◌, ℕ, ◌+◌, ◌++◌, ◌∷◌, [], ◌&&◌, true, false, Bool, List, cond, filter, length, sym, ap, subst, ◌∙◌, append-nil, append_assoc, arith, rules}
+use Rattle.std.proofs.Common.{◌≡◌, ◌≤◌, ℕ, ◌+◌, ◌++◌, ◌∷◌, [], ◌&&◌, true, false, Bool, List, filter, length, sym, ap, subst, ◌∙◌, append-nil, append_assoc, arith, rules}
 use Rattle.std.specs.Ordering.{is_eq, is_le}
 use Rattle.tuples.specs.declared.tuple.Tuple.{Tuple}
-use Rattle.tuples.specs.declared.version.Version.{Version}
 use Rattle.tuples.specs.Order.{user_cmp}
 use Rattle.tuples.specs.Reads.{IsSelection, has_relation, meets, same_name}
 use Rattle.tuples.specs.Versions.{there_at}
 use Rattle.versions.specs.Alike.{of_tuple}
-use Rattle.versions.specs.Index.{IsFirstOf, by_user_cmp, count_of, is_of_user}
+use Rattle.versions.specs.Index.{IsFirstOf, by_user_cmp, is_of_user}
 use Rattle.versions.specs.Rows.{found, listed, rows_in, versions_of}
 use Rattle.versions.proofs.Counted.{rows_count, seen, sum_fewer, sum_most, sum_of, unseen}
 use Rattle.versions.proofs.OfUser.{IsWalkBy, and_gone, asked_of, by_low, chosen_from_first, chosen_of, chosen_selection, index_spelled, keeps_tuple, low_by, met, missed, none_left_by, of_user_meets, skips_tuple, there_by_own, walk_by_from, walk_by_rest}

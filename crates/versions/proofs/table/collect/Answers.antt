@@ -1,4 +1,4 @@
-use Rattle.std.proofs.Common.{◌≡◌, ◌≤◌, ◌<◌, true, length, rules, arith}
+use Rattle.std.proofs.Common.{rules, arith}
 use Rattle.tuples.specs.Texts.{IsTuple}
 use Rattle.versions.proofs.Index.{index_filtered, index_same, same_keys}
 use Rattle.versions.proofs.Tables.{all_retained, kept_alike, kept_keys}

@@ -1,4 +1,4 @@
-use Rattle.std.proofs.Common.{inl, inr, length, refl}
+use Rattle.std.proofs.Common.{inl, inr, refl}
 use Rattle.printed.specs.Texts.{refusal_line}
 use Rattle.scripts.proofs.Among.{among}
 use Rattle.scripts.proofs.script.Script.answer.Goals as goal

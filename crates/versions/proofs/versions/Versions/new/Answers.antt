@@ -1,4 +1,4 @@
-use Rattle.std.proofs.Common.{refl, rules}
+use Rattle.std.proofs.Common.{rules}
 use Rattle.versions.proofs.Index.{index_none}
 use Rattle.versions.proofs.versions.Versions.new.Goals as goal
 
