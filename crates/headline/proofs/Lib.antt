@@ -34,3 +34,5 @@ pub mod Restart
 pub mod Whole
 pub mod HandsBack
 pub mod Joined
+pub mod SmallHeadline
+pub mod WrongHeadline
