@@ -7,11 +7,11 @@ use Rattle.std.specs.Io.KnownBytes.{Appends, Consumes}
 use Rattle.std.specs.Prelude.{Result}
 use Rattle.refusal.specs.declared.refusal.Refusal.{Refusal}
 use Rattle.answers.specs.declared.answer.Answer.{Answer}
-use Rattle.sessions.specs.Blocks.{HasRead, HasTaken}
-use Rattle.sessions.specs.declared.input.Ending.TheVariants.{Feed, Input}
-use Rattle.sessions.specs.declared.line.Line.{Line}
-use Rattle.sessions.specs.Lines.{HasNoFeed}
-use Rattle.sessions.specs.Outputs.{HasBegun, Sends}
+use Rattle.line_io.specs.Blocks.{HasRead, HasTaken}
+use Rattle.line_io.specs.declared.input.Ending.TheVariants.{Feed, Input}
+use Rattle.line_io.specs.declared.line.Line.{Line}
+use Rattle.line_io.specs.Lines.{HasNoFeed}
+use Rattle.line_io.specs.Outputs.{HasBegun, Sends}
 use Rattle.sessions.specs.Sessions.{Broke, Giving, RepliesTo, Served, Serving, Session, end_text, joined, reply_line}
 
 -- ---- what is written

@@ -1,5 +1,2 @@
 pub mod Errors
-pub mod Feeds
-pub mod Gathering
 pub mod Going
-pub mod Writing

@@ -1,4 +1,1 @@
-pub mod Lines
-pub mod Blocks
-pub mod Outputs
 pub mod Sessions

@@ -9,8 +9,8 @@ use Rattle.requests.specs.Lines.{IsObject, Spells}
 use Rattle.requests.specs.Shapes.{Field}
 use Rattle.answers.specs.declared.answer.Answer.{Answer}
 use Rattle.answers.specs.Texts.{answer_line, refusal_line}
-use Rattle.sessions.specs.Lines.{HasNoFeed, max_line, unended_refusal}
-use Rattle.sessions.specs.Outputs.{HasBegun}
+use Rattle.line_io.specs.Lines.{HasNoFeed, max_line, unended_refusal}
+use Rattle.line_io.specs.Outputs.{HasBegun}
 
 -- an answer of one op, as an answer
 abbrev pub told : {T : Type 0} → (T → Answer) → Result T Refusal → Result Answer Refusal

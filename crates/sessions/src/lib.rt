@@ -10,11 +10,6 @@
 #![tactic(auto)]
 
 mod asking;
-mod block;
-mod held;
-mod input;
-mod line;
-mod output;
 mod reply;
 mod serve;
 

@@ -1,11 +1,11 @@
 // One line and its answer.
 ghost use Rattle.std.specs.Prelude.{◌≡◌, ◌++◌, List, ℕ, OnOk, OnErr};
-ghost use Rattle.sessions.specs.Lines.{Holds};
+ghost use Rattle.line_io.specs.Lines.{Holds};
 ghost use Rattle.sessions.specs.Sessions.{RepliesTo, reply_line};
 
 use crate::asking::{Answers, ask};
-use crate::line::Line;
 use answers::{Answer, write_refusal};
+use line_io::Line;
 use requests::Request;
 use std::alloc::{AllocError, Global};
 use tuples::Refusal;

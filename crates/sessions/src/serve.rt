@@ -1,17 +1,14 @@
 // A session from its first line to its last.
 ghost use Rattle.std.specs.Prelude.{◌++◌, List, ℕ, OnOk, OnErr};
 ghost use Rattle.std.specs.Io.KnownBytes.{Appends};
-ghost use Rattle.sessions.specs.Blocks.{unread};
-ghost use Rattle.sessions.specs.Lines.{Holds};
-ghost use Rattle.sessions.specs.Outputs.{HasBegun, MayWait, Sends};
+ghost use Rattle.line_io.specs.Blocks.{unread};
+ghost use Rattle.line_io.specs.Lines.{Holds};
+ghost use Rattle.line_io.specs.Outputs.{HasBegun, MayWait, Sends};
 ghost use Rattle.sessions.specs.Sessions.{Broke, Served, end_text};
 
 use crate::asking::Answers;
-use crate::held::{BLOCK, Block};
-use crate::input::{Ending, take_line};
-use crate::line::Line;
-use crate::output::write_out;
 use crate::reply::{reply_to, write_reply};
+use line_io::{BLOCK, Block, Ending, Line, take_line, write_out};
 use std::alloc::Global;
 use std::io::{self, ErrorKind, Read, Write};
 

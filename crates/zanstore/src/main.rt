@@ -1,18 +1,16 @@
 //! The program: a store over disks in memory, which runs scripts.
 //!
-//! Keeps: each line is answered before the next is read.
-//! Never: looks at what a line says; `scripts` carries it out.
-//! Callers rely on: the status, 0 at the end of the script.
+//! Keeps: status 0 means that all was read, and that what its lines print was written.
+//! Never: looks at what a line says; `scripts` carries it out, and `script_runs` reads it.
+//! Callers rely on: the status, 0 at the end of the script, 1 where a read or a write failed, 2 for a command line that can't be read.
 //!
 //! Start at `sim.rt`.
 #![tactic(auto)]
 
-mod input;
 mod settings;
 mod sim;
 
 use settings::Settings;
-use std::io::{BufReader, BufWriter};
 use std::process::ExitCode;
 use std::{env, io};
 
@@ -35,12 +33,8 @@ fn main(rt: HostRuntime) -> ExitCode {
             return ExitCode::from(error.exit_code() as u8);
         }
     };
-    let (Ok(mut reader), Ok(mut writer)) = (
-        BufReader::new(alloc, rt.reader()),
-        BufWriter::new(alloc, io::writer(&rt)),
-    ) else {
-        return ExitCode::from(1);
-    };
+    let mut reader = rt.reader();
+    let mut writer = io::writer(&rt);
     ExitCode::from(sim::sim(
         alloc,
         settings.store,

@@ -1,19 +1,14 @@
 // Scripts from a reader, over disks in memory.
-ghost use Rattle.std.specs.Prelude.{◌≡◌, ◌≤◌, ◌+◌, ◌*◌, IfOk, vec_len};
+ghost use Rattle.std.specs.Prelude.{◌≡◌, ◌≢◌, ◌≤◌, ◌+◌, ◌*◌, IfOk, vec_len};
 ghost use Rattle.records.specs.Identity.{max_shards};
+ghost use Rattle.script_runs.specs.Runs.{Broke, Ran};
 
-use crate::input::{Input, read_line};
 use cluster::reopen;
 use device::SimDisk;
-use printed::Printed;
+use script_runs::run;
 use scripts::{Script, Stepping, Store};
 use std::alloc::{AllocError, Global};
-use std::io;
-use std::io::{BufRead, Write};
-use tuples::Refusal;
-
-// What is printed where there is no memory for a text.
-const NO_MEMORY: &[u8] = b"refused 14 NoMemory\n";
+use std::io::{Read, Write};
 
 // Two empty disks for each node of a store of so many shards.
 fn disks(alloc: Global, shards: u8) -> Result<Vec<SimDisk>, AllocError>
@@ -38,9 +33,9 @@ fn open(alloc: Global, store: u64, shards: u8) -> Result<Stepping<SimDisk>, Allo
     }
 }
 
-/// Runs a script over a store of 1 to 64 shards on disks in memory: each line is answered before the next is read. The status is 0 at the
-/// end of the script, and 1 where the reader or the writer failed, or where there is no memory for the disks.
-pub fn sim<R: BufRead, W: Write>(
+/// Runs a script over a store of 1 to 64 shards on disks in memory. The status is 0 at the end of the script, and 1 where the reader or the writer failed,
+/// or where there is no memory for the disks.
+pub fn sim<R: Read, W: Write>(
     alloc: Global,
     store: u64,
     shards: u8,
@@ -54,35 +49,21 @@ pub fn sim<R: BufRead, W: Write>(
         return 1;
     };
     let mut script = Script::new(alloc, store, shards, stepping);
-    match run(alloc, &mut script, store, reader, writer) {
+    status_of(alloc, &mut script, reader, writer)
+}
+
+// Runs the script to its end.
+fn status_of<S: Store, R: Read, W: Write>(
+    alloc: Global,
+    script: &mut Script<S>,
+    reader: &mut R,
+    writer: &mut W,
+) -> u8
+    ensures ran { result ≡ 0 → Ran S.takes S.nexts S.shows S.sets (R.remaining reader.old) (R.remaining reader.new) (W.contents writer.old) (W.contents writer.new) script.old script.new }
+    ensures broke { result ≢ 0 → Broke S.takes S.nexts S.shows S.sets (R.remaining reader.old) (R.remaining reader.new) (W.contents writer.old) (W.contents writer.new) script.old script.new }
+{
+    match run(alloc, script, reader, writer) {
         Ok(()) => 0,
         Err(_) => 1,
     }
-}
-
-// Answers each line of the reader.
-fn run<S: Store, R: BufRead, W: Write>(
-    alloc: Global,
-    script: &mut Script<S>,
-    store: u64,
-    reader: &mut R,
-    writer: &mut W,
-) -> io::Result<()> {
-    let mut line = Vec::new(alloc);
-    let mut text = Vec::new(alloc);
-    for _ in 0..u64::MAX {
-        text.clear();
-        let answered = match read_line(reader, &mut line)? {
-            Input::End => return Ok(()),
-            Input::Line => script.line(&line, &mut text),
-            Input::TooLong => Printed::Refused(Refusal::TooLarge).write_to(store, &mut text),
-            Input::NoMemory => Err(AllocError),
-        };
-        match answered {
-            Ok(()) => writer.write_all(&text)?,
-            Err(AllocError) => writer.write_all(NO_MEMORY)?,
-        }
-        writer.flush()?;
-    }
-    Ok(())
 }

@@ -1,8 +1,8 @@
 use Rattle.std.proofs.Common.{[], subst}
-use Rattle.sessions.specs.Blocks.{HasTaken, unread}
-use Rattle.sessions.specs.Outputs.{HasBegun}
-use Rattle.sessions.specs.declared.input.Ending.{Ending}
-use Rattle.sessions.specs.declared.input.Ending.TheVariants.{Feed, Input}
+use Rattle.line_io.specs.Blocks.{HasTaken, unread}
+use Rattle.line_io.specs.Outputs.{HasBegun}
+use Rattle.line_io.specs.declared.input.Ending.{Ending}
+use Rattle.line_io.specs.declared.input.Ending.TheVariants.{Feed, Input}
 use Rattle.sessions.proofs.Errors.{on_err}
 use Rattle.sessions.proofs.Going.{begun_none, broke, broke_at_end, broke_by_memory, broke_first, broke_here, served, serving_more, serving_sent, serving_start}
 use Rattle.sessions.proofs.serve.serve_stream.Goals as goal

@@ -1,4 +1,4 @@
-use Rattle.sessions.specs.Blocks.{unread}
+use Rattle.line_io.specs.Blocks.{unread}
 use Rattle.sessions.specs.Sessions.{Serving}
 use Rattle.sessions.proofs.serve.serve_stream.Given as goal
 

@@ -1,6 +1,0 @@
-use Rattle.sessions.specs.Blocks.{unread}
-use Rattle.sessions.proofs.Feeds.{feed_is_there}
-use Rattle.sessions.proofs.held.Block.has_line.Goals as goal
-
-pub returns-in-Some : goal.returns-in-Some
-returns-in-Some c = λ yes none. feed_is_there c.unread.result.now (unread c.args.self.now) c.in-Some.field-0 c.unread.ensures c.in-Some.ensures.0 c.in-Some.ensures.1 none
