@@ -1,0 +1,1 @@
+"""How the gate and the builds prove: `rt` in another order, over the work of their own run."""

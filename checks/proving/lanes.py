@@ -1,0 +1,134 @@
+"""Runs tasks side by side: one a processor, as many as memory holds, the longest chain first."""
+
+import collections
+import os
+import time
+from concurrent.futures import FIRST_COMPLETED, ThreadPoolExecutor, wait
+
+from .kit import rt
+
+# waits: the keys of the tasks that come before it; seconds: what it is likely to take; memory: in bytes; jobs: how many processors
+# it can use where no other task waits for them; call: gets what the tasks gave so far, and the number of its jobs.
+Task = collections.namedtuple("Task", "waits seconds memory jobs call")
+# What one job more of a check adds, as a part of the memory of the first.
+MORE = 0.6
+
+
+def chains(tasks):
+    """What each task and the longest chain of those that wait for it are likely to take."""
+    behind = {}
+
+    def chain(key):
+        if key not in behind:
+            behind[key] = tasks[key].seconds + max((chain(it) for it in above[key]), default=0)
+        return behind[key]
+
+    above = {key: [] for key in tasks}
+    for key, task in tasks.items():
+        for it in task.waits:
+            above[it].append(key)
+    for key in tasks:
+        chain(key)
+    return behind
+
+
+class Lanes:
+    def __init__(self, count=0):
+        self.count = count or rt.processors()
+        self.memory = 0.85 * rt.free()
+        self.running, self.given, self.took = {}, {}, {}
+
+    def room(self):
+        return self.memory - sum(memory for _, memory, _ in self.running.values())
+
+    def idle(self):
+        return self.count - sum(jobs for _, _, jobs in self.running.values())
+
+    def jobs_for(self, task, ready):
+        """Jobs for a task that begins now: the processors that the other ready ones leave, where memory holds them."""
+        by_memory = 1 + int((self.room() / task.memory - 1) / MORE) if task.memory else 1
+        return max(1, min(task.jobs, self.idle() // max(ready, 1), by_memory))
+
+    def timed(self, key, call, jobs):
+        start = time.monotonic()
+        try:
+            return call(self.given, jobs)
+        finally:
+            self.took[key] = time.monotonic() - start
+
+    def begin(self, pool, left, tasks):
+        """Begins what is ready, as far as processors and memory go."""
+        ready = [key for key in left if all(it in self.given for it in tasks[key].waits)]
+        for at, key in enumerate(ready):
+            task = tasks[key]
+            if self.idle() > 0 and (not self.running or task.memory <= self.room()):
+                left.remove(key)
+                jobs = self.jobs_for(task, len(ready) - at)
+                run = pool.submit(self.timed, key, task.call, jobs)
+                self.running[run] = key, task.memory * (1 + MORE * (jobs - 1)), jobs
+
+    def run(self, tasks, ended=lambda key: None):
+        """Runs all, and returns what each gave. A task that raises ends the run."""
+        behind = chains(tasks)
+        left = sorted(tasks, key=lambda key: -behind[key])
+        with ThreadPoolExecutor(self.count) as pool:
+            while left or self.running:
+                self.begin(pool, left, tasks)
+                for run in wait(self.running, return_when=FIRST_COMPLETED).done:
+                    key = self.running.pop(run)[0]
+                    self.given[key] = run.result()
+                    ended(key)
+        return self.given
+
+
+class Meter:
+    """Has each command of `rt` write what it took to a file: name, kind, seconds of the clock, user, system, and memory in kB."""
+
+    CODE = """
+import os, signal, sys, time
+log, start, child = sys.argv[1], time.monotonic(), os.fork()
+if not child:
+    try:
+        os.execvp(sys.argv[2], sys.argv[2:])
+    finally:
+        os._exit(127)
+status, used = os.wait4(child, 0)[1:]
+words = sys.argv[2:]
+name = words[words.index("--crate-name") + 1] if "--crate-name" in words else os.path.basename(words[-1])
+kind = "tests" if "--test" in words else "edits" if "rt-edit-" in os.getcwd() else "proof"
+kind = "building" if "--crate-checked" in words or os.path.basename(words[0]) == "rattle-link" else kind if "--crate-name" in words else "other"
+row = [name, kind, *(f"{it:.1f}" for it in (time.monotonic() - start, used.ru_utime, used.ru_stime)), str(used.ru_maxrss)]
+try:
+    file = os.open(log, os.O_WRONLY | os.O_APPEND | os.O_CREAT, 0o644)
+    os.write(file, ("\\t".join(row) + "\\n").encode())
+except OSError:
+    pass
+if os.WIFSIGNALED(status):
+    signal.signal(os.WTERMSIG(status), signal.SIG_DFL) if os.WTERMSIG(status) != 9 else None
+    os.kill(os.getpid(), os.WTERMSIG(status))
+sys.exit(os.waitstatus_to_exitcode(status))
+"""
+
+    def __init__(self, file):
+        # (commands run in the crates' folders)
+        self.file = os.path.abspath(file)
+        os.makedirs(os.path.dirname(self.file), exist_ok=True)
+        if os.path.exists(self.file):
+            os.remove(self.file)
+
+    def install(self, rtlib):
+        plain = rtlib.guarded
+
+        def guarded():
+            words = plain()
+            return [*words, words[0], "-ISc", self.CODE, self.file]
+
+        rtlib.guarded = guarded
+
+    def rows(self):
+        """Each command's name and kind, with its seconds of clock and of processors."""
+        if not os.path.isfile(self.file):
+            return []
+        with open(self.file, encoding="utf-8") as file:
+            rows = [line.rstrip("\n").split("\t") for line in file]
+        return [(name, kind, float(wall), float(user) + float(system)) for name, kind, wall, user, system, _ in rows]

@@ -1,0 +1,96 @@
+"""What earlier runs took, by which the tasks with the longest chain begin first, and the table of docs/GATE.md."""
+
+import collections
+import os
+
+HERE = os.path.dirname(os.path.realpath(__file__))
+# The record that is kept with the sources, and what the last run here took.
+KEPT, LAST = f"{HERE}/seconds.tsv", "out/gate/seconds.tsv"
+KINDS = ("proof", "tests", "edits", "building")
+
+
+def rows_of(file):
+    if not os.path.isfile(file):
+        return []
+    with open(file, encoding="utf-8") as it:
+        return [line.rstrip("\n").split("\t") for line in it if line.strip()]
+
+
+class Seconds:
+    """Processor seconds of each crate's proof, tests and edits, by the record."""
+
+    def __init__(self):
+        self.known = {(name, kind): float(took) for name, kind, took in rows_of(KEPT)}
+
+    def of(self, name, kind, otherwise):
+        return self.known.get((name, kind), otherwise)
+
+    def write(self, took, commands):
+        """Writes what this run took, for `checks/gate --record` and `--table`."""
+        sums = collections.Counter()
+        for name, kind, _, processors in commands:
+            sums[name, kind] += processors
+        with open(LAST, "w", encoding="utf-8") as it:
+            for (name, kind), spent in sorted(sums.items()):
+                it.write(f"{name}\t{kind}\t{spent:.0f}\n")
+        print(self.summary(sums))
+
+    def summary(self, sums):
+        parts = [f"{kind} {sum(it for (_, k), it in sums.items() if k == kind) / 60:.0f}" for kind in (*KINDS, "other")]
+        return f"gate: processor minutes: {', '.join(parts)}"
+
+
+def lines_of(folder, ending):
+    """How many lines the files of the folder have."""
+    found = 0
+    for at, _, names in os.walk(folder):
+        for name in names:
+            if name.endswith(ending):
+                with open(f"{at}/{name}", "rb") as it:
+                    found += it.read().count(b"\n")
+    return found
+
+
+def marked(folder, mark):
+    """How often the mark stands in the sources of the folder."""
+    found = 0
+    for at, _, names in os.walk(folder):
+        for name in names:
+            with open(f"{at}/{name}", "rb") as it:
+                found += it.read().count(mark)
+    return found
+
+
+def row_of(name, sums):
+    """A crate's numbers: lines of code, definitions and proofs, tests, edits, and minutes by kind and together."""
+    folder = f"crates/{name}"
+    edits = f"{folder}/must-fail"
+    counts = [lines_of(f"{folder}/src", ".rt"), lines_of(f"{folder}/specs", ".antt"), lines_of(f"{folder}/proofs", ".antt")]
+    counts += [marked(f"{folder}/src", b"#[test]"), len(os.listdir(edits)) if os.path.isdir(edits) else 0]
+    minutes = [sums.get((name, kind), 0.0) / 60 for kind in KINDS]
+    return counts, [*minutes, sum(minutes)]
+
+
+def table():
+    """Prints what the last run here took, as a table of Markdown."""
+    sums = {(name, kind): float(took) for name, kind, took in rows_of(LAST)}
+    with open("crates.txt", encoding="utf-8") as it:
+        names = [line.split()[0].rstrip(":") for line in it if line.strip() and not line.startswith("#")]
+    print("| Crate | Code and contracts | Definitions | Proofs | Tests | Edits | Minutes of proofs | of tests | of edits | of compilers | together |")
+    print("|---" * 11 + "|")
+    totals = [0] * 10
+    for name in names:
+        counts, minutes = row_of(name, sums)
+        totals = [a + b for a, b in zip(totals, [*counts, *minutes])]
+        print(f"| {name} | {' | '.join(map(str, counts))} | {' | '.join(f'{it:.1f}' for it in minutes)} |")
+    print(f"| together | {' | '.join(map(str, totals[:5]))} | {' | '.join(f'{it:.1f}' for it in totals[5:])} |")
+    return 0
+
+
+def record():
+    """Keeps what the last run here took."""
+    if not os.path.isfile(LAST):
+        raise SystemExit("no run of the gate has left its seconds here")
+    with open(LAST, encoding="utf-8") as source, open(KEPT, "w", encoding="utf-8") as to:
+        to.write(source.read())
+    return 0
