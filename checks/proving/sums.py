@@ -6,16 +6,19 @@ what either of them built, the other takes as it is.
 
 import functools
 import hashlib
+import os
 
 from .kit import rt, rtlib
 
 
 def text_sum(crate):
-    """A sum of the crate's own sources, definitions and proofs."""
+    """A sum of all that stands in the crate's folder, its edits too, but for what was made there."""
     made = hashlib.sha256()
-    for file in rtlib.files_of(crate.folder):
-        with open(file, "rb") as data:
-            made.update(repr((file.replace(crate.folder, ""), data.read())).encode())
+    for at, folders, names in os.walk(crate.folder):
+        folders[:] = sorted(it for it in folders if it != "out")
+        for name in sorted(names):
+            with open(f"{at}/{name}", "rb") as data:
+                made.update(repr((f"{at}/{name}".replace(crate.folder, ""), data.read())).encode())
     return made.hexdigest()
 
 
