@@ -1,4 +1,0 @@
-pub mod CoordinatorSteps
-pub mod TellingSteps
-pub mod FlushSteps
-pub mod OpeningSteps
