@@ -1,0 +1,89 @@
+"""The scripts that are swept, each a name and its lines. One more needs no more than its lines here."""
+from judge.definitions import change_text
+from judge.lines import Reader, Refused, token
+
+STORE = 1
+SHARDS = 2
+NODES = ("c", "0", "1")
+BANKS = [node + side for node in NODES for side in "ab"]
+
+# Behind each `rows`, whose refusal could else be taken for that of the line behind it.
+NO_LINE = "?"
+
+
+def at(place):
+    return "=" + token(STORE, place)
+
+
+def restart_before(call):
+    return [
+        "start w write +doc:a#viewer@u1 +doc:b#viewer@u1",
+        f"until w {call}",
+        *("restart c", "resolve 0", "resolve 1"),
+        *("run w", "read latest doc:a doc:b", "write +doc:a#viewer@u1"),
+    ]
+
+
+# Two shards: doc:a is of shard 1, doc:b of shard 0.
+SCRIPTS = {
+    "restart-before-decide": restart_before("decide"),
+    "restart-before-vote": restart_before("vote"),
+    "lock-and-busy": [
+        *("write +doc:a#lock@lock if doc:a#lock@lock=0", "write +doc:a#lock@lock if doc:a#lock@lock=0"),
+        *("start v write +doc:a#lock@lock if doc:a#lock@lock=1", "until v decide"),
+        *("write +doc:a#lock@lock if doc:a#lock@lock=1", "run v"),
+    ],
+    "collected": [
+        *("write +doc:a#viewer@u1", "write -doc:a#viewer@u1", "write +doc:a#viewer@u1"),
+        *(f"read {at(1)} doc:a", f"read {at(2)} doc:a", f"read {at(3)} doc:a", "rows 1", NO_LINE),
+        *("raise 2", "collect 0", "collect 1"),
+        *(f"read {at(1)} doc:a", f"read {at(2)} doc:a", f"read {at(3)} doc:a", f"read >{at(1)} doc:a", "rows 1", NO_LINE),
+        "write +doc:a#lock@lock if doc:a#lock@lock=1",
+    ],
+    "undecided-and-cancelled": [
+        *("start w write +doc:a#viewer@u1", "until w decide", "restart 1", "resolve 1", "run w", "read latest doc:a#viewer"),
+        *("start x write -doc:a#viewer@u1", "until x decide", "cancel x", "read latest doc:a"),
+    ],
+    # Without a failure of its own.
+    "learned-record-lost": [
+        *("write +doc:a#viewer@u1", "learn 1", "raise 1", "restart 1"),
+        *(f"read {at(0)} doc:a", f"read {at(1)} doc:a"),
+    ],
+    # Two decisions are staged and become durable by one flush, and then both shards collect.
+    "two-decisions-in-one-flush": [
+        *("start v write +doc:a#viewer@u1 +doc:b#viewer@u1", "until v decide"),
+        *("start w write +doc:a#viewer@u2 +doc:b#viewer@u2 if !doc:b#viewer@u3", "until w decide"),
+        *("until v outcome", "until w outcome", "run v", "run w"),
+        *("learn 0", "flush 0", "write -doc:a#viewer@u1 +doc:b#viewer@u3", "raise 2", "collect 0", "collect 1", "restart 0"),
+        "write -doc:b#viewer@u3 if ?doc:b#viewer@u3",
+    ],
+}
+
+
+def requests(script):
+    """The requests to write that a script makes."""
+    found = []
+    for line in script:
+        try:
+            command = Reader(STORE, SHARDS).command(line, {})
+        except Refused:
+            continue
+        found += [part for part in command if isinstance(part, list) and part[0] == "write"]
+    return found
+
+
+def changed(script):
+    return [change.tuple for request in requests(script) for change in request[1]]
+
+
+def objects(script):
+    return sorted({f"{one.namespace}:{one.id}" for one in changed(script)})
+
+
+def namespaces(script):
+    return sorted({one.namespace for one in changed(script)})
+
+
+def texts(request):
+    """The changes of a request, in its order."""
+    return [change_text(change) for change in request[1]]
