@@ -1,24 +1,37 @@
-// Devices over files in memory and of the operating system.
+// Devices over files in memory and of the operating system, a life at a time.
 use device::{Device, SimDisk, Stopped};
 use files::{Broken, FileDevice, RawFile, open};
+use gated::GatedLog;
 use refusal::Refusal;
-use std::alloc::{AllocError, Global};
+use std::alloc::Global;
 use std::fs;
+use std::os::unix::fs::symlink;
 use std::test::Fail;
-
-const FOLDER: &str = "files_tests";
 
 const NAME: &str = "0.a";
 
-// A file in memory, whose calls fail while it is broken, on a disk with room for so many bytes; one with none can only be read.
+// A file in memory with this length, of which the call with this number fails, and no other; all that it reads are sevens.
 #[derive(Drop)]
-struct Kept {
-    bytes: Vec<u8>,
-    room: usize,
-    is_broken: bool,
+struct Struck {
+    len: usize,
+    calls: u64,
+    struck: u64,
 }
 
-impl RawFile for Kept {
+impl Struck {
+    fn call(&mut self) -> Result<(), Broken> {
+        self.calls = self.calls.saturating_add(1);
+        if self.calls == self.struck {
+            Err(Broken)
+        } else {
+            Ok(())
+        }
+    }
+}
+
+impl RawFile for Struck {
+    ghost refreshed = { λ old new. Unit {0} };
+
     ghost told = { λ old n new. Unit {0} };
 
     ghost has_read = { λ old at bytes new. Unit {0} };
@@ -27,48 +40,91 @@ impl RawFile for Kept {
 
     ghost synced = { λ old new. Unit {0} };
 
-    ghost reopened = { λ old new. Unit {0} };
+    fn refresh(&mut self) -> Result<(), Broken> {
+        self.call()
+    }
 
     fn len(&mut self) -> Result<usize, Broken> {
-        if self.is_broken {
-            return Err(Broken);
-        }
-        Ok(self.bytes.len())
+        self.call()?;
+        Ok(self.len)
     }
 
-    fn read_at(&mut self, at: usize, buf: &mut [u8]) -> Result<(), Broken> {
-        for (i, place) in buf.iter_mut().enumerate() {
-            match self.bytes.get(at.saturating_add(i)) {
-                Some(byte) => *place = *byte,
-                None => return Err(Broken),
-            }
-        }
-        Ok(())
+    fn read_at(&mut self, _at: usize, buf: &mut [u8]) -> Result<(), Broken> {
+        buf.fill(7);
+        self.call()
     }
 
-    fn write_at(&mut self, at: usize, bytes: &[u8]) -> Result<(), Broken> {
-        if at.saturating_add(bytes.len()) > self.room {
-            return Err(Broken);
-        }
-        for (i, byte) in bytes.iter().enumerate() {
-            let place = at.saturating_add(i);
-            if place < self.bytes.len() {
-                self.bytes[place] = *byte;
-            } else if self.bytes.push(*byte).is_err() {
-                return Err(Broken);
-            }
-        }
-        Ok(())
+    fn write_at(&mut self, _at: usize, _bytes: &[u8]) -> Result<(), Broken> {
+        self.call()
     }
 
     fn sync(&mut self) -> Result<(), Broken> {
-        Ok(())
+        self.call()
     }
+}
 
-    fn reopen(&mut self) -> Result<(), Broken> {
-        self.is_broken = false;
-        Ok(())
+// Whether these are its first bytes.
+fn begins_with<D: Device>(device: &mut D, bytes: &[u8; 8]) -> Result<bool, Stopped> {
+    let mut buf = [0; 8];
+    if device.len()? < 8 {
+        return Ok(false);
     }
+    device.read_at(0, &mut buf)?;
+    Ok(buf == *bytes)
+}
+
+// How many of these succeed: a read, a sync, a write and a sync behind it.
+fn done_by<D: Device>(device: &mut D) -> u64 {
+    if begins_with(device, &[7; 8]) != Ok(true) {
+        return 0;
+    }
+    if device.sync().is_err() {
+        return 1;
+    }
+    if device.write_at(0, b"abcdefgh").is_err() {
+        return 2;
+    }
+    if device.sync().is_err() { 3 } else { 4 }
+}
+
+// How much of a life over such a file succeeds, and whether it can be revived behind that, and reads as before.
+fn life_of(alloc: Global, struck: u64, len: usize) -> Result<(u64, bool), Refusal> {
+    let file = Struck {
+        len,
+        calls: 0,
+        struck,
+    };
+    let mut device = FileDevice::open(alloc, file)?;
+    let done = done_by(&mut device);
+    let is_revived = device.revive().is_ok() && begins_with(&mut device, &[7; 8]) == Ok(true);
+    Ok((done, is_revived))
+}
+
+#[test]
+fn a_file_that_fails_behind_a_write_ends_the_life(rt: HostRuntime) -> Result<(), Fail> {
+    // which call fails, the length of the file, and what becomes of the life
+    for (struck, len, wanted) in [
+        (1, 8, Err(Refusal::Down)),
+        (2, 8, Err(Refusal::Down)),
+        (3, 8, Err(Refusal::Down)),
+        (0, 1 << 62, Err(Refusal::NoMemory)),
+        (4, 8, Ok((1, true))),
+        (5, 8, Ok((2, false))),
+        (6, 8, Ok((3, false))),
+        (0, 8, Ok((4, false))),
+    ] {
+        assert!(rt;
+            life_of(rt.alloc(), struck, len) == wanted,
+            "{struck} {len}"
+        );
+    }
+    Ok(())
+}
+
+fn make_folder(rt: &HostRuntime, folder: &str) -> Result<(), Fail> {
+    let _ = fs::remove_dir_all(rt, folder);
+    fs::create_dir(rt, folder)?;
+    Ok(())
 }
 
 // The next of a fixed row of numbers.
@@ -76,19 +132,6 @@ fn next(seed: u64) -> u64 {
     let seed = seed ^ (seed << 13);
     let seed = seed ^ (seed >> 7);
     seed ^ (seed << 17)
-}
-
-// The same bytes to both, at a place inside.
-fn write_both<A: Device, B: Device>(
-    a: &mut A,
-    b: &mut B,
-    at: usize,
-    bytes: &[u8],
-) -> Result<(), Stopped> {
-    let len = a.len()?;
-    a.write_at(at.min(len), bytes)?;
-    let len = b.len()?;
-    b.write_at(at.min(len), bytes)
 }
 
 // Whether they read alike there, as far as they go.
@@ -108,212 +151,132 @@ fn read_both<A: Device, B: Device>(a: &mut A, b: &mut B, at: usize) -> Result<bo
     Ok(buf == other)
 }
 
+// Whether they read alike at every eighth place.
 fn are_alike<A: Device, B: Device>(a: &mut A, b: &mut B) -> Result<bool, Stopped> {
-    let mut seed = 88_172_645_463_325_252;
-    for _ in 0..1_000 {
-        seed = next(seed);
-        let at = (seed >> 8) as usize % 200;
-        match seed % 4 {
-            0 => {
-                a.sync()?;
-                b.sync()?;
-            }
-            1 => write_both(a, b, at, &seed.to_be_bytes())?,
-            _ => {
-                if !read_both(a, b, at)? {
-                    return Ok(false);
-                }
-            }
+    for i in 0..32 {
+        if !read_both(a, b, 8 * i)? {
+            return Ok(false);
         }
     }
     Ok(true)
 }
 
-// The device is taken, so that who asks has nothing to let go on a way out.
-fn reads_as_a_disk<D: Device>(alloc: Global, mut device: D) -> Result<bool, Fail> {
-    let mut disk = SimDisk::new(alloc, Vec::new(alloc))?;
-    match are_alike(&mut device, &mut disk) {
-        Ok(are_alike) => Ok(are_alike),
-        Err(Stopped) => Err("a device stopped".into()),
-    }
+// Writes at a place inside, durably.
+fn write_synced<D: Device>(device: &mut D, at: usize, bytes: &[u8]) -> Result<(), Stopped> {
+    let len = device.len()?;
+    device.write_at(at.min(len), bytes)?;
+    device.sync()
 }
 
-fn recorded(
-    alloc: Global,
-    bytes: Vec<u8>,
-    room: usize,
-    content: Vec<u8>,
-) -> Result<FileDevice<Kept>, AllocError> {
-    let kept = Kept {
-        bytes,
-        room,
-        is_broken: false,
-    };
-    FileDevice::recorded(alloc, kept, content)
+// A life of the file: whether it finds what the disk has. Then both have the same bytes written.
+fn lives_as<D: Device>(
+    rt: &HostRuntime,
+    folder: &str,
+    disk: &mut D,
+    seed: u64,
+) -> Result<bool, Fail> {
+    let mut device = open(rt, rt.alloc(), folder, NAME)?;
+    Ok(has_life(&mut device, disk, seed)?)
+}
+
+fn has_life<A: Device, B: Device>(a: &mut A, b: &mut B, seed: u64) -> Result<bool, Stopped> {
+    let at = (seed >> 8) as usize % 256;
+    if !are_alike(a, b)? {
+        return Ok(false);
+    }
+    write_synced(a, at, &seed.to_be_bytes())?;
+    write_synced(b, at, &seed.to_be_bytes())?;
+    Ok(true)
 }
 
 #[test]
-fn a_file_reads_as_a_disk_in_memory(rt: HostRuntime) -> Result<(), Fail> {
-    let alloc = rt.alloc();
-    let _ = fs::remove_dir_all(&rt, FOLDER);
-    fs::create_dir(&rt, FOLDER)?;
-    let device = open(&rt, alloc, FOLDER, NAME)?;
-    assert!(rt; reads_as_a_disk(alloc, device)?);
-    let device = recorded(alloc, Vec::new(alloc), 1_000, Vec::new(alloc))?;
-    assert!(rt; reads_as_a_disk(alloc, device)?);
+fn each_life_finds_what_the_one_before_it_wrote(rt: HostRuntime) -> Result<(), Fail> {
+    const FOLDER: &str = "files_lives";
+    make_folder(&rt, FOLDER)?;
+    let mut disk = SimDisk::new(rt.alloc(), Vec::new(rt.alloc()))?;
+    let mut seed = 88_172_645_463_325_252;
+    for _ in 0..50 {
+        seed = next(seed);
+        assert!(rt; lives_as(&rt, FOLDER, &mut disk, seed)?);
+    }
     fs::remove_dir_all(&rt, FOLDER)?;
     Ok(())
 }
 
-// Whether the first read of eight bytes stops the device.
-fn stops_at_its_first_read<F: RawFile>(device: &mut FileDevice<F>) -> Result<bool, Stopped> {
-    let mut buf = [0; 8];
-    if device.len()? != 8 {
-        return Ok(false);
+// How many bodies a log finds on a device. Then one more is appended.
+fn found_by<D: Device>(alloc: Global, device: D) -> Result<usize, Refusal> {
+    match GatedLog::open(alloc, device) {
+        Ok((mut log, bodies)) => {
+            log.append(&mut [7; 45])?;
+            Ok(bodies.len())
+        }
+        Err((refusal, _device)) => Err(refusal),
     }
-    let is_told = device.read_at(0, &mut buf) == Err(Stopped);
-    Ok(is_told && device.failures() == 1 && device.len() == Err(Stopped))
 }
 
 #[test]
-fn a_record_tells_a_file_that_lies(rt: HostRuntime) -> Result<(), Fail> {
-    let alloc = rt.alloc();
-    let bytes = Vec::from_slice(alloc, b"abcdefgX")?;
-    let content = Vec::from_slice(alloc, b"abcdefgh")?;
-    let mut device = recorded(alloc, bytes, 8, content)?;
-    assert!(rt; stops_at_its_first_read(&mut device)?);
+fn a_log_is_found_by_the_next_life_of_its_file(rt: HostRuntime) -> Result<(), Fail> {
+    const FOLDER: &str = "files_log";
+    make_folder(&rt, FOLDER)?;
+    for bodies in 0..4 {
+        let device = open(&rt, rt.alloc(), FOLDER, NAME)?;
+        assert!(rt; found_by(rt.alloc(), device)? == bodies);
+    }
+    fs::remove_dir_all(&rt, FOLDER)?;
     Ok(())
 }
 
-// Whether eight bytes there stop the device, which then fails each call until it is revived.
-fn stops<D: Device>(device: &mut D, at: usize) -> Result<bool, Stopped> {
-    let len = device.len()?;
-    if device.write_at(at.min(len), b"ABCDEFGH").is_ok() {
-        return Ok(false);
-    }
-    let is_stopped = device.len().is_err() && device.sync().is_err() && device.failures() == 3;
-    device.revive()?;
-    Ok(is_stopped)
+// Whether its file is refused to another life while this one goes on.
+fn keeps_others_out<D: Device>(
+    rt: &HostRuntime,
+    folder: &str,
+    device: &mut D,
+) -> Result<bool, Stopped> {
+    write_synced(device, 0, b"abcdefgh")?;
+    let is_refused = matches!(open(rt, rt.alloc(), folder, NAME), Err(Refusal::Down));
+    device.write_at(0, b"ABCD")?;
+    device.sync()?;
+    Ok(is_refused)
 }
 
-// Whether these are its first bytes.
-fn begins_with<D: Device>(device: &mut D, bytes: &[u8; 8]) -> Result<bool, Stopped> {
-    let mut buf = [0; 8];
-    if device.len()? < 8 {
-        return Ok(false);
-    }
-    device.read_at(0, &mut buf)?;
-    Ok(buf == *bytes)
+fn is_kept(rt: &HostRuntime, folder: &str) -> Result<bool, Fail> {
+    let mut device = open(rt, rt.alloc(), folder, NAME)?;
+    Ok(keeps_others_out(rt, folder, &mut device)?)
 }
 
-// Whether a device over a file of eight bytes, on a disk with this room, is stopped by eight bytes more there, and has these first bytes once it
-// is revived.
-fn stops_and_begins_with(
-    alloc: Global,
-    room: usize,
-    at: usize,
-    content: &[u8; 8],
-) -> Result<(bool, bool), Fail> {
-    let kept = Kept {
-        bytes: Vec::from_slice(alloc, b"abcdefgh")?,
-        room,
-        is_broken: false,
-    };
-    let mut device = FileDevice::new(alloc, kept)?;
-    match stops(&mut device, at) {
-        Ok(stopped) => Ok((stopped, begins_with(&mut device, content)?)),
-        Err(Stopped) => Err("the device stays down".into()),
-    }
+fn is_found(rt: &HostRuntime, folder: &str) -> Result<bool, Fail> {
+    let mut device = open(rt, rt.alloc(), folder, NAME)?;
+    Ok(begins_with(&mut device, b"ABCDefgh")?)
 }
 
 #[test]
-fn a_full_disk_stops_its_device_until_it_is_revived(rt: HostRuntime) -> Result<(), Fail> {
-    // how much room the disk has, where eight bytes are written, and what is read afterwards
-    let rows = [
-        (0, 0, true, b"abcdefgh"),
-        (8, 8, true, b"abcdefgh"),
-        (15, 8, true, b"abcdefgh"),
-        (16, 8, false, b"abcdefgh"),
-        (8, 0, false, b"ABCDEFGH"),
-    ];
-    for (room, at, stopped, content) in rows {
-        let (is_stopped, is_left) = stops_and_begins_with(rt.alloc(), room, at, content)?;
-        assert!(rt; is_stopped == stopped && is_left, "{room} {at}");
-    }
-    Ok(())
-}
-
-#[test]
-fn a_file_longer_than_a_device_is_down(rt: HostRuntime) -> Result<(), Fail> {
-    const LONG: &str = "files_long";
-    let alloc = rt.alloc();
-    let _ = fs::remove_dir_all(&rt, LONG);
-    fs::create_dir(&rt, LONG)?;
-    for (len, opens) in [(1 << 40, true), ((1 << 40) + 1, false)] {
-        let file = fs::File::create(&rt, "files_long/0.a")?;
-        file.set_len(len)?;
-        let opened = open(&rt, alloc, LONG, NAME);
-        assert!(rt; opened.is_ok() == opens, "{len}");
-    }
-    fs::remove_dir_all(&rt, LONG)?;
+fn a_file_has_one_life_at_a_time(rt: HostRuntime) -> Result<(), Fail> {
+    const FOLDER: &str = "files_locked";
+    make_folder(&rt, FOLDER)?;
+    assert!(rt; is_kept(&rt, FOLDER)?);
+    assert!(rt; is_found(&rt, FOLDER)?);
+    fs::remove_dir_all(&rt, FOLDER)?;
     Ok(())
 }
 
 #[test]
 fn what_is_no_file_is_down(rt: HostRuntime) -> Result<(), Fail> {
-    let alloc = rt.alloc();
-    for (folder, name) in [("/dev", "full"), ("/", "dev"), ("/no_such_folder", "0.a")] {
-        assert!(rt;
-            matches!(open(&rt, alloc, folder, name), Err(Refusal::Down)),
-            "{folder}/{name}"
-        );
+    const FOLDER: &str = "files_refused";
+    make_folder(&rt, FOLDER)?;
+    fs::File::create(&rt, "files_refused/long")?.set_len((1 << 40) + 1)?;
+    fs::File::create(&rt, "files_refused/file")?;
+    symlink(&rt, "file", "files_refused/link")?;
+    for (folder, name, opens) in [
+        (FOLDER, "file", true),
+        (FOLDER, "long", false),
+        (FOLDER, "link", false),
+        ("/dev", "full", false),
+        ("/", "dev", false),
+        ("/no_such_folder", "0.a", false),
+    ] {
+        let opened = open(&rt, rt.alloc(), folder, name);
+        assert!(rt; opened.is_ok() == opens, "{folder}/{name}");
     }
-    Ok(())
-}
-
-fn write_synced<D: Device>(device: &mut D) -> Result<(), Stopped> {
-    if device.len()? == 0 {
-        device.write_at(0, b"abcdefgh")?;
-    }
-    device.sync()
-}
-
-// Whether the device has noticed that its file is shorter, and fails each call.
-fn has_noticed<F: RawFile>(device: &mut FileDevice<F>) -> bool {
-    let mut buf = [0; 8];
-    !device.is_recorded()
-        && device.read_at(0, &mut buf) == Err(Stopped)
-        && device.len() == Err(Stopped)
-        && device.sync() == Err(Stopped)
-        && device.failures() == 3
-}
-
-// Whether it reads what its file has, once it is revived.
-fn reads_what_is_left<F: RawFile>(device: &mut FileDevice<F>) -> Result<bool, Stopped> {
-    device.revive()?;
-    if device.len()? != 3 || device.is_recorded() {
-        return Ok(false);
-    }
-    let mut buf = [0; 3];
-    device.read_at(0, &mut buf)?;
-    Ok(buf == *b"xyz")
-}
-
-const CUT: &str = "files_cut";
-
-fn cut_and_revive<F: RawFile>(rt: &HostRuntime, device: &mut FileDevice<F>) -> Result<bool, Fail> {
-    write_synced(device)?;
-    fs::write(rt, "files_cut/0.a", b"xyz".as_slice())?;
-    Ok(has_noticed(device) && reads_what_is_left(device)?)
-}
-
-#[test]
-fn a_file_cut_short_stops_its_device_until_it_is_revived(rt: HostRuntime) -> Result<(), Fail> {
-    let alloc = rt.alloc();
-    let _ = fs::remove_dir_all(&rt, CUT);
-    fs::create_dir(&rt, CUT)?;
-    let mut device = open(&rt, alloc, CUT, NAME)?;
-    assert!(rt; cut_and_revive(&rt, &mut device)?);
-    fs::remove_dir_all(&rt, CUT)?;
+    fs::remove_dir_all(&rt, FOLDER)?;
     Ok(())
 }

@@ -1,73 +1,74 @@
-// A device over a file of which no contract tells anything.
-ghost use Rattle.std.specs.Prelude.{◌≡◌, ◌≤◌, ◌+◌, ◌<◌, ◌⊎◌, ◌↔◌, ◌^◌, ◌-◌, true, false, List, IfOk, IsErr, IsTrue, OnOk, OnErr, length, take, drop};
-ghost use Rattle.std.proofs.Common.{subst, sym, arith};
-ghost use Rattle.std.proofs.lemmas.List.{take_all};
+// A device over a file, of which no contract tells anything: each life reads only what it found when it was opened.
+ghost use Rattle.std.specs.Prelude.{◌≡◌, ◌≤◌, ◌+◌, ◌<◌, ◌⊎◌, ◌^◌, ◌-◌, [], ◌∷◌, true, false, List, ℕ, IfOk, IfErr, IfSome, None, IsErr, IsOk, OnOk, OnErr, length, take, drop};
+ghost use Rattle.std.proofs.Common.{subst, arith};
+ghost use Rattle.std.proofs.Props.{props};
 ghost use Rattle.device.specs.Device.{Elapses, Failed, Keeps, Revived, Synced, Tore, Wrote, left};
-ghost use Rattle.device.specs.Disk.{IsFresh, left_since_of, moment_of, state_of};
-ghost use Rattle.device.specs.Sim.{CouldLeave};
-ghost use Rattle.device.specs.declared.call.Call.{Call};
-ghost use Rattle.files.specs.Files.{file_state};
+ghost use Rattle.device.specs.Disk.{IsFresh};
+ghost use Rattle.files.specs.Life.{opened, written, image, life_state, NoneLonger, LeftSince, CouldLeave};
 
 use crate::RawFile;
-use device::{Device, SimDisk, Stopped, Tear};
-use std::alloc::{AllocError, Global};
+use crate::history::History;
+use device::{Device, Stopped, Tear};
+use refusal::Refusal;
+use std::alloc::Global;
 
-/// A device over a file. Whether it is recorded is fixed when it is made, so it is honest or not, and no call changes that.
+/// A life of a device over a file. It reads what it found when it was opened, from memory; with the first write that is let go, and nothing
+/// reads any more.
+///
+/// | Call | Before the first write | Behind it |
+/// |---|---|---|
+/// | `len`, `read_at` | from memory, no call of the file | counts as a failure |
+/// | `write_at`, `sync` | one call of the file | the same |
+/// | `revive` | goes on with what was found, if the file syncs | counts as a failure |
+///
+/// So a device that has failed behind a write is down for good. Let it go and open the file again: what that finds is what the next life has.
 #[derive(Drop)]
 pub struct FileDevice<F: RawFile> {
-    alloc: Global,
     file: F,
-    is_recorded: bool,
+    // what was found, until something is written
+    found: Option<Vec<u8>>,
     is_stopped: bool,
     failures: u64,
-    // what the file should hold, where it is recorded; else nothing
-    disk: SimDisk,
+    // what was done, for clauses alone
+    history: History,
+    ghost unread: { IfSome found (λ v. history.events ≡ opened v.items ∷ []) } by { Prim.hlevel props },
+    ghost readable: { CouldLeave history.events (image history.events).seen },
+    ghost longest: { NoneLonger history.events },
 }
 
 impl<F: RawFile> FileDevice<F> {
-    /// A device over the file, of which no clause tells anything.
-    pub fn new(alloc: Global, file: F) -> Result<FileDevice<F>, AllocError>
-        ensures { IfOk result (λ d. (d.is_recorded ≡ false) × (d.file ≡ file) × (d.failures ≡ 0)) }
+    /// Refreshes the file and reads all of it: that is durable, and what this life has found. It has written nothing, and no call has failed.
+    /// `Down` where a call of the file fails, `NoMemory` for its bytes; nothing is written in either case.
+    pub fn open(alloc: Global, mut file: F) -> Result<FileDevice<F>, Refusal>
+        ensures fresh { IfOk result (λ d. IsFresh (image d.history.events).seen (life_state d.history.events d.is_stopped d.failures)) }
+        ensures found { IfOk result (λ d. (a : F) × (b : F) × F.refreshed file a × F.told a (length (image d.history.events).seen) b × F.has_read b 0 (image d.history.events).seen d.file) }
+        ensures err { IfErr result (λ e. (e ≡ Refusal.Down) ⊎ (e ≡ Refusal.NoMemory)) }
     {
-        let disk = SimDisk::new(alloc, Vec::new(alloc))?;
+        if file.refresh().is_err() {
+            return Err(Refusal::Down);
+        }
+        let Ok(len) = file.len() else {
+            return Err(Refusal::Down);
+        };
+        let mut content = vec![in alloc; 0; len]?;
+        if file.read_at(0, &mut content).is_err() {
+            return Err(Refusal::Down);
+        }
+        let history = History::of(&content);
         Ok(FileDevice {
-            alloc,
             file,
-            is_recorded: false,
+            found: Some(content),
             is_stopped: false,
             failures: 0,
-            disk,
+            history,
         })
-    }
-
-    /// A device over a file that should hold this content, durable. It is honest.
-    pub fn recorded(alloc: Global, file: F, content: Vec<u8>) -> Result<FileDevice<F>, AllocError>
-        ensures honest { IfOk result (λ d. d.is_recorded ≡ true) }
-        ensures content { IfOk result (λ d. IsFresh content.items (file_state d.disk d.is_stopped d.failures)) }
-    {
-        let disk = SimDisk::new(alloc, content)?;
-        Ok(FileDevice {
-            alloc,
-            file,
-            is_recorded: true,
-            is_stopped: false,
-            failures: 0,
-            disk,
-        })
-    }
-
-    /// Whether its file is held against a record.
-    pub fn is_recorded(&self) -> bool
-        ensures { result ≡ self.now.is_recorded }
-    {
-        self.is_recorded
     }
 
     // Counts a failure: from now on each call fails.
     fn stop(&mut self) -> Stopped
         ensures file { self.new.file ≡ self.old.file }
-        ensures recorded { self.new.is_recorded ≡ self.old.is_recorded }
-        ensures disk { self.new.disk ≡ self.old.disk }
+        ensures history { self.new.history ≡ self.old.history }
+        ensures found { self.new.found ≡ self.old.found }
         ensures stopped { self.new.is_stopped ≡ true }
         ensures cause { (self.old.failures < self.new.failures) ⊎ (self.new.failures ≡ 2 ^ 64 - 1) }
         ensures counts { self.old.failures ≤ self.new.failures }
@@ -76,141 +77,89 @@ impl<F: RawFile> FileDevice<F> {
         self.failures = self.failures.saturating_add(1);
         Stopped
     }
-
-    // Holds what was read against the record.
-    fn compare(&mut self, at: usize, found: &[u8]) -> Result<(), Stopped>
-        requires { (state_of self.old.disk).stopped ≡ false → at + length found.now ≤ length (state_of self.old.disk).seen }
-        ensures file { self.new.file ≡ self.old.file }
-        ensures recorded { self.new.is_recorded ≡ self.old.is_recorded }
-        ensures stopped { OnOk result (self.new.is_stopped ≡ self.old.is_stopped) }
-        ensures none { OnOk result (self.new.failures ≡ self.old.failures) }
-        ensures bytes { OnOk result (found.now ≡ take (length found.now) (drop at (state_of self.old.disk).seen)) }
-        ensures keeps { Keeps (state_of self.old.disk) (state_of self.new.disk) }
-        ensures time { Elapses (moment_of self.old.disk) (moment_of self.new.disk) (left_since_of self.old.disk) (left_since_of self.new.disk) (left (state_of self.new.disk)) }
-        ensures err { OnErr result ((self.new.is_stopped ≡ true) × ((self.old.failures < self.new.failures) ⊎ (self.new.failures ≡ 2 ^ 64 - 1))) }
-        ensures counts { self.old.failures ≤ self.new.failures }
-    {
-        let Ok(mut kept) = vec![in self.alloc; 0; found.len()] else {
-            return Err(self.stop());
-        };
-        if !agrees(&mut self.disk, at, &mut kept, found) {
-            return Err(self.stop());
-        }
-        Ok(())
-    }
-}
-
-// Whether the record reads so there; the buffer is as long.
-fn agrees(disk: &mut SimDisk, at: usize, buf: &mut [u8], found: &[u8]) -> bool
-    requires inside { (state_of disk.old).stopped ≡ false → at + length buf.old ≤ length (state_of disk.old).seen }
-    requires same { length buf.old ≡ length found.now }
-    ensures bytes { IsTrue result → found.now ≡ take (length found.now) (drop at (state_of disk.old).seen) }
-    ensures keeps { Keeps (state_of disk.old) (state_of disk.new) }
-    ensures time { Elapses (moment_of disk.old) (moment_of disk.new) (left_since_of disk.old) (left_since_of disk.new) (left (state_of disk.new)) }
-{
-    match disk.read_at(at, buf) {
-        Ok(()) => &*buf == found,
-        Err(_) => false,
-    }
 }
 
 impl<F: RawFile> Device for FileDevice<F> {
-    ghost state = { λ d. file_state d.disk d.is_stopped d.failures };
+    ghost state = { λ d. life_state d.history.events d.is_stopped d.failures };
 
-    ghost honest = { λ d. d.is_recorded ≡ true };
+    ghost honest = { λ d. Unit {0} };
 
-    ghost moment = { λ d. moment_of d.disk };
+    ghost moment = { λ d. length d.history.events };
 
-    ghost left_since = { λ d t c. left_since_of d.disk t c };
+    ghost left_since = { λ d t c. LeftSince d.history.events t c };
 
     // A file has no scripts.
     ghost set_to_fail = { λ d n tear. Unit {0} };
 
-    ghost reads_left = { λ d hon up. d.disk.readable };
+    ghost reads_left = { λ d hon up. d.readable };
 
-    ghost reads_longest = { λ d hon up. d.disk.longest };
+    ghost reads_longest = { λ d hon up. d.longest };
 
-    ghost counts_now = { λ d t c hon le now. (length d.disk.history.items, le, Prim.omega arith, subst (λ (calls : List Call). CouldLeave d.disk.first.items calls c) (sym (take_all (length d.disk.history.items) d.disk.history.items (Prim.omega arith))) now) };
+    ghost counts_now = { λ d t c hon le now. let early : t ≤ length d.history.events = le in (0, Prim.omega (arith, early), now) };
 
-    ghost only_now = { λ d c hon since. subst (λ (calls : List Call). CouldLeave d.disk.first.items calls c) (take_all since.0 d.disk.history.items since.1) since.3 };
+    ghost only_now = { λ d c hon since. let late : since.0 + length d.history.events ≤ length d.history.events = since.1 in let none : since.0 ≡ 0 = Prim.omega (arith, late) in subst (λ (k : ℕ). CouldLeave (drop k d.history.events) c) none since.2 };
 
     fn len(&mut self) -> Result<usize, Stopped>
-        ensures honest { (self.old.is_recorded ≡ true) ↔ (self.new.is_recorded ≡ true) }
-        ensures len { self.old.is_recorded ≡ true → IfOk result (λ n. (n ≡ length (file_state self.old.disk self.old.is_stopped self.old.failures).seen) × (self.new.is_stopped ≡ false)) }
-        ensures keeps { self.old.is_recorded ≡ true → Keeps (file_state self.old.disk self.old.is_stopped self.old.failures) (file_state self.new.disk self.new.is_stopped self.new.failures) }
+        ensures file { self.new.file ≡ self.old.file }
+        ensures finds { self.old.is_stopped ≡ false → IfSome self.old.found (λ v. IsOk result) }
+        ensures len { IfOk result (λ n. (n ≡ length (life_state self.old.history.events self.old.is_stopped self.old.failures).seen) × (self.new.is_stopped ≡ false)) }
+        ensures keeps { Keeps (life_state self.old.history.events self.old.is_stopped self.old.failures) (life_state self.new.history.events self.new.is_stopped self.new.failures) }
         ensures counts { self.old.failures ≤ self.new.failures }
         ensures none { OnOk result (self.new.failures ≡ self.old.failures) }
-        ensures err { OnErr result (Failed (file_state self.old.disk self.old.is_stopped self.old.failures) (file_state self.new.disk self.new.is_stopped self.new.failures)) }
-        ensures down { self.old.is_stopped ≡ true → IsErr result × (self.old.is_recorded ≡ true → Keeps (file_state self.old.disk self.old.is_stopped self.old.failures) (file_state self.new.disk self.new.is_stopped self.new.failures)) }
-        ensures time { self.old.is_recorded ≡ true → Elapses (moment_of self.old.disk) (moment_of self.new.disk) (left_since_of self.old.disk) (left_since_of self.new.disk) (left (file_state self.new.disk self.new.is_stopped self.new.failures)) }
-        ensures call { IfOk result (λ n. F.told self.old.file n self.new.file) }
+        ensures err { OnErr result (Failed (life_state self.old.history.events self.old.is_stopped self.old.failures) (life_state self.new.history.events self.new.is_stopped self.new.failures)) }
+        ensures down { self.old.is_stopped ≡ true → IsErr result × Keeps (life_state self.old.history.events self.old.is_stopped self.old.failures) (life_state self.new.history.events self.new.is_stopped self.new.failures) }
+        ensures time { Elapses (length self.old.history.events) (length self.new.history.events) (LeftSince self.old.history.events) (LeftSince self.new.history.events) (CouldLeave self.new.history.events) }
     {
         if self.is_stopped {
             return Err(self.stop());
         }
-        let Ok(found) = self.file.len() else {
+        let Some(found) = &self.found else {
             return Err(self.stop());
         };
-        if self.is_recorded {
-            match self.disk.len() {
-                Ok(len) => {
-                    if len != found {
-                        return Err(self.stop());
-                    }
-                }
-                Err(_) => return Err(self.stop()),
-            }
-        }
-        Ok(found)
+        Ok(found.len())
     }
 
     fn read_at(&mut self, at: usize, buf: &mut [u8]) -> Result<(), Stopped>
-        requires { self.old.is_recorded ≡ true → self.old.is_stopped ≡ false → at + length buf.old ≤ length (file_state self.old.disk self.old.is_stopped self.old.failures).seen }
-        ensures honest { (self.old.is_recorded ≡ true) ↔ (self.new.is_recorded ≡ true) }
-        ensures bytes { self.old.is_recorded ≡ true → OnOk result ((buf.new ≡ take (length buf.old) (drop at (file_state self.old.disk self.old.is_stopped self.old.failures).seen)) × (self.new.is_stopped ≡ false)) }
-        ensures keeps { self.old.is_recorded ≡ true → Keeps (file_state self.old.disk self.old.is_stopped self.old.failures) (file_state self.new.disk self.new.is_stopped self.new.failures) }
+        requires { self.old.is_stopped ≡ false → at + length buf.old ≤ length (life_state self.old.history.events self.old.is_stopped self.old.failures).seen }
+        ensures file { self.new.file ≡ self.old.file }
+        ensures finds { self.old.is_stopped ≡ false → IfSome self.old.found (λ v. IsOk result) }
+        ensures bytes { OnOk result ((buf.new ≡ take (length buf.old) (drop at (life_state self.old.history.events self.old.is_stopped self.old.failures).seen)) × (self.new.is_stopped ≡ false)) }
+        ensures keeps { Keeps (life_state self.old.history.events self.old.is_stopped self.old.failures) (life_state self.new.history.events self.new.is_stopped self.new.failures) }
         ensures counts { self.old.failures ≤ self.new.failures }
         ensures none { OnOk result (self.new.failures ≡ self.old.failures) }
-        ensures err { OnErr result (Failed (file_state self.old.disk self.old.is_stopped self.old.failures) (file_state self.new.disk self.new.is_stopped self.new.failures)) }
-        ensures down { self.old.is_stopped ≡ true → IsErr result × (self.old.is_recorded ≡ true → Keeps (file_state self.old.disk self.old.is_stopped self.old.failures) (file_state self.new.disk self.new.is_stopped self.new.failures)) }
-        ensures time { self.old.is_recorded ≡ true → Elapses (moment_of self.old.disk) (moment_of self.new.disk) (left_since_of self.old.disk) (left_since_of self.new.disk) (left (file_state self.new.disk self.new.is_stopped self.new.failures)) }
-        ensures call { OnOk result (F.has_read self.old.file at buf.new self.new.file) }
+        ensures err { OnErr result (Failed (life_state self.old.history.events self.old.is_stopped self.old.failures) (life_state self.new.history.events self.new.is_stopped self.new.failures)) }
+        ensures down { self.old.is_stopped ≡ true → IsErr result × Keeps (life_state self.old.history.events self.old.is_stopped self.old.failures) (life_state self.new.history.events self.new.is_stopped self.new.failures) }
+        ensures time { Elapses (length self.old.history.events) (length self.new.history.events) (LeftSince self.old.history.events) (LeftSince self.new.history.events) (CouldLeave self.new.history.events) }
     {
         if self.is_stopped {
             return Err(self.stop());
         }
-        match self.file.read_at(at, buf) {
-            Ok(()) => {}
-            Err(_) => return Err(self.stop()),
-        }
-        if self.is_recorded {
-            return self.compare(at, buf);
-        }
+        let Some(found) = &self.found else {
+            return Err(self.stop());
+        };
+        buf.copy_from_slice(&found[at..at + buf.len()]);
         Ok(())
     }
 
     fn write_at(&mut self, at: usize, bytes: &[u8]) -> Result<(), Stopped>
-        requires { self.old.is_recorded ≡ true → self.old.is_stopped ≡ false → at ≤ length (file_state self.old.disk self.old.is_stopped self.old.failures).seen }
-        ensures honest { (self.old.is_recorded ≡ true) ↔ (self.new.is_recorded ≡ true) }
-        ensures ok { self.old.is_recorded ≡ true → OnOk result (Wrote (file_state self.old.disk self.old.is_stopped self.old.failures) at bytes.now (file_state self.new.disk self.new.is_stopped self.new.failures)) }
-        ensures torn { self.old.is_recorded ≡ true → OnErr result (Tore (file_state self.old.disk self.old.is_stopped self.old.failures) at (length bytes.now) (file_state self.new.disk self.new.is_stopped self.new.failures)) }
+        requires { self.old.is_stopped ≡ false → at ≤ length (life_state self.old.history.events self.old.is_stopped self.old.failures).seen }
+        ensures ok { OnOk result (Wrote (life_state self.old.history.events self.old.is_stopped self.old.failures) at bytes.now (life_state self.new.history.events self.new.is_stopped self.new.failures)) }
+        ensures notes { self.old.is_stopped ≡ false → self.new.history.events ≡ written at bytes.now ∷ self.old.history.events }
+        ensures torn { OnErr result (Tore (life_state self.old.history.events self.old.is_stopped self.old.failures) at (length bytes.now) (life_state self.new.history.events self.new.is_stopped self.new.failures)) }
         ensures counts { self.old.failures ≤ self.new.failures }
         ensures none { OnOk result (self.new.failures ≡ self.old.failures) }
-        ensures err { OnErr result (Failed (file_state self.old.disk self.old.is_stopped self.old.failures) (file_state self.new.disk self.new.is_stopped self.new.failures)) }
-        ensures down { self.old.is_stopped ≡ true → IsErr result × (self.old.is_recorded ≡ true → Keeps (file_state self.old.disk self.old.is_stopped self.old.failures) (file_state self.new.disk self.new.is_stopped self.new.failures)) }
-        ensures time { self.old.is_recorded ≡ true → Elapses (moment_of self.old.disk) (moment_of self.new.disk) (left_since_of self.old.disk) (left_since_of self.new.disk) (left (file_state self.new.disk self.new.is_stopped self.new.failures)) }
+        ensures err { OnErr result (Failed (life_state self.old.history.events self.old.is_stopped self.old.failures) (life_state self.new.history.events self.new.is_stopped self.new.failures)) }
+        ensures down { self.old.is_stopped ≡ true → IsErr result × Keeps (life_state self.old.history.events self.old.is_stopped self.old.failures) (life_state self.new.history.events self.new.is_stopped self.new.failures) }
+        ensures time { Elapses (length self.old.history.events) (length self.new.history.events) (LeftSince self.old.history.events) (LeftSince self.new.history.events) (CouldLeave self.new.history.events) }
         ensures call { OnOk result (F.wrote self.old.file at bytes.now self.new.file) }
     {
         if self.is_stopped {
             return Err(self.stop());
         }
+        self.found = None;
         let is_done = self.file.write_at(at, bytes).is_ok();
-        if self.is_recorded {
-            match self.disk.write_at(at, bytes) {
-                Ok(()) => {}
-                Err(_) => return Err(self.stop()),
-            }
-        }
+        // A write that fails is noted too: its range may have any bytes.
+        self.history.note_write(at, bytes);
         if !is_done {
             return Err(self.stop());
         }
@@ -218,14 +167,13 @@ impl<F: RawFile> Device for FileDevice<F> {
     }
 
     fn sync(&mut self) -> Result<(), Stopped>
-        ensures honest { (self.old.is_recorded ≡ true) ↔ (self.new.is_recorded ≡ true) }
-        ensures ok { self.old.is_recorded ≡ true → OnOk result (Synced (file_state self.old.disk self.old.is_stopped self.old.failures) (file_state self.new.disk self.new.is_stopped self.new.failures)) }
-        ensures keeps { self.old.is_recorded ≡ true → OnErr result (Keeps (file_state self.old.disk self.old.is_stopped self.old.failures) (file_state self.new.disk self.new.is_stopped self.new.failures)) }
+        ensures ok { OnOk result (Synced (life_state self.old.history.events self.old.is_stopped self.old.failures) (life_state self.new.history.events self.new.is_stopped self.new.failures)) }
+        ensures keeps { OnErr result (Keeps (life_state self.old.history.events self.old.is_stopped self.old.failures) (life_state self.new.history.events self.new.is_stopped self.new.failures)) }
         ensures counts { self.old.failures ≤ self.new.failures }
         ensures none { OnOk result (self.new.failures ≡ self.old.failures) }
-        ensures err { OnErr result (Failed (file_state self.old.disk self.old.is_stopped self.old.failures) (file_state self.new.disk self.new.is_stopped self.new.failures)) }
-        ensures down { self.old.is_stopped ≡ true → IsErr result × (self.old.is_recorded ≡ true → Keeps (file_state self.old.disk self.old.is_stopped self.old.failures) (file_state self.new.disk self.new.is_stopped self.new.failures)) }
-        ensures time { self.old.is_recorded ≡ true → Elapses (moment_of self.old.disk) (moment_of self.new.disk) (left_since_of self.old.disk) (left_since_of self.new.disk) (left (file_state self.new.disk self.new.is_stopped self.new.failures)) }
+        ensures err { OnErr result (Failed (life_state self.old.history.events self.old.is_stopped self.old.failures) (life_state self.new.history.events self.new.is_stopped self.new.failures)) }
+        ensures down { self.old.is_stopped ≡ true → IsErr result × Keeps (life_state self.old.history.events self.old.is_stopped self.old.failures) (life_state self.new.history.events self.new.is_stopped self.new.failures) }
+        ensures time { Elapses (length self.old.history.events) (length self.new.history.events) (LeftSince self.old.history.events) (LeftSince self.new.history.events) (CouldLeave self.new.history.events) }
         ensures call { OnOk result (F.synced self.old.file self.new.file) }
     {
         if self.is_stopped {
@@ -235,37 +183,30 @@ impl<F: RawFile> Device for FileDevice<F> {
         if !is_synced {
             return Err(self.stop());
         }
-        if self.is_recorded {
-            match self.disk.sync() {
-                Ok(()) => {}
-                Err(_) => return Err(self.stop()),
-            }
+        // What was found is durable already.
+        if self.found.is_none() {
+            self.history.note_sync();
         }
         Ok(())
     }
 
     fn revive(&mut self) -> Result<(), Stopped>
-        ensures honest { (self.old.is_recorded ≡ true) ↔ (self.new.is_recorded ≡ true) }
-        ensures ok { self.old.is_recorded ≡ true → OnOk result (Revived (file_state self.old.disk self.old.is_stopped self.old.failures) (file_state self.new.disk self.new.is_stopped self.new.failures)) }
-        ensures keeps { self.old.is_recorded ≡ true → OnErr result (Keeps (file_state self.old.disk self.old.is_stopped self.old.failures) (file_state self.new.disk self.new.is_stopped self.new.failures)) }
+        ensures ends { self.old.found ≡ None → IsErr result }
+        ensures ok { OnOk result (Revived (life_state self.old.history.events self.old.is_stopped self.old.failures) (life_state self.new.history.events self.new.is_stopped self.new.failures)) }
+        ensures keeps { OnErr result (Keeps (life_state self.old.history.events self.old.is_stopped self.old.failures) (life_state self.new.history.events self.new.is_stopped self.new.failures)) }
         ensures counts { self.old.failures ≤ self.new.failures }
         ensures none { OnOk result (self.new.failures ≡ self.old.failures) }
-        ensures err { OnErr result (Failed (file_state self.old.disk self.old.is_stopped self.old.failures) (file_state self.new.disk self.new.is_stopped self.new.failures)) }
-        ensures time { self.old.is_recorded ≡ true → Elapses (moment_of self.old.disk) (moment_of self.new.disk) (left_since_of self.old.disk) (left_since_of self.new.disk) (left (file_state self.new.disk self.new.is_stopped self.new.failures)) }
-        ensures calls { OnOk result ((between : F) × F.reopened self.old.file between × F.synced between self.new.file) }
+        ensures err { OnErr result (Failed (life_state self.old.history.events self.old.is_stopped self.old.failures) (life_state self.new.history.events self.new.is_stopped self.new.failures)) }
+        ensures time { Elapses (length self.old.history.events) (length self.new.history.events) (LeftSince self.old.history.events) (LeftSince self.new.history.events) (CouldLeave self.new.history.events) }
+        ensures call { OnOk result (F.synced self.old.file self.new.file) }
     {
-        // A record says which contents may be found, and not which one is: it is of no use any more.
-        if self.is_recorded {
+        let has_written = self.found.is_none();
+        // What was written may be there or not: only the next life reads it.
+        if has_written {
             return Err(self.stop());
         }
-        match self.file.reopen() {
-            Ok(()) => {}
-            Err(_) => return Err(self.stop()),
-        }
-        // What reads now has to stay: a failed sync may have left it other than the disk has it.
-        match self.file.sync() {
-            Ok(()) => {}
-            Err(_) => return Err(self.stop()),
+        if self.file.sync().is_err() {
+            return Err(self.stop());
         }
         self.is_stopped = false;
         Ok(())

@@ -1,22 +1,45 @@
-// Files of the operating system. Each method makes the one call that it stands for.
-ghost use Rattle.std.specs.Prelude.{◌≡◌, ◌⊎◌, IfErr};
+// Files of the operating system. Each method makes the calls that it stands for.
+ghost use Rattle.std.specs.Prelude.{◌≡◌, ◌⊎◌, IfErr, IfOk};
+ghost use Rattle.device.specs.Disk.{IsFresh};
+ghost use Rattle.files.specs.Life.{image, life_state};
 
 use crate::{Broken, FileDevice, RawFile};
 use refusal::Refusal;
 use std::alloc::Global;
 use std::fs::{self, OpenOptions};
 use std::io;
-use std::os::unix::fs::FileExt;
+use std::os::fd::AsRawFd;
+use std::os::unix::fs::{FileExt, MetadataExt};
 
 /// The most bytes of a device.
 const MAX_LEN: u64 = 1 << 40;
 
-/// A file that was opened at its path.
+/// A file that is open under one descriptor, and locked for as long.
 #[derive(Drop)]
-pub struct HostFile<'a> {
-    rt: &'a HostRuntime,
-    path: String,
+pub struct HostFile {
     file: fs::File,
+}
+
+impl HostFile {
+    /// The file of this name in the folder, which is made where it is missing. It is locked, so that no other process, and no other `HostFile`
+    /// of this one, has it open at the same time, and its name is durable.
+    ///
+    /// `Down` where another has it, where it can't be opened or made, is a link or no file, or is too long; `NoMemory` for the path. A file that
+    /// was there is not changed.
+    pub fn open(
+        rt: &HostRuntime,
+        alloc: Global,
+        folder: &str,
+        name: &str,
+    ) -> Result<HostFile, Refusal>
+        ensures { IfErr result (λ e. (e ≡ Refusal.Down) ⊎ (e ≡ Refusal.NoMemory)) }
+    {
+        let path = format!(in alloc; "{folder}/{name}")?;
+        let Ok(file) = open_durable(rt, folder, path.as_str()) else {
+            return Err(Refusal::Down);
+        };
+        Ok(HostFile { file })
+    }
 }
 
 impl From<io::Error> for Broken {
@@ -25,8 +48,10 @@ impl From<io::Error> for Broken {
     }
 }
 
-impl RawFile for HostFile<'_> {
+impl RawFile for HostFile {
     // What the system's files keep no clause tells.
+    ghost refreshed = { λ old new. Unit {0} };
+
     ghost told = { λ old n new. Unit {0} };
 
     ghost has_read = { λ old at bytes new. Unit {0} };
@@ -35,7 +60,14 @@ impl RawFile for HostFile<'_> {
 
     ghost synced = { λ old new. Unit {0} };
 
-    ghost reopened = { λ old new. Unit {0} };
+    fn refresh(&mut self) -> Result<(), Broken> {
+        self.file.sync_all()?;
+        // Only an advice, which answers an error's number.
+        if libc::posix_fadvise(self.file.as_raw_fd(), 0, 0, libc::POSIX_FADV_DONTNEED) != 0 {
+            return Err(Broken);
+        }
+        Ok(())
+    }
 
     fn len(&mut self) -> Result<usize, Broken> {
         Ok(len_of(&self.file)?)
@@ -52,21 +84,65 @@ impl RawFile for HostFile<'_> {
     fn sync(&mut self) -> Result<(), Broken> {
         Ok(self.file.sync_data()?)
     }
-
-    fn reopen(&mut self) -> Result<(), Broken> {
-        self.file = open_file(self.rt, self.path.as_str())?;
-        Ok(())
-    }
 }
 
-// A regular file that is not too long.
-fn open_file(rt: &HostRuntime, path: &str) -> io::Result<fs::File> {
-    let file = OpenOptions::new().read(true).write(true).open(rt, path)?;
-    if !file.metadata()?.is_file() {
-        return Err(io::ErrorKind::IsADirectory.into());
+/// A life of the device over the file of this name in the folder: opened or made and locked as `HostFile::open` says, refreshed, and read whole.
+/// What it reads is durable.
+///
+/// `Down` where another process or device has the file, where it can't be opened, made or read, is a link or no file, or is too long;
+/// `NoMemory` for the path and the bytes of the file. A file that was there is not changed.
+pub fn open(
+    rt: &HostRuntime,
+    alloc: Global,
+    folder: &str,
+    name: &str,
+) -> Result<FileDevice<HostFile>, Refusal>
+    ensures fresh { IfOk result (λ d. IsFresh (image d.history.events).seen (life_state d.history.events d.is_stopped d.failures)) }
+    ensures err { IfErr result (λ e. (e ≡ Refusal.Down) ⊎ (e ≡ Refusal.NoMemory)) }
+{
+    FileDevice::open(alloc, HostFile::open(rt, alloc, folder, name)?)
+}
+
+// The folder is synced at each opening: a stop may have come after a file was made and before its name was durable.
+fn open_durable(rt: &HostRuntime, folder: &str, path: &str) -> io::Result<fs::File> {
+    let file = open_locked(rt, path)?;
+    fs::open(rt, folder)?.sync_all()?;
+    Ok(file)
+}
+
+// A regular file that is no link and not too long, locked before anything is read of it.
+fn open_locked(rt: &HostRuntime, path: &str) -> io::Result<fs::File> {
+    let mut file = open_or_make(rt, path)?;
+    // What is meant for a standard stream that was closed must not land in the device.
+    if file.as_raw_fd() <= 2 {
+        file = file.try_clone()?;
+    }
+    file.try_lock()?;
+    // The name may have been given to another file since it was looked at.
+    let (found, named) = (file.metadata()?, fs::symlink_metadata(rt, path)?);
+    if found.dev() != named.dev() || found.ino() != named.ino() {
+        return Err(io::ErrorKind::Unsupported.into());
     }
     len_of(&file)?;
     Ok(file)
+}
+
+// An empty file where there was none. What stands at the name already is opened only if it is a file.
+fn open_or_make(rt: &HostRuntime, path: &str) -> io::Result<fs::File> {
+    match OpenOptions::new()
+        .read(true)
+        .write(true)
+        .create_new(true)
+        .open(rt, path)
+    {
+        Err(error) if error.kind() == io::ErrorKind::AlreadyExists => {
+            if !fs::symlink_metadata(rt, path)?.is_file() {
+                return Err(io::ErrorKind::Unsupported.into());
+            }
+            OpenOptions::new().read(true).write(true).open(rt, path)
+        }
+        made => made,
+    }
 }
 
 fn len_of(file: &fs::File) -> io::Result<usize> {
@@ -75,40 +151,4 @@ fn len_of(file: &fs::File) -> io::Result<usize> {
         return Err(io::ErrorKind::FileTooLarge.into());
     }
     Ok(len as usize)
-}
-
-/// The device over the file of this name in the folder. A missing file is made, and durable then: the file and its folder are
-/// synced. `Down` where the file can't be opened or made, is none, or is too long; `NoMemory` for the path and the device alone.
-pub fn open<'a>(
-    rt: &'a HostRuntime,
-    alloc: Global,
-    folder: &str,
-    name: &str,
-) -> Result<FileDevice<HostFile<'a>>, Refusal>
-    ensures { IfErr result (λ e. (e ≡ Refusal.Down) ⊎ (e ≡ Refusal.NoMemory)) }
-{
-    let path = format!(in alloc; "{folder}/{name}")?;
-    let Ok(file) = open_or_make(rt, folder, path.as_str()) else {
-        return Err(Refusal::Down);
-    };
-    Ok(FileDevice::new(alloc, HostFile { rt, path, file })?)
-}
-
-fn open_or_make(rt: &HostRuntime, folder: &str, path: &str) -> io::Result<fs::File> {
-    if !fs::exists(rt, path)? {
-        make(rt, folder, path)?;
-    }
-    open_file(rt, path)
-}
-
-// An empty file that a stop leaves there.
-fn make(rt: &HostRuntime, folder: &str, path: &str) -> io::Result<()> {
-    let file = OpenOptions::new()
-        .read(true)
-        .write(true)
-        .create_new(true)
-        .open(rt, path)?;
-    file.sync_all()?;
-    let folder = fs::open(rt, folder)?;
-    folder.sync_all()
 }

@@ -1,15 +1,18 @@
-//! Devices over files.
+//! Devices over files. A life of a device reads only what it found when it was opened.
 //!
-//! Keeps: a call of a device that succeeds has made its one call of the file, at that place and with those bytes, and a revival opened
-//! the file again and synced it; an error counts as a failure, and stops the device until it is revived.
-//! Never: claims of a file that it keeps what was written. Of a recorded device all clauses hold, whatever the file does: each answer
-//! of the file is held against a disk in memory, and a difference is a failure.
-//! Callers rely on: a device that is not recorded keeps nothing in memory, and differs from a recorded one in nothing else.
+//! Keeps: what a device reads is its content, whatever its file answers, since that is in memory; what it has written is known from
+//! its calls, since nothing is read behind the first of them. So the clauses of `Device` hold of every one. A call that
+//! succeeds has made its one call of the file, at that place and with those bytes.
+//! Never: reads behind its first write, or is revived behind it. The next life reads what was written: the file is let go, and opened again.
+//! Callers rely on: one life at a time has a file, since it is locked while it is open.
+//!
+//! What a file keeps between two lives no clause tells. To trust is that the next life finds one of the contents that a stop may leave.
 //!
 //! Start at `file_device.rt`, and then `host_file.rt`, the calls of the operating system.
 #![tactic(auto)]
 
 mod file_device;
+mod history;
 mod host_file;
 mod raw_file;
 
