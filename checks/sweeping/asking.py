@@ -11,8 +11,8 @@ from judge.worlds import Wrong
 from sweeping.scripts import SHARDS, STORE
 
 TOP = os.path.dirname(os.path.dirname(os.path.dirname(os.path.abspath(__file__))))
-# Far more seconds than a script takes.
-LIMIT = 60
+# Far more seconds than a script takes: a flow that goes on for ever is told.
+LIMIT = 20
 
 # A line, the command that it was read as (none where it is refused by its shape), and what it printed.
 Told = namedtuple("Told", "line command printed")

@@ -191,7 +191,7 @@ def text_of(look):
 def looked(name, fails):
     """The look, and why it is wrong."""
     look, broken = gather(name, fails)
-    found = [broken] if broken else faults(look)
+    found = [*faults(look, (all_are_open,)), broken] if broken else faults(look)
     if not found:
         return look, None
     failing = " and ".join(f"fail {bank} {n} {tear}" for bank, n, tear in fails)

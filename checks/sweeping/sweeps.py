@@ -15,6 +15,9 @@ MANY = 1000
 # An opening alone makes more.
 FEWEST = 4
 
+# Where so many runs have failed, no more are made of a script and a bank.
+MOST = 3
+
 # The runs of one script whose calls on one bank fail in turn: how many device calls came, and how many of them before the nodes are opened again.
 Swept = namedtuple("Swept", "name bank tear runs calls within faults")
 
@@ -51,8 +54,8 @@ def sweep(job):
         is_waiting = bank[:-1] in look.waiting()
         if is_waiting and within is None:
             within = n - 1
-        if within is not None and not is_waiting:
-            return Swept(name, bank, tear, n, n - 1, within, faults)
+        if within is not None and not is_waiting or len(faults) == MOST:
+            return Swept(name, bank, tear, n, n - 1, within or 0, faults)
     return Swept(name, bank, tear, MANY, 0, 0, [*faults, f"{name}: the calls on bank {bank} have no end"])
 
 
