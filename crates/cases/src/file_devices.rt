@@ -40,6 +40,8 @@ impl RawFile for Struck {
 
     ghost synced = { λ old new. Unit {0} };
 
+    ghost failed = { λ old new. Unit {0} };
+
     fn refresh(&mut self) -> Result<(), Broken> {
         self.call()
     }

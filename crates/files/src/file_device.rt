@@ -42,7 +42,7 @@ impl<F: RawFile> FileDevice<F> {
     pub fn open(alloc: Global, mut file: F) -> Result<FileDevice<F>, Refusal>
         ensures fresh { IfOk result (λ d. IsFresh (image d.history.events).seen (life_state d.history.events d.is_stopped d.failures)) }
         ensures found { IfOk result (λ d. (a : F) × (b : F) × F.refreshed file a × F.told a (length (image d.history.events).seen) b × F.has_read b 0 (image d.history.events).seen d.file) }
-        ensures err { IfErr result (λ e. (e ≡ Refusal.Down) ⊎ (e ≡ Refusal.NoMemory)) }
+        ensures err { IfErr result (λ e. ((e ≡ Refusal.Down) × (a : F) × (b : F) × F.failed a b) ⊎ (e ≡ Refusal.NoMemory)) }
     {
         if file.refresh().is_err() {
             return Err(Refusal::Down);
@@ -152,6 +152,7 @@ impl<F: RawFile> Device for FileDevice<F> {
         ensures down { self.old.is_stopped ≡ true → IsErr result × Keeps (life_state self.old.history.events self.old.is_stopped self.old.failures) (life_state self.new.history.events self.new.is_stopped self.new.failures) }
         ensures time { Elapses (length self.old.history.events) (length self.new.history.events) (LeftSince self.old.history.events) (LeftSince self.new.history.events) (CouldLeave self.new.history.events) }
         ensures call { OnOk result (F.wrote self.old.file at bytes.now self.new.file) }
+        ensures fails { self.old.is_stopped ≡ false → OnErr result (F.failed self.old.file self.new.file) }
     {
         if self.is_stopped {
             return Err(self.stop());
@@ -175,6 +176,7 @@ impl<F: RawFile> Device for FileDevice<F> {
         ensures down { self.old.is_stopped ≡ true → IsErr result × Keeps (life_state self.old.history.events self.old.is_stopped self.old.failures) (life_state self.new.history.events self.new.is_stopped self.new.failures) }
         ensures time { Elapses (length self.old.history.events) (length self.new.history.events) (LeftSince self.old.history.events) (LeftSince self.new.history.events) (CouldLeave self.new.history.events) }
         ensures call { OnOk result (F.synced self.old.file self.new.file) }
+        ensures fails { self.old.is_stopped ≡ false → OnErr result (F.failed self.old.file self.new.file) }
     {
         if self.is_stopped {
             return Err(self.stop());
@@ -199,6 +201,7 @@ impl<F: RawFile> Device for FileDevice<F> {
         ensures err { OnErr result (Failed (life_state self.old.history.events self.old.is_stopped self.old.failures) (life_state self.new.history.events self.new.is_stopped self.new.failures)) }
         ensures time { Elapses (length self.old.history.events) (length self.new.history.events) (LeftSince self.old.history.events) (LeftSince self.new.history.events) (CouldLeave self.new.history.events) }
         ensures call { OnOk result (F.synced self.old.file self.new.file) }
+        ensures fails { OnErr result ((self.old.found ≡ None) ⊎ F.failed self.old.file self.new.file) }
     {
         let has_written = self.found.is_none();
         // What was written may be there or not: only the next life reads it.

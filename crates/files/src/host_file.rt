@@ -60,6 +60,8 @@ impl RawFile for HostFile {
 
     ghost synced = { λ old new. Unit {0} };
 
+    ghost failed = { λ old new. Unit {0} };
+
     fn refresh(&mut self) -> Result<(), Broken> {
         self.file.sync_all()?;
         // Only an advice, which answers an error's number.
