@@ -125,6 +125,9 @@ def all_are_open(look):
         must(printed == ["up"], f"{line}: {printed}")
     for told in look.part("resolved"):
         must(told.printed[-1] == "done", f"{told.line}: {told.printed}")
+
+
+def nothing_is_damaged(look):
     for told in look.told:
         for text in told.printed:
             must(not text.startswith(("refused 14 ", "refused 16 ")), f"{told.line}: {text}")
@@ -169,7 +172,7 @@ def is_judged(look):
         raise Wrong(str(failed)) from failed
 
 
-OWN = (all_are_open, snapshots_meet, writes_are_whole, acknowledged_stay)
+OWN = (nothing_is_damaged, all_are_open, snapshots_meet, writes_are_whole, acknowledged_stay)
 
 
 def faults(look, asserts=(*OWN, is_judged)):
@@ -191,7 +194,7 @@ def text_of(look):
 def looked(name, fails):
     """The look, and why it is wrong."""
     look, broken = gather(name, fails)
-    found = [*faults(look, (all_are_open,)), broken] if broken else faults(look)
+    found = [*faults(look, (nothing_is_damaged, all_are_open)), broken] if broken else faults(look)
     if not found:
         return look, None
     failing = " and ".join(f"fail {bank} {n} {tear}" for bank, n, tear in fails)
