@@ -1,3 +1,6 @@
 mod Short
 mod Among
 mod Within
+pub mod Results
+pub mod RunLemmas
+pub mod Answering
