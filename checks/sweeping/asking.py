@@ -1,6 +1,7 @@
 """The program, given lines, with what each of them printed."""
 import contextlib
 import os
+import resource
 import signal
 import subprocess
 import sys
@@ -11,8 +12,10 @@ from judge.worlds import Wrong
 from sweeping.scripts import SHARDS, STORE
 
 TOP = os.path.dirname(os.path.dirname(os.path.dirname(os.path.abspath(__file__))))
-# Far more seconds than a script takes: a flow that goes on for ever is told.
-LIMIT = 20
+# Far more processor seconds than a script takes: a flow that goes on for ever is told.
+PROCESSOR_SECONDS = 5
+# Far more seconds than a script takes where much else runs: a program that waits for ever is told.
+LIMIT = 300
 
 # A line, the command that it was read as (none where it is refused by its shape), and what it printed.
 Told = namedtuple("Told", "line command printed")
@@ -38,7 +41,7 @@ class Live:
         while len(self.lines) <= at:
             line = self.stream.readline()
             if not line.endswith(b"\n"):
-                raise Wrong(f"the program has ended behind {self.lines[-1:]}")
+                raise Wrong(f"the program has ended, or it has used up its {PROCESSOR_SECONDS} seconds, behind {self.lines[-1:]}")
             self.lines.append(line[:-1].decode())
         return self.lines[at]
 
@@ -53,6 +56,7 @@ class Sim:
         signal.alarm(LIMIT)
         words = [program(), "sim", "--store", str(STORE), "--shards", str(SHARDS)]
         self.child = subprocess.Popen(words, stdin=subprocess.PIPE, stdout=subprocess.PIPE, stderr=subprocess.DEVNULL)
+        resource.prlimit(self.child.pid, resource.RLIMIT_CPU, (PROCESSOR_SECONDS, PROCESSOR_SECONDS))
         self.reading = Reading(STORE, SHARDS, Live(self.child.stdout))
         return self
 
