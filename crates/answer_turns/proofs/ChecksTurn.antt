@@ -38,10 +38,10 @@ use Rattle.answer_flow.specs.Checking.{AsksFor, CatchUpGives, CatchesUp, Continu
 use Rattle.answer_flow.specs.CheckViews.{CheckStep, CheckView, at_rest, catch_up, catch_up_call, checked, ended, flush, flush_call, heads, heads_call, read, read_call, refused, waiting}
 use Rattle.laws.specs.Machines.{Machine}
 use Rattle.laws.specs.Nodes.{NodeName, Nodes, coordinator, shard}
-use Rattle.turns.specs.Causes.{Calls, HasItsCause, IsCause, LetsLearn}
+use Rattle.turns.specs.Causes.{Calls, CallsShard, HasItsCause, IsCause, LetsLearn}
 use Rattle.turns.specs.CoordinatorSeamLaws.{AsksAbove, AsksBelow}
 use Rattle.turns.specs.FlushLaws.{all_kept}
-use Rattle.turns.specs.Flows.{Asked, checking, to_check}
+use Rattle.turns.specs.Flows.{Asked, checking, place_of, to_check}
 use Rattle.turns.specs.Held.{AreRightHeads, IfHeld, IsRightBatch, IsRightCheck}
 use Rattle.turns.specs.Moments.{Moment, Running}
 use Rattle.turns.specs.QuietTurns.{batch_of, behind_call, ending, with_call}
@@ -49,6 +49,7 @@ use Rattle.turns.specs.Replies.{checked as checked_answer}
 use Rattle.turns.specs.Stores.{StandsOver, Store, stops}
 use Rattle.turns.proofs.CheckWalk.{check_replies_select, checks_begin, checks_go_on, checks_say_no, checks_say_yes, full_checks_have_cause}
 use Rattle.turns.proofs.CoordinatorCalls.{heads_have_cause, places_are_found, right_heads}
+use Rattle.turns.proofs.QuietTurns.{calls_on}
 use Rattle.turns.proofs.ShardCheckSeam.{refused_checks_have_cause}
 use Rattle.turns.proofs.ShardSeam.{knows}
 use Rattle.turns.proofs.ShardStagesStands.{contained_from}
@@ -57,13 +58,13 @@ use Rattle.call_turns.specs.StoreTurns.{SlotTurns, TurnRuns}
 use Rattle.call_turns.proofs.Asked.{heads_told}
 use Rattle.call_turns.proofs.CaughtUp.{CatchUpComes, IsCatchingUp}
 use Rattle.call_turns.proofs.Flushed.{coordinator_flushed}
-use Rattle.call_turns.proofs.Made.{IsQuietlyMade}
+use Rattle.call_turns.proofs.Made.{IsQuietlyMade, still_of}
 use Rattle.call_turns.proofs.ReadTold.{read_for_check_told}
 use Rattle.call_turns.proofs.Standing.{some_coordinator}
 use Rattle.answer_turns.specs.AnswerTurns.{shown_answer}
 use Rattle.answer_turns.specs.CheckTurns.{ChecksTurn, check_in_slot, check_tells}
 use Rattle.answer_turns.proofs.TupleLists.{has_or_not}
-use Rattle.answer_turns.proofs.Leads.{ComesRight, IsFlow, Quietly, answers_to, fails_to, goes_to, held_now, lacks_memory, refuses_to}
+use Rattle.answer_turns.proofs.Leads.{ComesRight, IsFlow, Quietly, RefusedQuietly, answers_to, fails_to, goes_to, held_now, lacks_memory, refuses_to}
 use Rattle.answer_turns.proofs.Places.{asks_above, asks_below, finds_place}
 use Rattle.answer_turns.proofs.Ways.{came, moved}
 
@@ -93,16 +94,16 @@ module _ {D : Type 0} (state : D → State) (honest : D → Type 0) (moment : D 
   goes : (k : CheckHolds) (step : CheckStep) → Right k → Leads (at_rest step k)
   goes k step right = goes_to state honest moment left_since store shards old new slot asked refl (checking h) (checking k) right
 
-  refuses : (e : Refusal) → Here (λ now standing r next m. HasItsCause shards now (ending now next m r []) r e × (e ≢ Unsure)) → Leads (ended (refused e))
+  refuses : (e : Refusal) → RefusedQuietly state honest moment left_since store shards old new slot asked refl (checking h) e → Leads (ended (refused e))
   refuses e quietly = refuses_to state honest moment left_since store shards old new slot asked refl (checking h) e quietly
 
   lacks : Quiet → Leads (ended (refused NoMemory))
-  lacks quiet = lacks_memory state honest moment left_since store shards old new slot asked refl (checking h) quiet
+  lacks quiet = lacks_memory state honest moment left_since store shards old new slot asked refl (checking h) tt quiet
 
   held : (now : Moment) → StandsOver state honest store shards old now → (r : Running) → Is now r → IsRightCheck shards (stops state honest store shards old.devices) now r fresh x u h
   held now standing r flow = held_now state honest moment left_since store shards old new slot asked refl (checking h) now standing r flow
 
-  calls_coordinator : Calls shards asked coordinator
+  calls_coordinator : Calls shards asked (checking h) coordinator
   calls_coordinator t same = cc
 
   -- with other decisions on their way
@@ -116,7 +117,7 @@ module _ {D : Type 0} (state : D → State) (honest : D → Type 0) (moment : D 
 
   -- as many were walked as may be, and one waits still
   abbrev FullHasCause : CheckHolds → Type 0
-  FullHasCause k = most_walked ≤ length k.walked → (y : Userset) → Contains k.waiting y → (now : Moment) (standing : StandsOver state honest store shards old now) (r : Running) → Is now r → (ran : Moment) → IsCause shards now ran r Full
+  FullHasCause k = most_walked ≤ length k.walked → (y : Userset) → Contains k.waiting y → (now : Moment) (standing : StandsOver state honest store shards old now) (r : Running) → Is now r → (n : NodeName) (ran : Moment) → IsCause shards n now ran r Full
 
   -- it goes on to the first userset that waits, says no where none does, or is refused
   continues : (place : ℕ) (k : CheckHolds) (after : CheckView) → k.place ≡ Some place → Right k → FullHasCause k → Continues place k after → Leads after
@@ -135,7 +136,7 @@ module _ {D : Type 0} (state : D → State) (honest : D → Type 0) (moment : D 
           (λ (lt : length k.walked < most_walked). subst Leads (sym (gives.more some lt)) (goes k catch_up right))
           (λ (le : most_walked ≤ length k.walked). subst Leads (sym (gives.full some le)) (refuses Full (λ now standing r flow.
           let it = right now standing r flow in
-          (it.0, it.1, it.2, (inl (full le y (subst (λ (l : List Userset). Contains l y) (sym is) (contained_from (y ∷ rest) zero y refl)) now standing r flow (ending now it.0 it.1 r [])), not_unsure)))))
+          (it.0, it.1, it.2, (inl (full le y (subst (λ (l : List Userset). Contains l y) (sym is) (contained_from (y ∷ rest) zero y refl)) now standing r flow it.2.0.node (ending now it.0 it.1 r [])), not_unsure)))))
           (cases_lt (length k.walked) most_walked)
         where
           some : k.waiting ≢ []
@@ -173,21 +174,21 @@ module _ {D : Type 0} (state : D → State) (honest : D → Type 0) (moment : D 
           )
 
       none_walked : FullHasCause h
-      none_walked many y waits now standing r flow ran = absurd (let empty = (held now standing r flow).nothing nowhere in omega (arith, many, ap (λ (l : List Userset). length l) empty.0))
+      none_walked many y waits now standing r flow n ran = absurd (let empty = (held now standing r flow).nothing nowhere in omega (arith, many, ap (λ (l : List Userset). length l) empty.0))
 
       refuses_future : (e : Refusal) → e ≡ Future → finding.IsAbove fresh v → Leads (ended (refused e))
       refuses_future e is_e above = refuses e (λ now standing r flow.
           let it = heads_told state honest moment left_since counts_now only_now store shards old new now standing was is (Ok v) c so in
           let law = heads_have_cause store shards (stops state honest store shards old.devices) D now (ending now now.nodes now.machine r []) it.1.0 r standing.stands it.1.1 in
           let cause = law.0 (subst (λ (a : Asked). AsksAbove (heads_of it.1.0) a) (sym flow.asked_is) (subst (λ (y : HeadsValue). AsksAbove y asked) it.1.2 (asks_above fresh v above))) in
-          (now.nodes, now.machine, it.0, subst (λ (f : Refusal). HasItsCause shards now (ending now now.nodes now.machine r []) r f × (f ≢ Unsure)) (sym is_e) (inl cause, λ same. cc)))
+          (now.nodes, now.machine, it.0, subst (λ (f : Refusal). HasItsCause shards it.0.0.node now (ending now now.nodes now.machine r []) r f × (f ≢ Unsure)) (sym is_e) (inl cause, λ same. cc)))
 
       refuses_collected : (e : Refusal) → e ≡ Collected → finding.IsForgotten fresh v → Leads (ended (refused e))
       refuses_collected e is_e below = refuses e (λ now standing r flow.
           let it = heads_told state honest moment left_since counts_now only_now store shards old new now standing was is (Ok v) c so in
           let law = heads_have_cause store shards (stops state honest store shards old.devices) D now (ending now now.nodes now.machine r []) it.1.0 r standing.stands it.1.1 in
           let cause = law.1 (subst (λ (a : Asked). AsksBelow (heads_of it.1.0) a) (sym flow.asked_is) (subst (λ (y : HeadsValue). AsksBelow y asked) it.1.2 (asks_below fresh v below))) in
-          (now.nodes, now.machine, it.0, subst (λ (f : Refusal). HasItsCause shards now (ending now now.nodes now.machine r []) r f × (f ≢ Unsure)) (sym is_e) (inl cause, λ same. cc)))
+          (now.nodes, now.machine, it.0, subst (λ (f : Refusal). HasItsCause shards it.0.0.node now (ending now now.nodes now.machine r []) r f × (f ≢ Unsure)) (sym is_e) (inl cause, λ same. cc)))
 
   -- behind a flush it asks again
   by_flush : (was is : NodeView D) (r : Result (Unit {0}) Refusal) (after : CheckView) → IsCalled state honest moment left_since store shards coordinator was is old new
@@ -212,12 +213,18 @@ module _ {D : Type 0} (state : D → State) (honest : D → Type 0) (moment : D 
     has_batch : asks.way.batch ≡ h.batch
     has_batch = asks.batch ∙ ap (λ (k : CheckHolds). k.batch) own
 
+    on_shard : CallsShard shards asked (checking h) asks.way.shard
+    on_shard = (
+      λ none. let bad : Some asks.way.to ≡ None = sym at_place ∙ none in cc,
+      (asks.first, subst (λ (k : CheckHolds). slice_get k.waiting 0 ≡ Some asks.first) own asks.is_first, asks.shard),
+    )
+
     on : (now : Moment) (standing : StandsOver state honest store shards old now) (r : Running) → Is now r → IsCatchingUp state honest moment left_since counts_now only_now store shards old new now standing r asks.way
     on now standing r flow =
         let k = held now standing r flow in record {
           runs = flow.runs;
-          calls_coordinator = subst (λ (a : Asked). Calls shards a coordinator) (sym flow.asked_is) calls_coordinator;
-          calls_shard = λ there. subst (λ (a : Asked). Calls shards a (shard asks.way.shard)) (sym flow.asked_is) (there, tt);
+          calls_coordinator = calls_on shards r asked (checking h) coordinator flow.asked_is flow.holds_are calls_coordinator;
+          calls_shard = λ there. calls_on shards r asked (checking h) (shard asks.way.shard) flow.asked_is flow.holds_are (there, on_shard);
           lets = subst LetsLearn (sym flow.asked_is) tt;
           kept = (k.place asks.way.to at_place).kept;
           held = ap batch_of flow.holds_are ∙ sym has_batch;
@@ -282,9 +289,9 @@ module _ {D : Type 0} (state : D → State) (honest : D → Type 0) (moment : D 
           it.0,
           λ q k. checks_go_on store shards (stops state honest store shards new.devices) (behind_call now now.nodes now.machine) (with_call r q r.met now.machine) fresh x u h next place y rows k at walks it.1 lacks_it,
         ))
-        (λ many z has now standing r flow ran.
+        (λ many z has now standing r flow n ran.
         let it = selects now standing r flow in
-        full_checks_have_cause store shards (stops state honest store shards old.devices) now ran r fresh x u next place z flow.asked_is
+        full_checks_have_cause store shards (stops state honest store shards old.devices) n now ran r fresh x u next place z flow.asked_is (ap place_of flow.holds_are ∙ at)
         (checks_go_on store shards (stops state honest store shards old.devices) now r fresh x u h next place y rows (held now standing r flow) at walks it.1 lacks_it) at_next many has)
         gives
       where
@@ -315,11 +322,17 @@ module _ {D : Type 0} (state : D → State) (honest : D → Type 0) (moment : D 
         let it = read_for_check_told state honest moment left_since counts_now only_now store shards old new now standing s place y back_y u back_u was is (Ok Behind) c so in
         (now.nodes, now.machine, it.0, λ q k. k)))
     by_answer back_y back_u (Err e) after so gives = subst Leads (sym gives) (refuses e (λ now standing r flow. ⊎_elim
-        (λ fails. (fails.0, now.machine, fails.1, fails.2 r (ending now fails.0 now.machine r []) refl (subst (λ (a : Asked). Calls shards a (shard s)) (sym flow.asked_is) (c.before.there, tt))))
+        (λ fails. (
+          fails.0,
+          now.machine,
+          fails.1,
+          fails.2 r (ending now fails.0 now.machine r []) refl
+              (calls_on shards r asked (checking h) (shard s) flow.asked_is flow.holds_are (c.before.there, (λ none. let bad : Some place ≡ None = sym at ∙ none in cc, (y, first, refl)))),
+        ))
         (λ told_so. (
           now.nodes,
           now.machine,
-          told_so.0,
+          still_of state honest moment left_since store shards old new now standing (shard s) told_so.0,
           refused_checks_have_cause store shards (stops state honest store shards old.devices) D now (ending now now.nodes now.machine r []) told_so.1.0 s fresh x u place e r h standing.stands told_so.1.1
               (record { running = flow.runs; asked = flow.asked_is; holds = flow.holds_are; at_place = at }) told_so.1.3,
         ))

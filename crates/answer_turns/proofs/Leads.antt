@@ -6,7 +6,7 @@ use Rattle.refusal.specs.declared.refusal.Refusal.TheVariants.{NoMemory, Unsure}
 use Rattle.device.specs.Device.{State}
 use Rattle.laws.specs.Machines.{Machine}
 use Rattle.laws.specs.Nodes.{NodeName, Nodes}
-use Rattle.turns.specs.Causes.{Calls, HasItsCause}
+use Rattle.turns.specs.Causes.{Calls, HasItsCause, TakesMemory}
 use Rattle.turns.specs.Flows.{Asked, Holds}
 use Rattle.turns.specs.Held.{IsRight, IsRightVerdict}
 use Rattle.turns.specs.Moments.{Moment, Running, is_write}
@@ -75,8 +75,14 @@ module _ {D : Type 0} (state : D → State) (honest : D → Type 0) (moment : D 
       (it.3 (held_on state honest moment left_since store shards old new now standing number slot f None turns flow.0 flow.1 asked flow.2 refl no_write it.0 it.1 it.2 holds refl flow.0.holds))
       (none (IsRightVerdict shards (stops state honest store shards new.devices) (behind_call now it.0 it.1)))
 
+  -- at each such moment the call was quiet, and a refusal of it has its cause at the node that was called
+  abbrev pub RefusedQuietly : Refusal → Type 0
+  RefusedQuietly e = (now : Moment) (standing : StandsOver state honest store shards old now) (r : Running) → IsFlow now r
+      → (next : Nodes) × (m : Machine) × (quiet : IsQuietlyMade state honest moment left_since store shards old new now standing next m)
+      × (HasItsCause shards quiet.0.node now (ending now next m r []) r e × (e ≢ Unsure))
+
   -- or with a refusal that has its cause
-  pub refuses_to : (e : Refusal) → Quietly (λ now standing r next m. HasItsCause shards now (ending now next m r []) r e × (e ≢ Unsure)) → EndsBy (refuses e)
+  pub refuses_to : (e : Refusal) → RefusedQuietly e → EndsBy (refuses e)
   refuses_to e quietly turns number now standing =
       let f = shown_answer asked holds in
       let flow = the_flow state honest moment left_since store shards old new now standing number slot f None turns in
@@ -84,15 +90,15 @@ module _ {D : Type 0} (state : D → State) (honest : D → Type 0) (moment : D 
       let it = quietly now standing flow.0 is_flow in
       refused_by state honest moment left_since store shards old new now standing number slot f None turns flow.0 flow.1 asked flow.2 refl no_write it.0 it.1 it.2 e refl it.3
 
-  -- as where memory was refused
-  pub lacks_memory : Quietly (λ now standing r next m. Unit {0}) → EndsBy (refuses NoMemory)
-  lacks_memory quietly = refuses_to NoMemory (λ now standing r flow. let it = quietly now standing r flow in (it.0, it.1, it.2, (inl tt, not_unsure)))
+  -- as where memory was refused, to a flow that takes some
+  pub lacks_memory : TakesMemory asked → Quietly (λ now standing r next m. Unit {0}) → EndsBy (refuses NoMemory)
+  lacks_memory takes quietly = refuses_to NoMemory (λ now standing r flow. let it = quietly now standing r flow in (it.0, it.1, it.2, (inl (subst TakesMemory (sym flow.asked_is) takes), not_unsure)))
     where
       not_unsure : NoMemory ≢ Unsure
       not_unsure same = cc
 
   -- or where a node is away, or its flush failed
-  pub fails_to : (n : NodeName) (e : Refusal) → Calls shards asked n → ((now : Moment) (standing : StandsOver state honest store shards old now) → FailsQuietly state honest moment left_since store shards old new now standing n e)
+  pub fails_to : (n : NodeName) (e : Refusal) → Calls shards asked holds n → ((now : Moment) (standing : StandsOver state honest store shards old now) → FailsQuietly state honest moment left_since store shards old new now standing n e)
       → EndsBy (refuses e)
   fails_to n e calls fails turns number now standing =
       let f = shown_answer asked holds in

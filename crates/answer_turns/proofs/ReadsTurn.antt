@@ -48,29 +48,29 @@ use Rattle.turns.specs.Replies.{selected as selected_answer}
 use Rattle.turns.specs.Stores.{StandsOver, Store, stops}
 use Rattle.turns.proofs.CoordinatorCalls.{heads_have_cause, places_are_found, right_heads}
 use Rattle.turns.proofs.ReadAnswer.{all_replies_select, one_shard_is_enough, reads_answer, reads_ask_all_of, reads_begin, reads_finish, reads_go_on_all}
+use Rattle.turns.proofs.QuietTurns.{calls_on}
 use Rattle.turns.proofs.ShardReadSeam.{refused_reads_have_cause}
 use Rattle.turns.proofs.ShardSeam.{knows}
-use Rattle.turns.proofs.ShardStagesStands.{contained_from}
 use Rattle.call_turns.specs.StoreCalls.{FitsItsTypes, IsCalled, called}
 use Rattle.call_turns.specs.StoreTurns.{SlotTurns, TurnRuns}
 use Rattle.call_turns.proofs.Asked.{heads_told}
 use Rattle.call_turns.proofs.Belongs.{belongs_to}
 use Rattle.call_turns.proofs.CaughtUp.{CatchUpComes, IsCatchingUp}
 use Rattle.call_turns.proofs.Flushed.{coordinator_flushed}
-use Rattle.call_turns.proofs.Made.{IsQuietlyMade}
+use Rattle.call_turns.proofs.Made.{IsQuietlyMade, still_of}
 use Rattle.call_turns.proofs.ReadTold.{read_told}
 use Rattle.call_turns.proofs.Standing.{some_coordinator}
 use Rattle.answer_turns.specs.AnswerTurns.{shown_answer}
 use Rattle.answer_turns.specs.ReadTurns.{ReadsTurn, read_in_slot, read_tells}
-use Rattle.answer_turns.proofs.Leads.{ComesRight, IsFlow, Quietly, answers_to, fails_to, goes_to, held_now, lacks_memory, refuses_to}
+use Rattle.answer_turns.proofs.Leads.{ComesRight, IsFlow, Quietly, RefusedQuietly, answers_to, fails_to, goes_to, held_now, lacks_memory, refuses_to}
 use Rattle.answer_turns.proofs.Places.{asks_above, asks_below, finds_place}
 use Rattle.answer_turns.proofs.Ways.{came, moved}
 
--- the shard of a tupleset of one object is the one with all its tuples
-needs : (shards : ℕ) (q : Tupleset) (below : ℕ) → Needs shards q (shard_for shards q below)
+-- the shard of a tupleset of one object is the one with all its tuples, and that of a user the next
+needs : (shards : ℕ) (q : Tupleset) (below : ℕ) → Needs shards q below (shard_for shards q below)
 needs shards (Key t) below = refl
 needs shards (OfObject o relation) below = refl
-needs shards (OfUser n u relation) below = tt
+needs shards (OfUser n u relation) below = refl
 
 module _ {D : Type 0} (state : D → State) (honest : D → Type 0) (moment : D → ℕ) (left_since : D → ℕ → List ℕ → Type 0)
     (counts_now : (d : D) (t : ℕ) (c : List ℕ) → honest d → t ≤ moment d → left (state d) c → left_since d t c) (only_now : (d : D) (c : List ℕ) → honest d → left_since d (moment d) c → left (state d) c)
@@ -98,16 +98,16 @@ module _ {D : Type 0} (state : D → State) (honest : D → Type 0) (moment : D 
   goes : (k : ReadHolds) (step : ReadStep) → Right k → Leads (at_rest step k)
   goes k step right = goes_to state honest moment left_since store shards old new slot asked refl (reading h) (reading k) right
 
-  refuses : (e : Refusal) → Here (λ now standing r next m. HasItsCause shards now (ending now next m r []) r e × (e ≢ Unsure)) → Leads (ended (refused e))
+  refuses : (e : Refusal) → RefusedQuietly state honest moment left_since store shards old new slot asked refl (reading h) e → Leads (ended (refused e))
   refuses e quietly = refuses_to state honest moment left_since store shards old new slot asked refl (reading h) e quietly
 
   lacks : Quiet → Leads (ended (refused NoMemory))
-  lacks quiet = lacks_memory state honest moment left_since store shards old new slot asked refl (reading h) quiet
+  lacks quiet = lacks_memory state honest moment left_since store shards old new slot asked refl (reading h) tt quiet
 
   held : (now : Moment) → StandsOver state honest store shards old now → (r : Running) → Is now r → IsRightRead shards (stops state honest store shards old.devices) now r fresh sets h
   held now standing r flow = held_now state honest moment left_since store shards old new slot asked refl (reading h) now standing r flow
 
-  calls_coordinator : Calls shards asked coordinator
+  calls_coordinator : Calls shards asked (reading h) coordinator
   calls_coordinator t same = cc
 
   -- with other decisions on their way
@@ -184,14 +184,14 @@ module _ {D : Type 0} (state : D → State) (honest : D → Type 0) (moment : D 
           let it = heads_told state honest moment left_since counts_now only_now store shards old new now standing was is (Ok v) c so in
           let law = heads_have_cause store shards (stops state honest store shards old.devices) D now (ending now now.nodes now.machine r []) it.1.0 r standing.stands it.1.1 in
           let cause = law.0 (subst (λ (a : Asked). AsksAbove (heads_of it.1.0) a) (sym flow.asked_is) (subst (λ (y : HeadsValue). AsksAbove y asked) it.1.2 (asks_above fresh v above))) in
-          (now.nodes, now.machine, it.0, subst (λ (f : Refusal). HasItsCause shards now (ending now now.nodes now.machine r []) r f × (f ≢ Unsure)) (sym is_e) (inl cause, λ same. cc)))
+          (now.nodes, now.machine, it.0, subst (λ (f : Refusal). HasItsCause shards it.0.0.node now (ending now now.nodes now.machine r []) r f × (f ≢ Unsure)) (sym is_e) (inl cause, λ same. cc)))
 
       refuses_collected : (e : Refusal) → e ≡ Collected → finding.IsForgotten fresh v → Leads (ended (refused e))
       refuses_collected e is_e below = refuses e (λ now standing r flow.
           let it = heads_told state honest moment left_since counts_now only_now store shards old new now standing was is (Ok v) c so in
           let law = heads_have_cause store shards (stops state honest store shards old.devices) D now (ending now now.nodes now.machine r []) it.1.0 r standing.stands it.1.1 in
           let cause = law.1 (subst (λ (a : Asked). AsksBelow (heads_of it.1.0) a) (sym flow.asked_is) (subst (λ (y : HeadsValue). AsksBelow y asked) it.1.2 (asks_below fresh v below))) in
-          (now.nodes, now.machine, it.0, subst (λ (f : Refusal). HasItsCause shards now (ending now now.nodes now.machine r []) r f × (f ≢ Unsure)) (sym is_e) (inl cause, λ same. cc)))
+          (now.nodes, now.machine, it.0, subst (λ (f : Refusal). HasItsCause shards it.0.0.node now (ending now now.nodes now.machine r []) r f × (f ≢ Unsure)) (sym is_e) (inl cause, λ same. cc)))
 
   -- behind a flush it asks again
   by_flush : (was is : NodeView D) (r : Result (Unit {0}) Refusal) (after : ReadView) → IsCalled state honest moment left_since store shards coordinator was is old new
@@ -217,15 +217,22 @@ module _ {D : Type 0} (state : D → State) (honest : D → Type 0) (moment : D 
     has_batch : asks.way.batch ≡ h.batch
     has_batch = asks.batch ∙ ap (λ (k : ReadHolds). k.batch) own
 
-    on_shard : CallsShard shards asked asks.way.shard
-    on_shard = (asks.set, contained_from sets (length v.holds.done) asks.set asks.next, subst (Needs shards asks.set) (sym asks.shard) (needs shards asks.set v.holds.below))
+    on_shard : CallsShard shards asked (reading h) asks.way.shard
+    on_shard = (
+      λ none. let bad : Some asks.way.to ≡ None = sym at_place ∙ none in cc,
+      (
+        asks.set,
+        subst (λ (k : ReadHolds). slice_get sets (length k.done) ≡ Some asks.set) own asks.next,
+        subst (λ (k : ReadHolds). Needs shards asks.set k.below asks.way.shard) own (subst (Needs shards asks.set v.holds.below) (sym asks.shard) (needs shards asks.set v.holds.below)),
+      ),
+    )
 
     on : (now : Moment) (standing : StandsOver state honest store shards old now) (r : Running) → Is now r → IsCatchingUp state honest moment left_since counts_now only_now store shards old new now standing r asks.way
     on now standing r flow =
         let k = held now standing r flow in record {
           runs = flow.runs;
-          calls_coordinator = subst (λ (a : Asked). Calls shards a coordinator) (sym flow.asked_is) calls_coordinator;
-          calls_shard = λ there. subst (λ (a : Asked). Calls shards a (shard asks.way.shard)) (sym flow.asked_is) (there, on_shard);
+          calls_coordinator = calls_on shards r asked (reading h) coordinator flow.asked_is flow.holds_are calls_coordinator;
+          calls_shard = λ there. calls_on shards r asked (reading h) (shard asks.way.shard) flow.asked_is flow.holds_are (there, on_shard);
           lets = subst LetsLearn (sym flow.asked_is) tt;
           kept = (k.place asks.way.to at_place).kept;
           held = ap batch_of flow.holds_are ∙ sym has_batch;
@@ -348,12 +355,12 @@ module _ {D : Type 0} (state : D → State) (honest : D → Type 0) (moment : D 
             now.machine,
             fails.1,
             fails.2 r (ending now fails.0 now.machine r []) refl
-                (subst (λ (a : Asked). Calls shards a (shard s)) (sym flow.asked_is) (c.before.there, (set, contained_from sets (length h.done) set next_set, needs shards set h.below))),
+                (calls_on shards r asked (reading h) (shard s) flow.asked_is flow.holds_are (c.before.there, (λ none. let bad : Some place ≡ None = sym at ∙ none in cc, (set, next_set, needs shards set h.below)))),
           ))
           (λ told_so. (
             now.nodes,
             now.machine,
-            told_so.0,
+            still_of state honest moment left_since store shards old new now standing (shard s) told_so.0,
             refused_reads_have_cause store shards (stops state honest store shards old.devices) state honest now (ending now now.nodes now.machine r []) told_so.1.0 s fresh sets place e r h standing.stands told_so.1.1
                 flow.runs flow.asked_is flow.holds_are at told_so.1.3,
           ))

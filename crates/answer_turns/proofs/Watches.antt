@@ -21,7 +21,7 @@ use Rattle.answer_flow.specs.Watching.{AsksFor, BatchGives, FlushGives, GivesTo,
 use Rattle.answer_flow.specs.WatchViews.{WatchCall, WatchView, at_rest, batch, ended, flush, heads, listed, refused, waiting, with_heads}
 use Rattle.laws.specs.Machines.{Machine}
 use Rattle.laws.specs.Nodes.{Nodes, coordinator}
-use Rattle.turns.specs.Causes.{Calls, HasItsCause}
+use Rattle.turns.specs.Causes.{Calls, HasItsCause, TakesMemory}
 use Rattle.turns.specs.CoordinatorSeamLaws.{AsksAbove, AsksBelow}
 use Rattle.turns.specs.Flows.{Asked, Holds, most_watched, to_watch, watching}
 use Rattle.turns.specs.Held.{AreHeldHeads, AreRightHeads, IsRight}
@@ -33,6 +33,7 @@ use Rattle.turns.specs.Stores.{NamesHorizon, StandsOver, Store, stops}
 use Rattle.turns.proofs.AnswerTurns.{watches_end}
 use Rattle.turns.proofs.CoordinatorCalls.{batch_answers, batch_has_cause, heads_have_cause, horizon_is, right_heads}
 use Rattle.turns.proofs.SeesOn.{heads_on}
+use Rattle.turns.proofs.QuietTurns.{calls_on}
 use Rattle.call_turns.specs.StoreCalls.{IsCalled, called}
 use Rattle.call_turns.specs.StoreTurns.{SlotTurns, TurnRuns}
 use Rattle.call_turns.proofs.Asked.{BatchComes, batch_told, heads_told}
@@ -51,7 +52,7 @@ module _ {D : Type 0} (state : D → State) (honest : D → Type 0) (moment : D 
   abbrev Leads : WatchView → Type 0
   Leads a = SlotTurns slot (shown_answer asked (watching h)) (watch_in_slot asked a a.ended) old new → TurnRuns state honest moment left_since store shards old slot (watch_tells a.ended ∷ []) new
 
-  calls_coordinator : Calls shards asked coordinator
+  calls_coordinator : Calls shards asked (watching h) coordinator
   calls_coordinator t same = cc
 
   -- the flow of a moment for which the store stands
@@ -81,7 +82,13 @@ module _ {D : Type 0} (state : D → State) (honest : D → Type 0) (moment : D 
       goes state honest moment left_since store shards old new now standing number slot f g turns flow.0 flow.1 asked flow.2 refl refl it.0 it.1 it.2 (watching k)
       (it.3 (held_on state honest moment left_since store shards old new now standing number slot f g turns flow.0 flow.1 asked flow.2 refl refl it.0 it.1 it.2 (watching h) refl (watching k))) refl
 
-  refuses_to : (e : Refusal) → Quietly (λ now standing r next m. HasItsCause shards now (ending now next m r []) r e × (e ≢ Unsure)) → Leads (ended (refused e))
+  -- the call was quiet, and a refusal of it has its cause at the node that was called
+  abbrev RefusedQuietly : Refusal → Type 0
+  RefusedQuietly e = (now : Moment) (standing : StandsOver state honest store shards old now) (r : Running) → IsFlow now r
+      → (next : Nodes) × (m : Machine) × (quiet : IsQuietlyMade state honest moment left_since store shards old new now standing next m)
+      × (HasItsCause shards quiet.0.node now (ending now next m r []) r e × (e ≢ Unsure))
+
+  refuses_to : (e : Refusal) → RefusedQuietly e → Leads (ended (refused e))
   refuses_to e quietly turns number now standing =
       let f = shown_answer asked (watching h) in
       let flow = the_flow state honest moment left_since store shards old new now standing number slot f None turns in
@@ -130,14 +137,14 @@ module _ {D : Type 0} (state : D → State) (honest : D → Type 0) (moment : D 
           let it = heads_told state honest moment left_since counts_now only_now store shards old new now standing was is (Ok v) c so in
           let law = heads_have_cause store shards (stops state honest store shards old.devices) D now now it.1.0 r standing.stands it.1.1 in
           let cause = law.0 (subst (λ (a : Asked). AsksAbove (heads_of it.1.0) a) (sym flow.asked_now) (subst (λ (x : HeadsValue). x.length < cursor) it.1.2 above)) in
-          (now.nodes, now.machine, it.0, subst (λ (f : Refusal). HasItsCause shards now (ending now now.nodes now.machine r []) r f × (f ≢ Unsure)) (sym is_e) (inl cause, λ same. cc)))
+          (now.nodes, now.machine, it.0, subst (λ (f : Refusal). HasItsCause shards it.0.0.node now (ending now now.nodes now.machine r []) r f × (f ≢ Unsure)) (sym is_e) (inl cause, λ same. cc)))
 
       refuses_collected : (e : Refusal) → e ≡ Collected → (cursor ≤ v.length) × (cursor < v.horizon) → Leads (ended (refused e))
       refuses_collected e is_e below = refuses_to e (λ now standing r flow.
           let it = heads_told state honest moment left_since counts_now only_now store shards old new now standing was is (Ok v) c so in
           let law = heads_have_cause store shards (stops state honest store shards old.devices) D now now it.1.0 r standing.stands it.1.1 in
           let cause = law.1 (subst (λ (a : Asked). AsksBelow (heads_of it.1.0) a) (sym flow.asked_now) (subst (λ (x : HeadsValue). cursor < x.horizon) it.1.2 below.1)) in
-          (now.nodes, now.machine, it.0, subst (λ (f : Refusal). HasItsCause shards now (ending now now.nodes now.machine r []) r f × (f ≢ Unsure)) (sym is_e) (inl cause, λ same. cc)))
+          (now.nodes, now.machine, it.0, subst (λ (f : Refusal). HasItsCause shards it.0.0.node now (ending now now.nodes now.machine r []) r f × (f ≢ Unsure)) (sym is_e) (inl cause, λ same. cc)))
 
   -- behind a flush it asks again
   by_flush : (was is : NodeView D) (r : Result (Unit {0}) Refusal) (after : WatchView) → IsCalled state honest moment left_since store shards coordinator was is old new
@@ -152,7 +159,7 @@ module _ {D : Type 0} (state : D → State) (honest : D → Type 0) (moment : D 
       → Answered state honest moment left_since was (of_coordinator (calls.Batch cursor (heartbeat cursor limit v))) (from_coordinator (told.Batch r)) is → BatchGives cursor limit names (waiting batch h) r after → Leads after
   by_batch v has low was is (Ok b) after c so gives = ⊎_elim
       (λ lists. subst Leads (sym (lists v has)) lists_all)
-      (λ none. subst Leads (sym none) (refuses_to NoMemory (λ now standing r flow. (now.nodes, now.machine, (told_it now standing).0, (inl tt, λ same. cc)))))
+      (λ none. subst Leads (sym none) (refuses_to NoMemory (λ now standing r flow. (now.nodes, now.machine, (told_it now standing).0, (inl (subst TakesMemory (sym flow.asked_now) tt), λ same. cc)))))
       gives
     where
       told_it : (now : Moment) (standing : StandsOver state honest store shards old now) → BatchComes state honest moment left_since counts_now only_now store shards old new now standing cursor (heartbeat cursor limit v) (Ok b)
@@ -177,7 +184,7 @@ module _ {D : Type 0} (state : D → State) (honest : D → Type 0) (moment : D 
           let taken = subst (λ (n : ℕ). Turns shards (NamesHorizon state honest store shards old now) now r (answered (listed_answer (heartbeat cursor limit v) (events_from (n + 1) names b.writes)) ∷ []) (ending now now.nodes now.machine r [])) (sym from_is) law.1 in
           ran_ending state honest moment left_since store shards old new now standing number slot f None turns r flow.1 now.nodes now.machine [] _ it.0.1 refl law.0 taken
   by_batch v has low was is (Err e) after c so gives = subst Leads (sym gives) (refuses_to e (λ now standing r flow. ⊎_elim
-      (λ fails. (fails.0, now.machine, fails.1, fails.2 r (ending now fails.0 now.machine r []) refl (subst (λ (a : Asked). Calls shards a coordinator) (sym flow.asked_now) calls_coordinator)))
+      (λ fails. (fails.0, now.machine, fails.1, fails.2 r (ending now fails.0 now.machine r []) refl (calls_on shards r asked (watching h) coordinator flow.asked_now flow.holds_now calls_coordinator)))
       (λ told_so.
       let law = batch_has_cause store shards (stops state honest store shards old.devices) D now now told_so.1.0 r cursor (heartbeat cursor limit v) standing.stands told_so.1.1 in
       let held_heads = (held now standing r flow).heads v (ap (λ (x : HeadsHeld). x.heads) has) in (
@@ -187,8 +194,8 @@ module _ {D : Type 0} (state : D → State) (honest : D → Type 0) (moment : D 
         ⊎_elim
             (λ future. absurd (law.0 (let kept = held_heads.kept in omega (arith, kept)) future.1))
             (λ rest. ⊎_elim
-            (λ collected. subst (λ (f : Refusal). HasItsCause shards now (ending now now.nodes now.machine r []) r f × (f ≢ Unsure)) (sym collected.0) (inl (law.1 limit names flow.asked_now collected.1), not_collected))
-            (λ none. subst (λ (f : Refusal). HasItsCause shards now (ending now now.nodes now.machine r []) r f × (f ≢ Unsure)) (sym none) (inl tt, not_memory))
+            (λ collected. subst (λ (f : Refusal). HasItsCause shards told_so.0.0.node now (ending now now.nodes now.machine r []) r f × (f ≢ Unsure)) (sym collected.0) (inl (law.1 limit names flow.asked_now collected.1), not_collected))
+            (λ none. subst (λ (f : Refusal). HasItsCause shards told_so.0.0.node now (ending now now.nodes now.machine r []) r f × (f ≢ Unsure)) (sym none) (inl (subst TakesMemory (sym flow.asked_now) tt), not_memory))
             rest)
             told_so.1.2,
       ))

@@ -28,7 +28,7 @@ use Rattle.turns.specs.Stores.{StandsOver, Store, stops}
 use Rattle.turns.proofs.ShardSeam.{elsewhere, here}
 use Rattle.call_turns.specs.StoreCalls.{IsCalled}
 use Rattle.call_turns.proofs.Flushed.{down_coordinator_fails, down_shard_fails, refused_fails}
-use Rattle.call_turns.proofs.Made.{Comes, FailsQuietly, IsQuietlyMade, before, fails_by, inside_by, same_devices, shows_nodes, still_made, still_named, still_sound, still_within}
+use Rattle.call_turns.proofs.Made.{Comes, FailsQuietly, IsQuietlyMade, before, fails_by, inside_by, same_devices, shows_nodes, still_given, still_made, still_named, still_sound, still_within}
 use Rattle.call_turns.proofs.Standing.{is_seen, runs_now, shard_is_seen, shard_is_up}
 
 module _ {D : Type 0} (state : D → State) (honest : D → Type 0) (moment : D → ℕ) (left_since : D → ℕ → List ℕ → Type 0)
@@ -86,6 +86,7 @@ module _ {D : Type 0} (state : D → State) (honest : D → Type 0) (moment : D 
             named = still_named state honest moment left_since store shards old new now standing only_now devices next refl;
             fails = fails_by state honest moment left_since store shards old new now standing (shard s) (views.shard v) (views.shard w) called next shows;
             inside = inside_by state honest moment left_since store shards old new now standing (still_within state honest moment left_since store shards old new now standing only_now devices) now.machine;
+            given = still_given state honest moment left_since store shards old new now standing devices;
           },
         )
 

@@ -9,7 +9,7 @@ use Rattle.turns.specs.Stands.{IsHorizonIn, Stands}
 use Rattle.turns.specs.Stores.{AreSound, NamesHorizon, stops}
 use Rattle.turns.proofs.FlowEnds.{flows_end}
 use Rattle.call_turns.specs.Steps.{CancelledFlowsEnd, shown_flow}
-use Rattle.call_turns.proofs.Made.{inside_by, still_within}
+use Rattle.call_turns.proofs.Made.{inside_by, still_given, still_within}
 use Rattle.call_turns.proofs.Turned.{runs, shows_ended, the_flow}
 
 pub cancelled_flows_end : {D : Type 0} (state : D → State) (honest : D → Type 0) (moment : D → ℕ) (left_since : D → ℕ → List ℕ → Type 0)
@@ -41,6 +41,7 @@ cancelled_flows_end {D} state honest moment left_since only_now store shards old
       fails = λ n is_there is_down not_down. absurd (not_down is_down);
       opens = λ n is_there is. absurd (no_restart n is);
       inside = inside_by state honest moment left_since store shards old new now standing (still_within state honest moment left_since store shards old new now standing only_now devices) now.machine;
+      given = still_given state honest moment left_since store shards old new now standing devices;
     }
   where
     no_restart : (n : NodeName) → cancel slot ≡ restart n → ⊥

@@ -32,12 +32,13 @@ use Rattle.turns.specs.Moments.{Moment, Running}
 use Rattle.turns.specs.QuietTurns.{batch_of}
 use Rattle.turns.specs.Stores.{StandsOver, Store, stops}
 use Rattle.turns.proofs.CoordinatorCalls.{batch_answers, batch_has_cause}
+use Rattle.turns.proofs.QuietTurns.{lets_take_memory}
 use Rattle.turns.proofs.ShardLearnSeam.{learns_quietly, refused_learns_have_cause}
 use Rattle.call_turns.specs.StoreCalls.{FitsItsTypes, IsCalled, called}
 use Rattle.call_turns.proofs.Belongs.{belongs_to}
 use Rattle.call_turns.proofs.Asked.{batch_told, learn_told, learned_told}
 use Rattle.call_turns.proofs.Flushed.{shard_flushed}
-use Rattle.call_turns.proofs.Made.{FailsQuietly, IsQuietlyMade}
+use Rattle.call_turns.proofs.Made.{FailsQuietly, IsQuietlyMade, still_of}
 
 module _ {D : Type 0} (state : D → State) (honest : D → Type 0) (moment : D → ℕ) (left_since : D → ℕ → List ℕ → Type 0)
     (counts_now : (d : D) (t : ℕ) (c : List ℕ) → honest d → t ≤ moment d → left (state d) c → left_since d t c) (only_now : (d : D) (c : List ℕ) → honest d → left_since d (moment d) c → left (state d) c)
@@ -46,14 +47,14 @@ module _ {D : Type 0} (state : D → State) (honest : D → Type 0) (moment : D 
   abbrev pub CatchUpComes : Running → ℕ → ℕ → Progress → Type 0
   CatchUpComes r s to (Next c) = (next : Nodes) × IsQuietlyMade state honest moment left_since store shards old new now standing next now.machine × IfHeld c.batch (IsRightBatch now.machine)
   CatchUpComes r s to There = (next : Nodes) × IsQuietlyMade state honest moment left_since store shards old new now standing next now.machine × ((known : ShardState) × ShardKnows next s known × (to ≤ known.learned))
-  CatchUpComes r s to (Refused e) = (next : Nodes) × IsQuietlyMade state honest moment left_since store shards old new now standing next now.machine
-      × ((ran : Moment) → ran.nodes ≡ next → HasItsCause shards now ran r e × (e ≢ Unsure))
+  CatchUpComes r s to (Refused e) = (next : Nodes) × (quiet : IsQuietlyMade state honest moment left_since store shards old new now standing next now.machine)
+      × ((ran : Moment) → ran.nodes ≡ next → HasItsCause shards quiet.0.node now ran r e × (e ≢ Unsure))
 
   -- The flow calls the coordinator and this shard, and lets it learn, up to a place that is kept; and it holds these decisions.
   pub record IsCatchingUp (r : Running) (v : CatchUpValue) : Type 0 where
     pub runs : Contains now.running r
-    pub calls_coordinator : Calls shards r.asked coordinator
-    pub calls_shard : v.shard < shards → Calls shards r.asked (shard v.shard)
+    pub calls_coordinator : Calls shards r.asked r.holds coordinator
+    pub calls_shard : v.shard < shards → Calls shards r.asked r.holds (shard v.shard)
     pub lets : LetsLearn r.asked
     pub kept : v.to ≤ now.machine.kept
     pub held : batch_of r.holds ≡ v.batch
@@ -69,7 +70,7 @@ module _ {D : Type 0} (state : D → State) (honest : D → Type 0) (moment : D 
     abbrev Here : Progress → Type 0
     Here = CatchUpComes r v.shard v.to
 
-    fails_here : (n : NodeName) (e : Refusal) → Calls shards r.asked n → FailsQuietly state honest moment left_since store shards old new now standing n e → Here (Refused e)
+    fails_here : (n : NodeName) (e : Refusal) → Calls shards r.asked r.holds n → FailsQuietly state honest moment left_since store shards old new now standing n e → Here (Refused e)
     fails_here n e calls (next, quiet, cause) = (next, quiet, λ ran is. cause r ran is calls)
 
     by_learned : (was is : NodeView D) (x : Result ℕ Refusal) (progress : Progress) → IsCalled state honest moment left_since store shards (shard v.shard) was is old new
@@ -101,7 +102,7 @@ module _ {D : Type 0} (state : D → State) (honest : D → Type 0) (moment : D 
         (λ future. absurd ((batch_has_cause store shards (stops state honest store shards old.devices) D now now refused.1.0 r from v.to standing.stands refused.1.1).0 on.kept future.1))
         (λ rest. by_refusal (λ other. ⊎_elim
         (λ collected. absurd (other collected.0))
-        (λ none. (now.nodes, refused.0, λ ran is_then. subst (λ (f : Refusal). HasItsCause shards now ran r f × (f ≢ Unsure)) (sym none) (inl tt, λ is. cc)))
+        (λ none. (now.nodes, refused.0, λ ran is_then. subst (λ (f : Refusal). HasItsCause shards refused.0.0.node now ran r f × (f ≢ Unsure)) (sym none) (inl (lets_take_memory r.asked on.lets), λ is. cc)))
         rest) (now.nodes, refused.0))
         refused.1.2)
         (batch_told state honest moment left_since counts_now only_now store shards old new now standing was is from v.to (Err e) c so)
@@ -131,7 +132,7 @@ module _ {D : Type 0} (state : D → State) (honest : D → Type 0) (moment : D 
         (λ fails. by_full (fails.0, fails.1, λ ran is_then. fails.2 r ran is_then (on.calls_shard c.before.there)) (one_right back (subst (IsRightBatch now.machine) (sym it.0) (on.right b has))))
         (λ refused. by_full (
           now.nodes,
-          refused.0,
+          still_of state honest moment left_since store shards old new now standing (shard v.shard) refused.0,
           λ ran is_then. refused_learns_have_cause store shards (stops state honest store shards old.devices) state honest now ran refused.1.0 v.shard b e r standing.stands refused.1.1 on.runs held refused.1.2 fits.0 fits.1
               (on.calls_shard c.before.there).1 on.lets refused.1.3.0 refused.1.3.1,
         ) (one_right back (subst (IsRightBatch now.machine) (sym it.0) (on.right b has))))

@@ -2,6 +2,7 @@
 use Rattle.std.proofs.Common.{◌≡◌, ◌≢◌, ◌⊎◌, inl, inr, ⊎_elim, ◌≤◌, ℕ, true, false, true≢false, List, [], ◌++◌, Some, Ok, Err, Result, refl, sym, ◌∙◌, ap, subst, if◌then◌else◌}
 use Rattle.std.proofs.lemmas.Bool.{cases_Bool}
 use Rattle.std.proofs.lemmas.List.{append-nil}
+use Rattle.std.proofs.lemmas.Option.{same_Some}
 use Rattle.refusal.specs.declared.refusal.Refusal.{Refusal}
 use Rattle.refusal.specs.declared.refusal.Refusal.TheVariants.{Down, Unsure}
 use Rattle.device.specs.Device.{State, left}
@@ -24,7 +25,7 @@ use Rattle.laws.specs.Nodes.{NodeName, NodeState, Nodes, coordinator, down, leav
 use Rattle.turns.specs.CoordinatorOpeningLaws.{IsOverDevices}
 use Rattle.turns.specs.FlushLaws.{FailsFlush, FlushesCoordinator, all_kept}
 use Rattle.turns.specs.Moments.{Moment}
-use Rattle.turns.specs.QuietTurns.{IsAway}
+use Rattle.turns.specs.QuietTurns.{IsAway, IsQuietCall}
 use Rattle.turns.specs.SeamLaws.{IsSeen, at_coordinator, behind}
 use Rattle.turns.specs.ShardOpeningLaws.{IsOver, put_at}
 use Rattle.turns.specs.ShardSeamLaws.{ShardIsSeen, behind_shard}
@@ -37,7 +38,7 @@ use Rattle.turns.proofs.ShardFailedSeam.{failed_shard_flushes_are_quiet}
 use Rattle.turns.proofs.ShardOpeningSeam.{left_elsewhere, shard_flushes_are_quiet}
 use Rattle.turns.proofs.ShardSeam.{elsewhere, here, put_elsewhere, put_here}
 use Rattle.call_turns.specs.StoreCalls.{IsCalled, IsMade}
-use Rattle.call_turns.proofs.Made.{Comes, FailsQuietly, IsQuietlyMade, IsWithin, after, before, fails_by, inside_by, named_less, node_cases, shows_nodes, still_at, still_made}
+use Rattle.call_turns.proofs.Made.{Comes, FailsQuietly, IsQuietlyMade, IsWithin, after, before, fails_by, given_by, inside_by, named_less, node_cases, shows_nodes, still_at, still_made, still_of}
 use Rattle.call_turns.proofs.Standing.{coordinator_is_away, is_seen, runs_now, shard_is_away, shard_is_seen, shard_is_up}
 
 module _ {D : Type 0} (state : D → State) (honest : D → Type 0) (moment : D → ℕ) (left_since : D → ℕ → List ℕ → Type 0)
@@ -62,6 +63,22 @@ module _ {D : Type 0} (state : D → State) (honest : D → Type 0) (moment : D 
         (one.0, one.1, subst (λ (m : NodeName). leaves (before state honest moment left_since store shards old new now standing) now.nodes m one.0) (sym here) one.2))
         (λ other. still_at state honest moment left_since store shards old new now standing only_now k (others k other) x y there in_x in_y)
         (node_cases k n)
+
+    flush_left : (rs : List Record) → after state honest moment left_since store shards old new now standing coordinator rs → leaves (before state honest moment left_since store shards old new now standing) now.nodes coordinator rs
+    flush_left rs (x, y, in_x, in_y, is) = ⊎_elim
+        (λ here.
+        let new_is = ap new.devices here ∙ is_devices in
+        let in_x_then = counts_now new_a (moment a) x honest_a moments.later_a (subst (λ (p : D × D). left (state p.0) x) new_is in_x) in
+        let in_y_then = counts_now new_b (moment b) y honest_b moments.later_b (subst (λ (p : D × D). left (state p.1) y) new_is in_y) in
+        let one = found_one x y (moments.each x y in_x_then in_y_then) in
+        subst (leaves (before state honest moment left_since store shards old new now standing) now.nodes coordinator) (same_Some one.0 rs (sym one.1 ∙ is))
+        (subst (λ (m : NodeName). leaves (before state honest moment left_since store shards old new now standing) now.nodes m one.0) (sym here) one.2))
+        (λ other. (
+          rs,
+          (x, y, subst (λ (p : D × D). left (state p.0) x) (others coordinator other) in_x, subst (λ (p : D × D). left (state p.1) y) (others coordinator other) in_y, is),
+          inl refl,
+        ))
+        (node_cases coordinator n)
 
     flush_sound : AreSound state honest store shards new.devices
     flush_sound = record {
@@ -96,7 +113,7 @@ module _ {D : Type 0} (state : D → State) (honest : D → Type 0) (moment : D 
   pub away_fails : (n : NodeName) (was is : NodeView D) (e : Refusal) → IsCalled state honest moment left_since store shards n was is old new → is ≡ was → IsAway now.nodes n e → FailsHere n e
   away_fails n was is e called same away = (
     now.nodes,
-    still_made state honest moment left_since store shards old new now standing n was is called only_now same,
+    still_of state honest moment left_since store shards old new now standing n (still_made state honest moment left_since store shards old new now standing n was is called only_now same),
     λ r ran is_then calls. away_nodes_have_cause store shards (before state honest moment left_since store shards old new now standing) (before state honest moment left_since store shards old new now standing) now ran r n e standing.stands is_then calls away,
   )
 
@@ -137,6 +154,8 @@ module _ {D : Type 0} (state : D → State) (honest : D → Type 0) (moment : D 
       fails = fails_by state honest moment left_since store shards old new now standing coordinator (views.coordinator v) (views.coordinator w) called next shows;
       inside = inside_by state honest moment left_since store shards old new now standing
           (flush_within coordinator v.durable v.staged v.a v.b w.a w.b seen.at called.before.devices called.after.devices called.devices honest_a honest_b (moments runs)) m;
+      given = given_by state honest moment left_since store shards old new now standing
+          (flush_left coordinator v.durable v.staged v.a v.b w.a w.b seen.at called.before.devices called.after.devices called.devices honest_a honest_b (moments runs));
     }
 
     -- with nothing staged a stop leaves the durable records alone
@@ -221,6 +240,8 @@ module _ {D : Type 0} (state : D → State) (honest : D → Type 0) (moment : D 
       fails = fails_by state honest moment left_since store shards old new now standing (shard s) (views.shard v) (views.shard w) called next shows;
       inside = inside_by state honest moment left_since store shards old new now standing
           (flush_within (shard s) v.durable v.staged v.a v.b w.a w.b shard_seen.at called.before.devices called.after.devices called.devices honest_a honest_b (moments shard_up)) now.machine;
+      given = given_by state honest moment left_since store shards old new now standing
+          (flush_left (shard s) v.durable v.staged v.a v.b w.a w.b shard_seen.at called.before.devices called.after.devices called.devices honest_a honest_b (moments shard_up));
     }
 
     shard_flushed_well : w.me ≡ v.me → FlushesAt state honest v w → ShardFlushesWell
@@ -236,14 +257,24 @@ module _ {D : Type 0} (state : D → State) (honest : D → Type 0) (moment : D 
     shard_flushed_ill : w.is_down ≡ true → FailsHere (shard s) Down
     shard_flushed_ill is_down =
         let next = put_at s down now.nodes in
-        let law = failed_shard_flushes_are_quiet state honest moment left_since counts_now store shards old.devices new.devices now s v w standing.stands shard_seen shard_up honest_a honest_b (moments shard_up) shard_over in
+        let left_it = failed_shard_flushes_are_quiet state honest moment left_since counts_now store shards old.devices new.devices now s v w standing.stands shard_seen shard_up honest_a honest_b (moments shard_up) shard_over in
         let shows = shows_nodes state honest moment left_since store shards old new now standing (shard s) (views.shard v) (views.shard w) called next
         (record { others = put_elsewhere s down now.nodes.at; open_writes = λ ne. refl; given = λ ne. refl })
         (put_here s down now.nodes.at ∙ sym (ap (λ b. if b then down else up w.durable w.staged) is_down))
-        (standing.nodes.open_ids ∙ sym called.memory.0) (standing.nodes.given ∙ sym called.memory.1) in (
+        (standing.nodes.open_ids ∙ sym called.memory.0) (standing.nodes.given ∙ sym called.memory.1) in
+        let law : IsQuietCall store shards (before state honest moment left_since store shards old new now standing) (after state honest moment left_since store shards old new now standing) now next now.machine = record {
+          stands = left_it.stands;
+          moves = left_it.moves;
+          machine = left_it.machine;
+          quiet = left_it.quiet;
+          node = shard s;
+          others = record { others = put_elsewhere s down now.nodes.at; open_writes = λ ne. refl; given = λ ne. refl };
+          called = inr (inr (inr (record { durable = v.durable; staged = v.staged; was = shard_seen.at; now = put_here s down now.nodes.at })));
+          open_writes = left_it.open_writes;
+        } in (
           next,
           (law, shard_made next shows refl),
-          λ r ran is_then calls. (inl (shard s, calls, inl (ap (λ (nodes : Nodes). nodes.at (shard s)) is_then ∙ put_here s down now.nodes.at)), no_down_is_unsure),
+          λ r ran is_then calls. (inl (calls, inl (ap (λ (nodes : Nodes). nodes.at (shard s)) is_then ∙ put_here s down now.nodes.at)), no_down_is_unsure),
         )
 
   -- a node whose opening was refused answers that, and nothing has changed

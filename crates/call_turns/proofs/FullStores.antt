@@ -14,7 +14,7 @@ use Rattle.turns.specs.Promises.{Ran, events_of}
 use Rattle.turns.specs.Runs.{refuses, restart, start}
 use Rattle.turns.specs.Stands.{IsHorizonIn, Stands}
 use Rattle.turns.specs.Stores.{AreSound, FlowView, ShowsSlot, StandsOver, Store, stops}
-use Rattle.call_turns.proofs.Made.{inside_by, still_within}
+use Rattle.call_turns.proofs.Made.{inside_by, still_given, still_within}
 use Rattle.call_turns.proofs.Starts.{at_slots, no_fewer, slots_of}
 use Rattle.call_turns.specs.Steps.{FullStoresRefuse, IsFullThere}
 
@@ -59,6 +59,7 @@ module _ {D : Type 0} (state : D → State) (honest : D → Type 0) (moment : D 
     fails = λ n is_there is_down not_down. absurd (not_down is_down);
     opens = λ n is_there is. absurd (no_restart n is);
     inside = inside_by state honest moment left_since store shards old new now standing (still_within state honest moment left_since store shards old new now standing only_now devices) now.machine;
+    given = still_given state honest moment left_since store shards old new now standing devices;
   }
     where
       no_restart : (n : NodeName) → start asked ≡ restart n → ⊥

@@ -4,8 +4,10 @@ use Rattle.std.proofs.Math.Path.{fun_ext}
 use Rattle.std.proofs.lemmas.Bool.{cases_Bool, eq-eqb, eqb-true}
 use Rattle.std.proofs.lemmas.Option.{same_Some}
 use Rattle.tuples.specs.declared.entry.Entry.{Entry}
+use Rattle.tuples.specs.declared.entry.WriteId.{WriteId}
 use Rattle.refusal.specs.declared.refusal.Refusal.{Refusal}
 use Rattle.refusal.specs.declared.refusal.Refusal.TheVariants.{Unsure}
+use Rattle.decisions.specs.Standing.{IsGivenOut}
 use Rattle.device.specs.Device.{State, left}
 use Rattle.journal.specs.Records.{found}
 use Rattle.records.specs.declared.record.Record.{Record}
@@ -24,7 +26,7 @@ use Rattle.turns.specs.Stands.{IsHorizonIn, at_shards}
 use Rattle.turns.specs.Stores.{AreSound, NamesHorizon, ShowsNodes, StandsOver, Store, stops}
 use Rattle.turns.proofs.Answers.{replays}
 use Rattle.turns.proofs.DecisionNodes.{epoch_stays}
-use Rattle.turns.proofs.QuietTurns.{nothing_changes}
+use Rattle.turns.proofs.QuietTurns.{nothing_changes, of_node}
 use Rattle.turns.proofs.StopInside.{stops_within_steps}
 use Rattle.call_turns.specs.StoreCalls.{IsCalled, IsMade, KeepsMemory, ShowsMemory, shown}
 
@@ -53,10 +55,14 @@ module _ {D : Type 0} (state : D → State) (honest : D → Type 0) (moment : D 
   abbrev pub IsQuietlyMade : Nodes → Machine → Type 0
   IsQuietlyMade next m = IsQuietCall store shards before after now next m × IsMade state honest moment left_since store shards old new now next m
 
+  -- a call that left the nodes as they were, of this node
+  abbrev pub still_of : NodeName → IsQuietlyMade now.nodes now.machine → IsQuietlyMade now.nodes now.machine
+  still_of n quiet = (of_node store shards before after now now.machine n quiet.0, quiet.1)
+
   -- a call that failed, or found its node away: it is quiet, and has its cause for each flow that calls the node
   abbrev pub FailsQuietly : NodeName → Refusal → Type 0
-  FailsQuietly n e = (next : Nodes) × IsQuietlyMade next now.machine
-      × ((r : Running) (ran : Moment) → ran.nodes ≡ next → Calls shards r.asked n → HasItsCause shards now ran r e × (e ≢ Unsure))
+  FailsQuietly n e = (next : Nodes) × (quiet : IsQuietlyMade next now.machine)
+      × ((r : Running) (ran : Moment) → ran.nodes ≡ next → Calls shards r.asked r.holds n → HasItsCause shards quiet.0.node now ran r e × (e ≢ Unsure))
 
   -- what an answer comes to: what its value tells, or that the call failed
   abbrev pub Comes : {X : Type 0} → NodeName → Result X Refusal → (X → Type 0) → Type 0
@@ -114,6 +120,17 @@ module _ {D : Type 0} (state : D → State) (honest : D → Type 0) (moment : D 
         let low = given e.0 e.1 in
         omega (arith, low, e.2);
   }
+
+  -- where a stop behind the call leaves of the coordinator what it could leave before, with what is staged or without, each id that was given out stays so
+  pub given_by : ((rs : List Record) → after coordinator rs → leaves before now.nodes coordinator rs) → (id : WriteId) → IsGivenOut (before coordinator) id → IsGivenOut (after coordinator) id
+  given_by all id given rs is =
+      let e = same_epoch rs (all rs is) in
+      let low = given e.0 e.1 in
+      omega (arith, low, e.2)
+
+  -- and so where no device has changed
+  pub still_given : new.devices ≡ old.devices → (id : WriteId) → IsGivenOut (before coordinator) id → IsGivenOut (after coordinator) id
+  still_given same id given = subst (λ (f : NodeName → D × D). IsGivenOut (stops state honest store shards f coordinator) id) (sym same) given
 
   -- of a node whose devices have not changed a stop inside the call leaves what it could leave before
   pub still_at : ((d : D) (c : List ℕ) → honest d → left_since d (moment d) c → left (state d) c) → (k : NodeName) → new.devices k ≡ old.devices k → (a b : List ℕ) → IsThere shards k
@@ -197,5 +214,6 @@ module _ {D : Type 0} (state : D → State) (honest : D → Type 0) (moment : D 
             named = still_named only_now devices now.nodes refl;
             fails = fails_by now.nodes shows;
             inside = inside_by (still_within only_now devices) now.machine;
+            given = still_given devices;
           },
         )

@@ -30,7 +30,7 @@ use Rattle.turns.specs.Stands.{IsHorizonIn}
 use Rattle.turns.specs.Stores.{NamesHorizon, StandsOver, Store, stops}
 use Rattle.call_turns.specs.StoreCalls.{IsCalled, IsMade}
 use Rattle.call_turns.proofs.Asked.{FromCoordinator, FromShard, away, coordinator_gone, coordinator_tells, shard_gone, shard_tells}
-use Rattle.call_turns.proofs.Made.{Comes, FailsQuietly, after, before, fails_by, inside_by, same_devices, shows_nodes, still_sound, still_within}
+use Rattle.call_turns.proofs.Made.{Comes, FailsQuietly, after, before, fails_by, inside_by, same_devices, shows_nodes, still_given, still_sound, still_within}
 use Rattle.call_turns.proofs.Standing.{is_seen, runs_now, shard_is_up}
 
 module _ {D : Type 0} (state : D → State) (honest : D → Type 0) (moment : D → ℕ) (left_since : D → ℕ → List ℕ → Type 0)
@@ -95,6 +95,7 @@ module _ {D : Type 0} (state : D → State) (honest : D → Type 0) (moment : D 
           named = raised_named named;
           fails = fails_by state honest moment left_since store shards old new now standing coordinator (views.coordinator v) (views.coordinator w) called next shows;
           inside = inside_by state honest moment left_since store shards old new now standing (still_within state honest moment left_since store shards old new now standing only_now raised_devices) now.machine;
+          given = still_given state honest moment left_since store shards old new now standing raised_devices;
         }
       where
         others_stay : (k : NodeName) → k ≢ coordinator → next.at k ≡ now.nodes.at k

@@ -35,7 +35,7 @@ module _ {D : Type 0} (state : D → State) (honest : D → Type 0) (moment : D 
         let flow = the_flow state honest moment left_since store shards old new now turn.standing number slot f g turn.slots in
         subst (λ (q : Running). ShowsFlow q f) (same_Some flow.0 r (sym flow.1 ∙ turn.runs)) flow.2
 
-    quiet : IsQuietlyMade state honest moment left_since store shards old new now turn.standing next m
+    abbrev quiet : IsQuietlyMade state honest moment left_since store shards old new now turn.standing next m
     quiet = (turn.call.quiet, turn.call.made)
 
     goes_on_as : (after : Holds) → IsRight shards (stops state honest store shards new.devices) (behind_call now next m) (with_call r after r.met m) asked after → g ≡ Some (record f { holds = after })
@@ -47,7 +47,7 @@ module _ {D : Type 0} (state : D → State) (honest : D → Type 0) (moment : D 
         → Ran state honest moment left_since store shards old now number (turns_in slot) (events_of number (answered answer ∷ [])) new
     answers_as answer is agrees right = answers state honest moment left_since store shards old new now turn.standing number slot f g turn.slots r turn.runs asked shows refl turn.no_write next m quiet answer is agrees right
 
-    refuses_as : (e : Refusal) → g ≡ None → HasItsCause shards now (ending now next m r []) r e → e ≢ Unsure
+    refuses_as : (e : Refusal) → g ≡ None → HasItsCause shards turn.call.quiet.node now (ending now next m r []) r e → e ≢ Unsure
         → Ran state honest moment left_since store shards old now number (turns_in slot) (events_of number (refuses e ∷ [])) new
     refuses_as e is cause sure = refused_by state honest moment left_since store shards old new now turn.standing number slot f g turn.slots r turn.runs asked shows refl turn.no_write next m quiet e is (cause, sure)
 

@@ -21,7 +21,7 @@ use Rattle.turns.specs.SeamLaws.{told_unless}
 use Rattle.turns.specs.Stands.{Stands}
 use Rattle.turns.specs.Stores.{FlowView, NamesHorizon, ShowsFlow, ShowsSlot, StandsOver, Store, stops}
 use Rattle.turns.proofs.CoordinatorTurns.{seen_on}
-use Rattle.turns.proofs.QuietTurns.{quiet_calls_answer, quiet_calls_turn, refused_flows_end}
+use Rattle.turns.proofs.QuietTurns.{calls_on, quiet_calls_answer, quiet_calls_turn, refused_flows_end}
 use Rattle.call_turns.specs.StoreCalls.{IsMade}
 use Rattle.call_turns.specs.StoreTurns.{SlotTurns}
 use Rattle.call_turns.proofs.Made.{FailsQuietly, IsQuietlyMade, after}
@@ -77,6 +77,7 @@ module _ {D : Type 0} (state : D → State) (honest : D → Type 0) (moment : D 
       fails = made.fails;
       opens = λ n is_there is. absurd (not_restart n is);
       inside = made.inside;
+      given = made.given;
     }
       where
         not_restart : (n : NodeName) → turn slot ≡ restart n → ⊥
@@ -161,14 +162,14 @@ module _ {D : Type 0} (state : D → State) (honest : D → Type 0) (moment : D 
           ran_ending next m (told_by answer) (answered answer ∷ []) quiet.1 gone law.0 law.1
 
       -- or with a refusal that has its cause
-      pub refused_by : (e : Refusal) → g ≡ None → HasItsCause shards now (ending now next m r []) r e × (e ≢ Unsure) → Runs (refuses e ∷ [])
+      pub refused_by : (e : Refusal) → g ≡ None → HasItsCause shards quiet.0.node now (ending now next m r []) r e × (e ≢ Unsure) → Runs (refuses e ∷ [])
       refused_by e gone cause =
           let law = refused_flows_end store shards (stops state honest store shards old.devices) left_after now next m r e quiet.0 runs is_no_write cause.1 cause.0 in
           ran_ending next m [] (refuses e ∷ []) quiet.1 gone law.0 law.1
 
     -- it asked a node whose call failed, or that is away
-    pub fails_with : (asked : Asked) → ShowsFlow r f → f.asked ≡ Some asked → is_write asked ≡ false → (n : NodeName) (e : Refusal) → Calls shards asked n → g ≡ None
+    pub fails_with : (asked : Asked) → ShowsFlow r f → f.asked ≡ Some asked → is_write asked ≡ false → (n : NodeName) (e : Refusal) → Calls shards asked f.holds n → g ≡ None
         → FailsQuietly state honest moment left_since store shards old new now standing n e → Runs (refuses e ∷ [])
     fails_with asked shows asks no_write n e calls gone (next, quiet, cause) =
         let is = asked_is asked shows asks no_write next now.machine quiet in
-        refused_by asked shows asks no_write next now.machine quiet e gone (cause r (ending now next now.machine r []) refl (subst (λ (a : Asked). Calls shards a n) (sym is) calls))
+        refused_by asked shows asks no_write next now.machine quiet e gone (cause r (ending now next now.machine r []) refl (calls_on shards r asked f.holds n is (sym shows.holds) calls))

@@ -61,7 +61,7 @@ module _ {D : Type 0} (state : D → State) (honest : D → Type 0) (moment : D 
   -- or with a refusal that has its cause
   abbrev pub QuietTurnsRefuse : Type 0
   QuietTurnsRefuse = (old new : Store D) (now : Moment) (next : Nodes) (m : Machine) (slot : ℕ) (r : Running) (asked : Asked) (holds : Holds) (e : Refusal)
-      → IsQuietTurn old new now next m slot r asked holds None → HasItsCause shards now (ending now next m r []) r e → e ≢ Unsure → KeepsPromise old new now slot (refuses e ∷ [])
+      → (taken : IsQuietTurn old new now next m slot r asked holds None) → HasItsCause shards taken.call.quiet.node now (ending now next m r []) r e → e ≢ Unsure → KeepsPromise old new now slot (refuses e ∷ [])
 
   -- A node that goes down in a call has the cause: a device of it failed, or has no room for a batch more.
   abbrev pub FailedCallsHaveCause : Type 0

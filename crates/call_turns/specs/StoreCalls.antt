@@ -1,5 +1,7 @@
 -- A call of one node of a store, as the store shows it before and behind.
 use Rattle.std.specs.Prelude.{◌≡◌, ◌≢◌, ◌⊎◌, ℕ, List, Contains, if◌then◌else◌}
+use Rattle.tuples.specs.declared.entry.WriteId.{WriteId}
+use Rattle.decisions.specs.Standing.{IsGivenOut}
 use Rattle.device.specs.Device.{State}
 pub use Rattle.calls.specs.Fitting.{FitsItsTypes}
 use Rattle.calls.specs.Views as views
@@ -75,10 +77,12 @@ module _ {D : Type 0} (state : D → State) (honest : D → Type 0) (moment : D 
     pub fails : shown is ≡ down → shown was ≢ down → HasDeviceCause state honest moment left_since store shards old.devices new.devices n
 
   -- A call made these nodes and this machine of those of a moment. The devices are sound, and the store shows the nodes; no horizon is new but one that a
-  -- flow was asked for; a node that went down has its cause; and at every moment inside the call a stop leaves what means the log.
+  -- flow was asked for; a node that went down has its cause; at every moment inside the call a stop leaves what means the log; and an id that was given out
+  -- stays so.
   pub record IsMade (old new : Store D) (now : Moment) (next : Nodes) (m : Machine) : Type 0 where
     pub sound : AreSound state honest store shards new.devices
     pub nodes : ShowsNodes next new
     pub named : (x : ℕ) → IsHorizonIn store shards (stops state honest store shards new.devices) next x → Contains now.named x ⊎ NamesHorizon state honest store shards old now x
     pub fails : (k : NodeName) → IsThere shards k → next.at k ≡ down → now.nodes.at k ≢ down → HasDeviceCause state honest moment left_since store shards old.devices new.devices k
     pub inside : StopsBetween state honest moment left_since store shards old.devices new.devices now.machine m
+    pub given : (id : WriteId) → IsGivenOut (stops state honest store shards old.devices coordinator) id → IsGivenOut (stops state honest store shards new.devices coordinator) id

@@ -31,12 +31,14 @@ use Rattle.turns.specs.Moments.{Moment, Running}
 use Rattle.turns.specs.QuietTurns.{ending, with_call}
 use Rattle.turns.specs.Stores.{StandsOver, Store, stops}
 use Rattle.turns.proofs.CoordinatorCalls.{right_heads}
+use Rattle.turns.proofs.QuietTurns.{calls_on}
 use Rattle.turns.proofs.ShardLearnSeam.{collects_quietly, refused_collects_have_cause}
 use Rattle.call_turns.specs.StoreCalls.{IsCalled, called}
 use Rattle.call_turns.specs.StoreTurns.{SlotTurns, TurnRuns}
 use Rattle.call_turns.proofs.Asked.{heads_told}
 use Rattle.call_turns.proofs.AskedMore.{collect_told}
 use Rattle.call_turns.proofs.Flushed.{shard_flushed}
+use Rattle.call_turns.proofs.Made.{still_of}
 use Rattle.care_turns.specs.CareTurns.{CollectsTurn, in_slot, shown_care, shows, tells}
 use Rattle.care_turns.proofs.Views.{IsFlow, LeadsTo, done_to, fails_to, goes_to, refuses_to}
 
@@ -50,7 +52,7 @@ module _ {D : Type 0} (state : D → State) (honest : D → Type 0) (moment : D 
     abbrev Is : Moment → Running → Type 0
     Is = IsFlow state honest moment left_since store shards old new slot (to_collect s) refl CollectStep collecting h
 
-    calls_coordinator : Calls shards (to_collect s) coordinator
+    calls_coordinator : Calls shards (to_collect s) (collecting h) coordinator
     calls_coordinator t same = cc
 
     held : (now : Moment) → StandsOver state honest store shards old now → (r : Running) → Is now r → AreHeldHeads shards (stops state honest store shards old.devices) now r h
@@ -107,12 +109,12 @@ module _ {D : Type 0} (state : D → State) (honest : D → Type 0) (moment : D 
         refuses = refuses_to state honest moment left_since store shards old new slot (to_collect s) refl CollectStep collecting h no_heads e (λ now standing r flow.
             let it = (collect_told state honest moment left_since counts_now only_now store shards old new now standing s was is heads back (Err e) c so).1 in
             ⊎_elim
-            (λ fails. (fails.0, now.machine, fails.1, fails.2 r (ending now fails.0 now.machine r []) refl (subst (λ (a : Asked). Calls shards a (shard s)) (sym flow.asked_is) (c.before.there, refl))))
+            (λ fails. (fails.0, now.machine, fails.1, fails.2 r (ending now fails.0 now.machine r []) refl (calls_on shards r (to_collect s) (collecting h) (shard s) flow.asked_is flow.holds_are (c.before.there, refl))))
             (λ told_so. (
               now.nodes,
               now.machine,
-              told_so.0,
-              subst (λ (f : Refusal). HasItsCause shards now (ending now now.nodes now.machine r []) r f × (f ≢ Unsure)) (sym told_so.1.3.0)
+              still_of state honest moment left_since store shards old new now standing (shard s) told_so.0,
+              subst (λ (f : Refusal). HasItsCause shards (shard s) now (ending now now.nodes now.machine r []) r f × (f ≢ Unsure)) (sym told_so.1.3.0)
                   (refused_collects_have_cause store shards (stops state honest store shards old.devices) state honest now (ending now now.nodes now.machine r []) told_so.1.0 s heads r standing.stands told_so.1.1 flow.asked_is told_so.1.2 told_so.1.3.1 told_so.1.3.2, no_full_is_unsure),
             ))
             it)

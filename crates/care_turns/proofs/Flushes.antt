@@ -42,7 +42,7 @@ module _ {D : Type 0} (state : D → State) (honest : D → Type 0) (moment : D 
     abbrev EndsBy : Result (Unit {0}) Refusal → Type 0
     EndsBy x = Runs state honest moment left_since store shards old new now standing number slot (shown_care (to_flush (name_of n)) flushing) None turns (tells (Some (ended_by x)) ∷ [])
 
-    calls : (m : names.NodeName) → IsThere shards (name_of m) → Calls shards (to_flush (name_of m)) (name_of m)
+    calls : (m : names.NodeName) → IsThere shards (name_of m) → Calls shards (to_flush (name_of m)) flushing (name_of m)
     calls Coordinator there = λ s same. absurd (let bad : to_flush coordinator ≡ to_flush (shard s) = same in cc)
     calls (Shard s) there = (there, refl)
 

@@ -31,6 +31,7 @@ use Rattle.turns.specs.Moments.{Moment, Running}
 use Rattle.turns.specs.QuietTurns.{batch_of, ending, with_call}
 use Rattle.turns.specs.Stores.{StandsOver, Store, stops}
 use Rattle.turns.proofs.CoordinatorCalls.{right_heads}
+use Rattle.turns.proofs.QuietTurns.{calls_on}
 use Rattle.turns.proofs.SeesOn.{heads_on}
 use Rattle.call_turns.specs.StoreCalls.{FitsItsTypes, IsCalled, called}
 use Rattle.call_turns.specs.StoreTurns.{SlotTurns, TurnRuns}
@@ -52,7 +53,7 @@ module _ {D : Type 0} (state : D → State) (honest : D → Type 0) (moment : D 
     abbrev Is : Moment → Running → Type 0
     Is = IsFlow state honest moment left_since store shards old new slot (to_learn s) refl LearnStep learning h
 
-    calls_coordinator : Calls shards (to_learn s) coordinator
+    calls_coordinator : Calls shards (to_learn s) (learning h) coordinator
     calls_coordinator t same = cc
 
     held : (now : Moment) → StandsOver state honest store shards old now → (r : Running) → Is now r → AreHeldHeads shards (stops state honest store shards old.devices) now r h
@@ -90,8 +91,8 @@ module _ {D : Type 0} (state : D → State) (honest : D → Type 0) (moment : D 
       on name from flushed now standing r flow =
           let k = held now standing r flow in record {
             runs = flow.runs;
-            calls_coordinator = subst (λ (a : Asked). Calls shards a coordinator) (sym flow.asked_is) calls_coordinator;
-            calls_shard = λ there. subst (λ (a : Asked). Calls shards a (shard s)) (sym flow.asked_is) (there, refl);
+            calls_coordinator = calls_on shards r (to_learn s) (learning h) coordinator flow.asked_is flow.holds_are calls_coordinator;
+            calls_shard = λ there. calls_on shards r (to_learn s) (learning h) (shard s) flow.asked_is flow.holds_are (there, refl);
             lets = subst LetsLearn (sym flow.asked_is) tt;
             kept = (k.heads heads has).kept;
             held = ap batch_of flow.holds_are;

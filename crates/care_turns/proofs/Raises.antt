@@ -37,7 +37,7 @@ use Rattle.care_flow.specs.declared.care.CareFlow.TheVariants.{Flush, Learn, Res
 use Rattle.care_flow.specs.declared.end.CareEnd.TheVariants.{Done, Refused}
 use Rattle.laws.specs.Nodes.{NodeName, coordinator, shard}
 use Rattle.turns.specs.CoordinatorSeamLaws.{AsksAbove}
-use Rattle.turns.specs.Causes.{Calls, HasItsCause, LetsLearn}
+use Rattle.turns.specs.Causes.{Calls, HasItsCause, LetsLearn, TakesMemory}
 use Rattle.turns.specs.Flows.{Asked, Holds, raising, to_raise}
 use Rattle.turns.specs.Held.{AreRightHeads, IsRight, IsRightRaise, IsRightSettled}
 use Rattle.turns.specs.Moments.{Moment, Running}
@@ -49,6 +49,7 @@ use Rattle.turns.specs.Stores.{StandsOver, Store, stops}
 use Rattle.turns.proofs.AnswerTurns.{raises_end}
 use Rattle.turns.proofs.Batches.{shards_settle}
 use Rattle.turns.proofs.CoordinatorCalls.{heads_have_cause, right_heads}
+use Rattle.turns.proofs.QuietTurns.{calls_on}
 use Rattle.turns.proofs.RaiseSeam.{raise_has_cause, raises_turn}
 use Rattle.call_turns.specs.StoreCalls.{FitsItsTypes, IsCalled, called}
 use Rattle.call_turns.specs.StoreTurns.{SlotTurns, TurnRuns}
@@ -59,7 +60,7 @@ use Rattle.names.specs.declared.call_name.CallName.{CallName}
 use Rattle.care_flow.proofs.Naming.{whichever_next}
 use Rattle.call_turns.proofs.CaughtUp.{CatchUpComes, IsCatchingUp, caught_up, same_way}
 use Rattle.call_turns.proofs.Flushed.{coordinator_flushed, shard_flushed}
-use Rattle.call_turns.proofs.Made.{FailsQuietly}
+use Rattle.call_turns.proofs.Made.{FailsQuietly, still_of}
 use Rattle.call_turns.proofs.RaiseTold.{raise_told, raised_devices, raised_made, settle_told}
 use Rattle.care_turns.specs.CareTurns.{RaisesTurn, in_slot, shown_care, shows, tells}
 use Rattle.care_turns.proofs.Views.{IsFlow, LeadsTo, ends_by, fails_to, goes_by, goes_to, refuses_to}
@@ -74,7 +75,7 @@ module _ {D : Type 0} (state : D → State) (honest : D → Type 0) (moment : D 
     abbrev Is : Moment → Running → Type 0
     Is = IsFlow state honest moment left_since store shards old new slot (to_raise place) refl RaiseStep raising h
 
-    calls_coordinator : Calls shards (to_raise place) coordinator
+    calls_coordinator : Calls shards (to_raise place) (raising h) coordinator
     calls_coordinator t same = cc
 
     held : (now : Moment) → StandsOver state honest store shards old now → (r : Running) → Is now r → IsRightRaise shards (stops state honest store shards old.devices) now r place h
@@ -113,7 +114,7 @@ module _ {D : Type 0} (state : D → State) (honest : D → Type 0) (moment : D 
         no_memory : Leads (over nothing_raised (Refused NoMemory))
         no_memory = refuses_to state honest moment left_since store shards old new slot (to_raise place) refl RaiseStep raising h nothing_raised NoMemory (λ now standing r flow.
             let it = heads_told state honest moment left_since counts_now only_now store shards old new now standing was is (Ok heads) c so in
-            (now.nodes, now.machine, it.0, (inl tt, λ same. cc)))
+            (now.nodes, now.machine, it.0, (inl (subst TakesMemory (sym flow.asked_is) tt), λ same. cc)))
 
         refuses_future : heads.kept < place → Leads (over nothing_raised (Refused Future))
         refuses_future low = refuses_to state honest moment left_since store shards old new slot (to_raise place) refl RaiseStep raising h nothing_raised Future (λ now standing r flow.
@@ -250,17 +251,17 @@ module _ {D : Type 0} (state : D → State) (honest : D → Type 0) (moment : D 
         refuses = refuses_to state honest moment left_since store shards old new slot (to_raise place) refl RaiseStep raising h nothing_raised back.refusal (λ now standing r flow.
             let it = (raise_told state honest moment left_since counts_now only_now store shards old new now standing was is place all (Err back) c so).1 in
             ⊎_elim
-            (λ fails. (fails.0, now.machine, fails.1, fails.2 r (ending now fails.0 now.machine r []) refl (subst (λ (a : Asked). Calls shards a coordinator) (sym flow.asked_is) calls_coordinator)))
+            (λ fails. (fails.0, now.machine, fails.1, fails.2 r (ending now fails.0 now.machine r []) refl (calls_on shards r (to_raise place) (raising h) coordinator flow.asked_is flow.holds_are calls_coordinator)))
             (λ told_so.
             let cause = raise_has_cause store shards (stops state honest store shards old.devices) D now now told_so.1.0 r place standing.stands told_so.1.1 flow.asked_is fits in (
               now.nodes,
               now.machine,
-              told_so.0,
+              still_of state honest moment left_since store shards old new now standing coordinator told_so.0,
               ⊎_elim
-                  (λ collected. subst (λ (f : Refusal). HasItsCause shards now (ending now now.nodes now.machine r []) r f × (f ≢ Unsure)) (sym collected.0) (inl (cause.1 collected.1), no_collected_is_unsure))
+                  (λ collected. subst (λ (f : Refusal). HasItsCause shards coordinator now (ending now now.nodes now.machine r []) r f × (f ≢ Unsure)) (sym collected.0) (inl (cause.1 collected.1), no_collected_is_unsure))
                   (λ rest. ⊎_elim
-                  (λ future. subst (λ (f : Refusal). HasItsCause shards now (ending now now.nodes now.machine r []) r f × (f ≢ Unsure)) (sym future.0) (inl (cause.0 future.1), no_future_is_unsure))
-                  (λ full. subst (λ (f : Refusal). HasItsCause shards now (ending now now.nodes now.machine r []) r f × (f ≢ Unsure)) (sym full.0) (inl (cause.2 full.1), no_full_is_unsure))
+                  (λ future. subst (λ (f : Refusal). HasItsCause shards coordinator now (ending now now.nodes now.machine r []) r f × (f ≢ Unsure)) (sym future.0) (inl (cause.0 future.1), no_future_is_unsure))
+                  (λ full. subst (λ (f : Refusal). HasItsCause shards coordinator now (ending now now.nodes now.machine r []) r f × (f ≢ Unsure)) (sym full.0) (inl (cause.2 full.1), no_full_is_unsure))
                   rest)
                   told_so.1.2,
             ))
@@ -306,8 +307,8 @@ module _ {D : Type 0} (state : D → State) (honest : D → Type 0) (moment : D 
       on name from flushed now standing r flow =
           let k = held now standing r flow in record {
             runs = flow.runs;
-            calls_coordinator = subst (λ (a : Asked). Calls shards a coordinator) (sym flow.asked_is) calls_coordinator;
-            calls_shard = λ there. subst (λ (a : Asked). Calls shards a (shard s)) (sym flow.asked_is) (there, tt);
+            calls_coordinator = calls_on shards r (to_raise place) (raising h) coordinator flow.asked_is flow.holds_are calls_coordinator;
+            calls_shard = λ there. calls_on shards r (to_raise place) (raising h) (shard s) flow.asked_is flow.holds_are (there, tt);
             lets = subst LetsLearn (sym flow.asked_is) tt;
             kept = (k.heads heads has).kept;
             held = ap batch_of flow.holds_are;

@@ -30,7 +30,7 @@ use Rattle.care_flow.specs.Cares as cares
 use Rattle.care_flow.specs.CatchUps.{on_its_way}
 use Rattle.care_flow.specs.Ends.{resolved_value}
 use Rattle.care_flow.specs.Resolving.{Asks, DoubtsGive, DropGives, Gives, GoesThrough, HasCommitted, InquiryGives, ProgressGives, ResolveFlowValue, ResolveStep, ResolveView, catch_up, drop_write, finding, in_doubt, inquire}
-use Rattle.care_flow.specs.Views.{out, over, ready}
+use Rattle.care_flow.specs.Views.{over, ready}
 use Rattle.care_flow.specs.declared.care.CareFlow.{CareFlow}
 use Rattle.care_flow.specs.declared.care.CareFlow.TheVariants.{Flush, Learn, Resolve, Raise, Collect}
 use Rattle.care_flow.specs.declared.end.CareEnd.TheVariants.{Refused, Resolved as all_resolved}
@@ -38,7 +38,7 @@ use Rattle.care_flow.specs.declared.end.Resolved.{Resolved}
 use Rattle.records.specs.declared.record.Record.{Record}
 use Rattle.laws.specs.Machines.{Machine}
 use Rattle.laws.specs.Nodes.{NodeName, Nodes, coordinator, shard}
-use Rattle.turns.specs.Causes.{Calls, HasItsCause, LetsLearn}
+use Rattle.turns.specs.Causes.{Calls, HasItsCause, LetsLearn, TakesMemory}
 use Rattle.turns.specs.Flows.{Asked, Holds, resolving, to_resolve}
 use Rattle.turns.specs.Held.{IfHeld, IsRight, IsRightResolve, IsRightResolved, IsRightVerdict}
 use Rattle.turns.specs.Moments.{Moment, Running}
@@ -47,6 +47,7 @@ use Rattle.turns.specs.Replies.{IsResolved, resolved}
 use Rattle.turns.specs.Stores.{StandsOver, Store, stops}
 use Rattle.turns.proofs.AnswerTurns.{resolves_end}
 use Rattle.turns.proofs.CoordinatorCalls.{inquiries_answer}
+use Rattle.turns.proofs.QuietTurns.{calls_on}
 use Rattle.turns.proofs.ShardLearnSeam.{drops_quietly}
 use Rattle.call_turns.specs.StoreCalls.{FitsItsTypes, IsCalled, called}
 use Rattle.call_turns.specs.StoreTurns.{SlotTurns, TurnRuns}
@@ -57,7 +58,7 @@ use Rattle.call_turns.proofs.CaughtUp.{CatchUpComes, IsCatchingUp, caught_up, sa
 use Rattle.call_turns.proofs.Made.{FailsQuietly, IsQuietlyMade}
 use Rattle.call_turns.proofs.ResolveTold.{doubts_told, drop_told, inquire_told}
 use Rattle.care_turns.specs.CareTurns.{ResolvesTurn, in_slot, shown_care, shows, tells}
-use Rattle.care_turns.proofs.Views.{IsFlow, LeadsTo, Quietly, ends_by, fails_to, goes_to, refuses_to}
+use Rattle.care_turns.proofs.Views.{IsFlow, LeadsTo, Quietly, RefusedQuietly, ends_by, fails_to, goes_to, refuses_to}
 
 module _ {D : Type 0} (state : D → State) (honest : D → Type 0) (moment : D → ℕ) (left_since : D → ℕ → List ℕ → Type 0)
     (counts_now : (d : D) (t : ℕ) (c : List ℕ) → honest d → t ≤ moment d → left (state d) c → left_since d t c) (only_now : (d : D) (c : List ℕ) → honest d → left_since d (moment d) c → left (state d) c)
@@ -77,7 +78,7 @@ module _ {D : Type 0} (state : D → State) (honest : D → Type 0) (moment : D 
     RightBehind k = Quietly state honest moment left_since store shards old new slot (to_resolve s) refl ResolveStep resolving h (λ now standing r next m.
         IsRightResolve shards after (behind_call now next m) h → IsRightResolve shards after (behind_call now next m) k)
 
-    calls_coordinator : Calls shards (to_resolve s) coordinator
+    calls_coordinator : Calls shards (to_resolve s) (resolving h) coordinator
     calls_coordinator t same = cc
 
     held : (now : Moment) → StandsOver state honest store shards old now → (r : Running) → Is now r → IsRightResolve shards (stops state honest store shards old.devices) now h
@@ -93,8 +94,7 @@ module _ {D : Type 0} (state : D → State) (honest : D → Type 0) (moment : D 
     leads_on k step right = goes_to state honest moment left_since store shards old new slot (to_resolve s) refl ResolveStep resolving h k step (λ now standing r flow.
         let it = right now standing r flow in (it.0, it.1, it.2, it.3))
 
-    refuses : (k : ResolveHolds) (e : Refusal) → Quietly state honest moment left_since store shards old new slot (to_resolve s) refl ResolveStep resolving h (λ now standing r next m. HasItsCause shards now (ending now next m r []) r e × (e ≢ Unsure))
-        → Leads (over k (Refused e))
+    refuses : (k : ResolveHolds) (e : Refusal) → RefusedQuietly state honest moment left_since store shards old new slot (to_resolve s) refl ResolveStep resolving h e → Leads (over k (Refused e))
     refuses k e cause = refuses_to state honest moment left_since store shards old new slot (to_resolve s) refl ResolveStep resolving h k e cause
 
     shard_fails : (k : ResolveHolds) (e : Refusal) → s < shards → ((now : Moment) (standing : StandsOver state honest store shards old now) → FailsQuietly state honest moment left_since store shards old new now standing (shard s) e) → Leads (over k (Refused e))
@@ -118,11 +118,16 @@ module _ {D : Type 0} (state : D → State) (honest : D → Type 0) (moment : D 
         → Answered state honest moment left_since was (of_shard s shard_calls.InDoubt) (from_shard (told_by.InDoubt r)) is → DoubtsGive h r ids after_it → Leads after_it
     by_doubts was is (Ok found) ids after_it c so gives = ⊎_elim
         (λ known. goes_through ids h after_it (λ now standing r flow. (now.nodes, now.machine, doubts_told state honest moment left_since counts_now only_now store shards old new now standing s was is (Ok found) c so, λ k. k)) known.1)
-        (λ none. subst Leads (sym none) (refuses h NoMemory (λ now standing r flow. (now.nodes, now.machine, doubts_told state honest moment left_since counts_now only_now store shards old new now standing s was is (Ok found) c so, (inl tt, λ same. cc)))))
+        (λ none. subst Leads (sym none) (refuses h NoMemory (λ now standing r flow. (
+          now.nodes,
+          now.machine,
+          doubts_told state honest moment left_since counts_now only_now store shards old new now standing s was is (Ok found) c so,
+          (inl (subst TakesMemory (sym flow.asked_is) tt), λ same. cc),
+        ))))
         gives
     by_doubts was is (Err e) ids after_it c so gives = subst Leads (sym gives) (refuses h e (λ now standing r flow. ⊎_elim
-        (λ fails. (fails.0, now.machine, fails.1, fails.2 r (ending now fails.0 now.machine r []) refl (subst (λ (a : Asked). Calls shards a (shard s)) (sym flow.asked_is) (c.before.there, refl))))
-        (λ none. (now.nodes, now.machine, none.0, subst (λ (f : Refusal). HasItsCause shards now (ending now now.nodes now.machine r []) r f × (f ≢ Unsure)) (sym none.1) (inl tt, λ same. cc)))
+        (λ fails. (fails.0, now.machine, fails.1, fails.2 r (ending now fails.0 now.machine r []) refl (calls_on shards r (to_resolve s) (resolving h) (shard s) flow.asked_is flow.holds_are (c.before.there, refl))))
+        (λ none. (now.nodes, now.machine, none.0, subst (λ (f : Refusal). HasItsCause shards none.0.0.node now (ending now now.nodes now.machine r []) r f × (f ≢ Unsure)) (sym none.1) (inl (subst TakesMemory (sym flow.asked_is) tt), λ same. cc)))
         (doubts_told state honest moment left_since counts_now only_now store shards old new now standing s was is (Err e) c so)))
 
     -- one more was found, with a verdict on it or none
@@ -173,8 +178,8 @@ module _ {D : Type 0} (state : D → State) (honest : D → Type 0) (moment : D 
           let is_so : IsResolved now.machine (committed decided.0 to) = All-contains (IsRightResolved shards (stops state honest store shards old.devices) now) h.found (committed decided.0 to) k.found decided.1 in
           record {
             runs = flow.runs;
-            calls_coordinator = subst (λ (a : Asked). Calls shards a coordinator) (sym flow.asked_is) calls_coordinator;
-            calls_shard = λ there. subst (λ (a : Asked). Calls shards a (shard s)) (sym flow.asked_is) (there, refl);
+            calls_coordinator = calls_on shards r (to_resolve s) (resolving h) coordinator flow.asked_is flow.holds_are calls_coordinator;
+            calls_shard = λ there. calls_on shards r (to_resolve s) (resolving h) (shard s) flow.asked_is flow.holds_are (there, refl);
             lets = subst LetsLearn (sym flow.asked_is) tt;
             kept = is_so.2;
             held = ap batch_of flow.holds_are;

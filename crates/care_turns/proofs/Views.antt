@@ -53,8 +53,14 @@ module _ {D : Type 0} (state : D → State) (honest : D → Type 0) (moment : D 
       goes state honest moment left_since store shards old new now standing number slot f (Some (shown_care asked (hold k))) turns flow.0 flow.1 asked flow.2 refl no_write it.0 it.1 it.2 (hold k)
       (it.3 (held_on state honest moment left_since store shards old new now standing number slot f (Some (shown_care asked (hold k))) turns flow.0 flow.1 asked flow.2 refl no_write it.0 it.1 it.2 (hold h) refl (hold k))) refl
 
+  -- at each such moment the call was quiet, and a refusal of it has its cause at the node that was called
+  abbrev pub RefusedQuietly : Refusal → Type 0
+  RefusedQuietly e = (now : Moment) (standing : StandsOver state honest store shards old now) (r : Running) → IsFlow now r
+      → (next : Nodes) × (m : Machine) × (quiet : IsQuietlyMade state honest moment left_since store shards old new now standing next m)
+      × (HasItsCause shards quiet.0.node now (ending now next m r []) r e × (e ≢ Unsure))
+
   -- it ends with a refusal that has its cause
-  pub refuses_to : (nothing : H) (e : Refusal) → Quietly (λ now standing r next m. HasItsCause shards now (ending now next m r []) r e × (e ≢ Unsure)) → LeadsTo (over nothing (Refused e))
+  pub refuses_to : (nothing : H) (e : Refusal) → RefusedQuietly e → LeadsTo (over nothing (Refused e))
   refuses_to nothing e quietly turns number now standing =
       let f = shown_care asked (hold h) in
       let flow = the_flow state honest moment left_since store shards old new now standing number slot f None turns in
@@ -62,7 +68,7 @@ module _ {D : Type 0} (state : D → State) (honest : D → Type 0) (moment : D 
       refused_by state honest moment left_since store shards old new now standing number slot f None turns flow.0 flow.1 asked flow.2 refl no_write it.0 it.1 it.2 e refl it.3
 
   -- as where a node is away, or its flush failed
-  pub fails_to : (nothing : H) (n : NodeName) (e : Refusal) → Calls shards asked n → ((now : Moment) (standing : StandsOver state honest store shards old now) → FailsQuietly state honest moment left_since store shards old new now standing n e)
+  pub fails_to : (nothing : H) (n : NodeName) (e : Refusal) → Calls shards asked (hold h) n → ((now : Moment) (standing : StandsOver state honest store shards old now) → FailsQuietly state honest moment left_since store shards old new now standing n e)
       → LeadsTo (over nothing (Refused e))
   fails_to nothing n e calls fails turns number now standing =
       let f = shown_care asked (hold h) in

@@ -125,7 +125,7 @@ module _ {D : Type 0} (state : D → State) (honest : D → Type 0) (moment : D 
     of_coordinator : (nodes : Nodes) (rs : List Record) → since coordinator rs → leaves before nodes coordinator rs ⊎ IsReopenedCoordinator store shards before rs
     of_coordinator nodes rs is = ⊎_elim (λ was. inl (rs, was, inl refl)) (λ longer. inr longer) (at_node coordinator rs is tt)
 
-    given_still : (id : WriteId) (rs : List Record) → IsGivenOut (before coordinator) id → before coordinator rs ⊎ IsReopenedCoordinator store shards before rs → id.epoch ≤ (coordinator_state rs).epoch
+    pub given_still : (id : WriteId) (rs : List Record) → IsGivenOut (before coordinator) id → before coordinator rs ⊎ IsReopenedCoordinator store shards before rs → id.epoch ≤ (coordinator_state rs).epoch
     given_still id rs given (inl was) = given rs was
     given_still id rs given (inr re) =
         let low = given re.found re.was_left in

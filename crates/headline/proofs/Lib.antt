@@ -34,5 +34,12 @@ pub mod Restart
 pub mod Whole
 pub mod HandsBack
 pub mod Joined
+pub mod Acting
+pub mod StopMoves
+pub mod ManyLives
+pub mod StaysWritten
+pub mod WrongLives
 pub mod SmallHeadline
 pub mod WrongHeadline
+pub mod PastWrites
+pub mod EndedWrites

@@ -17,12 +17,12 @@ use Rattle.turns.specs.Runs as runs
 use Rattle.turns.specs.Runs.{OpensAs, Restarts, Told, restart}
 use Rattle.turns.specs.Stores.{FlowView, NamesHorizon, ShowsSlot, StandsOver, Store, stops}
 use Rattle.call_turns.specs.StoreCalls.{IsNode, shown}
-use Rattle.call_turns.proofs.Made.{inside_by, node_cases, still_within}
+use Rattle.call_turns.proofs.Made.{inside_by, node_cases, still_given, still_within}
 use Rattle.headline.specs.Promised.{StepKeeps}
 use Rattle.headline.specs.Shown.{Shows, named}
 use Rattle.headline.specs.Told.{all_told}
 use Rattle.headline.proofs.Causes.{opens_with_cause}
-use Rattle.headline.proofs.Inside.{HoldsOn, holds_opened, holds_still, inside, old_horizon, sound_now}
+use Rattle.headline.proofs.Inside.{HoldsOn, given_still, holds_opened, holds_still, inside, now_left, old_horizon, sound_now}
 use Rattle.headline.proofs.Lists.{is_somewhere, places_apart, set_elsewhere, set_here, shows_reopened}
 use Rattle.headline.proofs.Memory.{memory_elsewhere, opened_node, with_node}
 use Rattle.headline.proofs.Places.{in_place_elsewhere, in_place_here}
@@ -119,6 +119,8 @@ module _ {D : Type 0} (state : D → State) (honest : D → Type 0) (moment : D 
           (subst (OpensWithCause state honest moment left_since store shards old.devices later.devices n) (sym is_stepped.at)
           (opens_with_cause state honest moment left_since store shards old.devices later.devices n is (standing.sound.honest_a n there) (standing.sound.honest_b n there) reopened devices_here));
       inside = inside state honest moment left_since counts_now only_now store shards old.devices later.devices holds_on now.nodes now.machine is_stepped.after.machine standing.stands.rests;
+      given = λ id was_given rs is. given_still state honest moment left_since counts_now only_now store shards old.devices later.devices holds_on id rs was_given
+          (now_left state honest moment left_since counts_now only_now store shards old.devices later.devices holds_on coordinator rs is tt);
     }
       where
         one_node : (k : NodeName) → restart n ≡ restart k → n ≡ k
@@ -137,6 +139,7 @@ module _ {D : Type 0} (state : D → State) (honest : D → Type 0) (moment : D 
     fails = λ k there is_down not_down. absurd (not_down is_down);
     opens = λ k there same. absurd (away (subst (IsThere shards) (one_node k (sym same)) there));
     inside = inside_by state honest moment left_since store shards s s now standing (still_within state honest moment left_since store shards s s now standing only_now refl) now.machine;
+    given = still_given state honest moment left_since store shards s s now standing refl;
   }
     where
       one_node : (k : NodeName) → restart k ≡ restart n → k ≡ n

@@ -9,7 +9,7 @@ use Rattle.turns.specs.Promises.{Ran, events_of}
 use Rattle.turns.specs.Runs as runs
 use Rattle.turns.specs.Stores.{FlowView, NamesHorizon, ShowsSlot, StandsOver, Store}
 use Rattle.call_turns.specs.StoreCalls.{ShowsMemory}
-use Rattle.call_turns.proofs.Made.{inside_by, still_within}
+use Rattle.call_turns.proofs.Made.{inside_by, still_given, still_within}
 use Rattle.cluster.specs.Worlds.{WorldView, flow_at}
 use Rattle.cluster.specs.declared.event.What.{What}
 use Rattle.cluster.specs.declared.flow.Flow.{Flow}
@@ -49,6 +49,7 @@ module _ {D : Type 0} (state : D → State) (honest : D → Type 0) (moment : D 
     fails = λ n there is_down not_down. absurd (not_down is_down);
     opens = λ n there is. absurd (no_restart n is);
     inside = inside_by state honest moment left_since store shards s s now standing (still_within state honest moment left_since store shards s s now standing only_now refl) now.machine;
+    given = still_given state honest moment left_since store shards s s now standing refl;
   }
 
   -- and leaves the world as it was

@@ -1,6 +1,14 @@
 // The headline, and what it is made of: laws, each the clause of a function with an empty body.
 ghost use Rattle.std.specs.Prelude.{ℕ};
+ghost use Rattle.headline.specs.Acts.{ActedHeadline};
 ghost use Rattle.headline.specs.Headline.{Headline};
+ghost use Rattle.headline.specs.ManyLives.{ManyLives};
+ghost use Rattle.headline.specs.PastWrites.{
+  CancelledWritesArePast,
+  PastWritesAreNeverListed,
+  PastWritesStay,
+  RefusedWritesArePast,
+};
 ghost use Rattle.headline.specs.Promised.{RunsKeep, StepsKeep};
 
 use device::Device;
@@ -19,4 +27,23 @@ pub fn runs_keep_their_promise<D: Device>()
 /// devices rest again, with all that was told.
 pub fn headline<D: Device>()
     ensures { (store shards : ℕ) → Headline D.state D.honest D.moment D.left_since store shards }
+{}
+
+/// The same of a store that is opened over them and then takes steps, with scripts set on its devices between them, in any order.
+pub fn acted_headline<D: Device>()
+    ensures { (store shards : ℕ) → ActedHeadline D.set_to_fail D.state D.honest D.moment D.left_since store shards }
+{}
+
+/// Many lives, each opened over what the one before left, and closed, or stopped at any moment of its opening or of a step, are one list of moves.
+pub fn many_lives<D: Device>()
+    ensures { (store shards : ℕ) → ManyLives D.set_to_fail D.state D.honest D.moment D.left_since store shards }
+{}
+
+/// A write that ends with a refusal, but for `Unsure`, or that was cancelled before its decision, is listed at no place ever after: not by a flow that was
+/// left, not under an id that is given once more, whatever steps follow, and openings of nodes among them.
+pub fn refused_writes_are_never_listed<D: Device>()
+    ensures refused { (store shards : ℕ) → RefusedWritesArePast D.state D.honest D.moment D.left_since store shards }
+    ensures cancelled { (store shards : ℕ) → CancelledWritesArePast D.state D.honest D.moment D.left_since store shards }
+    ensures stay { (store shards : ℕ) → PastWritesStay D.state D.honest D.moment D.left_since store shards }
+    ensures ever { (store shards : ℕ) → PastWritesAreNeverListed D.state D.honest D.moment D.left_since store shards }
 {}

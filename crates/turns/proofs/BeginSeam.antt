@@ -12,7 +12,7 @@ use Rattle.records.specs.Coordinators.{end_of}
 use Rattle.decisions.specs.Coordinators.{BeginsAt, CoordinatorView, FirstIs, HasNoId, NamesCollected, NamesFuture, kept_of, memory_of, next_id}
 use Rattle.decisions.specs.Values.{IntentValue}
 use Rattle.laws.specs.Nodes.{CoordinatorKnows, NodeName, Nodes, SameBut, coordinator, up}
-use Rattle.turns.specs.Causes.{IsBelow, IsCause, IsFull, IsFuture}
+use Rattle.turns.specs.Causes.{IsBelow, IsCause, IsFull, IsFuture, TakesMemory}
 use Rattle.turns.specs.FlowLaws.{IsBegin, with_intent, with_open}
 use Rattle.turns.specs.Flows.{WriteHolds, id_of, to_write, writing}
 use Rattle.turns.specs.Moments.{Moment, Running, replaced}
@@ -95,6 +95,10 @@ module _ (store shards : ℕ) (left : NodeName → List Record → Type 0) {D : 
     later = later;
     open_writes = inr (inl (record {
       write = w;
+      kept = begin.kept;
+      memory = begin.memory;
+      knows = begin.knows;
+      epoch = begin.epoch;
       asked = asked_w;
       unbegun = unheld;
       held = refl;
@@ -129,12 +133,12 @@ begin_turns store shards left D now old new changes conditions i r h st seen beg
 
 pub begin_has_cause : (store shards : ℕ) (left : NodeName → List Record → Type 0) (D : Type 0) → BeginHasCause store shards left D
 begin_has_cause store shards left D now after old changes conditions e r st seen asked why = ⊎_elim
-    (λ is. subst (IsCause shards now after r) (sym is) (future (why.future is)))
+    (λ is. subst (IsCause shards coordinator now after r) (sym is) (future (why.future is)))
     (λ rest. ⊎_elim
-    (λ is. subst (IsCause shards now after r) (sym is) (collected (why.collected is)))
+    (λ is. subst (IsCause shards coordinator now after r) (sym is) (collected (why.collected is)))
     (λ more. ⊎_elim
-    (λ is. subst (IsCause shards now after r) (sym is) (full (why.full is)))
-    (λ is. subst (IsCause shards now after r) (sym is) tt)
+    (λ is. subst (IsCause shards coordinator now after r) (sym is) (full (why.full is)))
+    (λ is. subst (IsCause shards coordinator now after r) (sym is) (subst TakesMemory (sym asked) tt))
     more)
     rest)
     why.others
@@ -152,8 +156,11 @@ begin_has_cause store shards left D now after old changes conditions e r st seen
         let low : (kept_of old).horizon ≡ now.machine.horizon = st.heads.horizon (kept_of old) (memory_of old) known in
         subst (IsBelow now.machine.horizon r) (sym asked) (first.is.0, (first.condition, contained_from conditions first.index first.condition first.there, first.is.1), (let at = first.is.2 in omega (arith, at, low)))
 
-    full : HasNoId old → IsFull shards now r r.asked
-    full none = subst (IsFull shards now r) (sym asked) (inr (⊎_elim
-        (λ many. inl (let same : length now.nodes.open_writes ≡ length old.open_ids = sym (length-map now.nodes.open_writes (λ (x : Entry). x.id)) ∙ ap length seen.open_writes in omega (arith, many, same)))
-        (λ last. inr (inl (let same = seen.given in omega (arith, last, same))))
-        none))
+    full : HasNoId old → IsFull shards coordinator now r r.asked
+    full none = subst (IsFull shards coordinator now r) (sym asked) (inr (
+      refl,
+      ⊎_elim
+          (λ many. inl (let same : length now.nodes.open_writes ≡ length old.open_ids = sym (length-map now.nodes.open_writes (λ (x : Entry). x.id)) ∙ ap length seen.open_writes in omega (arith, many, same)))
+          (λ last. inr (inl (let same = seen.given in omega (arith, last, same))))
+          none,
+    ))

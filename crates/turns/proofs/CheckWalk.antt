@@ -220,8 +220,9 @@ checks_say_no store shards left now r fresh x u h place right at none = record {
 }
 
 pub full_checks_have_cause : (store shards : ℕ) (left : NodeName → List Record → Type 0) → FullChecksHaveCause store shards left
-full_checks_have_cause store shards left now after r fresh x u h place y asked right at many waits = subst (IsFull shards now r) (sym asked) (inr (
+full_checks_have_cause store shards left n now after r fresh x u h place y asked found right at many waits = subst (IsFull shards n now r) (sym asked) (inr (
   place,
+  found,
   right.place place at,
   record {
     reached = h.walked ++ h.waiting;

@@ -1,5 +1,5 @@
 -- What the coordinator refuses to decide has its cause, and a write that is not decided it finds at no place.
-use Rattle.std.proofs.Common.{◌≡◌, ◌⊎◌, inl, inr, ⊎_elim, ◌+◌, ◌-◌, ℕ, List, Contains, Some, slice_get, drop, sym, ◌∙◌, ap, subst, arith}
+use Rattle.std.proofs.Common.{◌≡◌, ◌⊎◌, inl, inr, ⊎_elim, ◌+◌, ◌-◌, ℕ, List, Contains, Some, slice_get, drop, sym, ◌∙◌, ap, refl, subst, arith}
 use Rattle.tuples.specs.declared.entry.Entry.{Entry}
 use Rattle.tuples.specs.declared.entry.WriteId.{WriteId}
 use Rattle.records.specs.declared.record.Record.{Record}
@@ -50,9 +50,8 @@ undecided_are_not_found store shards left D now v r h w place st seen own finds 
 pub decide_has_cause : (store shards : ℕ) (left : NodeName → List Record → Type 0) (D : Type 0) → DecideHasCause store shards left D
 decide_has_cause store shards left D now after v r h w intent st seen own has = (
   λ closed. subst (IsCutOff now.nodes r) (sym own.holds) (refused_intents store shards left now r h w intent st own has (not_open store shards left now v r h w st seen own closed)),
-  λ fits none. subst (IsFull shards now r) (sym own.asked) (⊎_elim
+  λ fits none. subst (IsFull shards coordinator now r) (sym own.asked) (⊎_elim
       (λ full. inl (record {
-        node = coordinator;
         durable = v.durable;
         staged = v.staged;
         next = Decision (end_of (memory_of v) + 1) w;
@@ -62,6 +61,6 @@ decide_has_cause store shards left D now after v r h w intent st seen own has = 
         is_record = fits;
         no_room = full;
       }))
-      (λ last. inr (inr (inr (let same = log_is store shards left now v st seen in omega (arith, last, same)))))
+      (λ last. inr (refl, inr (inr (let same = log_is store shards left now v st seen in omega (arith, last, same)))))
       none),
 )

@@ -6,7 +6,7 @@ use Rattle.records.specs.declared.record.Record.{Record}
 use Rattle.laws.specs.Nodes.{NodeName, Nodes, SameBut, coordinator, shard}
 use Rattle.turns.specs.AnswerLaws.{FailedFlushesAreQuiet}
 use Rattle.turns.specs.Causes.{Calls, IsDown}
-use Rattle.turns.specs.Flows.{to_flush}
+use Rattle.turns.specs.Flows.{Asked, to_flush}
 use Rattle.turns.specs.FlushLaws.{FailedFlushesAnswer, FailsFlush}
 use Rattle.turns.specs.Moments.{Moment, Running, ended, is_write}
 use Rattle.turns.specs.Runs.{IsQuiet, MayRise, Turns, refuses}
@@ -34,14 +34,14 @@ module _ (store shards : ℕ) (left after : NodeName → List Record → Type 0)
   undecided : r.decided ≡ None
   undecided = (st.flows.quiet r there (ap is_write asked)).0
 
-  calls : Calls shards (to_flush coordinator) coordinator
+  calls : Calls shards (to_flush coordinator) r.holds coordinator
   calls s same = other same
     where
       other : to_flush coordinator ≡ to_flush (shard s) → ⊥
       other is = cc
 
-  down_cause : IsDown shards next r.asked
-  down_cause = subst (IsDown shards next) (sym asked) (coordinator, calls, inl fails.now)
+  down_cause : Calls shards r.asked r.holds coordinator × IsDown next coordinator
+  down_cause = (subst (λ (a : Asked). Calls shards a r.holds coordinator) (sym asked) calls, inl fails.now)
 
   turns : Turns shards (IsHorizonIn store shards left now.nodes) now r (refuses Down ∷ []) failed
   turns = record {
@@ -51,7 +51,7 @@ module _ (store shards : ℕ) (left after : NodeName → List Record → Type 0)
     others = same_but;
     called = inr (inr (inr (record { durable = fails.durable; staged = fails.staged; was = fails.was; now = fails.now })));
     later = later;
-    open_writes = inl (record { open_writes = fails.open_writes; given = fails.given });
+    open_writes = inl (record { open_writes = fails.open_writes; given = fails.given }, refl);
     turned = record {
       slot = refl;
       asked = refl;
@@ -81,7 +81,7 @@ failed_flushes_are_quiet store shards left after now next st fails = (
     called = inr (inr (inr (record { durable = fails.durable; staged = fails.staged; was = fails.was; now = fails.now })));
     open_writes = record { open_writes = fails.open_writes; given = fails.given };
   },
-  λ r ran same calls. inl (coordinator, calls, inl (ap (λ (n : Nodes). n.at coordinator) same ∙ fails.now)),
+  λ r ran same calls. inl (calls, inl (ap (λ (n : Nodes). n.at coordinator) same ∙ fails.now)),
 )
   where
     unchanged : (k : NodeName) → k ≢ coordinator → next.at k ≡ now.nodes.at k

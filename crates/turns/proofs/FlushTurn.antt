@@ -90,7 +90,7 @@ module _ (store shards : ℕ) (left after : NodeName → List Record → Type 0)
       others = same_but;
       called = inr (inr (inl (record { durable = flush.durable; staged = flush.staged; was = flush.was; now = flush.now })));
       later = with_flush r m;
-      open_writes = inl (record { open_writes = flush.open_writes; given = flush.given });
+      open_writes = inl (record { open_writes = flush.open_writes; given = flush.given }, refl);
       turned = record {
         slot = refl;
         asked = refl;

@@ -31,6 +31,7 @@ pub mod FlowBegins
 pub mod FlowEnds
 mod WrongRuns
 mod WrongStores
+mod NarrowCauses
 pub mod WriteBegins
 pub mod ClosedStoreRests
 pub mod StoppedStores

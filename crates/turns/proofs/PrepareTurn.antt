@@ -1,5 +1,5 @@
 -- The turn in which a shard is asked to prepare: what Ok means for the log, and the cause of each refusal.
-use Rattle.std.proofs.Common.{◌≡◌, ◌⊎◌, inl, inr, ⊎_elim, ◌==◌, ℕ, zero, suc, ◌<◌, ◌≤◌, Bool, true, false, true≢false, List, [], ◌∷◌, ◌++◌, length, map, filter, cond, Some, Contains, All, refl, sym, ◌∙◌, ap, subst, arith, not, ◌||◌}
+use Rattle.std.proofs.Common.{◌≡◌, ◌⊎◌, inl, inr, ⊎_elim, ◌==◌, ℕ, zero, suc, ◌<◌, ◌≤◌, Bool, true, false, true≢false, List, [], ◌∷◌, ◌++◌, length, map, filter, cond, None, Some, Contains, All, refl, sym, ◌∙◌, ap, subst, arith, not, ◌||◌}
 use Rattle.std.proofs.lemmas.Bool.{cases_Bool, cases_lt, eqb-true}
 use Rattle.std.proofs.lemmas.List.Elements.{All-cons, All-nil, Contains-append_left, Contains-append_right, Contains-append_cases, All-contains, All-head}
 use Rattle.tuples.specs.declared.tuple.Tuple.{Tuple}
@@ -123,11 +123,11 @@ module _ (store shards : ℕ) (left : NodeName → List Record → Type 0) (now 
   knows_owner : (t : Tuple) → shard_of shards t.object ≡ s → ShardKnows now.nodes (shard_of shards t.object) asks.memory
   knows_owner t is = subst (λ (k : ℕ). ShardKnows now.nodes k asks.memory) (sym is) asks.knows
 
-  calls_shard : CallsShard shards r.asked s
+  calls_shard : CallsShard shards r.asked r.holds s
   calls_shard =
       let t = part_has shards s w asks.takes in
       let is = part_named shards s w t.0 t.1 in
-      subst (λ (a : Asked). CallsShard shards a s) (sym asks.flow.asked) (t.0, is.0, sym is.1)
+      subst (λ (a : Asked). CallsShard shards a r.holds s) (sym asks.flow.asked) (λ none. let both : Some w.id ≡ None = sym asks.flow.id ∙ none in cc, (t.0, is.0, sym is.1))
 
   conditions_met : PassesThere asks.memory (part shards s w) → HoldAfter now.machine.log (part shards s w).conditions
   conditions_met may = preparable_conditions_hold shards s now.machine.log now.machine.horizon now.machine.horizon asks.memory w asks.stands.rests.is_log (omega arith) means
@@ -159,12 +159,12 @@ module _ (store shards : ℕ) (left : NodeName → List Record → Type 0) (now 
             not_found w.id asks.memory.in_doubt at.0 other.0 asks.fresh at.1 (sym ids);
       }
 
-  busy_cause : (AreFree asks.memory (part shards s w) → ⊥) → IsBusy shards now (id_of r.holds) r.asked
+  busy_cause : (AreFree asks.memory (part shards s w) → ⊥) → IsBusy shards (shard s) now (id_of r.holds) r.asked
   busy_cause taken = ⊎_elim
       (λ free. absurd (taken (record { new = ap (λ (i : WriteId). find_in_doubt i asks.memory.in_doubt) same_id ∙ asks.fresh; tuples = free })))
       (λ one.
       let is = part_named shards s w one.0 one.1 in
-      subst (IsBusy shards now (id_of r.holds)) (sym asks.flow.asked) (one.0, is.0, held_by_other one.0 one.2 is.1))
+      subst (IsBusy shards (shard s) now (id_of r.holds)) (sym asks.flow.asked) (one.0, is.0, ap shard (sym is.1), held_by_other one.0 one.2 is.1))
       (held_or_free asks.memory.in_doubt (named (part shards s w)))
 
   -- one of the conditions is met by no row, or all are
@@ -178,7 +178,7 @@ module _ (store shards : ℕ) (left : NodeName → List Record → Type 0) (now 
       (λ not. inr (c, (zero, omega arith, refl), λ met. true≢false (sym met ∙ not)))
       (cases_Bool (meets_want c.want (last_version asks.memory.rows c.tuple) (there_at asks.memory.rows asks.memory.learned c.tuple)))
 
-  broken_cause : BreaksThere asks.memory (part shards s w) → IsBroken shards now r.asked
+  broken_cause : BreaksThere asks.memory (part shards s w) → IsBroken shards (shard s) now r.asked
   unfolding HoldAfter
   broken_cause b = ⊎_elim
       (λ all. absurd (b.broken all))
@@ -187,9 +187,10 @@ module _ (store shards : ℕ) (left : NodeName → List Record → Type 0) (now 
       let is = part_condition shards s w c one.1 in
       let free : is_held c.tuple asks.memory.in_doubt ≡ false = All-contains (λ (t : Tuple). is_held t asks.memory.in_doubt ≡ false) (named (part shards s w)) c.tuple b.free.tuples
       (Contains-append_right (changed (part shards s w).changes) (conditioned (part shards s w).conditions) c.tuple (map_has (λ (d : Condition). d.tuple) (part shards s w).conditions c one.1)) in
-      subst (IsBroken shards now) (sym asks.flow.asked) (
+      subst (IsBroken shards (shard s) now) (sym asks.flow.asked) (
         c,
         is.0,
+        ap shard (sym is.1),
         λ hold. one.2 (met_conditions_are_met_here shards s now.machine.log now.machine.horizon now.machine.horizon asks.memory c asks.stands.rests.is_log (omega arith) means is.1 free (All-head (Holds now.machine.log) c [] hold)),
         (asks.memory, knows_owner c.tuple is.1, free),
       ))
@@ -207,9 +208,8 @@ module _ (store shards : ℕ) (left : NodeName → List Record → Type 0) (now 
       below_place Exists same low = absurd low
       below_place Absent same low = absurd low
 
-  full_cause : IsRecord (Prepare (part shards s w)) → HasNoRoom asks.knows.staged (Prepare (part shards s w)) → IsFull shards now r r.asked
-  full_cause is_record no_room = subst (IsFull shards now r) (sym asks.flow.asked) (inl (record {
-    node = shard s;
+  full_cause : IsRecord (Prepare (part shards s w)) → HasNoRoom asks.knows.staged (Prepare (part shards s w)) → IsFull shards (shard s) now r r.asked
+  full_cause is_record no_room = subst (IsFull shards (shard s) now r) (sym asks.flow.asked) (inl (record {
     durable = asks.knows.durable;
     staged = asks.knows.staged;
     next = Prepare (part shards s w);

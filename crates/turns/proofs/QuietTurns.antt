@@ -12,8 +12,8 @@ use Rattle.records.specs.declared.record.Record.{Record}
 use Rattle.records.specs.declared.record.Record.TheVariants.{Epoch}
 use Rattle.laws.specs.Machines.{Machine, Move, Moves}
 use Rattle.laws.specs.Nodes.{IsOfRefusedOpening, NodeName, NodeState, NodeTurns, Nodes, SameBut, coordinator, refused, shard, up}
-use Rattle.turns.specs.Causes.{HasItsCause, IsCause}
-use Rattle.turns.specs.Flows.{HeldTicket, HeldVote, Holds, WriteHolds, id_of, outward, to_write, writing}
+use Rattle.turns.specs.Causes.{Calls, HasItsCause, IsCause, LetsLearn, TakesMemory}
+use Rattle.turns.specs.Flows.{Asked, HeldTicket, HeldVote, Holds, WriteHolds, id_of, outward, to_check, to_collect, to_flush, to_learn, to_raise, to_read, to_resolve, to_watch, to_write, writing}
 use Rattle.turns.specs.Held.{HoldsNothing, HoldsOf, IsRight, IsRightOwn, IsRightTicket, IsRightVerdict, IsRightVote, IsRightWrite, own_write}
 use Rattle.turns.specs.Moments.{Moment, Running, ended, replaced}
 use Rattle.turns.specs.QuietTurns.{HasMet, AwayNodesHaveCause, HoldsLess, IsQuietCall, IsQuietStep, QuietCallsAnswer, QuietCallsEnd, QuietCallsKeep, QuietCallsRefuse, QuietCallsTurn, RefusedFlowsEnd, RefusedWritesGoOut, WritesSpend, behind_call, ending, going_on, with_batch, with_call}
@@ -120,8 +120,8 @@ module _ (store shards : ℕ) (left : NodeName → List Record → Type 0) (now 
   found_before = IsHorizonIn store shards left now.nodes
 
   module _ (r : Running) (running : Contains now.running r) where
-    turned : (holds : Holds) (met : Option Refusal) (ran : Moment) → ran.machine ≡ m → id_of holds ≡ id_of r.holds → HasMet shards now ran r met
-        → IsTurned shards found_before now r call.moves ran (with_call r holds met m)
+    turned : (holds : Holds) (met : Option Refusal) (ran : Moment) → ran.machine ≡ m → id_of holds ≡ id_of r.holds → HasMet shards call.node now ran r met
+        → IsTurned shards found_before call.node now r call.moves ran (with_call r holds met m)
     turned holds met ran is_m same_id has_met = record {
       slot = refl;
       asked = refl;
@@ -135,7 +135,7 @@ module _ (store shards : ℕ) (left : NodeName → List Record → Type 0) (now 
 
     -- the turn, whatever it tells
     turns_as : (holds : Holds) (met : Option Refusal) (told : List Told) (running_after : List Running) (told_after : List WriteId) → id_of holds ≡ id_of r.holds
-        → HasMet shards now (record now { nodes = next; machine = m; running = running_after; told = told_after }) r met
+        → HasMet shards call.node now (record now { nodes = next; machine = m; running = running_after; told = told_after }) r met
         → (((r.is_cancelled ≡ false) × ((t : Told) × (told ≡ t ∷ []) × EndsAs shards found_before now (with_call r holds met m) (record now { nodes = next; machine = m; running = running_after; told = told_after }) t))
         ⊎ ((r.is_cancelled ≡ true) × (told ≡ []) × EndsQuietly shards found_before now (with_call r holds met m) (record now { nodes = next; machine = m; running = running_after; told = told_after })))
         → Turns shards found_before now r told (record now { nodes = next; machine = m; running = running_after; told = told_after })
@@ -146,14 +146,14 @@ module _ (store shards : ℕ) (left : NodeName → List Record → Type 0) (now 
       others = call.others;
       called = call.called;
       later = with_call r holds met m;
-      open_writes = inl call.open_writes;
+      open_writes = inl (call.open_writes, same_id);
       turned = turned holds met (record now { nodes = next; machine = m; running = running_after; told = told_after }) refl same_id has_met;
       named = refl;
       tells = tells;
     }
 
     -- the flow goes on
-    goes_on_as : (holds : Holds) (met : Option Refusal) → id_of holds ≡ id_of r.holds → HasMet shards now (going_on now next m (with_call r holds met m)) r met
+    goes_on_as : (holds : Holds) (met : Option Refusal) → id_of holds ≡ id_of r.holds → HasMet shards call.node now (going_on now next m (with_call r holds met m)) r met
         → Turns shards found_before now r (told_unless r.is_cancelled) (going_on now next m (with_call r holds met m))
     goes_on_as holds met same_id has_met = turns_as holds met (told_unless r.is_cancelled) (replaced (with_call r holds met m) now.running) now.told same_id has_met tells
       where
@@ -165,7 +165,7 @@ module _ (store shards : ℕ) (left : NodeName → List Record → Type 0) (now 
             (cases_Bool r.is_cancelled)
 
 -- A quiet call is such a change.
-change_of : (store shards : ℕ) (left after : NodeName → List Record → Type 0) (now : Moment) (next : Nodes) (m : Machine) → IsQuietCall store shards left after now next m → IsQuietChange store shards left now next m
+abbrev change_of : (store shards : ℕ) (left after : NodeName → List Record → Type 0) (now : Moment) (next : Nodes) (m : Machine) → IsQuietCall store shards left after now next m → IsQuietChange store shards left now next m
 change_of store shards left after now next m call = record {
   moves = call.moves;
   machine = call.machine;
@@ -191,7 +191,7 @@ module _ (store shards : ℕ) (left after : NodeName → List Record → Type 0)
       (is_same_node n call.node)
 
   module _ (r : Running) (running : Contains now.running r) where
-    pub go_on : (holds : Holds) (met : Option Refusal) → IsQuietStep store shards left after now next m r (with_call r holds met m) → HasMet shards now (going_on now next m (with_call r holds met m)) r met
+    pub go_on : (holds : Holds) (met : Option Refusal) → IsQuietStep store shards left after now next m r (with_call r holds met m) → HasMet shards call.node now (going_on now next m (with_call r holds met m)) r met
         → Stands store shards after (going_on now next m (with_call r holds met m)) × Turns shards known_before now r (told_unless r.is_cancelled) (going_on now next m (with_call r holds met m))
     go_on holds met step has_met = (
       flows_go_on store shards after (behind_call now next m) r (with_call r holds met m) call.stands running refl step.same_id
@@ -215,7 +215,7 @@ module _ (store shards : ℕ) (left after : NodeName → List Record → Type 0)
       turns_as store shards left now next m change r running holds r.met (answered a ∷ []) (ended r.slot now.running) (told_by a ++ now.told) same_id (inl refl) (inl (alive, (answered a, refl, (agrees, refl, refl)))),
     )
 
-    pub refuse : (e : Refusal) → r.is_cancelled ≡ false → (r.decided ≡ None → e ≢ Unsure) → (e ≢ Unsure → r.decided ≡ None) → HasMet shards now (ending now next m r []) r (Some e)
+    pub refuse : (e : Refusal) → r.is_cancelled ≡ false → (r.decided ≡ None → e ≢ Unsure) → (e ≢ Unsure → r.decided ≡ None) → HasMet shards call.node now (ending now next m r []) r (Some e)
         → Stands store shards after (ending now next m r []) × Turns shards known_before now r (refuses e ∷ []) (ending now next m r [])
     refuse e alive not_unsure none has_met = (
       ended_stands,
@@ -254,21 +254,21 @@ module _ (store shards : ℕ) (left after : NodeName → List Record → Type 0)
         })
 
     -- a refusal with its cause, of a flow that has not decided, is not Unsure
-    sure_of : (ran : Moment) (e : Refusal) → r.decided ≡ None → HasItsCause shards now ran r e → e ≢ Unsure
-    sure_of ran e none cause is = ⊎_elim
-        (λ own. let d = subst (IsCause shards now ran r) is own in let both : None ≡ Some d.0 = sym none ∙ d.1 in cc)
-        (λ away. not_unsure e (call.stands.nodes.sound away.0 e (still_refused (now.nodes.at away.0) (next.at away.0) e (turns_at away.0) away.2)) is)
+    sure_of : (n : NodeName) (ran : Moment) (e : Refusal) → r.decided ≡ None → HasItsCause shards n now ran r e → e ≢ Unsure
+    sure_of n ran e none cause is = ⊎_elim
+        (λ own. let d = subst (IsCause shards n now ran r) is own in let both : None ≡ Some d.0 = sym none ∙ d.1 in cc)
+        (λ away. not_unsure e (call.stands.nodes.sound n e (still_refused (now.nodes.at n) (next.at n) e (turns_at n) away.1)) is)
         cause
 
     pub go_out : (h k : WriteHolds) (changes : List Change) (conditions : List Condition) (e : Refusal) → r.asked ≡ to_write changes conditions → r.holds ≡ writing h → HoldsLess h k → k.way ≡ outward (Some e)
-        → r.decided ≡ None → HasItsCause shards now (going_on now next m (with_call r (writing k) (Some e) m)) r e
+        → r.decided ≡ None → HasItsCause shards call.node now (going_on now next m (with_call r (writing k) (Some e) m)) r e
         → Stands store shards after (going_on now next m (with_call r (writing k) (Some e) m)) × Turns shards known_before now r (told_unless r.is_cancelled) (going_on now next m (with_call r (writing k) (Some e) m))
     go_out h k changes conditions e asked holds less goes_out none cause = go_on (writing k) (Some e)
         (record { call = call; running = running; same_id = less.id ∙ sym (ap id_of holds); right = right })
         (inr (e, refl, cause))
       where
-        sure : (f : Refusal) → HasItsCause shards now (going_on now next m (with_call r (writing k) (Some e) m)) r f → f ≢ Unsure
-        sure f its = sure_of (going_on now next m (with_call r (writing k) (Some e) m)) f none its
+        sure : (f : Refusal) → HasItsCause shards call.node now (going_on now next m (with_call r (writing k) (Some e) m)) r f → f ≢ Unsure
+        sure f its = sure_of call.node (going_on now next m (with_call r (writing k) (Some e) m)) f none its
 
         old : IsRightWrite shards after (behind_call now next m) r changes conditions h
         old = was h changes conditions asked holds
@@ -327,10 +327,10 @@ refused_flows_end store shards left after now next m r e call running no_write s
 pub away_nodes_have_cause : (store shards : ℕ) (left after : NodeName → List Record → Type 0) → AwayNodesHaveCause store shards left after
 away_nodes_have_cause store shards left after now behind r n e st same calls away = ⊎_elim
     (λ gone. (
-      subst (HasItsCause shards now behind r) (sym gone.1) (inl (n, calls, inl (ap (λ (nodes : Nodes). nodes.at n) same ∙ gone.0))),
+      subst (HasItsCause shards n now behind r) (sym gone.1) (inl (calls, inl (ap (λ (nodes : Nodes). nodes.at n) same ∙ gone.0))),
       λ is. let both : Down ≡ Unsure = sym gone.1 ∙ is in cc,
     ))
-    (λ refused_is. (inr (n, calls, refused_is), λ is. not_unsure e (st.nodes.sound n e refused_is) is))
+    (λ refused_is. (inr (calls, refused_is), λ is. not_unsure e (st.nodes.sound n e refused_is) is))
     away
 
 -- a call that changes nothing is quiet, of whatever node
@@ -345,6 +345,36 @@ nothing_changes store shards left now st = record {
   called = inl refl;
   open_writes = record { open_writes = refl; given = refl };
 }
+
+-- and so it is of the node that was called
+abbrev pub of_node : (store shards : ℕ) (left after : NodeName → List Record → Type 0) (now : Moment) (m : Machine) (n : NodeName) → IsQuietCall store shards left after now now.nodes m
+    → IsQuietCall store shards left after now now.nodes m
+of_node store shards left after now m n call = record {
+  stands = call.stands;
+  moves = call.moves;
+  machine = call.machine;
+  quiet = call.quiet;
+  node = n;
+  others = record { others = λ k ne. refl; open_writes = λ ne. refl; given = λ ne. refl };
+  called = inl refl;
+  open_writes = call.open_writes;
+}
+
+-- what a flow that is asked this and holds this calls, the flow calls
+pub calls_on : (shards : ℕ) (r : Running) (asked : Asked) (holds : Holds) (n : NodeName) → r.asked ≡ asked → r.holds ≡ holds → Calls shards asked holds n → Calls shards r.asked r.holds n
+calls_on shards r asked holds n asks held calls = subst (λ (a : Asked). Calls shards a r.holds n) (sym asks) (subst (λ (h : Holds). Calls shards asked h n) (sym held) calls)
+
+-- a flow that lets a shard learn takes memory
+pub lets_take_memory : (asked : Asked) → LetsLearn asked → TakesMemory asked
+lets_take_memory (to_write changes conditions) lets = tt
+lets_take_memory (to_read fresh sets) lets = tt
+lets_take_memory (to_check fresh x u) lets = tt
+lets_take_memory (to_watch c limit names) lets = absurd lets
+lets_take_memory (to_flush n) lets = absurd lets
+lets_take_memory (to_learn s) lets = tt
+lets_take_memory (to_resolve s) lets = tt
+lets_take_memory (to_raise x) lets = tt
+lets_take_memory (to_collect s) lets = absurd lets
 
 -- and so is one that stages a record, which is no opening, where the store goes on to stand
 pub one_more_staged : (store shards : ℕ) (left : NodeName → List Record → Type 0) (now : Moment) (next : Nodes) (n : NodeName) (r : Record) → StagesAt n r now.nodes next

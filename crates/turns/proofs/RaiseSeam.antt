@@ -227,8 +227,7 @@ pub raise_has_cause : (store shards : ℕ) (left : NodeName → List Record → 
 raise_has_cause store shards left D now after v r place st seen asked fits = (
   λ high. subst (IsFuture now.machine) (sym asked) (subst (λ (n : ℕ). n < place) (kept_is store shards left now v st seen) high),
   λ low. subst (IsBelow now.machine.horizon r) (sym asked) (subst (λ (n : ℕ). place < n) (horizon_is store shards left now v st seen) low),
-  λ full. subst (IsFull shards now r) (sym asked) (record {
-    node = coordinator;
+  λ full. subst (IsFull shards coordinator now r) (sym asked) (record {
     durable = v.durable;
     staged = v.staged;
     next = Horizon place;

@@ -44,8 +44,8 @@ module _ (shards : ℕ) (these those : ℕ → Type 0) (before : Moment) (more :
   decides_more : (r : Running) (moves : List Move) (after : Moment) (later : Running) → Decides shards these before r moves after later → Decides shards those before r moves after later
   decides_more r moves after later is = record { write = is.write; own = is.own; held = is.held; first = is.first; not_cancelled = is.not_cancelled; not_told = is.not_told; moves_are = is.moves_are; decided = is.decided }
 
-  turned_more : (r : Running) (moves : List Move) (after : Moment) (later : Running) → IsTurned shards these before r moves after later → IsTurned shards those before r moves after later
-  turned_more r moves after later is = record {
+  turned_more : (n : NodeName) (r : Running) (moves : List Move) (after : Moment) (later : Running) → IsTurned shards these n before r moves after later → IsTurned shards those n before r moves after later
+  turned_more n r moves after later is = record {
     slot = is.slot;
     asked = is.asked;
     same_id = is.same_id;
@@ -76,7 +76,7 @@ module _ (shards : ℕ) (these those : ℕ → Type 0) (before : Moment) (more :
     called = is.called;
     later = is.later;
     open_writes = is.open_writes;
-    turned = turned_more r is.moves after is.later is.turned;
+    turned = turned_more is.node r is.moves after is.later is.turned;
     named = is.named;
     tells = ⊎_elim
         (λ loud. inl (loud.0, (loud.1.0, loud.1.1, ends_more is.later after loud.1.0 loud.1.2)))

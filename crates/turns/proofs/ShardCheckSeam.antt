@@ -9,9 +9,9 @@ use Rattle.tuples.specs.Walking.{IsCheckSelection}
 use Rattle.refusal.specs.declared.refusal.Refusal.TheVariants.{Collected, NoMemory, Unsure}
 use Rattle.records.specs.declared.record.Record.{Record}
 use Rattle.shard.specs.Shards.{ShardView, memory}
-use Rattle.laws.specs.Nodes.{NodeName, coordinator}
-use Rattle.turns.specs.Causes.{HasItsCause, IsBelow}
-use Rattle.turns.specs.Flows.{Asked, CheckHolds, Freshness, Holds, checking, id_of, to_check}
+use Rattle.laws.specs.Nodes.{NodeName, coordinator, shard}
+use Rattle.turns.specs.Causes.{HasItsCause, IsBelow, TakesMemory}
+use Rattle.turns.specs.Flows.{Asked, CheckHolds, Freshness, Holds, checking, id_of, place_of, to_check}
 use Rattle.turns.specs.Held.{IsRight, IsRightCheck}
 use Rattle.turns.specs.Moments.{Moment, Running}
 use Rattle.turns.specs.QuietTurns.{with_call}
@@ -43,7 +43,7 @@ module _ (store shards : ℕ) (left : NodeName → List Record → Type 0) {D : 
   collected : place < (memory old).horizon → IsBelow now.machine.horizon r r.asked
   collected low =
       let means = known_means store shards left now s (memory old) st seen.there (knows store shards left now old s seen) in
-      subst (IsBelow now.machine.horizon r) (sym own.asked) (wants_below r fresh now.machine.horizon place (held.place place own.at_place).wanted (omega (arith, low, means.horizon)))
+      subst (IsBelow now.machine.horizon r) (sym own.asked) (wants_below r fresh now.machine.horizon place (ap place_of own.holds ∙ own.at_place) (held.place place own.at_place).wanted (omega (arith, low, means.horizon)))
 
 pub check_turns : (store shards : ℕ) (left : NodeName → List Record → Type 0) (D : Type 0) → CheckTurns store shards left D
 check_turns store shards left D now old s fresh x y u place rows r h later st some seen of_shard own reply walks not_held =
@@ -68,8 +68,8 @@ check_yes_turns store shards left D now old s fresh x y u place rows r h st some
 pub refused_checks_have_cause : (store shards : ℕ) (left : NodeName → List Record → Type 0) (D : Type 0) → RefusedChecksHaveCause store shards left D
 refused_checks_have_cause store shards left D now behind old s fresh x u place e r h st seen own is_of = ⊎_elim
     (λ is. (
-      subst (HasItsCause shards now behind r) (sym is.0) (inl (collected store shards left now old s fresh x u place r h st seen own is.1)),
+      subst (HasItsCause shards (shard s) now behind r) (sym is.0) (inl (collected store shards left now old s fresh x u place r h st seen own is.1)),
       λ same. let both : Collected ≡ Unsure = sym is.0 ∙ same in cc,
     ))
-    (λ is. (subst (HasItsCause shards now behind r) (sym is) (inl tt), λ same. let both : NoMemory ≡ Unsure = sym is ∙ same in cc))
+    (λ is. (subst (HasItsCause shards (shard s) now behind r) (sym is) (inl (subst TakesMemory (sym own.asked) tt)), λ same. let both : NoMemory ≡ Unsure = sym is ∙ same in cc))
     is_of

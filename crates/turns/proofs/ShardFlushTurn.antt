@@ -5,7 +5,7 @@ use Rattle.refusal.specs.declared.refusal.Refusal.{Refusal}
 use Rattle.refusal.specs.declared.refusal.Refusal.TheVariants.{Down, Unsure}
 use Rattle.records.specs.declared.record.Record.{Record}
 use Rattle.laws.specs.Nodes.{NodeName, Nodes, coordinator, down, shard, up}
-use Rattle.turns.specs.Causes.{HasItsCause, IsDown}
+use Rattle.turns.specs.Causes.{Calls, HasItsCause}
 use Rattle.turns.specs.Flows.{Asked, to_flush}
 use Rattle.turns.specs.FlushLaws.{FlushesShard, ShardFlushesAnswer}
 use Rattle.turns.specs.Moments.{Moment, Running, ended, is_write}
@@ -25,8 +25,8 @@ module _ (store shards : ℕ) (left after : NodeName → List Record → Type 0)
   nor_here : shard s ≢ coordinator
   nor_here same = let e : 1 ≡ 0 = ap is_shard same in omega (arith, e)
 
-  turned : (o : Option Refusal) → (o ≡ r.met) ⊎ ((e : Refusal) × (o ≡ Some e) × HasItsCause shards now flushed r e)
-      → IsTurned shards (IsHorizonIn store shards left now.nodes) now r [] flushed (record r { seen = r.seen ++ now.machine ∷ []; met = o })
+  turned : (o : Option Refusal) → (o ≡ r.met) ⊎ ((e : Refusal) × (o ≡ Some e) × HasItsCause shards (shard s) now flushed r e)
+      → IsTurned shards (IsHorizonIn store shards left now.nodes) (shard s) now r [] flushed (record r { seen = r.seen ++ now.machine ∷ []; met = o })
   turned o why = record {
     slot = refl;
     asked = refl;
@@ -46,7 +46,7 @@ module _ (store shards : ℕ) (left after : NodeName → List Record → Type 0)
     others = flush.others;
     called = inr (inr (inl (record { durable = flush.durable; staged = flush.staged; was = flush.was; now = is_up })));
     later = record r { seen = r.seen ++ now.machine ∷ [] };
-    open_writes = inl (record { open_writes = flush.others.open_writes nor_here; given = flush.others.given nor_here });
+    open_writes = inl (record { open_writes = flush.others.open_writes nor_here; given = flush.others.given nor_here }, refl);
     turned = turned r.met (inl refl);
     named = refl;
     tells = inl (goes_on, (answered done, refl, (subst (λ (a : Asked). Agrees (record r { seen = r.seen ++ now.machine ∷ [] }) flushed a done) (sym asked) tt, refl, refl)));
@@ -60,8 +60,8 @@ module _ (store shards : ℕ) (left after : NodeName → List Record → Type 0)
     others = flush.others;
     called = inr (inr (inr (record { durable = flush.durable; staged = flush.staged; was = flush.was; now = is_down })));
     later = record r { seen = r.seen ++ now.machine ∷ []; met = Some Down };
-    open_writes = inl (record { open_writes = flush.others.open_writes nor_here; given = flush.others.given nor_here });
-    turned = turned (Some Down) (inr (Down, refl, inl (subst (IsDown shards next) (sym asked) (shard s, (in_store, refl), inl is_down))));
+    open_writes = inl (record { open_writes = flush.others.open_writes nor_here; given = flush.others.given nor_here }, refl);
+    turned = turned (Some Down) (inr (Down, refl, inl (subst (λ (a : Asked). Calls shards a r.holds (shard s)) (sym asked) (in_store, refl), inl is_down)));
     named = refl;
     tells = inl (goes_on, (refuses Down, refl, (record { met = refl; decided = λ none. not_unsure; undecided_write = λ other. (st.flows.quiet r there (ap is_write asked)).0 }, refl, refl)));
   }

@@ -1,9 +1,10 @@
 -- What a shard's own contracts of learning, of a drop and of a collection say makes turns of a run.
-use Rattle.std.proofs.Common.{◌≡◌, ◌≢◌, ◌⊎◌, inl, inr, ⊎_elim, ℕ, ◌≤◌, ◌<◌, ◌+◌, Bool, true, List, [], ◌∷◌, ◌++◌, length, Option, Some, None, refl, sym, ◌∙◌, ap, subst, arith, append_assoc}
+use Rattle.std.proofs.Common.{◌≡◌, ◌≢◌, ◌⊎◌, inl, inr, ⊎_elim, ℕ, ◌≤◌, ◌<◌, ◌+◌, ◌-◌, Bool, true, List, [], ◌∷◌, ◌++◌, length, drop, take, Option, Some, None, refl, sym, ◌∙◌, ap, subst, arith, append_assoc}
 use Rattle.std.specs.Option.{is_some}
 use Rattle.std.proofs.lemmas.Bool.{cases_lt}
-use Rattle.std.proofs.lemmas.List.{append-nil}
+use Rattle.std.proofs.lemmas.List.{append-nil, drop-drop, drop-take}
 use Rattle.replay.proofs.States.{shard_push}
+use Rattle.tuples.specs.declared.entry.Entry.{Entry}
 use Rattle.tuples.specs.declared.entry.WriteId.{WriteId}
 use Rattle.refusal.specs.declared.refusal.Refusal.{Refusal}
 use Rattle.refusal.specs.declared.refusal.Refusal.TheVariants.{Damaged, Full, NoMemory, Unsure}
@@ -19,9 +20,11 @@ use Rattle.shard.specs.Calls.{CollectsAt, DropsAt, LearnRefused, LearnsAt}
 use Rattle.shard.specs.Shards.{AreLearnable, IsUp, ShardView, Stages, learning, memory, placed_ids_from, unlearned}
 use Rattle.shard.proofs.Given.{given_image}
 use Rattle.shard.proofs.Parts.{all_prepared, learned_spelled}
+use Rattle.laws.specs.Machines.{Machine}
 use Rattle.laws.specs.Nodes.{NodeName, shard}
+use Rattle.laws.specs.ShardLaws.{AreOfLog}
 use Rattle.laws.specs.Worlds.{shard_node}
-use Rattle.turns.specs.Causes.{CallsShard, HasFullBatch, HasItsCause, IsFull, LetsLearn, Stages as MayStage}
+use Rattle.turns.specs.Causes.{CallsShard, HasFullBatch, HasItsCause, IsFull, IsToLearn, LetsLearn, Stages as MayStage}
 use Rattle.turns.specs.Flows.{Asked, Holds, checking, collecting, flushing, id_of, learning as learns, raising, reading, resolving, to_check, to_collect, to_flush, to_learn, to_raise, to_read, to_resolve, to_watch, to_write, watching, writing}
 use Rattle.turns.specs.Held.{IfHeld, IsRight, IsRightBatch, IsRightResolve, IsRightVerdict, IsRightWrite}
 use Rattle.turns.specs.Moments.{Moment, Running}
@@ -31,7 +34,7 @@ use Rattle.turns.specs.StagingLaws.{with_nodes}
 use Rattle.turns.specs.Stands.{Stands}
 use Rattle.turns.proofs.AnswerTurns.{collects_end}
 use Rattle.turns.proofs.Batches.{batches_meet_prepares}
-use Rattle.turns.proofs.QuietTurns.{quiet_calls_keep, quiet_calls_turn, writes_spend}
+use Rattle.turns.proofs.QuietTurns.{lets_take_memory, quiet_calls_keep, quiet_calls_turn, writes_spend}
 use Rattle.turns.proofs.ShardSeam.{knows, seen_after, staged_quietly, staging, unchanged}
 use Rattle.turns.proofs.ShardStagesSteps.{collects_stand, drops_stand, learns_stand}
 
@@ -49,20 +52,37 @@ batch_right shards left now r (to_collect s) (collecting h) k = k.batch
 batch_right shards left now r asked h k = absurd k
 
 -- a batch that has no room is the cause of Full, whatever was asked
-full_of : (shards : ℕ) (now : Moment) (r : Running) (asked : Asked) → HasFullBatch shards now.nodes r.asked (id_of r.holds) → IsFull shards now r asked
-full_of shards now r (to_write changes conditions) full = inl full
-full_of shards now r (to_read fresh sets) full = full
-full_of shards now r (to_check fresh x u) full = inl full
-full_of shards now r (to_watch c limit names) full = full
-full_of shards now r (to_flush n) full = full
-full_of shards now r (to_learn s) full = full
-full_of shards now r (to_resolve s) full = full
-full_of shards now r (to_raise x) full = full
-full_of shards now r (to_collect s) full = full
+full_of : (shards : ℕ) (n : NodeName) (now : Moment) (r : Running) (asked : Asked) → HasFullBatch shards n now r → IsFull shards n now r asked
+full_of shards n now r (to_write changes conditions) full = inl full
+full_of shards n now r (to_read fresh sets) full = full
+full_of shards n now r (to_check fresh x u) full = inl full
+full_of shards n now r (to_watch c limit names) full = full
+full_of shards n now r (to_flush k) full = full
+full_of shards n now r (to_learn s) full = full
+full_of shards n now r (to_resolve s) full = full
+full_of shards n now r (to_raise x) full = full
+full_of shards n now r (to_collect s) full = full
 
--- a flow that lets a shard learn stages what is learned there
-stages_learned : (shards : ℕ) (asked : Asked) (own : Option WriteId) (s : ℕ) (me : Identity) (m : ShardState) (b : BatchValue) → LetsLearn asked → MayStage shards asked own (shard s) (learning me m b.from b.writes)
-stages_learned shards asked own s me m b lets = lets
+-- what a batch has behind a place is what the log has there, up to the batch's end
+behind_place : (log writes : List Entry) (from p : ℕ) → AreOfLog log from writes → from ≤ p → p ≤ from + length writes → drop (p - from) writes ≡ take (from + length writes - p) (drop p log)
+behind_place log writes from p are low high =
+    let k = p - from in
+    let m = from + length writes - p in
+    let cut : length writes ≡ k + m = omega (arith, low, high) in
+    let place : from + k ≡ p = omega (arith, low) in
+    ap (drop k) are
+    ∙ ap (λ (l : ℕ). drop k (take l (drop from log))) cut
+    ∙ drop-take k m (drop from log)
+    ∙ ap (take m) (drop-drop k from log ∙ ap (λ (q : ℕ). drop q log) place)
+
+-- what a batch that is right has for a shard is to be learned there
+is_to_learn : (shards s : ℕ) (m : Machine) (known : List Record) (b : BatchValue) → IsRightBatch m b → b.from ≤ (shard_state known).learned → (shard_state known).learned < b.from + length b.writes
+    → IsToLearn shards s m known (b.from + length b.writes) (placed_ids_from shards s ((shard_state known).learned + 1) (unlearned (shard_state known) b.from b.writes))
+is_to_learn shards s m known b right low high = record {
+  more = high;
+  kept = (let kept = right.kept in let within = right.within in omega (arith, kept, within));
+  placed = ap (placed_ids_from shards s ((shard_state known).learned + 1)) (behind_place m.log b.writes b.from (shard_state known).learned right.writes low (omega (arith, high)));
+}
 
 has_room : (staged : List Record) (r : Record) → HasNoRoom staged r ⊎ (HasNoRoom staged r → ⊥)
 has_room staged r = ⊎_elim
@@ -107,7 +127,7 @@ module _ (store shards : ℕ) (left : NodeName → List Record → Type 0) {D : 
           (λ known. unchanged store shards left now old s seen new st (call.known known).1)
           (cases_lt (memory old).learned (b.from + length b.writes))
 
-    module _ (e : Refusal) (behind : Moment) (calls : CallsShard shards r.asked s) (lets : LetsLearn r.asked) (is_up : IsUp state honest old) (few : length b.writes ≤ 256) (fits : b.from + length b.writes ≤ greatest_number)
+    module _ (e : Refusal) (behind : Moment) (calls : CallsShard shards r.asked r.holds s) (lets : LetsLearn r.asked) (is_up : IsUp state honest old) (few : length b.writes ≤ 256) (fits : b.from + length b.writes ≤ greatest_number)
         (given_up : LearnRefused old b e) where
       low : b.from ≤ (memory old).learned
       low = ⊎_elim (λ ahead. absurd (given_up.not_ahead ahead)) (λ le. le) (cases_lt (memory old).learned b.from)
@@ -124,24 +144,27 @@ module _ (store shards : ℕ) (left : NodeName → List Record → Type 0) {D : 
           (all_prepared old.me (memory old) ((memory old).learned + 1) (unlearned (memory old) b.from b.writes) learnable_here)
           (omega (arith, few)) (given_image old.me (old.durable ++ old.staged) is_up.image)
 
-      refused_cause : (e ≡ NoMemory) ⊎ ((e ≡ Full) ⊎ (e ≡ Damaged)) → HasItsCause shards now behind r e × (e ≢ Unsure)
+      refused_cause : (e ≡ NoMemory) ⊎ ((e ≡ Full) ⊎ (e ≡ Damaged)) → HasItsCause shards (shard s) now behind r e × (e ≢ Unsure)
       refused_cause is_of = ⊎_elim
-          (λ is. (subst (HasItsCause shards now behind r) (sym is) (inl tt), λ same. let both : NoMemory ≡ Unsure = sym is ∙ same in cc))
+          (λ is. (subst (HasItsCause shards (shard s) now behind r) (sym is) (inl (lets_take_memory r.asked lets)), λ same. let both : NoMemory ≡ Unsure = sym is ∙ same in cc))
           (λ rest. ⊎_elim
-          (λ is. (subst (HasItsCause shards now behind r) (sym is) (inl (full_of shards now r r.asked (full is))), λ same. let both : Full ≡ Unsure = sym is ∙ same in cc))
+          (λ is. (subst (HasItsCause shards (shard s) now behind r) (sym is) (inl (full_of shards (shard s) now r r.asked (full is))), λ same. let both : Full ≡ Unsure = sym is ∙ same in cc))
           (λ is. absurd ((given_up.damaged (record { from = low; to = high })).0 is learnable_here))
           rest)
           is_of
         where
-          full : e ≡ Full → HasFullBatch shards now.nodes r.asked (id_of r.holds)
+          staged_there : MayStage shards now.machine (old.durable ++ old.staged) r.asked (id_of r.holds) (shard s) (learning old.me (memory old) b.from b.writes)
+          staged_there = subst (λ (me : Identity). MayStage shards now.machine (old.durable ++ old.staged) r.asked (id_of r.holds) (shard s) (learning me (memory old) b.from b.writes)) (sym seen.me)
+              (lets, is_to_learn shards s now.machine (old.durable ++ old.staged) b right low high)
+
+          full : e ≡ Full → HasFullBatch shards (shard s) now r
           full is = record {
-            node = shard s;
             durable = old.durable;
             staged = old.staged;
             next = learning old.me (memory old) b.from b.writes;
             calls = (seen.there, calls);
             is_up = seen.at;
-            stages = stages_learned shards r.asked (id_of r.holds) s old.me (memory old) b lets;
+            stages = staged_there;
             is_record = spelled;
             no_room = given_up.full is;
           }
@@ -254,12 +277,11 @@ unfolding shard_state
 least_learned me rs image = learned_from me [] rs image (omega arith)
 
 pub refused_collects_have_cause : (store shards : ℕ) (left : NodeName → List Record → Type 0) {D : Type 0} (state : D → State) (honest : D → Type 0) → RefusedCollectsHaveCause store shards left state honest
-refused_collects_have_cause store shards left state honest now behind old s heads r st seen asked is_up low no_room = inl (full_of shards now r r.asked (record {
-  node = shard s;
+refused_collects_have_cause store shards left state honest now behind old s heads r st seen asked is_up low no_room = inl (full_of shards (shard s) now r r.asked (record {
   durable = old.durable;
   staged = old.staged;
   next = Horizon heads.horizon;
-  calls = (seen.there, subst (λ (a : Asked). CallsShard shards a s) (sym asked) refl);
+  calls = (seen.there, subst (λ (a : Asked). CallsShard shards a r.holds s) (sym asked) refl);
   is_up = seen.at;
   stages = asked;
   is_record = (let most = least_learned old.me (old.durable ++ old.staged) is_up.image in omega (arith, most, low));

@@ -18,7 +18,7 @@ use Rattle.shard.specs.Calls.{PrepareRefused, PreparesAt, VotesAt}
 use Rattle.shard.specs.Shards.{AskBelow, IsBroken, IsBusy, IsPreparable, IsUp, ShardView, Stages, memory, own_part}
 use Rattle.shard.proofs.Tested.{part_prepared, same_part_id}
 use Rattle.laws.specs.Nodes.{NodeName, Nodes, ShardKnows, leaves, shard}
-use Rattle.turns.specs.Causes.{HasItsCause, IsCause, IsCutOff}
+use Rattle.turns.specs.Causes.{HasItsCause, IsCause, IsCutOff, TakesMemory}
 use Rattle.turns.specs.Flows.{Asked, HeldTicket, HeldVote, Holds, WriteHolds, id_of, onward, outward, writing}
 use Rattle.turns.specs.Held.{HoldsOf, IsRight, IsRightTicket, IsRightVote, IsRightWrite, own_write}
 use Rattle.turns.specs.Moments.{Moment, Running}
@@ -30,7 +30,7 @@ use Rattle.turns.specs.Stands.{Stands}
 use Rattle.turns.proofs.AbortCauses.{refused_tickets}
 use Rattle.turns.proofs.PrepareTurn.{broken_shards_have_cause, busy_shards_have_cause, collected_shards_have_cause, full_shards_have_cause, prepared_conditions_are_met}
 use Rattle.turns.proofs.FlowBegins.{alone}
-use Rattle.turns.proofs.QuietTurns.{all_of, nothing_changes, quiet_calls_turn, refused_writes_go_out, staged_and_goes_on}
+use Rattle.turns.proofs.QuietTurns.{all_of, nothing_changes, of_node, quiet_calls_turn, refused_writes_go_out, staged_and_goes_on}
 use Rattle.turns.proofs.ShardSeam.{known_left, knows, left_or_known, memory_after, own_is, same_epoch, seen_after, staging, step}
 use Rattle.turns.proofs.ShardStagesSteps.{prepares_stand}
 
@@ -151,18 +151,18 @@ module _ (store shards : ℕ) (left : NodeName → List Record → Type 0) {D : 
           )
 
     -- what it refuses has its cause
-    refused_cause : (behind : Moment) (e : Refusal) → IsIntent w → find_in_doubt w.id (memory old).in_doubt ≡ None → PrepareRefused old w e → IsOfPrepare e → HasItsCause shards now behind r e
+    refused_cause : (behind : Moment) (e : Refusal) → IsIntent w → find_in_doubt w.id (memory old).in_doubt ≡ None → PrepareRefused old w e → IsOfPrepare e → HasItsCause shards (shard s) now behind r e
     refused_cause behind e intent fresh given_up is_of = inl (⊎_elim
-        (λ is. subst (λ x. IsCause shards now behind r x) (sym is) (collected_shards_have_cause store shards left now behind r w s (asks fresh)
+        (λ is. subst (λ x. IsCause shards (shard s) now behind r x) (sym is) (collected_shards_have_cause store shards left now behind r w s (asks fresh)
         (subst (λ (p : Entry). AskBelow (memory old).horizon p.conditions) own_here (given_up.collected is))))
         (λ more. ⊎_elim
-        (λ is. subst (λ x. IsCause shards now behind r x) (sym is) (busy_shards_have_cause store shards left now behind r w s (asks fresh) (subst (IsBusy (memory old)) own_here (given_up.busy is))))
+        (λ is. subst (λ x. IsCause shards (shard s) now behind r x) (sym is) (busy_shards_have_cause store shards left now behind r w s (asks fresh) (subst (IsBusy (memory old)) own_here (given_up.busy is))))
         (λ rest. ⊎_elim
-        (λ is. subst (λ x. IsCause shards now behind r x) (sym is) (broken_shards_have_cause store shards left now behind r w s (asks fresh) (subst (IsBroken (memory old)) own_here (given_up.broken is))))
+        (λ is. subst (λ x. IsCause shards (shard s) now behind r x) (sym is) (broken_shards_have_cause store shards left now behind r w s (asks fresh) (subst (IsBroken (memory old)) own_here (given_up.broken is))))
         (λ last. ⊎_elim
-        (λ is. subst (λ x. IsCause shards now behind r x) (sym is) (full_shards_have_cause store shards left now behind r w s (asks fresh) (part_prepared shards s w intent takes)
+        (λ is. subst (λ x. IsCause shards (shard s) now behind r x) (sym is) (full_shards_have_cause store shards left now behind r w s (asks fresh) (part_prepared shards s w intent takes)
         (subst (λ (p : Entry). HasNoRoom old.staged (Prepare p)) own_here (given_up.full is).1)))
-        (λ is. subst (λ x. IsCause shards now behind r x) (sym is) tt)
+        (λ is. subst (λ x. IsCause shards (shard s) now behind r x) (sym is) (subst TakesMemory (sym own.flow.asked) tt))
         last)
         rest)
         more)
@@ -249,7 +249,8 @@ prepare_turns_of store shards left state honest now old new s w t r h st seen ow
 
 pub refused_prepare_turns : (store shards : ℕ) (left : NodeName → List Record → Type 0) {D : Type 0} (state : D → State) (honest : D → Type 0) → RefusedPrepareTurns store shards left state honest
 refused_prepare_turns store shards left state honest now old s w e r h st seen own takes intent way nothing given_up is_of =
-    refused_writes_go_out store shards left left now now.nodes now.machine r h (record h { way = outward (Some e) }) w.changes w.conditions e (nothing_changes store shards left now st)
+    refused_writes_go_out store shards left left now now.nodes now.machine r h (record h { way = outward (Some e) }) w.changes w.conditions e
+    (of_node store shards left left now now.machine (shard s) (nothing_changes store shards left now st))
     own.flow.there own.flow.asked own.holds (less_way h e) refl own.flow.undecided
     (refused_cause store shards left now old s w r h st seen own takes (going_on now now.nodes now.machine (with_call r (writing (record h { way = outward (Some e) })) (Some e) now.machine)) e intent
     (not_prepared store shards left now old s w r h st seen own way nothing) given_up is_of)

@@ -14,8 +14,8 @@ use Rattle.decisions.specs.Standing.{IsSettled}
 use Rattle.shard.specs.Calls.{ReadsAt}
 use Rattle.shard.specs.Shards.{ShardView, ids, memory}
 use Rattle.laws.specs.Nodes.{NodeName, coordinator, shard}
-use Rattle.turns.specs.Causes.{HasItsCause, IsBelow, WantsBelow}
-use Rattle.turns.specs.Flows.{Asked, Freshness, Holds, RaiseHolds, ReadHolds, at_least, exact, id_of, latest, raising, reading, to_raise, to_read}
+use Rattle.turns.specs.Causes.{HasItsCause, IsBelow, TakesMemory, WantsBelow}
+use Rattle.turns.specs.Flows.{Asked, Freshness, Holds, RaiseHolds, ReadHolds, at_least, exact, id_of, latest, place_of, raising, reading, to_raise, to_read}
 use Rattle.turns.specs.Held.{IsRight, IsRightRaise, IsRightRead, IsRightSettled, WasGiven}
 use Rattle.turns.specs.Moments.{Moment, Running}
 use Rattle.turns.specs.QuietTurns.{with_call}
@@ -43,10 +43,10 @@ told_doubts_are_given store shards left state honest now old s told id st seen d
     (st.ids.prepares_given s (old.durable ++ old.staged) named.0 seen.there (known_left store shards left now old s seen st) named.1)
 
 -- a place that a flow reads at and that lies below the horizon is the cause of Collected
-pub wants_below : (r : Running) (f : Freshness) (h place : ℕ) → IsAsWanted f r place → place < h → WantsBelow h r f
-wants_below r latest h place wanted low = (place, wanted, low)
-wants_below r (at_least z) h place wanted low = (place, wanted.0, low)
-wants_below r (exact z) h place wanted low = let same = wanted.0 in omega (arith, same, low)
+pub wants_below : (r : Running) (f : Freshness) (h place : ℕ) → place_of r.holds ≡ Some place → IsAsWanted f r place → place < h → WantsBelow h r f
+wants_below r latest h place found wanted low = (place, (found, wanted, low))
+wants_below r (at_least z) h place found wanted low = (place, (found, wanted.0, low))
+wants_below r (exact z) h place found wanted low = let same = wanted.0 in omega (arith, same, low)
 
 module _ (store shards : ℕ) (left : NodeName → List Record → Type 0) {D : Type 0} (now : Moment) (old : ShardView D) (r : Running) (st : Stands store shards left now) (running : Contains now.running r) where
   -- the flow goes on with other rows
@@ -73,7 +73,7 @@ module _ (store shards : ℕ) (left : NodeName → List Record → Type 0) {D : 
     collected : (s place : ℕ) → ShardIsSeen store shards s now.nodes old → h.place ≡ Some place → place < (memory old).horizon → IsBelow now.machine.horizon r r.asked
     collected s place seen at_place low =
         let means = known_means store shards left now s (memory old) st seen.there (knows store shards left now old s seen) in
-        subst (IsBelow now.machine.horizon r) (sym asked) (wants_below r fresh now.machine.horizon place (held.place place at_place).wanted (omega (arith, low, means.horizon)))
+        subst (IsBelow now.machine.horizon r) (sym asked) (wants_below r fresh now.machine.horizon place (ap place_of holds ∙ at_place) (held.place place at_place).wanted (omega (arith, low, means.horizon)))
 
 pub read_turns : (store shards : ℕ) (left : NodeName → List Record → Type 0) {D : Type 0} (state : D → State) (honest : D → Type 0) → ReadTurns store shards left state honest
 read_turns store shards left state honest now old fresh sets place q rows merged r h st some seen running asked holds is_reading reply is_merged =
@@ -90,10 +90,10 @@ read_one_turns store shards left state honest now old s fresh sets place q rows 
 pub refused_reads_have_cause : (store shards : ℕ) (left : NodeName → List Record → Type 0) {D : Type 0} (state : D → State) (honest : D → Type 0) → RefusedReadsHaveCause store shards left state honest
 refused_reads_have_cause store shards left state honest now behind old s fresh sets place e r h st seen running asked holds at_place is_of = ⊎_elim
     (λ is. (
-      subst (HasItsCause shards now behind r) (sym is.0) (inl (collected store shards left now old r st running fresh sets h asked holds s place seen at_place is.1)),
+      subst (HasItsCause shards (shard s) now behind r) (sym is.0) (inl (collected store shards left now old r st running fresh sets h asked holds s place seen at_place is.1)),
       λ same. let both : Collected ≡ Unsure = sym is.0 ∙ same in cc,
     ))
-    (λ is. (subst (HasItsCause shards now behind r) (sym is) (inl tt), λ same. let both : NoMemory ≡ Unsure = sym is ∙ same in cc))
+    (λ is. (subst (HasItsCause shards (shard s) now behind r) (sym is) (inl (subst TakesMemory (sym asked) tt)), λ same. let both : NoMemory ≡ Unsure = sym is ∙ same in cc))
     is_of
 
 pub settle_turns : (store shards : ℕ) (left : NodeName → List Record → Type 0) {D : Type 0} (state : D → State) (honest : D → Type 0) → SettleTurns store shards left state honest

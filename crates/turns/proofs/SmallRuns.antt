@@ -115,7 +115,7 @@ two_events = (
       node = coordinator;
       others = record { others = λ m other. refl; open_writes = λ other. refl; given = λ other. refl };
       called = inl refl;
-      open_writes = inl (record { open_writes = refl; given = refl });
+      open_writes = inl (record { open_writes = refl; given = refl }, refl);
       later = record (begun 0 (to_flush coordinator)) { seen = flushed ∷ [] };
       turned = record {
         slot = refl;

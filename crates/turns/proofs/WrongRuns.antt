@@ -12,10 +12,10 @@ use Rattle.records.specs.declared.record.Record.{Record}
 use Rattle.records.specs.Replays.{ShardState, shard_state}
 use Rattle.decisions.specs.Standing.{DecidedValue}
 use Rattle.turns.specs.Causes.{HasItsCause, IsBusy, IsDown}
-use Rattle.turns.specs.Flows.{exact, latest, to_flush, to_read, to_write}
+use Rattle.turns.specs.Flows.{exact, latest, to_read, to_write}
 use Rattle.laws.specs.Machines.{Machine, Move, cut, raise}
 use Rattle.turns.specs.Moments.{Moment, Running, begun}
-use Rattle.laws.specs.Nodes.{coordinator, shard, NodeState, up, down, refused, Nodes}
+use Rattle.laws.specs.Nodes.{NodeName, NodeState, up, down, refused, Nodes}
 use Rattle.turns.specs.Replies.{IsAsWanted, IsReadAnswer, IsWriteAnswer}
 use Rattle.turns.specs.Runs.{Decides, IsQuiet, IsRefused, MayRise}
 use Rattle.turns.proofs.SmallRuns.{after_one_turn, moment_of, two_kept}
@@ -36,8 +36,8 @@ raised_unasked quiet = ⊎_elim (λ named. let has = named in omega (arith, has.
     (All-head (IsQuiet (MayRise 2 (λ x. ⊥) (moment_of two_kept []))) (raise 2) [] quiet)
 
 -- a read is never busy
-busy_read : (sets : List Tupleset) (after : Moment) → HasItsCause 2 (moment_of two_kept []) after (begun 0 (to_read latest sets)) Busy → ⊥
-busy_read sets after cause = ⊎_elim (λ never. never) (λ opening. down_is_not opening.2) cause
+busy_read : (n : NodeName) (sets : List Tupleset) (after : Moment) → HasItsCause 2 n (moment_of two_kept []) after (begun 0 (to_read latest sets)) Busy → ⊥
+busy_read n sets after cause = ⊎_elim (λ never. never) (λ opening. down_is_not opening.1) cause
   where
     down_is_not : down ≡ refused Busy → ⊥
     down_is_not is = cc
@@ -55,26 +55,22 @@ staged_part down = []
 staged_part (refused e) = []
 
 -- nor is a write where nothing is in doubt
-busy_for_nothing : IsBusy 2 free_moment None (to_write (Touch (viewed 97) ∷ []) []) → ⊥
+busy_for_nothing : (n : NodeName) → IsBusy 2 n free_moment None (to_write (Touch (viewed 97) ∷ []) []) → ⊥
 unfolding shard_state staged_part
-busy_for_nothing (t, has, held) =
+busy_for_nothing n (t, has, called, held) =
     let nothing : held.memory ≡ shard_state [] = held.knows.replayed ∙ ap shard_state (sym (ap staged_part held.knows.is_up)) in
     let none = subst (λ (m : ShardState). Contains m.in_doubt held.other) nothing held.in_doubt in
     omega (arith, none.1)
 
--- a flush of a coordinator that is up is not refused as down
-down_while_up : IsDown 2 all_up (to_flush coordinator) → ⊥
-down_while_up (coordinator, calls, state) = ⊎_elim (λ is. up_is_not_down is) (λ is. up_is_not_refused is) state
+-- where all nodes are up none is refused as down
+down_while_up : (n : NodeName) → IsDown all_up n → ⊥
+down_while_up n state = ⊎_elim (λ is. up_is_not_down is) (λ is. up_is_not_refused is) state
   where
     up_is_not_down : up [] [] ≡ down → ⊥
     up_is_not_down is = cc
 
     up_is_not_refused : up [] [] ≡ refused Down → ⊥
     up_is_not_refused is = cc
-down_while_up (shard s, calls, state) = other calls.1
-  where
-    other : coordinator ≡ shard s → ⊥
-    other is = cc
 
 -- a place that is not kept is not answered
 told_too_early : (r : Running) → IsWriteAnswer r two_kept (Touch (viewed 97) ∷ []) [] 3 → ⊥

@@ -179,13 +179,13 @@ only_phantom w (zero, lt, same) = same
 only_phantom w (suc k, lt, same) = absurd (omega (arith, lt))
 
 -- Busy for the flow's own prepare
-busy_by_itself : IsBusy 1 between_turns (Some phantom.id) (to_write (Touch (viewed 97) ∷ []) []) → ⊥
+busy_by_itself : (n : NodeName) → IsBusy 1 n between_turns (Some phantom.id) (to_write (Touch (viewed 97) ∷ []) []) → ⊥
 unfolding in_doubt_of
-busy_by_itself (t, (zero, lt, is), held) =
+busy_by_itself n (t, (zero, lt, is), called, held) =
     let owner : one_doubtful (shard (shard_of 1 t.object)) ≡ doubtful = ap (λ (u : Tuple). one_doubtful (shard (shard_of 1 u.object))) (sym is) ∙ at_owner in
     let known : (held.memory).in_doubt ≡ phantom ∷ [] = ap (λ (m : ShardState). m.in_doubt) held.knows.replayed ∙ ap in_doubt_of (sym held.knows.is_up ∙ owner) ∙ one_in_doubt in
     held.not_own (ap (λ (w : Entry). Some w.id) (only_phantom held.other (subst (λ (ws : List Entry). Contains ws held.other) known held.in_doubt)))
-busy_by_itself (t, (suc k, lt, is), held) = omega (arith, lt)
+busy_by_itself n (t, (suc k, lt, is), called, held) = omega (arith, lt)
 
 -- a stop inside a step leaves a content that holds no records, as a gate that was opened with its body
 unreadable_inside : {D : Type 0} (state : D → State) (honest : D → Type 0) (moment : D → ℕ) (left_since : D → ℕ → List ℕ → Type 0) (old new : NodeName → D × D) (before after : Machine) (a b : List ℕ)

@@ -104,5 +104,5 @@ module _ (store shards : ℕ) (left after : NodeName → List Record → Type 0)
   -- and so is one that fails, and Down has its cause then
   abbrev pub FailedFlushesAreQuiet : Type 0
   FailedFlushesAreQuiet = (now : Moment) (next : Nodes) → Stands store shards left now → FailsFlush left after now.nodes next
-      → IsQuietCall store shards left after now next now.machine
-      × ((r : Running) (ran : Moment) → ran.nodes ≡ next → Calls shards r.asked coordinator → HasItsCause shards now ran r Down)
+      → (call : IsQuietCall store shards left after now next now.machine)
+      × ((r : Running) (ran : Moment) → ran.nodes ≡ next → Calls shards r.asked r.holds coordinator → HasItsCause shards call.node now ran r Down)

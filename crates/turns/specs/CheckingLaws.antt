@@ -14,7 +14,7 @@ use Rattle.records.specs.Replays.{ShardState}
 use Rattle.laws.specs.Nodes.{NodeName, ShardKnows, coordinator}
 pub use Rattle.decisions.specs.Walks.{IsOneMore, Walks}
 use Rattle.turns.specs.Causes.{IsCause}
-use Rattle.turns.specs.Flows.{CheckHolds, Freshness, most_walked, to_check}
+use Rattle.turns.specs.Flows.{CheckHolds, Freshness, most_walked, place_of, to_check}
 use Rattle.turns.specs.Held.{IsRightCheck}
 use Rattle.turns.specs.Moments.{Moment, Running}
 use Rattle.turns.specs.Replies.{IsCheckAnswer, IsPlaceOf}
@@ -60,7 +60,7 @@ module _ (store shards : ℕ) (left : NodeName → List Record → Type 0) where
   ChecksSayNo = (now : Moment) (r : Running) (fresh : Freshness) (x : Userset) (u : User) (h : CheckHolds) (place : ℕ)
       → IsRightCheck shards left now r fresh x u h → h.place ≡ Some place → h.waiting ≡ [] → IsCheckAnswer fresh x u r now.machine place false
 
-  -- where as many were walked as may be, and one waits still, Full has its cause
+  -- where as many were walked as may be, and one waits still, Full has its cause, whichever node was called
   abbrev pub FullChecksHaveCause : Type 0
-  FullChecksHaveCause = (now after : Moment) (r : Running) (fresh : Freshness) (x : Userset) (u : User) (h : CheckHolds) (place : ℕ) (y : Userset) → r.asked ≡ to_check fresh x u
-      → IsRightCheck shards left now r fresh x u h → h.place ≡ Some place → most_walked ≤ length h.walked → Contains h.waiting y → IsCause shards now after r Full
+  FullChecksHaveCause = (n : NodeName) (now after : Moment) (r : Running) (fresh : Freshness) (x : Userset) (u : User) (h : CheckHolds) (place : ℕ) (y : Userset) → r.asked ≡ to_check fresh x u
+      → place_of r.holds ≡ Some place → IsRightCheck shards left now r fresh x u h → h.place ≡ Some place → most_walked ≤ length h.walked → Contains h.waiting y → IsCause shards n now after r Full

@@ -140,7 +140,7 @@ module _ (store shards : ℕ) (left : NodeName → List Record → Type 0) where
     -- a flow that asks for what lies above, by the heads that it got, is refused with cause, and so is one that asks for what lies below
     abbrev pub HeadsHaveCause : Type 0
     HeadsHaveCause = (now after : Moment) (v : CoordinatorView D) (r : Running) → Stands store shards left now → IsSeen now.nodes v
-        → (AsksAbove (heads_of v) r.asked → IsCause shards now after r Future) × (AsksBelow (heads_of v) r.asked → IsCause shards now after r Collected)
+        → (AsksAbove (heads_of v) r.asked → IsCause shards coordinator now after r Future) × (AsksBelow (heads_of v) r.asked → IsCause shards coordinator now after r Collected)
 
     -- the decisions behind a place are those of the log, and so many
     abbrev pub BatchAnswers : Type 0
@@ -156,7 +156,7 @@ module _ (store shards : ℕ) (left : NodeName → List Record → Type 0) where
     abbrev pub BatchHasCause : Type 0
     BatchHasCause = (now after : Moment) (v : CoordinatorView D) (r : Running) (from to : ℕ) → Stands store shards left now → IsSeen now.nodes v
         → (to ≤ now.machine.kept → end_of (kept_of v) < to → ⊥)
-        × ((limit : ℕ) (names : List (List ℕ)) → r.asked ≡ to_watch from limit names → from < (kept_of v).horizon → IsCause shards now after r Collected)
+        × ((limit : ℕ) (names : List (List ℕ)) → r.asked ≡ to_watch from limit names → from < (kept_of v).horizon → IsCause shards coordinator now after r Collected)
 
     -- what it finds of an id is right: a place for good, or that it is aborted
     abbrev pub InquiriesAnswer : Type 0
@@ -183,8 +183,8 @@ module _ (store shards : ℕ) (left : NodeName → List Record → Type 0) where
     abbrev pub DecideHasCause : Type 0
     DecideHasCause = (now after : Moment) (v : CoordinatorView D) (r : Running) (h : WriteHolds) (w : Entry) (intent : IntentValue) → Stands store shards left now → IsSeen now.nodes v
         → IsUndecidedFlow now r h w → h.intent ≡ Some intent
-        → ((Contains v.open_ids w.id → ⊥) ⊎ IsDecidedAbove v w.id → IsCause shards now after r Aborted)
-        × (IsRecord (Decision (end_of (memory_of v) + 1) w) → HasNoPlace v w → IsCause shards now after r Full)
+        → ((Contains v.open_ids w.id → ⊥) ⊎ IsDecidedAbove v w.id → IsCause shards coordinator now after r Aborted)
+        × (IsRecord (Decision (end_of (memory_of v) + 1) w) → HasNoPlace v w → IsCause shards coordinator now after r Full)
 
     -- it takes a raise: the flow has given what the shards settled, and the horizon is staged
     abbrev pub RaisesTurn : Type 0
@@ -197,8 +197,8 @@ module _ (store shards : ℕ) (left : NodeName → List Record → Type 0) where
     -- each refusal of a raise has its cause; the place is a number of 64 bits, as code has it
     abbrev pub RaiseHasCause : Type 0
     RaiseHasCause = (now after : Moment) (v : CoordinatorView D) (r : Running) (place : ℕ) → Stands store shards left now → IsSeen now.nodes v → r.asked ≡ to_raise place → place < 2 ^ 64
-        → (end_of (kept_of v) < place → IsCause shards now after r Future) × (place < (kept_of v).horizon → IsCause shards now after r Collected)
-        × (HasNoRoom v.staged (Horizon place) → IsCause shards now after r Full)
+        → (end_of (kept_of v) < place → IsCause shards coordinator now after r Future) × (place < (kept_of v).horizon → IsCause shards coordinator now after r Collected)
+        × (HasNoRoom v.staged (Horizon place) → IsCause shards coordinator now after r Full)
 
 -- and any while it is away
 abbrev pub AwayIsForgotten : Type 0

@@ -70,3 +70,9 @@ nothing_held (to_collect s) = collecting no_heads
 abbrev pub id_of : Holds → Option WriteId
 id_of (writing h) = h.id
 id_of holds = None
+
+-- the place that a read or a check has found
+abbrev pub place_of : Holds → Option ℕ
+place_of (reading h) = h.place
+place_of (checking h) = h.place
+place_of holds = None

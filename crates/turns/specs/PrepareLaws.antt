@@ -10,7 +10,7 @@ use Rattle.records.specs.Format.{IsRecord}
 use Rattle.records.specs.Replays.{ShardState, find_in_doubt}
 use Rattle.journal.specs.Records.{HasNoRoom}
 use Rattle.shard.specs.Shards.{AskBelow, IsBroken, IsBusy, IsPreparable}
-use Rattle.laws.specs.Nodes.{NodeName, ShardKnows}
+use Rattle.laws.specs.Nodes.{NodeName, ShardKnows, shard}
 use Rattle.turns.specs.Causes.{IsCause}
 use Rattle.turns.specs.Moments.{Moment, Running}
 use Rattle.turns.specs.StagingLaws.{IsFlowOf}
@@ -36,19 +36,19 @@ module _ (store shards : ℕ) (left : NodeName → List Record → Type 0) where
   -- where it finds its part's tuples taken, another write in doubt there names one of them
   abbrev pub BusyShardsHaveCause : Type 0
   BusyShardsHaveCause = (now after : Moment) (r : Running) (w : Entry) (s : ℕ) → (asks : IsPreparing now r w s)
-      → IsBusy asks.memory (part shards s w) → IsCause shards now after r Busy
+      → IsBusy asks.memory (part shards s w) → IsCause shards (shard s) now after r Busy
 
   -- where it finds a condition broken, that condition is not met after the whole log
   abbrev pub BrokenShardsHaveCause : Type 0
   BrokenShardsHaveCause = (now after : Moment) (r : Running) (w : Entry) (s : ℕ) → (asks : IsPreparing now r w s)
-      → IsBroken asks.memory (part shards s w) → IsCause shards now after r Precondition
+      → IsBroken asks.memory (part shards s w) → IsCause shards (shard s) now after r Precondition
 
   -- where a condition names a place below its horizon, it names one below the machine's
   abbrev pub CollectedShardsHaveCause : Type 0
   CollectedShardsHaveCause = (now after : Moment) (r : Running) (w : Entry) (s : ℕ) → (asks : IsPreparing now r w s)
-      → AskBelow asks.memory.horizon (part shards s w).conditions → IsCause shards now after r Collected
+      → AskBelow asks.memory.horizon (part shards s w).conditions → IsCause shards (shard s) now after r Collected
 
   -- where its batch has no room for the prepare, that is the record that had no room
   abbrev pub FullShardsHaveCause : Type 0
   FullShardsHaveCause = (now after : Moment) (r : Running) (w : Entry) (s : ℕ) → (asks : IsPreparing now r w s) → IsRecord (Prepare (part shards s w))
-      → HasNoRoom asks.knows.staged (Prepare (part shards s w)) → IsCause shards now after r Full
+      → HasNoRoom asks.knows.staged (Prepare (part shards s w)) → IsCause shards (shard s) now after r Full

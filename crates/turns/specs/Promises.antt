@@ -57,7 +57,7 @@ module _ {D : Type 0} (state : D → State) (honest : D → Type 0) (moment : D 
 
   -- A step, and what it leads to: the moment behind it, for which the store then stands, and what it tells. A node goes down where a device of it
   -- failed, and a node that is opened is up or refused with its cause. A horizon is new only where a flow was asked for it. And at every moment inside
-  -- the step a stop leaves what means the log.
+  -- the step a stop leaves what means the log. An id that was given out stays so.
   pub record Ran (old : Store D) (now : Moment) (number : ℕ) (step : Step) (events : List Event) (new : Store D) : Type 0 where
     pub after : Moment
     pub told : List Told
@@ -68,6 +68,7 @@ module _ {D : Type 0} (state : D → State) (honest : D → Type 0) (moment : D 
     pub fails : (n : NodeName) → IsThere shards n → after.nodes.at n ≡ down → now.nodes.at n ≢ down → HasDeviceCause old.devices new.devices n
     pub opens : (n : NodeName) → IsThere shards n → step ≡ restart n → OpensWithCause old.devices new.devices n (after.nodes.at n)
     pub inside : StopsBetween old.devices new.devices now.machine after.machine
+    pub given : (id : WriteId) → IsGivenOut (stops state honest store shards old.devices coordinator) id → IsGivenOut (stops state honest store shards new.devices coordinator) id
 
   -- the promise of one step: from whatever moment the store stands for
   abbrev pub RunsOne : Store D → ℕ → Step → List Event → Store D → Type 0

@@ -74,9 +74,9 @@ pub record HoldsLess (old new : WriteHolds) : Type 0 where
 abbrev pub IsAway : Nodes → NodeName → Refusal → Type 0
 IsAway nodes n e = ((nodes.at n ≡ down) × (e ≡ Down)) ⊎ (nodes.at n ≡ refused e)
 
--- the flow has met what it had met, or a refusal that has its cause
-abbrev pub HasMet : ℕ → Moment → Moment → Running → Option Refusal → Type 0
-HasMet shards before after r met = (met ≡ r.met) ⊎ ((e : Refusal) × (met ≡ Some e) × HasItsCause shards before after r e)
+-- behind a call of this node the flow has met what it had met, or a refusal that has its cause there
+abbrev pub HasMet : ℕ → NodeName → Moment → Moment → Running → Option Refusal → Type 0
+HasMet shards n before after r met = (met ≡ r.met) ⊎ ((e : Refusal) × (met ≡ Some e) × HasItsCause shards n before after r e)
 
 -- The store has this id and so many shards, and a stop may leave this of each node, before the call and behind it, but for what is staged.
 module _ (store shards : ℕ) (left after : NodeName → List Record → Type 0) where
@@ -103,7 +103,7 @@ module _ (store shards : ℕ) (left after : NodeName → List Record → Type 0)
   abbrev pub QuietCallsTurn : Type 0
   QuietCallsTurn = (now : Moment) (next : Nodes) (m : Machine) (r : Running) (holds : Holds) (met : Option Refusal)
       → let later = with_call r holds met m in let ran = going_on now next m later in
-      IsQuietStep now next m r later → HasMet shards now ran r met
+      (step : IsQuietStep now next m r later) → HasMet shards step.call.node now ran r met
       → Stands store shards after ran × Turns shards (IsHorizonIn store shards left now.nodes) now r (told_unless r.is_cancelled) ran
 
   -- it goes on with what it held, but for the decisions on their way: those that it holds now are the log's and kept
@@ -122,10 +122,10 @@ module _ (store shards : ℕ) (left after : NodeName → List Record → Type 0)
 
   -- it ends with a refusal: with Unsure only a flow that has decided, and such a flow with no other
   abbrev pub QuietCallsRefuse : Type 0
-  QuietCallsRefuse = (now : Moment) (next : Nodes) (m : Machine) (r : Running) (e : Refusal) → IsQuietCall now next m → Contains now.running r
+  QuietCallsRefuse = (now : Moment) (next : Nodes) (m : Machine) (r : Running) (e : Refusal) → (call : IsQuietCall now next m) → Contains now.running r
       → r.is_cancelled ≡ false → (r.decided ≡ None → e ≢ Unsure) → (e ≢ Unsure → r.decided ≡ None)
       → let ran = ending now next m r [] in
-      HasMet shards now ran r (Some e)
+      HasMet shards call.node now ran r (Some e)
       → Stands store shards after ran × Turns shards (IsHorizonIn store shards left now.nodes) now r (refuses e ∷ []) ran
 
   -- a flow that was cancelled ends, and tells nothing
@@ -144,21 +144,21 @@ module _ (store shards : ℕ) (left after : NodeName → List Record → Type 0)
   -- a write that is not decided goes out with a refusal that has its cause, and may have spent some of what it held
   abbrev pub RefusedWritesGoOut : Type 0
   RefusedWritesGoOut = (now : Moment) (next : Nodes) (m : Machine) (r : Running) (h k : WriteHolds) (changes : List Change) (conditions : List Condition) (e : Refusal)
-      → IsQuietCall now next m → Contains now.running r → r.asked ≡ to_write changes conditions → r.holds ≡ writing h → HoldsLess h k → k.way ≡ outward (Some e)
+      → (call : IsQuietCall now next m) → Contains now.running r → r.asked ≡ to_write changes conditions → r.holds ≡ writing h → HoldsLess h k → k.way ≡ outward (Some e)
       → r.decided ≡ None
       → let ran = going_on now next m (with_call r (writing k) (Some e) m) in
-      HasItsCause shards now ran r e
+      HasItsCause shards call.node now ran r e
       → Stands store shards after ran × Turns shards (IsHorizonIn store shards left now.nodes) now r (told_unless r.is_cancelled) ran
 
   -- a flow that is no write ends with a refusal that has its cause
   abbrev pub RefusedFlowsEnd : Type 0
-  RefusedFlowsEnd = (now : Moment) (next : Nodes) (m : Machine) (r : Running) (e : Refusal) → IsQuietCall now next m → Contains now.running r
+  RefusedFlowsEnd = (now : Moment) (next : Nodes) (m : Machine) (r : Running) (e : Refusal) → (call : IsQuietCall now next m) → Contains now.running r
       → is_write r.asked ≡ false → e ≢ Unsure
       → let ran = ending now next m r [] in
-      HasItsCause shards now ran r e
+      HasItsCause shards call.node now ran r e
       → Stands store shards after ran × Turns shards (IsHorizonIn store shards left now.nodes) now r (refuses e ∷ []) ran
 
   -- what a node that is away answers has its cause, and is not Unsure
   abbrev pub AwayNodesHaveCause : Type 0
   AwayNodesHaveCause = (now behind : Moment) (r : Running) (n : NodeName) (e : Refusal) → Stands store shards left now → behind.nodes ≡ now.nodes
-      → Calls shards r.asked n → IsAway now.nodes n e → HasItsCause shards now behind r e × (e ≢ Unsure)
+      → Calls shards r.asked r.holds n → IsAway now.nodes n e → HasItsCause shards n now behind r e × (e ≢ Unsure)

@@ -5,8 +5,9 @@ use Rattle.tuples.specs.declared.entry.WriteId.{WriteId}
 use Rattle.refusal.specs.declared.refusal.Refusal.{Refusal}
 use Rattle.refusal.specs.declared.refusal.Refusal.TheVariants.{Unsure, Full}
 use Rattle.records.specs.declared.record.Record.{Record}
+use Rattle.records.specs.Coordinators.{CoordinatorState}
 use Rattle.laws.specs.Machines.{Move, append, keep, cut, raise, Moves}
-use Rattle.laws.specs.Nodes.{NodeName, coordinator, shard, up, refused, IsOfRefusedOpening, IsThere, Nodes, NodeTurns, SameBut}
+use Rattle.laws.specs.Nodes.{CoordinatorKnows, NodeName, coordinator, shard, up, refused, IsOfRefusedOpening, IsThere, Nodes, NodeTurns, SameBut}
 use Rattle.records.specs.Replays.{without}
 use Rattle.turns.specs.Flows.{Asked, IsAsked, id_of, to_write, to_raise, Resolved, committed, aborted, undecided}
 use Rattle.turns.specs.Moments.{Moment, Running, begun, flow_at, replaced, ended, reopened, is_write}
@@ -73,9 +74,13 @@ pub record KeepsOpen (old new : Nodes) : Type 0 where
   pub open_writes : new.open_writes ≡ old.open_writes
   pub given : new.given ≡ old.given
 
--- a flow's own write is begun, under the next number
+-- a flow's own write is begun by a coordinator that is up, in its epoch and under the next number
 pub record OpensOwn (old new : Nodes) (r later : Running) : Type 0 where
   pub write : Entry
+  pub kept : CoordinatorState
+  pub memory : CoordinatorState
+  pub knows : CoordinatorKnows old kept memory
+  pub epoch : write.id.epoch ≡ memory.epoch
   pub asked : r.asked ≡ to_write write.changes write.conditions
   pub unbegun : id_of r.holds ≡ None
   pub held : id_of later.holds ≡ Some write.id
@@ -90,9 +95,9 @@ pub record ClosesOwn (old new : Nodes) (r : Running) : Type 0 where
   pub open_writes : new.open_writes ≡ without id old.open_writes
   pub given : new.given ≡ old.given
 
--- what a turn may do to the open writes: of other flows' nothing
+-- what a turn may do to the open writes: of other flows' nothing; and where it begins and closes none its flow has the id that it had, or none
 abbrev pub OpenTurns : Nodes → Nodes → Running → Running → Type 0
-OpenTurns old new r later = KeepsOpen old new ⊎ (OpensOwn old new r later ⊎ ClosesOwn old new r)
+OpenTurns old new r later = (KeepsOpen old new × (id_of later.holds ≡ id_of r.holds)) ⊎ (OpensOwn old new r later ⊎ ClosesOwn old new r)
 
 -- the id of a flow's write, once it has one, stays
 abbrev pub KeepsId : Running → Running → Type 0
@@ -121,14 +126,14 @@ module _ (shards : ℕ) (found_before : ℕ → Type 0) where
     pub moves_are : All (IsQuiet (MayRise before)) moves
     pub decided : later.decided ≡ r.decided
 
-  -- a flow behind its turn: it has seen the machine, and met no refusal without a cause
-  pub record IsTurned (before : Moment) (r : Running) (moves : List Move) (after : Moment) (later : Running) : Type 0 where
+  -- a flow behind its turn, which called this node: it has seen the machine, and met no refusal without a cause there
+  pub record IsTurned (node : NodeName) (before : Moment) (r : Running) (moves : List Move) (after : Moment) (later : Running) : Type 0 where
     pub slot : later.slot ≡ r.slot
     pub asked : later.asked ≡ r.asked
     pub same_id : KeepsId r later
     pub seen : later.seen ≡ r.seen ++ after.machine ∷ []
     pub decides : Decides before r moves after later ⊎ DecidesNothing before r moves later
-    pub met : (later.met ≡ r.met) ⊎ ((e : Refusal) × (later.met ≡ Some e) × HasItsCause shards before after r e)
+    pub met : (later.met ≡ r.met) ⊎ ((e : Refusal) × (later.met ≡ Some e) × HasItsCause shards node before after r e)
     pub cancelled : later.is_cancelled ≡ r.is_cancelled
     pub reopened_is : later.is_reopened ≡ r.is_reopened
 
@@ -161,7 +166,7 @@ module _ (shards : ℕ) (found_before : ℕ → Type 0) where
     pub called : NodeTurns (before.nodes.at node) (after.nodes.at node)
     pub later : Running
     pub open_writes : OpenTurns before.nodes after.nodes r later
-    pub turned : IsTurned before r moves after later
+    pub turned : IsTurned node before r moves after later
     pub named : after.named ≡ before.named
     pub tells : ((r.is_cancelled ≡ false) × ((t : Told) × (told ≡ t ∷ []) × EndsAs before later after t))
         ⊎ ((r.is_cancelled ≡ true) × (told ≡ []) × EndsQuietly before later after)
@@ -183,7 +188,7 @@ module _ (shards : ℕ) (found_before : ℕ → Type 0) where
     pub nodes : after.nodes ≡ before.nodes
     pub told_before : after.told ≡ before.told
     pub named : after.named ≡ before.named
-    pub running : ((is_write r.asked ≡ true) × ((later : Running) × (later ≡ record r { holds = later.holds; is_cancelled = true }) × KeepsId r later × (after.running ≡ replaced later before.running)))
+    pub running : ((is_write r.asked ≡ true) × ((later : Running) × (later ≡ record r { holds = later.holds; is_cancelled = true }) × (id_of later.holds ≡ id_of r.holds) × (after.running ≡ replaced later before.running)))
         ⊎ ((r.decided ≡ None) × (after.running ≡ ended r.slot before.running))
     pub others_end : is_write r.asked ≡ false → after.running ≡ ended r.slot before.running
 

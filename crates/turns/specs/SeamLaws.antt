@@ -67,7 +67,7 @@ BeginTurns store shards left D = (now : Moment) (old new : CoordinatorView D) (c
 -- each refusal of begin has its cause
 abbrev pub BeginHasCause : ℕ → ℕ → (NodeName → List Record → Type 0) → Type 0 → Type 0
 BeginHasCause store shards left D = (now after : Moment) (old : CoordinatorView D) (changes : List Change) (conditions : List Condition) (e : Refusal) (r : Running)
-    → Stands store shards left now → IsSeen now.nodes old → r.asked ≡ to_write changes conditions → BeginsRefused old conditions e → IsCause shards now after r e
+    → Stands store shards left now → IsSeen now.nodes old → r.asked ≡ to_write changes conditions → BeginsRefused old conditions e → IsCause shards coordinator now after r e
 
 -- what a turn tells in which its flow goes on: nothing where the flow was cancelled
 abbrev pub told_unless : Bool → List Told

@@ -11,7 +11,7 @@ use Rattle.tuples.specs.Versions.{there_at}
 use Rattle.tuples.specs.Walking.{IsCheckSelection}
 use Rattle.records.specs.declared.record.Record.{Record}
 use Rattle.shard.specs.Shards.{ShardView, memory}
-use Rattle.laws.specs.Nodes.{NodeName, coordinator}
+use Rattle.laws.specs.Nodes.{NodeName, coordinator, shard}
 use Rattle.turns.specs.Causes.{HasItsCause}
 use Rattle.turns.specs.CheckingLaws.{Walks}
 use Rattle.turns.specs.Flows.{CheckHolds, Freshness, checking, to_check}
@@ -57,4 +57,4 @@ module _ (store shards : ℕ) (left : NodeName → List Record → Type 0) (D : 
   abbrev pub RefusedChecksHaveCause : Type 0
   RefusedChecksHaveCause = (now behind : Moment) (old : ShardView D) (s : ℕ) (fresh : Freshness) (x : Userset) (u : User) (place : ℕ) (e : Refusal) (r : Running) (h : CheckHolds)
       → Stands store shards left now → ShardIsSeen store shards s now.nodes old → IsChecker now r fresh x u h place
-      → ((e ≡ Collected) × (place < (memory old).horizon)) ⊎ (e ≡ NoMemory) → HasItsCause shards now behind r e × (e ≢ Unsure)
+      → ((e ≡ Collected) × (place < (memory old).horizon)) ⊎ (e ≡ NoMemory) → HasItsCause shards (shard s) now behind r e × (e ≢ Unsure)

@@ -112,9 +112,9 @@ module _ (store shards : ℕ) (left : NodeName → List Record → Type 0) {D : 
   abbrev pub RefusedLearnsHaveCause : Type 0
   RefusedLearnsHaveCause = (now behind : Moment) (old : ShardView D) (s : ℕ) (b : BatchValue) (e : Refusal) (r : Running)
       → Stands store shards left now → ShardIsSeen store shards s now.nodes old → Contains now.running r → batch_of r.holds ≡ Some b
-      → IsUp state honest old → length b.writes ≤ 256 → b.from + length b.writes ≤ greatest_number → CallsShard shards r.asked s → LetsLearn r.asked
+      → IsUp state honest old → length b.writes ≤ 256 → b.from + length b.writes ≤ greatest_number → CallsShard shards r.asked r.holds s → LetsLearn r.asked
       → LearnRefused old b e → (e ≡ NoMemory) ⊎ ((e ≡ Full) ⊎ (e ≡ Damaged))
-      → HasItsCause shards now behind r e × (e ≢ Unsure)
+      → HasItsCause shards (shard s) now behind r e × (e ≢ Unsure)
 
   -- a learning that holds right heads is done where the shard learns up to their kept place
   abbrev pub LearnAnswers : Type 0
@@ -164,7 +164,7 @@ module _ (store shards : ℕ) (left : NodeName → List Record → Type 0) {D : 
   abbrev pub RefusedReadsHaveCause : Type 0
   RefusedReadsHaveCause = (now behind : Moment) (old : ShardView D) (s : ℕ) (fresh : Freshness) (sets : List Tupleset) (place : ℕ) (e : Refusal) (r : Running) (h : ReadHolds)
       → Stands store shards left now → ShardIsSeen store shards s now.nodes old → Contains now.running r → r.asked ≡ to_read fresh sets → r.holds ≡ reading h → h.place ≡ Some place
-      → ((e ≡ Collected) × (place < (memory old).horizon)) ⊎ (e ≡ NoMemory) → HasItsCause shards now behind r e × (e ≢ Unsure)
+      → ((e ≡ Collected) × (place < (memory old).horizon)) ⊎ (e ≡ NoMemory) → HasItsCause shards (shard s) now behind r e × (e ≢ Unsure)
 
   -- what a shard has settled, at or above the place of a raise, is a turn of a run, behind which the raise holds it too
   abbrev pub SettleTurns : Type 0
@@ -185,4 +185,4 @@ module _ (store shards : ℕ) (left : NodeName → List Record → Type 0) {D : 
   abbrev pub RefusedCollectsHaveCause : Type 0
   RefusedCollectsHaveCause = (now behind : Moment) (old : ShardView D) (s : ℕ) (heads : HeadsValue) (r : Running)
       → Stands store shards left now → ShardIsSeen store shards s now.nodes old → r.asked ≡ to_collect s → IsUp state honest old
-      → heads.horizon ≤ (memory old).learned → HasNoRoom old.staged (Horizon heads.horizon) → HasItsCause shards now behind r Full
+      → heads.horizon ≤ (memory old).learned → HasNoRoom old.staged (Horizon heads.horizon) → HasItsCause shards (shard s) now behind r Full

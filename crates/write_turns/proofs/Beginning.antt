@@ -35,7 +35,7 @@ use Rattle.turns.specs.Stores.{NamesHorizon, StandsOver, Store, stops}
 use Rattle.turns.proofs.BeginSeam.{begin_has_cause, begin_turns}
 use Rattle.call_turns.specs.StoreCalls.{IsCalled, IsMade}
 use Rattle.call_turns.proofs.Flushed.{down_coordinator_fails, refused_fails}
-use Rattle.call_turns.proofs.Made.{FailsQuietly, still_made}
+use Rattle.call_turns.proofs.Made.{FailsQuietly, still_made, still_of}
 use Rattle.call_turns.proofs.Standing.{is_seen, runs_now}
 use Rattle.write_turns.specs.Seen.{asked_of}
 use Rattle.write_turns.specs.Turning.{TurnsBy}
@@ -114,12 +114,13 @@ module _ {D : Type 0} (state : D → State) (honest : D → Type 0) (moment : D 
   -- its node is away
   failed : (e : Refusal) → FailsQuietly state honest moment left_since store shards old new now standing coordinator e → later ≡ view_ended (Refused e) → Goal later
   failed e fails is = subst Goal (sym is) (refused state honest moment left_since store shards old new now standing number slot is_cancelled v r flow fails.0 now.machine fails.1 e alive undecided
-      (λ ran same. fails.2 r ran same (calls_coordinator shards r.asked write.changes write.conditions asked)))
+      (λ ran same. fails.2 r ran same (calls_coordinator shards r write.changes write.conditions asked)))
 
   module _ (x y : CoordinatorView D) (called : IsCalled state honest moment left_since store shards coordinator (views.coordinator x) (views.coordinator y) old new) (is_up : x.is_down ≡ false) where
     refused_up : (e : Refusal) → y ≡ x → BeginsRefused x write.conditions e → later ≡ view_ended (Refused e) → Goal later
     refused_up e same begins is = subst Goal (sym is) (refused state honest moment left_since store shards old new now standing number slot is_cancelled v r flow now.nodes now.machine
-        (still_made state honest moment left_since store shards old new now standing coordinator (views.coordinator x) (views.coordinator y) called only_now (ap views.coordinator same)) e alive undecided
+        (still_of state honest moment left_since store shards old new now standing coordinator
+        (still_made state honest moment left_since store shards old new now standing coordinator (views.coordinator x) (views.coordinator y) called only_now (ap views.coordinator same))) e alive undecided
         (λ ran here. (
           inl (begin_has_cause store shards before D now ran x write.changes write.conditions e r standing.stands (is_seen state honest store shards old now standing x called.before is_up) asked begins),
           sure begins.others,

@@ -21,7 +21,7 @@ use Rattle.turns.specs.Stores.{AreSound, FlowView, NamesHorizon, ShowsFlow, Show
 use Rattle.turns.proofs.FlowEnds.{flows_end}
 use Rattle.turns.proofs.FlowGoesOn.{flows_go_on}
 use Rattle.call_turns.specs.StoreTurns.{SlotTurns}
-use Rattle.call_turns.proofs.Made.{inside_by, still_within}
+use Rattle.call_turns.proofs.Made.{inside_by, still_given, still_within}
 use Rattle.call_turns.proofs.Turned.{shows_ended, shows_going}
 use Rattle.write_turns.specs.Cancelling.{CancelsRun, IsCancelledThere}
 use Rattle.call_turns.specs.Steps.{IsUncalled}
@@ -66,6 +66,7 @@ module _ {D : Type 0} (state : D → State) (honest : D → Type 0) (moment : D 
     fails = λ n there is_down not_down. absurd (not_down is_down);
     opens = λ n there is. absurd (no_restart n is);
     inside = inside_by state honest moment left_since store shards old new now standing (still_within state honest moment left_since store shards old new now standing only_now devices) now.machine;
+    given = still_given state honest moment left_since store shards old new now standing devices;
   }
     where
       no_restart : (n : NodeName) → cancel slot ≡ restart n → ⊥
@@ -96,7 +97,7 @@ module _ {D : Type 0} (state : D → State) (honest : D → Type 0) (moment : D 
         nodes = refl;
         told_before = refl;
         named = refl;
-        running = inl (asks_write, (cancelled_with k, refl, (λ id is. same_id ∙ sym (ap id_of held_is) ∙ is), refl));
+        running = inl (asks_write, (cancelled_with k, refl, same_id ∙ sym (ap id_of held_is), refl));
         others_end = λ no_write. absurd (true≢false (sym asks_write ∙ no_write));
       })
       (shows_going state honest moment left_since store shards old new now standing number slot (shown v was_cancelled) (Some g) slots r flow.there (cancelled_with k) g refl refl shows)

@@ -35,7 +35,7 @@ use Rattle.call_turns.specs.StoreCalls.{IsCalled, IsNamed}
 use Rattle.call_turns.proofs.Asked.{learned_told}
 use Rattle.call_turns.proofs.Made.{FailsQuietly, IsQuietlyMade}
 use Rattle.write_turns.specs.Turning.{TurnsBy}
-use Rattle.write_turns.proofs.Going.{IsFlow, Promises, asks_own, calls_shard, fails_out, flow_there, goes_out, keeps}
+use Rattle.write_turns.proofs.Going.{IsFlow, Promises, asks_own, calls_shard, fails_out, flow_there, goes_out, holds_is, keeps}
 
 -- a node that is there may be asked what it is owed
 pub may_ask_coordinator : {D : Type 0} (store shards : ℕ) (v : NodeView D) (call : CoordinatorCall) → IsNamed store shards v coordinator → MayAskCoordinator shards call → MayAsk v (of_coordinator call)
@@ -88,19 +88,20 @@ module _ {D : Type 0} (state : D → State) (honest : D → Type 0) (moment : D 
         (keeps state honest moment left_since store shards old new now standing number slot is_cancelled v r flow next m quiet None (Some s) false way.2.0.write.id way.2.2 (no_batch m))
 
     -- a call failed, and the write goes out
-    pub fails_at : (n : NodeName) (e : Refusal) → Fails n e → Calls shards r.asked n → GoesOut v.holds e later → Goal later
+    pub fails_at : (n : NodeName) (e : Refusal) → Fails n e → Calls shards r.asked r.holds n → GoesOut v.holds e later → Goal later
     fails_at n e failed calls is = subst Goal (sym is)
         (fails_out state honest moment left_since store shards old new now standing number slot is_cancelled v r flow n e (record v.holds { way = outward (Some e); batch = None }) way.2.0.write.id failed calls way.2.2 way.1
         (less_out v.holds e) refl)
 
     -- or one was refused
-    pub refused_at : (next : Nodes) (m : Machine) (e : Refusal) → Made next m → ((ran : Moment) → ran.nodes ≡ next → HasItsCause shards now ran r e) → GoesOut v.holds e later → Goal later
+    pub refused_at : (next : Nodes) (m : Machine) (e : Refusal) → (quiet : Made next m) → ((ran : Moment) → ran.nodes ≡ next → HasItsCause shards quiet.0.node now ran r e) → GoesOut v.holds e later → Goal later
     refused_at next m e quiet cause is = subst Goal (sym is)
         (goes_out state honest moment left_since store shards old new now standing number slot is_cancelled v r flow next m quiet (record v.holds { way = outward (Some e); batch = None }) way.2.0.write.id e way.2.2 way.1
         (less_out v.holds e) refl cause)
 
-    pub calls_this : (s : ℕ) → s < shards → HasShard shards v s → Calls shards r.asked (shard s)
-    calls_this s there has = calls_shard shards s r.asked has.0.write (asks_own state honest moment left_since store shards old new now standing number slot is_cancelled v r flow has.0 has.1 own_id) there has.3
+    pub calls_this : (s : ℕ) → s < shards → HasShard shards v s → Calls shards r.asked r.holds (shard s)
+    calls_this s there has = calls_shard shards s r v.holds has.0.write (asks_own state honest moment left_since store shards old new now standing number slot is_cancelled v r flow has.0 has.1 own_id)
+        (holds_is state honest moment left_since store shards old new now standing number slot is_cancelled v r flow) own_id there has.3
       where
         same_intent : way.2.0 ≡ has.0
         same_intent = let both : Some way.2.0 ≡ Some has.0 = sym way.2.1 ∙ has.1 in cc

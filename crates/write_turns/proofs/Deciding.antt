@@ -38,7 +38,7 @@ use Rattle.commit_flow.specs.Writing.{IsOnItsWay}
 use Rattle.laws.specs.Machines.{Machine}
 use Rattle.laws.specs.Nodes.{CoordinatorKnows, NodeName, Nodes, coordinator, shard, staged_of}
 use Rattle.turns.specs.AbortLaws.{IsUndecidedFlow}
-use Rattle.turns.specs.Causes.{HasItsCause, IsFull}
+use Rattle.turns.specs.Causes.{HasItsCause, IsFull, TakesMemory}
 use Rattle.turns.specs.DecidingLaws.{IsDecider, with_decided, with_write}
 use Rattle.turns.specs.Flows.{WriteHolds, onward, outward, writing}
 use Rattle.turns.specs.Moments.{Moment, Running}
@@ -52,7 +52,7 @@ use Rattle.turns.proofs.DecideSeam.{decide_turns}
 use Rattle.turns.proofs.ShardPrepareSeam.{last_sync}
 use Rattle.call_turns.specs.StoreCalls.{IsCalled, IsMade}
 use Rattle.call_turns.proofs.Flushed.{down_coordinator_fails, refused_fails}
-use Rattle.call_turns.proofs.Made.{FailsQuietly, IsQuietlyMade, still_made}
+use Rattle.call_turns.proofs.Made.{FailsQuietly, IsQuietlyMade, still_made, still_of}
 use Rattle.call_turns.proofs.Standing.{is_seen, runs_now}
 use Rattle.write_turns.specs.Turning.{TurnsBy}
 use Rattle.write_turns.proofs.Catching.{may_ask_coordinator}
@@ -215,30 +215,31 @@ module _ {D : Type 0} (state : D → State) (honest : D → Type 0) (moment : D 
     }
 
     -- the intent is spent, and the write goes out
-    spent : (next : Nodes) → IsQuietlyMade state honest moment left_since store shards old new now standing next now.machine → ((ran : Moment) → ran.nodes ≡ next → HasItsCause shards now ran r back.refusal)
+    spent : (next : Nodes) → (quiet : IsQuietlyMade state honest moment left_since store shards old new now standing next now.machine) → ((ran : Moment) → ran.nodes ≡ next → HasItsCause shards quiet.0.node now ran r back.refusal)
         → (o : Option IntentValue) → ((i : IntentValue) → o ≡ Some i → i ≡ intent) → GoesOut (record v.holds { intent = o; votes = back.votes.items }) back.refusal later → Goal later
     spent next quiet cause o own_back is = subst Goal (sym is)
         (goes_out state honest moment left_since store shards old new now standing number slot is_cancelled v r flow next now.machine quiet
         (record v.holds { intent = o; votes = back.votes.items; way = outward (Some back.refusal); batch = None }) w.id back.refusal has_id way.1 (less o own_back) refl cause)
 
     gone : (fails : FailsQuietly state honest moment left_since store shards old new now standing coordinator back.refusal) → back.intent ≡ None → NotDecidedGives mid again back.refusal back.intent back.votes.items later → Goal later
-    gone fails none gives = spent fails.0 fails.1 (λ ran same. (fails.2 r ran same (calls_coordinator shards r.asked w.changes w.conditions own.asked)).0) None (λ i is. absurd cc)
+    gone fails none gives = spent fails.0 fails.1 (λ ran same. (fails.2 r ran same (calls_coordinator shards r w.changes w.conditions own.asked)).0) None (λ i is. absurd cc)
         (subst (λ (o : Option IntentValue). NotDecidedGives mid again back.refusal o back.votes.items later) none gives)
 
     module _ (x y : CoordinatorView D) (called : IsCalled state honest moment left_since store shards coordinator (views.coordinator x) (views.coordinator y) old new) (is_up : x.is_down ≡ false) (same : y ≡ x) where
-      quiet : IsQuietlyMade state honest moment left_since store shards old new now standing now.nodes now.machine
-      quiet = still_made state honest moment left_since store shards old new now standing coordinator (views.coordinator x) (views.coordinator y) called only_now (ap views.coordinator same)
+      abbrev quiet : IsQuietlyMade state honest moment left_since store shards old new now standing now.nodes now.machine
+      quiet = still_of state honest moment left_since store shards old new now standing coordinator
+          (still_made state honest moment left_since store shards old new now standing coordinator (views.coordinator x) (views.coordinator y) called only_now (ap views.coordinator same))
 
       seen : IsSeen now.nodes x
       seen = is_seen state honest store shards old now standing x called.before is_up
 
-      full_cause : (ran : Moment) → HasNoPlace x w → HasItsCause shards now ran r Full
+      full_cause : (ran : Moment) → HasNoPlace x w → HasItsCause shards coordinator now ran r Full
       full_cause ran none = ⊎_elim
           (λ room. inl ((decide_has_cause store shards before D now ran x r v.holds w intent standing.stands seen own has).1 (decision_record w (end_of (memory_of x) + 1) whole (omega (arith, room))) none))
           (λ high.
           let known : CoordinatorKnows now.nodes (coordinator_state x.durable) (memory_of x) = record { durable = x.durable; staged = x.staged; is_up = seen.at; durable_state = refl; replayed = refl } in
           let at = standing.stands.heads.log _ _ known in
-          inl (subst (IsFull shards now r) (sym own.asked) (inr (inr (inr (omega (arith, high, at)))))))
+          inl (subst (IsFull shards coordinator now r) (sym own.asked) (inr (refl, inr (inr (omega (arith, high, at)))))))
           (cases_lt (end_of (memory_of x)) greatest_number)
 
       up_refused : (i : IntentValue) → back.intent ≡ Some i → i ≡ intent → ((back.refusal ≡ Full) ⊎ (back.refusal ≡ NoMemory)) → (back.refusal ≡ Full → HasNoPlace x w)
@@ -248,10 +249,10 @@ module _ {D : Type 0} (state : D → State) (honest : D → Type 0) (moment : D 
           gives_i : NotDecidedGives mid again back.refusal (Some i) back.votes.items later
           gives_i = subst (λ (o : Option IntentValue). NotDecidedGives mid again back.refusal o back.votes.items later) is_i gives
 
-          cause : (ran : Moment) → HasItsCause shards now ran r back.refusal
+          cause : (ran : Moment) → HasItsCause shards coordinator now ran r back.refusal
           cause ran = ⊎_elim
-              (λ full. subst (HasItsCause shards now ran r) (sym full) (full_cause ran (room full)))
-              (λ memory. subst (HasItsCause shards now ran r) (sym memory) (inl tt))
+              (λ full. subst (HasItsCause shards coordinator now ran r) (sym full) (full_cause ran (room full)))
+              (λ memory. subst (HasItsCause shards coordinator now ran r) (sym memory) (inl (subst TakesMemory (sym own.asked) tt)))
               of
 
           out : (back.refusal ≢ Full) ⊎ (again ≡ true) → Goal later
@@ -274,7 +275,7 @@ module _ {D : Type 0} (state : D → State) (honest : D → Type 0) (moment : D 
 
       up_spent : (back.refusal ≡ Aborted) → back.intent ≡ None → (Contains x.open_ids w.id → ⊥) ⊎ IsDecidedAbove x w.id → NotDecidedGives mid again back.refusal back.intent back.votes.items later → Goal later
       up_spent aborted none cut gives = spent now.nodes quiet
-          (λ ran here. subst (HasItsCause shards now ran r) (sym aborted) (inl ((decide_has_cause store shards before D now ran x r v.holds w intent standing.stands seen own has).0 cut)))
+          (λ ran here. subst (HasItsCause shards coordinator now ran r) (sym aborted) (inl ((decide_has_cause store shards before D now ran x r v.holds w intent standing.stands seen own has).0 cut)))
           None (λ i is. absurd cc) (subst (λ (o : Option IntentValue). NotDecidedGives mid again back.refusal o back.votes.items later) none gives)
 
       by_spent : (back.refusal ≡ Aborted → (Contains x.open_ids w.id → ⊥) ⊎ IsDecidedAbove x w.id) → (back.refusal ≡ Down → ⊥) → (back.refusal ≡ Full → HasNoPlace x w)

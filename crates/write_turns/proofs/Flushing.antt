@@ -35,7 +35,7 @@ use Rattle.call_turns.proofs.Flushed.{coordinator_flushed, shard_flushed}
 use Rattle.call_turns.proofs.Made.{FailsQuietly, IsQuietlyMade}
 use Rattle.write_turns.specs.Turning.{TurnsBy}
 use Rattle.write_turns.proofs.Catching.{calls_this, fails_at, may_ask_coordinator, may_ask_shard}
-use Rattle.write_turns.proofs.Going.{IsFlow, Promises, asked_is, batch_stays, calls_coordinator, calls_shard, changes, conditions, flow_there, keeps, right}
+use Rattle.write_turns.proofs.Going.{IsFlow, Promises, asked_is, batch_stays, calls_coordinator, calls_shard, changes, conditions, flow_there, holds_is, keeps, right}
 
 module _ {D : Type 0} (state : D → State) (honest : D → Type 0) (moment : D → ℕ) (left_since : D → ℕ → List ℕ → Type 0)
     (counts_now : (d : D) (t : ℕ) (c : List ℕ) → honest d → t ≤ moment d → left (state d) c → left_since d t c) (only_now : (d : D) (c : List ℕ) → honest d → left_since d (moment d) c → left (state d) c)
@@ -57,7 +57,7 @@ module _ {D : Type 0} (state : D → State) (honest : D → Type 0) (moment : D 
       (batch_stays state honest moment left_since store shards old new now standing number slot is_cancelled v r flow next m quiet))
 
   -- a flush of a node, before the decision
-  flush_by : (n : NodeName) (m : Machine) (way : IsOnItsWay v) (mid : WriteView) (was_full : Bool) → mid.holds ≡ v.holds → Calls shards r.asked n → (answer : Result (Unit {0}) Refusal)
+  flush_by : (n : NodeName) (m : Machine) (way : IsOnItsWay v) (mid : WriteView) (was_full : Bool) → mid.holds ≡ v.holds → Calls shards r.asked r.holds n → (answer : Result (Unit {0}) Refusal)
       → ((done : Unit {0}) → answer ≡ Ok done → (next : Nodes) × Made next m) → ((e : Refusal) → answer ≡ Err e → Fails n e) → FlushGives mid was_full answer later → Goal later
   flush_by n m way mid was_full same calls (Ok done) well ill gives =
       let made = well done refl in
@@ -80,11 +80,11 @@ module _ {D : Type 0} (state : D → State) (honest : D → Type 0) (moment : D 
     ill_done (Ok x) so e same = absurd cc
     ill_done (Err f) so e same = subst (Fails (shard s)) (let one : f ≡ e = cc in one) (shard_flushed state honest moment left_since counts_now only_now store shards old new now standing s was is (Err f) called so)
 
-    plain_reply : (mid : WriteView) (was_full : Bool) → mid.holds ≡ v.holds → Calls shards r.asked (shard s) → (answer : Result (Unit {0}) Refusal)
+    plain_reply : (mid : WriteView) (was_full : Bool) → mid.holds ≡ v.holds → Calls shards r.asked r.holds (shard s) → (answer : Result (Unit {0}) Refusal)
         → Answered state honest moment left_since was (of_shard s shard_calls.Flush) (from_shard (told_by.Flush answer)) is → FlushGives mid was_full answer later → Goal later
     plain_reply mid was_full same calls answer so gives = flush_by (shard s) now.machine way mid was_full same calls answer (well_done answer so) (ill_done answer so) gives
 
-    catching_by : (mid : WriteView) → mid.holds ≡ v.holds → Calls shards r.asked (shard s) → (answer : Result (Unit {0}) Refusal)
+    catching_by : (mid : WriteView) → mid.holds ≡ v.holds → Calls shards r.asked r.holds (shard s) → (answer : Result (Unit {0}) Refusal)
         → Answered state honest moment left_since was (of_shard s shard_calls.Flush) (from_shard (told_by.Flush answer)) is
         → CatchUpGives mid flushing (from_shard (told_by.Flush answer)) later → Goal later
     catching_by mid same calls (Ok done) so gives =
@@ -118,8 +118,9 @@ module _ {D : Type 0} (state : D → State) (honest : D → Type 0) (moment : D 
         ticket : IsRightTicket shards (stops state honest store shards old.devices) now mine (ticket_value (s, t))
         ticket = All-head (IsRightTicket shards (stops state honest store shards old.devices) now mine) (ticket_value (s, t)) others (subst (All (IsRightTicket shards (stops state honest store shards old.devices) now mine)) held own)
 
-        calls : Calls shards r.asked (shard s)
-        calls = calls_shard shards s r.asked mine (asked_is state honest moment left_since store shards old new now standing number slot is_cancelled v r flow) there ticket.takes
+        calls : Calls shards r.asked r.holds (shard s)
+        calls = calls_shard shards s r v.holds mine (asked_is state honest moment left_since store shards old new now standing number slot is_cancelled v r flow)
+            (holds_is state honest moment left_since store shards old new now standing number slot is_cancelled v r flow) way.2.2 there ticket.takes
     shard_reply reply fits so mid asks gives = absurd fits
 
   -- the coordinator's
@@ -131,7 +132,7 @@ module _ {D : Type 0} (state : D → State) (honest : D → Type 0) (moment : D 
         as_it_was made.0 _ v.caught true way.2.0.write.id made.2 way.2.2 gives
     to_decide way (Err e) so gives = fails_at state honest moment left_since counts_now only_now store shards old new slot is_cancelled v later number now standing r flow way coordinator e
         (coordinator_flushed state honest moment left_since counts_now only_now store shards old new now standing was is (Err e) called so)
-        (calls_coordinator shards r.asked _ _ (asked_is state honest moment left_since store shards old new now standing number slot is_cancelled v r flow)) gives
+        (calls_coordinator shards r _ _ (asked_is state honest moment left_since store shards old new now standing number slot is_cancelled v r flow)) gives
 
     -- a write that has decided has an id
     id_of_decided : v.holds.decided ≢ None → (o : Option WriteId) → v.holds.id ≡ o → (id : WriteId) × (v.holds.id ≡ Some id)

@@ -17,7 +17,7 @@ use Rattle.commit_flow.specs.declared.end.WriteEnd.TheVariants.{Refused}
 use Rattle.laws.specs.Machines.{Machine}
 use Rattle.laws.specs.Nodes.{NodeName, Nodes, coordinator, shard}
 use Rattle.turns.specs.Causes.{Calls, CallsShard, HasItsCause}
-use Rattle.turns.specs.Flows.{Asked, Holds, WriteHolds, outward, to_check, to_collect, to_flush, to_learn, to_raise, to_read, to_resolve, to_watch, to_write, writing}
+use Rattle.turns.specs.Flows.{Asked, Holds, WriteHolds, id_of, outward, to_check, to_collect, to_flush, to_learn, to_raise, to_read, to_resolve, to_watch, to_write, writing}
 use Rattle.turns.specs.Held.{IfHeld, IsRight, IsRightBatch, IsRightWrite, own_write}
 use Rattle.turns.specs.Moments.{Moment, Running, flow_at}
 use Rattle.turns.specs.Promises.{Ran, events_of}
@@ -50,14 +50,20 @@ of_write shards left now r (to_raise x) h k = absurd k
 of_write shards left now r (to_collect s) h k = absurd k
 
 -- a write calls the coordinator, and each shard that takes part in it
-pub calls_coordinator : (shards : ℕ) (asked : Asked) (changes : List Change) (conditions : List Condition) → asked ≡ to_write changes conditions → Calls shards asked coordinator
-calls_coordinator shards asked changes conditions is s flushes = let both : to_write changes conditions ≡ to_flush (shard s) = sym is ∙ flushes in cc
+pub calls_coordinator : (shards : ℕ) (r : Running) (changes : List Change) (conditions : List Condition) → r.asked ≡ to_write changes conditions → Calls shards r.asked r.holds coordinator
+calls_coordinator shards r changes conditions is s flushes = let both : to_write changes conditions ≡ to_flush (shard s) = sym is ∙ flushes in cc
 
-pub calls_shard : (shards s : ℕ) (asked : Asked) (w : Entry) → asked ≡ to_write w.changes w.conditions → s < shards → takes_part shards s w ≡ true → Calls shards asked (shard s)
-calls_shard shards s asked w is there takes =
+pub calls_shard : (shards s : ℕ) (r : Running) (h : WriteHolds) (w : Entry) → r.asked ≡ to_write w.changes w.conditions → r.holds ≡ writing h → h.id ≡ Some w.id → s < shards → takes_part shards s w ≡ true
+    → Calls shards r.asked r.holds (shard s)
+calls_shard shards s r h w is holds has_id there takes =
     let t = part_has shards s w takes in
-    let named = part_named shards s w t.0 t.1 in
-    (there, subst (λ (a : Asked). CallsShard shards a s) (sym is) (t.0, named.0, sym named.1))
+    let named = part_named shards s w t.0 t.1 in (
+      there,
+      subst (λ (a : Asked). CallsShard shards a r.holds s) (sym is) (
+        λ none. let both : Some w.id ≡ None = sym has_id ∙ ap id_of (sym holds) ∙ none in cc,
+        (t.0, named.0, sym named.1),
+      ),
+    )
 
 module _ {D : Type 0} (state : D → State) (honest : D → Type 0) (moment : D → ℕ) (left_since : D → ℕ → List ℕ → Type 0) (store shards : ℕ) (old new : Store D) (now : Moment)
     (standing : StandsOver state honest store shards old now) (number slot : ℕ) (is_cancelled : Bool) (v : WriteView) where
@@ -174,13 +180,13 @@ module _ {D : Type 0} (state : D → State) (honest : D → Type 0) (moment : D 
 
       -- it goes out with a refusal that has its cause
       pub goes_out : (k : WriteHolds) (id : WriteId) (e : Refusal) → v.holds.id ≡ Some id → v.holds.decided ≡ None → HoldsLess v.holds k → k.way ≡ outward (Some e)
-          → ((ran : Moment) → ran.nodes ≡ next → HasItsCause shards now ran r e) → Promises (at_rest k)
+          → ((ran : Moment) → ran.nodes ≡ next → HasItsCause shards quiet.0.node now ran r e) → Promises (at_rest k)
       goes_out k id e has_id none less way cause = going next m k None false id (with_call r (writing k) (Some e) m) quiet.1 (less.id ∙ has_id) refl refl refl
           (refused_writes_go_out store shards left_before left_after now next m r v.holds k changes conditions e quiet.0 is_flow.running asked_is holds_is less way (none_decided none)
           (cause (going_on now next m (with_call r (writing k) (Some e) m)) refl))
 
       -- before anything was begun it ends with one
-      pub refused : (e : Refusal) → r.is_cancelled ≡ false → v.holds.decided ≡ None → ((ran : Moment) → ran.nodes ≡ next → HasItsCause shards now ran r e × (e ≢ Unsure)) → Promises (view_ended (Refused e))
+      pub refused : (e : Refusal) → r.is_cancelled ≡ false → v.holds.decided ≡ None → ((ran : Moment) → ran.nodes ≡ next → HasItsCause shards quiet.0.node now ran r e × (e ≢ Unsure)) → Promises (view_ended (Refused e))
       refused e alive none cause = ends next m (Refused e) (refuses e ∷ []) quiet.1 (ap (λ (b : Bool). told_end b (Refused e)) (sym alive ∙ cancelled_is))
           (quiet_calls_refuse store shards left_before left_after now next m r e quiet.0 is_flow.running alive (λ is. (cause (ending now next m r []) refl).1) (λ is. none_decided none)
           (inr (e, refl, (cause (ending now next m r []) refl).0)))
@@ -215,7 +221,7 @@ module _ {D : Type 0} (state : D → State) (honest : D → Type 0) (moment : D 
       ends_out met way = subst (λ w. Promises (view_ended (end_of w))) (sym way) (by_cancel r.is_cancelled refl met way)
 
     -- a call that failed, or found its node away, takes a write out that is not decided
-    pub fails_out : (n : NodeName) (e : Refusal) (k : WriteHolds) (id : WriteId) → FailsQuietly state honest moment left_since store shards old new now standing n e → Calls shards r.asked n
+    pub fails_out : (n : NodeName) (e : Refusal) (k : WriteHolds) (id : WriteId) → FailsQuietly state honest moment left_since store shards old new now standing n e → Calls shards r.asked r.holds n
         → v.holds.id ≡ Some id → v.holds.decided ≡ None → HoldsLess v.holds k → k.way ≡ outward (Some e) → Promises (at_rest k)
     fails_out n e k id failed calls has_id none less way =
         goes_out failed.0 now.machine failed.1 k id e has_id none less way (λ ran is. (failed.2 r ran is calls).0)

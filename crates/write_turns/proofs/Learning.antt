@@ -26,7 +26,7 @@ use Rattle.commit_flow.specs.WriteHolds as waits
 use Rattle.commit_flow.specs.Writing.{HasShard, IsCaughtUpTo, IsOnItsWay}
 use Rattle.laws.specs.Machines.{Machine}
 use Rattle.laws.specs.Nodes.{Nodes, coordinator, shard}
-use Rattle.turns.specs.Causes.{HasItsCause, LetsLearn}
+use Rattle.turns.specs.Causes.{HasItsCause, LetsLearn, TakesMemory}
 use Rattle.turns.specs.Held.{IfHeld, IsRightBatch}
 use Rattle.turns.specs.Moments.{Moment, Running}
 use Rattle.turns.specs.QuietTurns.{batch_of}
@@ -37,7 +37,7 @@ use Rattle.turns.proofs.CoordinatorCalls.{batch_answers, batch_has_cause}
 use Rattle.turns.proofs.ShardLearnSeam.{learns_quietly, refused_learns_have_cause}
 use Rattle.call_turns.specs.StoreCalls.{IsCalled}
 use Rattle.call_turns.proofs.Asked.{LearnComes, batch_told, learn_told}
-use Rattle.call_turns.proofs.Made.{IsQuietlyMade}
+use Rattle.call_turns.proofs.Made.{IsQuietlyMade, still_of}
 use Rattle.write_turns.specs.Turning.{TurnsBy}
 use Rattle.write_turns.proofs.Catching.{calls_this, fails_at, goes_next, may_ask_coordinator, may_ask_shard, no_batch, refused_at}
 use Rattle.write_turns.proofs.Going.{IsFlow, Promises, asked_is, calls_coordinator, flow_there, holds_is, right}
@@ -83,7 +83,7 @@ module _ {D : Type 0} (state : D → State) (honest : D → Type 0) (moment : D 
         (λ failed. ⊎_elim
         (λ forgotten. anew failed.0 now.machine failed.1 forgotten)
         (λ other. fails_at state honest moment left_since counts_now only_now store shards old new slot is_cancelled v later number now standing r flow way coordinator e failed
-        (calls_coordinator shards r.asked _ _ (asked_is state honest moment left_since store shards old new now standing number slot is_cancelled v r flow))
+        (calls_coordinator shards r _ _ (asked_is state honest moment left_since store shards old new now standing number slot is_cancelled v r flow))
         (subst (λ p. ProgressGives v gives.call.held.shard p later) (gives.gives.1 other) gives.then_gives))
         (is_collected e))
         (λ tells. by_cause tells.0 tells.1.0 tells.1.1 tells.1.2)
@@ -98,7 +98,8 @@ module _ {D : Type 0} (state : D → State) (honest : D → Type 0) (moment : D 
         by_cause quiet c seen (inl future) = absurd ((batch_has_cause store shards (stops state honest store shards old.devices) D now now c r from to standing.stands seen).0 within future.1)
         by_cause quiet c seen (inr (inl collected)) = anew now.nodes now.machine quiet collected.0
         by_cause quiet c seen (inr (inr memory)) = refused_at state honest moment left_since counts_now only_now store shards old new slot is_cancelled v later number now standing r flow way now.nodes now.machine e quiet
-            (λ ran same. subst (HasItsCause shards now ran r) (sym memory) (inl tt))
+            (λ ran same. subst (HasItsCause shards quiet.0.node now ran r) (sym memory)
+            (inl (subst TakesMemory (sym (asked_is state honest moment left_since store shards old new now standing number slot is_cancelled v r flow)) tt)))
             (subst (λ p. ProgressGives v gives.call.held.shard p later) (gives.gives.1 (λ bad. let both : NoMemory ≡ Collected = sym memory ∙ bad in cc)) gives.then_gives)
 
     batch_reply : (reply : Reply) → IsReplyTo (of_coordinator (coordinator_calls.Batch from to)) reply → Answered state honest moment left_since was (of_coordinator (coordinator_calls.Batch from to)) reply is
@@ -136,7 +137,8 @@ module _ {D : Type 0} (state : D → State) (honest : D → Type 0) (moment : D 
             let calls = calls_this state honest moment left_since counts_now only_now store shards old new slot is_cancelled v later number now standing r flow way s there has in
             ⊎_elim
             (λ failed. fails_at state honest moment left_since counts_now only_now store shards old new slot is_cancelled v later number now standing r flow way (shard s) e failed calls then)
-            (λ refused. refused_at state honest moment left_since counts_now only_now store shards old new slot is_cancelled v later number now standing r flow way now.nodes now.machine e refused.0
+            (λ refused. refused_at state honest moment left_since counts_now only_now store shards old new slot is_cancelled v later number now standing r flow way now.nodes now.machine e
+            (still_of state honest moment left_since store shards old new now standing (shard s) refused.0)
             (λ ran same. (refused_learns_have_cause store shards (stops state honest store shards old.devices) state honest now ran refused.1.0 s b e r standing.stands refused.1.1 flow.running
             (ap batch_of (holds_is state honest moment left_since store shards old new now standing number slot is_cancelled v r flow) ∙ held) refused.1.2 few within_places calls.1
             (subst LetsLearn (sym (asked_is state honest moment left_since store shards old new now standing number slot is_cancelled v r flow)) tt) refused.1.3.0 refused.1.3.1).0) then)

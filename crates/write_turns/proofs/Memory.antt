@@ -14,7 +14,7 @@ use Rattle.turns.specs.SeamLaws.{IsSeen}
 use Rattle.turns.specs.Stands.{IsHorizonIn}
 use Rattle.turns.specs.Stores.{NamesHorizon, ShowsNodes, StandsOver, Store, stops}
 use Rattle.call_turns.specs.StoreCalls.{IsCalled, IsMade}
-use Rattle.call_turns.proofs.Made.{fails_by, inside_by, same_devices, shows_nodes, still_named, still_sound, still_within}
+use Rattle.call_turns.proofs.Made.{fails_by, inside_by, same_devices, shows_nodes, still_given, still_named, still_sound, still_within}
 use Rattle.call_turns.proofs.Standing.{is_seen}
 
 module _ {D : Type 0} (state : D → State) (honest : D → Type 0) (moment : D → ℕ) (left_since : D → ℕ → List ℕ → Type 0)
@@ -48,6 +48,7 @@ module _ {D : Type 0} (state : D → State) (honest : D → Type 0) (moment : D 
       named = named;
       fails = fails_by state honest moment left_since store shards old new now standing coordinator (views.coordinator x) (views.coordinator y) called next shows;
       inside = inside_by state honest moment left_since store shards old new now standing (still_within state honest moment left_since store shards old new now standing only_now devices) m;
+      given = still_given state honest moment left_since store shards old new now standing devices;
     }
 
     -- a call that stages nothing

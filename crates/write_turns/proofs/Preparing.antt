@@ -33,7 +33,7 @@ use Rattle.commit_flow.specs.WriteHolds as waits
 use Rattle.commit_flow.specs.Writing.{GaveBelow, IsOnItsWay}
 use Rattle.laws.specs.Nodes.{NodeName, Nodes, down, shard, up}
 use Rattle.laws.specs.Shards.{ShardMeans}
-use Rattle.turns.specs.Causes.{Calls, HasItsCause, IsBelow as IsBelowCause}
+use Rattle.turns.specs.Causes.{Calls, HasItsCause, IsBelow as IsBelowCause, TakesMemory}
 use Rattle.turns.specs.Flows.{HeldVote, WriteHolds, onward, outward, writing}
 use Rattle.turns.specs.Held.{HoldsOf}
 use Rattle.turns.specs.Moments.{Moment, Running}
@@ -46,7 +46,7 @@ use Rattle.turns.proofs.ShardPrepareSeam.{not_prepared, prepare_turns_of}
 use Rattle.turns.proofs.ShardSeam.{elsewhere, here, known_left, knows, own_is}
 use Rattle.call_turns.specs.StoreCalls.{IsCalled, IsMade}
 use Rattle.call_turns.proofs.Flushed.{down_shard_fails, refused_fails}
-use Rattle.call_turns.proofs.Made.{FailsQuietly, IsQuietlyMade, fails_by, inside_by, same_devices, shows_nodes, still_made, still_named, still_sound, still_within}
+use Rattle.call_turns.proofs.Made.{FailsQuietly, IsQuietlyMade, fails_by, inside_by, same_devices, shows_nodes, still_given, still_made, still_named, still_of, still_sound, still_within}
 use Rattle.call_turns.proofs.Standing.{shard_is_seen, shard_is_up}
 use Rattle.write_turns.specs.Turning.{TurnsBy}
 use Rattle.write_turns.proofs.Catching.{may_ask_shard}
@@ -77,8 +77,9 @@ module _ {D : Type 0} (state : D → State) (honest : D → Type 0) (moment : D 
     holds = holds_is state honest moment left_since store shards old new now standing number slot is_cancelled v r flow;
   }
 
-  calls : Calls shards r.asked (shard s)
-  calls = calls_shard shards s r.asked w (asks_own state honest moment left_since store shards old new now standing number slot is_cancelled v r flow intent has has_id) there takes
+  calls : Calls shards r.asked r.holds (shard s)
+  calls = calls_shard shards s r v.holds w (asks_own state honest moment left_since store shards old new now standing number slot is_cancelled v r flow intent has has_id)
+      (holds_is state honest moment left_since store shards old new now standing number slot is_cancelled v r flow) has_id there takes
 
   -- this shard gave nothing yet
   gave_nothing : HoldsOf v.holds s → ⊥
@@ -102,7 +103,7 @@ module _ {D : Type 0} (state : D → State) (honest : D → Type 0) (moment : D 
       gave = λ is. let both : outward (Some e) ≡ onward = is in absurd cc;
     }
 
-    refused_with : (next : Nodes) → IsQuietlyMade state honest moment left_since store shards old new now standing next now.machine → ((ran : Moment) → ran.nodes ≡ next → HasItsCause shards now ran r e)
+    refused_with : (next : Nodes) → (quiet : IsQuietlyMade state honest moment left_since store shards old new now standing next now.machine) → ((ran : Moment) → ran.nodes ≡ next → HasItsCause shards quiet.0.node now ran r e)
         → PrepareGives mid s again back (Err e) later → Goal later
     refused_with next quiet cause gives = by_full (is_full e) again refl
       where
@@ -155,6 +156,7 @@ module _ {D : Type 0} (state : D → State) (honest : D → Type 0) (moment : D 
             named = still_named state honest moment left_since store shards old new now standing only_now devices next refl;
             fails = fails_by state honest moment left_since store shards old new now standing (shard s) (views.shard x) (views.shard y) called next shows;
             inside = inside_by state honest moment left_since store shards old new now standing (still_within state honest moment left_since store shards old new now standing only_now devices) now.machine;
+            given = still_given state honest moment left_since store shards old new now standing devices;
           }
 
       prepared : (back : IntentValue) → back ≡ intent → PrepareGives mid s again back (Ok t) later → Goal later
@@ -167,8 +169,9 @@ module _ {D : Type 0} (state : D → State) (honest : D → Type 0) (moment : D 
 
     -- it has refused it
     module _ (same : y ≡ x) (e : Refusal) (given_up : PrepareRefused x w e) where
-      quiet : IsQuietlyMade state honest moment left_since store shards old new now standing now.nodes now.machine
-      quiet = still_made state honest moment left_since store shards old new now standing (shard s) (views.shard x) (views.shard y) called only_now (ap views.shard same)
+      abbrev quiet : IsQuietlyMade state honest moment left_since store shards old new now standing now.nodes now.machine
+      quiet = still_of state honest moment left_since store shards old new now standing (shard s)
+          (still_made state honest moment left_since store shards old new now standing (shard s) (views.shard x) (views.shard y) called only_now (ap views.shard same))
 
       abbrev asks : IsPreparing store shards before now r w s
       asks = record {
@@ -195,16 +198,16 @@ module _ {D : Type 0} (state : D → State) (honest : D → Type 0) (moment : D 
           below_place Exists is low = absurd low
           below_place Absent is low = absurd low
 
-      cause : (e ≡ Collected) ⊎ ((e ≡ Busy) ⊎ ((e ≡ Precondition) ⊎ ((e ≡ Full) ⊎ (e ≡ NoMemory)))) → (ran : Moment) → HasItsCause shards now ran r e
-      cause (inl is) ran = subst (HasItsCause shards now ran r) (sym is) (inl (collected (subst (λ (p : Entry). AskBelow (memory x).horizon p.conditions) own_here (given_up.collected is))))
-      cause (inr (inl is)) ran = subst (HasItsCause shards now ran r) (sym is)
+      cause : (e ≡ Collected) ⊎ ((e ≡ Busy) ⊎ ((e ≡ Precondition) ⊎ ((e ≡ Full) ⊎ (e ≡ NoMemory)))) → (ran : Moment) → HasItsCause shards (shard s) now ran r e
+      cause (inl is) ran = subst (HasItsCause shards (shard s) now ran r) (sym is) (inl (collected (subst (λ (p : Entry). AskBelow (memory x).horizon p.conditions) own_here (given_up.collected is))))
+      cause (inr (inl is)) ran = subst (HasItsCause shards (shard s) now ran r) (sym is)
           (inl (busy_shards_have_cause store shards before now ran r w s asks (subst (IsBusy (memory x)) own_here (given_up.busy is))))
-      cause (inr (inr (inl is))) ran = subst (HasItsCause shards now ran r) (sym is)
+      cause (inr (inr (inl is))) ran = subst (HasItsCause shards (shard s) now ran r) (sym is)
           (inl (broken_shards_have_cause store shards before now ran r w s asks (subst (IsBroken (memory x)) own_here (given_up.broken is))))
-      cause (inr (inr (inr (inl is)))) ran = subst (HasItsCause shards now ran r) (sym is)
+      cause (inr (inr (inr (inl is)))) ran = subst (HasItsCause shards (shard s) now ran r) (sym is)
           (inl (full_shards_have_cause store shards before now ran r w s asks (part_prepared shards s w whole takes)
           (subst (λ (p : Entry). HasNoRoom x.staged (Prepare p)) own_here (given_up.full is).1)))
-      cause (inr (inr (inr (inr is)))) ran = subst (HasItsCause shards now ran r) (sym is) (inl tt)
+      cause (inr (inr (inr (inr is)))) ran = subst (HasItsCause shards (shard s) now ran r) (sym is) (inl (subst TakesMemory (sym holder.flow.asked) tt))
 
       refused_up : (e ≡ Collected) ⊎ ((e ≡ Busy) ⊎ ((e ≡ Precondition) ⊎ ((e ≡ Full) ⊎ (e ≡ NoMemory)))) → (back : IntentValue) → back ≡ intent
           → PrepareGives mid s again back (Err e) later → Goal later

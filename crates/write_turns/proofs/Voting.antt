@@ -103,8 +103,9 @@ module _ {D : Type 0} (state : D → State) (honest : D → Type 0) (moment : D 
   right_ticket = All-contains (IsRightTicket shards before now mine) v.holds.tickets (held_ticket s ticket)
       ((right state honest moment left_since store shards old new now standing number slot is_cancelled v r flow).own way.2.0.write.id way.2.2).tickets has_ticket
 
-  calls : Calls shards r.asked (shard s)
-  calls = calls_shard shards s r.asked mine (asked_is state honest moment left_since store shards old new now standing number slot is_cancelled v r flow) right_ticket.there right_ticket.takes
+  calls : Calls shards r.asked r.holds (shard s)
+  calls = calls_shard shards s r v.holds mine (asked_is state honest moment left_since store shards old new now standing number slot is_cancelled v r flow)
+      (holds_is state honest moment left_since store shards old new now standing number slot is_cancelled v r flow) way.2.2 right_ticket.there right_ticket.takes
 
   failed : (e : Refusal) → FailsQuietly state honest moment left_since store shards old new now standing (shard s) e → GoesOut mid.holds e later → Goal later
   failed e fails is = subst Goal (sym is)
@@ -145,7 +146,7 @@ module _ {D : Type 0} (state : D → State) (honest : D → Type 0) (moment : D 
         (λ gone. let both : true ≡ false = sym gone.1 ∙ is_up in absurd cc)
         (λ aborted. subst Goal (sym is) (goes_out state honest moment left_since store shards old new now standing number slot is_cancelled v r flow now.nodes now.machine quiet
         (record v.holds { tickets = others; way = outward (Some e); batch = None }) way.2.0.write.id e way.2.2 way.1 (less e) refl
-        (λ ran here. subst (HasItsCause shards now ran r) (sym aborted.0) (inl (cut_off is_up (aborted.1 (shard_is_up state honest store shards old now standing s x called.before is_up)))))))
+        (λ ran here. subst (HasItsCause shards quiet.0.node now ran r) (sym aborted.0) (inl (cut_off is_up (aborted.1 (shard_is_up state honest store shards old now standing s x called.before is_up)))))))
         (so.1.no e refl)
 
     by_down : (reply : VoteReply) → Answered state honest moment left_since (views.shard x) (of_shard s (shard_calls.Vote ticket)) (from_shard (told_by.Vote reply)) (views.shard y) → VoteGives mid s reply later → Goal later
