@@ -1,5 +1,5 @@
 -- What an opening makes of two devices, in the words of the nodes' own contracts.
-use Rattle.std.specs.Prelude.{◌≡◌, ◌⊎◌, ◌↔◌, ℕ, false, List, [], Option, Some, None}
+use Rattle.std.specs.Prelude.{◌≡◌, ◌⊎◌, ◌↔◌, ℕ, false, true, List, [], Option, Some, None}
 use Rattle.refusal.specs.declared.refusal.Refusal.{Refusal}
 use Rattle.refusal.specs.declared.refusal.Refusal.TheVariants.{Damaged, Down, Full, NoMemory}
 use Rattle.records.specs.declared.record.Record.{Record}
@@ -17,6 +17,10 @@ abbrev pub refusal_of : {D : Type 0} → NodeView D → Option Refusal
 refusal_of (coordinator v) = None
 refusal_of (shard v) = None
 refusal_of (refused e a b) = Some e
+
+-- one of two devices has failed, and was not revived since
+abbrev pub HasStopped : {D : Type 0} → (D → State) → D → D → Type 0
+HasStopped state a b = ((state a).stopped ≡ true) ⊎ ((state b).stopped ≡ true)
 
 -- with what an opening may be refused
 abbrev pub IsOpeningRefusal : Refusal → Type 0

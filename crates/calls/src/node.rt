@@ -3,7 +3,7 @@ ghost use Rattle.std.specs.Prelude.{◌≡◌, ◌<◌, ◌↔◌, IsTrue};
 ghost use Rattle.records.specs.Identity.{coordinator_number};
 ghost use Rattle.calls.specs.Belonging.{IsNodeOf};
 ghost use Rattle.calls.specs.Failing.{NodeIsSet};
-ghost use Rattle.calls.specs.Opening.{CoordinatorOpens, ShardOpens, refusal_of};
+ghost use Rattle.calls.specs.Opening.{CoordinatorOpens, HasStopped, ShardOpens, refusal_of};
 ghost use Rattle.calls.specs.Rows.{RowsOf};
 ghost use Rattle.calls.specs.Views.{devices_of, refused};
 ghost use Rattle.refusal.specs.declared.refusal.Refusal.TheVariants.{Down};
@@ -87,6 +87,7 @@ impl<D: Device> Node<D> {
 
     /// A node that is not opened, since one of its devices failed as it was revived: its opening counts as refused with `Down`.
     pub fn stay_down(alloc: Global, a: D, b: D, me: Identity) -> Node<D>
+        requires { HasStopped D.state a b }
         ensures { result ≡ refused Down a b }
     {
         Node {

@@ -35,6 +35,12 @@ abbrev pub told_of_opening : Option Refusal → What
 told_of_opening None = Up
 told_of_opening (Some e) = Refused e
 
+-- a step that begins a flow, which takes memory
+abbrev pub BeginsFlow : Step → Type 0
+BeginsFlow (Start request) = Unit {0}
+BeginsFlow (care_for care) = Unit {0}
+BeginsFlow step = ⊥
+
 -- a flow is put into a free slot, which is told
 pub record AddsFlow (old : List (Option Flow)) (flow : Flow) (told : Option What) (new : List (Option Flow)) : Type 0 where
   pub slot : ℕ

@@ -6,6 +6,7 @@ ghost use Rattle.records.specs.Identity.{max_shards};
 ghost use Rattle.cluster.specs.Begun.{IsNodeThere};
 ghost use Rattle.refusal.specs.declared.refusal.Refusal.TheVariants.{Down};
 ghost use Rattle.device.specs.Device.{Failed};
+ghost use Rattle.calls.specs.Opening.{HasStopped};
 ghost use Rattle.calls.specs.Views.{refused};
 ghost use Rattle.cluster.specs.Nodes.{IsFound, IsRevived, Opens, Reopened};
 ghost use Rattle.cluster.specs.Steps.{SlotRestarts, told_of_opening};
@@ -57,6 +58,7 @@ fn stay_down<D: Device>(
     requires some { 1 ≤ shards }
     requires few { shards ≤ max_shards }
     requires there { IsNodeThere shards name }
+    requires stopped { HasStopped D.state a b }
     ensures { result ≡ refused Down a b }
 {
     let me = match name {

@@ -1,6 +1,6 @@
 // One step of a store.
 ghost use Rattle.std.specs.Prelude.{◌≡◌, IfOk, None, OnErr};
-ghost use Rattle.cluster.specs.Steps.{Takes};
+ghost use Rattle.cluster.specs.Steps.{BeginsFlow, Takes};
 
 use crate::cancelling::cancel;
 use crate::restarting::restart;
@@ -55,10 +55,11 @@ impl<D: Device> World<D> {
         restart(self.alloc, self.store, self.shards, &mut self.nodes, name)
     }
 
-    /// Takes the step, and says what it tells. Where memory is refused nothing is changed.
-    pub(crate) fn take(&mut self, step: &Step) -> Result<Option<What>, AllocError>
+    /// Takes the step, and says what it tells. Where memory is refused nothing is changed; only a step that begins a flow takes any.
+    pub fn take(&mut self, step: &Step) -> Result<Option<What>, AllocError>
         ensures ok { IfOk result (λ told. Takes D.state D.honest D.moment D.left_since self.old step.now told self.new) }
         ensures err { OnErr result (self.new ≡ self.old) }
+        ensures begins { OnErr result (BeginsFlow step.now) }
     {
         match step {
             Step::Start(request) => self.start(request),

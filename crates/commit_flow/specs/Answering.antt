@@ -18,6 +18,8 @@ use Rattle.calls.specs.declared.reply.Reply.{Reply}
 use Rattle.calls.specs.declared.reply.Reply.TheVariants.{Coordinator, Shard}
 use Rattle.calls.specs.declared.reply.CoordinatorReply.TheVariants as told
 use Rattle.calls.specs.declared.reply.ShardReply.TheVariants as told_by
+use Rattle.names.specs.declared.call_name.CallName.{CallName}
+use Rattle.names.specs.declared.call_name.CallName.TheVariants as names
 use Rattle.catch_up.specs.Held.{CatchUpCallValue}
 use Rattle.catch_up.specs.CatchingUp as catching
 use Rattle.catch_up.specs.declared.caught.Progress as progresses
@@ -127,6 +129,14 @@ GivesTo v waits.abort (Coordinator (told.Abort r)) after = AbortGives v r after
 GivesTo v waits.inquire (Coordinator (told.Inquire r)) after = InquireGives v r after
 GivesTo v waits.drop_write (Shard (told_by.DropWrite verdict r)) after = GoesToDrop v verdict.id after
 GivesTo v awaited reply after = ⊥
+
+-- The call that comes next where a node told that a flush has to come first, and behind that flush. So nothing is asked again before it can be answered.
+abbrev pub ComesNext : WriteAwaited → Reply → Option CallName → Type 0
+ComesNext (waits.vote s) (Shard (told_by.Vote (votes_later t))) next = next ≡ Some names.Flush
+ComesNext (waits.flush_to_vote s) (Shard (told_by.Flush (Ok done))) next = next ≡ Some names.Vote
+ComesNext waits.outcome (Coordinator (told.Outcome (Later d))) next = next ≡ Some names.Flush
+ComesNext waits.flush_to_outcome (Coordinator (told.Flush r)) next = next ≡ Some names.Outcome
+ComesNext awaited reply next = Unit {0}
 
 -- an intent that comes back is that of the flow's write
 abbrev pub IfBack : Option IntentValue → (IntentValue → Type 0) → Type 0

@@ -1,10 +1,13 @@
 // The decision of a write, and what became of it.
 ghost use Rattle.std.specs.Prelude.{◌≡◌, [], Some, None, true, ℕ};
 ghost use Rattle.decisions.specs.Coordinators.{HaveVoted};
-ghost use Rattle.commit_flow.specs.Answering.{DecideGives, FlushGives, NotDecidedGives, OutcomeGives, RefusedBack};
+ghost use Rattle.commit_flow.specs.Answering.{ComesNext, DecideGives, FlushGives, NotDecidedGives, OutcomeGives, RefusedBack};
 ghost use Rattle.commit_flow.specs.Kept.{IsReadyOf, IsPhaseOf};
-ghost use Rattle.commit_flow.specs.Views.{at_rest, holds_onward, view_of, view_out, view_ready};
+ghost use Rattle.commit_flow.specs.Views.{at_rest, holds_onward, name_of, view_of, view_out, view_ready};
+ghost use Rattle.commit_flow.specs.WriteHolds as awaits;
 ghost use Rattle.commit_flow.specs.WriteHolds.{outward};
+ghost use Rattle.calls.specs.declared.reply.Reply.TheVariants as replies;
+ghost use Rattle.calls.specs.declared.reply.CoordinatorReply.TheVariants as coordinator_replies;
 ghost use Rattle.commit_flow.specs.declared.phase.Out.TheVariants.{Decide as decide_out, FlushToDecide as flush_decide_out, Outcome as outcome_out};
 
 use crate::ballot::Ballot;
@@ -106,6 +109,7 @@ pub(crate) fn flushed_to_decide(alloc: Global, ballot: Ballot, answer: Result<()
 /// What became of the decision: it is kept, or has to be flushed first, or nobody knows.
 pub(crate) fn told(id: WriteId, outcome: Outcome) -> Phase
     ensures gives { OutcomeGives (view_out (outcome_out id)) outcome (view_of result) }
+    ensures next { ComesNext awaits.outcome (replies.Coordinator (coordinator_replies.Outcome outcome)) (name_of result) }
     ensures kept { (shards : ℕ) → IsPhaseOf shards result }
 {
     match outcome {

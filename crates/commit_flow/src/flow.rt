@@ -3,7 +3,7 @@ ghost use Rattle.std.specs.Prelude.{◌≡◌, ◌≤◌, ◌≢◌, Some, None,
 ghost use Rattle.calls.specs.Names.{name_of as name_of_call};
 ghost use Rattle.names.specs.declared.call_name.CallName.TheVariants as names;
 ghost use Rattle.records.specs.Identity.{max_shards};
-ghost use Rattle.commit_flow.specs.Answering.{GivesTo, MayGive};
+ghost use Rattle.commit_flow.specs.Answering.{ComesNext, GivesTo, MayGive};
 ghost use Rattle.commit_flow.specs.Cancelling.{Cancels};
 ghost use Rattle.commit_flow.specs.WriteHolds.{nothing_begun};
 ghost use Rattle.commit_flow.specs.Writing.{Asks};
@@ -112,6 +112,7 @@ impl WriteFlow {
         requires { MayGive self.old.shards self.old.seen reply }
         ensures shards { self.new.shards ≡ self.old.shards }
         ensures gives { MatchOption self.old.seen.awaited ⊥ (λ awaited. GivesTo self.old.seen awaited reply self.new.seen) }
+        ensures next { MatchOption self.old.seen.awaited ⊥ (λ awaited. ComesNext awaited reply self.new.next_name) }
     {
         let phase = mem::replace(&mut self.phase, Phase::Ended(WriteEnd::Cancelled));
         match phase {

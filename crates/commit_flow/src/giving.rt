@@ -1,9 +1,9 @@
 // What a reply makes of the phase that waits for it.
 ghost use Rattle.std.specs.Prelude.{ℕ, ◌≡◌, ◌≤◌};
 ghost use Rattle.records.specs.Identity.{max_shards};
-ghost use Rattle.commit_flow.specs.Answering.{Fits, GivesTo};
+ghost use Rattle.commit_flow.specs.Answering.{ComesNext, Fits, GivesTo};
 ghost use Rattle.commit_flow.specs.Kept.{IsFresh, IsOutOf, IsPhaseOf};
-ghost use Rattle.commit_flow.specs.Views.{awaited_of, view_of, view_out};
+ghost use Rattle.commit_flow.specs.Views.{awaited_of, name_of, view_of, view_out};
 ghost use Rattle.commit_flow.specs.declared.phase.Out.TheVariants as out_of;
 
 use crate::ballot::Ballot;
@@ -92,6 +92,7 @@ fn give_flush_to_prepare(preparing: Preparing, reply: Reply) -> Phase
 fn give_vote(voting: Voting, reply: Reply) -> Phase
     requires fits { Fits voting.load.shards (view_out (out_of.Vote voting)) (awaited_of (out_of.Vote voting)) reply }
     ensures gives { GivesTo (view_out (out_of.Vote voting)) (awaited_of (out_of.Vote voting)) reply (view_of result) }
+    ensures next { ComesNext (awaited_of (out_of.Vote voting)) reply (name_of result) }
     ensures kept { IsPhaseOf voting.load.shards result }
 {
     match reply {
@@ -107,6 +108,7 @@ fn give_flush_to_vote(voting: Voting, ticket: Ticket, reply: Reply) -> Phase
     requires own { ticket.id ≡ voting.intent.write.id }
     requires fits { Fits voting.load.shards (view_out (out_of.FlushToVote voting ticket)) (awaited_of (out_of.FlushToVote voting ticket)) reply }
     ensures gives { GivesTo (view_out (out_of.FlushToVote voting ticket)) (awaited_of (out_of.FlushToVote voting ticket)) reply (view_of result) }
+    ensures next { ComesNext (awaited_of (out_of.FlushToVote voting ticket)) reply (name_of result) }
     ensures kept { IsPhaseOf voting.load.shards result }
 {
     match reply {
@@ -139,6 +141,7 @@ fn give_flush_to_decide(alloc: Global, ballot: Ballot, reply: Reply) -> Phase
 fn give_outcome(id: WriteId, reply: Reply) -> Phase
     requires fits { Fits 0 (view_out (out_of.Outcome id)) (awaited_of (out_of.Outcome id)) reply }
     ensures gives { GivesTo (view_out (out_of.Outcome id)) (awaited_of (out_of.Outcome id)) reply (view_of result) }
+    ensures next { ComesNext (awaited_of (out_of.Outcome id)) reply (name_of result) }
     ensures kept { (shards : ℕ) → IsPhaseOf shards result }
 {
     match reply {
@@ -150,6 +153,7 @@ fn give_outcome(id: WriteId, reply: Reply) -> Phase
 fn give_flush_to_outcome(id: WriteId, decided: Decided, reply: Reply) -> Phase
     requires fits { Fits 0 (view_out (out_of.FlushToOutcome id decided)) (awaited_of (out_of.FlushToOutcome id decided)) reply }
     ensures gives { GivesTo (view_out (out_of.FlushToOutcome id decided)) (awaited_of (out_of.FlushToOutcome id decided)) reply (view_of result) }
+    ensures next { ComesNext (awaited_of (out_of.FlushToOutcome id decided)) reply (name_of result) }
     ensures kept { (shards : ℕ) → IsPhaseOf shards result }
 {
     match reply {
@@ -212,6 +216,7 @@ pub(crate) fn give(alloc: Global, shards: u8, out: Out, reply: Reply) -> Phase
     requires fits { Fits shards (view_out out) (awaited_of out) reply }
     requires kept { IsOutOf shards out }
     ensures gives { GivesTo (view_out out) (awaited_of out) reply (view_of result) }
+    ensures next { ComesNext (awaited_of out) reply (name_of result) }
     ensures kept { IsPhaseOf shards result }
 {
     match out {

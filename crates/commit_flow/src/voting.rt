@@ -1,11 +1,14 @@
 // The shards vote, one after another, and the write is decided by their votes.
 ghost use Rattle.std.specs.Prelude.{◌≡◌, ◌≤◌, ◌<◌, ◌+◌, ◌++◌, [], Some, None, false, Option};
 ghost use Rattle.std.specs.Vec.{vec_len};
-ghost use Rattle.commit_flow.specs.Answering.{FlushGives, GoesOn, IsVoteOf, VoteGives};
+ghost use Rattle.commit_flow.specs.Answering.{ComesNext, FlushGives, GoesOn, IsVoteOf, VoteGives};
 ghost use Rattle.commit_flow.specs.Kept.{IsReadyOf};
 ghost use Rattle.commit_flow.specs.Participants.{AreTicketsFor, AreVotesFor, participants_below, ticket_shards, vote_shards};
-ghost use Rattle.commit_flow.specs.Views.{at_rest, holds_onward, in_hand, tickets_of, view_out, view_ready};
+ghost use Rattle.commit_flow.specs.Views.{at_rest, holds_onward, in_hand, name_ready, tickets_of, view_out, view_ready};
+ghost use Rattle.commit_flow.specs.WriteHolds as awaits;
 ghost use Rattle.commit_flow.specs.WriteHolds.{outward};
+ghost use Rattle.calls.specs.declared.reply.Reply.TheVariants as replies;
+ghost use Rattle.calls.specs.declared.reply.ShardReply.TheVariants as shard_replies;
 ghost use Rattle.commit_flow.specs.declared.phase.Out.TheVariants.{FlushToVote as flush_vote_out, Vote as vote_out};
 
 use crate::ballot::Ballot;
@@ -84,6 +87,7 @@ fn decide_next(intent: Intent, load: Load) -> Ready
 pub(crate) fn voted(voting: Voting, answer: VoteReply) -> Ready
     requires { IsVoteOf voting.shard voting.intent.write.id answer }
     ensures gives { VoteGives (view_out (vote_out voting)) voting.shard answer (view_ready result) }
+    ensures next { ComesNext (awaits.vote voting.shard) (replies.Shard (shard_replies.Vote answer)) (Some (name_ready result)) }
     ensures kept { IsReadyOf voting.load.shards result }
 {
     match answer {
@@ -112,6 +116,7 @@ pub(crate) fn voted(voting: Voting, answer: VoteReply) -> Ready
 pub(crate) fn flushed_to_vote(voting: Voting, ticket: Ticket, answer: Result<(), Refusal>) -> Ready
     requires { ticket.id ≡ voting.intent.write.id }
     ensures gives { FlushGives (view_out (flush_vote_out voting ticket)) false answer (view_ready result) }
+    ensures next { ComesNext (awaits.flush_to_vote voting.shard) (replies.Shard (shard_replies.Flush answer)) (Some (name_ready result)) }
     ensures kept { IsReadyOf voting.load.shards result }
 {
     match answer {
