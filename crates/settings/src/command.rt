@@ -1,8 +1,58 @@
-// The words that a command line may have.
+// The words that a command line may have, and what help says of them.
+ghost use Rattle.std.specs.Prelude.{◌≡◌, IfErr, IfOk, false};
+ghost use Rattle.clap.specs.Words.{app_of, kind_of, rule_of};
+ghost use Rattle.clap.specs.declared.builder.command.Command.TheViews.{out-Command as fields_of};
+ghost use Rattle.settings.specs.CommandLine.{program, shards_option, sim, store_option};
+
+use clap::error::ErrorKind;
 use clap::{Arg, ArgAction, Command, Error, value_parser};
 use std::alloc::Global;
 
-fn store_argument<'a>(alloc: Global) -> Arg<'a> {
+const EXAMPLE: &str = "Example:
+  zanstore sim <<'END'
+  write +doc:readme#viewer@group:staff#member +group:staff#member@ann
+  check latest doc:readme#viewer@ann
+  END
+
+It prints the token of the write's place, and yes with that of the place that answered:
+  ok AQAAAAAAAAAAAQAAAAAAAAAB
+  yes AQAAAAAAAAAAAQAAAAAAAAAB
+
+The lines of a script: zanstore sim --help";
+
+const SIM: &str =
+    "Runs a script from standard input over a new store on disks in memory, and prints what each line
+answers before it looks at the next one. Nothing outlives the process.";
+
+const LINES: &str = "Requests:
+  write +doc:a#viewer@u1 -doc:b#viewer@u1 if ?doc:a#owner@u1 !doc:c#viewer@u1 doc:a#lock@lock=3
+                                touches and deletes, made where each condition is met: the tuple
+                                is there, is not, or was not changed behind the place
+  read latest doc:a doc@u1      tuples of an object or of a user, each with its tupleset's number
+  check latest doc:a#viewer@u1  whether the user is in the userset, by way of others too
+  watch TOKEN 256 doc group     the changes at the next 256 places in these namespaces
+In place of latest, >=TOKEN asks for that place or a later one, and =TOKEN for just that one.
+
+A request call by call, under a name:
+  start w REQUEST, turn w, until w decide, run w, cancel w
+
+The care of the nodes (c is the coordinator, 0 a shard):
+  flush c, learn 0, resolve 0, raise 4, collect 0, rows 0
+
+Failures: the fourth call of device a of the coordinator is to fail, and what was written since its
+last sync is to be found as a5 (or old, or new). And a restart, which finds it:
+  fail ca 4 a5, restart c
+
+An empty line and one that begins with ; print nothing. A line that can't be carried out prints
+refused, a number and a name. Each of them is told in docs/SCRIPTS.md and docs/API.md.
+
+Status: 0 at the end of the input; 1 where the input or the output failed, or there was no memory
+for the disks; 2 for a command line that can't be read.";
+
+fn store_argument<'a>(alloc: Global) -> Arg<'a>
+    ensures rule { rule_of result ≡ store_option }
+    ensures local { result.global ≡ false }
+{
     Arg::new(alloc, "store")
         .long("store")
         .value_name("N")
@@ -12,7 +62,10 @@ fn store_argument<'a>(alloc: Global) -> Arg<'a> {
         .default_value("1")
 }
 
-fn shards_argument<'a>(alloc: Global) -> Arg<'a> {
+fn shards_argument<'a>(alloc: Global) -> Arg<'a>
+    ensures rule { rule_of result ≡ shards_option }
+    ensures local { result.global ≡ false }
+{
     Arg::new(alloc, "shards")
         .long("shards")
         .value_name("N")
@@ -22,16 +75,33 @@ fn shards_argument<'a>(alloc: Global) -> Arg<'a> {
         .default_value("2")
 }
 
-/// The program's one command, and what it may be given.
-pub(crate) fn command<'a>(alloc: Global) -> Result<Command<'a>, Error> {
-    let sim = Command::new(alloc, "sim")
-        .about("Runs a script from standard input over disks in memory")
-        .arg(store_argument(alloc))?
-        .arg(shards_argument(alloc))?;
+// The command that runs a script, and what it may be given.
+fn sim_command<'a>(alloc: Global) -> Result<Command<'a>, Error>
+    ensures ok { IfOk result (λ c. app_of c ≡ sim) }
+    ensures local { IfOk result (λ c. (fields_of c).has_globals ≡ false) }
+    ensures err { IfErr result (λ e. kind_of e ≡ ErrorKind.OutOfMemory) }
+{
+    Ok(
+        Command::new(alloc, "sim")
+            .about("Runs a script from standard input over disks in memory")
+            .long_about(SIM)
+            .after_long_help(LINES)
+            .arg(store_argument(alloc))?
+            .arg(shards_argument(alloc))?,
+    )
+}
+
+/// The program's one command.
+pub(crate) fn command<'a>(alloc: Global) -> Result<Command<'a>, Error>
+    ensures ok { IfOk result (λ c. app_of c ≡ program) }
+    ensures err { IfErr result (λ e. kind_of e ≡ ErrorKind.OutOfMemory) }
+{
+    let script = sim_command(alloc)?;
     Ok(
         Command::new(alloc, "zanstore")
-            .about("A store of relation tuples")
+            .about("A store of relation tuples, run by scripts")
+            .after_help(EXAMPLE)
             .subcommand_required(true)
-            .subcommand(sim)?,
+            .subcommand(script)?,
     )
 }

@@ -1,5 +1,8 @@
 // What the program was asked for.
-ghost use Rattle.std.specs.Prelude.{◌≡◌, ◌≤◌, ◌⊎◌, IfErr};
+ghost use Rattle.std.specs.Prelude.{◌≡◌, ◌≤◌, ◌⊎◌, IfErr, IfOk, ℕ, map, string_bytes};
+ghost use Rattle.clap.specs.Words.{FailsBy, fault_of, kind_of};
+ghost use Rattle.clap.specs.declared.error.kind.ErrorKind.TheVariants.{OutOfMemory};
+ghost use Rattle.settings.specs.CommandLine.{AsksFor, AsksWhatThereIs, program, status_of};
 ghost use Rattle.settings.specs.declared.settings.TheConstants.{MAX_STORE};
 ghost use Rattle.tuples.specs.Limits.{max_shards};
 
@@ -8,7 +11,6 @@ use clap::Error;
 use std::alloc::Global;
 use std::env::{self, Env};
 use std::io::{Eprint, Print};
-use tuples::MAX_SHARDS;
 
 // The greatest id of a store.
 const MAX_STORE: u64 = 4_294_967_295;
@@ -39,36 +41,43 @@ impl Settings {
         let Ok(words) = args.collect::<Vec<String>>(rt.alloc()) else {
             return Err(USAGE);
         };
-        match settings_of(rt.alloc(), &words) {
-            Ok(settings) => Ok(settings),
-            Err(error) => Err(tell(rt, &error)),
-        }
+        answer(rt, &words)
+    }
+
+    /// What the words ask for, the name of the program first. A line that asks for settings is refused for memory alone.
+    pub fn parse<'a>(alloc: Global, words: &'a [String]) -> Result<Settings, Error>
+        ensures asked { IfOk result (λ s.
+            AsksFor (map string_bytes words.now) s.store s.shards) }
+        ensures taken { IfErr result (λ e. (store shards : ℕ)
+            → AsksFor (map string_bytes words.now) store shards → kind_of e ≡ OutOfMemory) }
+        ensures kinds { FailsBy (fault_of program (map string_bytes words.now)) result }
+    {
+        let matches = command(alloc)?.try_get_matches_from(words)?;
+        let (_, sim) = matches.subcommand().unwrap();
+        let store = sim.get_one::<u64>("store").unwrap();
+        let shards = sim.get_one::<u8>("shards").unwrap();
+        Ok(Settings { store, shards })
+    }
+}
+
+// What the words ask for, or the status to end with, once the user is told.
+fn answer<R: Print + Eprint + AllocGlobal>(rt: &R, words: &[String]) -> Result<Settings, u8>
+    ensures asked { IfOk result (λ s.
+        AsksFor (map string_bytes words.now) s.store s.shards) }
+    ensures status { IfErr result (λ status. (status ≡ USAGE)
+        ⊎ ((status ≡ 0) × AsksWhatThereIs (map string_bytes words.now))) }
+{
+    match Settings::parse(rt.alloc(), words) {
+        Ok(settings) => Ok(settings),
+        Err(error) => Err(tell(rt, &error)),
     }
 }
 
 // The status that goes with the text.
 fn tell<R: Print + Eprint>(rt: &R, error: &Error) -> u8
-    ensures { (result ≡ 0) ⊎ (result ≡ USAGE) }
+    ensures { result ≡ status_of (kind_of error.now) }
 {
     // A text that can't be printed changes nothing of the status.
     let _ = error.print(rt);
     if error.use_stderr() { USAGE } else { 0 }
-}
-
-// What the words ask for, the name of the program first.
-fn settings_of<'a>(alloc: Global, words: &'a [String]) -> Result<Settings, Error> {
-    let matches = command(alloc)?.try_get_matches_from(words)?;
-    let mut settings = Settings {
-        store: 1,
-        shards: 2,
-    };
-    if let Some((_, sim)) = matches.subcommand() {
-        if let Some(store) = sim.get_one::<u64>("store") {
-            settings.store = store.min(MAX_STORE);
-        }
-        if let Some(shards) = sim.get_one::<u8>("shards") {
-            settings.shards = shards.clamp(1, MAX_SHARDS);
-        }
-    }
-    Ok(settings)
 }

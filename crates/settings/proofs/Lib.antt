@@ -1,0 +1,6 @@
+pub mod Spelled
+pub mod Uses
+pub mod SimWalk
+pub mod Entered
+pub mod Asked
+pub mod Lines
