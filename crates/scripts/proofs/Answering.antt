@@ -12,7 +12,8 @@ use Rattle.journal.specs.declared.refused.Bank.{Bank}
 use Rattle.line_io.specs.Lines.{max_line}
 use Rattle.line_io.specs.Outputs.{HasBegun}
 use Rattle.refusal.specs.declared.refusal.Refusal.{Refusal}
-use Rattle.scripts.specs.Scripts.{Answers, ScriptView}
+use Rattle.scripts.specs.Answering.{Answers}
+use Rattle.scripts.specs.Scripts.{ScriptView}
 use Rattle.tuples.specs.declared.version.Version.{Version}
 use Rattle.scripts.specs.Runs.{EndsPart, EndsWith, RepliesTo, Tells, TellsPart}
 use Rattle.scripts.proofs.RunLemmas.{prints_one}

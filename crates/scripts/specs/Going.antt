@@ -1,5 +1,5 @@
 -- The turns of a flow, one after another.
-use Rattle.std.specs.Prelude.{◌≡◌, ℕ, List, [], ◌∷◌, Option, Some, None}
+use Rattle.std.specs.Prelude.{◌≡◌, ◌≤◌, ◌<◌, ◌⊎◌, ℕ, List, [], ◌∷◌, length, Option, Some, None}
 use Rattle.names.specs.declared.call_name.CallName.{CallName}
 use Rattle.cluster.specs.declared.event.What.{What}
 use Rattle.cluster.specs.declared.step.Step.{Step}
@@ -21,6 +21,10 @@ abbrev pub last_told : List (Option What) → Option What
 last_told [] = None
 last_told (told ∷ before) = told
 
+-- as many calls as can be counted, which no flow makes
+abbrev pub most_calls : ℕ
+most_calls = 18446744073709551615
+
 module _ {S : Type 0} (takes : S → Step → Option What → S → Type 0) (nexts : S → ℕ → Option CallName → Type 0) (slot : ℕ) (until : Option CallName) where
   -- the flow in the slot goes on from here
   abbrev pub GoesOnFrom : S → Type 0
@@ -41,3 +45,10 @@ module _ {S : Type 0} (takes : S → Step → Option What → S → Type 0) (nex
     pub turns : Turns all old new
     pub last : told ≡ last_told all
     pub ends : StandsStill new
+
+  -- It made some of them and goes on still: memory was refused to what it may print, of which each call asks for so much more; or it has made as many calls as can be counted.
+  pub record LeavesOff (each : ℕ) (old new : S) : Type 0 where
+    pub all : List (Option What)
+    pub turns : Turns all old new
+    pub goes_on : GoesOnFrom new
+    pub cause : (0 < each) ⊎ (most_calls ≤ length all)

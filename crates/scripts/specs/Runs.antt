@@ -13,7 +13,8 @@ use Rattle.line_io.specs.Outputs.{HasBegun}
 use Rattle.printed.specs.Texts.{refusal_line}
 use Rattle.refusal.specs.declared.refusal.Refusal.{Refusal}
 use Rattle.refusal.specs.declared.refusal.Refusal.TheVariants.{NoMemory, TooLarge}
-use Rattle.scripts.specs.Scripts.{Answers, ScriptView}
+use Rattle.scripts.specs.Answering.{Answers}
+use Rattle.scripts.specs.Scripts.{ScriptView}
 use Rattle.tuples.specs.declared.version.Version.{Version}
 
 -- lines, each with its line feed

@@ -14,11 +14,9 @@ use Rattle.lines.specs.declared.command.Command.{Command}
 use Rattle.lines.specs.declared.command.Command.TheVariants.{Pass, Ask, Start, Handle, Care, Rows, Restart, Fail}
 use Rattle.lines.specs.declared.flow.Handling.{Handling}
 use Rattle.lines.specs.declared.flow.Handling.TheVariants as handling
-use Rattle.lines.specs.Causes.{Cause}
-use Rattle.lines.specs.Lines.{Spells}
 use Rattle.printed.specs.Texts.{named_line, refusal_line, version_line}
 use Rattle.refusal.specs.declared.refusal.Refusal.{Refusal}
-use Rattle.refusal.specs.declared.refusal.Refusal.TheVariants.{Future, NoMemory}
+use Rattle.refusal.specs.declared.refusal.Refusal.TheVariants.{Future}
 use Rattle.tuples.specs.declared.version.Version.{Version}
 use Rattle.scripts.specs.Asking.{request_of}
 use Rattle.scripts.specs.Going.{Goes}
@@ -118,14 +116,6 @@ module _ {S : Type 0} (takes : S → Step → Option What → S → Type 0) (nex
   CarriesOut id (Rows shard) old text new = Shows shows shard old.store text × (new ≡ old)
   CarriesOut id (Restart node) old text new = (told : Option What) × takes old.store (step.Restart node) told new.store × (text ≡ told_text id told) × KeepsFlows old new
   CarriesOut id (Fail f) old text new = sets old.store f.node f.bank f.n f.tear new.store × (text ≡ set_line) × KeepsFlows old new
-
-  -- A line that spells a command carries it out. One that spells none is refused with its cause, and nothing is done. Where memory was refused behind a step,
-  -- that alone is told.
-  abbrev pub Answers : List ℕ → ScriptView S → List ℕ → ScriptView S → Type 0
-  Answers line old text new = (new.id ≡ old.id) × (new.shards ≡ old.shards)
-      × (((c : Command) × Spells old.id old.shards old.running.names line c × CarriesOut old.id c old.running text new.running)
-      ⊎ (((e : Refusal) × Cause old.id old.shards old.running.names line e × (text ≡ refusal_line e) × (new.running ≡ old.running))
-      ⊎ (text ≡ refusal_line NoMemory)))
 
 -- the flow that a command names is one of so many
 abbrev pub IsAmong : Command → ℕ → Type 0

@@ -1,5 +1,5 @@
 -- A script over a store that is opened for it.
-use Rattle.std.specs.Prelude.{◌≡◌, ℕ, List, [], Option, None}
+use Rattle.std.specs.Prelude.{◌≡◌, ◌+◌, ◌*◌, ℕ, List, [], length, Option, None}
 use Rattle.cluster.specs.Openings.{IsOpenedOver}
 use Rattle.cluster.specs.Steps.{Takes}
 use Rattle.cluster.specs.Worlds.{WorldView}
@@ -26,6 +26,7 @@ module _ {D : Type 0} (set : D → ℕ → Tear → Type 0) (state : D → State
   -- the store with this id and so many shards was opened over these devices, and a script ran over it to its end
   pub record RanOver (store shards : ℕ) (devices : List D) (in_before in_after out_before out_after : Option (List ℕ)) : Type 0 where
     pub world : WorldView D
+    pub count : length devices ≡ 2 * (shards + 1)
     pub opened : IsOpenedOver state honest moment left_since store shards devices world
     pub after : ScriptView (WorldView D)
     pub ran : Ran (Takes state honest moment left_since) IsNext (ShowsRows state honest) (SetsScript set state honest moment left_since)
@@ -34,6 +35,7 @@ module _ {D : Type 0} (set : D → ℕ → Tear → Type 0) (state : D → State
   -- or the script broke off
   pub record BrokeOver (store shards : ℕ) (devices : List D) (in_before in_after out_before out_after : Option (List ℕ)) : Type 0 where
     pub world : WorldView D
+    pub count : length devices ≡ 2 * (shards + 1)
     pub opened : IsOpenedOver state honest moment left_since store shards devices world
     pub after : ScriptView (WorldView D)
     pub broke : Broke (Takes state honest moment left_since) IsNext (ShowsRows state honest) (SetsScript set state honest moment left_since)

@@ -1,6 +1,7 @@
 // The turns of a flow, one after another.
-ghost use Rattle.std.specs.Prelude.{◌≡◌, ◌≤◌, ◌↔◌, IfOk, IsTrue, OnOk, vec_capacity};
-ghost use Rattle.scripts.specs.Going.{Goes, GoesOn, IsAsked};
+ghost use Rattle.std.specs.Prelude.{◌≡◌, ◌≤◌, ◌<◌, ◌↔◌, IfOk, IsTrue, OnErr, OnOk, vec_capacity};
+ghost use Rattle.scripts.specs.Going.{Goes, GoesOn, IsAsked, LeavesOff};
+ghost use Rattle.scripts.specs.Refusing.{CancelsInPart};
 ghost use Rattle.scripts.specs.Scripts.{Cancels};
 
 use crate::Store;
@@ -27,8 +28,20 @@ fn goes_on(until: Option<CallName>, next: Option<CallName>) -> bool
     }
 }
 
+// Room for so much text, if there is to be any.
+fn make_room(out: &mut Vec<u8>, room: usize) -> Result<(), AllocError>
+    ensures same { out.new.items ≡ out.old.items }
+    ensures capacity { vec_capacity out.old ≤ vec_capacity out.new }
+    ensures some { OnErr result (0 < room) }
+{
+    if room == 0 {
+        return Ok(());
+    }
+    out.reserve(room)
+}
+
 /// The flow in the slot makes its calls: to its end, or while the next is another than this one. What the last of them told. Each call is made once there
-/// is so much more room for the text of it all.
+/// is so much more room for the text of it all, if it is to have any.
 pub(crate) fn go<S: Store>(
     store: &mut S,
     slot: usize,
@@ -37,6 +50,7 @@ pub(crate) fn go<S: Store>(
     out: &mut Vec<u8>,
 ) -> Result<Option<What>, AllocError>
     ensures goes { IfOk result (λ told. Goes S.takes S.nexts slot until store.old told store.new) }
+    ensures left { OnErr result (LeavesOff S.takes S.nexts slot until each store.old store.new) }
     ensures same { out.new.items ≡ out.old.items }
     ensures capacity { vec_capacity out.old ≤ vec_capacity out.new }
 {
@@ -47,10 +61,13 @@ pub(crate) fn go<S: Store>(
             return Ok(told);
         }
         room = room.saturating_add(each);
-        out.reserve(room)?;
+        make_room(out, room)?;
         told = store.take(Step::Turn(slot))?;
     }
-    Err(AllocError)
+    if goes_on(until, store.next(slot)) {
+        return Err(AllocError);
+    }
+    Ok(told)
 }
 
 /// The flow in the slot is cancelled, and makes its calls to its end.
@@ -60,6 +77,7 @@ pub(crate) fn cancel<S: Store>(
     out: &mut Vec<u8>,
 ) -> Result<(), AllocError>
     ensures cancels { OnOk result (Cancels S.takes S.nexts slot store.old store.new) }
+    ensures left { OnErr result (CancelsInPart S.takes S.nexts slot store.old store.new) }
     ensures same { out.new.items ≡ out.old.items }
     ensures capacity { vec_capacity out.old ≤ vec_capacity out.new }
 {

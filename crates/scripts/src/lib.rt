@@ -25,7 +25,7 @@ mod stepping;
 mod store;
 mod telling;
 
-pub use over_disks::sim;
+pub use over_disks::{run_over, sim};
 pub use runs::run;
 pub use script::Script;
 pub use stepping::Stepping;

@@ -1,4 +1,4 @@
-// A script over a store that is opened for it, over disks in memory.
+// A script over a store that is opened for it, over devices that are given, or over disks in memory.
 ghost use Rattle.std.specs.Prelude.{◌≡◌, ◌≢◌, ◌≤◌, ◌+◌, ◌*◌, ◌⊎◌, All, IfOk, List, OnErr, OnOk, vec_len};
 ghost use Rattle.cluster.specs.Openings.{IsOpenedOver};
 ghost use Rattle.device.specs.Disk.{is_set_to_fail, left_since_of, moment_of, state_of};
@@ -44,7 +44,7 @@ fn open<D: Device>(
     ensures { IfOk result (IsOpenedOver D.state D.honest D.moment D.left_since store shards devices.items) }
 {
     match reopen(alloc, devices, store, shards) {
-        Ok(world) => Stepping::new(alloc, world),
+        Ok(world) => Ok(Stepping::new(world)),
         Err(_) => Err(AllocError),
     }
 }
@@ -65,8 +65,9 @@ fn run_new<S: Store, R: Read, W: Write>(
     run(alloc, &mut script, reader, writer)
 }
 
-// Opens the store over its devices, and runs a script over it.
-fn run_over<D: Device, R: Read, W: Write>(
+/// Opens the store of 1 to 64 shards over its devices, as `reopen` does, and runs a script over it. The status is 0 at the end of the script, and 1 where the
+/// reader or the writer failed, or where there is no memory for the nodes. A node whose opening is refused answers that to each line that asks it.
+pub fn run_over<D: Device, R: Read, W: Write>(
     alloc: Global,
     store: u64,
     shards: u8,

@@ -1,5 +1,5 @@
 // What is printed of what a store tells.
-ghost use Rattle.std.specs.Prelude.{◌≡◌, ◌≤◌, ◌++◌, List, ℕ, OnOk, OnErr, vec_capacity};
+ghost use Rattle.std.specs.Prelude.{◌≡◌, ◌≤◌, ◌<◌, ◌+◌, ◌++◌, List, ℕ, OnOk, OnErr, length, vec_capacity, vec_len};
 ghost use Rattle.std.specs.List.{flat_map};
 ghost use Rattle.scripts.specs.Telling.{done_line, end_text, resolved_text, told_text};
 
@@ -12,6 +12,7 @@ use std::alloc::AllocError;
 fn print_resolved(id: u64, resolved: Resolved, out: &mut Vec<u8>) -> Result<(), AllocError>
     ensures ok { OnOk result (out.new.items ≡ out.old.items ++ resolved_text resolved) }
     ensures err { OnErr result (out.new.items ≡ out.old.items) }
+    ensures memory { OnErr result (vec_capacity out.old < vec_len out.old + length (resolved_text resolved)) }
     ensures capacity { vec_capacity out.old ≤ vec_capacity out.new }
 {
     let printed = match resolved {
@@ -26,6 +27,7 @@ fn print_resolved(id: u64, resolved: Resolved, out: &mut Vec<u8>) -> Result<(), 
 fn print_each(id: u64, found: &[Resolved], out: &mut Vec<u8>) -> Result<(), AllocError>
     ensures ok { OnOk result (out.new.items ≡ out.old.items ++ flat_map resolved_text found.now) }
     ensures err { OnErr result ((part : List ℕ) × (out.new.items ≡ out.old.items ++ part)) }
+    ensures memory { OnErr result (vec_capacity out.old < vec_len out.old + length (flat_map resolved_text found.now)) }
     ensures capacity { vec_capacity out.old ≤ vec_capacity out.new }
 {
     for resolved in found {
@@ -37,6 +39,7 @@ fn print_each(id: u64, found: &[Resolved], out: &mut Vec<u8>) -> Result<(), Allo
 fn print_found(id: u64, found: &[Resolved], out: &mut Vec<u8>) -> Result<(), AllocError>
     ensures ok { OnOk result (out.new.items ≡ out.old.items ++ flat_map resolved_text found.now ++ done_line) }
     ensures err { OnErr result ((part : List ℕ) × (out.new.items ≡ out.old.items ++ part)) }
+    ensures memory { OnErr result (vec_capacity out.old < vec_len out.old + length (flat_map resolved_text found.now ++ done_line)) }
     ensures capacity { vec_capacity out.old ≤ vec_capacity out.new }
 {
     print_each(id, found, out)?;
@@ -46,6 +49,7 @@ fn print_found(id: u64, found: &[Resolved], out: &mut Vec<u8>) -> Result<(), All
 fn print_all(id: u64, found: &[Resolved], out: &mut Vec<u8>) -> Result<(), AllocError>
     ensures ok { OnOk result (out.new.items ≡ out.old.items ++ flat_map resolved_text found.now ++ done_line) }
     ensures err { OnErr result (out.new.items ≡ out.old.items) }
+    ensures memory { OnErr result (vec_capacity out.old < vec_len out.old + length (flat_map resolved_text found.now ++ done_line)) }
     ensures capacity { vec_capacity out.old ≤ vec_capacity out.new }
 {
     let start = out.len();
@@ -61,6 +65,7 @@ fn print_all(id: u64, found: &[Resolved], out: &mut Vec<u8>) -> Result<(), Alloc
 fn print_end(id: u64, end: cluster::Answer, out: &mut Vec<u8>) -> Result<(), AllocError>
     ensures ok { OnOk result (out.new.items ≡ out.old.items ++ end_text id end) }
     ensures err { OnErr result (out.new.items ≡ out.old.items) }
+    ensures memory { OnErr result (vec_capacity out.old < vec_len out.old + length (end_text id end)) }
     ensures capacity { vec_capacity out.old ≤ vec_capacity out.new }
 {
     let answer = match end {
@@ -76,10 +81,11 @@ fn print_end(id: u64, end: cluster::Answer, out: &mut Vec<u8>) -> Result<(), All
     Printed::Answer(&answer).write_to(id, out)
 }
 
-/// Prints what a step told, at the store with this id.
+/// Prints what a step told, at the store with this id. It is refused only where there is no room for all of it.
 pub(crate) fn print_told(id: u64, told: Option<What>, out: &mut Vec<u8>) -> Result<(), AllocError>
     ensures ok { OnOk result (out.new.items ≡ out.old.items ++ told_text id told) }
     ensures err { OnErr result (out.new.items ≡ out.old.items) }
+    ensures memory { OnErr result (vec_capacity out.old < vec_len out.old + length (told_text id told)) }
     ensures capacity { vec_capacity out.old ≤ vec_capacity out.new }
 {
     match told {

@@ -1,11 +1,12 @@
 // A store, and the flows that run in it under names.
-ghost use Rattle.std.specs.Prelude.{◌≡◌, ◌<◌, ◌≤◌, ◌++◌, [], List, ℕ, IfErr, IfOk, OnOk, OnErr, Option, length, vec_capacity};
+ghost use Rattle.std.specs.Prelude.{◌≡◌, ◌<◌, ◌≤◌, ◌+◌, ◌++◌, [], List, ℕ, IfErr, IfOk, OnOk, OnErr, Option, length, vec_capacity, vec_len};
 ghost use Rattle.std.specs.List.{remove};
 ghost use Rattle.cluster.specs.declared.event.What.{What as AnyWhat};
 ghost use Rattle.cluster.specs.declared.step.Step.TheVariants as any_step;
 ghost use Rattle.lines.specs.Causes.{Cause};
 ghost use Rattle.lines.specs.Lines.{Spells};
 ghost use Rattle.scripts.specs.Asking as spec;
+ghost use Rattle.scripts.specs.Refusing.{CarriesOutNot, HandlesNot, IsLong, StartsNot};
 ghost use Rattle.scripts.specs.Scripts.{CarriesOut, Handles, IsAmong, KeepsFlows, Shows, Starts, Tells, TellsCancel};
 ghost use Rattle.scripts.specs.Telling.{set_line, told_text};
 
@@ -67,8 +68,10 @@ impl<S: Store> Running<S> {
         first: Step,
         out: &mut Vec<u8>,
     ) -> Result<(), AllocError>
+        requires room { vec_len out.old + 128 ≤ vec_capacity out.old }
         ensures ok { OnOk result ((text : List ℕ) × Starts S.takes S.nexts id name first self.old text self.new × (out.new.items ≡ out.old.items ++ text)) }
         ensures err { OnErr result (out.new.items ≡ out.old.items) }
+        ensures refused { OnErr result (StartsNot S.takes S.nexts id name first self.old self.new) }
         ensures capacity { vec_capacity out.old ≤ vec_capacity out.new }
     {
         self.names.reserve(1)?;
@@ -101,10 +104,12 @@ impl<S: Store> Running<S> {
         told: Option<What>,
         out: &mut Vec<u8>,
     ) -> Result<(), AllocError>
-        requires { flow < length self.old.names }
+        requires flow { flow < length self.old.names }
+        requires room { vec_len out.old + 128 ≤ vec_capacity out.old }
         ensures same { self.new.store ≡ self.old.store }
         ensures ok { OnOk result ((text : List ℕ) × Tells S.takes S.nexts id flow told self.old text self.new × (out.new.items ≡ out.old.items ++ text)) }
         ensures err { OnErr result (out.new.items ≡ out.old.items) }
+        ensures refused { OnErr result ((text : List ℕ) × Tells S.takes S.nexts id flow told self.old text self.new × IsLong text) }
         ensures capacity { vec_capacity out.old ≤ vec_capacity out.new }
     {
         match self.store.next(self.slots[flow]) {
@@ -117,10 +122,12 @@ impl<S: Store> Running<S> {
     }
 
     fn tell_cancelled(&mut self, id: u64, flow: usize, out: &mut Vec<u8>) -> Result<(), AllocError>
-        requires { flow < length self.old.names }
+        requires flow { flow < length self.old.names }
+        requires room { vec_len out.old + 128 ≤ vec_capacity out.old }
         ensures same { self.new.store ≡ self.old.store }
         ensures ok { OnOk result ((text : List ℕ) × TellsCancel flow self.old text self.new × (out.new.items ≡ out.old.items ++ text)) }
         ensures err { OnErr result (out.new.items ≡ out.old.items) }
+        ensures refused { OnErr result ((text : List ℕ) × TellsCancel flow self.old text self.new × IsLong text) }
         ensures capacity { vec_capacity out.old ≤ vec_capacity out.new }
     {
         let printed = Printed::Cancelled(self.names[flow].as_bytes()).write_to(id, out);
@@ -135,9 +142,11 @@ impl<S: Store> Running<S> {
         handling: Handling,
         out: &mut Vec<u8>,
     ) -> Result<(), AllocError>
-        requires { flow < length self.old.names }
+        requires flow { flow < length self.old.names }
+        requires room { vec_len out.old + 128 ≤ vec_capacity out.old }
         ensures ok { OnOk result ((text : List ℕ) × Handles S.takes S.nexts id flow handling self.old text self.new × (out.new.items ≡ out.old.items ++ text)) }
         ensures err { OnErr result (out.new.items ≡ out.old.items) }
+        ensures refused { OnErr result (HandlesNot S.takes S.nexts id flow handling self.old self.new) }
         ensures capacity { vec_capacity out.old ≤ vec_capacity out.new }
     {
         let slot = self.slots[flow];
@@ -162,8 +171,10 @@ impl<S: Store> Running<S> {
     }
 
     fn rows(&self, id: u64, shard: u8, out: &mut Vec<u8>) -> Result<(), AllocError>
+        requires room { vec_len out.old + 128 ≤ vec_capacity out.old }
         ensures ok { OnOk result ((text : List ℕ) × Shows S.shows shard self.now.store text × (out.new.items ≡ out.old.items ++ text)) }
         ensures err { OnErr result (out.new.items ≡ out.old.items) }
+        ensures refused { OnErr result ((text : List ℕ) × Shows S.shows shard self.now.store text × IsLong text) }
         ensures capacity { vec_capacity out.old ≤ vec_capacity out.new }
     {
         match self.store.rows(shard) {
@@ -173,9 +184,11 @@ impl<S: Store> Running<S> {
     }
 
     fn restart(&mut self, id: u64, node: NodeName, out: &mut Vec<u8>) -> Result<(), AllocError>
+        requires room { vec_len out.old + 128 ≤ vec_capacity out.old }
         ensures ok { OnOk result ((told : Option AnyWhat) × S.takes self.old.store (any_step.Restart node) told self.new.store × (out.new.items ≡ out.old.items ++ told_text id told)) }
         ensures flows { KeepsFlows self.old self.new }
         ensures err { OnErr result (out.new.items ≡ out.old.items) }
+        ensures refused { OnErr result ((told : Option AnyWhat) × S.takes self.old.store (any_step.Restart node) told self.new.store × IsLong (told_text id told)) }
         ensures capacity { vec_capacity out.old ≤ vec_capacity out.new }
     {
         let told = self.store.take(Step::Restart(node))?;
@@ -183,9 +196,11 @@ impl<S: Store> Running<S> {
     }
 
     fn fail(&mut self, id: u64, failure: Failure, out: &mut Vec<u8>) -> Result<(), AllocError>
+        requires room { vec_len out.old + 128 ≤ vec_capacity out.old }
         ensures ok { OnOk result (S.sets self.old.store failure.node failure.bank failure.n failure.tear self.new.store × (out.new.items ≡ out.old.items ++ set_line)) }
         ensures flows { KeepsFlows self.old self.new }
         ensures err { OnErr result (out.new.items ≡ out.old.items) }
+        ensures never { OnErr result ⊥ }
         ensures capacity { vec_capacity out.old ≤ vec_capacity out.new }
     {
         Printed::Set.write_to(id, out)?;
@@ -208,16 +223,18 @@ impl<S: Store> Running<S> {
         Command::parse(alloc, line, id, shards, &self.names)
     }
 
-    /// Carries the command out at the store with this id, and prints what it tells. Where memory is refused nothing is printed.
+    /// Carries the command out at the store with this id, and prints what it tells. Where memory is refused nothing is printed, and no write is begun and ended.
     pub(crate) fn carry_out(
         &mut self,
         id: u64,
         command: Command,
         out: &mut Vec<u8>,
     ) -> Result<(), AllocError>
-        requires { IsAmong command (length self.old.names) }
+        requires among { IsAmong command (length self.old.names) }
+        requires room { vec_len out.old + 128 ≤ vec_capacity out.old }
         ensures ok { OnOk result ((text : List ℕ) × CarriesOut S.takes S.nexts S.shows S.sets id command self.old text self.new × (out.new.items ≡ out.old.items ++ text)) }
         ensures err { OnErr result (out.new.items ≡ out.old.items) }
+        ensures refused { OnErr result (CarriesOutNot S.takes S.nexts S.shows id command self.old self.new) }
         ensures capacity { vec_capacity out.old ≤ vec_capacity out.new }
     {
         match command {

@@ -3,7 +3,9 @@ ghost use Rattle.std.specs.Prelude.{◌≡◌, ◌≤◌, ◌+◌, ◌⊎◌, �
 ghost use Rattle.lines.specs.Causes.{Cause};
 ghost use Rattle.lines.specs.Lines.{Spells};
 ghost use Rattle.printed.specs.Texts.{refusal_line};
-ghost use Rattle.scripts.specs.Scripts.{Answers, CarriesOut, IsAmong};
+ghost use Rattle.scripts.specs.Answering.{Answers, Tries};
+ghost use Rattle.scripts.specs.Refusing.{CarriesOutNot};
+ghost use Rattle.scripts.specs.Scripts.{CarriesOut, IsAmong};
 
 use crate::Store;
 use crate::running::Running;
@@ -65,10 +67,12 @@ impl<S: Store> Script<S> {
     }
 
     fn carry_out(&mut self, command: Command, out: &mut Vec<u8>) -> Result<(), AllocError>
-        requires { IsAmong command (length self.old.running.names) }
+        requires among { IsAmong command (length self.old.running.names) }
+        requires room { vec_len out.old + 128 ≤ vec_capacity out.old }
         ensures same { (self.new.id ≡ self.old.id) × (self.new.shards ≡ self.old.shards) }
         ensures ok { OnOk result ((text : List ℕ) × CarriesOut S.takes S.nexts S.shows S.sets self.old.id command self.old.running text self.new.running × (out.new.items ≡ out.old.items ++ text)) }
         ensures err { OnErr result (out.new.items ≡ out.old.items) }
+        ensures refused { OnErr result (CarriesOutNot S.takes S.nexts S.shows self.old.id command self.old.running self.new.running) }
         ensures capacity { vec_capacity out.old ≤ vec_capacity out.new }
     {
         self.running.carry_out(self.id, command, out)
@@ -79,7 +83,7 @@ impl<S: Store> Script<S> {
         requires among { IsAmong command (length self.old.running.names) }
         requires room { vec_len out.old + 128 ≤ vec_capacity out.old }
         ensures same { (self.new.id ≡ self.old.id) × (self.new.shards ≡ self.old.shards) }
-        ensures told { (text : List ℕ) × (CarriesOut S.takes S.nexts S.shows S.sets self.old.id command self.old.running text self.new.running ⊎ (text ≡ refusal_line Refusal.NoMemory)) × (out.new.items ≡ out.old.items ++ text) }
+        ensures told { (text : List ℕ) × Tries S.takes S.nexts S.shows S.sets self.old.id command self.old.running text self.new.running × (out.new.items ≡ out.old.items ++ text) }
     {
         match self.carry_out(command, out) {
             Ok(()) => {}

@@ -1,7 +1,8 @@
 // A flow without a name, which begins and ends within its line.
-ghost use Rattle.std.specs.Prelude.{◌≡◌, ◌≤◌, ◌++◌, List, ℕ, None, Option, OnOk, OnErr, vec_capacity};
+ghost use Rattle.std.specs.Prelude.{◌≡◌, ◌≤◌, ◌<◌, ◌+◌, ◌⊎◌, ◌++◌, List, ℕ, None, Option, OnOk, OnErr, length, vec_capacity, vec_len};
 ghost use Rattle.cluster.specs.declared.event.What.{What as AnyWhat};
 ghost use Rattle.scripts.specs.Going.{Goes};
+ghost use Rattle.scripts.specs.Refusing.{EndsNot, GivesUp, IsLong, ServesNot};
 ghost use Rattle.scripts.specs.Scripts.{Ends, Serves, unbegun_text};
 ghost use Rattle.scripts.specs.Telling.{told_text};
 
@@ -21,6 +22,7 @@ pub(crate) fn print_unbegun(
 ) -> Result<(), AllocError>
     ensures ok { OnOk result (out.new.items ≡ out.old.items ++ unbegun_text id told) }
     ensures err { OnErr result (out.new.items ≡ out.old.items) }
+    ensures memory { OnErr result (vec_capacity out.old < vec_len out.old + length (unbegun_text id told)) }
     ensures capacity { vec_capacity out.old ≤ vec_capacity out.new }
 {
     match told {
@@ -37,8 +39,10 @@ fn run_out<S: Store>(
     each: usize,
     out: &mut Vec<u8>,
 ) -> Result<(), AllocError>
+    requires room { vec_len out.old + 128 ≤ vec_capacity out.old }
     ensures ok { OnOk result ((end : Option AnyWhat) × Goes S.takes S.nexts slot None store.old end store.new × (out.new.items ≡ out.old.items ++ told_text id end)) }
     ensures err { OnErr result (out.new.items ≡ out.old.items) }
+    ensures refused { OnErr result (GivesUp S.takes S.nexts slot each store.old store.new ⊎ ((end : Option AnyWhat) × Goes S.takes S.nexts slot None store.old end store.new × IsLong (told_text id end))) }
     ensures capacity { vec_capacity out.old ≤ vec_capacity out.new }
 {
     match go(store, slot, None, each, out) {
@@ -58,8 +62,10 @@ fn end<S: Store>(
     each: usize,
     out: &mut Vec<u8>,
 ) -> Result<(), AllocError>
+    requires room { vec_len out.old + 128 ≤ vec_capacity out.old }
     ensures ok { OnOk result ((text : List ℕ) × Ends S.takes S.nexts id told store.old text store.new × (out.new.items ≡ out.old.items ++ text)) }
     ensures err { OnErr result (out.new.items ≡ out.old.items) }
+    ensures refused { OnErr result (EndsNot S.takes S.nexts id each told store.old store.new) }
     ensures capacity { vec_capacity out.old ≤ vec_capacity out.new }
 {
     match told {
@@ -68,7 +74,8 @@ fn end<S: Store>(
     }
 }
 
-/// The step begins a flow, which makes its calls to its end, each once there is so much more room; what it tells is printed.
+/// The step begins a flow, which makes its calls to its end, each once there is so much more room; what it tells is printed. An `Err` is for want of memory:
+/// none has begun, or it was cancelled, or what it told is longer than the room for it.
 pub(crate) fn serve<S: Store>(
     store: &mut S,
     id: u64,
@@ -76,8 +83,10 @@ pub(crate) fn serve<S: Store>(
     each: usize,
     out: &mut Vec<u8>,
 ) -> Result<(), AllocError>
+    requires room { vec_len out.old + 128 ≤ vec_capacity out.old }
     ensures ok { OnOk result ((text : List ℕ) × Serves S.takes S.nexts id first store.old text store.new × (out.new.items ≡ out.old.items ++ text)) }
     ensures err { OnErr result (out.new.items ≡ out.old.items) }
+    ensures refused { OnErr result (ServesNot S.takes S.nexts id each first store.old store.new) }
     ensures capacity { vec_capacity out.old ≤ vec_capacity out.new }
 {
     let told = store.take(first)?;

@@ -1,10 +1,11 @@
 // What takes the steps of a script.
-ghost use Rattle.std.specs.Prelude.{ℕ, Option, Result, IfOk};
+ghost use Rattle.std.specs.Prelude.{◌≡◌, ℕ, Option, Result, IfOk, OnErr};
 ghost use Rattle.std.specs.Global.{Vec as AnyVec};
 ghost use Rattle.names.specs.declared.node_name.NodeName.{NodeName as AnyNode};
 ghost use Rattle.names.specs.declared.call_name.CallName.{CallName as AnyCall};
 ghost use Rattle.cluster.specs.declared.event.What.{What as AnyWhat};
 ghost use Rattle.cluster.specs.declared.step.Step.{Step as AnyStep};
+ghost use Rattle.cluster.specs.Steps.{BeginsFlow};
 ghost use Rattle.device.specs.declared.tear.Tear.{Tear as AnyTear};
 ghost use Rattle.journal.specs.declared.refused.Bank.{Bank as AnyBank};
 ghost use Rattle.refusal.specs.declared.refusal.Refusal.{Refusal as AnyRefusal};
@@ -31,9 +32,11 @@ pub trait Store: Drop {
     /// It may be that once this is set on a device of this node.
     ghost sets: { Self → AnyNode → AnyBank → ℕ → AnyTear → Self → Type 0 };
 
-    /// Takes the step. An `Err` is for want of memory.
+    /// Takes the step. An `Err` is for want of memory, which only a step takes that begins a flow.
     fn take(&mut self, step: Step) -> Result<Option<What>, AllocError>
-        ensures { IfOk result (λ told. takes self.old step told self.new) };
+        ensures ok { IfOk result (λ told. takes self.old step told self.new) }
+        ensures err { OnErr result (self.new ≡ self.old) }
+        ensures begins { OnErr result (BeginsFlow step) };
 
     fn next(&self, slot: usize) -> Option<CallName>
         ensures { nexts self.now slot result };

@@ -7,4 +7,4 @@ pub returns-in-Ok-clause-told : goal.returns-in-Ok-clause-told
 returns-in-Ok-clause-told g c = let told = c.in-Ok.ensures.ok in (told.0, inl told.1, told.2)
 
 pub returns-in-Err-clause-told : goal.returns-in-Err-clause-told
-returns-in-Err-clause-told g c = (refusal_line NoMemory, inr refl, c.refuse.ensures ∙ ap (λ (b : List ℕ). b ++ refusal_line NoMemory) c.in-Err.ensures.err)
+returns-in-Err-clause-told g c = (refusal_line NoMemory, inr (refl, c.in-Err.ensures.refused), c.refuse.ensures ∙ ap (λ (b : List ℕ). b ++ refusal_line NoMemory) c.in-Err.ensures.err)

@@ -1,0 +1,51 @@
+//! Nodes that are opened over images, by rows: what each finds, or why it is refused. It is what `checks/images` runs.
+//!
+//! Keeps: each row has two disks in memory of its own, with the bytes that it spells.
+//! Never: makes more of a node than its opening, and asks what it found.
+//! Callers rely on: for each row its lines, and a line `;`. A row is `NODE STORE SHARDS A B`: `c` or a shard's number, and the bytes of the two devices in
+//! hexadecimal digits, `-` for none.
+//!
+//! Start at `row.rt`, what a row says, and `opening.rt`, what is told of a node. Whatever calls a node is generic over its devices: a call at a disk in
+//! memory itself takes longer to prove.
+#![tactic(auto)]
+
+mod opening;
+mod row;
+
+use printed::Printed;
+use row::Row;
+use std::alloc::{AllocError, Global};
+use std::io::{self, Read, Write};
+use std::process::ExitCode;
+use tuples::Refusal;
+
+// What is told of a row; where it can't be told all, why not.
+fn answer(alloc: Global, row: &str, out: &mut Vec<u8>) -> Result<(), AllocError> {
+    let told = match Row::read(row) {
+        Some(row) => row.open(alloc, out),
+        None => Err(Refusal::BadRequest),
+    };
+    if let Err(refusal) = told {
+        Printed::Refused(refusal).write_to(0, out)?;
+    }
+    out.extend_from_slice(b";\n")
+}
+
+fn run<R: Read + Drop, W: Write>(alloc: Global, reader: R, writer: &mut W) -> io::Result<()> {
+    let text = io::read_to_string(alloc, reader)?;
+    let mut out = Vec::new(alloc);
+    for row in text.lines() {
+        out.clear();
+        answer(alloc, row, &mut out)?;
+        writer.write_all(&out)?;
+    }
+    Ok(())
+}
+
+fn main(rt: HostRuntime) -> ExitCode {
+    let mut writer = io::writer(&rt);
+    match run(rt.alloc(), rt.reader(), &mut writer) {
+        Ok(()) => ExitCode::SUCCESS,
+        Err(_) => ExitCode::FAILURE,
+    }
+}

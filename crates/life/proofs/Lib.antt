@@ -1,0 +1,4 @@
+mod Done
+mod Whole
+mod Empty
+pub mod Living

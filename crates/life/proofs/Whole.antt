@@ -1,0 +1,32 @@
+-- A write that a line asks for is whole.
+use Rattle.std.specs.Prelude.{ℕ, List}
+use Rattle.cluster.specs.declared.step.Step.TheVariants as step
+use Rattle.headline.specs.Told.{IsWholeStep}
+use Rattle.lines.specs.declared.command.Command.{Command}
+use Rattle.lines.specs.declared.command.Command.TheVariants.{Pass, Ask, Start, Handle, Care, Rows, Restart, Fail}
+use Rattle.lines.specs.Lines.{IsRequest, Spells}
+use Rattle.requests.specs.declared.request.Request.{Request}
+use Rattle.requests.specs.declared.request.Request.TheVariants.{Write, Read, Check, Watch}
+use Rattle.scripts.specs.Asking.{request_of}
+
+-- the step that begins its flow is
+abbrev pub IsWholeCommand : Command → Type 0
+IsWholeCommand (Ask r) = IsWholeStep (step.Start (request_of r))
+IsWholeCommand (Start name r) = IsWholeStep (step.Start (request_of r))
+IsWholeCommand c = Unit {0}
+
+whole_request : (r : Request) → IsRequest r → IsWholeStep (step.Start (request_of r))
+whole_request (Write w) is = is.0
+whole_request (Read freshness sets) is = tt
+whole_request (Check freshness t) is = tt
+whole_request (Watch from limit names) is = tt
+
+pub whole_command : (id shards : ℕ) (names : List (List ℕ)) (line : List ℕ) (c : Command) → Spells id shards names line c → IsWholeCommand c
+whole_command id shards names line Pass spells = tt
+whole_command id shards names line (Ask r) spells = whole_request r spells.1
+whole_command id shards names line (Start name r) spells = whole_request r spells.3.1
+whole_command id shards names line (Handle flow h) spells = tt
+whole_command id shards names line (Care care) spells = tt
+whole_command id shards names line (Rows shard) spells = tt
+whole_command id shards names line (Restart node) spells = tt
+whole_command id shards names line (Fail f) spells = tt

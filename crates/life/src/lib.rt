@@ -1,0 +1,39 @@
+//! A script over disks in memory, as one life of a store.
+//!
+//! Keeps: what was done for the lines of a script, step by step and with what each told, is one run of the machine of whole writes from the empty log.
+//! Never: does a thing of its own; `scripts` runs the script, and `headline` has the law.
+//! Callers rely on: the law is a clause of the call that the program makes.
+//!
+//! Start at `specs/Lives.antt`.
+#![tactic(auto)]
+
+ghost use Rattle.std.specs.Prelude.{◌≡◌, ◌≢◌, ◌≤◌, ◌⊎◌, All, List};
+ghost use Rattle.device.specs.Disk.{is_set_to_fail, left_since_of, moment_of, state_of};
+ghost use Rattle.device.specs.declared.sim_disk.SimDisk.{SimDisk as AnyDisk};
+ghost use Rattle.life.specs.Lives.{BrokeAsLife, RanAsLife};
+ghost use Rattle.scripts.specs.Sims.{IsEmptyDisk, IsUntouched};
+ghost use Rattle.tuples.specs.Limits.{max_shards};
+
+use device::SimDisk;
+use headline::acted_headline;
+use std::alloc::Global;
+use std::io::{Read, Write};
+
+/// Runs a script over a store of 1 to 64 shards on disks in memory. The status is 0 at the end of the script, and 1 where the reader or the writer failed,
+/// or where there is no memory for the disks.
+pub fn sim<R: Read, W: Write>(
+    alloc: Global,
+    store: u64,
+    shards: u8,
+    reader: &mut R,
+    writer: &mut W,
+) -> u8
+    requires some { 1 ≤ shards }
+    requires few { shards ≤ max_shards }
+    ensures ran { result ≡ 0 → (disks : List AnyDisk) × All IsEmptyDisk disks × RanAsLife is_set_to_fail state_of (λ d. Unit {0}) moment_of left_since_of store shards disks (R.remaining reader.old) (R.remaining reader.new) (W.contents writer.old) (W.contents writer.new) }
+    ensures broke { result ≢ 0 → (result ≡ 1) × (((disks : List AnyDisk) × All IsEmptyDisk disks × BrokeAsLife is_set_to_fail state_of (λ d. Unit {0}) moment_of left_since_of store shards disks (R.remaining reader.old) (R.remaining reader.new) (W.contents writer.old) (W.contents writer.new)) ⊎ IsUntouched (R.remaining reader.old) (R.remaining reader.new) (W.contents writer.old) (W.contents writer.new)) }
+{
+    // A law: it does nothing.
+    acted_headline::<SimDisk>();
+    scripts::sim(alloc, store, shards, reader, writer)
+}
