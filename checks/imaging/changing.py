@@ -1,0 +1,156 @@
+"""An image with one thing changed: of its bytes, of its records, or of the node that it is opened as."""
+from imaging.format import ABSENT, EXISTS, NOT_AFTER, Rules, batches_of, device_bytes
+
+EDGES = (0, 1, 2**63 - 1, 2**63, 2**64 - 1)
+TEXTS = ("a", "b", "doc", "x y", "", "a" * 64, "a" * 65, "a" * 129, "A", "a#b", "a:b", "a@b", "a+b")
+
+
+def changed(random, image, images):
+    """What was done, and the image behind it."""
+    kind = random.choice((of_byte, of_byte, of_piece, of_record, of_record, of_list, of_batch, of_identity))
+    return kind(random, image, images)
+
+
+def of_byte(random, image, _):
+    at = random.randrange(len(image.bytes))
+    old = image.bytes[at]
+    new = random.choice((random.randrange(256), old ^ 1 << random.randrange(8), (old + 1) % 256, (old - 1) % 256, 0xA5, 0, 1, 2, 0xFF))
+    return "a byte", image._replace(bytes=image.bytes[:at] + bytes([new]) + image.bytes[at + 1 :])
+
+
+def of_piece(random, image, _):
+    data = image.bytes
+    begin = random.randrange(len(data))
+    end = min(len(data), begin + random.choice((1, 2, random.randrange(1, 40), len(data))))
+    kind = random.choice(("cut", "doubled", "left out", "put behind"))
+    made = {
+        "cut": data[:begin],
+        "doubled": data[:end] + data[begin:end] + data[end:],
+        "left out": data[:begin] + data[end:],
+        "put behind": data + data[begin:end],
+    }[kind]
+    return f"a piece {kind}", image._replace(bytes=made)
+
+
+def other_number(random, value, most):
+    return random.choice([it for it in (value - 1, value + 1, *EDGES) if 0 <= it <= most])
+
+
+def other_id(random, id):
+    at = random.randrange(2)
+    return tuple(other_number(random, value, 2**64 - 1) if index == at else value for index, value in enumerate(id))
+
+
+def other_tuple(random, named):
+    at = random.randrange(4)
+    if at < 3:
+        return (*named[:at], random.choice(TEXTS), *named[at + 1 :])
+    return (*named[:3], random.choice(((0, random.choice(TEXTS)), (1, "doc", random.choice(TEXTS), "viewer"))))
+
+
+def other_item(random, one):
+    """Another change, or another condition."""
+    if len(one) == 2:
+        return random.choice(((not one[0], one[1]), (one[0], other_tuple(random, one[1]))))
+    place = one[2] or 0
+    kinds = ((one[0], NOT_AFTER, other_number(random, place, 2**64 - 1)), (one[0], random.choice((EXISTS, ABSENT, 4)), place), (other_tuple(random, one[0]), *one[1:]))
+    return random.choice(kinds)
+
+
+def other_list(random, items, other):
+    """One of them more, less, twice, elsewhere, or another one."""
+    if not items:
+        return items
+    at = random.randrange(len(items))
+    kind = random.choice(("less", "twice", "swapped", "other", "other"))
+    if kind == "less":
+        return items[:at] + items[at + 1 :]
+    if kind == "twice":
+        return items[: at + 1] + items[at:]
+    if kind == "swapped":
+        return items[:at] + items[at + 1 : at + 2] + items[at : at + 1] + items[at + 2 :]
+    return (*items[:at], other(random, items[at]), *items[at + 1 :])
+
+
+def other_placed(random, placed):
+    id, place = placed
+    return random.choice(((other_id(random, id), place), (id, other_number(random, place, 2**64 - 1))))
+
+
+FIELDS = {
+    "id": other_id,
+    "placed": lambda random, value: other_list(random, value, other_placed),
+    "changes": lambda random, value: other_list(random, value, other_item),
+    "conditions": lambda random, value: other_list(random, value, other_item),
+    "shards": lambda random, value: other_number(random, value, 255),
+    "node": lambda random, value: other_number(random, value, 255),
+}
+
+
+def other_record(random, made):
+    field = random.choice(made._fields)
+    other = FIELDS.get(field, lambda random, value: other_number(random, value, 2**64 - 1))
+    return field, made._replace(**{field: other(random, getattr(made, field))})
+
+
+def of_record(random, image, _):
+    """Another value in one field of a record."""
+    batches, _ = batches_of(Rules(), image.bytes)
+    at = random.randrange(len(batches))
+    version, records = batches[at]
+    which = random.randrange(len(records))
+    field, made = other_record(random, records[which])
+    batches[at] = version, [*records[:which], made, *records[which + 1 :]]
+    return f"another {field} of a {type(made).__name__}", image._replace(bytes=device_bytes(batches))
+
+
+def of_list(random, image, images):
+    """A record left out, doubled, put elsewhere, or one of another node put in."""
+    batches, _ = batches_of(Rules(), image.bytes)
+    at = random.randrange(len(batches))
+    version, records = batches[at]
+    which = random.randrange(len(records))
+    kind = random.choice(("left out", "doubled", "put elsewhere", "of another node"))
+    rest = records[:which] + records[which + 1 :]
+    if kind == "left out":
+        batches[at] = version, rest
+    elif kind == "doubled":
+        batches[at] = version, records[: which + 1] + records[which:]
+    elif kind == "put elsewhere":
+        batches[at] = version, rest
+        batches.insert(random.randrange(len(batches) + 1), (version, [records[which]]))
+    else:
+        stranger, _ = batches_of(Rules(), random.choice(images).bytes)
+        taken = random.choice(random.choice(stranger)[1])
+        batches[at] = 2, [*records[:which], taken, *records[which:]]
+    # A batch that has no record more is left out too, or stays as it is.
+    stays = random.random() < 0.5
+    return f"a record {kind}", image._replace(bytes=device_bytes([batch for batch in batches if batch[1] or stays]))
+
+
+def of_batch(random, image, _):
+    batches, _ = batches_of(Rules(), image.bytes)
+    at = random.randrange(len(batches))
+    version, records = batches[at]
+    kind = random.choice(("left out", "doubled", "of another version", "joined"))
+    if kind == "left out":
+        del batches[at]
+    elif kind == "doubled":
+        batches.insert(at, batches[at])
+    elif kind == "of another version":
+        batches[at] = random.choice((0, 1, 2, 3)), records
+    else:
+        batches[at : at + 2] = [(2, [made for _, some in batches[at : at + 2] for made in some])]
+    return f"a batch {kind}", image._replace(bytes=device_bytes(batches))
+
+
+def of_identity(random, image, _):
+    """The bytes as they are, of another node, store or number of shards."""
+    kind = random.choice(("node", "store", "number of shards"))
+    if kind == "node":
+        other = image._replace(node=random.choice([0xFF, *range(image.shards)]))
+    elif kind == "store":
+        other = image._replace(store=(image.store + random.choice((1, 2**32 - 1))) % 2**32)
+    else:
+        other = image._replace(shards=min(64, image.shards + 1))
+    return f"opened with another {kind}", other

@@ -1,0 +1,229 @@
+"""The bytes of a device, as docs/FORMAT.md says: a list of bodies, each a batch of records. Read here, and written."""
+import re
+from collections import Counter, namedtuple
+
+GREATEST = 2**63 - 1
+MOST_BODY = 1 << 20
+OPEN, CLOSED = 0xA5, 0
+NAME = re.compile(rb"[a-z0-9_]{1,64}")
+# The bytes from 21 to 7e hexadecimal but `#`, `+`, `:` and `@`.
+ID = re.compile(rb"[!\"$-*,-9;-?A-~]{1,128}")
+
+# A tuple is its namespace, id, relation and user; a user is (0, id), or (1, namespace, id, relation) of a userset.
+Prepare = namedtuple("Prepare", "id changes conditions")
+Learned = namedtuple("Learned", "place placed")
+Dropped = namedtuple("Dropped", "id")
+Epoch = namedtuple("Epoch", "epoch store shards node")
+Decision = namedtuple("Decision", "place id changes conditions")
+Horizon = namedtuple("Horizon", "place")
+KINDS = {1: Prepare, 2: Learned, 3: Dropped, 4: Epoch, 5: Decision, 6: Horizon}
+# What a condition asks for; the first with a place.
+NOT_AFTER, EXISTS, ABSENT = 1, 2, 3
+
+
+class Damaged(Exception):
+    """A rule that bytes or records break."""
+
+
+class Rules:
+    """The rules, one of them left out where it is named, and how often each was the one that refused."""
+
+    def __init__(self, without=None):
+        self.broken, self.without, self.last = Counter(), without, None
+
+    def must(self, is_so, rule):
+        if not is_so and rule != self.without:
+            self.broken[rule] += 1
+            self.last = rule
+            raise Damaged(rule)
+
+
+class Bytes:
+    def __init__(self, rules, bytes):
+        self.rules, self.bytes, self.at = rules, bytes, 0
+
+    def must(self, is_so, rule):
+        self.rules.must(is_so, rule)
+
+    def take(self, count):
+        self.must(self.at + count <= len(self.bytes), "a field ends with its body")
+        self.at += count
+        return self.bytes[self.at - count : self.at]
+
+    def number(self, count):
+        return int.from_bytes(self.take(count), "big")
+
+    def place(self):
+        """A place, an epoch or a number."""
+        found = self.number(8)
+        self.must(found <= GREATEST, "no number is above 2^63 - 1")
+        return found
+
+    def text(self, shape):
+        found = self.take(self.number(1))
+        self.must(shape.fullmatch(found), "a text is in its grammar")
+        return found.decode()
+
+    def id(self):
+        found = (self.place(), self.place())
+        self.must(min(found) >= 1, "an epoch and a number of a write are from 1 on")
+        return found
+
+    def object(self):
+        return self.text(NAME), self.text(ID)
+
+    def user(self):
+        kind = self.number(1)
+        self.must(kind in (1, 2), "a user is an id or a userset")
+        return (0, self.text(ID)) if kind == 1 else (1, *self.object(), self.text(NAME))
+
+    def tuple(self):
+        return (*self.object(), self.text(NAME), self.user())
+
+    def change(self):
+        kind = self.number(1)
+        self.must(kind in (1, 2), "a change is a touch or a delete")
+        return kind == 1, self.tuple()
+
+    def condition(self, version):
+        named = self.tuple()
+        if version == 1:
+            return named, NOT_AFTER, self.place()
+        want = self.number(1)
+        self.must(want in (NOT_AFTER, EXISTS, ABSENT), "a condition asks for one of three things")
+        return named, want, self.place() if want == NOT_AFTER else None
+
+    def write(self, version, least):
+        changes = self.listed(least, 64, self.change)
+        conditions = self.listed(0, 16, lambda: self.condition(version))
+        for named in ([change[1] for change in changes], [condition[0] for condition in conditions]):
+            self.must(len({*named}) == len(named), "no two changes, and no two conditions, name one tuple")
+        return changes, conditions
+
+    def listed(self, least, most, one):
+        count = self.number(1)
+        self.must(least <= count <= most, "a write has its number of changes and conditions")
+        return tuple(one() for _ in range(count))
+
+    def record(self, version):
+        kind = self.number(1)
+        self.must(kind in KINDS, "a record is of a kind that there is")
+        if kind == 1:
+            made = Prepare(self.id(), *self.write(version, 0))
+            self.must(made.changes or made.conditions, "a part has a change or a condition")
+            return made
+        if kind == 2:
+            return self.learned()
+        if kind == 3:
+            return Dropped(self.id())
+        if kind == 4:
+            return self.epoch()
+        if kind == 5:
+            return Decision(self.place(), self.id(), *self.write(version, 1))
+        return Horizon(self.place())
+
+    def learned(self):
+        place, count = self.place(), self.number(2)
+        self.must(count <= 256, "a learned record has at most 256 placed ids")
+        placed = tuple((self.id(), self.place()) for _ in range(count))
+        places = [at for _, at in placed]
+        self.must(all(a < b for a, b in zip(places, places[1:])), "the places of placed ids rise")
+        self.must(not places or places[-1] <= place, "placed ids lie within the place learned to")
+        return Learned(place, placed)
+
+    def epoch(self):
+        made = Epoch(self.place(), self.number(8), self.number(1), self.number(1))
+        self.must(1 <= made.shards <= 64, "a store has 1 to 64 shards")
+        self.must(made.node < made.shards or made.node == 0xFF, "a node is one of the store")
+        return made
+
+    def batch(self):
+        """The version of a batch, and its records."""
+        version = self.number(1)
+        self.must(version in (1, 2), "a batch is of version 1 or 2")
+        count = self.number(2)
+        self.must(count >= 1, "a batch has a record")
+        records = [self.record(version) for _ in range(count)]
+        self.must(self.at == len(self.bytes), "nothing stands behind the records of a batch")
+        return version, records
+
+
+def bodies_of(rules, device):
+    """The bodies of a device, and the place of the gate that ends them."""
+    bodies, at = [], 0
+    while len(device) > 1 and device[at] == OPEN:
+        rules.must(at + 5 <= len(device), "four bytes of length stand behind an open gate")
+        length = int.from_bytes(device[at + 1 : at + 5], "big")
+        rules.must(1 <= length <= MOST_BODY, "a body has 1 to 2^20 bytes")
+        rules.must(at + 5 + length < len(device), "a gate stands behind a body")
+        bodies.append(device[at + 5 : at + 5 + length])
+        at += 5 + length
+    return bodies, at
+
+
+def batches_of(rules, device):
+    """The batches of a device, each its version and its records, and the place of the gate that ends them."""
+    bodies, end = bodies_of(rules, device)
+    return [Bytes(rules, body).batch() for body in bodies], end
+
+
+def number(count, value):
+    return value.to_bytes(count, "big")
+
+
+def text(value):
+    return number(1, len(value)) + value.encode()
+
+
+def tuple_bytes(named):
+    namespace, name, relation, user = named
+    spelled = b"\1" + text(user[1]) if user[0] == 0 else b"\2" + b"".join(map(text, user[1:]))
+    return text(namespace) + text(name) + text(relation) + spelled
+
+
+def id_bytes(id):
+    return number(8, id[0]) + number(8, id[1])
+
+
+def condition_bytes(version, condition):
+    named, want, place = condition
+    if version == 1:
+        return tuple_bytes(named) + number(8, place or 0)
+    return tuple_bytes(named) + number(1, want) + (number(8, place) if want == NOT_AFTER else b"")
+
+
+def write_bytes(version, made):
+    changes = b"".join((b"\1" if is_touch else b"\2") + tuple_bytes(named) for is_touch, named in made.changes)
+    conditions = b"".join(condition_bytes(version, condition) for condition in made.conditions)
+    return number(1, len(made.changes)) + changes + number(1, len(made.conditions)) + conditions
+
+
+def record_bytes(version, made):
+    kind = next(number(1, kind) for kind, shape in KINDS.items() if isinstance(made, shape))
+    if isinstance(made, Prepare):
+        return kind + id_bytes(made.id) + write_bytes(version, made)
+    if isinstance(made, Learned):
+        return kind + number(8, made.place) + number(2, len(made.placed)) + b"".join(id_bytes(id) + number(8, place) for id, place in made.placed)
+    if isinstance(made, Dropped):
+        return kind + id_bytes(made.id)
+    if isinstance(made, Epoch):
+        return kind + number(8, made.epoch) + number(8, made.store) + number(1, made.shards) + number(1, made.node)
+    if isinstance(made, Decision):
+        return kind + number(8, made.place) + id_bytes(made.id) + write_bytes(version, made)
+    return kind + number(8, made.place)
+
+
+def batch_bytes(version, records):
+    return number(1, version) + number(2, len(records)) + b"".join(record_bytes(version, made) for made in records)
+
+
+def device_bytes(batches):
+    """A device with these batches, each a version and records, and nothing behind them."""
+    bodies = [batch_bytes(*batch) for batch in batches]
+    return b"".join(number(1, OPEN) + number(4, len(body)) + body for body in bodies) + number(1, CLOSED)
+
+
+def appended(device, end, body):
+    """The device once the body was appended at the gate that ended its list."""
+    record = number(1, OPEN) + number(4, len(body)) + body + number(1, CLOSED)
+    return device[:end] + record + device[end + len(record) :]
