@@ -64,15 +64,15 @@ def function_of(source, edit):
     return found.pop() if len(found) == 1 else None
 
 
-def batches_of(crate, edits):
-    """The batches, each a list of placed edits, and the edits to try alone."""
+def batches_of(crate, edits, most=1000):
+    """The batches, each a list of so many placed edits at most, and the edits to try alone."""
     source, made, alone = source_of(crate), [], []
     for edit in edits:
         function = None if rt.read_edit(edit, crate.folder)[1] else function_of(source, edit)
         if function is None:
             alone.append(edit)
             continue
-        room = next((batch for batch in made if all(it.function is not function for it in batch)), None)
+        room = next((batch for batch in made if len(batch) < most and all(it.function is not function for it in batch)), None)
         if room is None:
             made.append(room := [])
         room.append(Placed(edit, function))

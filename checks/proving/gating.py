@@ -1,5 +1,6 @@
 """`rt ci` in another order, over the kept work of its own run: see docs/GATE.md."""
 
+import math
 import os
 import re
 import shutil
@@ -13,6 +14,8 @@ from .lanes import Lanes, Meter, Task
 from .seconds import Seconds
 
 ONE_JOB = ["--jobs", "1"]
+# The processor seconds that a batch of edits may take, by the record.
+LONG_BATCH = 200
 
 
 class Crate(rt.Crate):
@@ -112,6 +115,10 @@ class Edits:
         self.weight = seconds.of(self.name, "edits", 5.0 * len(self.good))
         self.keys = []
 
+    def most(self):
+        """How many edits a batch has at most: where they take long, lanes that have nothing else to do share them."""
+        return max(4, math.ceil(len(self.good) * LONG_BATCH / max(self.weight, LONG_BATCH)))
+
     def add(self, tasks, label, share, call):
         """Adds a task that stands on the crate's proof."""
         key = (self.name, f"edits {label}")
@@ -129,7 +136,7 @@ class Edits:
             call = self.old[3]
             tasks[last] = Task(self.old[0], self.weight * bool(self.good), self.old[2], 1, call)
             return
-        made, alone = batches.batches_of(crate, self.good)
+        made, alone = batches.batches_of(crate, self.good, self.most())
         whole = len(self.good) + 1
         for at, batch in enumerate(made):
             self.add(tasks, at, len(batch) / whole, lambda batch=batch: try_together(crate, batch))
