@@ -43,8 +43,7 @@ impl Batch {
         Batch { from, writes }
     }
 
-    /// For a store of one shard, which keeps its log in memory and has no coordinator: the decisions at the places from `from` + 1 on. A
-    /// coordinator uses `from_log`.
+    /// For tests and measures, which have no coordinator: the decisions at the places from `from` + 1 on. A coordinator uses `from_log`.
     pub fn new(from: u64, writes: Vec<Entry>) -> Batch
         requires few { length writes.items ≤ max_batch }
         requires places { from + length writes.items ≤ greatest_number }

@@ -49,9 +49,8 @@ impl Intent {
         Intent::new(id, write, kept)
     }
 
-    /// For a store of one shard, which keeps its log in memory and has no coordinator: the intent to make a write under an id that was never
-    /// given before, where all is kept up to the place `kept`. It has refused a write that asks about a place above its log. A coordinator
-    /// uses `begin`.
+    /// For tests and measures, which have no coordinator: the intent to make a write under an id that was never given before, where all
+    /// is kept up to the place `kept`. A coordinator uses `begin`.
     pub fn new(id: WriteId, write: Write, kept: u64) -> Intent
         requires given { IsGiven id }
         requires places { AskOfLog write.conditions }

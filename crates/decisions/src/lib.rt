@@ -3,7 +3,7 @@
 //! Keeps: an `Intent` has a whole write, a `Vote` a prepare that every stop leaves, and each of them is spent once.
 //! Never: touches a device.
 //! Callers rely on: only who shows it by a journal can make a `Ticket`, `Vote`, `Settled`, `Verdict` or `Heads`, begin an `Intent`, or make a
-//! `Batch` from a log. `Intent::new` and `Batch::new` ask less: they are for the store of one shard, and go with it.
+//! `Batch` from a log. `Intent::new` and `Batch::new` ask less: they are for tests and measures.
 //!
 //! Start at `specs/Values.antt`, what each value is.
 #![tactic(auto)]

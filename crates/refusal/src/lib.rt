@@ -4,7 +4,7 @@
 //! Never: says what a call left behind it. Each call says that itself.
 //! Callers rely on: a line of output names its cause by the number and the name, as `13 Down`.
 //!
-//! Start at `Refusal`, where each cause stands with what a caller does about it.
+//! Start at `Refusal`, where each cause stands.
 #![tactic(auto)]
 
 mod laws;

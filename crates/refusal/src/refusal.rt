@@ -8,60 +8,41 @@ use std::error::Error;
 use std::fmt;
 
 /// Why a call was refused. Each call says which of these it gives, and what it leaves: after any but `Down` the node is as it
-/// was before the call.
-///
-/// | Number | What the caller does |
-/// |---|---|
-/// | 1 to 6 | sends another request: this one is refused at any time |
-/// | 7 | asks again later, or for an earlier place |
-/// | 8 | asks again for a later place |
-/// | 9 | reads again, then decides whether it still wants the write |
-/// | 10, 11 | sends the same write again |
-/// | 12 | reads, to find out whether the write stands |
-/// | 13, 16 | has the node restarted; 16 comes again until its devices are the right ones |
-/// | 14 | asks again once there is memory |
-/// | 15 | asks again once others are done; where the limit is of the store, it has to be made larger |
+/// was before the call, though a value that was handed in may be spent. What a client does about each stands in `docs/API.md`.
 #[derive(Clone, Copy, Debug, PartialEq, Eq)]
 pub enum Refusal {
-    /// The line or request is not in its grammar, or a write has no change. It is refused at any time, so mend the request.
+    /// The line or request is not in its grammar, or a write has no change.
     BadRequest,
-    /// A text is no tuple, no tupleset or no name. It is refused at any time, so mend the text.
+    /// A text is no tuple, no tupleset or no name.
     BadTuple,
-    /// More changes, conditions, tuplesets, namespaces or bytes than a limit allows. Cut the request into smaller ones; a
-    /// write that is cut is no longer one write.
+    /// More changes, conditions, tuplesets, namespaces or bytes than a limit allows.
     TooLarge,
-    /// Two changes, or two conditions, of one write name the same tuple. Leave one of them out.
+    /// Two changes, or two conditions, of one write name the same tuple.
     Repeated,
-    /// The text is no zookie. Send one as the store gave it out.
+    /// The text is no zookie.
     BadZookie,
-    /// The zookie is that of another store. Ask that store, or take a zookie from this one.
+    /// The zookie is that of another store.
     WrongStore,
-    /// A place above the end of the log, which this store has not given out yet. Ask for the latest place, or again later.
+    /// A place above the end of the log.
     Future,
-    /// A place below the horizon, whose versions are collected. Ask for a later place; a watch has missed events, and begins
-    /// anew from a read.
+    /// A place below the horizon.
     Collected,
-    /// A condition of the write is broken, and nothing was written. Read what the write rests on again, and then decide
-    /// whether to send a new one.
+    /// A condition of the write is not met.
     Precondition,
-    /// Another write, which is in doubt, holds the tuple, and nothing was written. Send the same write again after a while.
+    /// A write in doubt holds one of the tuples.
     Busy,
-    /// The coordinator or a participant was restarted since the write began, and nothing was written. Send the same write
-    /// again.
+    /// The coordinator or a participant was opened again since the write began.
     Aborted,
-    /// The coordinator stopped after the decision: the write stands or not, whole in either case. Read to find out, before
-    /// it is sent again.
+    /// The coordinator failed or was opened again behind the decision: the write stands or not, whole in either case.
     Unsure,
-    /// A device of the node failed, and the node refuses each call until it is restarted. Ask again after the restart; what
-    /// the failed call was to write stands whole or not at all.
+    /// A device of the node failed, or had no room for a batch more, and the node was not opened again since. What the failed call
+    /// was to write stands whole or not at all.
     Down,
-    /// Memory was refused. Nothing has changed. Ask again once there is memory.
+    /// Memory was refused.
     NoMemory,
-    /// A limit of the store is met, as many flows at once, or the bytes of a record or device. Nothing has changed. Ask again
-    /// once other flows have ended or a checkpoint was made.
+    /// A limit is met: open writes, flows, the bytes or records of a batch, usersets of a check, numbers.
     Full,
-    /// What lies on the devices was not left there by this store: another store's files, another number of shards, or bytes
-    /// that were changed. No call repairs it. Give the node its own devices, or a copy of them.
+    /// What lies on the devices was not left there by this node of this store.
     Damaged,
 }
 
