@@ -18,13 +18,12 @@ class Building:
 
     def __init__(self, what, crates, lanes):
         self.what, self.began, self.printing = what, time.monotonic(), threading.Lock()
-        self.known, self.seconds, self.lanes = {}, Seconds(), Lanes(lanes)
+        self.seconds, self.lanes = Seconds(), Lanes(lanes)
         self.stale = [it for it in crates if it.makes_rlib() and not self.is_current(it)]
         self.count, self.ended = len([it for it in crates if it.makes_rlib()]), 0
 
     def is_current(self, crate):
-        made = rtlib.text_of(f"{crate.folder}/out/rlib/stamp")
-        return os.path.isdir(crate.rlib) and made == sums.sum_of(crate, self.known)
+        return crate.is_built()
 
     def say(self, text):
         with self.printing:
@@ -67,8 +66,9 @@ class Building:
 
 
 def prepared(root):
-    """The repository's crates, with rt's sums made once for each file."""
+    """The repository's crates. What another copy of the repository on this machine has built of the same text is taken from there."""
     sums.install()
+    rt.share_work(True)
     rtlib.guarded()
     rtlib.help_of("check"), rtlib.help_of("build")
     crates = rtlib.crates_below(root)
@@ -97,4 +97,4 @@ def build(name, arguments, lanes):
     os.chdir(crate.folder)
     jobs = max(1, min(4, building.lanes.count, int(0.85 * rt.free() / rt.need(crate) / 0.6)))
     verb = ["run", "--jobs", str(jobs), "--", *arguments] if crate.is_program else ["lib", "--jobs", str(jobs)]
-    return rt.main(verb)
+    os.execvp("rt", ["rt", *verb])

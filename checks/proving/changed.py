@@ -18,17 +18,16 @@ def file_of(crate):
     return f"{crate.folder}/out/passed"
 
 
-def state_of(crate, known):
-    return f"{sums.text_sum(crate)} {sums.sum_of(crate, known)}\n"
+def state_of(crate):
+    return f"{sums.text_sum(crate)} {crate.stamp()}\n"
 
 
 def note_passed(crates):
     """Notes of what text each crate was proved, tested and its edits refused."""
-    known = {}
     for crate in crates:
         os.makedirs(f"{crate.folder}/out", exist_ok=True)
         with open(file_of(crate), "w", encoding="utf-8") as file:
-            file.write(state_of(crate, known))
+            file.write(state_of(crate))
 
 
 class Kept:
@@ -48,9 +47,8 @@ class Changed:
     def __init__(self, lanes):
         self.crates = prepared(os.getcwd())
         self.building = Building("changed", self.crates, lanes)
-        known = self.building.known
         before = {it.name: (rtlib.text_of(file_of(it)) or " ").split() for it in self.crates}
-        now = {it.name: state_of(it, known).split() for it in self.crates}
+        now = {it.name: state_of(it).split() for it in self.crates}
         self.touched = [it for it in self.crates if before[it.name][:1] != now[it.name][:1]]
         self.above = [it for it in self.crates if before[it.name] != now[it.name]]
         self.refused = 0
@@ -85,11 +83,12 @@ class Changed:
             made, alone = batches.batches_of(crate, good)
             told = [it for batch in made for it in try_together(kept, batch).values()]
             said = [*told, *[try_alone(kept, it) for it in alone]]
-        for is_refused, text in said:
+        refused = [kind in (rt.REFUSED, rt.AT_LIMIT) for kind, _ in said]
+        for is_refused, (_, text) in zip(refused, said):
             if not is_refused:
                 self.building.say(text)
-        self.refused += sum(is_refused for is_refused, _ in said)
-        return not bad and all(is_refused for is_refused, _ in said)
+        self.refused += sum(refused)
+        return not bad and all(refused)
 
     def tasks(self):
         made = self.building.tasks()

@@ -5,6 +5,7 @@ way that is proved. In one check all seven have no proof, four of them for their
 """
 
 import glob
+import hashlib
 import os
 
 from . import batches
@@ -43,12 +44,31 @@ def is_right(crate, copy):
     return not found
 
 
-def tasks(crates, copy):
+def name_of(crate, kept):
+    """The name under which it is kept that the control was right: a sum of the crate, its libraries and all seven edits."""
+    made = hashlib.sha256(repr(("control", kept.key(crate))).encode())
+    for edit, _ in batch_of(crate) or []:
+        with open(edit, "rb") as it:
+            made.update(it.read())
+    return made.hexdigest()
+
+
+def ran(crate, copy, kept):
+    name = name_of(crate, kept)
+    if kept.tried(name):
+        return True
+    right = is_right(crate, copy)
+    if right and kept.is_untouched(crate):
+        kept.keep_tried(name, rt.REFUSED, "control")
+    return right
+
+
+def tasks(crates, copy, kept):
     """The control as a task behind its crate's proof."""
     crate = next((it for it in crates if it.name == CRATE), None)
     if crate is None:
         return {KEY: Task([], 0, 0, 1, lambda given, jobs: False)}
-    return {KEY: Task([(CRATE, "proof")], 40, rt.need(crate), 1, lambda given, jobs: bool(given[CRATE, "proof"]) and is_right(crate, copy))}
+    return {KEY: Task([(CRATE, "proof")], 40, rt.need(crate), 1, lambda given, jobs: bool(given[CRATE, "proof"]) and ran(crate, copy, kept))}
 
 
 def failed(given):

@@ -1,12 +1,13 @@
 """`rt ci` in another order, over the kept work of its own run: see docs/GATE.md."""
 
+import hashlib
 import math
 import os
 import re
 import shutil
-import signal
 import sys
 import tempfile
+import threading
 
 from . import batches, controls, sums
 from .kit import rt, rtlib
@@ -16,6 +17,18 @@ from .seconds import Seconds
 ONE_JOB = ["--jobs", "1"]
 # The processor seconds that a batch of edits may take, by the record.
 LONG_BATCH = 200
+# What of these scripts a verdict rests on: what other forms of them passed counts for nothing.
+JUDGES = ("kit.py", "batches.py", "controls.py", "gating.py")
+SEEDING = threading.Lock()
+
+
+def store():
+    """Where runs of this gate on this machine keep what they passed, beside what `rt ci` keeps, whose libraries are other files."""
+    made = hashlib.sha256()
+    for name in JUDGES:
+        with open(f"{os.path.dirname(os.path.realpath(__file__))}/{name}", "rb") as it:
+            made.update(it.read())
+    return f"{rt.STORE}/gate-{made.hexdigest()[:16]}"
 
 
 class Crate(rt.Crate):
@@ -35,7 +48,7 @@ class Crate(rt.Crate):
         os.makedirs(os.path.dirname(self.rlib))
 
     def ci(self, flags, tests):
-        if tests and not self.is_program and not self.is_static:
+        if tests and not self.is_program and not self.is_static and os.path.isdir(self.kept()):
             return self.prove_tests(flags)
         stamp = self.stamp()
         if tests or self.is_program or self.is_static:
@@ -49,6 +62,7 @@ class Crate(rt.Crate):
         status = self.prove(["build", *words, "-o", self.rlib])
         if not status and stamp == self.stamp():
             self.leave(f"{self.folder}/out/rlib/stamp", stamp)
+            rt.offer(self, stamp)
         return status
 
     def prove_tests(self, flags):
@@ -67,121 +81,174 @@ class Crate(rt.Crate):
             it.write(text)
 
 
+def base_of(crate):
+    """The folder of what this run's own check of the crate left. Where an earlier run's proof was taken, the crate is checked once more for it."""
+    if os.path.isdir(crate.kept()):
+        return crate.kept()
+    with SEEDING:
+        if not hasattr(crate, "seed"):
+            crate.seed = rt.seeded(crate, ["--jobs", "2"])
+    return crate.seed and f"{crate.seed}/seed"
+
+
 class Copy:
-    """A copy of a crate's kept work, for one check."""
+    """A copy of a crate's kept work, for one check, or None where there is none."""
 
     def __init__(self, crate):
-        self.crate = crate
+        self.crate, self.room = crate, None
 
     def __enter__(self):
+        base = base_of(self.crate)
+        if base is None:
+            return None
         self.room = tempfile.mkdtemp(prefix="gate-kept-")
-        shutil.copytree(self.crate.kept(), f"{self.room}/kept", symlinks=True)
+        shutil.copytree(base, f"{self.room}/kept", symlinks=True)
         return f"{self.room}/kept"
 
     def __exit__(self, *_):
-        shutil.rmtree(self.room, ignore_errors=True)
+        if self.room:
+            shutil.rmtree(self.room, ignore_errors=True)
 
 
 def is_proved(crate):
     """Whether the crate as it is is proved over a copy of its kept work: else that work judges nothing."""
     with Copy(crate) as kept:
-        return not rt.checked(crate, {}, ONE_JOB, kept).returncode
+        return kept is not None and not rt.checked(crate, {}, ONE_JOB, kept).returncode
 
 
 def try_alone(crate, edit):
-    """What rt says of the edit over a copy of the kept work, and, where it is not refused so, over nothing."""
+    """What rt says of the edit over a copy of the kept work, and, where that settles nothing, over nothing."""
     with Copy(crate) as kept:
-        first = rt.must_fail(crate, edit, ONE_JOB, kept)
-    return first if first[0] or "BAD EDIT: an 'old:'" in first[1] else rt.must_fail(crate, edit, ONE_JOB)
+        first = rt.must_fail(crate, edit, ONE_JOB, kept) if kept else (rt.UNSURE, "")
+    return first if first[0] in rt.SETTLED else rt.must_fail(crate, edit, ONE_JOB)
 
 
 def try_together(crate, batch):
-    """Of each edit of the batch whether it is refused, and what to say, as rt's must_fail does."""
+    """What each edit of the batch comes to, and what to say, as rt's must_fail does."""
     with Copy(crate) as kept:
-        told = batches.try_batch(crate, batch, kept, ONE_JOB)
+        told = batches.try_batch(crate, batch, kept, ONE_JOB) if kept else {it.edit: None for it in batch}
     said = {}
     for edit, why in told.items():
         label = f"must-fail {crate.name}/{os.path.basename(edit)}"
-        said[edit] = (True, f"{label}: refused, as it must be: {why}") if why else try_alone(crate, edit)
+        said[edit] = (rt.REFUSED, f"{label}: refused, as it must be: {why}") if why else try_alone(crate, edit)
     return said
 
 
-class Edits:
-    """The tasks of one crate's edits."""
+def stat_of(file):
+    found = os.stat(file)
+    return found.st_ino, found.st_size, found.st_mtime_ns, found.st_ctime_ns
 
-    def __init__(self, crate, task, seconds):
-        self.crate, self.name, self.old = crate, crate.name, task
-        self.good, self.bad = rt.edits_of(crate)
-        self.weight = seconds.of(self.name, "edits", 5.0 * len(self.good))
-        self.keys = []
+
+class Edits:
+    """The tasks of one crate's edits, and what earlier runs on this machine found of them."""
+
+    def __init__(self, crate, edits, is_well, kept, seconds):
+        self.crate, self.name, self.edits, self.is_well, self.kept = crate, crate.name, edits, is_well, kept
+        self.weight = seconds.of(self.name, "edits", 5.0 * len(edits))
+        self.stats, self.keys, self.looking, self.found = {it: stat_of(it) for it in edits}, [], threading.Lock(), None
 
     def most(self):
         """How many edits a batch has at most: where they take long, lanes that have nothing else to do share them."""
-        return max(4, math.ceil(len(self.good) * LONG_BATCH / max(self.weight, LONG_BATCH)))
+        return max(4, math.ceil(len(self.edits) * LONG_BATCH / max(self.weight, LONG_BATCH)))
 
-    def add(self, tasks, label, share, call):
+    def known(self):
+        """What the edits came to that an earlier run tried, of the same crate over the same libraries, by their files."""
+        with self.looking:
+            if self.found is None:
+                self.names = {it: self.kept.of_edit(it, self.kept.key(self.crate)) for it in self.edits}
+                told = {it: self.kept.tried(name) for it, name in self.names.items()}
+                self.found = {it: said for it, said in told.items() if said}
+        return self.found
+
+    def left(self, edits):
+        return [it for it in edits if it not in self.known()]
+
+    def run(self, edits, given, call):
+        """Tries those of the edits that no earlier run has tried."""
+        if not given[self.name, "proof"]:
+            return {}
+        left = self.left(edits)
+        self.is_well({(self.name, "proof"): True, (self.name, "tests"): True}, len(self.left(self.edits)))
+        return call(left) if left else {}
+
+    def add(self, tasks, label, edits, call):
         """Adds a task that stands on the crate's proof."""
-        key = (self.name, f"edits {label}")
-
-        def run(given, jobs):
-            return call() if given[self.name, "proof"] else None
-
-        tasks[key] = Task([(self.name, "proof")], self.weight * share, self.old[2], 1, run)
+        key, share = (self.name, f"edits {label}"), (len(edits) or 1) / (len(self.edits) + 1)
+        run = lambda given, jobs: self.run(edits, given, call)
+        tasks[key] = Task([(self.name, "proof")], self.weight * share, rt.need(self.crate), 1, run)
         self.keys.append(key)
 
+    def whole(self, given, jobs):
+        """Whether the crate as it is is proved over what its edits are tried over."""
+        return given[self.name, "proof"] and (not self.left(self.edits) or is_proved(self.crate))
+
     def put(self, tasks):
-        """Adds the tasks: a batch each, an edit alone each, the crate as it is, and what gathers them for rt."""
-        crate, last = self.crate, (self.name, "edits")
-        if not self.good or crate.is_program:
-            call = self.old[3]
-            tasks[last] = Task(self.old[0], self.weight * bool(self.good), self.old[2], 1, call)
-            return
-        made, alone = batches.batches_of(crate, self.good, self.most())
-        whole = len(self.good) + 1
+        """Adds the tasks: a batch each, an edit alone each, the crate as it is, and what gathers them."""
+        made, alone = batches.batches_of(self.crate, self.edits, self.most())
         for at, batch in enumerate(made):
-            self.add(tasks, at, len(batch) / whole, lambda batch=batch: try_together(crate, batch))
+            together = lambda left, batch=batch: try_together(self.crate, [it for it in batch if it.edit in left])
+            self.add(tasks, at, [it.edit for it in batch], together)
         for edit in alone:
-            self.add(tasks, os.path.basename(edit), 1 / whole, lambda edit=edit: {edit: try_alone(crate, edit)})
-        self.add(tasks, "none", 1 / whole, lambda: is_proved(crate))
-        tasks[last] = Task([(self.name, "proof"), (self.name, "tests"), *self.keys], 0, 0, 1, self.gathered)
+            self.add(tasks, os.path.basename(edit), [edit], lambda left: {it: try_alone(self.crate, it) for it in left})
+        self.sound, self.last = (self.name, "edits none"), (self.name, "edits gathered")
+        tasks[self.sound] = Task([(self.name, "proof")], self.weight / (len(self.edits) + 1), rt.need(self.crate), 1, self.whole)
+        tasks[self.last] = Task([*self.keys, self.sound], 0, 0, 1, self.gathered)
 
     def gathered(self, given, jobs):
-        """The files that are no edits, the edits, and what each came to, as rt wants them."""
-        if not (given[self.name, "proof"] and given[self.name, "tests"]):
-            return self.bad, self.good, []
-        if not given[self.keys[-1]]:
-            return self.bad, self.good, [rt.must_fail(self.crate, it, ONE_JOB) for it in self.good]
-        tried = {edit: it for key in self.keys[:-1] for edit, it in given[key].items()}
-        return self.bad, self.good, [tried[it] for it in self.good]
+        """What each edit came to, in their order. Where the crate itself is not proved over the kept work, each is tried from nothing.
+        What is settled is kept, where no file that it stands on was touched since the run began."""
+        if not given[self.name, "proof"]:
+            return []
+        tried = {edit: it for key in self.keys for edit, it in given[key].items()}
+        if not given[self.sound]:
+            tried = {edit: rt.must_fail(self.crate, edit, ONE_JOB) for edit in tried}
+        for edit, (kind, text) in tried.items():
+            if kind in rt.SETTLED and self.stats[edit] == stat_of(edit) and self.kept.is_untouched(self.crate):
+                self.kept.keep_tried(self.names[edit], kind, text)
+        return [{**self.known(), **tried}[it][:2] for it in self.edits]
+
+    def results(self, given):
+        return given[self.last]
 
 
 class Gate:
-    def __init__(self, lanes):
-        self.lanes, self.meter, self.seconds = Lanes(lanes), Meter("out/gate/commands.tsv"), Seconds()
-        self.crates = []
+    def __init__(self, lanes, anew=False):
+        self.lanes, self.meter, self.seconds, self.anew = Lanes(lanes), Meter("out/gate/commands.tsv"), Seconds(), anew
+        self.crates, self.kept, self.of_edits = [], None, []
 
-    def tasks_of(self, plain):
-        """rt's own tasks, with those of the edits in the place of one a crate."""
-        tasks = {}
-        for (name, kind), (waits, lines, needs, call) in plain.items():
-            crate = next(it for it in self.crates if it.name == name)
-            if kind == "edits":
-                Edits(crate, (waits, lines, needs, call), self.seconds).put(tasks)
-                continue
-            if kind == "tests":
-                waits = [*waits, (name, "proof")]
-            weight = self.seconds.of(name, kind, lines * (0.25 if kind == "proof" else 0.1))
-            tasks[name, kind] = Task(waits, weight if lines else 0, needs, 4, call)
-        tasks.update(controls.tasks(self.crates, Copy))
-        return tasks
+    def add_edits(self, tasks, crate, edits, first, waits, is_well, kept, start=None, in_ci=True):
+        """In the place of rt's own, which tries one edit after another over a second check of the crate."""
+        self.kept = kept
+        if not edits or crate.is_program:
+            return self.plain_edits(tasks, crate, edits, first, waits, is_well, kept, start, in_ci)
+        made = Edits(crate, edits, is_well, kept, self.seconds)
+        made.put(tasks)
+        self.of_edits.append(made)
+        return made.results, made.known
+
+    def task_of(self, key, task):
+        """A task of rt's own: what it waits for, its lines, its memory and its call."""
+        if isinstance(task, Task):
+            return task
+        (name, kind, *_), (waits, lines, needs, call) = key, task
+        waits = [*waits, (name, "proof")] if kind == "tests" else waits
+        weight = self.seconds.of(name, kind, lines * (0.25 if kind == "proof" else 0.1)) if len(key) == 2 else lines * 0.1
+        return Task(waits, weight if lines else 0, needs, 4, call)
 
     def in_lanes(self, plain):
         self.crates = rtlib.crates_below(os.getcwd())
-        self.given = self.lanes.run(self.tasks_of(plain))
-        return self.given
+        tasks = {key: self.task_of(key, task) for key, task in plain.items()}
+        tasks.update(controls.tasks(self.crates, Copy, self.kept))
+        with rt.ending():
+            self.given = self.lanes.run(tasks)
+            return self.given
+
+    def bad(self):
+        """How many edits could not be applied or read: they show nothing, so this gate fails on them."""
+        return sum(kind == rt.BAD for it in self.of_edits for kind, _ in it.results(self.given))
 
     def ran(self):
-        """The whole run: rt's ci with its crates, its order and its judge of the last line."""
+        """The whole run: rt's ci with its crates, its order, its store and its judge of the last line."""
         word = r"statements=trusted\n"
         trusted = r"statements=trusted( incremental=trusted)?\n"
         if word not in rtlib.VERDICT.pattern:
@@ -190,10 +257,12 @@ class Gate:
         rtlib.VERDICT = re.compile(rtlib.VERDICT.pattern.replace(word, trusted), re.M)
         sums.install()
         self.meter.install(rtlib)
-        rt.Crate, rt.in_lanes = Crate, self.in_lanes
+        self.plain_edits = rt.add_edits
+        rt.STORE = store()
+        rt.Crate, rt.in_lanes, rt.add_edits = Crate, self.in_lanes, self.add_edits
         give_back = rt.put_back
         # what this run proved is newer than what earlier ones kept
         rt.put_back = lambda root, aside, was_killed=False: give_back(root, aside, True)
-        status = rt.ci()
+        status = rt.where_disk_lasts(rt.ci, self.anew)
         self.seconds.write(self.lanes.took, self.meter.rows())
-        return status or controls.failed(self.given)
+        return status or controls.failed(self.given) or int(self.bad() > 0)

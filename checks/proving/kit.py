@@ -9,7 +9,7 @@ import types
 
 # The toolchains that these checks were held against. Their `rt` has no interface that it promises, so with any other one
 # each command here is plain `rt`.
-HELD_AGAINST = ("rattle-kit-13b logic dac8208d650f15bf",)
+HELD_AGAINST = ("rattle-kit-13f logic dac8208d650f15bf",)
 
 
 def folder():

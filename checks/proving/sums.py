@@ -1,14 +1,10 @@
-"""What a crate is made from, summed up as `rt` does it, but each file read once.
-
-`rt` sums a library up anew for each way that leads down to it, thousands below the program. The sums here are equal to its own, so
-what either of them built, the other takes as it is.
-"""
+"""What a crate's folder holds, summed up, and what lies below a crate, found once."""
 
 import functools
 import hashlib
 import os
 
-from .kit import rt, rtlib
+from .kit import rtlib
 
 
 def text_sum(crate):
@@ -22,22 +18,8 @@ def text_sum(crate):
     return made.hexdigest()
 
 
-def sum_of(crate, known):
-    """`rt`'s sum of the crate and of all below it; known has those that were made before."""
-    if crate.folder not in known:
-        made = hashlib.sha256(repr((crate.said, crate.has_c)).encode())
-        with open(f"{rt.KIT}/WHAT", "rb") as what:
-            made.update(what.read())
-        for file in rtlib.files_of(crate.folder):
-            with open(file, "rb") as data:
-                made.update(repr((file.replace(crate.folder, ""), data.read())).encode())
-        made.update(repr([sum_of(dep, known) for dep in crate.deps]).encode())
-        known[crate.folder] = made.hexdigest()
-    return known[crate.folder]
-
-
 def install():
-    """Has `rt` sum up so, and walk what lies below a crate once."""
+    """Has `rt` walk what lies below a crate once, and not once for each way that leads down to it, thousands below the program."""
     plain = rtlib.Crate.below
 
     def below(crate):
@@ -46,5 +28,3 @@ def install():
         return [*crate._below]
 
     rtlib.Crate.below = functools.wraps(plain)(below)
-    # (the memory of one sum only, since a file may change between two)
-    rtlib.Crate.stamp = lambda crate: sum_of(crate, {})
