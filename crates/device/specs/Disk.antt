@@ -1,8 +1,8 @@
 -- A disk in memory, as its callers see it.
-use Rattle.std.specs.Prelude.{◌≡◌, ◌+◌, ◌-◌, ◌^◌, List, ℕ, [], length, min, false, is_some, Option, Some, None, Result, IsErr, OnErr}
+use Rattle.std.specs.Prelude.{◌≡◌, ◌+◌, ◌-◌, ◌^◌, List, ℕ, [], length, min, Bool, true, false, is_some, Option, Some, None, Result, IsErr, OnErr}
 use Rattle.device.specs.Device.{State}
 use Rattle.device.specs.Faults.{IsDue, IsLater, nearer}
-use Rattle.device.specs.Sim.{Image, LeftSince, replay}
+use Rattle.device.specs.Sim.{Image, LeftSince, overwritten, replay}
 use Rattle.device.specs.declared.tear.Tear.{Tear}
 use Rattle.device.specs.declared.tear.Tear.TheVariants.{Old}
 use Rattle.device.specs.declared.sim_disk.SimDisk.{SimDisk}
@@ -50,6 +50,16 @@ pub record FollowsScript {T E : Type 0} (old new : SimDisk) (result : Result T E
   pub strikes : (tear : Tear) → tear_of old ≡ None → IsDue (script_of old) tear → IsErr result × (script_of new ≡ None) × (tear_of new ≡ Some tear)
   pub waits : tear_of old ≡ None → IsLater (script_of old) → (script_of new ≡ nearer (script_of old)) × OnErr result (tear_of new ≡ Some Old)
   pub down : (tear : Tear) → tear_of old ≡ Some tear → (script_of new ≡ script_of old) × (tear_of new ≡ Some tear)
+
+-- the last write that it was to make, if any, had no memory to be kept
+abbrev pub has_lost_of : SimDisk → Bool
+has_lost_of d = d.faults.is_lost
+
+-- A write that the script strikes: whatever is found then is found as if the write had been done; or as if it had never been made, where there was
+-- no memory to keep it.
+pub record IsStruck (old : SimDisk) (at : ℕ) (bytes : List ℕ) (new : SimDisk) : Type 0 where
+  pub kept : has_lost_of new ≡ false → image_of new ≡ overwritten at bytes (image_of old)
+  pub lost : has_lost_of new ≡ true → image_of new ≡ image_of old
 
 -- it has this content, all of it durable, and no call has failed
 pub record IsFresh (content : List ℕ) (s : State) : Type 0 where

@@ -14,6 +14,8 @@ pub(crate) struct Faults {
     pub(crate) calls: u64,
     // in how many calls one fails, and what is found then
     script: Option<(u64, Tear)>,
+    // the last write that was made had no memory to be kept
+    pub(crate) is_lost: bool,
 }
 
 impl Faults {
@@ -28,6 +30,7 @@ impl Faults {
             failures: 0,
             calls: 0,
             script: None,
+            is_lost: false,
         }
     }
 
@@ -73,6 +76,7 @@ impl Faults {
     pub(crate) fn stop(&mut self, tear: Option<Tear>) -> Stopped
         ensures script { self.new.script ≡ self.old.script }
         ensures tear { self.new.tear ≡ Some (or_old tear) }
+        ensures lost { self.new.is_lost ≡ self.old.is_lost }
         ensures calls { self.new.calls ≡ self.old.calls }
         ensures cause { (self.old.failures < self.new.failures) ⊎ (self.new.failures ≡ 2 ^ 64 - 1) }
         ensures counts { self.old.failures ≤ self.new.failures }

@@ -3,10 +3,11 @@ ghost use Rattle.std.specs.Prelude.{◌≡◌, ◌≤◌, ◌+◌, ◌<◌, List
 ghost use Rattle.std.proofs.Common.{subst, sym, arith};
 ghost use Rattle.std.proofs.lemmas.List.{take_all};
 ghost use Rattle.device.specs.Device.{left, Wrote, Tore, Synced, Keeps, Revived, Failed, Elapses};
-ghost use Rattle.device.specs.Faults.{IsLater, or_old};
+ghost use Rattle.device.specs.Faults.{IsDue, IsLater, or_old};
 ghost use Rattle.device.specs.Sim.{CouldLeave, found};
 ghost use Rattle.device.specs.declared.call.Call.{Call};
-ghost use Rattle.device.specs.Disk.{state_of, moment_of, left_since_of, image_of, calls_of, script_of, tear_of, is_set_to_fail, FollowsScript};
+ghost use Rattle.device.specs.declared.tear.Tear.{Tear as AnyTear};
+ghost use Rattle.device.specs.Disk.{state_of, moment_of, left_since_of, image_of, calls_of, script_of, tear_of, is_set_to_fail, FollowsScript, IsStruck};
 
 use crate::{Device, SimDisk, Stopped, Tear};
 
@@ -82,6 +83,9 @@ impl Device for SimDisk {
         ensures time { Elapses (moment_of self.old) (moment_of self.new) (left_since_of self.old) (left_since_of self.new) (left (state_of self.new)) }
         ensures script { FollowsScript self.old self.new result }
 
+        // What is found behind it has it in its range, unless there was no memory to keep it.
+        ensures struck { (tear : AnyTear) → tear_of self.old ≡ None → IsDue (script_of self.old) tear → IsStruck self.old at bytes.now self.new }
+
         // Without a script it fails for want of memory alone, and nothing is written.
         ensures waits { tear_of self.old ≡ None → IsLater (script_of self.old) → OnErr result (Keeps (state_of self.old) (state_of self.new)) }
     {
@@ -92,8 +96,12 @@ impl Device for SimDisk {
         }
         // A write that fails is kept too: its range may have any bytes.
         match self.store(at, bytes) {
-            Err(_) => Err(self.faults.stop(fault)),
+            Err(_) => {
+                self.faults.is_lost = true;
+                Err(self.faults.stop(fault))
+            }
             Ok(()) => {
+                self.faults.is_lost = false;
                 if fault.is_some() {
                     return Err(self.faults.stop(fault));
                 }

@@ -30,7 +30,7 @@ pub struct SimDisk {
 }
 
 impl SimDisk {
-    ghost use Rattle.device.specs.Disk.{state_of, calls_of, script_of, tear_of, IsFresh};
+    ghost use Rattle.device.specs.Disk.{state_of, calls_of, script_of, tear_of, has_lost_of, IsFresh};
 
     /// A disk with this durable content, on which no call was made.
     pub fn new(alloc: Global, content: Vec<u8>) -> Result<SimDisk, AllocError>
@@ -53,6 +53,13 @@ impl SimDisk {
         ensures { result ≡ calls_of self.now }
     {
         self.faults.calls
+    }
+
+    /// Whether the last write that it was to make had no memory to be kept. Then it failed, and is found behind no failure, whatever a script says.
+    pub fn has_lost(&self) -> bool
+        ensures { result ≡ has_lost_of self.now }
+    {
+        self.faults.is_lost
     }
 
     // Writes, and keeps the write. Where memory runs out, nothing has changed.
