@@ -6,7 +6,7 @@ ghost use Rattle.answers.specs.Texts.{answer_line as line_of, refusal_line, rows
 
 use crate::lists::{push_events, push_sets};
 use crate::strings::{push_quoted, push_zookie};
-use crate::text::{push, push_bool, push_number};
+use crate::text::Text;
 use std::alloc::AllocError;
 use tuples::{Refusal, Tuple, Version};
 
@@ -59,13 +59,9 @@ impl Answer {
         ensures memory { OnErr result (vec_capacity out.old < vec_len out.old + length (line_of store self.now)) }
         ensures capacity { vec_capacity out.old ≤ vec_capacity out.new }
     {
-        let start = out.len();
-        let is_full = push_answer(out, self, store);
-        if is_full {
-            out.truncate(start);
-            return Err(AllocError);
-        }
-        Ok(())
+        let mut text = Text::behind(out);
+        push_answer(&mut text, self, store);
+        text.end()
     }
 }
 
@@ -76,66 +72,62 @@ pub fn write_refusal(refusal: Refusal, out: &mut Vec<u8>) -> Result<(), AllocErr
     ensures memory { OnErr result (vec_capacity out.old < vec_len out.old + length (refusal_line refusal)) }
     ensures capacity { vec_capacity out.old ≤ vec_capacity out.new }
 {
-    let start = out.len();
-    let is_full = push_refusal(out, refusal);
-    if is_full {
-        out.truncate(start);
-        return Err(AllocError);
-    }
-    Ok(())
+    let mut text = Text::behind(out);
+    push_refusal(&mut text, refusal);
+    text.end()
 }
 
-fn push_refusal(out: &mut Vec<u8>, refusal: Refusal) -> bool
-    ensures { Grown false result out.old out.new (refusal_line refusal) }
+fn push_refusal(out: &mut Text<'_>, refusal: Refusal)
+    ensures { Grown out.old out.new (refusal_line refusal) }
 {
-    let is_full = push(out, false, b"{\"error\":");
-    let is_full = push_number(out, is_full, u64::from(refusal.number()));
-    let is_full = push(out, is_full, b",\"name\":");
-    let is_full = push_quoted(out, is_full, refusal.name().as_bytes());
-    push(out, is_full, b"}")
+    out.push(b"{\"error\":");
+    out.push_number(u64::from(refusal.number()));
+    out.push(b",\"name\":");
+    push_quoted(out, refusal.name().as_bytes());
+    out.push(b"}");
 }
 
-fn push_answer(out: &mut Vec<u8>, answer: &Answer, store: u64) -> bool
-    ensures { Grown false result out.old out.new (line_of store answer.now) }
+fn push_answer(out: &mut Text<'_>, answer: &Answer, store: u64)
+    ensures { Grown out.old out.new (line_of store answer.now) }
 {
     match answer {
         Answer::Written(written) => {
-            let is_full = push(out, false, b"{\"zookie\":");
-            push_end(out, is_full, store, written.place)
+            out.push(b"{\"zookie\":");
+            push_end(out, store, written.place);
         }
         Answer::Rows(rows) => push_rows(out, rows, store),
         Answer::Membership(membership) => {
-            let is_full = push(out, false, b"{\"member\":");
-            let is_full = push_bool(out, is_full, membership.is_member);
-            let is_full = push(out, is_full, b",\"zookie\":");
-            push_end(out, is_full, store, membership.place)
+            out.push(b"{\"member\":");
+            out.push_bool(membership.is_member);
+            out.push(b",\"zookie\":");
+            push_end(out, store, membership.place);
         }
         Answer::Events(events) => push_watched(out, events, store),
     }
 }
 
-fn push_rows(out: &mut Vec<u8>, rows: &Rows, store: u64) -> bool
-    ensures { Grown false result out.old out.new (compact_text (rows_json store rows.now)) }
+fn push_rows(out: &mut Text<'_>, rows: &Rows, store: u64)
+    ensures { Grown out.old out.new (compact_text (rows_json store rows.now)) }
 {
-    let is_full = push(out, false, b"{\"sets\":");
-    let is_full = push_sets(out, is_full, &rows.sets);
-    let is_full = push(out, is_full, b",\"zookie\":");
-    push_end(out, is_full, store, rows.place)
+    out.push(b"{\"sets\":");
+    push_sets(out, &rows.sets);
+    out.push(b",\"zookie\":");
+    push_end(out, store, rows.place);
 }
 
-fn push_watched(out: &mut Vec<u8>, watched: &Events, store: u64) -> bool
-    ensures { Grown false result out.old out.new (compact_text (watched_json store watched.now)) }
+fn push_watched(out: &mut Text<'_>, watched: &Events, store: u64)
+    ensures { Grown out.old out.new (compact_text (watched_json store watched.now)) }
 {
-    let is_full = push(out, false, b"{\"events\":");
-    let is_full = push_events(out, is_full, &watched.events);
-    let is_full = push(out, is_full, b",\"heartbeat\":");
-    push_end(out, is_full, store, watched.heartbeat)
+    out.push(b"{\"events\":");
+    push_events(out, &watched.events);
+    out.push(b",\"heartbeat\":");
+    push_end(out, store, watched.heartbeat);
 }
 
 // The token of the last member, and the end of the object.
-fn push_end(out: &mut Vec<u8>, is_full: bool, store: u64, place: u64) -> bool
-    ensures { Grown is_full result out.old out.new (compact_text (zookie_json store place) ++ 125 ∷ []) }
+fn push_end(out: &mut Text<'_>, store: u64, place: u64)
+    ensures { Grown out.old out.new (compact_text (zookie_json store place) ++ 125 ∷ []) }
 {
-    let is_full = push_zookie(out, is_full, store, place);
-    push(out, is_full, b"}")
+    push_zookie(out, store, place);
+    out.push(b"}");
 }

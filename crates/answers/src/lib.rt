@@ -13,3 +13,4 @@ mod strings;
 mod text;
 
 pub use answer::{Answer, Events, Membership, Rows, Written, write_refusal};
+pub use text::Text;

@@ -6,7 +6,7 @@ ghost use Rattle.tuples.specs.Texts.{object_text, tuple_text, user_text};
 ghost use Rattle.zookie.specs.Zookies.{zookie_text};
 ghost use Rattle.answers.specs.Grown.{Grown};
 
-use crate::text::push;
+use crate::text::Text;
 use tuples::{Object, Tuple, User};
 use zookie::Zookie;
 
@@ -39,14 +39,13 @@ fn hex_digit(digit: u8) -> u8
     }
 }
 
-fn push_byte(out: &mut Vec<u8>, is_full: bool, byte: u8) -> bool
-    ensures { Grown is_full result out.old out.new (escape_byte byte) }
+fn push_byte(out: &mut Text<'_>, byte: u8)
+    ensures { Grown out.old out.new (escape_byte byte) }
 {
     let letter = escape_letter(byte);
     if letter > 0 {
-        return push(out, is_full, &[b'\\', letter]);
-    }
-    if byte < SPACE {
+        out.push(&[b'\\', letter]);
+    } else if byte < SPACE {
         let code = [
             b'\\',
             b'u',
@@ -55,69 +54,68 @@ fn push_byte(out: &mut Vec<u8>, is_full: bool, byte: u8) -> bool
             hex_digit(byte / 16),
             hex_digit(byte % 16),
         ];
-        return push(out, is_full, &code);
+        out.push(&code);
+    } else {
+        out.push(&[byte]);
     }
-    push(out, is_full, &[byte])
 }
 
 // The text as it stands inside a string.
-fn push_escaped(out: &mut Vec<u8>, is_full: bool, text: &[u8]) -> bool
-    ensures { Grown is_full result out.old out.new (escape text.now) }
+fn push_escaped(out: &mut Text<'_>, text: &[u8])
+    ensures { Grown out.old out.new (escape text.now) }
 {
-    let mut is_full = is_full;
     for byte in text {
-        is_full = push_byte(out, is_full, *byte);
+        push_byte(out, *byte);
     }
-    is_full
 }
 
 /// The text as a string.
-pub(crate) fn push_quoted(out: &mut Vec<u8>, is_full: bool, text: &[u8]) -> bool
-    ensures { Grown is_full result out.old out.new (quoted text.now) }
+pub(crate) fn push_quoted(out: &mut Text<'_>, text: &[u8])
+    ensures { Grown out.old out.new (quoted text.now) }
 {
-    let is_full = push(out, is_full, b"\"");
-    let is_full = push_escaped(out, is_full, text);
-    push(out, is_full, b"\"")
+    out.push(b"\"");
+    push_escaped(out, text);
+    out.push(b"\"");
 }
 
-fn push_object(out: &mut Vec<u8>, is_full: bool, object: &Object) -> bool
-    ensures { Grown is_full result out.old out.new (escape (object_text object.now)) }
+fn push_object(out: &mut Text<'_>, object: &Object)
+    ensures { Grown out.old out.new (escape (object_text object.now)) }
 {
-    let is_full = push_escaped(out, is_full, object.namespace.as_bytes());
-    let is_full = push(out, is_full, b":");
-    push_escaped(out, is_full, object.id.as_bytes())
+    push_escaped(out, object.namespace.as_bytes());
+    out.push(b":");
+    push_escaped(out, object.id.as_bytes());
 }
 
-fn push_user(out: &mut Vec<u8>, is_full: bool, user: &User) -> bool
-    ensures { Grown is_full result out.old out.new (escape (user_text user.now)) }
+fn push_user(out: &mut Text<'_>, user: &User)
+    ensures { Grown out.old out.new (escape (user_text user.now)) }
 {
     match user {
-        User::Id(id) => push_escaped(out, is_full, id.as_bytes()),
+        User::Id(id) => push_escaped(out, id.as_bytes()),
         User::Set(userset) => {
-            let is_full = push_object(out, is_full, &userset.object);
-            let is_full = push(out, is_full, b"#");
-            push_escaped(out, is_full, userset.relation.as_bytes())
+            push_object(out, &userset.object);
+            out.push(b"#");
+            push_escaped(out, userset.relation.as_bytes());
         }
     }
 }
 
 /// The text of the tuple, as a string.
-pub(crate) fn push_tuple(out: &mut Vec<u8>, is_full: bool, tuple: &Tuple) -> bool
-    ensures { Grown is_full result out.old out.new (quoted (tuple_text tuple.now)) }
+pub(crate) fn push_tuple(out: &mut Text<'_>, tuple: &Tuple)
+    ensures { Grown out.old out.new (quoted (tuple_text tuple.now)) }
 {
-    let is_full = push(out, is_full, b"\"");
-    let is_full = push_object(out, is_full, &tuple.object);
-    let is_full = push(out, is_full, b"#");
-    let is_full = push_escaped(out, is_full, tuple.relation.as_bytes());
-    let is_full = push(out, is_full, b"@");
-    let is_full = push_user(out, is_full, &tuple.user);
-    push(out, is_full, b"\"")
+    out.push(b"\"");
+    push_object(out, &tuple.object);
+    out.push(b"#");
+    push_escaped(out, tuple.relation.as_bytes());
+    out.push(b"@");
+    push_user(out, &tuple.user);
+    out.push(b"\"");
 }
 
 /// The token of the place, as a string.
-pub(crate) fn push_zookie(out: &mut Vec<u8>, is_full: bool, store: u64, place: u64) -> bool
-    ensures { Grown is_full result out.old out.new (quoted (zookie_text store place)) }
+pub(crate) fn push_zookie(out: &mut Text<'_>, store: u64, place: u64)
+    ensures { Grown out.old out.new (quoted (zookie_text store place)) }
 {
     let zookie = Zookie { store, place };
-    push_quoted(out, is_full, &zookie.encode())
+    push_quoted(out, &zookie.encode());
 }

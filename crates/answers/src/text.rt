@@ -1,38 +1,73 @@
-// Bytes that are appended for as long as there is room: a full vector takes no more, and says so to the end.
+// A text in the making, at the end of a vector.
+ghost use Rattle.std.specs.Prelude.{◌≡◌, ◌≤◌, false, true, OnOk, OnErr, length, take, vec_capacity};
 ghost use Rattle.std.specs.Fmt.{decimal};
 ghost use Rattle.json.specs.Print.{token_text};
 ghost use Rattle.json.specs.Token.{boolean};
 ghost use Rattle.answers.specs.Grown.{Grown};
 
 use itoa::Buffer;
+use std::alloc::AllocError;
 
-/// Appends the bytes to a vector that is not full; whether it is full then.
-pub(crate) fn push(out: &mut Vec<u8>, is_full: bool, part: &[u8]) -> bool
-    ensures { Grown is_full result out.old out.new part.now }
-{
-    if is_full {
-        return true;
-    }
-    match out.extend_from_slice(part) {
-        Ok(()) => false,
-        Err(_) => true,
-    }
+/// A text in the making, behind what stands in a vector. Where the vector has no room for a part, it takes none that follows either.
+#[derive(Drop)]
+pub struct Text<'a> {
+    out: &'a mut Vec<u8>,
+    start: usize,
+    is_full: bool,
 }
 
-/// The number in decimal.
-pub(crate) fn push_number(out: &mut Vec<u8>, is_full: bool, number: u64) -> bool
-    ensures { Grown is_full result out.old out.new (decimal number) }
-{
-    let mut buffer = Buffer::new();
-    push(out, is_full, buffer.format(number).as_bytes())
-}
+impl<'a> Text<'a> {
+    /// An empty text behind these bytes.
+    pub fn behind(out: &'a mut Vec<u8>) -> Text<'a>
+        ensures same_reference { result.out.ghost_name ≡ out.entry.ghost_name }
+        ensures empty { (result.out.now ≡ out.old) × (result.start ≡ length out.old.items) × (result.is_full ≡ false) }
+    {
+        let start = out.len();
+        Text {
+            out,
+            start,
+            is_full: false,
+        }
+    }
 
-pub(crate) fn push_bool(out: &mut Vec<u8>, is_full: bool, is_true: bool) -> bool
-    ensures { Grown is_full result out.old out.new (token_text (boolean is_true)) }
-{
-    if is_true {
-        push(out, is_full, b"true")
-    } else {
-        push(out, is_full, b"false")
+    /// Appends the bytes, where there was room for all before them.
+    pub fn push(&mut self, part: &[u8])
+        ensures { Grown self.old self.new part.now }
+    {
+        if !self.is_full {
+            self.is_full = self.out.extend_from_slice(part).is_err();
+        }
+    }
+
+    /// The number in decimal.
+    pub fn push_number(&mut self, number: u64)
+        ensures { Grown self.old self.new (decimal number) }
+    {
+        let mut buffer = Buffer::new();
+        self.push(buffer.format(number).as_bytes());
+    }
+
+    pub(crate) fn push_bool(&mut self, is_true: bool)
+        ensures { Grown self.old self.new (token_text (boolean is_true)) }
+    {
+        self.push(if is_true { b"true" } else { b"false" });
+    }
+
+    /// The vector has the whole text, or, where that had no room, nothing of it.
+    pub fn end(self) -> Result<(), AllocError>
+        ensures ok { OnOk result ((self.entry.is_full ≡ false) × (self.exit.0.now ≡ self.entry.out.now)) }
+        ensures err { OnErr result ((self.entry.is_full ≡ true) × (self.exit.0.now.items ≡ take self.entry.start self.entry.out.now.items)) }
+        ensures capacity { vec_capacity self.exit.0.now ≡ vec_capacity self.entry.out.now }
+    {
+        let Text {
+            out,
+            start,
+            is_full,
+        } = self;
+        if is_full {
+            out.truncate(start);
+            return Err(AllocError);
+        }
+        Ok(())
     }
 }

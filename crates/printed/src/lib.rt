@@ -10,6 +10,5 @@
 mod lists;
 mod parts;
 mod printed;
-mod text;
 
 pub use printed::Printed;

@@ -5,8 +5,7 @@ ghost use Rattle.printed.specs.Texts.{answer_text, membership_word, named_line, 
 
 use crate::lists::{push_sets, push_versions};
 use crate::parts::{push_id, push_told};
-use crate::text::{push, push_number};
-use answers::Answer;
+use answers::{Answer, Text};
 use std::alloc::AllocError;
 use tuples::{Refusal, Version, WriteId};
 
@@ -49,75 +48,71 @@ impl Printed<'_> {
         ensures memory { OnErr result (vec_capacity out.old < vec_len out.old + length (printed_text store self.now)) }
         ensures capacity { vec_capacity out.old ≤ vec_capacity out.new }
     {
-        let start = out.len();
-        let is_full = push_printed(out, self, store);
-        if is_full {
-            out.truncate(start);
-            return Err(AllocError);
-        }
-        Ok(())
+        let mut text = Text::behind(out);
+        push_printed(&mut text, self, store);
+        text.end()
     }
 }
 
-fn push_printed(out: &mut Vec<u8>, printed: &Printed<'_>, store: u64) -> bool
-    ensures { Grown false result out.old out.new (printed_text store printed.now) }
+fn push_printed(out: &mut Text<'_>, printed: &Printed<'_>, store: u64)
+    ensures { Grown out.old out.new (printed_text store printed.now) }
 {
     match printed {
         Printed::Answer(answer) => push_answer(out, answer, store),
         Printed::Started(name) => push_named(out, b"started ", name),
         Printed::Next(call) => push_named(out, b"next ", call),
         Printed::Cancelled(name) => push_named(out, b"cancelled ", name),
-        Printed::Done => push(out, false, b"done\n"),
+        Printed::Done => out.push(b"done\n"),
         Printed::Committed(id, place) => {
-            let is_full = push(out, false, b"commit ");
-            let is_full = push_id(out, is_full, *id);
-            let is_full = push(out, is_full, b" ");
-            let is_full = push_number(out, is_full, *place);
-            push(out, is_full, b"\n")
+            out.push(b"commit ");
+            push_id(out, *id);
+            out.push(b" ");
+            out.push_number(*place);
+            out.push(b"\n");
         }
         Printed::Aborted(id) => push_resolved(out, b"abort ", *id),
         Printed::Undecided(id) => push_resolved(out, b"undecided ", *id),
-        Printed::Versions(versions) => push_versions(out, false, versions),
-        Printed::Up => push(out, false, b"up\n"),
-        Printed::Set => push(out, false, b"set\n"),
+        Printed::Versions(versions) => push_versions(out, versions),
+        Printed::Up => out.push(b"up\n"),
+        Printed::Set => out.push(b"set\n"),
         Printed::Refused(refusal) => push_refusal(out, *refusal),
     }
 }
 
 // A line of a word, with the space behind it, and a name.
-fn push_named(out: &mut Vec<u8>, word: &[u8], name: &[u8]) -> bool
-    ensures { Grown false result out.old out.new (named_line word.now name.now) }
+fn push_named(out: &mut Text<'_>, word: &[u8], name: &[u8])
+    ensures { Grown out.old out.new (named_line word.now name.now) }
 {
-    let is_full = push(out, false, word);
-    let is_full = push(out, is_full, name);
-    push(out, is_full, b"\n")
+    out.push(word);
+    out.push(name);
+    out.push(b"\n");
 }
 
 // A line of a word, with the space behind it, and the id of a write.
-fn push_resolved(out: &mut Vec<u8>, word: &[u8], id: WriteId) -> bool
-    ensures { Grown false result out.old out.new (resolved_line word.now id) }
+fn push_resolved(out: &mut Text<'_>, word: &[u8], id: WriteId)
+    ensures { Grown out.old out.new (resolved_line word.now id) }
 {
-    let is_full = push(out, false, word);
-    let is_full = push_id(out, is_full, id);
-    push(out, is_full, b"\n")
+    out.push(word);
+    push_id(out, id);
+    out.push(b"\n");
 }
 
-fn push_answer(out: &mut Vec<u8>, answer: &Answer, store: u64) -> bool
-    ensures { Grown false result out.old out.new (answer_text store answer.now) }
+fn push_answer(out: &mut Text<'_>, answer: &Answer, store: u64)
+    ensures { Grown out.old out.new (answer_text store answer.now) }
 {
     match answer {
-        Answer::Written(written) => push_told(out, false, b"ok", store, written.place),
+        Answer::Written(written) => push_told(out, b"ok", store, written.place),
         Answer::Rows(rows) => {
-            let is_full = push_told(out, false, b"at", store, rows.place);
-            push_sets(out, is_full, &rows.sets)
+            push_told(out, b"at", store, rows.place);
+            push_sets(out, &rows.sets);
         }
         Answer::Membership(membership) => {
             let word = membership_word(membership.is_member);
-            push_told(out, false, word, store, membership.place)
+            push_told(out, word, store, membership.place);
         }
         Answer::Events(events) => {
-            let is_full = push_versions(out, false, &events.events);
-            push_told(out, is_full, b"heartbeat", store, events.heartbeat)
+            push_versions(out, &events.events);
+            push_told(out, b"heartbeat", store, events.heartbeat);
         }
     }
 }
@@ -128,12 +123,12 @@ fn membership_word(is_member: bool) -> &'static [u8]
     if is_member { b"yes" } else { b"no" }
 }
 
-fn push_refusal(out: &mut Vec<u8>, refusal: Refusal) -> bool
-    ensures { Grown false result out.old out.new (refusal_line refusal) }
+fn push_refusal(out: &mut Text<'_>, refusal: Refusal)
+    ensures { Grown out.old out.new (refusal_line refusal) }
 {
-    let is_full = push(out, false, b"refused ");
-    let is_full = push_number(out, is_full, u64::from(refusal.number()));
-    let is_full = push(out, is_full, b" ");
-    let is_full = push(out, is_full, refusal.name().as_bytes());
-    push(out, is_full, b"\n")
+    out.push(b"refused ");
+    out.push_number(u64::from(refusal.number()));
+    out.push(b" ");
+    out.push(refusal.name().as_bytes());
+    out.push(b"\n");
 }

@@ -6,10 +6,10 @@ use Rattle.answers.proofs.answer.push_answer.Goals as goal
 
 pub returns-in-Written : goal.returns-in-Written
 unfolding escape_byte
-returns-in-Written c = grown_as (ap (answer_line c.args.store) (sym c.in-Written.is)) (grown_then c.push-is_full.ensures c.push_end.ensures)
+returns-in-Written c = grown_as (ap (answer_line c.args.store) (sym c.in-Written.is)) (grown_then c.push.ensures c.push_end.ensures)
 
 pub returns-in-Membership : goal.returns-in-Membership
 unfolding escape_byte
 returns-in-Membership c =
     grown_as (ap (answer_line c.args.store) (sym c.in-Membership.is))
-    (grown_then c.push-is_full-in-Membership.ensures (grown_then c.push_bool-is_full.ensures (grown_then c.push-is_full-in-Membership-2.ensures c.push_end-in-Membership.ensures)))
+    (grown_then c.push-in-Membership.ensures (grown_then c.push_bool.ensures (grown_then c.push-in-Membership-2.ensures c.push_end-in-Membership.ensures)))

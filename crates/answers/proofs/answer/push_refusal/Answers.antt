@@ -7,5 +7,5 @@ use Rattle.answers.proofs.answer.push_refusal.Goals as goal
 
 pub returns : goal.returns
 returns c =
-    grown_as (refusal_parts c.args.refusal) (grown_then c.push-is_full.ensures (grown_then (grown_as (ap decimal (c.from.ensures ∙ c.number.ensures)) c.push_number-is_full.ensures)
-    (grown_then c.push-is_full-2.ensures (grown_then (grown_as (ap quoted (c.as_bytes.ensures.value ∙ c.name.ensures)) c.push_quoted-is_full.ensures) c.push.ensures))))
+    grown_as (refusal_parts c.args.refusal) (grown_then c.push.ensures (grown_then (grown_as (ap decimal (c.from.ensures ∙ c.number.ensures)) c.push_number.ensures)
+    (grown_then c.push-2.ensures (grown_then (grown_as (ap quoted (c.as_bytes.ensures.value ∙ c.name.ensures)) c.push_quoted.ensures) c.push-3.ensures))))

@@ -7,4 +7,4 @@ use Rattle.answers.proofs.answer.push_watched.Goals as goal
 
 pub returns : goal.returns
 unfolding escape_byte
-returns c = grown_then c.push-is_full.ensures (grown_then (grown_as (ap (λ l. compact_text (events_json l)) c.deref.ensures.value) c.push_events-is_full.ensures) (grown_then c.push-is_full-2.ensures c.push_end.ensures))
+returns c = grown_then c.push.ensures (grown_then (grown_as (ap (λ l. compact_text (events_json l)) c.deref.ensures.value) c.push_events.ensures) (grown_then c.push-2.ensures c.push_end.ensures))

@@ -7,5 +7,5 @@ use Rattle.answers.proofs.lists.push_event.Goals as goal
 pub returns : goal.returns
 unfolding escape_byte
 returns c =
-    grown_then c.push-is_full.ensures (grown_then c.push_change-is_full.ensures (grown_then c.push-is_full-2.ensures (grown_then c.push_number-is_full.ensures
-    (grown_then c.push-is_full-3.ensures (grown_then (grown_as (ap (λ t. quoted (tuple_text t)) c.changed.ensures) c.push_tuple-is_full.ensures) c.push.ensures)))))
+    grown_then c.push.ensures (grown_then c.push_change.ensures (grown_then c.push-2.ensures (grown_then c.push_number.ensures
+    (grown_then c.push-3.ensures (grown_then (grown_as (ap (λ t. quoted (tuple_text t)) c.changed.ensures) c.push_tuple.ensures) c.push-4.ensures)))))

@@ -3,4 +3,4 @@ use Rattle.answers.specs.Texts.{event_json}
 use Rattle.answers.proofs.lists.push_events.Given as goal
 
 abbrev pub invariant-loop-event : goal.invariant-loop-event
-invariant-loop-event l = Listing event_json l.fn.events l.event-index l.is_later l.fn.is_full l.is_full l.fn.out l.out
+invariant-loop-event l = Listing event_json l.fn.events l.event-index l.is_later l.fn.out l.out

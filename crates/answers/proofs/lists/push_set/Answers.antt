@@ -10,11 +10,11 @@ loop-tuple-preserved c =
     let before = c.loop-tuple.invariant in
     record {
       text = before.text ++ (comma_if c.loop-tuple.is_later ++ compact_text (tuple_json c.tuple-item.result));
-      grown = grown_then before.grown (grown_then c.push_comma-is_full.ensures c.push_tuple-is_full.ensures);
+      grown = grown_then before.grown (grown_then c.push_comma.ensures c.push_tuple.ensures);
       whole = one_more tuple_json c.args.tuples.now c.loop-tuple.tuple-index c.tuple-item.result c.loop-tuple.is_later before.text _ c.loop-tuple-test.true c.tuple-item.is before.whole;
     }
 
 pub returns : goal.returns
 returns c =
     let before = c.loop-tuple.invariant in
-    grown_as (none_more tuple_json c.args.tuples.now c.loop-tuple.tuple-index c.loop-tuple.is_later before.text _ c.loop-tuple-test.false before.whole) (grown_then before.grown c.push.ensures)
+    grown_as (none_more tuple_json c.args.tuples.now c.loop-tuple.tuple-index c.loop-tuple.is_later before.text _ c.loop-tuple-test.false before.whole) (grown_then before.grown c.push-2.ensures)

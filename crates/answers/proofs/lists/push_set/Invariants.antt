@@ -3,4 +3,4 @@ use Rattle.answers.specs.Texts.{tuple_json}
 use Rattle.answers.proofs.lists.push_set.Given as goal
 
 abbrev pub invariant-loop-tuple : goal.invariant-loop-tuple
-invariant-loop-tuple l = Listing tuple_json l.fn.tuples l.tuple-index l.is_later l.fn.is_full l.is_full l.fn.out l.out
+invariant-loop-tuple l = Listing tuple_json l.fn.tuples l.tuple-index l.is_later l.fn.out l.out

@@ -8,5 +8,5 @@ returns-then-letter-gt0 c = grown_as (short c.args.byte c.escape_letter-letter.r
 pub returns-then-byte-lt-SPACE : goal.returns-then-byte-lt-SPACE
 returns-then-byte-lt-SPACE c = grown_as (coded c.args.byte c.escape_letter-letter.result _ _ c.escape_letter-letter.ensures c.if-letter-gt0.false c.if-byte-lt-SPACE.true c.hex_digit.ensures c.hex_digit-then-byte-lt-SPACE.ensures) c.push-then-byte-lt-SPACE.ensures
 
-pub returns : goal.returns
-returns c = grown_as (as_it_is c.args.byte c.escape_letter-letter.result c.escape_letter-letter.ensures c.if-letter-gt0.false c.if-byte-lt-SPACE.false) c.push-2.ensures
+pub returns-else-byte-lt-SPACE : goal.returns-else-byte-lt-SPACE
+returns-else-byte-lt-SPACE c = grown_as (as_it_is c.args.byte c.escape_letter-letter.result c.escape_letter-letter.ensures c.if-letter-gt0.false c.if-byte-lt-SPACE.false) c.push-else-byte-lt-SPACE.ensures

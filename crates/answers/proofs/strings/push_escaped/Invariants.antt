@@ -4,4 +4,4 @@ use Rattle.answers.specs.Grown.{Grown}
 use Rattle.answers.proofs.strings.push_escaped.Given as goal
 
 abbrev pub invariant-loop-byte : goal.invariant-loop-byte
-invariant-loop-byte l = Grown l.initial.is_full l.is_full l.initial.out l.out (escape (take l.byte-index l.text))
+invariant-loop-byte l = Grown l.initial.out l.out (escape (take l.byte-index l.text))

@@ -7,5 +7,5 @@ use Rattle.answers.proofs.strings.push_object.Goals as goal
 pub returns : goal.returns
 returns c =
     grown_as (with_colon c.args.object.now.namespace c.args.object.now.id)
-    (grown_then (grown_as (ap escape c.as_bytes.ensures.value) c.push_escaped-is_full.ensures)
-    (grown_then c.push-is_full.ensures (grown_as (ap escape c.as_bytes-2.ensures.value) c.push_escaped.ensures)))
+    (grown_then (grown_as (ap escape c.as_bytes.ensures.value) c.push_escaped.ensures)
+    (grown_then c.push.ensures (grown_as (ap escape c.as_bytes-2.ensures.value) c.push_escaped-2.ensures)))

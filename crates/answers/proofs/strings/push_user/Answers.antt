@@ -8,5 +8,5 @@ use Rattle.answers.proofs.strings.push_user.Goals as goal
 pub returns-in-Set : goal.returns-in-Set
 returns-in-Set c =
     grown_as (with_hash (object_text c.in-Set.userset.object) c.in-Set.userset.relation ∙ ap (λ u. escape (user_text u)) (sym c.in-Set.is))
-    (grown_then c.push_object-is_full.ensures
-    (grown_then c.push-is_full.ensures (grown_as (ap escape c.as_bytes-in-Set.ensures.value) c.push_escaped-in-Set.ensures)))
+    (grown_then c.push_object.ensures
+    (grown_then c.push.ensures (grown_as (ap escape c.as_bytes-in-Set.ensures.value) c.push_escaped-in-Set.ensures)))

@@ -4,4 +4,4 @@ use Rattle.printed.proofs.Rows.{one_more}
 use Rattle.printed.proofs.lists.push_set.Goals as goal
 
 pub loop-tuple-preserved : goal.loop-tuple-preserved
-loop-tuple-preserved c = grown_as (one_more (row_line c.args.number) c.args.tuples.now c.loop-tuple.tuple-index c.tuple-item.result c.loop-tuple-test.true c.tuple-item.is) (grown_then c.loop-tuple.invariant c.push_row-is_full.ensures)
+loop-tuple-preserved c = grown_as (one_more (row_line c.args.number) c.args.tuples.now c.loop-tuple.tuple-index c.tuple-item.result c.loop-tuple-test.true c.tuple-item.is) (grown_then c.loop-tuple.invariant c.push_row.ensures)

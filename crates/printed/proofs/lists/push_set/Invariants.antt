@@ -5,4 +5,4 @@ use Rattle.printed.specs.Texts.{row_line}
 use Rattle.printed.proofs.lists.push_set.Given as goal
 
 abbrev pub invariant-loop-tuple : goal.invariant-loop-tuple
-invariant-loop-tuple l = Grown l.initial.is_full l.is_full l.initial.out l.out (flat_map (row_line l.number) (take l.tuple-index l.tuples))
+invariant-loop-tuple l = Grown l.initial.out l.out (flat_map (row_line l.number) (take l.tuple-index l.tuples))

@@ -5,6 +5,6 @@ use Rattle.printed.proofs.lists.push_sets.Goals as goal
 
 pub loop-tuples-preserved : goal.loop-tuples-preserved
 loop-tuples-preserved c = (
-  grown_as (one_set_more (λ set. set.items) c.args.sets.now c.loop-tuples.tuples-index c.loop-tuples.number c.tuples-item.result c.deref.result.now c.loop-tuples-test.true c.tuples-item.is c.deref.ensures.value c.loop-tuples.invariant.1) (grown_then c.loop-tuples.invariant.0 c.push_set-is_full.ensures),
+  grown_as (one_set_more (λ set. set.items) c.args.sets.now c.loop-tuples.tuples-index c.loop-tuples.number c.tuples-item.result c.deref.result.now c.loop-tuples-test.true c.tuples-item.is c.deref.ensures.value c.loop-tuples.invariant.1) (grown_then c.loop-tuples.invariant.0 c.push_set.ensures),
   omega arith,
 )

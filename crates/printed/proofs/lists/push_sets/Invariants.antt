@@ -4,4 +4,4 @@ use Rattle.printed.specs.Texts.{row_lines}
 use Rattle.printed.proofs.lists.push_sets.Given as goal
 
 abbrev pub invariant-loop-tuples : goal.invariant-loop-tuples
-invariant-loop-tuples l = Grown l.initial.is_full l.is_full l.initial.out l.out (row_lines 1 (map (λ set. set.items) (take l.tuples-index l.sets))) × (l.number ≡ l.tuples-index + 1)
+invariant-loop-tuples l = Grown l.initial.out l.out (row_lines 1 (map (λ set. set.items) (take l.tuples-index l.sets))) × (l.number ≡ l.tuples-index + 1)

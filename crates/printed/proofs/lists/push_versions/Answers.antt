@@ -4,4 +4,4 @@ use Rattle.printed.proofs.Rows.{one_more}
 use Rattle.printed.proofs.lists.push_versions.Goals as goal
 
 pub loop-version-preserved : goal.loop-version-preserved
-loop-version-preserved c = grown_as (one_more version_line c.args.versions.now c.loop-version.version-index c.version-item.result c.loop-version-test.true c.version-item.is) (grown_then c.loop-version.invariant c.push_version-is_full.ensures)
+loop-version-preserved c = grown_as (one_more version_line c.args.versions.now c.loop-version.version-index c.version-item.result c.loop-version-test.true c.version-item.is) (grown_then c.loop-version.invariant c.push_version.ensures)

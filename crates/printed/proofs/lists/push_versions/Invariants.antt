@@ -5,4 +5,4 @@ use Rattle.printed.specs.Texts.{version_line}
 use Rattle.printed.proofs.lists.push_versions.Given as goal
 
 abbrev pub invariant-loop-version : goal.invariant-loop-version
-invariant-loop-version l = Grown l.initial.is_full l.is_full l.initial.out l.out (flat_map version_line (take l.version-index l.versions))
+invariant-loop-version l = Grown l.initial.out l.out (flat_map version_line (take l.version-index l.versions))

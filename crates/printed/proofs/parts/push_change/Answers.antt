@@ -4,7 +4,7 @@ use Rattle.printed.specs.Texts.{change_text}
 use Rattle.printed.proofs.parts.push_change.Goals as goal
 
 pub returns-in-Touch : goal.returns-in-Touch
-returns-in-Touch c = grown_as (ap change_text (sym c.in-Touch.is)) (grown_then c.push-is_full.ensures c.push_tuple.ensures)
+returns-in-Touch c = grown_as (ap change_text (sym c.in-Touch.is)) (grown_then c.push.ensures c.push_tuple.ensures)
 
 pub returns-in-Delete : goal.returns-in-Delete
-returns-in-Delete c = grown_as (ap change_text (sym c.in-Delete.is)) (grown_then c.push-is_full-in-Delete.ensures c.push_tuple-in-Delete.ensures)
+returns-in-Delete c = grown_as (ap change_text (sym c.in-Delete.is)) (grown_then c.push-in-Delete.ensures c.push_tuple-in-Delete.ensures)

@@ -3,5 +3,5 @@ use Rattle.printed.proofs.parts.push_tuple.Goals as goal
 
 pub returns : goal.returns
 returns c =
-    grown_then (grown_then c.push_object-is_full.ensures (grown_then c.push-is_full.ensures (grown_as c.as_bytes.ensures.value c.push-is_full-2.ensures)))
-    (grown_then c.push-is_full-3.ensures c.push_user.ensures)
+    grown_then (grown_then c.push_object.ensures (grown_then c.push.ensures (grown_as c.as_bytes.ensures.value c.push-2.ensures)))
+    (grown_then c.push-3.ensures c.push_user.ensures)

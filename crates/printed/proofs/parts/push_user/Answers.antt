@@ -8,4 +8,4 @@ returns-in-Id c = grown_as (c.as_bytes.ensures.value ∙ ap user_text (sym c.in-
 
 pub returns-in-Set : goal.returns-in-Set
 returns-in-Set c =
-    grown_as (ap user_text (sym c.in-Set.is)) (grown_then c.push_object-is_full.ensures (grown_then c.push-is_full.ensures (grown_as c.as_bytes-in-Set.ensures.value c.push-in-Set.ensures)))
+    grown_as (ap user_text (sym c.in-Set.is)) (grown_then c.push_object.ensures (grown_then c.push-in-Set.ensures (grown_as c.as_bytes-in-Set.ensures.value c.push-in-Set-2.ensures)))

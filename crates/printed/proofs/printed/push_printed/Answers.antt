@@ -18,7 +18,7 @@ returns-in-Cancelled c = grown_as (ap (printed_text c.args.store) (sym c.in-Canc
 pub returns-in-Committed : goal.returns-in-Committed
 returns-in-Committed c =
     grown_as (ap (printed_text c.args.store) (sym c.in-Committed.is))
-    (grown_then (grown_then (grown_then c.push-is_full.ensures c.push_id-is_full.ensures) (grown_then c.push-is_full-in-Committed.ensures c.push_number-is_full.ensures)) c.push-in-Committed.ensures)
+    (grown_then (grown_then (grown_then c.push-in-Committed.ensures c.push_id.ensures) (grown_then c.push-in-Committed-2.ensures c.push_number.ensures)) c.push-in-Committed-3.ensures)
 
 pub returns-in-Aborted : goal.returns-in-Aborted
 returns-in-Aborted c = grown_as (ap (printed_text c.args.store) (sym c.in-Aborted.is)) c.push_resolved.ensures

@@ -6,6 +6,6 @@ use Rattle.printed.proofs.printed.push_refusal.Goals as goal
 pub returns : goal.returns
 returns c =
     grown_then
-    (grown_then (grown_then c.push-is_full.ensures (grown_as (ap decimal (c.from.ensures ∙ c.number.ensures)) c.push_number-is_full.ensures))
-    (grown_then c.push-is_full-2.ensures (grown_as (c.as_bytes.ensures.value ∙ c.name.ensures) c.push-is_full-3.ensures)))
-    c.push.ensures
+    (grown_then (grown_then c.push.ensures (grown_as (ap decimal (c.from.ensures ∙ c.number.ensures)) c.push_number.ensures))
+    (grown_then c.push-2.ensures (grown_as (c.as_bytes.ensures.value ∙ c.name.ensures) c.push-3.ensures)))
+    c.push-4.ensures
