@@ -215,6 +215,11 @@ fn vote<D: Device>(
     intent: &Intent,
 ) -> Result<Vec<Vote>, Refusal> {
     let vote = prepare(alloc, shard, intent)?;
+    alone(alloc, vote)
+}
+
+/// One vote in a list.
+pub(crate) fn alone(alloc: Global, vote: Vote) -> Result<Vec<Vote>, Refusal> {
     let mut votes = Vec::new(alloc);
     match votes.reserve(1) {
         Ok(()) => {
@@ -265,7 +270,8 @@ fn decide_all<D: Device>(
     Ok(())
 }
 
-fn decide<D: Device>(
+/// Stages the decision of a write by these votes.
+pub(crate) fn decide<D: Device>(
     coordinator: &mut Coordinator<D>,
     intent: Intent,
     votes: Vec<Vote>,

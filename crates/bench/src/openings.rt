@@ -3,7 +3,6 @@ ghost use Rattle.std.specs.Prelude.{◌≤◌, IfOk};
 ghost use Rattle.decisions.specs.Values.{IsIntent};
 
 use crate::touches::{STORE, open_coordinator, touch, two_disks};
-use decisions::Intent;
 use device::Device;
 use journal::Journal;
 use measures::timing::{Done, print, print_since};
@@ -117,6 +116,10 @@ pub(crate) fn entry(alloc: Global, number: u64) -> Result<Entry, Refusal>
     requires fits { number ≤ 4294967296 }
     ensures { IfOk result IsIntent }
 {
-    let write = touch(alloc, number)?;
-    Ok(Intent::new(WriteId { epoch: 1, number }, write, 0).into_entry())
+    let (changes, conditions) = touch(alloc, number)?.into_parts();
+    Ok(Entry {
+        id: WriteId { epoch: 1, number },
+        changes,
+        conditions,
+    })
 }

@@ -1,16 +1,18 @@
-// How fast a shard takes writes of one touch, a hundred in a flush: read from their texts, staged, flushed, voted and learned. There is no
-// coordinator: the shard is told that each was decided.
+// How fast a shard takes writes of one touch, a hundred in a flush: read from their texts, staged, flushed, voted and learned. A real
+// coordinator begins and decides them, whose work is not in the time of a step.
 ghost use Rattle.std.specs.Prelude.{◌≡◌, []};
 
-use crate::touches::{new_shard, two_disks, write_of};
-use decisions::{Batch, Intent, MAX_BATCH, Ticket};
-use device::Device;
+use crate::deciding::{alone, decide};
+use crate::touches::{new_shard, open_coordinator, two_disks, write_of};
+use coordinator::Coordinator;
+use decisions::{Batch, Intent, Ticket, Vote};
+use device::{Device, SimDisk};
 use measures::timing::{Done, print};
 use shard::{Shard, VoteReply};
 use std::alloc::Global;
 use std::rt::Clock;
 use std::time::{Duration, Instant};
-use tuples::{MAX_NUMBER, Refusal, WriteId};
+use tuples::Refusal;
 
 // How many writes are flushed, and learned, together.
 const GROUP: u32 = 100;
@@ -25,11 +27,12 @@ const DIGITS: (usize, usize) = (5, 13);
 
 // The writes of a group on their way; what it has is lent, so that it is let go in one place.
 struct Group {
-    // the text of the newest write, and its number
+    // the text of the newest write
     text: Vec<u8>,
-    number: u64,
     intents: Vec<Intent>,
+    // of the last write first
     tickets: Vec<Ticket>,
+    votes: Vec<Vote>,
 }
 
 // What is measured so far.
@@ -62,8 +65,8 @@ pub(crate) fn measure(
     print(rt, "learn", spent.learning, done_in(GROUPS, answer))
 }
 
-/// Takes so many writes through a shard, to the next hundred below, each from its text on (`write-path`), and prints how long that took.
-/// What it answers is the place that the shard has learned at the end.
+/// Takes so many writes through a coordinator and its shard, to the next hundred below, each from its text on (`write-path`), and prints how
+/// long that took. What it answers is the place that the shard has learned at the end.
 pub(crate) fn path(rt: &(impl Clock + Eprint), alloc: Global, writes: u32) -> anyhow::Result<()> {
     let groups = writes / GROUP;
     let (spent, answer) = time(rt, alloc, 0, groups)?;
@@ -77,7 +80,8 @@ fn done_in(groups: u32, answer: u64) -> Done {
     }
 }
 
-// What so many groups take beside so many that are in doubt, and the place learned at the end.
+// What so many groups take beside so many that are in doubt, and the place learned at the end. The nodes are lent, since each way out of a
+// function that owns one is proved.
 fn time(
     rt: &impl Clock,
     alloc: Global,
@@ -85,25 +89,39 @@ fn time(
     groups: u32,
 ) -> anyhow::Result<(Spent, u64)> {
     let (a, b) = two_disks(alloc)?;
+    let mut shard = new_shard(alloc, a, b)?;
+    time_over(rt, alloc, &mut shard, in_doubt, groups)
+}
+
+fn time_over(
+    rt: &impl Clock,
+    alloc: Global,
+    shard: &mut Shard<SimDisk>,
+    in_doubt: u32,
+    groups: u32,
+) -> anyhow::Result<(Spent, u64)> {
+    let (a, b) = two_disks(alloc)?;
+    let mut coordinator = open_coordinator(alloc, a, b)?;
     let text = Vec::from_slice(alloc, TEXT)?;
-    time_at(rt, alloc, new_shard(alloc, a, b)?, text, in_doubt, groups)
+    time_at(rt, alloc, &mut coordinator, shard, text, in_doubt, groups)
 }
 
 fn time_at<D: Device>(
     rt: &impl Clock,
     alloc: Global,
-    mut shard: Shard<D>,
+    coordinator: &mut Coordinator<D>,
+    shard: &mut Shard<D>,
     text: Vec<u8>,
     in_doubt: u32,
     groups: u32,
 ) -> anyhow::Result<(Spent, u64)> {
     let mut group = Group {
         text,
-        number: 0,
         intents: Vec::new(alloc),
         tickets: Vec::new(alloc),
+        votes: Vec::new(alloc),
     };
-    let spent = time_groups(rt, alloc, &mut shard, &mut group, in_doubt, groups);
+    let spent = time_groups(rt, alloc, coordinator, shard, &mut group, in_doubt, groups);
     leave(group);
     spent
 }
@@ -111,12 +129,13 @@ fn time_at<D: Device>(
 fn time_groups<D: Device>(
     rt: &impl Clock,
     alloc: Global,
+    coordinator: &mut Coordinator<D>,
     shard: &mut Shard<D>,
     group: &mut Group,
     in_doubt: u32,
     groups: u32,
 ) -> anyhow::Result<(Spent, u64)> {
-    leave_in_doubt(alloc, shard, group, in_doubt)?;
+    leave_in_doubt(alloc, coordinator, shard, group, in_doubt)?;
     let mut spent = Spent {
         staging: Duration::ZERO,
         voting: Duration::ZERO,
@@ -124,22 +143,38 @@ fn time_groups<D: Device>(
         whole: Duration::ZERO,
     };
     let start = Instant::now(rt)?;
-    take_groups(rt, alloc, shard, group, groups, &mut spent)?;
+    take_groups(rt, alloc, coordinator, shard, group, groups, &mut spent)?;
     spent.whole = start.elapsed(rt)?;
     Ok((spent, shard.learned()?))
 }
 
+// The coordinator aborts them, so that it has not too many open writes; the shard is not told.
 fn leave_in_doubt<D: Device>(
     alloc: Global,
+    coordinator: &mut Coordinator<D>,
     shard: &mut Shard<D>,
     group: &mut Group,
     groups: u32,
 ) -> Result<(), Refusal> {
     for _ in 0..groups {
-        begin_all(alloc, group)?;
+        begin_all(alloc, coordinator, group)?;
         stage_all(alloc, shard, &group.intents, &mut group.tickets)?;
         shard.flush()?;
-        clear(group);
+        clear_tickets(&mut group.tickets);
+        abort_all(coordinator, &mut group.intents)?;
+    }
+    Ok(())
+}
+
+fn abort_all<D: Device>(
+    coordinator: &mut Coordinator<D>,
+    intents: &mut Vec<Intent>,
+) -> Result<(), Refusal> {
+    for _ in 0..GROUP {
+        let Some(intent) = intents.pop() else {
+            return Ok(());
+        };
+        let _verdict = coordinator.abort(intent)?;
     }
     Ok(())
 }
@@ -147,17 +182,19 @@ fn leave_in_doubt<D: Device>(
 fn take_groups<D: Device>(
     rt: &impl Clock,
     alloc: Global,
+    coordinator: &mut Coordinator<D>,
     shard: &mut Shard<D>,
     group: &mut Group,
     groups: u32,
     spent: &mut Spent,
 ) -> anyhow::Result<()> {
     for _ in 0..groups {
-        begin_all(alloc, group)?;
+        begin_all(alloc, coordinator, group)?;
         let staging = time_staging(rt, alloc, shard, group)?;
         shard.flush()?;
         let voting = time_voting(rt, shard, group)?;
-        let learning = learn_all(rt, alloc, shard, &mut group.intents)?;
+        decide_all(alloc, coordinator, group)?;
+        let learning = learn_all(rt, alloc, coordinator, shard)?;
         spent.add(staging, voting, learning);
     }
     Ok(())
@@ -180,20 +217,32 @@ fn time_voting<D: Device>(
     group: &mut Group,
 ) -> anyhow::Result<Duration> {
     let start = Instant::now(rt)?;
-    vote_all(shard, &mut group.tickets)?;
+    vote_all(shard, &mut group.tickets, &mut group.votes)?;
     Ok(start.elapsed(rt)?)
 }
 
-// Only the shard's own work is timed, and not that the writes are put into a batch.
+// Only the shard's own work is timed, and not that the coordinator makes the batch.
 fn learn_all<D: Device>(
     rt: &impl Clock,
     alloc: Global,
+    coordinator: &Coordinator<D>,
     shard: &mut Shard<D>,
-    intents: &mut Vec<Intent>,
 ) -> anyhow::Result<Duration> {
-    let from = shard.learned()?;
-    let batch = batch_of(alloc, from, intents)?;
+    let batch = kept_since(alloc, coordinator, shard.learned()?)?;
     time_learning(rt, alloc, shard, &batch)
+}
+
+// The decisions behind a place.
+fn kept_since<D: Device>(
+    alloc: Global,
+    coordinator: &Coordinator<D>,
+    from: u64,
+) -> Result<Batch, Refusal> {
+    let to = coordinator.kept();
+    if to < from {
+        return Err(Refusal::Future);
+    }
+    coordinator.batch(alloc, from, to)
 }
 
 fn time_learning<D: Device>(
@@ -208,20 +257,16 @@ fn time_learning<D: Device>(
 }
 
 // The next writes of a group, each from its text.
-fn begin_all(alloc: Global, group: &mut Group) -> Result<(), Refusal> {
+fn begin_all<D: Device>(
+    alloc: Global,
+    coordinator: &mut Coordinator<D>,
+    group: &mut Group,
+) -> Result<(), Refusal> {
     for _ in 0..GROUP {
-        if group.number >= MAX_NUMBER {
-            return Err(Refusal::Full);
-        }
-        group.number += 1;
         count_up(&mut group.text);
         group.intents.reserve(1)?;
         let write = write_of(alloc, &group.text)?;
-        let id = WriteId {
-            epoch: 1,
-            number: group.number,
-        };
-        group.intents.push_reserved(Intent::new(id, write, 0));
+        group.intents.push_reserved(coordinator.begin(write)?);
     }
     Ok(())
 }
@@ -241,13 +286,14 @@ fn count_up(text: &mut [u8]) {
     }
 }
 
+// From the last to the first, so that the votes come in the order of the intents.
 fn stage_all<D: Device>(
     alloc: Global,
     shard: &mut Shard<D>,
     intents: &[Intent],
     tickets: &mut Vec<Ticket>,
 ) -> Result<(), Refusal> {
-    for intent in intents {
+    for intent in intents.iter().rev() {
         if !shard.takes_part(intent) {
             return Err(Refusal::BadRequest);
         }
@@ -257,13 +303,18 @@ fn stage_all<D: Device>(
     Ok(())
 }
 
-fn vote_all<D: Device>(shard: &Shard<D>, tickets: &mut Vec<Ticket>) -> Result<(), Refusal> {
+fn vote_all<D: Device>(
+    shard: &Shard<D>,
+    tickets: &mut Vec<Ticket>,
+    votes: &mut Vec<Vote>,
+) -> Result<(), Refusal> {
     for _ in 0..GROUP {
+        votes.reserve(1)?;
         let Some(ticket) = tickets.pop() else {
             return Ok(());
         };
         match shard.vote(ticket) {
-            VoteReply::Yes(vote) => vote.leave(),
+            VoteReply::Yes(vote) => votes.push_reserved(vote),
             VoteReply::No(refusal) => return Err(refusal),
             VoteReply::Later(ticket) => {
                 ticket.leave();
@@ -274,41 +325,56 @@ fn vote_all<D: Device>(shard: &Shard<D>, tickets: &mut Vec<Ticket>) -> Result<()
     Ok(())
 }
 
-// The writes of a group as they are decided, behind this place.
-fn batch_of(alloc: Global, from: u64, intents: &mut Vec<Intent>) -> Result<Batch, Refusal> {
-    let mut writes = Vec::new(alloc);
+// Each write of a group by its vote, in one flush.
+fn decide_all<D: Device>(
+    alloc: Global,
+    coordinator: &mut Coordinator<D>,
+    group: &mut Group,
+) -> Result<(), Refusal> {
     for _ in 0..GROUP {
-        writes.reserve(1)?;
-        let Some(intent) = intents.pop() else {
-            return Err(Refusal::BadRequest);
-        };
-        writes.push_reserved(intent.into_entry());
+        decide_next(alloc, coordinator, group)?;
     }
-    if writes.len() > MAX_BATCH || from > MAX_NUMBER - MAX_BATCH as u64 {
-        return Err(Refusal::Full);
+    coordinator.flush()
+}
+
+fn decide_next<D: Device>(
+    alloc: Global,
+    coordinator: &mut Coordinator<D>,
+    group: &mut Group,
+) -> Result<(), Refusal> {
+    let Some(intent) = group.intents.pop() else {
+        return Ok(());
+    };
+    let Some(vote) = group.votes.pop() else {
+        intent.leave();
+        return Err(Refusal::BadRequest);
+    };
+    match alone(alloc, vote) {
+        Ok(votes) => {
+            decide(coordinator, intent, votes)?.leave();
+            Ok(())
+        }
+        Err(refusal) => {
+            intent.leave();
+            Err(refusal)
+        }
     }
-    Ok(Batch::new(from, writes))
 }
 
 // Only spends what is left of a group.
-fn clear(group: &mut Group)
-    ensures { (group.new.intents.items ≡ []) × (group.new.tickets.items ≡ []) }
-{
-    clear_intents(&mut group.intents);
-    clear_tickets(&mut group.tickets);
-}
-
 fn leave(group: Group) {
     let Group {
         text: _,
-        number: _,
         mut intents,
         mut tickets,
+        mut votes,
     } = group;
     clear_intents(&mut intents);
     intents.destroy_empty();
     clear_tickets(&mut tickets);
     tickets.destroy_empty();
+    clear_votes(&mut votes);
+    votes.destroy_empty();
 }
 
 fn clear_intents(intents: &mut Vec<Intent>)
@@ -324,5 +390,13 @@ fn clear_tickets(tickets: &mut Vec<Ticket>)
 {
     while let Some(ticket) = tickets.pop() {
         ticket.leave();
+    }
+}
+
+fn clear_votes(votes: &mut Vec<Vote>)
+    ensures { votes.new.items ≡ [] }
+{
+    while let Some(vote) = votes.pop() {
+        vote.leave();
     }
 }

@@ -43,15 +43,6 @@ impl Batch {
         Batch { from, writes }
     }
 
-    /// For tests and measures, which have no coordinator: the decisions at the places from `from` + 1 on. A coordinator uses `from_log`.
-    pub fn new(from: u64, writes: Vec<Entry>) -> Batch
-        requires few { length writes.items ≤ max_batch }
-        requires places { from + length writes.items ≤ greatest_number }
-        ensures { result ≡ record { from = from; writes = writes.items } }
-    {
-        Batch { from, writes }
-    }
-
     /// The place before its first decision.
     pub fn from(&self) -> u64
         ensures { result ≡ self.now.from }

@@ -46,26 +46,13 @@ impl Intent {
     {
         let _journal = journal;
         let _given = given;
-        Intent::new(id, write, kept)
-    }
-
-    /// For tests and measures, which have no coordinator: the intent to make a write under an id that was never given before, where all
-    /// is kept up to the place `kept`. A coordinator uses `begin`.
-    pub fn new(id: WriteId, write: Write, kept: u64) -> Intent
-        requires given { IsGiven id }
-        requires places { AskOfLog write.conditions }
-        ensures write { result.write ≡ record { id = id; changes = write.changes; conditions = write.conditions } }
-        ensures kept { result.kept ≡ kept }
-    {
         let (changes, conditions) = write.into_parts();
-        Intent {
-            entry: Entry {
-                id,
-                changes,
-                conditions,
-            },
-            kept,
-        }
+        let entry = Entry {
+            id,
+            changes,
+            conditions,
+        };
+        Intent { entry, kept }
     }
 
     pub fn id(&self) -> WriteId

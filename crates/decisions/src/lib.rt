@@ -2,8 +2,8 @@
 //!
 //! Keeps: an `Intent` has a whole write, a `Vote` a prepare that every stop leaves, and each of them is spent once.
 //! Never: touches a device.
-//! Callers rely on: only who shows it by a journal can make a `Ticket`, `Vote`, `Settled`, `Verdict` or `Heads`, begin an `Intent`, or make a
-//! `Batch` from a log. `Intent::new` and `Batch::new` ask less: they are for tests and measures.
+//! Callers rely on: only who shows it by a journal can make an `Intent`, `Ticket`, `Vote`, `Settled`, `Verdict`, `Heads` or `Batch`; tests and
+//! measures get theirs from nodes.
 //!
 //! Start at `specs/Values.antt`, what each value is.
 #![tactic(auto)]

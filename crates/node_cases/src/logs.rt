@@ -5,7 +5,6 @@ ghost use Rattle.decisions.specs.Values.{IsIntent};
 use crate::stores::{STORE, Store, open_coordinator, open_shard, open_shards, two_of};
 use crate::writes::touch;
 use coordinator::Coordinator;
-use decisions::Intent;
 use device::Device;
 use journal::Journal;
 use records::{COORDINATOR, Identity, PlacedIds, Record};
@@ -44,9 +43,12 @@ fn entry(alloc: Global, number: u64) -> Result<Entry, Refusal>
     requires fits { number ≤ 1000000 }
     ensures { IfOk result IsIntent }
 {
-    let id = WriteId { epoch: 1, number };
-    let write = touch(alloc, "doc:a#viewer@u1")?;
-    Ok(Intent::new(id, write, 0).into_entry())
+    let (changes, conditions) = touch(alloc, "doc:a#viewer@u1")?.into_parts();
+    Ok(Entry {
+        id: WriteId { epoch: 1, number },
+        changes,
+        conditions,
+    })
 }
 
 /// Stages a decision; a full batch goes out first.
