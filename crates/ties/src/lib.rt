@@ -6,6 +6,23 @@
 //! No program uses these words yet. Start at `specs/Ties.antt`.
 #![tactic(auto)]
 
-mod laws;
+mod deciding_laws;
+mod joining_laws;
+mod shard_tie_laws;
+mod telling_laws;
 
-pub use laws::{decisions_stay_tied, kept_attempts_stand, landings_stay_tied};
+pub use deciding_laws::{
+    aborts_stay_tied, beginnings_stay_tied, decisions_stay_tied, kept_attempts_stand,
+    raises_stay_tied,
+};
+pub use joining_laws::{
+    failed_flushes_stay_tied, flushes_stay_tied, landings_stay_tied, openings_stay_tied,
+    refused_openings_stay_tied, tied_up_is_tied,
+};
+pub use shard_tie_laws::{
+    check_reads_are_seen, collections_stay_tied, drops_stay_tied, failed_shard_flushes_stay_tied,
+    learnings_stay_tied, longer_lists_stay_tied, prepares_stay_tied, reads_are_seen,
+    refused_shard_openings_stay_tied, shard_flushes_stay_tied, shard_openings_stay_tied,
+    shard_tied_up_is_tied,
+};
+pub use telling_laws::{batches_are_seen, found_writes_stand, heads_are_seen};
