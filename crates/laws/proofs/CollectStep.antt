@@ -1,13 +1,16 @@
 -- Rows that are collected again under a higher horizon, and the rows of one shard.
-use Rattle.std.proofs.Common.{◌≡◌, ◌⊎◌, inl, inr, ⊎_elim, ℕ, Bool, true, false, not, ◌<◌, ◌≤◌, ◌==◌, ◌&&◌, ◌||◌, nat_lt, nat_le, cond, List, [], ◌∷◌, filter, refl, sym, ◌∙◌, ap, arith}
+use Rattle.std.proofs.Common.{◌≡◌, ◌⊎◌, inl, inr, ⊎_elim, ℕ, Bool, true, false, not, ◌<◌, ◌≤◌, ◌==◌, ◌&&◌, ◌||◌, nat_lt, nat_le, cond, List, [], ◌∷◌, filter, take, refl, sym, ◌∙◌, ap, arith}
 use Rattle.std.proofs.lemmas.Bool.{cases_Bool, lt-ltb, le-leb, ltb-true, leb-true, leb-false, or_cases, both_ways}
+use Rattle.tuples.specs.declared.entry.Entry.{Entry}
 use Rattle.tuples.specs.declared.tuple.Tuple.{Tuple}
 use Rattle.tuples.specs.declared.version.Version.{Version}
 use Rattle.tuples.specs.Changes.{tuple_of}
 use Rattle.tuples.specs.Order.{tuple_eq}
 use Rattle.tuples.specs.Parts.{shard_of}
-use Rattle.tuples.specs.Versions.{collected, is_touch, of_shard, superseded}
+use Rattle.tuples.specs.Versions.{changes_from, collected, is_touch, of_shard, superseded, versions}
 use Rattle.tuples.proofs.Same.{tuple_same}
+use Rattle.versions.specs.Alike.{AreAlike}
+use Rattle.versions.proofs.Alike.{alike_same, alike_trans, collected_alike}
 
 -- the second is a later version of the first one's tuple, at or below the horizon
 abbrev follows : ℕ → Version → Version → Bool
@@ -168,3 +171,11 @@ pub collected_own : (shards s h : ℕ) (rows : List Version) → collected h (of
 unfolding collected
 collected_own shards s h rows = filter_swapped (stays h (of_shard shards s rows)) (λ (v : Version). shard_of shards (tuple_of v.change).object == s) (stays h rows)
     (λ v own. ap (λ b. nat_lt h v.place || (is_touch v.change && not b)) (followed_own shards s h v own rows)) rows
+
+-- rows that stand for the first writes of a list stand for them under a higher horizon once they are collected
+pub rows_collected : (shards s : ℕ) (log : List Entry) (rows : List Version) (p h place : ℕ) → h ≤ place → AreAlike rows (of_shard shards s (versions log p h))
+    → AreAlike (collected place rows) (of_shard shards s (versions log p place))
+unfolding versions
+rows_collected shards s log rows p h place le alike =
+    let changes = changes_from 1 (take p log) in
+    alike_trans (collected_alike alike place) (alike_same _ _ (collected_own shards s place (collected h changes) ∙ ap (of_shard shards s) (collected_again h place changes le)))

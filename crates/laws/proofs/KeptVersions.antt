@@ -1,17 +1,19 @@
 -- What is kept under a horizon shows each snapshot from the horizon on.
-use Rattle.std.proofs.Common.{◌≡◌, ◌⊎◌, inl, inr, ⊎_elim, ℕ, zero, suc, Bool, true, false, true≢false, not, ◌&&◌, ◌||◌, nat_lt, nat_le, ◌<◌, ◌≤◌, ◌+◌, List, [], ◌∷◌, ◌++◌, map, filter, take, Some, slice_get, refl, sym, ◌∙◌, ap, subst, arith, append_assoc, if◌then◌else◌}
+use Rattle.std.proofs.Common.{◌≡◌, ◌⊎◌, inl, inr, ⊎_elim, ℕ, zero, suc, Bool, true, false, true≢false, not, ◌&&◌, ◌||◌, nat_lt, nat_le, ◌<◌, ◌≤◌, ◌+◌, List, [], ◌∷◌, ◌++◌, map, filter, take, refl, sym, ◌∙◌, ap, subst, arith, append_assoc, if◌then◌else◌}
 use Rattle.std.proofs.lemmas.Bool.{cases_Bool, lt-ltb, lt-leb, le-leb, le-ltb, ltb-true, ltb-false}
 use Rattle.tuples.specs.declared.change.Change.{Change}
 use Rattle.tuples.specs.declared.change.Change.TheVariants.{Touch, Delete}
 use Rattle.tuples.specs.declared.entry.Entry.{Entry}
 use Rattle.tuples.specs.declared.tuple.Tuple.{Tuple}
 use Rattle.tuples.specs.declared.version.Version.{Version}
-use Rattle.tuples.specs.Changes.{AreDistinct, IsWrite, changed, has_tuple, tuple_of}
+use Rattle.tuples.specs.Changes.{AreDistinct, changed, has_tuple, tuple_of}
 use Rattle.tuples.specs.Log.{is_at, there_after}
 use Rattle.tuples.specs.Order.{tuple_eq}
 use Rattle.tuples.specs.Versions.{changes_from, collected, is_touch, placed, superseded, there_at, versions}
 use Rattle.tuples.proofs.Same.{tuple_same}
-use Rattle.laws.specs.Worlds.{IsLog}
+use Rattle.laws.specs.LogLaws.{VersionsGiveSnapshots}
+use Rattle.laws.specs.Worlds.{AreWhole}
+use Rattle.laws.proofs.Lists.{slice_get_taken}
 use Rattle.laws.proofs.Snapshots.{there_at-changes}
 
 -- a version of the tuple
@@ -273,16 +275,19 @@ rising_then t place (c ∷ changes) ys distinct above rising = (
   rising_then t place changes ys distinct.1 above rising,
 )
 
--- the changes of the first writes of a log rise
-rising_take : (t : Tuple) (p place : ℕ) (log : List Entry) → ((j : ℕ) (w : Entry) → slice_get log j ≡ Some w → IsWrite w.changes w.conditions) → Rising t (changes_from place (take p log))
-rising_take t zero place log whole = tt
-rising_take t (suc p) place [] whole = tt
-rising_take t (suc p) place (w ∷ log) whole = rising_then t place w.changes (changes_from (place + 1) (take p log))
+-- the changes of whole writes rise
+rising_from : (t : Tuple) (place : ℕ) (log : List Entry) → AreWhole log → Rising t (changes_from place log)
+rising_from t place [] whole = tt
+rising_from t place (w ∷ log) whole = rising_then t place w.changes (changes_from (place + 1) log)
     (let is = whole zero w refl in is.part.distinct_changes)
-    (above_from t place (place + 1) (take p log) (omega arith))
-    (rising_take t p (place + 1) log (λ j v is. whole (suc j) v is))
+    (above_from t place (place + 1) log (omega arith))
+    (rising_from t (place + 1) log (λ j v is. whole (suc j) v is))
 
-pub versions_give_snapshots : (log : List Entry) (p h s : ℕ) (t : Tuple) → IsLog log → h ≤ s → s ≤ p → there_at (versions log p h) s t ≡ is_at log s t
+-- of the conditions nothing has to be known
+pub whole_writes_give_snapshots : (log : List Entry) (p h s : ℕ) (t : Tuple) → AreWhole (take p log) → h ≤ s → s ≤ p → there_at (versions log p h) s t ≡ is_at log s t
 unfolding versions
-versions_give_snapshots log p h s t is le within =
-    collected_shows h s t le (changes_from 1 (take p log)) (rising_take t p 1 log is.whole) ∙ there_at-changes log p s t within
+whole_writes_give_snapshots log p h s t whole le within =
+    collected_shows h s t le (changes_from 1 (take p log)) (rising_from t 1 (take p log) whole) ∙ there_at-changes log p s t within
+
+pub versions_give_snapshots : VersionsGiveSnapshots
+versions_give_snapshots log p h s t is le within = whole_writes_give_snapshots log p h s t (λ j w at. is.whole j w (slice_get_taken p log j w at)) le within

@@ -9,7 +9,7 @@ use Rattle.laws.specs.Shards.{ShardMeans}
 use Rattle.records.specs.Replays.{ShardState, shard_step, learned_rows, find_in_doubt}
 use Rattle.shard.specs.Shards.{placed_ids_from}
 use Rattle.tuples.specs.Log.{AreNew}
-use Rattle.tuples.specs.Parts.{takes_part, expected}
+use Rattle.tuples.specs.Parts.{expected, part, takes_part}
 use Rattle.tuples.specs.Versions.{changes_from, of_shard, collected, versions}
 use Rattle.tuples.specs.declared.entry.Entry.{Entry}
 use Rattle.tuples.specs.declared.entry.WriteId.{WriteId}
@@ -17,7 +17,7 @@ use Rattle.tuples.specs.declared.version.Version.{Version}
 use Rattle.records.specs.declared.record.PlacedId.{PlacedId}
 use Rattle.records.specs.declared.record.Record.TheVariants.{Learned}
 use Rattle.replay.proofs.Doubts.{HasPlacedId, none_stays, find_learned, find_not_learned}
-use Rattle.laws.proofs.Rows.{collected-append, changes_from-append, above_changes, rows_of_segment}
+use Rattle.laws.proofs.Rows.{ArePreparedIn, above_changes, changes_from-append, collected-append, rows_of_segment}
 use Rattle.versions.proofs.Alike.{alike_refl, alike_same, alike_trans, append_alike}
 use Rattle.versions.specs.Alike.{AreAlike}
 
@@ -52,6 +52,27 @@ part_is_from shards s place (v ∷ seg) id has = ⊎_elim
     (λ none. let r = part_is_from shards s (place + 1) seg id (rw none at has) in (suc r.0, r.1, r.2, r.3))
     (cases_Bool (takes_part shards s v))
 
+-- rows that stand for the first writes of a list stand for more of them with the rows that learning those adds
+pub rows_learned : (shards s : ℕ) (log : List Entry) (rows : List Version) (ws : List Entry) (p to h : ℕ) → h ≤ p → p ≤ to → p ≤ length log
+    → AreAlike rows (of_shard shards s (versions log p h)) → ArePreparedIn shards s ws (take (to - p) (drop p log))
+    → AreAlike (rows ++ learned_rows (placed_ids_from shards s (p + 1) (take (to - p) (drop p log))) ws) (of_shard shards s (versions log to h))
+unfolding versions
+rows_learned shards s log rows ws p to h low from within alike prepared =
+    let seg : List Entry = take (to - p) (drop p log) in
+    let first : List Version = collected h (changes_from 1 (take p log)) in
+    let split : take to log ≡ take p log ++ seg = ap (λ n. take n log) (let e : to ≡ p + (to - p) = omega arith in e) ∙ take-add p (to - p) log in
+    let len : length (take p log) ≡ p = length-take-le p log within in
+    let start : 1 + length (take p log) ≡ p + 1 = omega arith in
+    let all : changes_from 1 (take to log) ≡ changes_from 1 (take p log) ++ changes_from (p + 1) seg =
+    ap (changes_from 1) split ∙ changes_from-append 1 (take p log) seg ∙ ap (λ n. changes_from 1 (take p log) ++ changes_from n seg) start in
+    let kept : collected h (changes_from 1 (take to log)) ≡ first ++ changes_from (p + 1) seg =
+    ap (collected h) all ∙ collected-append h (changes_from 1 (take p log)) (changes_from (p + 1) seg) (above_changes h (p + 1) seg (omega (arith, low))) in
+    alike_trans
+    (append_alike alike (alike_refl (learned_rows (placed_ids_from shards s (p + 1) seg) ws)))
+    (alike_same _ _ (ap (λ (l : List Version). of_shard shards s first ++ l) (rows_of_segment shards s (p + 1) seg ws prepared)
+    ∙ sym (filter-append _ first (changes_from (p + 1) seg))
+    ∙ ap (of_shard shards s) (sym kept)))
+
 module _ (shards s : ℕ) (log : List Entry) (hc h : ℕ) (state : ShardState) (to : ℕ) (m : ShardMeans shards s log hc h state) (le_h : h ≤ hc) (from : state.learned ≤ to) (within : to ≤ length log) (new : AreNew log) where
   p : ℕ
   p = state.learned
@@ -77,23 +98,12 @@ module _ (shards s : ℕ) (log : List Entry) (hc h : ℕ) (state : ShardState) (
   found_all : (j : ℕ) (w : Entry) → slice_get seg j ≡ Some w → find_in_doubt w.id state.in_doubt ≡ expected shards s w
   found_all j w is = let at = in_log j w is in m.in_doubt.above (state.learned + j) w at.1 (omega arith)
 
+  taken : (w : Entry) → takes_part shards s w ≡ true → expected shards s w ≡ Some (part shards s w)
+  unfolding expected
+  taken w takes = rw takes refl
+
   rows_after : AreAlike (state.rows ++ learned_rows placed_ids state.in_doubt) (of_shard shards s (versions log to state.horizon))
-  unfolding versions
-  rows_after =
-      let hz = state.horizon in
-      let split : take to log ≡ take state.learned log ++ seg = ap (λ n. take n log) (let e : to ≡ state.learned + (to - state.learned) = omega arith in e) ∙ take-add state.learned (to - state.learned) log in
-      let len : length (take state.learned log) ≡ state.learned = length-take-le state.learned log m.learned in
-      let start : 1 + length (take state.learned log) ≡ state.learned + 1 = omega arith in
-      let all : changes_from 1 (take to log) ≡ changes_from 1 (take state.learned log) ++ changes_from (state.learned + 1) seg =
-      ap (changes_from 1) split ∙ changes_from-append 1 (take state.learned log) seg ∙ ap (λ n. changes_from 1 (take state.learned log) ++ changes_from n seg) start in
-      let above = above_changes hz (state.learned + 1) seg (omega (arith, m.horizon, m.settled, le_h)) in
-      let kept : collected hz (changes_from 1 (take to log)) ≡ collected hz (changes_from 1 (take state.learned log)) ++ changes_from (state.learned + 1) seg =
-      ap (collected hz) all ∙ collected-append hz (changes_from 1 (take state.learned log)) (changes_from (state.learned + 1) seg) above in
-      alike_trans
-      (append_alike m.rows (alike_refl (learned_rows placed_ids state.in_doubt)))
-      (alike_same _ _ (ap (λ (l : List Version). of_shard shards s (collected hz (changes_from 1 (take state.learned log))) ++ l) (rows_of_segment shards s (state.learned + 1) seg state.in_doubt found_all)
-      ∙ sym (filter-append _ (collected hz (changes_from 1 (take state.learned log))) (changes_from (state.learned + 1) seg))
-      ∙ ap (of_shard shards s) (sym kept)))
+  rows_after = rows_learned shards s log state.rows state.in_doubt state.learned to state.horizon (omega (arith, m.horizon, m.settled, le_h)) from m.learned m.rows (λ j w is takes. found_all j w is ∙ taken w takes)
 
   absent : (w : Entry) → takes_part shards s w ≡ false → expected shards s w ≡ None
   unfolding expected

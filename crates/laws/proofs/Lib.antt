@@ -19,5 +19,6 @@ pub mod WatchesJoin
 pub mod MachineMoves
 pub mod Selections
 pub mod KeptVersions
+pub mod ShardRows
 mod SmallImages
 mod SmallMeanings

@@ -6,7 +6,7 @@ use Rattle.records.specs.Replays.{learned_rows, find_in_doubt}
 use Rattle.shard.specs.Shards.{placed_ids_from}
 use Rattle.tuples.specs.Changes.{tuple_of}
 use Rattle.tuples.specs.Order.{tuple_eq}
-use Rattle.tuples.specs.Parts.{part, takes_part, expected, shard_of}
+use Rattle.tuples.specs.Parts.{part, takes_part, shard_of}
 use Rattle.tuples.specs.Versions.{changes_from, of_shard, collected, superseded, is_touch}
 use Rattle.tuples.specs.declared.change.Change.{Change}
 use Rattle.tuples.specs.declared.entry.Entry.{Entry}
@@ -88,16 +88,18 @@ no_changes shards s w absent = empty_of_length _ (first _ _ absent)
     first true b h = absurd (cc)
     first false b h = refl
 
-pub rows_of_segment : (shards s place : ℕ) (log : List Entry) (ws : List Entry)
-    → ((j : ℕ) (w : Entry) → slice_get log j ≡ Some w → find_in_doubt w.id ws ≡ expected shards s w)
+-- each of these writes in which the shard takes part is in doubt with exactly its part
+abbrev pub ArePreparedIn : ℕ → ℕ → List Entry → List Entry → Type 0
+ArePreparedIn shards s ws log = (j : ℕ) (w : Entry) → slice_get log j ≡ Some w → takes_part shards s w ≡ true → find_in_doubt w.id ws ≡ Some (part shards s w)
+
+pub rows_of_segment : (shards s place : ℕ) (log : List Entry) (ws : List Entry) → ArePreparedIn shards s ws log
     → learned_rows (placed_ids_from shards s place log) ws ≡ of_shard shards s (changes_from place log)
-unfolding expected part
+unfolding part
 rows_of_segment shards s place [] ws all = refl
 rows_of_segment shards s place (w ∷ log) ws all =
     let rest = rows_of_segment shards s (place + 1) log ws (λ j v is. all (suc j) v is) in
-    let found = all zero w refl in
     let split = filter-append (λ (v : Version). shard_of shards (tuple_of v.change).object == s) (map (λ c. record { place = place; change = c }) w.changes) (changes_from (place + 1) log) in
     ⊎_elim
-    (λ yes. rw yes (rw found (rw yes (ap (λ (l : List Version). map (λ c. record { place = place; change = c }) (part shards s w).changes ++ l) rest ∙ ap (λ (l : List Version). l ++ of_shard shards s (changes_from (place + 1) log)) (sym (own_map shards s place w.changes)) ∙ sym split))))
+    (λ yes. rw yes (rw (all zero w refl yes) (ap (λ (l : List Version). map (λ c. record { place = place; change = c }) (part shards s w).changes ++ l) rest ∙ ap (λ (l : List Version). l ++ of_shard shards s (changes_from (place + 1) log)) (sym (own_map shards s place w.changes)) ∙ sym split)))
     (λ no. rw no (rest ∙ ap (λ (l : List Version). l ++ of_shard shards s (changes_from (place + 1) log)) (sym (own_map shards s place w.changes ∙ ap (λ (l : List Change). map (λ c. record { place = place; change = c }) l) (no_changes shards s w no))) ∙ sym split))
     (cases_Bool (takes_part shards s w))

@@ -4,7 +4,6 @@ use Rattle.std.proofs.lemmas.List.{drop-drop, drop-take, length-take-le, take-ta
 use Rattle.std.proofs.lemmas.Bool.{cases_lt}
 use Rattle.tuples.specs.declared.entry.Entry.{Entry}
 use Rattle.tuples.specs.declared.entry.WriteId.{WriteId}
-use Rattle.tuples.specs.Versions.{changes_from, collected, of_shard, versions}
 use Rattle.records.specs.declared.record.Record.{Record}
 use Rattle.records.specs.declared.record.Record.TheVariants.{Prepare, Learned, Dropped, Epoch, Horizon}
 use Rattle.records.specs.Coordinators.{CoordinatorState, coordinator_state}
@@ -19,8 +18,7 @@ use Rattle.laws.specs.ShardLaws.{AreOfLog, CollectsRest, DropsRest, IsShardStep,
 use Rattle.laws.proofs.Lists.{new_taken, slice_get_taken}
 use Rattle.laws.proofs.PrepareStep.{dropped_means, prepared_means}
 use Rattle.laws.proofs.LearnStep.{learned_means}
-use Rattle.laws.proofs.CollectStep.{collected_again, collected_own}
-use Rattle.versions.proofs.Alike.{alike_same, alike_trans, collected_alike}
+use Rattle.laws.proofs.CollectStep.{rows_collected}
 use Rattle.tuples.specs.Log.{AreNew}
 
 -- the longer list means what its last record makes of the rest
@@ -136,16 +134,13 @@ opened_meaning store shards s log h c records epoch image m = pushed store shard
 -- rows that are collected under a horizon at or below that of the whole store mean what they meant
 pub collected_means : (me : Identity) (shards s : ℕ) (log : List Entry) (hc h : ℕ) (records : List Record) (place : ℕ) → IsShardImage me (records ++ Horizon place ∷ []) → place ≤ h
     → ShardMeans shards s log hc h (shard_state records) → ShardMeans shards s log hc h (shard_step (shard_state records) (Horizon place))
-unfolding shard_step versions
+unfolding shard_step
 collected_means me shards s log hc h records place image low m =
     let may : MayCollect (shard_state records) place = image_last me records (Horizon place) image in
-    let changes = changes_from 1 (take (shard_state records).learned log) in
     record {
       learned = m.learned;
       horizon = low;
-      rows = alike_trans (collected_alike m.rows place) (alike_same _ _
-          (collected_own shards s place (collected (shard_state records).horizon changes)
-          ∙ ap (of_shard shards s) (collected_again (shard_state records).horizon place changes may.on)));
+      rows = rows_collected shards s log (shard_state records).rows (shard_state records).learned (shard_state records).horizon place may.on m.rows;
       settled = m.settled;
       in_doubt = record { above = m.in_doubt.above; below = m.in_doubt.below };
     }

@@ -1,7 +1,9 @@
 -- What the records of a shard mean beside the log of the whole store.
-use Rattle.std.specs.Prelude.{◌≡◌, ◌≤◌, ◌<◌, ℕ, List, length, Some, None, slice_get}
+use Rattle.std.specs.Prelude.{◌≡◌, ◌≤◌, ◌<◌, ◌&&◌, ◌==◌, ℕ, Bool, List, length, Some, None, slice_get}
 use Rattle.tuples.specs.declared.entry.Entry.{Entry}
-use Rattle.tuples.specs.Parts.{expected}
+use Rattle.tuples.specs.declared.tuple.Tuple.{Tuple}
+use Rattle.tuples.specs.Log.{is_at}
+use Rattle.tuples.specs.Parts.{expected, shard_of}
 use Rattle.tuples.specs.Versions.{of_shard, versions}
 use Rattle.records.specs.Replays.{ShardState, find_in_doubt}
 use Rattle.versions.specs.Alike.{AreAlike}
@@ -19,3 +21,7 @@ pub record ShardMeans (shards s : ℕ) (log : List Entry) (coordinator_horizon h
   pub rows : AreAlike state.rows (of_shard shards s (versions log state.learned state.horizon))
   pub settled : coordinator_horizon ≤ state.learned
   pub in_doubt : InDoubtAbove shards s log state
+
+-- a tuple that was there at a place, of one shard
+abbrev pub there_of : ℕ → ℕ → List Entry → ℕ → Tuple → Bool
+there_of shards s log place t = is_at log place t && (shard_of shards t.object == s)

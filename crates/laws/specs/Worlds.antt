@@ -19,9 +19,13 @@ shard_node store shards s = record { store = store; shards = shards; node = s }
 abbrev pub coordinator_node : ℕ → ℕ → Identity
 coordinator_node store shards = record { store = store; shards = shards; node = coordinator_number }
 
+-- a list of whole writes
+abbrev pub AreWhole : List Entry → Type 0
+AreWhole log = (j : ℕ) (w : Entry) → slice_get log j ≡ Some w → IsWrite w.changes w.conditions
+
 -- a list of whole writes under ids of their own, the conditions of each holding after those before it
 pub record IsLog (log : List Entry) : Type 0 where
-  pub whole : (j : ℕ) (w : Entry) → slice_get log j ≡ Some w → IsWrite w.changes w.conditions
+  pub whole : AreWhole log
   pub new : AreNew log
   pub legal : IsLegal log
 

@@ -1,5 +1,5 @@
 -- What shards answer, one after another, is what a tupleset selects of the whole store.
-use Rattle.std.proofs.Common.{◌≡◌, ◌⊎◌, inl, inr, ⊎_elim, ◌==◌, ◌&&◌, ℕ, Bool, true, false, ◌≤◌, ◌<◌, ◌+◌, nat_le, nat_lt, List, [], ◌∷◌, ◌++◌, length, take, map, filter, Some, None, slice_get, refl, sym, ◌∙◌, ap, subst, arith}
+use Rattle.std.proofs.Common.{◌≡◌, ◌⊎◌, inl, inr, ⊎_elim, ◌==◌, ◌&&◌, ℕ, Bool, true, false, ◌≤◌, ◌<◌, ◌+◌, nat_lt, List, [], ◌∷◌, ◌++◌, length, take, Some, None, slice_get, refl, sym, ◌∙◌, ap, subst, arith}
 use Rattle.std.proofs.Math.Path.{fun_ext}
 use Rattle.std.proofs.lemmas.Bool.{and_from, and_parts, both_ways, cases_Bool, cases_lt, eq-eqb, eqb-true, lt-ltb, ltb-true}
 use Rattle.std.proofs.lemmas.List.{length_push, take-take}
@@ -9,13 +9,11 @@ use Rattle.tuples.specs.declared.entry.Entry.{Entry}
 use Rattle.tuples.specs.declared.tuple.Tuple.{Tuple}
 use Rattle.tuples.specs.declared.tupleset.Tupleset.{Tupleset}
 use Rattle.tuples.specs.declared.tupleset.Tupleset.TheVariants.{Key, OfObject, OfUser}
-use Rattle.tuples.specs.declared.version.Version.{Version}
-use Rattle.tuples.specs.Changes.{tuple_of}
 use Rattle.tuples.specs.Log.{is_at, there_after}
-use Rattle.tuples.specs.Order.{object_cmp, tuple_eq}
+use Rattle.tuples.specs.Order.{object_cmp}
 use Rattle.tuples.specs.Parts.{shard_of}
 use Rattle.tuples.specs.Reads.{IsSelection, has_relation, meets}
-use Rattle.tuples.specs.Versions.{of_shard, there_at, versions}
+use Rattle.tuples.specs.Versions.{there_at}
 use Rattle.tuples.proofs.Named.{shard_below}
 use Rattle.tuples.proofs.Same.{object_same, tuple_same}
 use Rattle.std.specs.Ordering.{is_eq}
@@ -30,55 +28,13 @@ use Rattle.turns.specs.ReadingLaws.{IsMerged, IsReading, IsShardReply, NeedsOnly
 use Rattle.turns.specs.Replies.{IsPlaceOf, IsReadAnswer}
 use Rattle.laws.specs.Shards.{ShardMeans}
 use Rattle.turns.specs.Stands.{Stands}
-use Rattle.laws.proofs.KeptVersions.{versions_give_snapshots}
-use Rattle.laws.proofs.Lists.{slice_get_push}
+use Rattle.laws.proofs.Lists.{slice_get_push, slice_get_taken}
 use Rattle.laws.proofs.Logs.{log_taken}
-use Rattle.laws.proofs.PreparableConditions.{skip, there_own}
-use Rattle.versions.proofs.Alike.{there_at_alike}
-
--- the rows of a shard tell nothing of a tuple of another
-there_other : (shards s place : ℕ) (t : Tuple) → (shard_of shards t.object == s) ≡ false → (rows : List Version) (b : Bool)
-    → there_after t b (map (λ (v : Version). v.change) (filter (λ (v : Version). nat_le v.place place) (of_shard shards s rows))) ≡ b
-there_other shards s place t other [] b = refl
-there_other shards s place t other (v ∷ rows) b = ⊎_elim
-    (λ its. rw its (⊎_elim
-    (λ counts. rw counts (skip t b v.change _ (not_it its) ∙ there_other shards s place t other rows b))
-    (λ later. rw later (there_other shards s place t other rows b))
-    (cases_Bool (nat_le v.place place))))
-    (λ not_its. rw not_its (there_other shards s place t other rows b))
-    (cases_Bool (shard_of shards (tuple_of v.change).object == s))
-  where
-    not_it : (shard_of shards (tuple_of v.change).object == s) ≡ true → tuple_eq t (tuple_of v.change) ≡ false
-    not_it its = ⊎_elim
-        (λ is. absurd (both_ways _ other (ap (λ (u : Tuple). shard_of shards u.object == s) (tuple_same t (tuple_of v.change) is) ∙ its)))
-        (λ no. no)
-        (cases_Bool (tuple_eq t (tuple_of v.change)))
-
-and_true : (x : Bool) → (x && true) ≡ x
-and_true true = refl
-and_true false = refl
-
-and_false : (x : Bool) → (x && false) ≡ false
-and_false true = refl
-and_false false = refl
+use Rattle.laws.proofs.ShardRows.{rows_show_parts}
 
 pub shard_rows_show_snapshots : ShardRowsShowSnapshots
-unfolding there_at
 shard_rows_show_snapshots shards s log hc h state place t is_log m above within =
-    let rows : there_at state.rows place t ≡ there_at (of_shard shards s (versions log state.learned state.horizon)) place t = there_at_alike m.rows place t in
-    ⊎_elim
-    (λ its.
-    rows
-    ∙ there_own shards s place t its (versions log state.learned state.horizon) false
-    ∙ versions_give_snapshots log state.learned state.horizon place t is_log above within
-    ∙ sym (and_true (is_at log place t))
-    ∙ ap (λ (b : Bool). is_at log place t && b) (sym its))
-    (λ other.
-    rows
-    ∙ there_other shards s place t other (versions log state.learned state.horizon) false
-    ∙ sym (and_false (is_at log place t))
-    ∙ ap (λ (b : Bool). is_at log place t && b) (sym other))
-    (cases_Bool (shard_of shards t.object == s))
+    rows_show_parts shards s log state.rows state.learned state.horizon place t (λ j w at. is_log.whole j w (slice_get_taken state.learned log j w at)) m.rows above within
 
 -- what meets a tupleset of one object has that object's shard
 meets_there : (shards s : ℕ) (q : Tupleset) (t : Tuple) → NeedsOnly shards q s → meets q t ≡ true → shard_of shards t.object ≡ s

@@ -1,16 +1,16 @@
 -- Laws of reads: what shards answer, one after another, is what a tupleset selects of the whole store at one place.
-use Rattle.std.specs.Prelude.{◌≡◌, ◌≤◌, ◌<◌, ◌+◌, ◌&&◌, ◌==◌, ℕ, Bool, List, [], ◌∷◌, ◌++◌, length, Some, None, slice_get}
+use Rattle.std.specs.Prelude.{◌≡◌, ◌≤◌, ◌<◌, ◌+◌, ℕ, List, [], ◌∷◌, ◌++◌, length, Some, None, slice_get}
 use Rattle.tuples.specs.declared.entry.Entry.{Entry}
 use Rattle.tuples.specs.declared.tuple.Tuple.{Tuple}
 use Rattle.tuples.specs.declared.tupleset.Tupleset.{Tupleset}
 use Rattle.tuples.specs.Log.{is_at}
-use Rattle.tuples.specs.Parts.{shard_of}
 use Rattle.tuples.specs.Reads.{IsSelection}
 use Rattle.tuples.specs.Versions.{there_at}
 use Rattle.records.specs.declared.record.Record.{Record}
 use Rattle.records.specs.Replays.{ShardState}
 pub use Rattle.decisions.specs.Merging.{IsMerged, NeedsOnly}
 use Rattle.laws.specs.Shards.{ShardMeans}
+pub use Rattle.laws.specs.Shards.{there_of}
 use Rattle.laws.specs.Worlds.{IsLog}
 use Rattle.laws.specs.Nodes.{NodeName, ShardKnows, coordinator}
 use Rattle.turns.specs.Flows.{Freshness, ReadHolds}
@@ -18,10 +18,6 @@ use Rattle.turns.specs.Held.{IsRightRead}
 use Rattle.turns.specs.Moments.{Moment, Running}
 use Rattle.turns.specs.Replies.{IsPlaceOf, IsReadAnswer}
 use Rattle.turns.specs.Stands.{Stands}
-
--- a tuple that was there at a place, of one shard
-abbrev pub there_of : ℕ → ℕ → List Entry → ℕ → Tuple → Bool
-there_of shards s log place t = is_at log place t && (shard_of shards t.object == s)
 
 -- a shard's rows show at each place from its horizon up to what it has learned which of its own tuples were there, and no others
 abbrev pub ShardRowsShowSnapshots : Type 0

@@ -1,0 +1,52 @@
+-- What a coordinator tells is of the list.
+use Rattle.std.proofs.Common.{◌≡◌, ℕ, zero, suc, ◌+◌, ◌-◌, List, [], ◌∷◌, length, min, take, drop, Some, slice_get, refl, sym, ◌∙◌, ap, subst, arith}
+use Rattle.std.proofs.lemmas.List.{drop-drop}
+use Rattle.tuples.specs.declared.entry.Entry.{Entry}
+use Rattle.device.specs.Device.{State}
+use Rattle.decisions.specs.Coordinators.{kept_of}
+use Rattle.decisions.specs.Values.{max_batch}
+use Rattle.laws.specs.Worlds.{AreWhole}
+use Rattle.laws.proofs.Lists.{slice_get_taken}
+use Rattle.ties.specs.TellingLaws.{BatchesAreSeen, FoundWritesStand, HeadsAreSeen}
+use Rattle.ties.proofs.Lists.{get_dropped, get_front}
+
+pub heads_are_seen : {D : Type 0} (state : D → State) (honest : D → Type 0) → HeadsAreSeen state honest
+heads_are_seen state honest v seen low tried tied = (sym tied.whole, sym tied.horizon, let w = tied.kept.within in omega (arith, w, tied.horizon))
+
+-- the first of a list, as many as they are
+taken_whole : (n : ℕ) (xs : List Entry) → take n xs ≡ take (length (take n xs)) xs
+taken_whole zero xs = refl
+taken_whole (suc n) [] = refl
+taken_whole (suc n) (x ∷ xs) = ap (λ (l : List Entry). x ∷ l) (taken_whole n xs)
+
+-- of whole writes, those that are taken behind a place are whole
+whole_part : (seen : List Entry) (from n : ℕ) → AreWhole seen → AreWhole (take n (drop from seen))
+whole_part seen from n whole j w is = whole (from + j) w (sym (get_dropped from seen j) ∙ slice_get_taken n (drop from seen) j w is)
+
+pub batches_are_seen : {D : Type 0} (state : D → State) (honest : D → Type 0) → BatchesAreSeen state honest
+batches_are_seen state honest v from to b seen low tried tied at =
+    let count : ℕ = min (to - from) max_batch in
+    let base : ℕ = (kept_of v).base in
+    let place : base + (from - base) ≡ from = let k = tied.kept.base in let a = at.above in omega (arith, k, a) in
+    let writes : b.writes ≡ take count (drop from seen) =
+    at.writes ∙ ap (λ (l : List Entry). take count (drop (from - base) l)) tied.kept.decisions ∙ ap (take count) (drop-drop (from - base) base seen ∙ ap (λ n. drop n seen) place) in (
+      record {
+        of_list = writes ∙ taken_whole count (drop from seen) ∙ ap (λ (l : List Entry). take (length l) (drop from seen)) (sym writes) ∙ ap (λ n. take (length b.writes) (drop n seen)) (sym at.from_is);
+        whole = subst AreWhole (sym writes) (whole_part seen from count (λ j w is. tied.listed.whole j w (get_front seen tied.more w j is)));
+      },
+      at.from_is,
+    )
+
+pub found_writes_stand : {D : Type 0} (state : D → State) (honest : D → Type 0) → FoundWritesStand state honest
+found_writes_stand state honest v id place seen low tried tied found =
+    let k : ℕ = (kept_of v).base + found.index in
+    let there : slice_get seen k ≡ Some found.write = sym (get_dropped (kept_of v).base seen found.index) ∙ ap (λ (l : List Entry). slice_get l found.index) (sym tied.kept.decisions) ∙ found.there in (
+      found.write,
+      found.own,
+      record {
+        index = k;
+        place_is = found.place_is;
+        there = there;
+        once = λ i u is same. tied.listed.new i k u found.write (get_front seen tied.more u i is) (get_front seen tied.more found.write k there) same;
+      },
+    )

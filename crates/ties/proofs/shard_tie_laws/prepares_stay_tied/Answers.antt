@@ -1,0 +1,5 @@
+use Rattle.ties.proofs.ShardCalls.{prepares_stay_tied}
+use Rattle.ties.proofs.shard_tie_laws.prepares_stay_tied.Goals as goal
+
+pub returns : goal.returns
+returns g c = prepares_stay_tied g.D.Device.state g.D.Device.honest
