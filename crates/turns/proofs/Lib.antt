@@ -27,6 +27,7 @@ mod SmallChecks
 pub mod NewStore
 pub mod RunChain
 pub mod RunNames
+pub mod Frames
 pub mod FlowBegins
 pub mod FlowEnds
 mod WrongRuns
