@@ -20,7 +20,7 @@ use Rattle.laws.specs.LogLaws.{IsUnlisted}
 use Rattle.laws.specs.Nodes.{CoordinatorKnows, NodeName, NodeState, ShardKnows, coordinator, down, leaves, shard, staged_of}
 use Rattle.laws.proofs.Lists.{slice_get_taken}
 use Rattle.turns.specs.Flows.{Asked, Freshness, HeadsHeld, HeldTicket, HeldVote, Holds, Resolved, WriteHolds, aborted, at_least, checking, collecting, committed, exact, flushing, id_of, latest, learning, raising, reading, resolving, to_check, to_collect, to_flush, to_learn, to_raise, to_read, to_resolve, to_watch, to_write, undecided, watching, writing}
-use Rattle.turns.specs.Held.{AreHeldHeads, AreRightHeads, HoldsOfEach, IsOpen, IsRight, IsRightBatch, IsRightDecision, IsRightIntent, IsRightOwn, IsRightResolved, IsRightTicket, IsRightVerdict, IsRightVote, IsStaged, IsUndecided, WasGiven, own_write, there_below}
+use Rattle.turns.specs.Held.{AreHeldHeads, AreRightHeads, IsOpen, IsRight, IsRightBatch, IsRightDecision, IsRightIntent, IsRightOwn, IsRightResolved, IsRightTicket, IsRightVerdict, IsRightVote, IsStaged, IsUndecided, WasGiven, own_write, there_below}
 use Rattle.turns.specs.Moments.{Moment, Running}
 use Rattle.turns.specs.Replies.{IsAsWanted, IsPlaceOf}
 
