@@ -1,14 +1,10 @@
 -- The coordinator of a store that stands stages a horizon.
-use Rattle.std.proofs.Common.{◌≡◌, ◌⊎◌, inl, inr, ⊎_elim, ℕ, ◌≤◌, List, [], ◌∷◌, ◌++◌, length, Contains, refl, sym, ◌∙◌, ap, subst, append_assoc, arith, false}
+use Rattle.std.proofs.Common.{◌≡◌, ◌⊎◌, inl, inr, ⊎_elim, ℕ, ◌≤◌, List, [], ◌∷◌, ◌++◌, Contains, refl, sym, ◌∙◌, ap, subst, append_assoc, arith, false}
 use Rattle.std.proofs.lemmas.List.Elements.{Contains-push_cases}
-use Rattle.tuples.specs.declared.entry.Entry.{Entry}
-use Rattle.tuples.specs.declared.entry.WriteId.{WriteId}
-use Rattle.tuples.specs.Log.{AreNew}
 use Rattle.records.specs.declared.record.Record.{Record}
 use Rattle.records.specs.declared.record.Record.TheVariants.{Epoch, Horizon}
 use Rattle.records.specs.Coordinators.{CoordinatorState, IsCoordinatorImage, coordinator_state, coordinator_step, end_of, MayRaise}
 use Rattle.laws.specs.CoordinatorLaws.{IsLearnedInAll}
-use Rattle.turns.specs.Held.{IsOpen, WasGiven}
 use Rattle.turns.specs.Moments.{Moment}
 use Rattle.laws.specs.Nodes.{CoordinatorKnows, NodeName, NodeState, Nodes, coordinator, down, leaves, refused, shard, staged_of, up, IsOfRefusedOpening}
 use Rattle.turns.specs.RaisingLaws.{RaisesStand, StagesHorizon}
@@ -18,7 +14,8 @@ use Rattle.laws.specs.Worlds.{Means, Rests, coordinator_node}
 use Rattle.laws.proofs.CoordinatorStates.{coordinator_push, coordinator_last}
 use Rattle.laws.proofs.CoordinatorSteps.{horizons_rest}
 use Rattle.laws.proofs.LessLeft.{less_rests}
-use Rattle.turns.proofs.Frames.{IsTaken, KeepsStore, KeepsWrite, frame, given_on, same_doubts, shard_less, verdict_on}
+use Rattle.turns.proofs.Frames.{IsTaken, shard_less}
+use Rattle.turns.proofs.SameWrites.{SameWrites, same_in_doubt, same_shard, still_stands}
 use Rattle.turns.proofs.ShardStages.{durable_in}
 use Rattle.refusal.specs.declared.refusal.Refusal.{Refusal}
 
@@ -60,11 +57,8 @@ module _ (store shards : ℕ) (left : NodeName → List Record → Type 0) (now 
   unfolding coordinator_step
   same_end kept m k = ap end_of (knows kept m k).1
 
-  abbrev later : Moment
-  later = with_nodes now next
-
   shards_less : (t : ℕ) (found : List Record) → leaves left next (shard t) found → leaves left now.nodes (shard t) found
-  shards_less = shard_less shards left left now later false step.shards (λ t rs is. is)
+  shards_less = shard_less shards left left now (with_nodes now next) false step.shards (λ t rs is. is)
 
   coordinator_left : (found : List Record) → leaves left next coordinator found → leaves left now.nodes coordinator found ⊎ (found ≡ (step.durable ++ step.staged) ++ Horizon place ∷ [])
   coordinator_left found is = ⊎_elim
@@ -88,11 +82,8 @@ module _ (store shards : ℕ) (left : NodeName → List Record → Type 0) (now 
       × ((c : List Record) → Means store shards now.machine.log now.machine.horizon c (at_shards (leaves left now.nodes)) → Means store shards now.machine.log now.machine.horizon c (at_shards (leaves left next)))
   both_less = less_rests (leaves left next coordinator) (leaves left next coordinator) (at_shards (leaves left now.nodes)) (at_shards (leaves left next)) store shards now.machine.log now.machine.kept now.machine.horizon (λ found is. is) shards_less
 
-  was_open : (v : Entry) → IsOpen next v → IsOpen now.nodes v
-  was_open v = subst (λ (l : List Entry). Contains l v) step.open_writes
-
   -- a raise that was taken still is
-  still_taken : (x : ℕ) → IsTaken shards left left now later false left now x → IsTaken shards left left now later false left later x
+  still_taken : (x : ℕ) → IsTaken shards left left now (with_nodes now next) false left now x → IsTaken shards left left now (with_nodes now next) false left (with_nodes now next) x
   still_taken x is = ⊎_elim
       (λ low. inl low)
       (λ rest. ⊎_elim
@@ -105,31 +96,21 @@ module _ (store shards : ℕ) (left : NodeName → List Record → Type 0) (now 
       rest)
       is
 
-  keeps : KeepsStore shards left left now later false
-  keeps = record {
-    kept = omega arith;
-    horizon = omega arith;
-    same_log = refl;
-    listed = λ j w is. inl is;
-    was_open = λ w given. was_open w;
-    coordinator_knew = λ kept m k. inl (record { kept = coordinator_state step.durable; before = coordinator_state (step.durable ++ step.staged); knew = knew; epoch = sym (same_epoch kept m k); given = omega (arith, step.given); log = λ j w is. is; unopened = refl });
-    given_out = λ id g. g.epoch;
+  on : SameWrites store shards left left now next now.machine.kept now.machine.horizon
+  on = record {
+    stands = stands;
+    kept_on = omega arith;
+    horizon_on = omega arith;
+    open_writes = step.open_writes;
+    given = step.given;
+    coordinator_knew = λ kept m k. (coordinator_state step.durable, coordinator_state (step.durable ++ step.staged), knew, sym (same_epoch kept m k));
+    in_doubt = same_in_doubt store shards left left now next now.machine.kept now.machine.horizon step.shards (λ t rs is. is);
+    shard_knew = same_shard store shards left left now next now.machine.kept now.machine.horizon step.shards (λ t rs is. is);
+    given_out = λ id g. g;
     epochs = λ t epoch is. is;
     settled = λ t p is. is;
-    taken = λ same. still_taken;
-    named = λ x is. is;
+    taken = still_taken;
   }
-
-  kept_write : (w : Entry) → KeepsWrite shards left left now later false false w
-  kept_write w = record {
-    is_open = λ same. subst (λ (l : List Entry). Contains l w) (sym step.open_writes);
-    unlisted = λ is. is;
-    conditions = λ u here t found p lt is has hold. hold;
-    doubts = same_doubts shards left left now later false step.shards (λ t rs is. is) w;
-  }
-
-  given_kept : (id : WriteId) → WasGiven shards left now.nodes id → WasGiven shards left next id
-  given_kept = given_on shards left left now later false keeps
 
   nodes_kept : NodesStand store shards left next
   nodes_kept = record {
@@ -161,41 +142,18 @@ module _ (store shards : ℕ) (left : NodeName → List Record → Type 0) (now 
       not_damaged (shard t) e is = stands.nodes.sound (shard t) e (sym (step.shards t) ∙ is)
 
   raised : Stands store shards left (with_nodes now next)
-  raised = record {
-    rests = both_less.0 both_rest.0;
-    nodes = nodes_kept;
-    heads = record {
-      log = λ kept m k. same_end kept m k ∙ stands.heads.log _ _ knew;
-      kept = λ kept m k. ap end_of (knows kept m k).0 ∙ stands.heads.kept _ _ knew;
-      horizon = λ kept m k. ap (λ (c : CoordinatorState). c.horizon) (knows kept m k).0 ∙ stands.heads.horizon _ _ knew;
-      whole = λ d g is.
-          let both : up step.durable (step.staged ++ Horizon place ∷ []) ≡ up d g = sym step.now ∙ is in
-          let same : (step.durable ++ step.staged) ++ Horizon place ∷ [] ≡ d ++ g =
-          append_assoc step.durable step.staged (Horizon place ∷ []) ∙ ap (λ (l : List Record). l ++ (step.staged ++ Horizon place ∷ [])) (ap durable_in both) ∙ ap (λ (l : List Record). d ++ l) (ap staged_of both) in
-          subst (λ (l : List Record). Means store shards now.machine.log now.machine.horizon l (at_shards (leaves left next))) same (both_less.1 _ both_rest.1);
-    };
-    listed = λ t found lt is. stands.listed t found lt (shards_less t found is);
-    locks = λ t found lt is. stands.locks t found lt (shards_less t found is);
-    ids = record {
-      distinct = subst AreNew (sym step.open_writes) stands.ids.distinct;
-      few = subst (λ (l : List Entry). length l ≤ 1024) (sym step.open_writes) stands.ids.few;
-      unlisted = λ v is. stands.ids.unlisted v (was_open v is);
-      of_now = λ v is kept m known.
-          let was = stands.ids.of_now v (was_open v is) _ _ knew in
-          (was.0 ∙ sym (same_epoch kept m known), subst (λ (n : ℕ). v.id.number ≤ n) (sym step.given) was.1);
-      log_given = λ v has. given_kept v.id (stands.ids.log_given v has);
-      prepares_given = λ t found v lt is has. given_kept v.id (stands.ids.prepares_given t found v lt (shards_less t found is) has);
-    };
-    flows = record {
-      few = stands.flows.few;
-      slots = stands.flows.slots;
-      ids = stands.flows.ids;
-      held = λ f there. frame shards left left now later false keeps f f.asked f.holds (λ w is. kept_write w) (stands.flows.held f there);
-      seen = stands.flows.seen;
-      quiet = stands.flows.quiet;
-    };
-    told = λ j d lt. verdict_on shards left left now later false keeps _ (stands.told j d lt);
-  }
+  raised = still_stands store shards left left now next now.machine.kept now.machine.horizon on (both_less.0 both_rest.0) nodes_kept
+      (record {
+        log = λ kept m k. same_end kept m k ∙ stands.heads.log _ _ knew;
+        kept = λ kept m k. ap end_of (knows kept m k).0 ∙ stands.heads.kept _ _ knew;
+        horizon = λ kept m k. ap (λ (c : CoordinatorState). c.horizon) (knows kept m k).0 ∙ stands.heads.horizon _ _ knew;
+        whole = λ d g is.
+            let both : up step.durable (step.staged ++ Horizon place ∷ []) ≡ up d g = sym step.now ∙ is in
+            let same : (step.durable ++ step.staged) ++ Horizon place ∷ [] ≡ d ++ g =
+                append_assoc step.durable step.staged (Horizon place ∷ []) ∙ ap (λ (l : List Record). l ++ (step.staged ++ Horizon place ∷ [])) (ap durable_in both) ∙ ap (λ (l : List Record). d ++ l) (ap staged_of both) in
+            subst (λ (l : List Record). Means store shards now.machine.log now.machine.horizon l (at_shards (leaves left next))) same (both_less.1 _ both_rest.1);
+      })
+      (λ t found lt is. stands.listed t found lt (shards_less t found is))
 
 pub raises_stand : (store shards : ℕ) (left : NodeName → List Record → Type 0) → RaisesStand store shards left
 raises_stand store shards left now next place stands step image learned = raised store shards left now next place stands step image learned
