@@ -63,12 +63,15 @@ module _ (shards : ℕ) (left after : NodeName → List Record → Type 0) (now 
     pub taken : opens ≡ false → (x : ℕ) → IsTaken left now x → IsTaken after later x
     pub named : (x : ℕ) → Contains now.named x → Contains later.named x
 
-  -- What a step keeps of a write's prepares. A shard has in doubt what it had; or, where the step may prepare it, its part, whose conditions hold
-  -- where the write is open. Of an open write it has its part if it had it, or was opened since.
+  -- What a shard has in doubt under a write's id: it had it before; or, where the step may prepare the write, it is its part, whose conditions hold where
+  -- the write is open.
+  abbrev pub IsDoubt : Bool → Entry → ℕ → Entry → Type 0
+  IsDoubt prepares w t p = ((old : List Record) × leaves left now.nodes (shard t) old × (find_in_doubt w.id (shard_state old).in_doubt ≡ Some p))
+      ⊎ ((prepares ≡ true) × (takes_part shards t w ≡ true) × (p ≡ part shards t w) × (IsOpen now.nodes w → HoldAfter later.machine.log p.conditions))
+
+  -- What a step keeps of a write's prepares. Of an open write a shard has its part if it had it, or was opened since.
   pub record KeepsDoubts (prepares : Bool) (w : Entry) : Type 0 where
-    pub doubt : (t : ℕ) (found : List Record) (p : Entry) → leaves after later.nodes (shard t) found → find_in_doubt w.id (shard_state found).in_doubt ≡ Some p
-        → ((old : List Record) × leaves left now.nodes (shard t) old × (find_in_doubt w.id (shard_state old).in_doubt ≡ Some p))
-            ⊎ ((prepares ≡ true) × (takes_part shards t w ≡ true) × (p ≡ part shards t w) × (IsOpen now.nodes w → HoldAfter later.machine.log p.conditions))
+    pub doubt : (t : ℕ) (found : List Record) (p : Entry) → leaves after later.nodes (shard t) found → find_in_doubt w.id (shard_state found).in_doubt ≡ Some p → IsDoubt prepares w t p
     pub promised : IsOpen now.nodes w → (t : ℕ) → IsPromised (leaves left now.nodes (shard t)) w.id (part shards t w) → IsPromised (leaves after later.nodes (shard t)) w.id (part shards t w)
     pub knew : (t : ℕ) (memory : ShardState) → ShardKnows later.nodes t memory
         → ((before : ShardState) × ShardKnows now.nodes t before × (before.epoch ≡ memory.epoch)
