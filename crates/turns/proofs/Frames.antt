@@ -100,6 +100,29 @@ module _ (shards : ℕ) (left after : NodeName → List Record → Type 0) (now 
       knew = λ t m k. inl (m, record { durable = k.durable; staged = k.staged; is_up = sym (same t) ∙ k.is_up; replayed = k.replayed }, refl, λ here has. has);
     }
 
+  -- a coordinator that is as it was
+  module _ (same : later.nodes.at coordinator ≡ now.nodes.at coordinator) where
+    pub same_taken : now.machine.horizon ≤ later.machine.horizon → (x : ℕ) → IsTaken left now x → IsTaken after later x
+    same_taken higher x is = ⊎_elim
+        (λ low. inl (omega (arith, low, higher)))
+        (λ rest. ⊎_elim
+        (λ staged. inr (inl (record { durable = staged.durable; staged = staged.staged; is_up = same ∙ staged.is_up; enough = staged.enough })))
+        (λ gone. inr (inr (same ∙ gone)))
+        rest)
+        is
+
+    pub same_knew : now.nodes.given ≤ later.nodes.given → ((j : ℕ) (w : Entry) → slice_get now.machine.log j ≡ Some w → slice_get later.machine.log j ≡ Some w) → opens ≡ false
+        → (kept memory : CoordinatorState) → CoordinatorKnows later.nodes kept memory → KnewBefore memory
+    same_knew given log unopened kept memory k = record {
+      kept = kept;
+      before = memory;
+      knew = record { durable = k.durable; staged = k.staged; is_up = sym same ∙ k.is_up; durable_state = k.durable_state; replayed = k.replayed };
+      epoch = refl;
+      given = given;
+      log = log;
+      unopened = unopened;
+    }
+
   module _ (on : KeepsStore) where
     pub given_on : (id : WriteId) → WasGiven shards left now.nodes id → WasGiven shards after later.nodes id
     given_on id g = record {
@@ -149,16 +172,16 @@ module _ (shards : ℕ) (left after : NodeName → List Record → Type 0) (now 
     resolved_on (undecided id) is = tt
 
     -- of a write whose id was given out
-    module _ (prepares : Bool) (w : Entry) (own : KeepsWrite prepares w) (given : WasGiven shards left now.nodes w.id) where
-      pub undecided_on : IsUndecided shards left now w → IsUndecided shards after later w
-      undecided_on u = record {
-        unlisted = own.unlisted u.unlisted;
+    module _ (prepares : Bool) (w : Entry) (given : WasGiven shards left now.nodes w.id) where
+      pub undecided_on : (IsUnlisted w.id now.machine.log → IsUnlisted w.id later.machine.log) → KeepsDoubts prepares w → IsUndecided shards left now w → IsUndecided shards after later w
+      undecided_on unlisted doubts u = record {
+        unlisted = unlisted u.unlisted;
         given = given_on w.id u.given;
-        exact = λ t found p lt is has. ⊎_elim (λ was. u.exact t was.0 p lt was.1 was.2) (λ new. (new.1, new.2)) (own.doubts.doubt t found p is has);
+        exact = λ t found p lt is has. ⊎_elim (λ was. u.exact t was.0 p lt was.1 was.2) (λ new. (new.1, new.2)) (doubts.doubt t found p is has);
       }
 
-      pub ticket_on : (t : HeldTicket) → IsRightTicket shards left now w t → IsRightTicket shards after later w t
-      ticket_on t k = record {
+      pub ticket_on : KeepsDoubts prepares w → (t : HeldTicket) → IsRightTicket shards left now w t → IsRightTicket shards after later w t
+      ticket_on doubts t k = record {
         own = k.own;
         there = k.there;
         takes = k.takes;
@@ -168,22 +191,22 @@ module _ (shards : ℕ) (left after : NodeName → List Record → Type 0) (now 
             ap (λ (id : WriteId). find_in_doubt id m.in_doubt) k.own ∙ ⊎_elim
             (λ was. was.3 was_here (ap (λ (id : WriteId). find_in_doubt id was.0.in_doubt) (sym k.own) ∙ k.prepared was_here was.0 was.1 (was.2 ∙ same)))
             (λ higher. let above = higher t.epoch k.epoch in absurd (omega (arith, above, same)))
-            (own.doubts.knew t.shard m knows);
+            (doubts.knew t.shard m knows);
       }
 
-      pub vote_on : (v : HeldVote) → IsRightVote shards left now w v → IsRightVote shards after later w v
-      vote_on v k = record {
+      pub vote_on : KeepsDoubts prepares w → (v : HeldVote) → IsRightVote shards left now w v → IsRightVote shards after later w v
+      vote_on doubts v k = record {
         own = k.own;
         there = k.there;
         takes = k.takes;
         prepared = λ here.
             let was_here = on.was_open w given here in
             let was = subst (λ (id : WriteId). IsPromised (leaves left now.nodes (shard v.shard)) id (part shards v.shard w)) k.own (k.prepared was_here) in
-            subst (λ (id : WriteId). IsPromised (leaves after later.nodes (shard v.shard)) id (part shards v.shard w)) (sym k.own) (own.doubts.promised was_here v.shard was);
+            subst (λ (id : WriteId). IsPromised (leaves after later.nodes (shard v.shard)) id (part shards v.shard w)) (sym k.own) (doubts.promised was_here v.shard was);
       }
 
-      pub intent_on : IsUndecided shards left now w → (i : IntentValue) → IsRightIntent shards left now w i → IsRightIntent shards after later w i
-      intent_on u i k = record {
+      pub intent_on : KeepsWrite prepares w → IsUndecided shards left now w → (i : IntentValue) → IsRightIntent shards left now w i → IsRightIntent shards after later w i
+      intent_on own u i k = record {
         own = k.own;
         kept = omega (arith, k.kept, on.kept);
         opened = λ kept m knows same. ⊎_elim
@@ -197,16 +220,16 @@ module _ (shards : ℕ) (left after : NodeName → List Record → Type 0) (now 
             (own.doubts.doubt t found p is has);
       }
 
-      pub decision_on : (d : DecidedValue) → IsRightDecision shards left now w d → IsRightDecision shards after later w d
-      decision_on d k = record {
-        counted = k.counted;
-        epoch = k.epoch;
-        given = given_on w.id given;
-        there = λ kept m knows same. ⊎_elim
-            (λ (was : KnewBefore m). was.log _ w (k.there was.kept was.before was.knew (was.epoch ∙ same)))
-            (λ opened. let above = opened w.id given in let at = k.epoch in absurd (omega (arith, above, same, at)))
-            (on.coordinator_knew kept m knows);
-      }
+    pub decision_on : (w : Entry) (d : DecidedValue) → IsRightDecision shards left now w d → IsRightDecision shards after later w d
+    decision_on w d k = record {
+      counted = k.counted;
+      epoch = k.epoch;
+      given = given_on w.id k.given;
+      there = λ kept m knows same. ⊎_elim
+          (λ (was : KnewBefore m). was.log _ w (k.there was.kept was.before was.knew (was.epoch ∙ same)))
+          (λ opened. let above = opened w.id k.given in let at = k.epoch in absurd (omega (arith, above, same, at)))
+          (on.coordinator_knew kept m knows);
+    }
 
     -- of a flow, which is marked where the coordinator is opened
     module _ (f : Running) where
@@ -218,7 +241,7 @@ module _ (shards : ℕ) (left after : NodeName → List Record → Type 0) (now 
       unmarked false b is = (refl, is)
 
       -- the id of a flow's write was given out, whether it has decided or not
-      own_given : (w : Entry) (h : WriteHolds) → IsRightOwn shards left now f w h → h.decided ≡ f.decided → WasGiven shards left now.nodes w.id
+      pub own_given : (w : Entry) (h : WriteHolds) → IsRightOwn shards left now f w h → h.decided ≡ f.decided → WasGiven shards left now.nodes w.id
       own_given w h k same = by_decided f.decided refl
         where
           by_decided : (o : Option DecidedValue) → f.decided ≡ o → WasGiven shards left now.nodes w.id
@@ -229,11 +252,11 @@ module _ (shards : ℕ) (left after : NodeName → List Record → Type 0) (now 
       own_on w h own same k =
           let given = own_given w h k same in
           record {
-            undecided = λ none. undecided_on false w own given (k.undecided none);
-            intent = λ i is. let old = k.intent i is in (old.0, intent_on false w own given (k.undecided old.0) i old.1);
-            tickets = λ j d lt. ticket_on false w own given _ (k.tickets j d lt);
-            votes = λ j d lt. vote_on false w own given _ (k.votes j d lt);
-            decision = λ d is. decision_on false w own given d (k.decision d is);
+            undecided = λ none. undecided_on false w given own.unlisted own.doubts (k.undecided none);
+            intent = λ i is. let old = k.intent i is in (old.0, intent_on false w given own (k.undecided old.0) i old.1);
+            tickets = λ j d lt. ticket_on false w given own.doubts _ (k.tickets j d lt);
+            votes = λ j d lt. vote_on false w given own.doubts _ (k.votes j d lt);
+            decision = λ d is. decision_on w d (k.decision d is);
             verdict = λ id is. ((k.verdict id is).0, verdict_on id (k.verdict id is).1);
             not_reopened = λ i is not_since. let both = unmarked opens f.is_reopened not_since in own.is_open both.0 (k.not_reopened i is both.1);
             gave = λ way none t found p lt is has. ⊎_elim (λ was. k.gave way none t was.0 p lt was.1 was.2) (λ new. absurd (true≢false (sym new.0))) (own.doubts.doubt t found p is has);

@@ -1,5 +1,5 @@
 -- A stop leaves less, and nodes know what they knew: what a store stands for stays.
-use Rattle.std.proofs.Common.{◌≡◌, inl, inr, ⊎_elim, ℕ, ◌++◌, arith, List, sym, ◌∙◌, ap, ◌<◌, refl, ◌⊎◌}
+use Rattle.std.proofs.Common.{◌≡◌, inl, inr, ⊎_elim, ℕ, ◌++◌, arith, List, sym, ◌∙◌, ap, ◌<◌, refl, ◌⊎◌, false}
 use Rattle.tuples.specs.declared.entry.WriteId.{WriteId}
 use Rattle.records.specs.declared.record.Record.{Record}
 use Rattle.records.specs.Coordinators.{CoordinatorState}
@@ -10,6 +10,7 @@ use Rattle.laws.proofs.LessLeft.{less_rests}
 use Rattle.turns.specs.Moments.{Moment}
 use Rattle.laws.specs.Nodes.{CoordinatorKnows, NodeName, Nodes, ShardKnows, coordinator, down, leaves, shard, up, staged_of, NodeState}
 use Rattle.turns.specs.StagingLaws.{with_nodes}
+use Rattle.turns.proofs.Frames.{same_taken}
 use Rattle.turns.proofs.SameWrites.{SameWrites, still_stands}
 use Rattle.turns.specs.Stands.{NodesStand, Stands, at_shards, ListedStand}
 
@@ -61,15 +62,9 @@ module _ (store shards : ℕ) (left after : NodeName → List Record → Type 0)
     epochs = on.epochs;
     settled = on.settled;
     taken = λ x is. ⊎_elim
-        (λ low. inl low)
-        (λ rest. ⊎_elim
-        (λ same. ⊎_elim
-        (λ staged. inr (inl (record { durable = staged.durable; staged = staged.staged; is_up = same ∙ staged.is_up; enough = staged.enough })))
-        (λ gone. inr (inr (same ∙ gone)))
-        rest)
-        (λ gone. inr (inr gone))
-        on.coordinator_was)
-        is;
+        (λ same. same_taken shards left after now (with_nodes now next) false same (omega arith) x is)
+        (λ gone. ⊎_elim (λ low. inl low) (λ rest. inr (inr gone)) is)
+        on.coordinator_was;
   }
 
   -- what the store stands for stays, where its nodes stand

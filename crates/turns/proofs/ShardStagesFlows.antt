@@ -12,8 +12,8 @@ use Rattle.turns.specs.Held.{IsOpen, IsRight, IsRightOwn, IsRightTicket, IsUndec
 use Rattle.turns.specs.Moments.{Moment, Running}
 use Rattle.turns.specs.StagingLaws.{IsStaging, with_nodes}
 use Rattle.turns.proofs.FlowBegins.{alone}
-use Rattle.turns.proofs.Frames.{IsDoubt, KeepsStore, KeepsWrite, decision_on, frame, intent_on, ticket_on, undecided_on, verdict_on, vote_on}
-use Rattle.turns.proofs.ShardStages.{coordinator_knew, is_open, left_now, longer, memory, memory_left, same_coordinator, same_given, shard_knew, shard_knows, was_open}
+use Rattle.turns.proofs.Frames.{IsDoubt, KeepsStore, KeepsWrite, decision_on, frame, intent_on, same_knew, same_taken, ticket_on, undecided_on, verdict_on, vote_on}
+use Rattle.turns.proofs.ShardStages.{is_open, left_now, longer, memory, memory_left, same_coordinator, same_given, shard_knew, shard_knows, was_open}
 
 module _ (store shards : ℕ) (left : NodeName → List Record → Type 0) (now : Moment) (next : Nodes) (s : ℕ) (r : Record) (st : IsStaging store shards left now next s r) where
   -- What the record leaves of a write: what the shard has in doubt of it now it had before, or the record prepares it, and it is its part, whose
@@ -33,25 +33,12 @@ module _ (store shards : ℕ) (left : NodeName → List Record → Type 0) (now 
     same_log = refl;
     listed = λ j w is. inl is;
     was_open = λ w given. was_open store shards left now next s r st w;
-    coordinator_knew = λ kept m knows. inl (record {
-      kept = kept;
-      before = m;
-      knew = coordinator_knew store shards left now next s r st kept m knows;
-      epoch = refl;
-      given = let same = same_given store shards left now next s r st in omega (arith, same);
-      log = λ j w is. is;
-      unopened = refl;
-    });
+    coordinator_knew = λ kept m knows. inl (same_knew shards left left now (with_nodes now next) false (same_coordinator store shards left now next s r st)
+        (let same = same_given store shards left now next s r st in omega (arith, same)) (λ j w is. is) refl kept m knows);
     given_out = λ id g. g.epoch;
     epochs = λ t epoch is. is;
     settled = λ t place is. is;
-    taken = λ unopened x is. ⊎_elim
-        (λ low. inl low)
-        (λ rest. ⊎_elim
-        (λ staged. inr (inl (record { durable = staged.durable; staged = staged.staged; is_up = same_coordinator store shards left now next s r st ∙ staged.is_up; enough = staged.enough })))
-        (λ gone. inr (inr (same_coordinator store shards left now next s r st ∙ gone)))
-        rest)
-        is;
+    taken = λ unopened. same_taken shards left left now (with_nodes now next) false (same_coordinator store shards left now next s r st) (omega arith);
     named = λ x is. is;
   }
 
@@ -96,13 +83,13 @@ module _ (store shards : ℕ) (left : NodeName → List Record → Type 0) (now 
     pub kept_with_ticket : (f : Running) (h : WriteHolds) (t : HeldTicket) → t.shard ≡ s → IsRightTicket shards left (with_nodes now next) w t → IsUndecided shards left now w → IsRightOwn shards left now f w h
         → IsRightOwn shards left (with_nodes now next) f w (record h { tickets = h.tickets ++ t ∷ [] })
     kept_with_ticket f h t of_shard ticket u k = record {
-      undecided = λ none. undecided_on shards left left now (with_nodes now next) false keeps prepares w keeps_write u.given u;
-      intent = λ i is. ((k.intent i is).0, intent_on shards left left now (with_nodes now next) false keeps prepares w keeps_write u.given u i (k.intent i is).1);
+      undecided = λ none. undecided_on shards left left now (with_nodes now next) false keeps prepares w u.given keeps_write.unlisted keeps_write.doubts u;
+      intent = λ i is. ((k.intent i is).0, intent_on shards left left now (with_nodes now next) false keeps prepares w u.given keeps_write u i (k.intent i is).1);
       tickets = All-append (IsRightTicket shards left (with_nodes now next) w) h.tickets (t ∷ [])
-          (λ j d lt. ticket_on shards left left now (with_nodes now next) false keeps prepares w keeps_write u.given _ (k.tickets j d lt))
+          (λ j d lt. ticket_on shards left left now (with_nodes now next) false keeps prepares w u.given keeps_write.doubts _ (k.tickets j d lt))
           (All-cons (IsRightTicket shards left (with_nodes now next) w) t [] ticket (All-nil (IsRightTicket shards left (with_nodes now next) w)));
-      votes = λ j d lt. vote_on shards left left now (with_nodes now next) false keeps prepares w keeps_write u.given _ (k.votes j d lt);
-      decision = λ d is. decision_on shards left left now (with_nodes now next) false keeps prepares w keeps_write u.given d (k.decision d is);
+      votes = λ j d lt. vote_on shards left left now (with_nodes now next) false keeps prepares w u.given keeps_write.doubts _ (k.votes j d lt);
+      decision = λ d is. decision_on shards left left now (with_nodes now next) false keeps w d (k.decision d is);
       verdict = λ id is. ((k.verdict id is).0, verdict_on shards left left now (with_nodes now next) false keeps id (k.verdict id is).1);
       not_reopened = λ i is not_since. is_open store shards left now next s r st w (k.not_reopened i is not_since);
       gave = λ way none j found p lt is has. ⊎_elim
