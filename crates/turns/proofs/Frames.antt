@@ -154,7 +154,7 @@ module _ (shards : ℕ) (left after : NodeName → List Record → Type 0) (now 
     listed_still : (j : ℕ) (w : Entry) → j < now.machine.kept → slice_get now.machine.log j ≡ Some w → slice_get later.machine.log j ≡ Some w
     listed_still j w lt is = slice_get_taken now.machine.kept later.machine.log j w (ap (λ (l : List Entry). slice_get l j) (sym on.same_log) ∙ taken_there now.machine.kept now.machine.log j w lt is)
 
-    batch_on : (b : BatchValue) → IsRightBatch now.machine b → IsRightBatch later.machine b
+    pub batch_on : (b : BatchValue) → IsRightBatch now.machine b → IsRightBatch later.machine b
     batch_on b is = record {
       kept = omega (arith, is.kept, on.kept);
       within = omega (arith, is.within, is.kept, on.kept);
