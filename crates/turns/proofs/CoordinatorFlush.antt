@@ -34,11 +34,6 @@ module _ (store shards : ℕ) (left after : NodeName → List Record → Type 0)
   knew : CoordinatorKnows now.nodes (coordinator_state flush.durable) (coordinator_state (flush.durable ++ flush.staged))
   knew = record { durable = flush.durable; staged = flush.staged; is_up = flush.was; durable_state = refl; replayed = refl }
 
-  knew_only : (kept m : CoordinatorState) → CoordinatorKnows now.nodes kept m → m ≡ coordinator_state (flush.durable ++ flush.staged)
-  knew_only kept m k =
-      let both : up k.durable k.staged ≡ up flush.durable flush.staged = sym k.is_up ∙ flush.was in
-      k.replayed ∙ ap (λ (l : List Record). coordinator_state (l ++ k.staged)) (ap durable_in both) ∙ ap (λ (l : List Record). coordinator_state (flush.durable ++ l)) (ap staged_of both)
-
   knows : (kept m : CoordinatorState) → CoordinatorKnows next kept m → (kept ≡ coordinator_state (flush.durable ++ flush.staged)) × (m ≡ coordinator_state (flush.durable ++ flush.staged))
   knows kept m k =
       let both : up k.durable k.staged ≡ up (flush.durable ++ flush.staged) [] = sym k.is_up ∙ flush.now in (

@@ -40,9 +40,6 @@ epoch_stays s (Decision place v ∷ rs) none = epoch_stays (coordinator_step s (
 epoch_stays s (Horizon place ∷ rs) none = epoch_stays (coordinator_step s (Horizon place)) rs (λ a b c d has. none a b c d (Contains-append_right (Horizon place ∷ []) rs (Epoch a b c d) has))
 
 module _ (store shards : ℕ) (left : NodeName → List Record → Type 0) (now : Moment) (next : Nodes) (place : ℕ) (w : Entry) (st : IsDeciding store shards left now next place w) where
-  records : List Record
-  records = st.step.durable ++ st.step.staged
-
   after : coordinator_state ((st.step.durable ++ st.step.staged) ++ Decision place w ∷ []) ≡ coordinator_step (coordinator_state (st.step.durable ++ st.step.staged)) (Decision place w)
   after = coordinator_push (st.step.durable ++ st.step.staged) (Decision place w)
 

@@ -36,11 +36,6 @@ module _ (store shards : ℕ) (left : NodeName → List Record → Type 0) (now 
   knew : CoordinatorKnows now.nodes (coordinator_state step.durable) (coordinator_state (step.durable ++ step.staged))
   knew = record { durable = step.durable; staged = step.staged; is_up = step.was; durable_state = refl; replayed = refl }
 
-  knew_only : (kept m : CoordinatorState) → CoordinatorKnows now.nodes kept m → m ≡ coordinator_state (step.durable ++ step.staged)
-  knew_only kept m k =
-      let both : up k.durable k.staged ≡ up step.durable step.staged = sym k.is_up ∙ step.was in
-      k.replayed ∙ ap (λ (l : List Record). coordinator_state (l ++ k.staged)) (ap durable_in both) ∙ ap (λ (l : List Record). coordinator_state (step.durable ++ l)) (ap staged_of both)
-
   knows : (kept m : CoordinatorState) → CoordinatorKnows next kept m → (kept ≡ coordinator_state step.durable) × (m ≡ coordinator_step (coordinator_state (step.durable ++ step.staged)) (Horizon place))
   knows kept m k =
       let both : up k.durable k.staged ≡ up step.durable (step.staged ++ Horizon place ∷ []) = sym k.is_up ∙ step.now in (
