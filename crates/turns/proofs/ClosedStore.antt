@@ -30,9 +30,6 @@ nothing_has : {X : Type 0} {x : X} → Contains [] x → ⊥
 nothing_has has = omega (arith, has.1)
 
 module _ (store shards : ℕ) (left after : NodeName → List Record → Type 0) (m : Machine) (found : List Record) (rests : Rests store shards m.log m.kept m.horizon (left coordinator) (at_shards left)) (finds : FindsCoordinator left after found) where
-  abbrev n : ℕ
-  n = end_of (coordinator_state found)
-
   abbrev stops : List Record → Type 0
   stops = leaves after closed_nodes coordinator
 

@@ -24,7 +24,7 @@ use Rattle.laws.proofs.CoordinatorStates.{coordinator_last, coordinator_push}
 use Rattle.laws.proofs.CoordinatorSteps.{restarts_rest}
 use Rattle.turns.proofs.FailedFlush.{CoordinatorStands, nodes_stand, nothing_known}
 use Rattle.laws.proofs.LessLeft.{horizon_rises, less_rests, raised_means}
-use Rattle.turns.proofs.CoordinatorOpeningFlows.{Renews, ids_kept, kept_flow, locks_kept, shard_less, verdict_kept}
+use Rattle.turns.proofs.CoordinatorOpeningFlows.{Renews, ids_kept, kept_flow, left_before, locks_kept, verdict_kept}
 use Rattle.turns.proofs.ShardStages.{durable_in}
 use Rattle.turns.proofs.StopInside.{rests_within}
 use Rattle.records.specs.Replays.{shard_state}
@@ -60,7 +60,7 @@ module _ (store shards : ℕ) (left after : NodeName → List Record → Type 0)
     held = λ q has.
         let a = marked_there now.running q has in
         subst (λ (x : Running). IsRight shards after (with_restart now next m) x x.asked x.holds) a.2
-        (kept_flow store shards left after now next m n re (reopened now.running) a.0 a.0.asked a.0.holds (re.stands.flows.held a.0 a.1));
+        (kept_flow store shards left after now next m n re (reopened now.running) a.0 (re.stands.flows.held a.0 a.1));
     seen = λ q has p there.
         let a = marked_there now.running q has in
         let was = re.stands.flows.seen a.0 a.1 p (subst (λ (x : Running). Contains x.seen p) (sym a.2) there) in
@@ -130,7 +130,7 @@ module _ (store shards : ℕ) (left after : NodeName → List Record → Type 0)
       (refuses_it.here is.0 is.1)
 
   rests : Rests store shards now.machine.log now.machine.kept now.machine.horizon (leaves after next coordinator) (at_shards (leaves after next))
-  rests = rests_within store shards left now.nodes (at_shards (leaves after next)) (λ t rs is. inl (shard_less store shards left after now next now.machine (length now.machine.log) renews now.running t rs is))
+  rests = rests_within store shards left now.nodes (at_shards (leaves after next)) (λ t rs is. inl (left_before store shards left after now next now.machine (length now.machine.log) renews now.running t rs is))
       now.machine.log now.machine.kept now.machine.horizon (leaves after next coordinator) stands.rests at_coordinator
 
   refused_stands : Stands store shards after (with_restart now next now.machine)
@@ -141,7 +141,7 @@ module _ (store shards : ℕ) (left after : NodeName → List Record → Type 0)
         rests = rests;
         nodes = nodes_stand store shards left after now next stands refuses_it.unchanged refuses_it.same none.0;
         heads = none.1;
-        listed = λ t rs lt is. stands.listed t rs lt (shard_less store shards left after now next now.machine n renews now.running t rs is);
+        listed = λ t rs lt is. stands.listed t rs lt (left_before store shards left after now next now.machine n renews now.running t rs is);
         locks = locks_kept store shards left after now next now.machine n renews (reopened now.running);
         ids = ids_kept store shards left after now next now.machine n renews (reopened now.running);
         flows = flows_marked store shards left after now next now.machine n renews;
@@ -231,7 +231,7 @@ module _ (store shards : ℕ) (left after : NodeName → List Record → Type 0)
   }
 
   shards_less : (t : ℕ) (rs : List Record) → leaves after next (shard t) rs → leaves left now.nodes (shard t) rs
-  shards_less = shard_less store shards left after now next m (end_of (coordinator_state opens.found)) renewed now.running
+  shards_less = left_before store shards left after now next m (end_of (coordinator_state opens.found)) renewed now.running
 
   rests_now : Rests store shards m.log m.kept m.horizon (leaves after next coordinator) (at_shards (leaves after next))
   rests_now =

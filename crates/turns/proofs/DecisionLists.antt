@@ -1,17 +1,11 @@
 -- The coordinator of a store that stands stages a decision: what is known of the nodes then.
-use Rattle.std.proofs.Common.{◌≡◌, ◌≢◌, ⊎_elim, ℕ, zero, suc, ◌-◌, ◌≤◌, false, List, [], ◌∷◌, ◌++◌, length, take, drop, Some, Contains, refl, sym, ◌∙◌, ap, arith, slice_get}
-use Rattle.std.proofs.Math.Path.{fun_ext}
-use Rattle.std.specs.List.{flat_map}
+use Rattle.std.proofs.Common.{◌≡◌, ◌≢◌, ⊎_elim, ℕ, zero, suc, ◌≤◌, false, List, [], ◌∷◌, ◌++◌, length, Some, Contains, refl, sym, ◌∙◌, ap, arith, slice_get}
 use Rattle.std.proofs.lemmas.Bool.{cases_Bool, both_ways}
-use Rattle.std.proofs.lemmas.List.{drop-append-le, length-drop, take-append-le}
 use Rattle.tuples.specs.declared.entry.Entry.{Entry}
 use Rattle.tuples.specs.declared.entry.WriteId.{WriteId}
-use Rattle.tuples.specs.Log.{AreNew, is_at, same_id, there_after}
-use Rattle.decisions.specs.Values.{BatchValue}
+use Rattle.tuples.specs.Log.{AreNew, same_id}
 use Rattle.records.specs.Replays.{without}
 use Rattle.replay.proofs.Doubts.{same_id_refl, same_id_true}
-use Rattle.turns.specs.Held.{IsRightBatch}
-use Rattle.laws.specs.Machines.{Machine}
 use Rattle.laws.proofs.Locks.{of_without}
 use Rattle.turns.proofs.ShardStagesStands.{contained_at, contained_from}
 
@@ -19,22 +13,6 @@ pub slice_get_longer : {X : Type 0} (xs ys : List X) (i : ℕ) (x : X) → slice
 slice_get_longer [] ys i x is = absurd cc
 slice_get_longer (y ∷ xs) ys zero x is = is
 slice_get_longer (y ∷ xs) ys (suc i) x is = slice_get_longer xs ys i x is
-
--- what is there at a place of the log is there with one write more
-pub same_at : (log : List Entry) (w : Entry) (s : ℕ) → s ≤ length log → is_at log s ≡ is_at (log ++ w ∷ []) s
-unfolding is_at
-same_at log w s le = fun_ext (λ t. ap (λ (l : List Entry). there_after t false (flat_map (λ (v : Entry). v.changes) l)) (sym (take-append-le s log (w ∷ []) le)))
-
-pub batch_longer : (m : Machine) (w : Entry) (b : BatchValue) → m.kept ≤ length m.log → IsRightBatch m b → IsRightBatch (record m { log = m.log ++ w ∷ [] }) b
-batch_longer m w b within is = record {
-  kept = is.kept;
-  within = is.within;
-  writes =
-      let le : b.from ≤ length m.log = omega (arith, is.kept, within) in
-      let size : length (drop b.from m.log) ≡ length m.log - b.from = length-drop b.from m.log in
-      let few : length b.writes ≤ length (drop b.from m.log) = omega (arith, is.within, is.kept, within, size) in
-      is.writes ∙ sym (take-append-le (length b.writes) (drop b.from m.log) (w ∷ []) few) ∙ ap (take (length b.writes)) (sym (drop-append-le b.from m.log (w ∷ []) le));
-}
 
 -- a write that stays among those without one
 pub stays_without : (id : WriteId) (ws : List Entry) (v : Entry) → v.id ≢ id → Contains ws v → Contains (without id ws) v

@@ -1,6 +1,6 @@
 -- The coordinator of a store that stands stages a decision: what the nodes know then.
-use Rattle.std.proofs.Common.{◌≡◌, ◌≢◌, ◌⊎◌, inl, inr, ⊎_elim, ℕ, ◌+◌, ◌<◌, ◌≤◌, List, [], ◌∷◌, ◌++◌, length, Contains, refl, sym, ◌∙◌, ap, subst, arith, append_assoc}
-use Rattle.std.proofs.lemmas.List.{length_push}
+use Rattle.std.proofs.Common.{◌≡◌, ◌≢◌, ◌⊎◌, inl, inr, ⊎_elim, ℕ, ◌+◌, ◌≤◌, List, [], ◌∷◌, ◌++◌, length, Contains, refl, sym, ◌∙◌, ap, subst, arith, append_assoc, false}
+use Rattle.std.proofs.lemmas.List.{length_push, take-append-le}
 use Rattle.std.proofs.lemmas.List.Elements.{Contains-append_right, Contains-push_cases}
 use Rattle.tuples.specs.declared.entry.Entry.{Entry}
 use Rattle.tuples.specs.declared.entry.WriteId.{WriteId}
@@ -8,17 +8,18 @@ use Rattle.tuples.specs.Log.{AreNew}
 use Rattle.records.specs.declared.record.Record.{Record}
 use Rattle.records.specs.declared.record.Record.TheVariants.{Decision, Dropped, Epoch, Horizon, Learned, Prepare}
 use Rattle.records.specs.Coordinators.{CoordinatorState, coordinator_from, coordinator_state, coordinator_step, empty_coordinator, end_of}
-use Rattle.records.specs.Replays.{ShardState, without, shard_state}
+use Rattle.records.specs.Replays.{without, shard_state}
 use Rattle.turns.specs.DecidingLaws.{IsDeciding, with_decision, with_write}
 use Rattle.turns.specs.Held.{IsOpen, IsRightVerdict, WasGiven}
 use Rattle.laws.specs.LogLaws.{IsUnlisted}
 use Rattle.turns.specs.Moments.{Moment}
-use Rattle.laws.specs.Nodes.{CoordinatorKnows, NodeName, NodeState, Nodes, ShardKnows, coordinator, leaves, refused, shard, staged_of, up, IsOfRefusedOpening}
+use Rattle.laws.specs.Nodes.{CoordinatorKnows, NodeName, NodeState, Nodes, coordinator, leaves, refused, shard, staged_of, up, IsOfRefusedOpening, down}
 use Rattle.turns.specs.Stands.{HeadsStand, IdsStand, LocksStand, NodesStand, at_shards, ListedStand}
 use Rattle.laws.specs.Worlds.{Means, Rests}
 use Rattle.laws.proofs.CoordinatorStates.{coordinator_from-append, coordinator_push}
 use Rattle.laws.proofs.CoordinatorSteps.{decisions_rest}
-use Rattle.turns.proofs.DecisionLists.{few_still, new_without, other_without}
+use Rattle.turns.proofs.Frames.{IsTaken, KeepsStore, given_on, shard_less, verdict_on}
+use Rattle.turns.proofs.DecisionLists.{slice_get_longer, few_still, new_without, other_without}
 use Rattle.laws.proofs.LessLeft.{less_rests}
 use Rattle.laws.proofs.Lists.{slice_get_push}
 use Rattle.laws.proofs.Locks.{of_without}
@@ -39,9 +40,6 @@ epoch_stays s (Decision place v ∷ rs) none = epoch_stays (coordinator_step s (
 epoch_stays s (Horizon place ∷ rs) none = epoch_stays (coordinator_step s (Horizon place)) rs (λ a b c d has. none a b c d (Contains-append_right (Horizon place ∷ []) rs (Epoch a b c d) has))
 
 module _ (store shards : ℕ) (left : NodeName → List Record → Type 0) (now : Moment) (next : Nodes) (place : ℕ) (w : Entry) (st : IsDeciding store shards left now next place w) where
-  records : List Record
-  records = st.step.durable ++ st.step.staged
-
   after : coordinator_state ((st.step.durable ++ st.step.staged) ++ Decision place w ∷ []) ≡ coordinator_step (coordinator_state (st.step.durable ++ st.step.staged)) (Decision place w)
   after = coordinator_push (st.step.durable ++ st.step.staged) (Decision place w)
 
@@ -65,10 +63,7 @@ module _ (store shards : ℕ) (left : NodeName → List Record → Type 0) (now 
   same_epoch kept m k = ap (λ (c : CoordinatorState). c.epoch) (knows_now kept m k).1
 
   pub shard_left : (t : ℕ) (found : List Record) → leaves left next (shard t) found → leaves left now.nodes (shard t) found
-  shard_left t found is = (is.0, is.1, ⊎_elim (λ plain. inl plain) (λ more. inr (more ∙ ap (λ (n : NodeState). is.0 ++ staged_of n) (st.step.shards t))) is.2)
-
-  pub shard_knew : (t : ℕ) (m : ShardState) → ShardKnows next t m → ShardKnows now.nodes t m
-  shard_knew t m k = record { durable = k.durable; staged = k.staged; is_up = sym (st.step.shards t) ∙ k.is_up; replayed = k.replayed }
+  shard_left = shard_less shards left left now (with_decision now next w) false st.step.shards (λ t rs is. is)
 
   coordinator_left : (found : List Record) → leaves left next coordinator found → leaves left now.nodes coordinator found ⊎ (found ≡ (st.step.durable ++ st.step.staged) ++ Decision place w ∷ [])
   coordinator_left found is = ⊎_elim
@@ -89,27 +84,55 @@ module _ (store shards : ℕ) (left : NodeName → List Record → Type 0) (now 
       let old = of_without w.id now.nodes.open_writes at.0 v at.1 in
       (contained_from now.nodes.open_writes old.0 v old.1, other_without w.id now.nodes.open_writes v has)
 
-  pub given_kept : (id : WriteId) → WasGiven shards left now.nodes id → WasGiven shards left next id
-  given_kept id g = record {
-    epoch = g.epoch;
-    now = λ kept m k.
-        let was = g.now (coordinator_state st.step.durable) (coordinator_state (st.step.durable ++ st.step.staged)) knew in
-        let same = same_epoch kept m k in
-        ⊎_elim
-        (λ (earlier : id.epoch < (coordinator_state (st.step.durable ++ st.step.staged)).epoch). inl (subst (λ (n : ℕ). id.epoch < n) (sym same) earlier))
-        (λ of_now. inr (of_now.0 ∙ sym same, subst (λ (n : ℕ). id.number ≤ n) (sym st.step.given) of_now.1))
-        was;
+  -- a decision leaves the horizon that the coordinator knows
+  pub same_horizon : (coordinator_state (st.step.durable ++ st.step.staged)).horizon ≡ (coordinator_state (st.step.durable ++ (st.step.staged ++ Decision place w ∷ []))).horizon
+  unfolding coordinator_step
+  same_horizon = sym (ap (λ (c : CoordinatorState). c.horizon) (ap coordinator_state (sym (append_assoc st.step.durable st.step.staged (Decision place w ∷ []))) ∙ coordinator_push (st.step.durable ++ st.step.staged) (Decision place w)))
+
+  -- a raise that was taken still is
+  still_taken : (x : ℕ) → IsTaken shards left left now (with_decision now next w) false left now x → IsTaken shards left left now (with_decision now next w) false left (with_decision now next w) x
+  still_taken x is = ⊎_elim
+      (λ low. inl low)
+      (λ rest. ⊎_elim
+      (λ found.
+      let both : up found.durable found.staged ≡ up st.step.durable st.step.staged = sym found.is_up ∙ st.step.was in
+      let was : x ≤ (coordinator_state (st.step.durable ++ st.step.staged)).horizon = subst (λ (l : NodeState). x ≤ (coordinator_state (durable_in l ++ staged_of l)).horizon) both found.enough in
+      inr (inl (record { durable = st.step.durable; staged = st.step.staged ++ Decision place w ∷ []; is_up = st.step.now; enough = subst (λ (k : ℕ). x ≤ k) same_horizon was })))
+      (λ gone. let both : up st.step.durable st.step.staged ≡ down = sym st.step.was ∙ gone in absurd cc)
+      rest)
+      is
+
+  pub keeps : KeepsStore shards left left now (with_decision now next w) false
+  keeps = record {
+    kept = omega arith;
+    horizon = omega arith;
+    same_log = sym (take-append-le now.machine.kept now.machine.log (w ∷ []) st.stands.rests.within);
+    listed = λ j v is. ⊎_elim (λ old. inl old) (λ new. inr (subst (IsOpen now.nodes) new.1 st.is_open)) (slice_get_push now.machine.log w v j is);
+    was_open = λ v given here. (was_open v here).0;
+    coordinator_knew = λ kept m k. inl (record {
+      kept = coordinator_state st.step.durable;
+      before = coordinator_state (st.step.durable ++ st.step.staged);
+      knew = knew;
+      epoch = sym (same_epoch kept m k);
+      given = omega (arith, st.step.given);
+      log = slice_get_longer now.machine.log (w ∷ []);
+      unopened = refl;
+    });
+    given_out = λ id g. g.epoch;
+    epochs = λ t epoch is. is;
+    settled = λ t p is. is;
+    taken = λ unopened. still_taken;
+    named = λ x is. is;
   }
+
+  pub given_kept : (id : WriteId) → WasGiven shards left now.nodes id → WasGiven shards left next id
+  given_kept = given_on shards left left now (with_decision now next w) false keeps
+
+  pub verdict_kept : (id : WriteId) → IsRightVerdict shards left now id → IsRightVerdict shards left (with_decision now next w) id
+  verdict_kept = verdict_on shards left left now (with_decision now next w) false keeps
 
   pub unlisted_longer : (id : WriteId) → id ≢ w.id → IsUnlisted id now.machine.log → IsUnlisted id (now.machine.log ++ w ∷ [])
   unlisted_longer id ne unlisted j v is same = ⊎_elim (λ old. unlisted j v old same) (λ new. ne (same ∙ ap (λ (e : Entry). e.id) (sym new.1))) (slice_get_push now.machine.log w v j is)
-
-  pub verdict_kept : (id : WriteId) → IsRightVerdict shards left now id → IsRightVerdict shards left (with_decision now next w) id
-  verdict_kept id v = record {
-    given = given_kept id v.given;
-    closed = λ x is. v.closed x (was_open x is).0;
-    none = λ j x is above same. ⊎_elim (λ old. v.none j x old above same) (λ new. v.closed w st.is_open (sym (same ∙ ap (λ (e : Entry). e.id) (sym new.1)))) (slice_get_push now.machine.log w x j is);
-  }
 
   -- what the coordinator knew
   pub knew_only : (kept m : CoordinatorState) → CoordinatorKnows now.nodes kept m → m ≡ coordinator_state (st.step.durable ++ st.step.staged)
@@ -201,11 +224,6 @@ module _ (store shards : ℕ) (left : NodeName → List Record → Type 0) (now 
   listed_kept t found lt is =
       let was = shard_left t found is in
       listed_means shards t now.machine.log w now.machine.horizon now.machine.horizon (shard_state found) (st.prepared t found lt was) (st.stands.listed t found lt was)
-
-  -- a decision leaves the horizon that the coordinator knows
-  pub same_horizon : (coordinator_state (st.step.durable ++ st.step.staged)).horizon ≡ (coordinator_state (st.step.durable ++ (st.step.staged ++ Decision place w ∷ []))).horizon
-  unfolding coordinator_step
-  same_horizon = sym (ap (λ (c : CoordinatorState). c.horizon) (ap coordinator_state (sym (append_assoc st.step.durable st.step.staged (Decision place w ∷ []))) ∙ coordinator_push (st.step.durable ++ st.step.staged) (Decision place w)))
 
   pub locks_kept : LocksStand store shards left next
   locks_kept t found lt is = st.stands.locks t found lt (shard_left t found is)

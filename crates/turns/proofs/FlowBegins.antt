@@ -3,23 +3,18 @@ use Rattle.std.proofs.Common.{◌≡◌, ◌⊎◌, inl, inr, ⊎_elim, ◌==◌
 use Rattle.std.proofs.lemmas.Bool.{eq-eqb}
 use Rattle.std.proofs.lemmas.List.Elements.{All-nil, Contains-append_cases, Contains-append_right}
 use Rattle.std.proofs.lemmas.Option.{same_Some}
-use Rattle.tuples.specs.declared.change.Change.{Change}
-use Rattle.tuples.specs.declared.change.Condition.{Condition}
 use Rattle.tuples.specs.declared.entry.Entry.{Entry}
 use Rattle.tuples.specs.declared.entry.WriteId.{WriteId}
 use Rattle.tuples.specs.declared.object.Userset.{Userset}
 use Rattle.refusal.specs.declared.refusal.Refusal.{Refusal}
-use Rattle.tuples.specs.declared.tupleset.Tupleset.{Tupleset}
-use Rattle.tuples.specs.declared.user.User.{User}
 use Rattle.records.specs.declared.record.Record.{Record}
-use Rattle.decisions.specs.Values.{IntentValue}
-use Rattle.decisions.specs.Standing.{DecidedValue}
 use Rattle.laws.specs.Nodes.{NodeName}
-use Rattle.turns.specs.Flows.{Freshness, Asked, HeldTicket, HeldVote, onward, outward, WriteHolds, ReadHolds, CheckHolds, HeadsHeld, RaiseHolds, ResolveHolds, Resolved, committed, aborted, undecided, Holds, writing, reading, checking, watching, flushing, learning, resolving, raising, collecting, nothing_held, id_of, to_write, to_read, to_check, to_watch, to_flush, to_learn, to_resolve, to_raise, to_collect}
+use Rattle.turns.specs.Flows.{Asked, onward, outward, nothing_held, id_of, to_write, to_read, to_check, to_watch, to_flush, to_learn, to_resolve, to_raise, to_collect}
 use Rattle.turns.specs.FlowLaws.{FlowsBegin, with_flow}
-use Rattle.turns.specs.Held.{AreHeldHeads, IsRight, IsRightCheck, IsRightDecision, IsRightIntent, IsRightOwn, IsRightRaise, IsRightRead, IsRightResolve, IsRightResolved, IsRightSettled, IsRightTicket, IsRightVerdict, IsRightVote, IsRightWrite, IsUndecided, own_write}
+use Rattle.turns.specs.Held.{AreHeldHeads, IsRight, IsRightResolved, IsRightSettled, IsRightVerdict}
 use Rattle.turns.specs.Moments.{Moment, Running, begun, flow_at}
 use Rattle.turns.specs.Runs.{named_by}
+use Rattle.turns.proofs.Frames.{KeepsStore, KeepsWrite, frame, same_doubts, same_knew}
 use Rattle.turns.specs.Stands.{HasSeenBelow, IsQuietFlow}
 
 module _ (shards : ℕ) (left : NodeName → List Record → Type 0) (now : Moment) (running : List Running) (told : List WriteId) (named : List ℕ) where
@@ -30,91 +25,32 @@ module _ (shards : ℕ) (left : NodeName → List Record → Type 0) (now : Mome
   pub same_verdict : (id : WriteId) → IsRightVerdict shards left now id → IsRightVerdict shards left next id
   same_verdict id v = record { given = v.given; closed = v.closed; none = v.none }
 
-  same_undecided : (w : Entry) → IsUndecided shards left now w → IsUndecided shards left next w
-  same_undecided w u = record { unlisted = u.unlisted; given = u.given; exact = u.exact }
+  -- What a flow holds stays right while the machine and the nodes are the same.
+  pub same_right : (r : Running) → ((x : ℕ) → Contains now.named x → Contains named x) → IsRight shards left now r r.asked r.holds → IsRight shards left next r r.asked r.holds
+  same_right r more = frame shards left left now next false keeps r r.asked r.holds (λ w is. keeps_write w)
+    where
+      keeps : KeepsStore shards left left now next false
+      keeps = record {
+        kept = omega arith;
+        horizon = omega arith;
+        same_log = refl;
+        listed = λ j w is. inl is;
+        was_open = λ w given is. is;
+        coordinator_knew = λ kept memory knows. inl (same_knew shards left left now next false refl (omega arith) (λ j w is. is) refl kept memory knows);
+        given_out = λ id g. g.epoch;
+        epochs = λ t epoch is. is;
+        settled = λ t place is. is;
+        taken = λ unopened x is. is;
+        named = more;
+      }
 
-  same_ticket : (w : Entry) (t : HeldTicket) → IsRightTicket shards left now w t → IsRightTicket shards left next w t
-  same_ticket w t k = record { own = k.own; there = k.there; takes = k.takes; epoch = k.epoch; prepared = k.prepared }
-
-  same_vote : (w : Entry) (v : HeldVote) → IsRightVote shards left now w v → IsRightVote shards left next w v
-  same_vote w v k = record { own = k.own; there = k.there; takes = k.takes; prepared = k.prepared }
-
-  same_intent : (w : Entry) (i : IntentValue) → IsRightIntent shards left now w i → IsRightIntent shards left next w i
-  same_intent w i k = record { own = k.own; kept = k.kept; opened = k.opened; conditions = k.conditions }
-
-  same_decision : (w : Entry) (d : DecidedValue) → IsRightDecision shards left now w d → IsRightDecision shards left next w d
-  same_decision w d k = record { counted = k.counted; epoch = k.epoch; given = k.given; there = k.there }
-
-  module _ (r : Running) where
-    same_own : (w : Entry) (h : WriteHolds) → IsRightOwn shards left now r w h → IsRightOwn shards left next r w h
-    same_own w h k = record {
-      undecided = λ none. same_undecided w (k.undecided none);
-      intent = λ i is. let right = k.intent i is in (right.0, same_intent w i right.1);
-      tickets = λ j d lt. same_ticket w (slice_index_or h.tickets j d) (k.tickets j d lt);
-      votes = λ j d lt. same_vote w (slice_index_or h.votes j d) (k.votes j d lt);
-      decision = λ d is. same_decision w d (k.decision d is);
-      verdict = λ id is. let right = k.verdict id is in (right.0, same_verdict id right.1);
-      not_reopened = k.not_reopened;
-      gave = k.gave;
-    }
-
-    same_write : (changes : List Change) (conditions : List Condition) (h : WriteHolds) → IsRightWrite shards left now r changes conditions h → IsRightWrite shards left next r changes conditions h
-    same_write changes conditions h k = record {
-      nothing = k.nothing;
-      own = λ id is. same_own (own_write id changes conditions) h (k.own id is);
-      same_decision = k.same_decision;
-      batch = k.batch;
-      out = k.out;
-      cancelled = k.cancelled;
-      refused_or_cancelled = k.refused_or_cancelled;
-    }
-
-    same_read : (fresh : Freshness) (sets : List Tupleset) (h : ReadHolds) → IsRightRead shards left now r fresh sets h → IsRightRead shards left next r fresh sets h
-    same_read fresh sets h k = record { heads = k.heads; place = k.place; done = k.done; few = k.few; rows = k.rows; nothing = k.nothing; batch = k.batch }
-
-    same_check : (fresh : Freshness) (x : Userset) (u : User) (h : CheckHolds) → IsRightCheck shards left now r fresh x u h → IsRightCheck shards left next r fresh x u h
-    same_check fresh x u h k = record {
-      heads = k.heads;
-      place = k.place;
-      nothing = k.nothing;
-      asked = k.asked;
-      once = k.once;
-      reached = k.reached;
-      none = k.none;
-      further = k.further;
-      batch = k.batch;
-    }
-
-    same_heads : (h : HeadsHeld) → AreHeldHeads shards left now r h → AreHeldHeads shards left next r h
-    same_heads h k = record { heads = k.heads; batch = k.batch }
-
-    same_resolved : (f : Resolved) → IsRightResolved shards left now f → IsRightResolved shards left next f
-    same_resolved (committed id p) k = k
-    same_resolved (aborted id) k = same_verdict id k
-    same_resolved (undecided id) k = tt
-
-    same_resolve : (h : ResolveHolds) → IsRightResolve shards left now h → IsRightResolve shards left next h
-    same_resolve h k = record {
-      found = λ j d lt. same_resolved (slice_index_or h.found j d) (k.found j d lt);
-      verdict = λ id is. same_verdict id (k.verdict id is);
-      batch = k.batch;
-    }
-
-    same_raise : ((x : ℕ) → Contains now.named x → Contains named x) → (x : ℕ) (h : RaiseHolds) → IsRightRaise shards left now r x h → IsRightRaise shards left next r x h
-    same_raise more x h k = record { named = more x k.named; heads = k.heads; settled = k.settled; batch = k.batch; raised = k.raised }
-
-    -- What a flow holds stays right while the machine and the nodes are the same.
-    pub same_right : ((x : ℕ) → Contains now.named x → Contains named x) → (asked : Asked) (holds : Holds) → IsRight shards left now r asked holds → IsRight shards left next r asked holds
-    same_right more (to_write changes conditions) (writing h) k = same_write changes conditions h k
-    same_right more (to_read fresh sets) (reading h) k = same_read fresh sets h k
-    same_right more (to_check fresh x u) (checking h) k = same_check fresh x u h k
-    same_right more (to_watch c limit names) (watching h) k = same_heads h k
-    same_right more (to_flush n) flushing k = tt
-    same_right more (to_learn s) (learning h) k = same_heads h k
-    same_right more (to_resolve s) (resolving h) k = same_resolve h k
-    same_right more (to_raise x) (raising h) k = same_raise more x h k
-    same_right more (to_collect s) (collecting h) k = same_heads h k
-    same_right more asked holds k = absurd k
+      keeps_write : (w : Entry) → KeepsWrite shards left left now next false false w
+      keeps_write w = record {
+        is_open = λ unopened is. is;
+        unlisted = λ is. is;
+        conditions = λ u here t found p lt is has hold. hold;
+        doubts = same_doubts shards left left now next false (λ t. refl) (λ t rs is. is) w;
+      }
 
 no_value : {X : Type 0} {x : X} → None ≡ Some x → ⊥
 no_value is = cc
@@ -232,7 +168,7 @@ flows_begin store shards left now slot asked free few st = record {
     ids = ids;
     held = λ r has. ⊎_elim
         (λ new. subst (λ (q : Running). IsRight shards left (with_flow now slot asked) q q.asked q.holds) new (begun_right store shards left now slot asked))
-        (λ old. same_right shards left now (begun slot asked ∷ now.running) now.told (named_by asked ++ now.named) r (λ x is. Contains-append_right (named_by asked) now.named x is) r.asked r.holds (st.flows.held r old))
+        (λ old. same_right shards left now (begun slot asked ∷ now.running) now.told (named_by asked ++ now.named) r (λ x is. Contains-append_right (named_by asked) now.named x is) (st.flows.held r old))
         (among (begun slot asked) r now.running has);
     seen = λ r has. ⊎_elim
         (λ new. subst (HasSeenBelow now.machine) new (λ m none. absurd (omega (arith, none.1))))

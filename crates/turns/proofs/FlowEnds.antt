@@ -67,7 +67,7 @@ flows_end store shards left now slot st = record {
     slots = once_ended (λ q r. q.slot ≡ r.slot) slot now.running st.flows.slots;
     ids = λ i j q r id is_q is_r has also. once_ended (λ p s. (id_of p.holds ≡ Some id) × (id_of s.holds ≡ Some id)) slot now.running
         (λ i j p s is_p is_s both. st.flows.ids i j p s id is_p is_s both.0 both.1) i j q r is_q is_r (has, also);
-    held = λ r has. same_right shards left now (ended slot now.running) now.told now.named r (λ x is. is) r.asked r.holds (st.flows.held r (ran_before slot now.running r has));
+    held = λ r has. same_right shards left now (ended slot now.running) now.told now.named r (λ x is. is) (st.flows.held r (ran_before slot now.running r has));
     seen = λ r has. st.flows.seen r (ran_before slot now.running r has);
     quiet = λ r has. st.flows.quiet r (ran_before slot now.running r has);
   };

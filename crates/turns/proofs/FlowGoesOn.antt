@@ -73,10 +73,10 @@ module _ (store shards : ℕ) (left stops : NodeName → List Record → Type 0)
         let at = contained_at (replaced later now.running) x has in
         ⊎_elim
         (λ new. subst (λ (y : Running). IsRight shards stops (record after { running = replaced later now.running }) y y.asked y.holds) (sym new.1)
-        (same_right shards stops after (replaced later now.running) after.told after.named later (λ y is. is) later.asked later.holds own))
+        (same_right shards stops after (replaced later now.running) after.told after.named later (λ y is. is) own))
         (λ old.
         let elsewhere : x.slot ≢ r.slot = λ same. old.0 (flows.slots at.0 (contained_at now.running r there).0 x r old.1 at_k same) in
-        same_right shards stops after (replaced later now.running) after.told after.named x (λ y is. is) x.asked x.holds (others x (contained_from now.running at.0 x old.1) elsewhere))
+        same_right shards stops after (replaced later now.running) after.told after.named x (λ y is. is) (others x (contained_from now.running at.0 x old.1) elsewhere))
         (is_at at.0 x at.1);
     seen = λ x has.
         let at = contained_at (replaced later now.running) x has in

@@ -27,6 +27,8 @@ mod SmallChecks
 pub mod NewStore
 pub mod RunChain
 pub mod RunNames
+pub mod Frames
+pub mod SameWrites
 pub mod FlowBegins
 pub mod FlowEnds
 mod WrongRuns

@@ -61,9 +61,6 @@ module _ (store shards : ℕ) where
       omega (arith, has.1, none)
 
   -- what the coordinator knows: nothing but its epoch
-  known : List Record → CoordinatorState
-  known rs = coordinator_state rs
-
   alone : CoordinatorState
   alone = record { base = 0; log = []; horizon = 0; epoch = 1 }
 

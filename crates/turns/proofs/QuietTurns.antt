@@ -41,7 +41,7 @@ told_more store shards left now ids st right = record {
     few = st.flows.few;
     slots = st.flows.slots;
     ids = st.flows.ids;
-    held = λ r has. same_right shards left now now.running (ids ++ now.told) now.named r (λ x is. is) r.asked r.holds (st.flows.held r has);
+    held = λ r has. same_right shards left now now.running (ids ++ now.told) now.named r (λ x is. is) (st.flows.held r has);
     seen = st.flows.seen;
     quiet = st.flows.quiet;
   };

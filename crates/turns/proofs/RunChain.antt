@@ -1,5 +1,5 @@
 -- A run moves the machine.
-use Rattle.std.proofs.Common.{◌≡◌, inl, inr, ◌+◌, ℕ, List, [], ◌∷◌, ◌++◌, Option, Some, None, ap}
+use Rattle.std.proofs.Common.{inl, inr, ◌+◌, ℕ, List, [], ◌∷◌, ◌++◌, Option, Some, None, ap}
 use Rattle.laws.specs.Machines.{Move, Moves}
 use Rattle.turns.specs.Moments.{Moment, Running, flow_at}
 use Rattle.turns.specs.StoreLaws.{RunsMove}
@@ -9,10 +9,6 @@ use Rattle.laws.proofs.MachineMoves.{moves_then}
 module _ (shards : ℕ) (found_before : ℕ → Type 0) where
   some_moves : Moment → Moment → Type 0
   some_moves before after = (moves : List Move) × Moves before.machine moves after.machine
-
-  stays : (before after : Moment) → after.machine ≡ before.machine → some_moves before after
-  unfolding some_moves
-  stays before after same = ([], same)
 
   -- a turn or a cancel moves the machine, or leaves it
   turn_moves : (o : Option Running) (before after : Moment) (told : List Told) → IfRunning shards found_before (Turns shards found_before) o before told after → some_moves before after

@@ -101,9 +101,6 @@ module _ (store shards : ℕ) (left : NodeName → List Record → Type 0) (now 
   pub coordinator_knew : (kept m : CoordinatorState) → CoordinatorKnows next kept m → CoordinatorKnows now.nodes kept m
   coordinator_knew kept m k = record { durable = k.durable; staged = k.staged; is_up = sym same_coordinator ∙ k.is_up; durable_state = k.durable_state; replayed = k.replayed }
 
-  pub coordinator_knows : (kept m : CoordinatorState) → CoordinatorKnows now.nodes kept m → CoordinatorKnows next kept m
-  coordinator_knows kept m k = record { durable = k.durable; staged = k.staged; is_up = same_coordinator ∙ k.is_up; durable_state = k.durable_state; replayed = k.replayed }
-
   pub was_open : (w : Entry) → IsOpen next w → IsOpen now.nodes w
   was_open w = subst (λ (l : List Entry). IsOpen (record next { open_writes = l }) w) same_open
 

@@ -1,26 +1,23 @@
 -- A shard of a store that stands stages one record more, and the store stands as before.
-use Rattle.std.proofs.Common.{◌≡◌, ◌⊎◌, inl, inr, ⊎_elim, ℕ, ◌≤◌, List, [], ◌∷◌, ◌++◌, length, Some, Contains, refl, sym, ◌∙◌, ap, subst, arith, slice_get}
+use Rattle.std.proofs.Common.{◌≡◌, ◌⊎◌, inl, inr, ⊎_elim, ℕ, ◌≤◌, List, [], ◌∷◌, ◌++◌, length, Some, Contains, refl, sym, ◌∙◌, ap, subst, arith, slice_get, false}
 use Rattle.std.proofs.lemmas.List.Elements.{Contains-push_cases}
 use Rattle.std.proofs.lemmas.Option.{get_or_from_slice_get, slice_get-get_or, slice_get_within}
-use Rattle.tuples.specs.declared.change.Change.{Change}
-use Rattle.tuples.specs.declared.change.Condition.{Condition}
 use Rattle.tuples.specs.declared.entry.Entry.{Entry}
-use Rattle.tuples.specs.declared.entry.WriteId.{WriteId}
 use Rattle.tuples.specs.Log.{AreNew}
 use Rattle.records.specs.declared.record.Record.{Record}
 use Rattle.records.specs.declared.record.Record.TheVariants.{Epoch}
 use Rattle.records.specs.Replays.{shard_state}
 use Rattle.laws.specs.Worlds.{Means, Rests, shard_node}
 use Rattle.laws.specs.Nodes.{NodeName, NodeState, Nodes, coordinator, leaves, refused, shard, staged_of, up, IsOfRefusedOpening}
-use Rattle.turns.specs.Flows.{id_of, to_write}
-use Rattle.turns.specs.Held.{WasGiven, own_write}
+use Rattle.turns.specs.Flows.{id_of}
+use Rattle.turns.specs.Held.{WasGiven}
 use Rattle.turns.specs.Moments.{Moment, Running}
 use Rattle.turns.specs.StagingLaws.{IsStaging, with_nodes}
 use Rattle.turns.specs.Stands.{AreApart, FlowsStand, HeadsStand, IdsStand, LocksStand, NodesStand, Stands, at_shards, ListedStand}
 use Rattle.laws.proofs.LessLeft.{less_rests, whole_rests}
 use Rattle.laws.proofs.Locks.{doubts_apart, same_or_not}
 use Rattle.turns.proofs.ShardStages.{coordinator_knew, coordinator_left, durable_in, given_kept, left_now, longer, memory, memory_left, was_open, same_coordinator, same_given, same_open, shard_number, verdict_kept}
-use Rattle.turns.proofs.ShardStagesFlows.{AddsNoDoubt, kept_flow}
+use Rattle.turns.proofs.ShardStagesFlows.{StagesDoubts, kept_flow}
 use Rattle.laws.specs.Shards.{ShardMeans}
 use Rattle.refusal.specs.declared.refusal.Refusal.{Refusal}
 
@@ -44,8 +41,7 @@ module _ (store shards : ℕ) (left : NodeName → List Record → Type 0) (now 
 
   -- of the write of this flow the record prepares no part
   abbrev pub IsNoneOf : Running → Type 0
-  IsNoneOf f = (changes : List Change) (conditions : List Condition) (id : WriteId) → f.asked ≡ to_write changes conditions → id_of f.holds ≡ Some id
-      → AddsNoDoubt store shards left now next s r st f (own_write id changes conditions)
+  IsNoneOf f = (w : Entry) → id_of f.holds ≡ Some w.id → StagesDoubts store shards left now next s r st false w
 
   module _ (harmless : IsHarmless) where
     node_was : (n : NodeName) (d g : List Record) → next.at n ≡ up d g → (now.nodes.at n ≡ up d g) ⊎ ((n ≡ shard s) × (d ≡ st.step.durable) × (g ≡ st.step.staged ++ r ∷ []))
@@ -164,7 +160,7 @@ module _ (store shards : ℕ) (left : NodeName → List Record → Type 0) (now 
       few = st.stands.flows.few;
       slots = st.stands.flows.slots;
       ids = st.stands.flows.ids;
-      held = λ f there. kept_flow store shards left now next s r st f f.asked f.holds (keeps f there) (st.stands.flows.held f there);
+      held = λ f there. kept_flow store shards left now next s r st f (keeps f there) (st.stands.flows.held f there);
       seen = st.stands.flows.seen;
       quiet = st.stands.flows.quiet;
     })

@@ -1,10 +1,8 @@
 -- Each record that a shard stages leaves the store standing for the same machine.
-use Rattle.std.proofs.Common.{◌≡◌, ◌≢◌, inl, inr, ⊎_elim, ℕ, ◌+◌, ◌-◌, ◌≤◌, true, List, [], ◌∷◌, ◌++◌, length, take, drop, Some, None, Contains, sym, ◌∙◌, ap, subst, arith, slice_get, refl}
+use Rattle.std.proofs.Common.{◌≡◌, ◌≢◌, inl, inr, ⊎_elim, ℕ, ◌+◌, ◌-◌, ◌≤◌, true, List, [], ◌∷◌, ◌++◌, length, take, drop, Some, None, Contains, sym, ◌∙◌, ap, subst, arith, slice_get, refl, false}
 use Rattle.std.proofs.lemmas.List.{take_all}
 use Rattle.std.proofs.lemmas.List.Elements.{Contains-push_cases}
 use Rattle.std.proofs.lemmas.Option.{same_Some}
-use Rattle.tuples.specs.declared.change.Change.{Change}
-use Rattle.tuples.specs.declared.change.Condition.{Condition}
 use Rattle.tuples.specs.declared.entry.Entry.{Entry}
 use Rattle.tuples.specs.declared.entry.WriteId.{WriteId}
 use Rattle.tuples.specs.Log.{HoldAfter}
@@ -33,7 +31,7 @@ use Rattle.laws.proofs.Locks.{of_without}
 use Rattle.laws.proofs.ShardSteps.{collects_rest, drops_rest, learns_rest, prepares_rest, unlearned_of_log, collected_means, batch_means, dropped_unlisted}
 use Rattle.turns.proofs.ShardStages.{epoch_given, left_now, memory, memory_left}
 use Rattle.turns.proofs.FlowGoesOn.{flows_turn, sees_more}
-use Rattle.turns.proofs.ShardStagesFlows.{AddsNoDoubt, KeepsDoubts, kept_flow, kept_with_ticket}
+use Rattle.turns.proofs.ShardStagesFlows.{StagesDoubts, kept_flow, kept_with_ticket}
 use Rattle.turns.proofs.ShardStagesStands.{contained_at, contained_from, stands_kept, stands_with}
 use Rattle.laws.specs.Shards.{ShardMeans}
 use Rattle.laws.proofs.PrepareStep.{dropped_means, prepared_means}
@@ -58,9 +56,9 @@ module _ (store shards : ℕ) (left : NodeName → List Record → Type 0) (now 
     given = λ w has. inl (subst (λ (m : ShardState). Contains m.in_doubt w) after has);
     means = λ m. subst (ShardMeans shards s now.machine.log now.machine.horizon now.machine.horizon) (sym after)
         (collected_means (shard_node store shards s) shards s now.machine.log now.machine.horizon now.machine.horizon was place st.image low m);
-  }) (λ f there changes conditions id asked is_id. record {
-    found = λ none p has. ap (λ (m : ShardState). find_in_doubt id m.in_doubt) (sym after) ∙ has;
-    promised = λ here has. ap (λ (m : ShardState). find_in_doubt id m.in_doubt) after ∙ has;
+  }) (λ f there w is_id. record {
+    found = λ p has. inl (ap (λ (m : ShardState). find_in_doubt w.id m.in_doubt) (sym after) ∙ has);
+    promised = λ here has. ap (λ (m : ShardState). find_in_doubt w.id m.in_doubt) after ∙ has;
     epoch = ap (λ (m : ShardState). m.epoch) after;
   })
     where
@@ -82,14 +80,14 @@ module _ (store shards : ℕ) (left : NodeName → List Record → Type 0) (now 
     means = λ m. subst (ShardMeans shards s now.machine.log now.machine.horizon now.machine.horizon) (sym after)
         (dropped_means shards s now.machine.log now.machine.horizon now.machine.horizon (shard_state was) id
         (dropped_unlisted (shard_node store shards s) shards s now.machine.log now.machine.horizon now.machine.horizon was id st.image m verdict.none) m);
-  }) (λ f there changes conditions own asked is_id. record {
-    found = λ none p has.
-        let has_after : find_in_doubt own (without id (shard_state was).in_doubt) ≡ Some p = ap (λ (m : ShardState). find_in_doubt own m.in_doubt) (sym after) ∙ has in
-        ⊎_elim
-        (λ (same : own ≡ id). let gone : None ≡ Some p = sym (find_without_same own (shard_state was).in_doubt) ∙ ap (λ (i : WriteId). find_in_doubt own (without i (shard_state was).in_doubt)) same ∙ has_after in absurd cc)
-        (λ ne. sym (find_without_other own id (shard_state was).in_doubt ne) ∙ has_after)
-        (cases_id own id);
-    promised = λ here has. ap (λ (m : ShardState). find_in_doubt own m.in_doubt) after ∙ find_without_other own id (shard_state was).in_doubt (verdict.closed (own_write own changes conditions) here) ∙ has;
+  }) (λ f there own is_id. record {
+    found = λ p has.
+        let has_after : find_in_doubt own.id (without id (shard_state was).in_doubt) ≡ Some p = ap (λ (m : ShardState). find_in_doubt own.id m.in_doubt) (sym after) ∙ has in
+        inl (⊎_elim
+        (λ (same : own.id ≡ id). let gone : None ≡ Some p = sym (find_without_same own.id (shard_state was).in_doubt) ∙ ap (λ (i : WriteId). find_in_doubt own.id (without i (shard_state was).in_doubt)) same ∙ has_after in absurd cc)
+        (λ ne. sym (find_without_other own.id id (shard_state was).in_doubt ne) ∙ has_after)
+        (cases_id own.id id));
+    promised = λ here has. ap (λ (m : ShardState). find_in_doubt own.id m.in_doubt) after ∙ find_without_other own.id id (shard_state was).in_doubt (verdict.closed own here) ∙ has;
     epoch = ap (λ (m : ShardState). m.epoch) after;
   })
     where
@@ -100,12 +98,12 @@ module _ (store shards : ℕ) (left : NodeName → List Record → Type 0) (now 
       after = shard_push was (Dropped id)
 
   -- of another flow's write a prepare adds no doubt
-  of_others : (w : Entry) (st : IsStaging store shards left now next s (Prepare (part shards s w))) (f : Running) (changes : List Change) (conditions : List Condition) (id : WriteId) → w.id ≢ id
-      → AddsNoDoubt store shards left now next s (Prepare (part shards s w)) st f (own_write id changes conditions)
+  of_others : (w : Entry) (st : IsStaging store shards left now next s (Prepare (part shards s w))) (v : Entry) → w.id ≢ v.id
+      → StagesDoubts store shards left now next s (Prepare (part shards s w)) st false v
   unfolding shard_step part
-  of_others w st f changes conditions id ne = record {
-    found = λ none p has. sym (find_push id (shard_state was).in_doubt (part shards s w) ne) ∙ ap (λ (m : ShardState). find_in_doubt id m.in_doubt) (sym after) ∙ has;
-    promised = λ here has. ap (λ (m : ShardState). find_in_doubt id m.in_doubt) after ∙ find_push id (shard_state was).in_doubt (part shards s w) ne ∙ has;
+  of_others w st v ne = record {
+    found = λ p has. inl (sym (find_push v.id (shard_state was).in_doubt (part shards s w) ne) ∙ ap (λ (m : ShardState). find_in_doubt v.id m.in_doubt) (sym after) ∙ has);
+    promised = λ here has. ap (λ (m : ShardState). find_in_doubt v.id m.in_doubt) after ∙ find_push v.id (shard_state was).in_doubt (part shards s w) ne ∙ has;
     epoch = ap (λ (m : ShardState). m.epoch) after;
   }
     where
@@ -116,14 +114,14 @@ module _ (store shards : ℕ) (left : NodeName → List Record → Type 0) (now 
       after = shard_push was (Prepare (part shards s w))
 
   -- of its own it adds its part, whose conditions hold
-  of_own : (w : Entry) (st : IsStaging store shards left now next s (Prepare (part shards s w))) (r : Running) → takes_part shards s w ≡ true → (IsOpen now.nodes w → HoldAfter now.machine.log (part shards s w).conditions)
-      → KeepsDoubts store shards left now next s (Prepare (part shards s w)) st r w
+  of_own : (w : Entry) (st : IsStaging store shards left now next s (Prepare (part shards s w))) → takes_part shards s w ≡ true → (IsOpen now.nodes w → HoldAfter now.machine.log (part shards s w).conditions)
+      → StagesDoubts store shards left now next s (Prepare (part shards s w)) st true w
   unfolding shard_step part
-  of_own w st r takes hold = record {
-    found = λ none p has.
+  of_own w st takes hold = record {
+    found = λ p has.
         let part_is : Some (part shards s w) ≡ Some p = sym (find_push_same (shard_state was).in_doubt (part shards s w) may.new) ∙ ap (λ (m : ShardState). find_in_doubt w.id m.in_doubt) (sym after) ∙ has in
         let is : part shards s w ≡ p = cc in
-        inr (takes, sym is, λ here. subst (λ (q : Entry). HoldAfter now.machine.log q.conditions) is (hold here));
+        inr (refl, takes, sym is, λ here. subst (λ (q : Entry). HoldAfter now.machine.log q.conditions) is (hold here));
     promised = λ here has. let gone : None ≡ Some (part shards s w) = sym may.new ∙ has in absurd cc;
     epoch = ap (λ (m : ShardState). m.epoch) after;
   }
@@ -184,12 +182,12 @@ module _ (store shards : ℕ) (left : NodeName → List Record → Type 0) (now 
 
       -- each other flow has another write
       others : (f : Running) → Contains now.running f → f.slot ≢ r.slot → IsRight shards left (with_nodes now next) f f.asked f.holds
-      others f there ne = kept_flow store shards left now next s (Prepare (part shards s w)) st f f.asked f.holds
-          (λ changes conditions id asked is_id. of_others w st f changes conditions id (λ same. ne (ap (λ (x : Running). x.slot) (same_flow f there id is_id same))))
+      others f there ne = kept_flow store shards left now next s (Prepare (part shards s w)) st f
+          (λ v is_id. of_others w st v (λ same. ne (ap (λ (x : Running). x.slot) (same_flow f there v.id is_id same))))
           (st.stands.flows.held f there)
 
       own_right : IsRightOwn shards left (with_nodes now next) r w (record h { tickets = h.tickets ++ t ∷ [] })
-      own_right = kept_with_ticket store shards left now next s (Prepare (part shards s w)) st r w (of_own w st r takes hold) h t of_shard ticket (old.own w.id has_id)
+      own_right = kept_with_ticket store shards left now next s (Prepare (part shards s w)) st true w (of_own w st takes hold) r h t of_shard ticket own (old.own w.id has_id)
 
       own_later : (id : WriteId) → h.id ≡ Some id → IsRightOwn shards left (with_nodes now next) later (own_write id w.changes w.conditions) (record h { tickets = h.tickets ++ t ∷ [] })
       own_later id is =
@@ -234,10 +232,10 @@ module _ (store shards : ℕ) (left : NodeName → List Record → Type 0) (now 
         (batch_means store shards s log now.machine.horizon now.machine.horizon (shard_state was) b.from b.writes (length log) st.stands.rests.is_log.new batch.writes fits (omega arith) low high (omega arith)
         (subst (λ (l : List Entry). ShardMeans shards s l now.machine.horizon now.machine.horizon (shard_state was)) (sym all) m)));
     given = λ w has. inl (of_placed_ids placed_ids (shard_state was).in_doubt w (subst (λ (m : ShardState). Contains m.in_doubt w) after has));
-  }) (λ f there changes conditions own asked is_id. record {
-    found = λ none p has. still_placed_ids own placed_ids (shard_state was).in_doubt p (ap (λ (m : ShardState). find_in_doubt own m.in_doubt) (sym after) ∙ has);
-    promised = λ here has. ap (λ (m : ShardState). find_in_doubt own m.in_doubt) after
-        ∙ find_not_learned own placed_ids (shard_state was).in_doubt (not_listed own (st.stands.ids.unlisted (own_write own changes conditions) here)) ∙ has;
+  }) (λ f there own is_id. record {
+    found = λ p has. inl (still_placed_ids own.id placed_ids (shard_state was).in_doubt p (ap (λ (m : ShardState). find_in_doubt own.id m.in_doubt) (sym after) ∙ has));
+    promised = λ here has. ap (λ (m : ShardState). find_in_doubt own.id m.in_doubt) after
+        ∙ find_not_learned own.id placed_ids (shard_state was).in_doubt (not_listed own.id (st.stands.ids.unlisted own here)) ∙ has;
     epoch = ap (λ (m : ShardState). m.epoch) after;
   })
     where

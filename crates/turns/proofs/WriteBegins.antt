@@ -1,32 +1,26 @@
 -- A write begins: its id is new, so what other flows hold stays right.
-use Rattle.std.proofs.Common.{◌≡◌, ◌≢◌, ◌⊎◌, inl, inr, ⊎_elim, ◌==◌, ℕ, zero, suc, Bool, true, false, ◌<◌, ◌≤◌, ◌+◌, List, [], ◌∷◌, ◌++◌, length, Option, Some, None, slice_get, slice_index_or, Contains, All, refl, sym, ◌∙◌, ap, subst, arith, if◌then◌else◌}
+use Rattle.std.proofs.Common.{◌≡◌, ◌≢◌, ◌⊎◌, inl, inr, ⊎_elim, ◌==◌, ℕ, zero, suc, Bool, true, false, ◌<◌, ◌≤◌, ◌+◌, List, [], ◌∷◌, ◌++◌, length, Some, None, slice_get, slice_index_or, Contains, All, refl, sym, ◌∙◌, ap, subst, arith, if◌then◌else◌}
 use Rattle.std.proofs.lemmas.Bool.{eqb-true}
 use Rattle.std.proofs.lemmas.List.Elements.{All-nil, Contains-append_right, Contains-push_cases}
 use Rattle.std.proofs.lemmas.Option.{same_Some}
-use Rattle.tuples.specs.declared.change.Change.{Change}
-use Rattle.tuples.specs.declared.change.Condition.{Condition}
 use Rattle.tuples.specs.declared.entry.Entry.{Entry}
 use Rattle.tuples.specs.declared.entry.WriteId.{WriteId}
-use Rattle.tuples.specs.declared.object.Userset.{Userset}
-use Rattle.tuples.specs.declared.tupleset.Tupleset.{Tupleset}
-use Rattle.tuples.specs.declared.user.User.{User}
 use Rattle.tuples.specs.Log.{AreNew, same_id}
 use Rattle.records.specs.declared.record.Record.{Record}
 use Rattle.records.specs.declared.record.Record.TheVariants.{Prepare, Learned, Dropped, Epoch, Decision, Horizon}
 use Rattle.records.specs.Coordinators.{CoordinatorState, coordinator_from, coordinator_state, coordinator_step, empty_coordinator}
-use Rattle.records.specs.Replays.{ShardState, find_in_doubt, shard_state}
+use Rattle.records.specs.Replays.{find_in_doubt, shard_state}
 use Rattle.replay.proofs.Doubts.{found_id}
-use Rattle.decisions.specs.Values.{IntentValue}
-use Rattle.decisions.specs.Standing.{DecidedValue}
 use Rattle.laws.specs.LogLaws.{IsUnlisted}
-use Rattle.laws.specs.Nodes.{NodeName, Nodes, CoordinatorKnows, NodeState, ShardKnows, coordinator, down, leaves, refused, shard, up}
-use Rattle.turns.specs.Flows.{Freshness, Asked, HeldTicket, HeldVote, WriteHolds, ReadHolds, CheckHolds, HeadsHeld, RaiseHolds, ResolveHolds, Resolved, committed, aborted, undecided, Holds, writing, reading, checking, watching, flushing, learning, resolving, raising, collecting, id_of, to_write, to_read, to_check, to_watch, to_flush, to_learn, to_resolve, to_raise, to_collect}
+use Rattle.laws.specs.Nodes.{NodeName, Nodes, CoordinatorKnows, NodeState, coordinator, down, leaves, refused, shard, up}
+use Rattle.turns.specs.Flows.{Asked, WriteHolds, Holds, writing, id_of, to_write}
 use Rattle.turns.specs.FlowLaws.{IsBegin, WritesBegin, with_intent, with_open}
-use Rattle.turns.specs.Held.{AreHeldHeads, IsOpen, IsRight, IsRightCheck, IsRightDecision, IsRightIntent, IsRightOwn, IsRightRaise, IsRightRead, IsRightResolve, IsRightResolved, IsRightTicket, IsRightVerdict, IsRightVote, IsRightWrite, IsStaged, IsUndecided, WasGiven, own_write}
+use Rattle.turns.specs.Held.{IsOpen, IsRight, IsRightIntent, IsRightOwn, IsRightTicket, IsRightVerdict, IsRightVote, IsRightWrite, WasGiven, own_write}
 use Rattle.turns.specs.Moments.{Moment, Running, replaced}
 use Rattle.laws.specs.Machines.{Machine}
 use Rattle.turns.specs.Stands.{HasSeenBelow, IsQuietFlow, Stands}
 use Rattle.turns.proofs.FlowBegins.{alone, among}
+use Rattle.turns.proofs.Frames.{KeepsStore, KeepsWrite, frame, given_on, own_given, same_doubts, same_knew, same_taken, verdict_on}
 use Rattle.turns.proofs.ShardStagesStands.{contained_at, contained_from}
 
 no_value : {X : Type 0} {x : X} → None ≡ Some x → ⊥
@@ -43,139 +37,46 @@ module _ (store shards : ℕ) (left : NodeName → List Record → Type 0) (now 
   knew : (k m : CoordinatorState) → CoordinatorKnows nodes k m → CoordinatorKnows now.nodes k m
   knew k m c = record { durable = c.durable; staged = c.staged; is_up = c.is_up; durable_state = c.durable_state; replayed = c.replayed }
 
-  shard_knew : (s : ℕ) (m : ShardState) → ShardKnows nodes s m → ShardKnows now.nodes s m
-  shard_knew s m c = record { durable = c.durable; staged = c.staged; is_up = c.is_up; replayed = c.replayed }
-
-  pub given_on : (id : WriteId) → WasGiven shards left now.nodes id → WasGiven shards left nodes id
-  given_on id g = record {
-    epoch = g.epoch;
-    now = λ k m knows. ⊎_elim (λ earlier. inl earlier) (λ same. inr (same.0, omega (arith, same.1))) (g.now k m (knew k m knows));
-  }
-
   was_open : (v : Entry) → WasGiven shards left now.nodes v.id → IsOpen nodes v → IsOpen now.nodes v
   was_open v given is = ⊎_elim (λ new. absurd (fresh v.id given (ap (λ (x : Entry). x.id) (sym new)))) (λ old. old) (among w v now.nodes.open_writes is)
 
-  verdict_on : (id : WriteId) → IsRightVerdict shards left now id → IsRightVerdict shards left next id
-  verdict_on id v = record {
-    given = given_on id v.given;
-    closed = λ u is. ⊎_elim (λ new same. fresh id v.given (sym same ∙ ap (λ (x : Entry). x.id) (sym new))) (λ old. v.closed u old) (among w u now.nodes.open_writes is);
-    none = v.none;
+  keeps : KeepsStore shards left left now next false
+  keeps = record {
+    kept = omega arith;
+    horizon = omega arith;
+    same_log = refl;
+    listed = λ j v is. inl is;
+    was_open = was_open;
+    coordinator_knew = λ k m knows. inl (same_knew shards left left now next false refl (omega arith) (λ j v is. is) refl k m knows);
+    given_out = λ id g. g.epoch;
+    epochs = λ t epoch is. is;
+    settled = λ t place is. is;
+    taken = λ unopened. same_taken shards left left now next false refl (omega arith);
+    named = λ x is. is;
   }
 
-  undecided_on : (v : Entry) → IsUndecided shards left now v → IsUndecided shards left next v
-  undecided_on v u = record { unlisted = u.unlisted; given = given_on v.id u.given; exact = u.exact }
-
-  ticket_on : (v : Entry) → WasGiven shards left now.nodes v.id → (t : HeldTicket) → IsRightTicket shards left now v t → IsRightTicket shards left next v t
-  ticket_on v given t k = record { own = k.own; there = k.there; takes = k.takes; epoch = k.epoch; prepared = λ is m knows same. k.prepared (was_open v given is) m (shard_knew t.shard m knows) same }
-
-  vote_on : (v : Entry) → WasGiven shards left now.nodes v.id → (t : HeldVote) → IsRightVote shards left now v t → IsRightVote shards left next v t
-  vote_on v given t k = record { own = k.own; there = k.there; takes = k.takes; prepared = λ is. k.prepared (was_open v given is) }
-
-  intent_on : (v : Entry) → WasGiven shards left now.nodes v.id → (i : IntentValue) → IsRightIntent shards left now v i → IsRightIntent shards left next v i
-  intent_on v given i k = record {
-    own = k.own;
-    kept = k.kept;
-    opened = λ d m knows same. Contains-append_right (w ∷ []) now.nodes.open_writes v (k.opened d m (knew d m knows) same);
-    conditions = λ is. k.conditions (was_open v given is);
+  keeps_write : (v : Entry) → KeepsWrite shards left left now next false false v
+  keeps_write v = record {
+    is_open = λ unopened. Contains-append_right (w ∷ []) now.nodes.open_writes v;
+    unlisted = λ is. is;
+    conditions = λ u here t found p lt is has hold. hold;
+    doubts = same_doubts shards left left now next false (λ t. refl) (λ t rs is. is) v;
   }
 
-  decision_on : (v : Entry) (d : DecidedValue) → IsRightDecision shards left now v d → IsRightDecision shards left next v d
-  decision_on v d k = record { counted = k.counted; epoch = k.epoch; given = given_on v.id k.given; there = λ e m knows same. k.there e m (knew e m knows) same }
+  pub given_kept : (id : WriteId) → WasGiven shards left now.nodes id → WasGiven shards left nodes id
+  given_kept = given_on shards left left now next false keeps
 
-  -- the id of a flow's write was given, whether it has decided or not
-  own_given : (r : Running) (v : Entry) (h : WriteHolds) → IsRightOwn shards left now r v h → h.decided ≡ r.decided → WasGiven shards left now.nodes v.id
-  own_given r v h k same = by_decided r.decided refl
-    where
-      by_decided : (o : Option DecidedValue) → r.decided ≡ o → WasGiven shards left now.nodes v.id
-      by_decided None is = (k.undecided is).given
-      by_decided (Some d) is = (k.decision d (same ∙ is)).given
+  verdict_kept : (id : WriteId) → IsRightVerdict shards left now id → IsRightVerdict shards left next id
+  verdict_kept = verdict_on shards left left now next false keeps
 
-  module _ (r : Running) where
-    own_on : (v : Entry) (h : WriteHolds) → IsRightOwn shards left now r v h → h.decided ≡ r.decided → IsRightOwn shards left next r v h
-    own_on v h k same =
-        let given = own_given r v h k same in
-        record {
-          undecided = λ none. undecided_on v (k.undecided none);
-          intent = λ i is. let right = k.intent i is in (right.0, intent_on v given i right.1);
-          tickets = λ j d lt. ticket_on v given (slice_index_or h.tickets j d) (k.tickets j d lt);
-          votes = λ j d lt. vote_on v given (slice_index_or h.votes j d) (k.votes j d lt);
-          decision = λ d is. decision_on v d (k.decision d is);
-          verdict = λ id is. let right = k.verdict id is in (right.0, verdict_on id right.1);
-          not_reopened = λ i is not_since. Contains-append_right (w ∷ []) now.nodes.open_writes v (k.not_reopened i is not_since);
-          gave = k.gave;
-        }
+  right_on : (r : Running) → IsRight shards left now r r.asked r.holds → IsRight shards left next r r.asked r.holds
+  right_on r = frame shards left left now next false keeps r r.asked r.holds (λ v is. keeps_write v)
 
-    write_on : (changes : List Change) (conditions : List Condition) (h : WriteHolds) → IsRightWrite shards left now r changes conditions h → IsRightWrite shards left next r changes conditions h
-    write_on changes conditions h k = record {
-      nothing = k.nothing;
-      own = λ id is. own_on (own_write id changes conditions) h (k.own id is) k.same_decision;
-      same_decision = k.same_decision;
-      batch = k.batch;
-      out = k.out;
-      cancelled = k.cancelled;
-      refused_or_cancelled = k.refused_or_cancelled;
-    }
-
-    read_on : (fresh_at : Freshness) (sets : List Tupleset) (h : ReadHolds) → IsRightRead shards left now r fresh_at sets h → IsRightRead shards left next r fresh_at sets h
-    read_on fresh_at sets h k = record { heads = k.heads; place = k.place; done = k.done; few = k.few; rows = k.rows; nothing = k.nothing; batch = k.batch }
-
-    check_on : (fresh_at : Freshness) (x : Userset) (u : User) (h : CheckHolds) → IsRightCheck shards left now r fresh_at x u h → IsRightCheck shards left next r fresh_at x u h
-    check_on fresh_at x u h k = record {
-      heads = k.heads;
-      place = k.place;
-      nothing = k.nothing;
-      asked = k.asked;
-      once = k.once;
-      reached = k.reached;
-      none = k.none;
-      further = k.further;
-      batch = k.batch;
-    }
-
-    heads_on : (h : HeadsHeld) → AreHeldHeads shards left now r h → AreHeldHeads shards left next r h
-    heads_on h k = record { heads = k.heads; batch = k.batch }
-
-    resolved_on : (f : Resolved) → IsRightResolved shards left now f → IsRightResolved shards left next f
-    resolved_on (committed id p) k = k
-    resolved_on (aborted id) k = verdict_on id k
-    resolved_on (undecided id) k = tt
-
-    resolve_on : (h : ResolveHolds) → IsRightResolve shards left now h → IsRightResolve shards left next h
-    resolve_on h k = record {
-      found = λ j d lt. resolved_on (slice_index_or h.found j d) (k.found j d lt);
-      verdict = λ id is. verdict_on id (k.verdict id is);
-      batch = k.batch;
-    }
-
-    staged_on : (x : ℕ) → IsStaged shards left now.nodes x → IsStaged shards left nodes x
-    staged_on x s = record { durable = s.durable; staged = s.staged; is_up = s.is_up; enough = s.enough }
-
-    raise_on : (x : ℕ) (h : RaiseHolds) → IsRightRaise shards left now r x h → IsRightRaise shards left next r x h
-    raise_on x h k = record {
-      named = k.named;
-      heads = k.heads;
-      settled = k.settled;
-      batch = k.batch;
-      raised = λ is same. ⊎_elim (λ there. inl there) (λ other. ⊎_elim (λ staged. inr (inl (staged_on x staged))) (λ gone. inr (inr gone)) other) (k.raised is same);
-    }
-
-    right_on : (asked : Asked) (holds : Holds) → IsRight shards left now r asked holds → IsRight shards left next r asked holds
-    right_on (to_write changes conditions) (writing h) k = write_on changes conditions h k
-    right_on (to_read fresh_at sets) (reading h) k = read_on fresh_at sets h k
-    right_on (to_check fresh_at x u) (checking h) k = check_on fresh_at x u h k
-    right_on (to_watch c limit names) (watching h) k = heads_on h k
-    right_on (to_flush n) flushing k = tt
-    right_on (to_learn s) (learning h) k = heads_on h k
-    right_on (to_resolve s) (resolving h) k = resolve_on h k
-    right_on (to_raise x) (raising h) k = raise_on x h k
-    right_on (to_collect s) (collecting h) k = heads_on h k
-    right_on asked holds k = absurd k
-
-    -- the id of a flow was given
-    flow_given : (asked : Asked) (holds : Holds) (id : WriteId) → IsRight shards left now r asked holds → id_of holds ≡ Some id → WasGiven shards left now.nodes id
-    flow_given (to_write changes conditions) (writing h) id k is = own_given r (own_write id changes conditions) h (k.own id is) k.same_decision
-    flow_given asked (writing h) id k is = absurd k
-    flow_given asked holds id k is = absurd (no_value is)
+  -- the id of a flow was given
+  flow_given : (r : Running) (asked : Asked) (holds : Holds) (id : WriteId) → IsRight shards left now r asked holds → id_of holds ≡ Some id → WasGiven shards left now.nodes id
+  flow_given r (to_write changes conditions) (writing h) id k is = own_given shards left left now next false keeps r (own_write id changes conditions) h (k.own id is) k.same_decision
+  flow_given r asked (writing h) id k is = absurd k
+  flow_given r asked holds id k is = absurd (no_value is)
 
 -- a write in doubt that is found is one of those in doubt
 found_in : (id : WriteId) (ws : List Entry) (p : Entry) → find_in_doubt id ws ≡ Some p → Contains ws p
@@ -341,7 +242,7 @@ module _ (store shards : ℕ) (left : NodeName → List Record → Type 0) (now 
   flow_right x has =
       let at = contained_at flows x has in
       ⊎_elim
-      (λ old. right_on store shards left now w flows fresh x x.asked x.holds (st.flows.held x (contained_from now.running at.0 x old)))
+      (λ old. right_on store shards left now w flows fresh x (st.flows.held x (contained_from now.running at.0 x old)))
       (λ new. subst (λ (y : Running). IsRight shards left after y y.asked y.holds) (sym new.0) later_right)
       (replaced_is later now.running at.0 x at.1)
 
@@ -441,8 +342,8 @@ module _ (store shards : ℕ) (left : NodeName → List Record → Type 0) (now 
           (b.epoch ∙ ap (λ (c : CoordinatorState). c.epoch) (one_memory now.nodes b.kept b.memory k m b.knows known), omega (arith, b.number)))
           (λ old. let is = st.ids.of_now v old k m known in (is.0, omega (arith, is.1)))
           (among w v now.nodes.open_writes has);
-      log_given = λ v has. given_on store shards left now w flows fresh v.id (st.ids.log_given v has);
-      prepares_given = λ s found v lt here has. given_on store shards left now w flows fresh v.id (st.ids.prepares_given s found v lt here has);
+      log_given = λ v has. given_kept store shards left now w flows fresh v.id (st.ids.log_given v has);
+      prepares_given = λ s found v lt here has. given_kept store shards left now w flows fresh v.id (st.ids.prepares_given s found v lt here has);
     };
     flows = record {
       few = omega (arith, st.flows.few, same_length later now.running);
@@ -452,7 +353,7 @@ module _ (store shards : ℕ) (left : NodeName → List Record → Type 0) (now 
       seen = flow_seen;
       quiet = flow_quiet;
     };
-    told = λ j d lt. verdict_on store shards left now w flows fresh (slice_index_or now.told j d) (st.told j d lt);
+    told = λ j d lt. verdict_kept store shards left now w flows fresh (slice_index_or now.told j d) (st.told j d lt);
   }
 
 pub writes_begin : (store shards : ℕ) (left : NodeName → List Record → Type 0) → WritesBegin store shards left
