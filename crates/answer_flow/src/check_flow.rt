@@ -23,8 +23,8 @@ use tuples::{Refusal, User, Userset};
 #[derive(Drop)]
 #[must_use]
 pub struct CheckFlow {
-    asked: AskedCheck,
-    phase: Phase,
+    pub(crate) asked: AskedCheck,
+    pub(crate) phase: Phase,
 }
 
 impl Model for CheckFlow {

@@ -59,8 +59,8 @@ fn bring_up(asked: &AskedCheck, place: u64, walk: Walk) -> Phase
     Phase::Ready(Ready::CatchUp(place, walk, catch_up))
 }
 
-// It goes on, unless as many were walked as may be.
-fn go_on(asked: &AskedCheck, place: u64, walk: Walk) -> Phase
+/// It goes on, unless as many were walked as may be.
+pub(crate) fn go_on(asked: &AskedCheck, place: u64, walk: Walk) -> Phase
     ensures goes { Continues place (holding_walk walk (Some place) None) (view_of result) }
     ensures kept { IsPhaseOf asked.now.shards asked.now.user result }
 {

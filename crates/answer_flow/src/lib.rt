@@ -8,6 +8,7 @@
 //! calls are made and what each reply makes of it.
 #![tactic(auto)]
 
+mod check_at;
 mod check_flow;
 mod check_phase;
 mod check_turns;
@@ -16,6 +17,7 @@ mod events;
 mod finding;
 mod freshness;
 mod merging;
+mod read_at;
 mod read_flow;
 mod read_phase;
 mod read_turns;

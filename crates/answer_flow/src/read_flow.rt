@@ -23,8 +23,8 @@ use tuples::Tupleset;
 #[derive(Drop)]
 #[must_use]
 pub struct ReadFlow {
-    asked: AskedRead,
-    phase: Phase,
+    pub(crate) asked: AskedRead,
+    pub(crate) phase: Phase,
 }
 
 impl Model for ReadFlow {

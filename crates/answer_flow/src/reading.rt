@@ -57,8 +57,8 @@ fn bring_up(asked: &AskedRead, gathered: Gathered, set: Tupleset) -> Phase
     Phase::Ready(Ready::CatchUp(gathered, set, catch_up))
 }
 
-// The next tupleset; behind the last one it ends.
-fn go_on(asked: &AskedRead, place: u64, done: Vec<Vec<Tuple>>) -> Phase
+/// The next tupleset; behind the last one it ends.
+pub(crate) fn go_on(asked: &AskedRead, place: u64, done: Vec<Vec<Tuple>>) -> Phase
     ensures goes { Continues asked.now.sets.items place (record nothing_read { place = Some place; done = rows_of done.items }) (view_of result) }
     ensures kept { IsPhaseOf asked.now.shards asked.now.sets.items result }
 {

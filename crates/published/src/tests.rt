@@ -101,8 +101,10 @@ fn a_write_of_one_thread_is_told_to_another(rt: HostRuntime) -> Result<(), Fail>
     assert!(rt; second <= 1);
     let (place, reader) = words.latest(reader);
     assert_eq!(rt; place, 1);
-    let (horizon, _reader) = words.horizon(reader);
+    let (horizon, mut reader) = words.horizon(reader);
     assert_eq!(rt; horizon, 0);
+    assert_eq!(rt; words.look(&mut reader), 1);
+    assert_eq!(rt; words.look_low(&mut reader), 0);
     Ok(())
 }
 

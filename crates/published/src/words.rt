@@ -48,9 +48,23 @@ impl<W> Published<W> {
         ensures rises { length pass.seen ≤ result.0 }
         ensures below { result.1.horizon ≤ result.0 }
     {
-        let SessionPass { mut seat } = pass;
-        let place = self.table.shared.load::<LoadsPlace>(&mut seat, SAFE_PLACE);
-        (place, SessionPass { seat })
+        let mut pass = pass;
+        let place = self.look(&mut pass);
+        (place, pass)
+    }
+
+    /// As `latest`, for a pass that is lent, as one of a caller that keeps it.
+    pub fn look(&self, pass: &mut SessionPass<W>) -> u64
+        requires { pass.old.table ≡ self.now }
+        ensures same { (pass.new.table ≡ pass.old.table) × (pass.new.horizon ≡ pass.old.horizon) }
+        ensures later { IsPrefix pass.old.seen pass.new.seen }
+        ensures length { length pass.new.seen ≡ result }
+        ensures rises { length pass.old.seen ≤ result }
+        ensures below { pass.new.horizon ≤ result }
+    {
+        self.table
+            .shared
+            .load::<LoadsPlace>(&mut pass.seat, SAFE_PLACE)
     }
 
     /// The horizon, by one load. The pass has then seen at least that many writes.
@@ -62,9 +76,23 @@ impl<W> Published<W> {
         ensures rises { pass.horizon ≤ result.0 }
         ensures known { result.1.horizon ≡ result.0 }
     {
-        let SessionPass { mut seat } = pass;
-        let place = self.table.shared.load::<LoadsHorizon>(&mut seat, HORIZON);
-        (place, SessionPass { seat })
+        let mut pass = pass;
+        let place = self.look_low(&mut pass);
+        (place, pass)
+    }
+
+    /// As `horizon`, for a pass that is lent.
+    pub fn look_low(&self, pass: &mut SessionPass<W>) -> u64
+        requires { pass.old.table ≡ self.now }
+        ensures same { pass.new.table ≡ pass.old.table }
+        ensures later { IsPrefix pass.old.seen pass.new.seen }
+        ensures below { result ≤ length pass.new.seen }
+        ensures rises { pass.old.horizon ≤ result }
+        ensures known { pass.new.horizon ≡ result }
+    {
+        self.table
+            .shared
+            .load::<LoadsHorizon>(&mut pass.seat, HORIZON)
     }
 
     /// Adds writes to the list, and moves the safe place to its end, by one step.
