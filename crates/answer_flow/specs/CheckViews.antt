@@ -166,3 +166,7 @@ abbrev pub IsPhaseOf : ℕ → User → Phase → Type 0
 IsPhaseOf shards user (phases.Ready r) = IsReadyOf shards user r
 IsPhaseOf shards user (phases.Out o) = IsOutOf shards o
 IsPhaseOf shards user (phases.Ended end) = Unit {0}
+
+-- behind a reply it waits for no other
+abbrev pub IsBehindOf : ℕ → User → Phase → Type 0
+IsBehindOf shards user p = IsPhaseOf shards user p × ((view_of p).awaited ≡ None)

@@ -174,3 +174,7 @@ abbrev pub IsPhaseOf : ℕ → List Tupleset → Phase → Type 0
 IsPhaseOf shards sets (phases.Ready r) = IsReadyOf shards sets r
 IsPhaseOf shards sets (phases.Out o) = IsOutOf shards sets o
 IsPhaseOf shards sets (phases.Ended end) = Unit {0}
+
+-- behind a reply it waits for no other
+abbrev pub IsBehindOf : ℕ → List Tupleset → Phase → Type 0
+IsBehindOf shards sets p = IsPhaseOf shards sets p × ((view_of p).awaited ≡ None)

@@ -1,5 +1,5 @@
 -- What a watch is seen as.
-use Rattle.std.specs.Prelude.{◌≤◌, ℕ, List, Option, Some, None}
+use Rattle.std.specs.Prelude.{◌≡◌, ◌≤◌, ℕ, List, Option, Some, None}
 use Rattle.refusal.specs.declared.refusal.Refusal.{Refusal}
 use Rattle.tuples.specs.Watching.{Placed}
 use Rattle.names.specs.declared.call_name.CallName.{CallName}
@@ -116,3 +116,7 @@ abbrev pub IsPhaseOf : ℕ → Phase → Type 0
 IsPhaseOf cursor (phases.Ready r) = IsReadyOf cursor r
 IsPhaseOf cursor (phases.Out o) = IsOutOf cursor o
 IsPhaseOf cursor (phases.Ended end) = Unit {0}
+
+-- behind a reply it waits for no other
+abbrev pub IsBehindOf : ℕ → Phase → Type 0
+IsBehindOf cursor p = IsPhaseOf cursor p × ((view_of p).awaited ≡ None)

@@ -117,6 +117,7 @@ impl CheckFlow {
         requires { MatchOption self.old.seen.awaited ⊥ (λ awaited. Fits awaited reply) }
         ensures asked { self.new ≡ record self.old { seen = self.new.seen; next_name = self.new.next_name } }
         ensures gives { MatchOption self.old.seen.awaited ⊥ (λ awaited. GivesTo self.old.fresh self.old.user self.old.seen awaited reply self.new.seen) }
+        ensures rests { self.new.seen.awaited ≡ None }
     {
         let phase = mem::replace(&mut self.phase, nowhere());
         match phase {

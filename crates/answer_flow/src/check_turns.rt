@@ -4,7 +4,7 @@ ghost use Rattle.calls.specs.Names.{name_of as name_of_call};
 ghost use Rattle.names.specs.declared.call_name.CallName.TheVariants as names;
 ghost use Rattle.answer_flow.specs.Finding.{fresh_of};
 ghost use Rattle.answer_flow.specs.Checking.{Asks, Fits, GivesTo};
-ghost use Rattle.answer_flow.specs.CheckViews.{IsOutOf, IsReadyOf, IsPhaseOf, awaited_of, name_ready, view_of, view_out, view_ready};
+ghost use Rattle.answer_flow.specs.CheckViews.{IsOutOf, IsReadyOf, IsBehindOf, awaited_of, name_ready, view_of, view_out, view_ready};
 ghost use Rattle.answer_flow.specs.declared.check_phase.Out.TheVariants as out_of;
 ghost use Rattle.answer_flow.specs.declared.check_phase.Ready.TheVariants as ready_of;
 
@@ -82,7 +82,7 @@ pub(crate) fn give(asked: &AskedCheck, out: Out, reply: Reply) -> Phase
     requires kept { IsOutOf asked.now.shards out }
     requires fits { Fits (awaited_of out) reply }
     ensures gives { GivesTo (fresh_of asked.now.freshness) asked.now.user (view_out out) (awaited_of out) reply (view_of result) }
-    ensures kept { IsPhaseOf asked.now.shards asked.now.user result }
+    ensures kept { IsBehindOf asked.now.shards asked.now.user result }
 {
     match out {
         Out::Heads(walk) => match reply {

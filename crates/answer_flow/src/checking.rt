@@ -5,7 +5,7 @@ ghost use Rattle.tuples.specs.Checking.{holding};
 ghost use Rattle.tuples.specs.Parts.{shard_of as shard_number};
 ghost use Rattle.answer_flow.specs.Finding.{fresh_of};
 ghost use Rattle.answer_flow.specs.Checking.{CatchUpGives, Continues, FlushGives, HeadsGive, LacksMemory, ReadGives, RowsGive};
-ghost use Rattle.answer_flow.specs.CheckViews.{IsFirst, IsOutOf, IsPhaseOf, at_rest, catch_up as to_catch_up, checked, ended, holding_walk, read as to_read, view_of, view_out};
+ghost use Rattle.answer_flow.specs.CheckViews.{IsFirst, IsOutOf, IsBehindOf, at_rest, catch_up as to_catch_up, checked, ended, holding_walk, read as to_read, view_of, view_out};
 ghost use Rattle.answer_flow.specs.declared.check_phase.Out.TheVariants as out_of;
 ghost use Rattle.catch_up.specs.CatchingUp.{Fits as FitsCatchUp};
 
@@ -49,7 +49,7 @@ pub(crate) fn shard_to_ask(userset: &Userset, shards: u8) -> u8
 fn bring_up(asked: &AskedCheck, place: u64, walk: Walk) -> Phase
     ensures none { walk.waiting ≡ [] → view_of result ≡ ended (checked place false) }
     ensures more { walk.waiting ≢ [] → view_of result ≡ at_rest to_catch_up (holding_walk walk (Some place) None) }
-    ensures kept { IsPhaseOf asked.now.shards asked.now.user result }
+    ensures kept { IsBehindOf asked.now.shards asked.now.user result }
 {
     let Some(first) = walk.first() else {
         return answered(place, false);
@@ -62,7 +62,7 @@ fn bring_up(asked: &AskedCheck, place: u64, walk: Walk) -> Phase
 /// It goes on, unless as many were walked as may be.
 pub(crate) fn go_on(asked: &AskedCheck, place: u64, walk: Walk) -> Phase
     ensures goes { Continues place (holding_walk walk (Some place) None) (view_of result) }
-    ensures kept { IsPhaseOf asked.now.shards asked.now.user result }
+    ensures kept { IsBehindOf asked.now.shards asked.now.user result }
 {
     if walk.waits() && MOST_WALKED <= walk.walked() {
         return refused(Refusal::Full);
@@ -73,7 +73,7 @@ pub(crate) fn go_on(asked: &AskedCheck, place: u64, walk: Walk) -> Phase
 /// The coordinator has told its heads.
 pub(crate) fn told(asked: &AskedCheck, walk: Walk, answer: Result<Heads, Refusal>) -> Phase
     ensures gives { HeadsGive (fresh_of asked.now.freshness) (view_out (out_of.Heads walk)) answer (view_of result) }
-    ensures kept { IsPhaseOf asked.now.shards asked.now.user result }
+    ensures kept { IsBehindOf asked.now.shards asked.now.user result }
 {
     match answer {
         Ok(heads) => match find(asked.freshness, &heads) {
@@ -88,7 +88,7 @@ pub(crate) fn told(asked: &AskedCheck, walk: Walk, answer: Result<Heads, Refusal
 /// The coordinator was flushed, and is asked again.
 pub(crate) fn flushed(asked: &AskedCheck, walk: Walk, answer: Result<(), Refusal>) -> Phase
     ensures gives { FlushGives (view_out (out_of.Flush walk)) answer (view_of result) }
-    ensures kept { IsPhaseOf asked.now.shards asked.now.user result }
+    ensures kept { IsBehindOf asked.now.shards asked.now.user result }
 {
     let _asked = asked;
     match answer {
@@ -113,7 +113,7 @@ fn question(walk: &Walk, user: &User) -> Result<Option<(Userset, User)>, AllocEr
 fn ask(asked: &AskedCheck, place: u64, walk: Walk) -> Phase
     requires { walk.waiting ≢ [] }
     ensures gives { (view_of result ≡ at_rest to_read (holding_walk walk (Some place) None)) ⊎ LacksMemory (view_of result) }
-    ensures kept { IsPhaseOf asked.now.shards asked.now.user result }
+    ensures kept { IsBehindOf asked.now.shards asked.now.user result }
 {
     match question(&walk, &asked.user) {
         Ok(Some((userset, user))) => Phase::Ready(Ready::Read(place, walk, userset, user)),
@@ -133,7 +133,7 @@ pub(crate) fn caught_up(
     requires kept { IsOutOf asked.now.shards (out_of.CatchUp place walk call) }
     requires fits { FitsCatchUp call.awaited reply }
     ensures gives { CatchUpGives (view_out (out_of.CatchUp place walk call)) call.awaited reply (view_of result) }
-    ensures kept { IsPhaseOf asked.now.shards asked.now.user result }
+    ensures kept { IsBehindOf asked.now.shards asked.now.user result }
 {
     match call.give(reply) {
         Progress::Next(catch_up) => Phase::Ready(Ready::CatchUp(place, walk, catch_up)),
@@ -155,7 +155,7 @@ fn is_found(walk: &Walk, rows: &[Tuple], user: &User) -> bool
 // The rows of the first that waits.
 fn gather(asked: &AskedCheck, place: u64, walk: Walk, rows: Vec<Tuple>) -> Phase
     ensures goes { (y : _) → IsFirst walk y → RowsGive asked.now.user place (holding_walk walk (Some place) None) y rows.items (view_of result) }
-    ensures kept { IsPhaseOf asked.now.shards asked.now.user result }
+    ensures kept { IsBehindOf asked.now.shards asked.now.user result }
 {
     if is_found(&walk, &rows, &asked.user) {
         return answered(place, true);
@@ -174,7 +174,7 @@ pub(crate) fn have_read(
     answer: Result<ReadReply, Refusal>,
 ) -> Phase
     ensures gives { ReadGives asked.now.user (view_out (out_of.Read place walk)) answer (view_of result) }
-    ensures kept { IsPhaseOf asked.now.shards asked.now.user result }
+    ensures kept { IsBehindOf asked.now.shards asked.now.user result }
 {
     match answer {
         Ok(ReadReply::Rows(rows)) => gather(asked, place, walk, rows),

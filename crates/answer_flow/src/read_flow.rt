@@ -106,6 +106,7 @@ impl ReadFlow {
         requires { MatchOption self.old.seen.awaited ⊥ (λ awaited. Fits self.old.sets self.old.seen awaited reply) }
         ensures asked { self.new ≡ record self.old { seen = self.new.seen; next_name = self.new.next_name } }
         ensures gives { MatchOption self.old.seen.awaited ⊥ (λ awaited. GivesTo self.old.shards self.old.fresh self.old.sets self.old.seen awaited reply self.new.seen) }
+        ensures rests { self.new.seen.awaited ≡ None }
     {
         let phase = mem::replace(&mut self.phase, Phase::Ready(Ready::Heads));
         match phase {

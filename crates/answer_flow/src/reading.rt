@@ -4,7 +4,7 @@ ghost use Rattle.decisions.specs.Flows.{nothing_read};
 ghost use Rattle.records.specs.Identity.{max_shards};
 ghost use Rattle.answer_flow.specs.Finding.{fresh_of};
 ghost use Rattle.answer_flow.specs.Reading.{Continues, Finishes, FlushGives, HeadsGive, CatchUpGives, LacksMemory, Merges, ReadGives, RowsGive};
-ghost use Rattle.answer_flow.specs.ReadViews.{IsNext, IsOfUser, at_rest, catch_up as to_catch_up, IsOutOf, IsPhaseOf, holding, rows_of, shard_for, view_of, view_out};
+ghost use Rattle.answer_flow.specs.ReadViews.{IsNext, IsOfUser, at_rest, catch_up as to_catch_up, IsOutOf, IsBehindOf, holding, rows_of, shard_for, view_of, view_out};
 ghost use Rattle.answer_flow.specs.declared.read_phase.Out.TheVariants as out_of;
 ghost use Rattle.catch_up.specs.CatchingUp.{Fits as FitsCatchUp};
 
@@ -50,7 +50,7 @@ fn copied(set: &Tupleset) -> Result<Tupleset, AllocError>
 fn bring_up(asked: &AskedRead, gathered: Gathered, set: Tupleset) -> Phase
     requires { IsNext asked.now.shards asked.now.sets.items gathered set }
     ensures view { view_of result ≡ at_rest to_catch_up (holding gathered None) }
-    ensures kept { IsPhaseOf asked.now.shards asked.now.sets.items result }
+    ensures kept { IsBehindOf asked.now.shards asked.now.sets.items result }
 {
     let shard = shard_to_ask(&set, asked.shards, gathered.below);
     let catch_up = CatchUp::new(shard, gathered.place);
@@ -60,7 +60,7 @@ fn bring_up(asked: &AskedRead, gathered: Gathered, set: Tupleset) -> Phase
 /// The next tupleset; behind the last one it ends.
 pub(crate) fn go_on(asked: &AskedRead, place: u64, done: Vec<Vec<Tuple>>) -> Phase
     ensures goes { Continues asked.now.sets.items place (record nothing_read { place = Some place; done = rows_of done.items }) (view_of result) }
-    ensures kept { IsPhaseOf asked.now.shards asked.now.sets.items result }
+    ensures kept { IsBehindOf asked.now.shards asked.now.sets.items result }
 {
     let Some(set) = asked.sets.get(done.len()) else {
         return Phase::Ended(ReadEnd::Answered(place, done));
@@ -83,7 +83,7 @@ pub(crate) fn go_on(asked: &AskedRead, place: u64, done: Vec<Vec<Tuple>>) -> Pha
 /// The coordinator has told its heads.
 pub(crate) fn told(asked: &AskedRead, answer: Result<Heads, Refusal>) -> Phase
     ensures gives { HeadsGive (fresh_of asked.now.freshness) asked.now.sets.items answer (view_of result) }
-    ensures kept { IsPhaseOf asked.now.shards asked.now.sets.items result }
+    ensures kept { IsBehindOf asked.now.shards asked.now.sets.items result }
 {
     match answer {
         Ok(heads) => match find(asked.freshness, &heads) {
@@ -98,7 +98,7 @@ pub(crate) fn told(asked: &AskedRead, answer: Result<Heads, Refusal>) -> Phase
 /// The coordinator was flushed, and is asked again.
 pub(crate) fn flushed(asked: &AskedRead, answer: Result<(), Refusal>) -> Phase
     ensures gives { FlushGives answer (view_of result) }
-    ensures kept { IsPhaseOf asked.now.shards asked.now.sets.items result }
+    ensures kept { IsBehindOf asked.now.shards asked.now.sets.items result }
 {
     let _asked = asked;
     match answer {
@@ -118,7 +118,7 @@ pub(crate) fn caught_up(
     requires kept { IsOutOf asked.now.shards asked.now.sets.items (out_of.CatchUp gathered set call) }
     requires fits { FitsCatchUp call.awaited reply }
     ensures gives { CatchUpGives (view_out (out_of.CatchUp gathered set call)) call.awaited reply (view_of result) }
-    ensures kept { IsPhaseOf asked.now.shards asked.now.sets.items result }
+    ensures kept { IsBehindOf asked.now.shards asked.now.sets.items result }
 {
     let _asked = asked;
     match call.give(reply) {
@@ -131,7 +131,7 @@ pub(crate) fn caught_up(
 // A tupleset is done.
 fn finish_one(asked: &AskedRead, place: u64, mut done: Vec<Vec<Tuple>>, rows: Vec<Tuple>) -> Phase
     ensures goes { (h : _) → h ≡ record nothing_read { place = Some place; done = rows_of done.items; below = h.below; rows = h.rows } → Finishes asked.now.sets.items place h rows.items (view_of result) }
-    ensures kept { IsPhaseOf asked.now.shards asked.now.sets.items result }
+    ensures kept { IsBehindOf asked.now.shards asked.now.sets.items result }
 {
     match done.push(rows) {
         Ok(()) => go_on(asked, place, done),
@@ -152,7 +152,7 @@ fn asks_all(set: &Tupleset) -> bool
 fn gather_more(asked: &AskedRead, gathered: Gathered, set: Tupleset, more: Vec<Tuple>) -> Phase
     requires next { IsNext asked.now.shards asked.now.sets.items gathered set }
     ensures goes { LacksMemory (view_of result) ⊎ Merges asked.now.shards asked.now.sets.items gathered.place (holding gathered None) more.items (view_of result) }
-    ensures kept { IsPhaseOf asked.now.shards asked.now.sets.items result }
+    ensures kept { IsBehindOf asked.now.shards asked.now.sets.items result }
 {
     let Gathered {
         place,
@@ -180,7 +180,7 @@ fn gather_more(asked: &AskedRead, gathered: Gathered, set: Tupleset, more: Vec<T
 fn gather(asked: &AskedRead, gathered: Gathered, set: Tupleset, more: Vec<Tuple>) -> Phase
     requires { IsNext asked.now.shards asked.now.sets.items gathered set }
     ensures goes { RowsGive asked.now.shards asked.now.sets.items gathered.place (holding gathered None) set more.items (view_of result) }
-    ensures kept { IsPhaseOf asked.now.shards asked.now.sets.items result }
+    ensures kept { IsBehindOf asked.now.shards asked.now.sets.items result }
 {
     if asks_all(&set) {
         return gather_more(asked, gathered, set, more);
@@ -203,7 +203,7 @@ pub(crate) fn have_read(
 ) -> Phase
     requires { IsNext asked.now.shards asked.now.sets.items gathered set }
     ensures gives { ReadGives asked.now.shards asked.now.sets.items (view_out (out_of.Read gathered)) set answer (view_of result) }
-    ensures kept { IsPhaseOf asked.now.shards asked.now.sets.items result }
+    ensures kept { IsBehindOf asked.now.shards asked.now.sets.items result }
 {
     match answer {
         Ok(ReadReply::Rows(rows)) => gather(asked, gathered, set, rows),

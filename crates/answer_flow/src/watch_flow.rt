@@ -91,6 +91,7 @@ impl WatchFlow {
         requires { MatchOption self.old.seen.awaited ⊥ (λ awaited. Fits awaited reply) }
         ensures asked { self.new ≡ record self.old { seen = self.new.seen } }
         ensures gives { MatchOption self.old.seen.awaited ⊥ (λ awaited. GivesTo self.old.cursor self.old.limit self.old.namespaces self.old.seen awaited reply self.new.seen) }
+        ensures rests { self.new.seen.awaited ≡ None }
     {
         let phase = mem::replace(&mut self.phase, Phase::Ready(Ready::Heads));
         match phase {

@@ -2,7 +2,7 @@
 ghost use Rattle.std.specs.Prelude.{◌≡◌};
 ghost use Rattle.calls.specs.Names.{name_of as name_of_call};
 ghost use Rattle.answer_flow.specs.Watching.{Asks, BatchGives, Fits, FlushGives, GivesTo, HeadsGive, heartbeat as heartbeat_of};
-ghost use Rattle.answer_flow.specs.WatchViews.{IsOutOf, IsReadyOf, IsPhaseOf, awaited_of, name_of, view_of, view_out, view_ready};
+ghost use Rattle.answer_flow.specs.WatchViews.{IsOutOf, IsReadyOf, IsBehindOf, awaited_of, name_of, view_of, view_out, view_ready};
 ghost use Rattle.answer_flow.specs.declared.watch_phase.Out.TheVariants as out_of;
 
 use crate::events::events_of;
@@ -42,7 +42,7 @@ pub(crate) fn next(cursor: u64, limit: u64, ready: Ready) -> (NodeCall, Out)
 // The coordinator has told its heads.
 fn told(cursor: u64, answer: Result<Heads, Refusal>) -> Phase
     ensures gives { HeadsGive cursor answer (view_of result) }
-    ensures kept { IsPhaseOf cursor result }
+    ensures kept { IsBehindOf cursor result }
 {
     match answer {
         Ok(heads) => match find(Freshness::Exact(cursor), &heads) {
@@ -57,7 +57,7 @@ fn told(cursor: u64, answer: Result<Heads, Refusal>) -> Phase
 // The coordinator was flushed, and is asked again.
 fn flushed(answer: Result<(), Refusal>) -> Phase
     ensures gives { FlushGives answer (view_of result) }
-    ensures kept { (cursor : _) → IsPhaseOf cursor result }
+    ensures kept { (cursor : _) → IsBehindOf cursor result }
 {
     match answer {
         Ok(()) => Phase::Ready(Ready::Heads),
@@ -75,7 +75,7 @@ fn fetched(
     answer: Result<Batch, Refusal>,
 ) -> Phase
     ensures gives { BatchGives cursor limit namespaces.now (view_out (out_of.Batch heads)) answer (view_of result) }
-    ensures kept { IsPhaseOf cursor result }
+    ensures kept { IsBehindOf cursor result }
 {
     match answer {
         Ok(batch) => match events_of(alloc, namespaces, &batch) {
@@ -106,7 +106,7 @@ pub(crate) fn give(
 ) -> Phase
     requires { Fits (awaited_of out) reply }
     ensures gives { GivesTo cursor limit namespaces.now (view_out out) (awaited_of out) reply (view_of result) }
-    ensures kept { IsPhaseOf cursor result }
+    ensures kept { IsBehindOf cursor result }
 {
     match out {
         Out::Heads => match reply {

@@ -1,5 +1,5 @@
 -- A care flow as its callers see it.
-use Rattle.std.specs.Prelude.{Option, Some, None}
+use Rattle.std.specs.Prelude.{◌≡◌, Bool, true, false, Option, Some, None, is_some}
 use Rattle.care_flow.specs.declared.end.CareEnd.{CareEnd}
 
 -- What it holds; and one of three: the call that it makes next, the call that is out, or how it ended.
@@ -20,3 +20,12 @@ out holds step = record { holds = holds; next = None; awaited = Some step; ended
 -- it has ended, and holds nothing
 abbrev pub over : {H S : Type 0} → H → CareEnd → CareView H S
 over nothing end = record { holds = nothing; next = None; awaited = None; ended = Some end }
+
+-- a call comes next, or it has ended
+abbrev pub GoesOrEnds : Bool → Option CareEnd → Type 0
+GoesOrEnds true end = end ≡ None
+GoesOrEnds false end = (e : CareEnd) × (end ≡ Some e)
+
+-- behind a reply it waits for no other
+abbrev pub IsBehind : {H S : Type 0} → CareView H S → Type 0
+IsBehind v = GoesOrEnds (is_some v.next) v.ended

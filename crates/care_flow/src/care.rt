@@ -3,6 +3,7 @@ ghost use Rattle.std.specs.Prelude.{◌≡◌, ℕ, Some, None, is_some, option_
 ghost use Rattle.calls.specs.Asking.{MayBeMade};
 ghost use Rattle.calls.specs.Names.{name_of};
 ghost use Rattle.care_flow.specs.Cares.{Answered, Awaits, IsThere, NextCall, TellsOfEach, begun, end_of, has_next, next_name_of};
+ghost use Rattle.care_flow.specs.Views.{GoesOrEnds};
 
 use crate::collecting::CollectFlow;
 use crate::end::CareEnd;
@@ -71,7 +72,8 @@ impl CareFlow {
     /// What the reply to its call makes of it.
     pub fn give(&mut self, reply: Reply)
         requires { Awaits self.old reply }
-        ensures { Answered self.old reply self.new }
+        ensures gives { Answered self.old reply self.new }
+        ensures rests { GoesOrEnds (has_next self.new) (end_of self.new) }
     {
         match self {
             CareFlow::Flush(flow) => flow.give(reply),

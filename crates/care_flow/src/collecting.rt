@@ -4,7 +4,7 @@ ghost use Rattle.decisions.specs.Flows.{no_heads};
 ghost use Rattle.calls.specs.Asking.{MayBeMade};
 ghost use Rattle.care_flow.specs.Collecting.{Answered, Asks, Awaits, CollectGives, Fits, FlushGives, Gives, HeadsGive, NextCall, ask, name_of};
 ghost use Rattle.care_flow.specs.CollectPhases.{having, view_of};
-ghost use Rattle.care_flow.specs.Views.{ready};
+ghost use Rattle.care_flow.specs.Views.{IsBehind, ready};
 
 use crate::end::{CareEnd, end_by, foreign};
 use calls::{CoordinatorCall, CoordinatorReply, NodeCall, Reply, ShardCall, ShardReply};
@@ -82,7 +82,8 @@ fn refused(refusal: Refusal) -> Phase
 }
 
 fn answered(answer: Result<Heads, Refusal>) -> Phase
-    ensures { HeadsGive no_heads answer (view_of result) }
+    ensures gives { HeadsGive no_heads answer (view_of result) }
+    ensures rests { IsBehind (view_of result) }
 {
     match answer {
         Ok(heads) => Phase::Collect(heads, false),
@@ -91,7 +92,8 @@ fn answered(answer: Result<Heads, Refusal>) -> Phase
 }
 
 fn collected(is_again: bool, heads: Heads, answer: Result<(), Refusal>) -> Phase
-    ensures { CollectGives no_heads is_again heads answer (view_of result) }
+    ensures gives { CollectGives no_heads is_again heads answer (view_of result) }
+    ensures rests { IsBehind (view_of result) }
 {
     match answer {
         Ok(()) => Phase::Flush,
@@ -105,7 +107,8 @@ fn collected(is_again: bool, heads: Heads, answer: Result<(), Refusal>) -> Phase
 }
 
 fn flushed(heads: Heads, answer: Result<(), Refusal>) -> Phase
-    ensures { FlushGives (having heads) answer (view_of result) }
+    ensures gives { FlushGives (having heads) answer (view_of result) }
+    ensures rests { IsBehind (view_of result) }
 {
     match answer {
         Ok(()) => Phase::Collect(heads, true),
@@ -115,7 +118,8 @@ fn flushed(heads: Heads, answer: Result<(), Refusal>) -> Phase
 
 fn give(phase: Phase, reply: Reply) -> Phase
     requires { MatchOption (view_of phase).awaited ⊥ (λ step. Fits step reply) }
-    ensures { MatchOption (view_of phase).awaited ⊥ (λ step. Gives (view_of phase).holds step reply (view_of result)) }
+    ensures gives { MatchOption (view_of phase).awaited ⊥ (λ step. Gives (view_of phase).holds step reply (view_of result)) }
+    ensures rests { IsBehind (view_of result) }
 {
     match phase {
         Phase::Asked => match reply {
@@ -178,6 +182,7 @@ impl CollectFlow {
         requires { Awaits self.old reply }
         ensures shard { self.new.shard ≡ self.old.shard }
         ensures gives { Answered self.old reply self.new }
+        ensures rests { IsBehind self.new.seen }
     {
         let phase = mem::replace(&mut self.phase, Phase::Asked);
         self.phase = give(phase, reply);

@@ -2,7 +2,7 @@
 ghost use Rattle.std.specs.Prelude.{◌≡◌, ◌<◌, ℕ, None, Some, option_map};
 ghost use Rattle.calls.specs.Asking.{MayBeMade};
 ghost use Rattle.care_flow.specs.Flushing.{Answered, Awaits, Fits, Gives, IsThere, NextCall, flush, flush_of, name_of};
-ghost use Rattle.care_flow.specs.Views.{out, ready};
+ghost use Rattle.care_flow.specs.Views.{IsBehind, out, ready};
 
 use crate::end::{CareEnd, end_by, foreign};
 use calls::{CoordinatorCall, CoordinatorReply, NodeCall, Reply, ShardCall, ShardReply};
@@ -94,6 +94,7 @@ impl FlushFlow {
         requires { Awaits self.old reply }
         ensures node { self.new.node ≡ self.old.node }
         ensures gives { Answered self.old reply self.new }
+        ensures rests { IsBehind self.new.seen }
     {
         self.phase = Phase::Ended(give(self.node, reply));
     }

@@ -7,7 +7,7 @@ ghost use Rattle.names.specs.declared.call_name.CallName.TheVariants as names;
 ghost use Rattle.catch_up.specs.CatchingUp.{Fits as FitsCatchUp};
 ghost use Rattle.care_flow.specs.Learning.{Answered, Asks, Awaits, Fits, Gives, HasLearned, HeadsGive, IsDone, NextCall, ask, catch_up as catching};
 ghost use Rattle.care_flow.specs.LearnPhases.{IsOf, name_of, view_of};
-ghost use Rattle.care_flow.specs.Views.{ready};
+ghost use Rattle.care_flow.specs.Views.{IsBehind, ready};
 
 use crate::end::{CareEnd, foreign};
 use calls::{CoordinatorCall, CoordinatorReply, NodeCall, Reply};
@@ -80,6 +80,7 @@ fn refused(refusal: Refusal) -> Phase
 
 fn answered(shard: u8, answer: Result<Heads, Refusal>) -> Phase
     ensures gives { HeadsGive no_heads answer (view_of result) }
+    ensures rests { IsBehind (view_of result) }
     ensures kept { IsOf shard result }
 {
     match answer {
@@ -95,6 +96,7 @@ fn caught_up(heads: Heads, call: CatchUpCall, reply: Reply) -> Phase
     requires fits { FitsCatchUp call.awaited reply }
     requires to { call.held.to ≡ heads.kept }
     ensures gives { Gives call.held.shard (view_of (Phase.CatchingUp heads call)).holds (catching (Some call.awaited)) reply (view_of result) }
+    ensures rests { IsBehind (view_of result) }
     ensures kept { IsOf call.held.shard result }
 {
     match call.give(reply) {
@@ -108,6 +110,7 @@ fn give(shard: u8, phase: Phase, reply: Reply) -> Phase
     requires fits { MatchOption (view_of phase).awaited ⊥ (λ step. Fits step reply) }
     requires kept { IsOf shard phase }
     ensures gives { MatchOption (view_of phase).awaited ⊥ (λ step. Gives shard (view_of phase).holds step reply (view_of result)) }
+    ensures rests { IsBehind (view_of result) }
     ensures kept { IsOf shard result }
 {
     match phase {
@@ -161,6 +164,7 @@ impl LearnFlow {
         requires { Awaits self.old reply }
         ensures shard { self.new.shard ≡ self.old.shard }
         ensures gives { Answered self.old reply self.new }
+        ensures rests { IsBehind self.new.seen }
         ensures done { IsDone self.new.seen → HasLearned self.old.seen.holds reply }
     {
         let phase = mem::replace(&mut self.phase, Phase::Asked);

@@ -4,7 +4,7 @@ ghost use Rattle.decisions.specs.Coordinators.{HaveSettled};
 ghost use Rattle.decisions.specs.Flows.{nothing_raised};
 ghost use Rattle.catch_up.specs.CatchingUp.{Fits as FitsCatchUp};
 ghost use Rattle.care_flow.specs.Raising.{Fits, FlushGives, Gives, GoesRound, HeadsGive, RaiseGives, SettleGives, catch_up as catching};
-ghost use Rattle.care_flow.specs.Views.{ready};
+ghost use Rattle.care_flow.specs.Views.{IsBehind, ready};
 ghost use Rattle.care_flow.specs.RaisePhases.{IsOf, IsRoundOf, gathering as held_by, handed_in, view_of};
 
 use crate::end::{CareEnd, end_by, foreign};
@@ -27,6 +27,7 @@ fn refused(refusal: Refusal) -> Phase
 fn begin(gathering: Gathering) -> Phase
     requires { IsRoundOf gathering.shards gathering.place gathering }
     ensures goes { view_of result ≡ ready (held_by gathering None) (catching gathering.next None) }
+    ensures rests { IsBehind (view_of result) }
     ensures kept { IsOf gathering.shards gathering.place result }
 {
     let catch_up = gathering.catch_up();
@@ -36,6 +37,7 @@ fn begin(gathering: Gathering) -> Phase
 // The next shard's turn; behind the last one the horizon is raised.
 fn go_round(gathering: Gathering) -> Phase
     ensures goes { GoesRound gathering.shards (held_by gathering None) gathering.next (view_of result) }
+    ensures rests { IsBehind (view_of result) }
     ensures kept { IsOf gathering.shards gathering.place result }
 {
     if gathering.has_next() {
@@ -47,6 +49,7 @@ fn go_round(gathering: Gathering) -> Phase
 // No shard can settle a place above the log, so the flow refuses it by itself.
 fn answered(alloc: Global, shards: u8, place: u64, answer: Result<Heads, Refusal>) -> Phase
     ensures gives { HeadsGive shards place nothing_raised answer (view_of result) }
+    ensures rests { IsBehind (view_of result) }
     ensures kept { IsOf shards place result }
 {
     match answer {
@@ -71,6 +74,7 @@ fn caught_up(gathering: Gathering, call: CatchUpCall, reply: Reply) -> Phase
     requires round { IsRoundOf gathering.shards gathering.place gathering }
     requires own { (call.held.shard ≡ gathering.next) × (call.held.to ≡ gathering.heads.kept) }
     ensures gives { Gives gathering.shards gathering.place (view_of (Phase.CatchingUp gathering call)).holds (catching gathering.next (Some call.awaited)) reply (view_of result) }
+    ensures rests { IsBehind (view_of result) }
     ensures kept { IsOf gathering.shards gathering.place result }
 {
     match call.give(reply) {
@@ -83,6 +87,7 @@ fn caught_up(gathering: Gathering, call: CatchUpCall, reply: Reply) -> Phase
 // A flush behind which the phase comes.
 fn flushed(behind: Phase, answer: Result<(), Refusal>) -> Phase
     ensures gives { FlushGives answer (view_of behind) (view_of result) }
+    ensures rests { IsBehind (view_of behind) → IsBehind (view_of result) }
     ensures kept { (shards place : ℕ) → IsOf shards place behind → IsOf shards place result }
 {
     match answer {
@@ -94,6 +99,7 @@ fn flushed(behind: Phase, answer: Result<(), Refusal>) -> Phase
 fn settled(mut gathering: Gathering, answer: Result<Settled, Refusal>) -> Phase
     requires { IsRoundOf gathering.shards gathering.place gathering }
     ensures gives { SettleGives gathering.shards gathering.place (held_by gathering None) gathering.next answer (view_of result) }
+    ensures rests { IsBehind (view_of result) }
     ensures kept { IsOf gathering.shards gathering.place result }
 {
     match answer {
@@ -118,6 +124,7 @@ fn raised(
 ) -> Phase
     requires { IfErr answer (λ back. HaveSettled shards place back.settled.items) }
     ensures gives { RaiseGives (handed_in heads) is_again answer (view_of result) }
+    ensures rests { IsBehind (view_of result) }
     ensures kept { IsOf shards place result }
 {
     match answer {
@@ -137,6 +144,7 @@ pub(crate) fn give(alloc: Global, shards: u8, place: u64, phase: Phase, reply: R
     requires fits { MatchOption (view_of phase).awaited ⊥ (λ step. Fits shards place step reply) }
     requires kept { IsOf shards place phase }
     ensures gives { MatchOption (view_of phase).awaited ⊥ (λ step. Gives shards place (view_of phase).holds step reply (view_of result)) }
+    ensures rests { IsBehind (view_of result) }
     ensures kept { IsOf shards place result }
 {
     match phase {

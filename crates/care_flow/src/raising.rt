@@ -6,7 +6,7 @@ ghost use Rattle.names.specs.declared.call_name.CallName.TheVariants as names;
 ghost use Rattle.decisions.specs.Flows.{nothing_raised};
 ghost use Rattle.care_flow.specs.Raising.{Answered, Awaits, NextCall, ask};
 ghost use Rattle.care_flow.specs.RaisePhases.{IsOf, view_of};
-ghost use Rattle.care_flow.specs.Views.{ready};
+ghost use Rattle.care_flow.specs.Views.{IsBehind, ready};
 
 use crate::end::CareEnd;
 use crate::gathering::{Gathered, Gathering};
@@ -116,6 +116,7 @@ impl RaiseFlow {
         requires { Awaits self.old reply }
         ensures same { (self.new.shards ≡ self.old.shards) × (self.new.place ≡ self.old.place) }
         ensures gives { Answered self.old reply self.new }
+        ensures rests { IsBehind self.new.seen }
     {
         let phase = mem::replace(&mut self.phase, Phase::Asked);
         self.phase = give(self.alloc, self.shards, self.place, phase, reply);

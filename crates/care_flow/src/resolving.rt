@@ -9,7 +9,7 @@ ghost use Rattle.decisions.specs.Flows.{ResolveHolds};
 ghost use Rattle.care_flow.specs.Ends.{id_of, next_of, resolved_value};
 ghost use Rattle.care_flow.specs.Resolving.{Answered, Asks, Awaits, DoubtsGive, DropGives, Fits, Gives, GoesThrough, HasCommitted, InquiryGives, NextCall, catch_up as catching, in_doubt, nothing_found};
 ghost use Rattle.care_flow.specs.ResolvePhases.{IsOf, holding, name_of, view_of};
-ghost use Rattle.care_flow.specs.Views.{ready};
+ghost use Rattle.care_flow.specs.Views.{IsBehind, ready};
 
 use crate::end::{CareEnd, Resolved, foreign};
 use crate::findings::Findings;
@@ -99,6 +99,7 @@ fn next(shard: u8, findings: &Findings, phase: Phase) -> (Phase, Option<NodeCall
 // It goes on to the next write.
 fn go_on(shard: u8, findings: &Findings) -> Phase
     ensures goes { (doubts : List WriteId) (h : ResolveHolds) → doubts ≡ findings.now.doubts.items → h ≡ holding findings.now None None → GoesThrough doubts h (view_of findings.now result) }
+    ensures rests { IsBehind (view_of findings.now result) }
     ensures kept { IsOf shard findings.now result }
 {
     let _shard = shard;
@@ -116,6 +117,7 @@ fn told(
 ) -> Phase
     requires { findings.old.found.items ≡ [] }
     ensures gives { DoubtsGive (holding findings.old None None) answer findings.new.doubts.items (view_of findings.new result) }
+    ensures rests { IsBehind (view_of findings.new result) }
     ensures kept { IsOf shard findings.new result }
 {
     match answer {
@@ -139,6 +141,7 @@ fn inquired(
     requires { next_of findings.old.doubts.items findings.old.found.items ≡ Some id }
     ensures doubts { findings.new.doubts ≡ findings.old.doubts }
     ensures gives { InquiryGives findings.old.doubts.items (holding findings.old None None) id answer (view_of findings.new result) }
+    ensures rests { IsBehind (view_of findings.new result) }
     ensures kept { IsOf shard findings.new result }
 {
     match answer {
@@ -164,6 +167,7 @@ fn caught_up(shard: u8, findings: &Findings, call: CatchUpCall, reply: Reply) ->
     requires shard { call.held.shard ≡ shard }
     requires committed { HasCommitted (map resolved_value findings.now.found.items) call.held.to }
     ensures gives { Gives shard findings.now.doubts.items (view_of findings.now (Phase.CatchingUp call)).holds (catching call.held.to (Some call.awaited)) reply findings.now.doubts.items (view_of findings.now result) }
+    ensures rests { IsBehind (view_of findings.now result) }
     ensures kept { IsOf shard findings.now result }
 {
     match call.give(reply) {
@@ -175,6 +179,7 @@ fn caught_up(shard: u8, findings: &Findings, call: CatchUpCall, reply: Reply) ->
 
 fn dropped(shard: u8, findings: &Findings, answer: Result<(), Refusal>) -> Phase
     ensures gives { DropGives findings.now.doubts.items (holding findings.now None None) answer (view_of findings.now result) }
+    ensures rests { IsBehind (view_of findings.now result) }
     ensures kept { IsOf shard findings.now result }
 {
     match answer {
@@ -188,6 +193,7 @@ fn give(alloc: Global, shard: u8, findings: &mut Findings, phase: Phase, reply: 
     requires kept { IsOf shard findings.old phase }
     ensures gives { MatchOption (view_of findings.old phase).awaited ⊥
         (λ step. Gives shard findings.old.doubts.items (view_of findings.old phase).holds step reply findings.new.doubts.items (view_of findings.new result)) }
+    ensures rests { IsBehind (view_of findings.new result) }
     ensures kept { IsOf shard findings.new result }
 {
     match phase {
@@ -256,6 +262,7 @@ impl ResolveFlow {
         requires { Awaits self.old reply }
         ensures shard { self.new.shard ≡ self.old.shard }
         ensures gives { Answered self.old reply self.new }
+        ensures rests { IsBehind self.new.seen }
     {
         let phase = mem::replace(&mut self.phase, Phase::AskedDoubts);
         self.phase = give(self.alloc, self.shard, &mut self.findings, phase, reply);

@@ -6,11 +6,12 @@ use Rattle.cluster.specs.declared.flow.Flow.TheVariants.{Write, Read, Check, Wat
 use Rattle.cluster.specs.declared.flow.Writing.{Writing}
 use Rattle.cluster.specs.Flows.{NamesNext}
 
--- A write goes out by its flow, or on to its end where it is decided, and nothing more is told of it.
+-- A write goes out by its flow, or on to its end where it is decided, and nothing more is told of it. A cancel makes no call.
 pub record CancelsWrite (old new : Writing) : Type 0 where
   pub marked : new.is_cancelled ≡ true
   pub shards : new.flow.shards ≡ old.flow.shards
   pub cancels : writes.Cancels old.flow.seen new.flow.seen
+  pub rests : old.flow.seen.awaited ≡ None → new.flow.seen.awaited ≡ None
   pub named : NamesNext new.flow.next_name new.flow.seen.awaited new.flow.seen.ended
 
 -- A cancelled write stays as long as a call of it comes next; every other flow is gone at once.

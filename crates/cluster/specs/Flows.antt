@@ -15,6 +15,7 @@ use Rattle.answer_flow.specs.Watching as watches
 use Rattle.answer_flow.specs.WatchViews as watch_views
 use Rattle.answer_flow.specs.WatchViews.{WatchFlowValue}
 use Rattle.care_flow.specs.Cares as cares
+use Rattle.care_flow.specs.Views.{GoesOrEnds}
 use Rattle.care_flow.specs.declared.care.CareFlow.{CareFlow}
 use Rattle.cluster.specs.declared.flow.Flow.{Flow}
 use Rattle.cluster.specs.declared.flow.Flow.TheVariants.{Write, Read, Check, Watch, Care}
@@ -75,22 +76,22 @@ AsksWatch old call out = (watch_views.next_name_of old.seen ≡ Some (name_of ca
 abbrev pub AsksCare : CareFlow → NodeCall → CareFlow → Type 0
 AsksCare old call out = (cares.next_name_of old ≡ Some (name_of call)) × cares.NextCall old (Some call) out × ((shards : ℕ) → cares.IsThere shards old → MayBeMade shards call)
 
--- What the reply to the call that is out makes of each kind of flow.
+-- What the reply to the call that is out makes of each kind of flow: behind it none is out.
 abbrev pub GivesWrite : Writing → Reply → Writing → Type 0
 GivesWrite out reply later = (later.is_cancelled ≡ out.is_cancelled) × (later.flow.shards ≡ out.flow.shards)
-    × MatchOption out.flow.seen.awaited ⊥ (λ awaited. write_replies.GivesTo out.flow.seen awaited reply later.flow.seen)
+    × MatchOption out.flow.seen.awaited ⊥ (λ awaited. write_replies.GivesTo out.flow.seen awaited reply later.flow.seen) × (later.flow.seen.awaited ≡ None)
 
 abbrev pub GivesRead : ReadFlowValue → Reply → ReadFlowValue → Type 0
 GivesRead out reply later = (later ≡ record out { seen = later.seen; next_name = later.next_name })
-    × MatchOption out.seen.awaited ⊥ (λ awaited. reads.GivesTo out.shards out.fresh out.sets out.seen awaited reply later.seen)
+    × MatchOption out.seen.awaited ⊥ (λ awaited. reads.GivesTo out.shards out.fresh out.sets out.seen awaited reply later.seen) × (later.seen.awaited ≡ None)
 
 abbrev pub GivesCheck : CheckFlowValue → Reply → CheckFlowValue → Type 0
 GivesCheck out reply later = (later ≡ record out { seen = later.seen; next_name = later.next_name })
-    × MatchOption out.seen.awaited ⊥ (λ awaited. checks.GivesTo out.fresh out.user out.seen awaited reply later.seen)
+    × MatchOption out.seen.awaited ⊥ (λ awaited. checks.GivesTo out.fresh out.user out.seen awaited reply later.seen) × (later.seen.awaited ≡ None)
 
 abbrev pub GivesWatch : WatchFlowValue → Reply → WatchFlowValue → Type 0
 GivesWatch out reply later = (later ≡ record out { seen = later.seen })
-    × MatchOption out.seen.awaited ⊥ (λ awaited. watches.GivesTo out.cursor out.limit out.namespaces out.seen awaited reply later.seen)
+    × MatchOption out.seen.awaited ⊥ (λ awaited. watches.GivesTo out.cursor out.limit out.namespaces out.seen awaited reply later.seen) × (later.seen.awaited ≡ None)
 
 abbrev pub GivesCare : CareFlow → Reply → CareFlow → Type 0
-GivesCare out reply later = cares.Answered out reply later
+GivesCare out reply later = cares.Answered out reply later × GoesOrEnds (cares.has_next later) (cares.end_of later)

@@ -1,5 +1,5 @@
 -- What a flow of a store of so many shards keeps in each phase, beside what its values keep themselves.
-use Rattle.std.specs.Prelude.{◌≡◌, ℕ, []}
+use Rattle.std.specs.Prelude.{◌≡◌, ℕ, [], None}
 use Rattle.std.specs.Vec.{vec_len}
 use Rattle.commit_flow.specs.declared.load.Load.{Load}
 use Rattle.commit_flow.specs.declared.phase.Ready.{Ready}
@@ -8,6 +8,7 @@ use Rattle.commit_flow.specs.declared.phase.Out.{Out}
 use Rattle.commit_flow.specs.declared.phase.Out.TheVariants as out
 use Rattle.commit_flow.specs.declared.phase.Phase.{Phase}
 use Rattle.commit_flow.specs.declared.phase.Phase.TheVariants as phases
+use Rattle.commit_flow.specs.Views.{view_of}
 
 -- of a store of so many shards, and with nothing in it
 abbrev pub IsFresh : ℕ → Load → Type 0
@@ -48,3 +49,7 @@ abbrev pub IsPhaseOf : ℕ → Phase → Type 0
 IsPhaseOf n (phases.Ready r) = IsReadyOf n r
 IsPhaseOf n (phases.Out o) = IsOutOf n o
 IsPhaseOf n (phases.Ended end) = Unit {0}
+
+-- behind a reply it waits for no other
+abbrev pub IsBehindOf : ℕ → Phase → Type 0
+IsBehindOf n p = IsPhaseOf n p × ((view_of p).awaited ≡ None)

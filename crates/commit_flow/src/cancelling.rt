@@ -1,7 +1,7 @@
 // A write is cancelled.
-ghost use Rattle.std.specs.Prelude.{◌≡◌, ℕ, false};
+ghost use Rattle.std.specs.Prelude.{◌≡◌, ℕ, None, false};
 ghost use Rattle.commit_flow.specs.Cancelling.{Cancels};
-ghost use Rattle.commit_flow.specs.Kept.{IsReadyOf, IsPhaseOf};
+ghost use Rattle.commit_flow.specs.Kept.{IsBehindOf, IsPhaseOf, IsReadyOf};
 ghost use Rattle.commit_flow.specs.Views.{view_of, view_ready};
 ghost use Rattle.commit_flow.specs.declared.phase.Ready.TheVariants as ready_of;
 
@@ -23,7 +23,7 @@ fn cancel_unbegun(load: Load) -> Phase
 
 fn cancel_preparing(preparing: Preparing) -> Phase
     ensures cancels { Cancels (view_ready (ready_of.Prepare preparing false)) (view_of result) }
-    ensures kept { IsPhaseOf preparing.load.shards result }
+    ensures kept { IsBehindOf preparing.load.shards result }
 {
     let Preparing {
         intent,
@@ -35,7 +35,7 @@ fn cancel_preparing(preparing: Preparing) -> Phase
 
 fn cancel_voting(voting: Voting, ticket: Ticket) -> Phase
     ensures cancels { Cancels (view_ready (ready_of.Vote voting ticket)) (view_of result) }
-    ensures kept { IsPhaseOf voting.load.shards result }
+    ensures kept { IsBehindOf voting.load.shards result }
 {
     let Voting {
         intent,
@@ -47,7 +47,7 @@ fn cancel_voting(voting: Voting, ticket: Ticket) -> Phase
 
 fn cancel_ballot(alloc: Global, ballot: Ballot) -> Phase
     ensures cancels { Cancels (view_ready (ready_of.FlushToDecide ballot)) (view_of result) }
-    ensures kept { IsPhaseOf ballot.shards result }
+    ensures kept { IsBehindOf ballot.shards result }
 {
     let (_shards, intent, votes) = ballot.into_parts();
     Phase::Ready(go_out_voted(alloc, None, intent, votes))
@@ -55,6 +55,7 @@ fn cancel_ballot(alloc: Global, ballot: Ballot) -> Phase
 
 fn cancel_ready(alloc: Global, ready: Ready) -> Phase
     ensures cancels { Cancels (view_ready ready) (view_of result) }
+    ensures rests { (view_of result).awaited ≡ None }
     ensures kept { (shards : ℕ) → IsReadyOf shards ready → IsPhaseOf shards result }
 {
     match ready {
@@ -79,6 +80,7 @@ fn cancel_ready(alloc: Global, ready: Ready) -> Phase
 /// Takes it out before its decision.
 pub(crate) fn cancel(alloc: Global, phase: Phase) -> Phase
     ensures cancels { Cancels (view_of phase) (view_of result) }
+    ensures rests { (view_of phase).awaited ≡ None → (view_of result).awaited ≡ None }
     ensures kept { (shards : ℕ) → IsPhaseOf shards phase → IsPhaseOf shards result }
 {
     match phase {

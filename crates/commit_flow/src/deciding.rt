@@ -2,7 +2,7 @@
 ghost use Rattle.std.specs.Prelude.{◌≡◌, [], Some, None, true, ℕ};
 ghost use Rattle.decisions.specs.Coordinators.{HaveVoted};
 ghost use Rattle.commit_flow.specs.Answering.{ComesNext, DecideGives, FlushGives, NotDecidedGives, OutcomeGives, RefusedBack};
-ghost use Rattle.commit_flow.specs.Kept.{IsReadyOf, IsPhaseOf};
+ghost use Rattle.commit_flow.specs.Kept.{IsReadyOf, IsBehindOf};
 ghost use Rattle.commit_flow.specs.Views.{at_rest, holds_onward, name_of, view_of, view_out, view_ready};
 ghost use Rattle.commit_flow.specs.WriteHolds as awaits;
 ghost use Rattle.commit_flow.specs.WriteHolds.{outward};
@@ -110,7 +110,7 @@ pub(crate) fn flushed_to_decide(alloc: Global, ballot: Ballot, answer: Result<()
 pub(crate) fn told(id: WriteId, outcome: Outcome) -> Phase
     ensures gives { OutcomeGives (view_out (outcome_out id)) outcome (view_of result) }
     ensures next { ComesNext awaits.outcome (replies.Coordinator (coordinator_replies.Outcome outcome)) (name_of result) }
-    ensures kept { (shards : ℕ) → IsPhaseOf shards result }
+    ensures kept { (shards : ℕ) → IsBehindOf shards result }
 {
     match outcome {
         Outcome::Kept(place) => Phase::Ended(WriteEnd::Wrote(place)),

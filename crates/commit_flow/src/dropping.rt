@@ -1,7 +1,7 @@
 // A write that was refused or cancelled, on its way out.
 ghost use Rattle.std.specs.Prelude.{◌≡◌, Some, None, ℕ};
 ghost use Rattle.commit_flow.specs.Answering.{AbortGives, GoesToDrop, InquireGives, end_of};
-ghost use Rattle.commit_flow.specs.Kept.{IsPhaseOf};
+ghost use Rattle.commit_flow.specs.Kept.{IsBehindOf};
 ghost use Rattle.commit_flow.specs.Views.{view_ended, view_of, view_out};
 ghost use Rattle.commit_flow.specs.WriteHolds.{outward};
 ghost use Rattle.commit_flow.specs.declared.phase.Out.TheVariants.{Abort as abort_out, DropWrite as drop_out, Inquire as inquire_out};
@@ -26,7 +26,7 @@ pub(crate) fn end_by(met: Option<Refusal>) -> WriteEnd
 /// It has ended: what the shards gave is left to later verdicts.
 pub(crate) fn end(leaving: Leaving) -> Phase
     ensures gives { view_of result ≡ view_ended (end_of (outward leaving.met)) }
-    ensures kept { (shards : ℕ) → IsPhaseOf shards result }
+    ensures kept { (shards : ℕ) → IsBehindOf shards result }
 {
     let met = leaving.met;
     leaving.leave();
@@ -36,7 +36,7 @@ pub(crate) fn end(leaving: Leaving) -> Phase
 /// The verdict goes to the next shard that gave something, votes first, since their shards come first.
 fn drop_next(verdict: Verdict, mut leaving: Leaving) -> Phase
     ensures gives { GoesToDrop (view_out (drop_out leaving)) verdict.id (view_of result) }
-    ensures kept { (shards : ℕ) → IsPhaseOf shards result }
+    ensures kept { (shards : ℕ) → IsBehindOf shards result }
 {
     if let Some(vote) = take_first(&mut leaving.votes) {
         let shard = vote.shard();
@@ -54,7 +54,7 @@ fn drop_next(verdict: Verdict, mut leaving: Leaving) -> Phase
 /// The coordinator has aborted the write, or not.
 pub(crate) fn aborted(leaving: Leaving, answer: Result<Verdict, Refusal>) -> Phase
     ensures gives { AbortGives (view_out (abort_out leaving)) answer (view_of result) }
-    ensures kept { (shards : ℕ) → IsPhaseOf shards result }
+    ensures kept { (shards : ℕ) → IsBehindOf shards result }
 {
     match answer {
         Ok(verdict) => drop_next(verdict, leaving),
@@ -65,7 +65,7 @@ pub(crate) fn aborted(leaving: Leaving, answer: Result<Verdict, Refusal>) -> Pha
 /// What the coordinator knows of a write whose intent is spent.
 pub(crate) fn inquired(leaving: Leaving, answer: Result<Inquiry, Refusal>) -> Phase
     ensures gives { InquireGives (view_out (inquire_out leaving)) answer (view_of result) }
-    ensures kept { (shards : ℕ) → IsPhaseOf shards result }
+    ensures kept { (shards : ℕ) → IsBehindOf shards result }
 {
     match answer {
         Ok(Inquiry::Abort(verdict)) => drop_next(verdict, leaving),
@@ -78,7 +78,7 @@ pub(crate) fn inquired(leaving: Leaving, answer: Result<Inquiry, Refusal>) -> Ph
 /// A shard has dropped the write, or is down: the next one's turn has come.
 pub(crate) fn dropped(leaving: Leaving, verdict: Verdict) -> Phase
     ensures gives { GoesToDrop (view_out (drop_out leaving)) verdict.id (view_of result) }
-    ensures kept { (shards : ℕ) → IsPhaseOf shards result }
+    ensures kept { (shards : ℕ) → IsBehindOf shards result }
 {
     drop_next(verdict, leaving)
 }

@@ -113,6 +113,7 @@ impl WriteFlow {
         ensures shards { self.new.shards ≡ self.old.shards }
         ensures gives { MatchOption self.old.seen.awaited ⊥ (λ awaited. GivesTo self.old.seen awaited reply self.new.seen) }
         ensures next { MatchOption self.old.seen.awaited ⊥ (λ awaited. ComesNext awaited reply self.new.next_name) }
+        ensures rests { self.new.seen.awaited ≡ None }
     {
         let phase = mem::replace(&mut self.phase, Phase::Ended(WriteEnd::Cancelled));
         match phase {
@@ -130,6 +131,7 @@ impl WriteFlow {
     pub fn cancel(&mut self)
         ensures shards { self.new.shards ≡ self.old.shards }
         ensures cancels { Cancels self.old.seen self.new.seen }
+        ensures rests { self.old.seen.awaited ≡ None → self.new.seen.awaited ≡ None }
     {
         let phase = mem::replace(&mut self.phase, Phase::Ended(WriteEnd::Cancelled));
         put(&mut self.phase, cancel(self.alloc, phase));

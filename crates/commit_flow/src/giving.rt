@@ -2,7 +2,7 @@
 ghost use Rattle.std.specs.Prelude.{ℕ, ◌≡◌, ◌≤◌};
 ghost use Rattle.records.specs.Identity.{max_shards};
 ghost use Rattle.commit_flow.specs.Answering.{ComesNext, Fits, GivesTo};
-ghost use Rattle.commit_flow.specs.Kept.{IsFresh, IsOutOf, IsPhaseOf};
+ghost use Rattle.commit_flow.specs.Kept.{IsFresh, IsOutOf, IsBehindOf};
 ghost use Rattle.commit_flow.specs.Views.{awaited_of, name_of, view_of, view_out};
 ghost use Rattle.commit_flow.specs.declared.phase.Out.TheVariants as out_of;
 
@@ -32,7 +32,7 @@ fn give_decide(alloc: Global, shards: u8, id: WriteId, is_again: bool, reply: Re
     requires few { shards ≤ max_shards }
     requires fits { Fits shards (view_out (out_of.Decide shards id is_again)) (awaited_of (out_of.Decide shards id is_again)) reply }
     ensures gives { GivesTo (view_out (out_of.Decide shards id is_again)) (awaited_of (out_of.Decide shards id is_again)) reply (view_of result) }
-    ensures kept { IsPhaseOf shards result }
+    ensures kept { IsBehindOf shards result }
 {
     match reply {
         Reply::Coordinator(CoordinatorReply::Decide(answer)) => {
@@ -46,7 +46,7 @@ fn give_begin(load: Load, reply: Reply) -> Phase
     requires fresh { IsFresh load.shards load }
     requires fits { Fits load.shards (view_out (out_of.Begin load)) (awaited_of (out_of.Begin load)) reply }
     ensures gives { GivesTo (view_out (out_of.Begin load)) (awaited_of (out_of.Begin load)) reply (view_of result) }
-    ensures kept { IsPhaseOf load.shards result }
+    ensures kept { IsBehindOf load.shards result }
 {
     match reply {
         Reply::Coordinator(CoordinatorReply::Begin(answer)) => begun(load, answer),
@@ -60,7 +60,7 @@ fn give_begin(load: Load, reply: Reply) -> Phase
 fn give_prepare(asked: AskedPrepare, is_again: bool, reply: Reply) -> Phase
     requires fits { Fits asked.load.shards (view_out (out_of.Prepare asked is_again)) (awaited_of (out_of.Prepare asked is_again)) reply }
     ensures gives { GivesTo (view_out (out_of.Prepare asked is_again)) (awaited_of (out_of.Prepare asked is_again)) reply (view_of result) }
-    ensures kept { IsPhaseOf asked.load.shards result }
+    ensures kept { IsBehindOf asked.load.shards result }
 {
     match reply {
         Reply::Shard(ShardReply::StagePrepare(intent, answer)) => Phase::Ready(prepared(
@@ -76,7 +76,7 @@ fn give_prepare(asked: AskedPrepare, is_again: bool, reply: Reply) -> Phase
 fn give_flush_to_prepare(preparing: Preparing, reply: Reply) -> Phase
     requires fits { Fits preparing.load.shards (view_out (out_of.FlushToPrepare preparing)) (awaited_of (out_of.FlushToPrepare preparing)) reply }
     ensures gives { GivesTo (view_out (out_of.FlushToPrepare preparing)) (awaited_of (out_of.FlushToPrepare preparing)) reply (view_of result) }
-    ensures kept { IsPhaseOf preparing.load.shards result }
+    ensures kept { IsBehindOf preparing.load.shards result }
 {
     match reply {
         Reply::Shard(ShardReply::Flush(answer)) => Phase::Ready(flushed_to_prepare(
@@ -93,7 +93,7 @@ fn give_vote(voting: Voting, reply: Reply) -> Phase
     requires fits { Fits voting.load.shards (view_out (out_of.Vote voting)) (awaited_of (out_of.Vote voting)) reply }
     ensures gives { GivesTo (view_out (out_of.Vote voting)) (awaited_of (out_of.Vote voting)) reply (view_of result) }
     ensures next { ComesNext (awaited_of (out_of.Vote voting)) reply (name_of result) }
-    ensures kept { IsPhaseOf voting.load.shards result }
+    ensures kept { IsBehindOf voting.load.shards result }
 {
     match reply {
         Reply::Shard(ShardReply::Vote(answer)) => Phase::Ready(voted(voting, answer)),
@@ -109,7 +109,7 @@ fn give_flush_to_vote(voting: Voting, ticket: Ticket, reply: Reply) -> Phase
     requires fits { Fits voting.load.shards (view_out (out_of.FlushToVote voting ticket)) (awaited_of (out_of.FlushToVote voting ticket)) reply }
     ensures gives { GivesTo (view_out (out_of.FlushToVote voting ticket)) (awaited_of (out_of.FlushToVote voting ticket)) reply (view_of result) }
     ensures next { ComesNext (awaited_of (out_of.FlushToVote voting ticket)) reply (name_of result) }
-    ensures kept { IsPhaseOf voting.load.shards result }
+    ensures kept { IsBehindOf voting.load.shards result }
 {
     match reply {
         Reply::Shard(ShardReply::Flush(answer)) => Phase::Ready(flushed_to_vote(
@@ -125,7 +125,7 @@ fn give_flush_to_vote(voting: Voting, ticket: Ticket, reply: Reply) -> Phase
 fn give_flush_to_decide(alloc: Global, ballot: Ballot, reply: Reply) -> Phase
     requires fits { Fits ballot.shards (view_out (out_of.FlushToDecide ballot)) (awaited_of (out_of.FlushToDecide ballot)) reply }
     ensures gives { GivesTo (view_out (out_of.FlushToDecide ballot)) (awaited_of (out_of.FlushToDecide ballot)) reply (view_of result) }
-    ensures kept { IsPhaseOf ballot.shards result }
+    ensures kept { IsBehindOf ballot.shards result }
 {
     match reply {
         Reply::Coordinator(CoordinatorReply::Flush(answer)) => Phase::Ready(flushed_to_decide(
@@ -142,7 +142,7 @@ fn give_outcome(id: WriteId, reply: Reply) -> Phase
     requires fits { Fits 0 (view_out (out_of.Outcome id)) (awaited_of (out_of.Outcome id)) reply }
     ensures gives { GivesTo (view_out (out_of.Outcome id)) (awaited_of (out_of.Outcome id)) reply (view_of result) }
     ensures next { ComesNext (awaited_of (out_of.Outcome id)) reply (name_of result) }
-    ensures kept { (shards : ℕ) → IsPhaseOf shards result }
+    ensures kept { (shards : ℕ) → IsBehindOf shards result }
 {
     match reply {
         Reply::Coordinator(CoordinatorReply::Outcome(outcome)) => told(id, outcome),
@@ -154,7 +154,7 @@ fn give_flush_to_outcome(id: WriteId, decided: Decided, reply: Reply) -> Phase
     requires fits { Fits 0 (view_out (out_of.FlushToOutcome id decided)) (awaited_of (out_of.FlushToOutcome id decided)) reply }
     ensures gives { GivesTo (view_out (out_of.FlushToOutcome id decided)) (awaited_of (out_of.FlushToOutcome id decided)) reply (view_of result) }
     ensures next { ComesNext (awaited_of (out_of.FlushToOutcome id decided)) reply (name_of result) }
-    ensures kept { (shards : ℕ) → IsPhaseOf shards result }
+    ensures kept { (shards : ℕ) → IsBehindOf shards result }
 {
     match reply {
         Reply::Coordinator(CoordinatorReply::Flush(_answer)) => Phase::Ready(Ready::Outcome(
@@ -170,7 +170,7 @@ fn give_flush_to_outcome(id: WriteId, decided: Decided, reply: Reply) -> Phase
 fn give_abort(leaving: Leaving, reply: Reply) -> Phase
     requires fits { Fits 0 (view_out (out_of.Abort leaving)) (awaited_of (out_of.Abort leaving)) reply }
     ensures gives { GivesTo (view_out (out_of.Abort leaving)) (awaited_of (out_of.Abort leaving)) reply (view_of result) }
-    ensures kept { (shards : ℕ) → IsPhaseOf shards result }
+    ensures kept { (shards : ℕ) → IsBehindOf shards result }
 {
     match reply {
         Reply::Coordinator(CoordinatorReply::Abort(answer)) => aborted(leaving, answer),
@@ -184,7 +184,7 @@ fn give_abort(leaving: Leaving, reply: Reply) -> Phase
 fn give_inquire(leaving: Leaving, reply: Reply) -> Phase
     requires fits { Fits 0 (view_out (out_of.Inquire leaving)) (awaited_of (out_of.Inquire leaving)) reply }
     ensures gives { GivesTo (view_out (out_of.Inquire leaving)) (awaited_of (out_of.Inquire leaving)) reply (view_of result) }
-    ensures kept { (shards : ℕ) → IsPhaseOf shards result }
+    ensures kept { (shards : ℕ) → IsBehindOf shards result }
 {
     match reply {
         Reply::Coordinator(CoordinatorReply::Inquire(answer)) => inquired(leaving, answer),
@@ -198,7 +198,7 @@ fn give_inquire(leaving: Leaving, reply: Reply) -> Phase
 fn give_drop_write(leaving: Leaving, reply: Reply) -> Phase
     requires fits { Fits 0 (view_out (out_of.DropWrite leaving)) (awaited_of (out_of.DropWrite leaving)) reply }
     ensures gives { GivesTo (view_out (out_of.DropWrite leaving)) (awaited_of (out_of.DropWrite leaving)) reply (view_of result) }
-    ensures kept { (shards : ℕ) → IsPhaseOf shards result }
+    ensures kept { (shards : ℕ) → IsBehindOf shards result }
 {
     match reply {
         Reply::Shard(ShardReply::DropWrite(verdict, _)) => dropped(leaving, verdict),
@@ -217,7 +217,7 @@ pub(crate) fn give(alloc: Global, shards: u8, out: Out, reply: Reply) -> Phase
     requires kept { IsOutOf shards out }
     ensures gives { GivesTo (view_out out) (awaited_of out) reply (view_of result) }
     ensures next { ComesNext (awaited_of out) reply (name_of result) }
-    ensures kept { IsPhaseOf shards result }
+    ensures kept { IsBehindOf shards result }
 {
     match out {
         Out::Begin(load) => give_begin(load, reply),

@@ -4,7 +4,7 @@ ghost use Rattle.std.specs.Vec.{vec_len};
 ghost use Rattle.tuples.specs.Parts.{takes_part};
 ghost use Rattle.catch_up.specs.CatchingUp.{Fits as FitsCatchUp};
 ghost use Rattle.commit_flow.specs.Answering.{BeginGives, CatchUpGives, FlushGives, GoesOn, PrepareGives};
-ghost use Rattle.commit_flow.specs.Kept.{IsFresh, IsReadyOf, IsPhaseOf};
+ghost use Rattle.commit_flow.specs.Kept.{IsFresh, IsReadyOf, IsBehindOf};
 ghost use Rattle.commit_flow.specs.Participants.{ArePartsOf, AreTicketsFor, participants_below, ticket_shards};
 ghost use Rattle.commit_flow.specs.Views.{holds_onward, tickets_of, view_of, view_out, view_ready};
 ghost use Rattle.commit_flow.specs.declared.phase.Out.TheVariants.{Begin as begin_out, CatchUp as catch_up_out, FlushToPrepare as flush_out, Prepare as prepare_out};
@@ -48,7 +48,7 @@ pub(crate) fn prepare_next(intent: Intent, load: Load, from: u8) -> Ready
 pub(crate) fn begun(load: Load, answer: Result<Intent, Refusal>) -> Phase
     requires { IsFresh load.shards load }
     ensures gives { BeginGives (view_out (begin_out load)) answer (view_of result) }
-    ensures kept { IsPhaseOf load.shards result }
+    ensures kept { IsBehindOf load.shards result }
 {
     match answer {
         Ok(intent) => Phase::Ready(prepare_next(intent, load, 0)),

@@ -37,7 +37,6 @@ use Rattle.headline.proofs.Leaving.{names_on, not_ended, not_waiting}
 use Rattle.headline.proofs.Lifts.{shown_there}
 use Rattle.headline.proofs.Slots.{none_shown}
 use Rattle.headline.proofs.Still.{keeps_idle, none_runs, other_flows}
-use Rattle.headline.proofs.WriteRests.{cancelled_rests}
 
 some_name : (o : Option CallName) → is_some o ≡ true → o ≢ None
 some_name None is none = let both : false ≡ true = is in cc
@@ -107,7 +106,7 @@ module _ {D : Type 0} (state : D → State) (honest : D → Type 0) (moment : D 
       out none put = keeps (shown v.flow.seen v.is_cancelled) view_then before None put (by_end w.flow.seen.ended refl) law
         where
           by_end : (e : Option WriteEnd) → w.flow.seen.ended ≡ e → IsShownSlot old.shards None (shown_until e w.flow.seen true)
-          by_end None is = absurd (names_on w.flow.next_name w.flow.seen.awaited w.flow.seen.ended c.named (cancelled_rests v.flow.seen w.flow.seen rests runs_still c.cancels) is none)
+          by_end None is = absurd (names_on w.flow.next_name w.flow.seen.awaited w.flow.seen.ended c.named (c.rests rests) is none)
           by_end (Some end) is = tt
 
     -- whichever it is

@@ -1,14 +1,16 @@
 -- A turn of a care in a slot of a world keeps the promise of a step.
-use Rattle.std.proofs.Common.{◌≡◌, ◌≢◌, ◌≤◌, ⊎_elim, ℕ, true, false, true≢false, List, [], ◌∷◌, Option, Some, None, is_some, refl, sym, ◌∙◌, ap, subst}
+use Rattle.std.proofs.Common.{◌≡◌, ◌≢◌, ◌≤◌, ℕ, Bool, true, false, true≢false, List, [], ◌∷◌, Option, Some, None, is_some, refl, sym, ◌∙◌, ap, subst}
 use Rattle.device.specs.Device.{State, left}
 use Rattle.calls.specs.Asking.{MayBeMade}
 use Rattle.calls.specs.declared.call.NodeCall.{NodeCall}
 use Rattle.calls.specs.declared.call.NodeCall.TheVariants.{Coordinator, Shard}
 use Rattle.names.specs.declared.call_name.CallName.{CallName}
 use Rattle.care_flow.specs.Cares.{IsThere, end_of, has_next, next_name_of}
+use Rattle.care_flow.specs.Views.{GoesOrEnds}
 use Rattle.care_flow.specs.declared.care.CareFlow.{CareFlow}
 use Rattle.care_flow.specs.declared.end.CareEnd.{CareEnd}
 use Rattle.care_flow.specs.declared.end.CareEnd.TheVariants as care_ends
+use Rattle.care_flow.proofs.Fitting.{there_given, there_next}
 use Rattle.laws.specs.Nodes as nodes
 use Rattle.turns.specs.Stores.{FlowView, Store}
 use Rattle.call_turns.specs.StoreCalls.{called}
@@ -25,7 +27,6 @@ use Rattle.cluster.specs.declared.step.Step.TheVariants.{Turn}
 use Rattle.headline.specs.Promised.{Keeps}
 use Rattle.headline.specs.Shown.{IsShownSlot, Shows}
 use Rattle.headline.specs.Told.{all_told}
-use Rattle.headline.proofs.CareRests.{GoesOrEnds, care_rests, care_there}
 use Rattle.headline.proofs.Leaving.{goes_on, has_gone, others}
 use Rattle.headline.proofs.Lifts.{keeps_turn, never_away, shown_there}
 
@@ -62,13 +63,11 @@ module _ (shards : ℕ) (old : List (Option Flow)) (slot : ℕ) (next : CareFlow
     ap all_told gone.tells ∙ end_told end gone.end (subst (λ (o : Option CareEnd). IfEnded TellsCare o gone.end) is gone.ends.0),
   )
 
-  stands : GoesOrEnds (has_next next) (end_of next) → IsLeft (end_of next)
-  stands rests = ⊎_elim
-      (λ on.
-      let it = goes_on old slot (Care next) told new l (some_name (next_name_of next) (l.named ∙ on.0)) in
-      subst IsLeft (sym on.1) (stays it.0 it.1))
-      (λ over. subst IsLeft (sym over.1.1) (leaves over.1.0 over.1.1 (has_gone old slot (Care next) told new l (no_name (next_name_of next) (l.named ∙ over.0)))))
-      rests
+  stands : (b : Bool) → has_next next ≡ b → GoesOrEnds b (end_of next) → IsLeft (end_of next)
+  stands true on rests =
+      let it = goes_on old slot (Care next) told new l (some_name (next_name_of next) (l.named ∙ on)) in
+      subst IsLeft (sym rests) (stays it.0 it.1)
+  stands false over rests = subst IsLeft (sym rests.1) (leaves rests.0 rests.1 (has_gone old slot (Care next) told new l (no_name (next_name_of next) (l.named ∙ over))))
 
 module _ {D : Type 0} (state : D → State) (honest : D → Type 0) (moment : D → ℕ) (left_since : D → ℕ → List ℕ → Type 0)
     (counts_now : (d : D) (t : ℕ) (c : List ℕ) → honest d → t ≤ moment d → left (state d) c → left_since d t c) (only_now : (d : D) (c : List ℕ) → honest d → left_since d (moment d) c → left (state d) c)
@@ -78,7 +77,7 @@ module _ {D : Type 0} (state : D → State) (honest : D → Type 0) (moment : D 
   care_turns flow next here t l new_is =
       let is = shown_there old.shards (Care flow) (s.flows slot) (subst (λ (f : Option Flow). IsShownSlot old.shards f (s.flows slot)) here (shows.flows slot)) in
       let there = is.2.1 in
-      let is_left = stands old.shards old.flows slot next told new.flows l (care_there old.shards flow t.call t.out t.reply next t.asked.1 t.given there) (care_rests t.out t.reply next t.given) in
+      let is_left = stands old.shards old.flows slot next told new.flows l (there_given old.shards t.out next t.reply t.given.0 (there_next old.shards flow t.out (Some t.call) t.asked.1 there)) (has_next next) refl t.given.1 in
       keeps_turn state honest moment left_since old s shows new slot told t.call t.reply (shows_care flow) (in_slot (shows_care next) (end_of next)) (tells (end_of next) ∷ [])
       (is.1 ∙ ap (λ (v : FlowView). Some v) is.2.0) t.called new_is is_left.0 (others old.flows slot (Care next) told new.flows l) is_left.1
       (never_away state honest moment left_since old s shows new slot t.call t.reply (in_slot (shows_care next) (end_of next)) (tells (end_of next) ∷ []) (λ now standing. made_there old.shards t.call (t.asked.2 old.shards there)))
@@ -93,6 +92,6 @@ module _ {D : Type 0} (state : D → State) (honest : D → Type 0) (moment : D 
         called_is = called_is;
         reply = t.reply;
         answers = answered;
-        gives = t.given;
+        gives = t.given.0;
         turns = turns;
       }))

@@ -22,7 +22,6 @@ use Rattle.cluster.specs.declared.step.Step.TheVariants.{Turn}
 use Rattle.headline.specs.Promised.{Keeps}
 use Rattle.headline.specs.Shown.{IsShownSlot, Shows}
 use Rattle.headline.specs.Told.{all_told}
-use Rattle.headline.proofs.AnswerRests.{check_rests}
 use Rattle.headline.proofs.CareTurn.{made_there}
 use Rattle.headline.proofs.Leaving.{goes_on, has_gone, names_on, others}
 use Rattle.headline.proofs.Lifts.{keeps_turn, never_away, shown_there}
@@ -61,7 +60,7 @@ module _ {D : Type 0} (state : D → State) (honest : D → Type 0) (moment : D 
       let x = is.2.0 in
       let given : GivesCheck (record v { seen = t.out.seen; next_name = None }) t.reply w = subst (λ (o : CheckFlowValue). GivesCheck o t.reply w) t.asked.1 t.given in
       let left_so = is_left old.shards x v is.2.3 old.flows slot w told new.flows l
-      (ap (λ (y : CheckFlowValue). y.shards) given.0 ∙ is.2.2) (ap (check_of x) given.0) (check_rests v.shards v.fresh v.user v.seen t.call t.out.seen t.reply w.seen t.asked.2 given.1) w.seen.ended refl in
+      (ap (λ (y : CheckFlowValue). y.shards) given.0 ∙ is.2.2) (ap (check_of x) given.0) given.2 w.seen.ended refl in
       keeps_turn state honest moment left_since old s shows new slot told t.call t.reply (shown_answer (check_of x v) (checking v.seen.holds)) (check_in_slot (check_of x v) w.seen w.seen.ended) (check_tells w.seen.ended ∷ [])
       (is.1 ∙ ap (λ (y : FlowView). Some y) is.2.1) t.called new_is left_so.0 (others old.flows slot (Check w) told new.flows l) left_so.1
       (never_away state honest moment left_since old s shows new slot t.call t.reply (check_in_slot (check_of x v) w.seen w.seen.ended) (check_tells w.seen.ended ∷ []) (λ now standing. made_there old.shards t.call (subst (λ (n : ℕ). MayBeMade n t.call) is.2.2 t.asked.2.owed)))

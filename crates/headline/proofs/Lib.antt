@@ -1,9 +1,6 @@
 pub mod Nodes
 pub mod Behind
 pub mod Stays
-pub mod WriteRests
-pub mod AnswerRests
-pub mod CareRests
 pub mod Lifts
 pub mod Leaving
 pub mod CareTurn

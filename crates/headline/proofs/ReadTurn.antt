@@ -26,7 +26,6 @@ use Rattle.cluster.specs.declared.step.Step.TheVariants.{Turn}
 use Rattle.headline.specs.Promised.{Keeps}
 use Rattle.headline.specs.Shown.{IsShownSlot, Shows}
 use Rattle.headline.specs.Told.{all_told}
-use Rattle.headline.proofs.AnswerRests.{read_rests}
 use Rattle.headline.proofs.CareTurn.{made_there}
 use Rattle.headline.proofs.Leaving.{goes_on, has_gone, names_on, others}
 use Rattle.headline.proofs.Lifts.{keeps_turn, never_away, shown_there}
@@ -66,7 +65,7 @@ module _ {D : Type 0} (state : D → State) (honest : D → Type 0) (moment : D 
       let is = shown_there old.shards (Read v) (s.flows slot) (subst (λ (f : Option Flow). IsShownSlot old.shards f (s.flows slot)) here (shows.flows slot)) in
       let given : GivesRead (record v { seen = t.out.seen; next_name = None }) t.reply w = subst (λ (o : ReadFlowValue). GivesRead o t.reply w) t.asked.1 t.given in
       let left_so = is_left old.shards v is.2.2 old.flows slot w told new.flows l
-      (ap (λ (x : ReadFlowValue). x.shards) given.0 ∙ is.2.1) (ap read_of given.0) (read_rests v.shards v.fresh v.sets v.seen t.call t.out.seen t.reply w.seen t.asked.2 given.1) w.seen.ended refl in
+      (ap (λ (x : ReadFlowValue). x.shards) given.0 ∙ is.2.1) (ap read_of given.0) given.2 w.seen.ended refl in
       keeps_turn state honest moment left_since old s shows new slot told t.call t.reply (shown_answer (read_of v) (reading v.seen.holds)) (read_in_slot (read_of v) w.seen w.seen.ended) (read_tells w.seen.ended ∷ [])
       (is.1 ∙ ap (λ (x : FlowView). Some x) is.2.0) t.called new_is left_so.0 (others old.flows slot (Read w) told new.flows l) left_so.1
       (never_away state honest moment left_since old s shows new slot t.call t.reply (read_in_slot (read_of v) w.seen w.seen.ended) (read_tells w.seen.ended ∷ []) (λ now standing. made_there old.shards t.call (subst (λ (n : ℕ). MayBeMade n t.call) is.2.1 t.asked.2.owed)))

@@ -106,7 +106,7 @@ module _ {D : Type 0} (state : D → State) (honest : D → Type 0) (moment : D 
           fits = tt;
           whole = tt;
           called = record { is = away new; answers = inl (refl, refl); new_is = refl };
-          given = (refl, (ends.Refused Down, refl, refl));
+          given = ((refl, (ends.Refused Down, refl, refl)), (ends.Refused Down, refl));
         };
         leaves = record {
           named = refl;

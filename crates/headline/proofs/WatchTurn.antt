@@ -24,7 +24,6 @@ use Rattle.cluster.specs.declared.step.Step.TheVariants.{Turn}
 use Rattle.headline.specs.Promised.{Keeps}
 use Rattle.headline.specs.Shown.{IsShownSlot, Shows}
 use Rattle.headline.specs.Told.{all_told}
-use Rattle.headline.proofs.AnswerRests.{watch_rests}
 use Rattle.headline.proofs.CareTurn.{made_there}
 use Rattle.headline.proofs.Leaving.{goes_on, has_gone, others}
 use Rattle.headline.proofs.Lifts.{keeps_turn, never_away, shown_there}
@@ -67,7 +66,7 @@ module _ {D : Type 0} (state : D → State) (honest : D → Type 0) (moment : D 
   watch_turns v w here t l new_is =
       let is = shown_there old.shards (Watch v) (s.flows slot) (subst (λ (f : Option Flow). IsShownSlot old.shards f (s.flows slot)) here (shows.flows slot)) in
       let given : GivesWatch (record v { seen = t.out.seen }) t.reply w = subst (λ (o : WatchFlowValue). GivesWatch o t.reply w) t.asked.1 t.given in
-      let left_so = is_left old.shards v is.2.1 old.flows slot w told new.flows l (ap asked_of given.0) (watch_rests v.cursor v.limit v.namespaces v.seen t.call t.out.seen t.reply w.seen t.asked.2 given.1) w.seen.ended refl in
+      let left_so = is_left old.shards v is.2.1 old.flows slot w told new.flows l (ap asked_of given.0) given.2 w.seen.ended refl in
       keeps_turn state honest moment left_since old s shows new slot told t.call t.reply (shown_answer (asked_of v) (watching v.seen.holds)) (watch_in_slot (asked_of v) w.seen w.seen.ended) (watch_tells w.seen.ended ∷ [])
       (is.1 ∙ ap (λ (y : FlowView). Some y) is.2.0) t.called new_is left_so.0 (others old.flows slot (Watch w) told new.flows l) left_so.1
       (never_away state honest moment left_since old s shows new slot t.call t.reply (watch_in_slot (asked_of v) w.seen w.seen.ended) (watch_tells w.seen.ended ∷ []) (λ now standing. made_there old.shards t.call (t.asked.2.owed old.shards)))

@@ -25,7 +25,6 @@ use Rattle.headline.specs.Told.{all_told}
 use Rattle.headline.proofs.Away.{away_writes}
 use Rattle.headline.proofs.Leaving.{goes_on, has_gone, names_on, others}
 use Rattle.headline.proofs.Lifts.{keeps_turn, shown_there}
-use Rattle.headline.proofs.WriteRests.{write_rests}
 
 -- what is told of its end, and of one that goes on
 end_told : (is_cancelled : Bool) (end : WriteEnd) (told : Option What) → TellsWrite end told → all_told (unless is_cancelled told) ≡ told_end is_cancelled end
@@ -65,7 +64,7 @@ module _ {D : Type 0} (state : D → State) (honest : D → Type 0) (moment : D 
       let is = shown_there old.shards (Write v) (s.flows slot) (subst (λ (f : Option Flow). IsShownSlot old.shards f (s.flows slot)) here (shows.flows slot)) in
       let before : s.flows slot ≡ Some (shown v.flow.seen v.is_cancelled) = is.1 ∙ ap (λ (y : FlowView). Some y) is.2.0 in
       let asks : Asks old.shards v.flow.seen t.call t.out.flow.seen = subst (λ (n : ℕ). Asks n v.flow.seen t.call t.out.flow.seen) is.2.1 t.asked.3 in
-      let left_so = is_left old.shards v.is_cancelled old.flows slot w told new.flows l (t.given.1 ∙ t.asked.2 ∙ is.2.1) (t.given.0 ∙ t.asked.1) (write_rests t.out.flow.seen t.reply w.flow.seen t.given.2) w.flow.seen.ended refl in
+      let left_so = is_left old.shards v.is_cancelled old.flows slot w told new.flows l (t.given.1 ∙ t.asked.2 ∙ is.2.1) (t.given.0 ∙ t.asked.1) t.given.3 w.flow.seen.ended refl in
       keeps_turn state honest moment left_since old s shows new slot told t.call t.reply (shown v.flow.seen v.is_cancelled) (shown_until w.flow.seen.ended w.flow.seen v.is_cancelled) (told_of v.is_cancelled w.flow.seen.ended)
       before t.called new_is left_so.0 (others old.flows slot (Write w) told new.flows l) left_so.1
       (away_writes state honest moment left_since counts_now only_now old new s shows slot v.is_cancelled v.flow.seen t.out.flow.seen w.flow.seen before t.call t.reply asks t.given.2)

@@ -19,10 +19,10 @@ returns-clause-turns g c = record {
   fits = c.ask_at-reply.ensures.fits;
   whole = c.ask_at-reply.ensures.whole;
   called = c.ask_at-reply.ensures.called;
-  given = c.give.ensures;
+  given = (c.give.ensures.gives, c.give.ensures.rests);
 }
 
 pub returns-clause-there : goal.returns-clause-there
 returns-clause-there g c =
     let next = there_next c.args.shards c.args.flow.now c.next_call.new.self (Some c.in-Some.call) c.in-Some.ensures.call c.requires.there in
-    there_given c.args.shards c.next_call.new.self c.give.new.self c.ask_at-reply.result c.give.ensures next
+    there_given c.args.shards c.next_call.new.self c.give.new.self c.ask_at-reply.result c.give.ensures.gives next

@@ -19,5 +19,5 @@ returns g c = record {
   fits = c.ask_at-reply.ensures.fits;
   whole = c.ask_at-reply.ensures.whole;
   called = c.ask_at-reply.ensures.called;
-  given = (c.give.ensures.asked, c.give.ensures.gives);
+  given = (c.give.ensures.asked, c.give.ensures.gives, c.give.ensures.rests);
 }

@@ -24,5 +24,5 @@ returns-clause-turns g c = record {
   fits = c.ask_at-reply.ensures.fits;
   whole = c.ask_at-reply.ensures.whole;
   called = c.ask_at-reply.ensures.called;
-  given = (refl, c.give.ensures.shards, c.give.ensures.gives);
+  given = (refl, c.give.ensures.shards, c.give.ensures.gives, c.give.ensures.rests);
 }

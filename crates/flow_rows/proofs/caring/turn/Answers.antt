@@ -16,4 +16,4 @@ returns-in_err-call g c = there_next 2 c.args.flow.now c.next_call.new.self None
 pub returns : goal.returns
 returns g c =
     let next = there_next 2 c.args.flow.now c.next_call.new.self (Some c.in_ok-call.call) c.in_ok-call.ensures.call c.requires in
-    there_given 2 c.next_call.new.self c.give.new.self c.ask-reply.result c.give.ensures next
+    there_given 2 c.next_call.new.self c.give.new.self c.ask-reply.result c.give.ensures.gives next
