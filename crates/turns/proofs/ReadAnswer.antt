@@ -5,34 +5,18 @@ use Rattle.std.proofs.lemmas.Bool.{and_from, and_parts, both_ways, cases_Bool, c
 use Rattle.std.proofs.lemmas.List.{length_push, take-take}
 use Rattle.std.proofs.lemmas.Option.{same_Some, slice_get_within}
 use Rattle.std.specs.List.{flat_map}
-use Rattle.tuples.specs.declared.entry.Entry.{Entry}
-use Rattle.tuples.specs.declared.tuple.Tuple.{Tuple}
-use Rattle.tuples.specs.declared.tupleset.Tupleset.{Tupleset}
-use Rattle.tuples.specs.declared.tupleset.Tupleset.TheVariants.{Key, OfObject, OfUser}
+use Rattle.turns.proofs.Words.{Entry, Freshness, IsPlaceOf, IsReadAnswer, IsRightRead, IsSelection, Key, Moment, NodeName, NodeState, ReadHolds, Record, Running, ShardKnows, ShardMeans, ShardState, Stands, Tuple, Tupleset, coordinator, coordinator_state, leaves, log_taken, of_shard, shard, shard_of, slice_get_push, staged_of, there_after, there_below, there_of, tuple_of, versions}
+use Rattle.tuples.specs.declared.tupleset.Tupleset.TheVariants.{OfObject, OfUser}
 use Rattle.tuples.specs.declared.version.Version.{Version}
-use Rattle.tuples.specs.Changes.{tuple_of}
-use Rattle.tuples.specs.Log.{is_at, there_after}
+use Rattle.tuples.specs.Log.{is_at}
 use Rattle.tuples.specs.Order.{object_cmp, tuple_eq}
-use Rattle.tuples.specs.Parts.{shard_of}
-use Rattle.tuples.specs.Reads.{IsSelection, has_relation, meets}
-use Rattle.tuples.specs.Versions.{of_shard, there_at, versions}
+use Rattle.tuples.specs.Reads.{has_relation, meets}
+use Rattle.tuples.specs.Versions.{there_at}
 use Rattle.tuples.proofs.Named.{shard_below}
 use Rattle.tuples.proofs.Same.{object_same, tuple_same}
 use Rattle.std.specs.Ordering.{is_eq}
-use Rattle.records.specs.declared.record.Record.{Record}
-use Rattle.records.specs.Coordinators.{coordinator_state}
-use Rattle.records.specs.Replays.{ShardState}
-use Rattle.turns.specs.Flows.{Freshness, ReadHolds}
-use Rattle.turns.specs.Held.{IsRightRead, there_below}
-use Rattle.turns.specs.Moments.{Moment, Running}
-use Rattle.laws.specs.Nodes.{NodeName, NodeState, ShardKnows, coordinator, leaves, shard, staged_of}
-use Rattle.turns.specs.ReadingLaws.{IsMerged, IsReading, IsShardReply, NeedsOnly, OneShardIsEnough, ReadsAgree, ReadsAskAll, ReadsBegin, ReadsFinishOne, ReadsGoOn, RepliesSelect, ShardRowsShowSnapshots, there_of}
-use Rattle.turns.specs.Replies.{IsPlaceOf, IsReadAnswer}
-use Rattle.laws.specs.Shards.{ShardMeans}
-use Rattle.turns.specs.Stands.{Stands}
+use Rattle.turns.specs.ReadingLaws.{IsMerged, IsReading, IsShardReply, NeedsOnly, OneShardIsEnough, ReadsAgree, ReadsAskAll, ReadsBegin, ReadsFinishOne, ReadsGoOn, RepliesSelect, ShardRowsShowSnapshots}
 use Rattle.laws.proofs.KeptVersions.{versions_give_snapshots}
-use Rattle.laws.proofs.Lists.{slice_get_push}
-use Rattle.laws.proofs.Logs.{log_taken}
 use Rattle.laws.proofs.PreparableConditions.{skip, there_own}
 use Rattle.versions.proofs.Alike.{there_at_alike}
 
