@@ -1,32 +1,15 @@
 -- What a node of a store that stands answers: by its own contract where it is up, or that it is away.
 use Rattle.std.proofs.Common.{◌≡◌, ◌⊎◌, inl, inr, ⊎_elim, ◌≤◌, ◌<◌, ℕ, Bool, true, false, true≢false, List, Ok, Err, Result, refl, sym, ◌∙◌, ap, subst, if◌then◌else◌}
 use Rattle.std.proofs.lemmas.Bool.{cases_Bool}
-use Rattle.refusal.specs.declared.refusal.Refusal.{Refusal}
-use Rattle.refusal.specs.declared.refusal.Refusal.TheVariants.{Collected, Damaged, Down, Full, Future, NoMemory}
-use Rattle.device.specs.Device.{State, left}
-use Rattle.records.specs.Coordinators.{end_of}
-use Rattle.decisions.specs.Coordinators.{BatchesAt, CoordinatorView, heads_of, kept_of}
-use Rattle.decisions.specs.Values.{BatchValue, HeadsValue}
+use Rattle.call_turns.proofs.Words.{Answered, BatchValue, Collected, CoordinatorView, Down, Full, Future, HeadsValue, IsCalled, IsQuietCall, IsSeen, IsUp, Moment, NoMemory, NodeName, NodeView, Refusal, ShardIsSeen, ShardView, StandsOver, State, Stays, Store, behind_shard, coordinator, down, elsewhere, end_of, from_coordinator, from_shard, here, kept_of, left, memory, of_coordinator, of_shard, shard, stops, up}
+use Rattle.refusal.specs.declared.refusal.Refusal.TheVariants.{Damaged}
+use Rattle.decisions.specs.Coordinators.{BatchesAt, heads_of}
 use Rattle.shard.specs.Calls.{LearnRefused, LearnsAt}
-use Rattle.shard.specs.Shards.{IsUp, ShardView, memory}
-use Rattle.calls.specs.Asking.{Answered}
-use Rattle.calls.specs.ShardAnswers.{Stays}
 use Rattle.calls.specs.Views as views
-use Rattle.calls.specs.Views.{NodeView}
-use Rattle.calls.specs.declared.call.NodeCall.TheVariants.{Coordinator as of_coordinator, Shard as of_shard}
 use Rattle.calls.specs.declared.call.CoordinatorCall.TheVariants as coordinator_calls
 use Rattle.calls.specs.declared.call.ShardCall.TheVariants as shard_calls
-use Rattle.calls.specs.declared.reply.Reply.TheVariants.{Coordinator as from_coordinator, Shard as from_shard}
 use Rattle.calls.specs.declared.reply.CoordinatorReply.TheVariants as told
 use Rattle.calls.specs.declared.reply.ShardReply.TheVariants as told_by
-use Rattle.laws.specs.Nodes.{NodeName, coordinator, down, shard, up}
-use Rattle.turns.specs.Moments.{Moment}
-use Rattle.turns.specs.QuietTurns.{IsQuietCall}
-use Rattle.turns.specs.SeamLaws.{IsSeen}
-use Rattle.turns.specs.ShardSeamLaws.{ShardIsSeen, behind_shard}
-use Rattle.turns.specs.Stores.{StandsOver, Store, stops}
-use Rattle.turns.proofs.ShardSeam.{elsewhere, here}
-use Rattle.call_turns.specs.StoreCalls.{IsCalled}
 use Rattle.call_turns.proofs.Flushed.{down_coordinator_fails, down_shard_fails, refused_fails}
 use Rattle.call_turns.proofs.Made.{Comes, FailsQuietly, IsQuietlyMade, before, fails_by, inside_by, same_devices, shows_nodes, still_given, still_made, still_named, still_sound, still_within}
 use Rattle.call_turns.proofs.Standing.{is_seen, runs_now, shard_is_seen, shard_is_up}

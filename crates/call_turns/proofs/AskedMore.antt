@@ -1,27 +1,11 @@
 -- What a shard of a store that stands answers for the cares of it, and the coordinator for a raise and a resolution.
 use Rattle.std.proofs.Common.{◌≡◌, ◌⊎◌, inl, inr, ⊎_elim, ◌≤◌, ℕ, false, List, Ok, Err, Result, ap}
 use Rattle.std.proofs.lemmas.Bool.{cases_Bool}
-use Rattle.refusal.specs.declared.refusal.Refusal.{Refusal}
-use Rattle.refusal.specs.declared.refusal.Refusal.TheVariants.{Down, Full}
-use Rattle.device.specs.Device.{State, left}
-use Rattle.journal.specs.Records.{HasNoRoom}
-use Rattle.records.specs.declared.record.Record.TheVariants.{Horizon}
-use Rattle.decisions.specs.Values.{HeadsValue}
+use Rattle.call_turns.proofs.Words.{Answered, Down, Full, HasNoRoom, HeadsValue, Horizon, IsCalled, IsQuietCall, Moment, NodeName, NodeView, Refusal, ShardIsSeen, ShardView, StandsOver, State, Store, behind_shard, from_shard, left, memory, of_shard, shard, stops}
 use Rattle.shard.specs.Calls.{CollectsAt}
-use Rattle.shard.specs.Shards.{ShardView, memory}
-use Rattle.calls.specs.Asking.{Answered}
 use Rattle.calls.specs.Views as views
-use Rattle.calls.specs.Views.{NodeView}
-use Rattle.calls.specs.declared.call.NodeCall.TheVariants.{Shard as of_shard}
 use Rattle.calls.specs.declared.call.ShardCall.TheVariants as shard_calls
-use Rattle.calls.specs.declared.reply.Reply.TheVariants.{Shard as from_shard}
 use Rattle.calls.specs.declared.reply.ShardReply.TheVariants as told_by
-use Rattle.laws.specs.Nodes.{NodeName, shard}
-use Rattle.turns.specs.Moments.{Moment}
-use Rattle.turns.specs.QuietTurns.{IsQuietCall}
-use Rattle.turns.specs.ShardSeamLaws.{ShardIsSeen, behind_shard}
-use Rattle.turns.specs.Stores.{StandsOver, Store, stops}
-use Rattle.call_turns.specs.StoreCalls.{IsCalled}
 use Rattle.call_turns.proofs.Asked.{FromShard, away, shard_gone, shard_tells, staged_made}
 use Rattle.call_turns.proofs.Made.{FailsQuietly, IsQuietlyMade}
 use Rattle.call_turns.proofs.Standing.{shard_is_seen, shard_is_up}

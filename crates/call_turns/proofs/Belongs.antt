@@ -1,18 +1,11 @@
 -- What a node of a store answered belongs to the call.
 use Rattle.std.proofs.Common.{ℕ, List, ap}
-use Rattle.device.specs.Device.{State}
-use Rattle.records.specs.Identity.{Identity}
-use Rattle.calls.specs.Asking.{Answered}
-use Rattle.calls.specs.Belonging.{IsNodeOf, IsOwed, IsReplyTo}
+use Rattle.call_turns.proofs.Words.{Answered, Coordinator, Identity, IsCalled, IsOwed, IsReplyTo, NodeCall, NodeView, Reply, Shard, State, Store, called}
+use Rattle.calls.specs.Belonging.{IsNodeOf}
 use Rattle.calls.specs.Names.{node_of}
 use Rattle.calls.specs.Views as views
-use Rattle.calls.specs.Views.{NodeView}
-use Rattle.calls.specs.declared.call.NodeCall.{NodeCall}
-use Rattle.calls.specs.declared.call.NodeCall.TheVariants.{Coordinator, Shard}
-use Rattle.calls.specs.declared.reply.Reply.{Reply}
 use Rattle.calls.proofs.Belonging.{answered_belongs, may_ask}
-use Rattle.turns.specs.Stores.{Store}
-use Rattle.call_turns.specs.StoreCalls.{IsCalled, IsNamed, called}
+use Rattle.call_turns.specs.StoreCalls.{IsNamed}
 
 is_node_of : {D : Type 0} (store shards : ℕ) (call : NodeCall) (was : NodeView D) → IsNamed store shards was (called call) → IsNodeOf shards (node_of call) was
 is_node_of store shards (Coordinator call) (views.coordinator v) named = ap (λ (i : Identity). i.shards) named

@@ -1,14 +1,10 @@
 -- A flow that is no write keeps the promise of a step where it is cancelled.
 use Rattle.std.proofs.Common.{◌≡◌, inr, ℕ, false, List, [], Option, None, refl, sym, ◌∙◌, ap, subst}
 use Rattle.std.proofs.Math.Path.{fun_ext}
-use Rattle.device.specs.Device.{State, left}
-use Rattle.laws.specs.Nodes.{NodeName}
-use Rattle.turns.specs.Moments.{Moment, Running, ended, is_write}
-use Rattle.turns.specs.Runs.{IfRunning, IsCancelled, cancel, restart}
-use Rattle.turns.specs.Stands.{IsHorizonIn, Stands}
-use Rattle.turns.specs.Stores.{AreSound, NamesHorizon, stops}
+use Rattle.call_turns.proofs.Words.{AreSound, IfRunning, IsHorizonIn, Moment, NamesHorizon, NodeName, Running, Stands, State, ended, is_write, left, restart, shown_flow, stops}
+use Rattle.turns.specs.Runs.{IsCancelled, cancel}
 use Rattle.turns.proofs.FlowEnds.{flows_end}
-use Rattle.call_turns.specs.Steps.{CancelledFlowsEnd, shown_flow}
+use Rattle.call_turns.specs.Steps.{CancelledFlowsEnd}
 use Rattle.call_turns.proofs.Made.{inside_by, still_given, still_within}
 use Rattle.call_turns.proofs.Turned.{runs, shows_ended, the_flow}
 

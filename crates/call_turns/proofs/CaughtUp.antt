@@ -2,39 +2,24 @@
 use Rattle.std.proofs.Common.{◌≡◌, ◌≢◌, ◌⊎◌, inl, inr, ⊎_elim, ◌≤◌, ◌<◌, ℕ, Bool, false, List, Some, None, Result, Ok, Err, Contains, refl, sym, ◌∙◌, ap, subst, arith}
 use Rattle.std.proofs.lemmas.Bool.{cases_Bool, cases_lt}
 use Rattle.std.proofs.lemmas.Option.{same_Some}
-use Rattle.refusal.specs.declared.refusal.Refusal.{Refusal}
-use Rattle.refusal.specs.declared.refusal.Refusal.TheVariants.{Collected, Full, Unsure}
-use Rattle.device.specs.Device.{State, left}
+use Rattle.call_turns.proofs.Words.{Answered, BatchValue, Calls, Collected, CoordinatorCall, Full, HasItsCause, IsCalled, IsOwed, IsReplyTo, Moment, NodeCall, NodeName, NodeView, Nodes, Refusal, Reply, Running, ShardCall, StandsOver, State, Store, Unsure, called, coordinator, from_coordinator, from_shard, left, memory, of_coordinator, of_shard, shard, stops}
 use Rattle.records.specs.Replays.{ShardState}
-use Rattle.decisions.specs.Values.{BatchValue}
-use Rattle.shard.specs.Shards.{memory}
-use Rattle.calls.specs.Asking.{Answered}
-use Rattle.calls.specs.Belonging.{IsOwed, IsReplyTo}
-use Rattle.calls.specs.Views.{NodeView}
-use Rattle.calls.specs.declared.call.NodeCall.{NodeCall}
-use Rattle.calls.specs.declared.call.NodeCall.TheVariants.{Coordinator as of_coordinator, Shard as of_shard}
-use Rattle.calls.specs.declared.call.CoordinatorCall.{CoordinatorCall}
 use Rattle.calls.specs.declared.call.CoordinatorCall.TheVariants as coordinator_calls
-use Rattle.calls.specs.declared.call.ShardCall.{ShardCall}
 use Rattle.calls.specs.declared.call.ShardCall.TheVariants as shard_calls
-use Rattle.calls.specs.declared.reply.Reply.{Reply}
-use Rattle.calls.specs.declared.reply.Reply.TheVariants.{Coordinator as from_coordinator, Shard as from_shard}
 use Rattle.calls.specs.declared.reply.CoordinatorReply.TheVariants as told
 use Rattle.calls.specs.declared.reply.ShardReply.TheVariants as told_by
 use Rattle.catch_up.specs.CatchingUp.{Asks, AsksCoordinator, AsksShard, Gives, LearnGives}
 use Rattle.catch_up.specs.Held.{CatchUpCallValue, CatchUpValue, decisions, flushing, learned, learning}
 use Rattle.catch_up.specs.declared.caught.Progress.{Progress}
 use Rattle.catch_up.specs.declared.caught.Progress.TheVariants.{Next, There, Refused}
-use Rattle.laws.specs.Nodes.{NodeName, Nodes, ShardKnows, coordinator, shard}
-use Rattle.turns.specs.Causes.{Calls, HasItsCause, LetsLearn}
+use Rattle.laws.specs.Nodes.{ShardKnows}
+use Rattle.turns.specs.Causes.{LetsLearn}
 use Rattle.turns.specs.Held.{IfHeld, IsRightBatch}
-use Rattle.turns.specs.Moments.{Moment, Running}
 use Rattle.turns.specs.QuietTurns.{batch_of}
-use Rattle.turns.specs.Stores.{StandsOver, Store, stops}
 use Rattle.turns.proofs.CoordinatorCalls.{batch_answers, batch_has_cause}
 use Rattle.turns.proofs.QuietTurns.{lets_take_memory}
 use Rattle.turns.proofs.ShardLearnSeam.{learns_quietly, refused_learns_have_cause}
-use Rattle.call_turns.specs.StoreCalls.{FitsItsTypes, IsCalled, called}
+use Rattle.call_turns.specs.StoreCalls.{FitsItsTypes}
 use Rattle.call_turns.proofs.Belongs.{belongs_to}
 use Rattle.call_turns.proofs.Asked.{batch_told, learn_told, learned_told}
 use Rattle.call_turns.proofs.Flushed.{shard_flushed}

@@ -1,41 +1,26 @@
 -- A node that goes down in a call: it was flushed, and a device of it has the cause.
 use Rattle.std.proofs.Common.{◌≡◌, ◌≢◌, ◌⊎◌, inl, inr, Bool, true, false, ℕ, List, Result, Ok, Err, refl, sym, ◌∙◌, ap, if◌then◌else◌}
 use Rattle.std.specs.Result.{OnOk, OnErr}
-use Rattle.refusal.specs.declared.refusal.Refusal.{Refusal}
+use Rattle.call_turns.proofs.Words.{Answered, Coordinator, CoordinatorCall, CoordinatorView, HasDeviceCause, IsNode, IsRunning, IsUp, Moment, NodeCall, NodeName, NodeView, NotRaised, Record, Refusal, Reply, SettledValue, Shard, ShardCall, ShardView, StandsOver, State, Stays, Store, VerdictValue, coordinator, down, from_coordinator, from_shard, shard, shown, up}
 use Rattle.tuples.specs.Writes.{WriteValue}
-use Rattle.records.specs.declared.record.Record.{Record}
-use Rattle.device.specs.Device.{State}
 use Rattle.journal.specs.Records.{HasCause}
-use Rattle.decisions.specs.Coordinators.{CoordinatorView, IsRunning, coordinator_journal}
+use Rattle.decisions.specs.Coordinators.{coordinator_journal}
 use Rattle.decisions.specs.Standing.{DecidedValue}
-use Rattle.decisions.specs.Values.{IntentValue, SettledValue, VerdictValue, VoteValue}
+use Rattle.decisions.specs.Values.{IntentValue, VoteValue}
 use Rattle.coordinator.specs.declared.decided.NotDecided.{NotDecided}
-use Rattle.coordinator.specs.declared.raising.NotRaised.{NotRaised}
-use Rattle.shard.specs.Shards.{IsUp, ShardView, journal_of}
-use Rattle.calls.specs.Asking.{Answered, CoordinatorAnswers, ShardAnswers}
+use Rattle.shard.specs.Shards.{journal_of}
+use Rattle.calls.specs.Asking.{CoordinatorAnswers, ShardAnswers}
 use Rattle.calls.specs.CoordinatorAnswers.{AbortAnswers, BeginAnswers, DecideAnswers, RaiseAnswers}
-use Rattle.calls.specs.ShardAnswers.{FlushAnswers, Stays}
+use Rattle.calls.specs.ShardAnswers.{FlushAnswers}
 use Rattle.calls.specs.Views as views
-use Rattle.calls.specs.Views.{NodeView}
-use Rattle.calls.specs.declared.call.NodeCall.{NodeCall}
-use Rattle.calls.specs.declared.call.NodeCall.TheVariants.{Coordinator, Shard}
-use Rattle.calls.specs.declared.call.CoordinatorCall.{CoordinatorCall}
 use Rattle.calls.specs.declared.call.CoordinatorCall.TheVariants.{Begin, Heads, Batch, Decide, Outcome, Abort, Inquire, Raise, Flush}
-use Rattle.calls.specs.declared.call.ShardCall.{ShardCall}
 use Rattle.calls.specs.declared.call.ShardCall.TheVariants.{Learned, Learn, StagePrepare, Vote, DropWrite, InDoubt, Read, ReadForCheck, Settle, Collect, Flush as flush_shard}
-use Rattle.calls.specs.declared.reply.Reply.{Reply}
-use Rattle.calls.specs.declared.reply.Reply.TheVariants.{Coordinator as from_coordinator, Shard as from_shard}
 use Rattle.calls.specs.declared.reply.CoordinatorReply.{CoordinatorReply}
 use Rattle.calls.specs.declared.reply.CoordinatorReply.TheVariants as told
 use Rattle.calls.specs.declared.reply.ShardReply.{ShardReply}
 use Rattle.calls.specs.declared.reply.ShardReply.TheVariants as told_by
-use Rattle.laws.specs.Nodes.{NodeName, coordinator, down, shard, up}
-use Rattle.turns.specs.Moments.{Moment}
-use Rattle.turns.specs.Promises.{HasDeviceCause}
-use Rattle.turns.specs.Stores.{StandsOver, Store}
 use Rattle.turns.proofs.Rooms.{failed_flushes_have_cause}
 use Rattle.call_turns.specs.CallLaws.{FailedCallsHaveCause}
-use Rattle.call_turns.specs.StoreCalls.{IsNode, shown}
 use Rattle.call_turns.proofs.Standing.{runs_now, shard_is_up}
 
 -- a node is shown to be down only where it is

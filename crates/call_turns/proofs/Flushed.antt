@@ -3,41 +3,26 @@ use Rattle.std.proofs.Common.{◌≡◌, ◌≢◌, ◌⊎◌, inl, inr, ⊎_eli
 use Rattle.std.proofs.lemmas.Bool.{cases_Bool}
 use Rattle.std.proofs.lemmas.List.{append-nil}
 use Rattle.std.proofs.lemmas.Option.{same_Some}
-use Rattle.refusal.specs.declared.refusal.Refusal.{Refusal}
-use Rattle.refusal.specs.declared.refusal.Refusal.TheVariants.{Down, Unsure}
-use Rattle.device.specs.Device.{State, left}
-use Rattle.journal.specs.Records.{HasOldOrNew, LeavesBoth, found}
-use Rattle.records.specs.declared.record.Record.{Record}
-use Rattle.decisions.specs.Coordinators.{CoordinatorView, FlushesAll, IsRunning, KeepsOpen}
+use Rattle.call_turns.proofs.Words.{Answered, AreSound, CoordinatorView, Down, IsAway, IsCalled, IsMade, IsQuietCall, IsRunning, IsSeen, IsUp, Machine, Moment, NodeName, NodeState, NodeView, Nodes, Record, Refusal, ShardIsSeen, ShardView, ShowsNodes, StandsOver, State, Store, Unsure, behind, behind_shard, coordinator, down, elsewhere, found, from_coordinator, from_shard, here, leaves, left, of_coordinator, of_shard, refused, shard, staged_of, up}
+use Rattle.journal.specs.Records.{HasOldOrNew, LeavesBoth}
+use Rattle.decisions.specs.Coordinators.{FlushesAll, KeepsOpen}
 use Rattle.shard.specs.Calls.{FlushesAt}
-use Rattle.shard.specs.Shards.{IsUp, ShardView}
-use Rattle.calls.specs.Asking.{Answered}
 use Rattle.calls.specs.Views as views
-use Rattle.calls.specs.Views.{NodeView}
-use Rattle.calls.specs.declared.call.NodeCall.TheVariants.{Coordinator as of_coordinator, Shard as of_shard}
 use Rattle.calls.specs.declared.call.CoordinatorCall.TheVariants as coordinator_calls
 use Rattle.calls.specs.declared.call.ShardCall.TheVariants as shard_calls
-use Rattle.calls.specs.declared.reply.Reply.TheVariants.{Coordinator as from_coordinator, Shard as from_shard}
 use Rattle.calls.specs.declared.reply.CoordinatorReply.TheVariants as told
 use Rattle.calls.specs.declared.reply.ShardReply.TheVariants as told_by
-use Rattle.laws.specs.Machines.{Machine}
-use Rattle.laws.specs.Nodes.{NodeName, NodeState, Nodes, coordinator, down, leaves, refused, shard, staged_of, up}
 use Rattle.turns.specs.CoordinatorOpeningLaws.{IsOverDevices}
 use Rattle.turns.specs.FlushLaws.{FailsFlush, FlushesCoordinator, all_kept}
-use Rattle.turns.specs.Moments.{Moment}
-use Rattle.turns.specs.QuietTurns.{IsAway, IsQuietCall}
-use Rattle.turns.specs.SeamLaws.{IsSeen, at_coordinator, behind}
+use Rattle.turns.specs.SeamLaws.{at_coordinator}
 use Rattle.turns.specs.ShardOpeningLaws.{IsOver, put_at}
-use Rattle.turns.specs.ShardSeamLaws.{ShardIsSeen, behind_shard}
-use Rattle.turns.specs.Stores.{AreSound, ShowsNodes, StandsOver, Store}
 use Rattle.turns.proofs.CoordinatorOpeningSeam.{fails_over_devices, flushes_over_devices}
 use Rattle.turns.proofs.FailedFlushTurn.{failed_flushes_are_quiet}
 use Rattle.turns.proofs.FlushTurn.{flushes_are_quiet}
 use Rattle.turns.proofs.QuietTurns.{away_nodes_have_cause}
 use Rattle.turns.proofs.ShardFailedSeam.{failed_shard_flushes_are_quiet}
 use Rattle.turns.proofs.ShardOpeningSeam.{left_elsewhere, shard_flushes_are_quiet}
-use Rattle.turns.proofs.ShardSeam.{elsewhere, here, put_elsewhere, put_here}
-use Rattle.call_turns.specs.StoreCalls.{IsCalled, IsMade}
+use Rattle.turns.proofs.ShardSeam.{put_elsewhere, put_here}
 use Rattle.call_turns.proofs.Made.{Comes, FailsQuietly, IsQuietlyMade, IsWithin, after, before, fails_by, given_by, inside_by, named_less, node_cases, shows_nodes, still_at, still_made, still_of}
 use Rattle.call_turns.proofs.Standing.{coordinator_is_away, is_seen, runs_now, shard_is_away, shard_is_seen, shard_is_up}
 

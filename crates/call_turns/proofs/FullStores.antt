@@ -5,18 +5,10 @@ use Rattle.std.proofs.lemmas.Bool.{eqb-true}
 use Rattle.std.proofs.lemmas.Cmp.{nat_eq_equiv}
 use Rattle.std.proofs.lemmas.Map.Made.{length-le_from_is_member}
 use Rattle.std.proofs.lemmas.Map.Views.{Contains-from_any}
-use Rattle.refusal.specs.declared.refusal.Refusal.TheVariants.{Full}
-use Rattle.device.specs.Device.{State, left}
-use Rattle.laws.specs.Nodes.{NodeName}
-use Rattle.turns.specs.Flows.{Asked, IsAsked}
-use Rattle.turns.specs.Moments.{Moment, Running, flow_at}
-use Rattle.turns.specs.Promises.{Ran, events_of}
-use Rattle.turns.specs.Runs.{refuses, restart, start}
-use Rattle.turns.specs.Stands.{IsHorizonIn, Stands}
-use Rattle.turns.specs.Stores.{AreSound, FlowView, ShowsSlot, StandsOver, Store, stops}
+use Rattle.call_turns.proofs.Words.{AreSound, Asked, FlowView, Full, IsAsked, IsFullThere, IsHorizonIn, Moment, NodeName, Ran, Running, ShowsSlot, Stands, StandsOver, State, Store, events_of, flow_at, left, refuses, restart, start, stops}
 use Rattle.call_turns.proofs.Made.{inside_by, still_given, still_within}
 use Rattle.call_turns.proofs.Starts.{at_slots, no_fewer, slots_of}
-use Rattle.call_turns.specs.Steps.{FullStoresRefuse, IsFullThere}
+use Rattle.call_turns.specs.Steps.{FullStoresRefuse}
 
 module _ {D : Type 0} (state : D → State) (honest : D → Type 0) (moment : D → ℕ) (left_since : D → ℕ → List ℕ → Type 0)
     (only_now : (d : D) (c : List ℕ) → honest d → left_since d (moment d) c → left (state d) c)

@@ -1,3 +1,4 @@
+mod Words
 pub mod Slots
 pub mod Made
 pub mod Standing

@@ -4,31 +4,20 @@ use Rattle.std.proofs.Math.Path.{fun_ext}
 use Rattle.std.proofs.lemmas.Bool.{cases_Bool, eq-eqb, eqb-true}
 use Rattle.std.proofs.lemmas.Option.{same_Some}
 use Rattle.tuples.specs.declared.entry.Entry.{Entry}
-use Rattle.tuples.specs.declared.entry.WriteId.{WriteId}
-use Rattle.refusal.specs.declared.refusal.Refusal.{Refusal}
-use Rattle.refusal.specs.declared.refusal.Refusal.TheVariants.{Unsure}
+use Rattle.call_turns.proofs.Words.{AreSound, Calls, CoordinatorState, HasDeviceCause, HasItsCause, IsCalled, IsHorizonIn, IsMade, IsQuietCall, Machine, Moment, NamesHorizon, NodeName, NodeState, NodeView, Nodes, Record, Refusal, Running, ShowsNodes, StandsOver, State, Store, Unsure, WriteId, coordinator, coordinator_state, down, found, leaves, left, refused, shard, shown, staged_of, stops, up}
 use Rattle.decisions.specs.Standing.{IsGivenOut}
-use Rattle.device.specs.Device.{State, left}
-use Rattle.journal.specs.Records.{found}
-use Rattle.records.specs.declared.record.Record.{Record}
 use Rattle.records.specs.declared.record.Record.TheVariants.{Epoch}
-use Rattle.records.specs.Coordinators.{CoordinatorState, coordinator_state}
 use Rattle.calls.specs.Views as views
-use Rattle.calls.specs.Views.{NodeView, devices_of}
-use Rattle.laws.specs.Machines.{Machine}
-use Rattle.laws.specs.Nodes.{IsThere, NodeName, NodeState, Nodes, SameBut, coordinator, down, leaves, refused, shard, staged_of, up}
+use Rattle.calls.specs.Views.{devices_of}
+use Rattle.laws.specs.Nodes.{IsThere, SameBut}
 use Rattle.laws.specs.Stops.{MeansOne}
-use Rattle.turns.specs.Causes.{Calls, HasItsCause}
-use Rattle.turns.specs.Moments.{Moment, Running}
-use Rattle.turns.specs.Promises.{HasDeviceCause, StopsBetween, stops_since}
-use Rattle.turns.specs.QuietTurns.{IsQuietCall}
-use Rattle.turns.specs.Stands.{IsHorizonIn, at_shards}
-use Rattle.turns.specs.Stores.{AreSound, NamesHorizon, ShowsNodes, StandsOver, Store, stops}
+use Rattle.turns.specs.Promises.{StopsBetween, stops_since}
+use Rattle.turns.specs.Stands.{at_shards}
 use Rattle.turns.proofs.Answers.{replays}
 use Rattle.turns.proofs.DecisionNodes.{epoch_stays}
 use Rattle.turns.proofs.QuietTurns.{nothing_changes, of_node}
 use Rattle.turns.proofs.StopInside.{stops_within_steps}
-use Rattle.call_turns.specs.StoreCalls.{IsCalled, IsMade, KeepsMemory, ShowsMemory, shown}
+use Rattle.call_turns.specs.StoreCalls.{KeepsMemory, ShowsMemory}
 
 -- two nodes are one, or not
 pub node_cases : (m n : NodeName) → (m ≡ n) ⊎ (m ≢ n)

@@ -1,34 +1,17 @@
 -- What a shard has settled, and what the coordinator makes of a raise.
 use Rattle.std.proofs.Common.{◌≡◌, ◌≢◌, ◌⊎◌, inl, inr, ⊎_elim, ◌≤◌, ◌<◌, ℕ, false, true≢false, List, [], ◌∷◌, ◌++◌, Ok, Err, Result, Contains, refl, sym, ◌∙◌, ap, subst, append_assoc, if◌then◌else◌}
 use Rattle.std.proofs.lemmas.Bool.{cases_Bool}
-use Rattle.refusal.specs.declared.refusal.Refusal.{Refusal}
-use Rattle.refusal.specs.declared.refusal.Refusal.TheVariants.{Collected, Down, Full, Future}
-use Rattle.device.specs.Device.{State, left}
-use Rattle.journal.specs.Records.{HasNoRoom}
-use Rattle.records.specs.declared.record.Record.{Record}
-use Rattle.records.specs.declared.record.Record.TheVariants.{Horizon}
-use Rattle.records.specs.Coordinators.{CoordinatorState, coordinator_state, coordinator_step, end_of}
-use Rattle.decisions.specs.Coordinators.{CoordinatorView, RaisesAt, kept_of}
-use Rattle.decisions.specs.Values.{SettledValue}
-use Rattle.coordinator.specs.declared.raising.NotRaised.{NotRaised}
+use Rattle.call_turns.proofs.Words.{Answered, Collected, CoordinatorState, CoordinatorView, Down, Full, Future, HasNoRoom, Horizon, IsCalled, IsHorizonIn, IsMade, IsSeen, Moment, NamesHorizon, NodeName, NodeState, NodeView, Nodes, NotRaised, Record, Refusal, SettledValue, StandsOver, State, Store, behind, coordinator, coordinator_state, down, end_of, from_coordinator, from_shard, kept_of, left, of_coordinator, of_shard, shard, staged_of, stops, up}
+use Rattle.records.specs.Coordinators.{coordinator_step}
+use Rattle.decisions.specs.Coordinators.{RaisesAt}
 use Rattle.shard.specs.Calls.{SettlesAt}
-use Rattle.calls.specs.Asking.{Answered}
 use Rattle.calls.specs.Views as views
-use Rattle.calls.specs.Views.{NodeView}
-use Rattle.calls.specs.declared.call.NodeCall.TheVariants.{Coordinator as of_coordinator, Shard as of_shard}
 use Rattle.calls.specs.declared.call.CoordinatorCall.TheVariants as coordinator_calls
 use Rattle.calls.specs.declared.call.ShardCall.TheVariants as shard_calls
-use Rattle.calls.specs.declared.reply.Reply.TheVariants.{Coordinator as from_coordinator, Shard as from_shard}
 use Rattle.calls.specs.declared.reply.CoordinatorReply.TheVariants as told
 use Rattle.calls.specs.declared.reply.ShardReply.TheVariants as told_by
 use Rattle.std.specs.Global.{Vec}
-use Rattle.laws.specs.Nodes.{NodeName, NodeState, Nodes, coordinator, down, shard, staged_of, up}
 use Rattle.laws.proofs.CoordinatorStates.{coordinator_push}
-use Rattle.turns.specs.Moments.{Moment}
-use Rattle.turns.specs.SeamLaws.{IsSeen, behind}
-use Rattle.turns.specs.Stands.{IsHorizonIn}
-use Rattle.turns.specs.Stores.{NamesHorizon, StandsOver, Store, stops}
-use Rattle.call_turns.specs.StoreCalls.{IsCalled, IsMade}
 use Rattle.call_turns.proofs.Asked.{FromCoordinator, FromShard, away, coordinator_gone, coordinator_tells, shard_gone, shard_tells}
 use Rattle.call_turns.proofs.Made.{Comes, FailsQuietly, after, before, fails_by, inside_by, same_devices, shows_nodes, still_given, still_sound, still_within}
 use Rattle.call_turns.proofs.Standing.{is_seen, runs_now, shard_is_up}

@@ -1,27 +1,16 @@
 -- What a shard of a store that stands answers for a read, and for one of a check.
 use Rattle.std.proofs.Common.{◌≡◌, ◌⊎◌, inl, inr, ⊎_elim, ◌≤◌, ◌<◌, ℕ, false, List, Ok, Err, Result, refl, ap}
 use Rattle.std.proofs.lemmas.Bool.{cases_Bool}
-use Rattle.refusal.specs.declared.refusal.Refusal.{Refusal}
-use Rattle.refusal.specs.declared.refusal.Refusal.TheVariants.{Collected, Down, NoMemory}
-use Rattle.device.specs.Device.{State, left}
+use Rattle.call_turns.proofs.Words.{Answered, Collected, Down, IsCalled, Moment, NoMemory, NodeName, NodeView, Refusal, ShardView, StandsOver, State, Store, from_shard, left, memory, of_shard, shard}
 use Rattle.tuples.specs.declared.object.Userset.{Userset}
 use Rattle.tuples.specs.declared.tupleset.Tupleset.{Tupleset}
 use Rattle.tuples.specs.declared.user.User.{User}
 use Rattle.shard.specs.Calls.{ReadsAt, ReadsForCheckAt}
-use Rattle.shard.specs.Shards.{ShardView, memory}
 use Rattle.shard.specs.declared.replies.ReadReply.{ReadReply}
 use Rattle.shard.specs.declared.replies.ReadReply.TheVariants.{Rows, Behind}
-use Rattle.calls.specs.Asking.{Answered}
 use Rattle.calls.specs.Views as views
-use Rattle.calls.specs.Views.{NodeView}
-use Rattle.calls.specs.declared.call.NodeCall.TheVariants.{Shard as of_shard}
 use Rattle.calls.specs.declared.call.ShardCall.TheVariants as shard_calls
-use Rattle.calls.specs.declared.reply.Reply.TheVariants.{Shard as from_shard}
 use Rattle.calls.specs.declared.reply.ShardReply.TheVariants as told_by
-use Rattle.laws.specs.Nodes.{NodeName, shard}
-use Rattle.turns.specs.Moments.{Moment}
-use Rattle.turns.specs.Stores.{StandsOver, Store}
-use Rattle.call_turns.specs.StoreCalls.{IsCalled}
 use Rattle.call_turns.proofs.Asked.{FromShard, away, shard_gone, shard_tells}
 use Rattle.call_turns.proofs.Made.{FailsQuietly}
 use Rattle.call_turns.proofs.Standing.{shard_is_up}

@@ -2,28 +2,16 @@
 use Rattle.std.proofs.Common.{◌≡◌, ◌⊎◌, inl, inr, ⊎_elim, ◌≤◌, ℕ, true≢false, List, None, Ok, Err, Result, refl, sym, ap}
 use Rattle.std.proofs.lemmas.Bool.{cases_Bool}
 use Rattle.std.specs.Global.{Vec}
-use Rattle.refusal.specs.declared.refusal.Refusal.{Refusal}
-use Rattle.refusal.specs.declared.refusal.Refusal.TheVariants.{Down, NoMemory}
-use Rattle.tuples.specs.declared.entry.WriteId.{WriteId}
-use Rattle.device.specs.Device.{State, left}
-use Rattle.decisions.specs.Coordinators.{CoordinatorView, FindsAt, FindsNone}
-use Rattle.decisions.specs.Values.{VerdictValue}
+use Rattle.call_turns.proofs.Words.{Answered, CoordinatorView, Down, IsCalled, Moment, NoMemory, NodeView, Refusal, StandsOver, State, Store, VerdictValue, WriteId, coordinator, from_coordinator, from_shard, left, of_coordinator, of_shard, shard}
+use Rattle.decisions.specs.Coordinators.{FindsAt, FindsNone}
 use Rattle.coordinator.specs.declared.telling.Inquiry.{Inquiry}
 use Rattle.coordinator.specs.declared.telling.Inquiry.TheVariants.{Commit, Abort, Undecided}
 use Rattle.shard.specs.Calls.{DropsAt}
-use Rattle.calls.specs.Asking.{Answered}
 use Rattle.calls.specs.Views as views
-use Rattle.calls.specs.Views.{NodeView}
-use Rattle.calls.specs.declared.call.NodeCall.TheVariants.{Coordinator as of_coordinator, Shard as of_shard}
 use Rattle.calls.specs.declared.call.CoordinatorCall.TheVariants as coordinator_calls
 use Rattle.calls.specs.declared.call.ShardCall.TheVariants as shard_calls
-use Rattle.calls.specs.declared.reply.Reply.TheVariants.{Coordinator as from_coordinator, Shard as from_shard}
 use Rattle.calls.specs.declared.reply.CoordinatorReply.TheVariants as told
 use Rattle.calls.specs.declared.reply.ShardReply.TheVariants as told_by
-use Rattle.laws.specs.Nodes.{coordinator, shard}
-use Rattle.turns.specs.Moments.{Moment}
-use Rattle.turns.specs.Stores.{StandsOver, Store}
-use Rattle.call_turns.specs.StoreCalls.{IsCalled}
 use Rattle.call_turns.proofs.Asked.{FromCoordinator, IsStill, away, coordinator_gone, coordinator_tells, shard_gone, shard_tells, staged_made}
 use Rattle.call_turns.proofs.AskedMore.{ShardDid}
 use Rattle.call_turns.proofs.Made.{Comes, FailsQuietly}

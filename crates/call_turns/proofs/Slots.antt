@@ -3,8 +3,7 @@ use Rattle.std.proofs.Common.{◌≡◌, ◌≢◌, ⊎_elim, ◌==◌, ℕ, zer
 use Rattle.std.proofs.lemmas.Bool.{cases_Bool, eq-eqb, eqb-true}
 use Rattle.std.proofs.lemmas.List.Elements.{Contains-append_right}
 use Rattle.std.proofs.lemmas.Option.{same_Some}
-use Rattle.turns.specs.Moments.{Running, ended, flow_at, replaced}
-use Rattle.turns.proofs.FlowBegins.{alone}
+use Rattle.call_turns.proofs.Words.{Running, alone, ended, flow_at, replaced}
 
 -- the flow that is found runs, and is in that slot
 pub found_at : (slot : ℕ) (rs : List Running) (r : Running) → flow_at slot rs ≡ Some r → Contains rs r × (r.slot ≡ slot)

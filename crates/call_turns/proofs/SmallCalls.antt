@@ -5,21 +5,12 @@ use Rattle.std.proofs.Math.Dec.{eqb}
 use Rattle.std.proofs.lemmas.Bool.{cases_Bool, eq-eqb, eqb-true}
 use Rattle.tuples.specs.declared.change.Change.{Change}
 use Rattle.tuples.specs.declared.change.Condition.{Condition}
-use Rattle.refusal.specs.declared.refusal.Refusal.TheVariants.{Down}
-use Rattle.records.specs.Identity.{Identity}
-use Rattle.device.specs.Device.{HasFailed, State}
-use Rattle.decisions.specs.Coordinators.{CoordinatorView}
-use Rattle.shard.specs.Shards.{ShardView}
+use Rattle.call_turns.proofs.Words.{Asked, CoordinatorView, Down, FlowView, Holds, Identity, IsBegunThere, IsCalled, IsFullThere, IsNode, NodeName, NodeState, NodeView, ShardView, State, Store, alone, coordinator, down, nothing_held, refused, shard, shard_node, shown_flow, to_raise, to_write, up}
+use Rattle.device.specs.Device.{HasFailed}
 use Rattle.calls.specs.Views as views
-use Rattle.calls.specs.Views.{NodeView}
-use Rattle.laws.specs.Nodes.{NodeName, NodeState, coordinator, down, refused, shard, up}
-use Rattle.laws.specs.Worlds.{coordinator_node, shard_node}
-use Rattle.turns.specs.Flows.{Asked, Holds, nothing_held, to_raise, to_write}
+use Rattle.laws.specs.Worlds.{coordinator_node}
 use Rattle.turns.specs.Promises.{IsNearlyFull}
-use Rattle.turns.specs.Stores.{FlowView, Store}
-use Rattle.turns.proofs.FlowBegins.{alone}
-use Rattle.call_turns.specs.Steps.{IsBegunThere, IsDroppedThere, IsFullThere, shown_flow}
-use Rattle.call_turns.specs.StoreCalls.{IsCalled, IsNode}
+use Rattle.call_turns.specs.Steps.{IsDroppedThere}
 
 none_is_some : {X : Type 0} {x : X} → None ≡ Some x → ⊥
 none_is_some is = cc

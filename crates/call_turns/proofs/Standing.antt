@@ -1,23 +1,11 @@
 -- A node of a store that stands: up, it keeps its contract's premises; away, it answers one refusal.
 use Rattle.std.proofs.Common.{◌≡◌, inl, ℕ, ◌++◌, true, false, List, Some, refl, sym, ◌∙◌, ap, subst, if◌then◌else◌}
-use Rattle.refusal.specs.declared.refusal.Refusal.TheVariants.{Down}
-use Rattle.device.specs.Device.{State}
+use Rattle.call_turns.proofs.Words.{CoordinatorView, Down, IsAway, IsNode, IsRunning, IsSeen, IsUp, Moment, Record, ShardIsSeen, ShardView, StandsOver, State, Store, coordinator, down, shard, shard_node, stops, up}
 use Rattle.journal.specs.Records.{HasRecords}
-use Rattle.records.specs.declared.record.Record.{Record}
 use Rattle.records.specs.Replays.{Identity, IsShardImage}
-use Rattle.decisions.specs.Coordinators.{CoordinatorView, IsRunning}
-use Rattle.shard.specs.Shards.{IsUp, ShardView}
 use Rattle.calls.specs.Views as views
-use Rattle.laws.specs.Nodes.{coordinator, down, shard, up}
-use Rattle.laws.specs.Worlds.{shard_node}
-use Rattle.turns.specs.Moments.{Moment}
-use Rattle.turns.specs.QuietTurns.{IsAway}
-use Rattle.turns.specs.SeamLaws.{IsSeen}
-use Rattle.turns.specs.ShardSeamLaws.{ShardIsSeen}
-use Rattle.turns.specs.Stores.{StandsOver, Store, stops}
 use Rattle.turns.proofs.ShardPrepareSeam.{last_sync}
 use Rattle.turns.proofs.ShardSeam.{known_left}
-use Rattle.call_turns.specs.StoreCalls.{IsNode}
 
 module _ {D : Type 0} (state : D → State) (honest : D → Type 0) (store shards : ℕ) (old : Store D) (now : Moment) (standing : StandsOver state honest store shards old now) where
   -- a stop leaves some records of the coordinator

@@ -8,19 +8,13 @@ use Rattle.std.proofs.lemmas.Map.Made.{length-le_from_is_member}
 use Rattle.std.proofs.lemmas.Cmp.{nat_eq_equiv}
 use Rattle.std.proofs.lemmas.List.Elements.{Contains-append_right}
 use Rattle.std.proofs.lemmas.Map.Views.{Contains-from_any, list_any-from_Contains}
-use Rattle.device.specs.Device.{State, left}
-use Rattle.records.specs.declared.record.Record.{Record}
-use Rattle.laws.specs.Nodes.{NodeName}
+use Rattle.call_turns.proofs.Words.{AreSound, Asked, FlowView, IsAsked, IsBegunThere, IsHorizonIn, Moment, NodeName, Ran, Record, Running, ShowsSlot, Stands, StandsOver, State, Store, alone, events_of, flow_at, left, nothing_held, restart, shown_flow, start, stops}
 use Rattle.turns.specs.FlowLaws.{with_flow}
-use Rattle.turns.specs.Flows.{Asked, IsAsked, nothing_held}
-use Rattle.turns.specs.Moments.{Moment, Running, begun, flow_at}
-use Rattle.turns.specs.Promises.{Ran, events_of}
-use Rattle.turns.specs.Runs.{began, restart, start}
-use Rattle.turns.specs.Stands.{IsHorizonIn, Stands}
-use Rattle.turns.specs.Stores.{AreSound, FlowView, ShowsSlot, StandsOver, Store, stops}
-use Rattle.turns.proofs.FlowBegins.{alone, among, flows_begin}
+use Rattle.turns.specs.Moments.{begun}
+use Rattle.turns.specs.Runs.{began}
+use Rattle.turns.proofs.FlowBegins.{among, flows_begin}
 use Rattle.call_turns.proofs.Made.{inside_by, still_given, still_within}
-use Rattle.call_turns.specs.Steps.{FlowsStart, IsBegunThere, shown_flow}
+use Rattle.call_turns.specs.Steps.{FlowsStart}
 
 -- the slots of flows
 pub slots_of : List Running → List ℕ

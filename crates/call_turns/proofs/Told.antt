@@ -1,20 +1,8 @@
 -- Laws of calls and of turns behind them, as contracts say them.
 use Rattle.std.proofs.Common.{◌≡◌, ◌≢◌, ℕ, false, List, [], ◌∷◌, Option, Some, None, All, refl, sym, ◌∙◌, subst}
 use Rattle.std.proofs.lemmas.Option.{same_Some}
-use Rattle.refusal.specs.declared.refusal.Refusal.{Refusal}
-use Rattle.refusal.specs.declared.refusal.Refusal.TheVariants.{Unsure}
-use Rattle.device.specs.Device.{State, left}
-use Rattle.laws.specs.Machines.{Machine}
-use Rattle.laws.specs.Nodes.{Nodes}
-use Rattle.turns.specs.Causes.{HasItsCause}
-use Rattle.turns.specs.Flows.{Asked, Holds}
-use Rattle.turns.specs.Held.{IsRight, IsRightVerdict}
-use Rattle.turns.specs.Moments.{Moment, Running}
-use Rattle.turns.specs.Promises.{Ran, events_of}
-use Rattle.turns.specs.QuietTurns.{behind_call, ending, with_call}
-use Rattle.turns.specs.Replies.{Agrees, Answer}
-use Rattle.turns.specs.Runs.{answered, goes_on, refuses, told_by, turn as turns_in}
-use Rattle.turns.specs.Stores.{FlowView, ShowsFlow, Store, stops}
+use Rattle.call_turns.proofs.Words.{Agrees, Answer, Asked, FlowView, HasItsCause, Holds, IsRight, IsRightVerdict, Machine, Moment, Nodes, Ran, Refusal, Running, ShowsFlow, State, Store, Unsure, answered, behind_call, ending, events_of, goes_on, left, refuses, stops, told_by, with_call}
+use Rattle.turns.specs.Runs.{turn as turns_in}
 use Rattle.call_turns.specs.CallLaws.{IsQuietTurn, QuietTurnsAnswer, QuietTurnsGoOn, QuietTurnsRefuse, StillCallsAreQuiet}
 use Rattle.call_turns.proofs.Made.{IsQuietlyMade, still_made}
 use Rattle.call_turns.proofs.Turned.{answers, goes, refused_by, the_flow}

@@ -2,27 +2,13 @@
 use Rattle.std.proofs.Common.{◌≡◌, ◌≢◌, inl, ⊎_elim, ◌==◌, ℕ, false, true≢false, List, [], ◌∷◌, ◌++◌, Option, Some, None, All, Contains, refl, sym, ◌∙◌, ap, subst}
 use Rattle.std.proofs.lemmas.Bool.{cases_Bool, eq-eqb, eqb-true}
 use Rattle.std.proofs.lemmas.Option.{same_Some}
-use Rattle.tuples.specs.declared.entry.WriteId.{WriteId}
-use Rattle.refusal.specs.declared.refusal.Refusal.{Refusal}
-use Rattle.refusal.specs.declared.refusal.Refusal.TheVariants.{Unsure}
-use Rattle.device.specs.Device.{State}
-use Rattle.records.specs.declared.record.Record.{Record}
-use Rattle.laws.specs.Machines.{Machine}
-use Rattle.laws.specs.Nodes.{NodeName, Nodes}
-use Rattle.turns.specs.Causes.{Calls, HasItsCause}
-use Rattle.turns.specs.Flows.{Asked, Holds, checking, collecting, flushing, id_of, learning, raising, reading, resolving, to_check, to_collect, to_flush, to_learn, to_raise, to_read, to_resolve, to_watch, to_write, watching, writing}
-use Rattle.turns.specs.Held.{IsRight, IsRightVerdict}
-use Rattle.turns.specs.Moments.{Moment, Running, ended, flow_at, is_write, replaced}
-use Rattle.turns.specs.Promises.{Ran, events_of}
-use Rattle.turns.specs.QuietTurns.{behind_call, ending, going_on, with_call}
-use Rattle.turns.specs.Replies.{Agrees, Answer}
-use Rattle.turns.specs.Runs.{IfRunning, Told, Turns, answered, goes_on, refuses, restart, told_by, turn}
+use Rattle.call_turns.proofs.Words.{Agrees, Answer, Asked, Calls, FlowView, HasItsCause, Holds, IfRunning, IsMade, IsRight, IsRightVerdict, Machine, Moment, NamesHorizon, NodeName, Nodes, Ran, Record, Refusal, Running, ShowsFlow, ShowsSlot, Stands, StandsOver, State, Store, Unsure, WriteId, answered, behind_call, ended, ending, events_of, flow_at, goes_on, is_write, refuses, replaced, restart, stops, to_raise, to_write, told_by, with_call}
+use Rattle.turns.specs.Flows.{checking, collecting, flushing, id_of, learning, raising, reading, resolving, to_check, to_collect, to_flush, to_learn, to_read, to_resolve, to_watch, watching, writing}
+use Rattle.turns.specs.QuietTurns.{going_on}
+use Rattle.turns.specs.Runs.{Told, Turns, turn}
 use Rattle.turns.specs.SeamLaws.{told_unless}
-use Rattle.turns.specs.Stands.{Stands}
-use Rattle.turns.specs.Stores.{FlowView, NamesHorizon, ShowsFlow, ShowsSlot, StandsOver, Store, stops}
 use Rattle.turns.proofs.CoordinatorTurns.{seen_on}
 use Rattle.turns.proofs.QuietTurns.{calls_on, quiet_calls_answer, quiet_calls_turn, refused_flows_end}
-use Rattle.call_turns.specs.StoreCalls.{IsMade}
 use Rattle.call_turns.specs.StoreTurns.{SlotTurns}
 use Rattle.call_turns.proofs.Made.{FailsQuietly, IsQuietlyMade, after}
 use Rattle.call_turns.proofs.Slots.{at_ended, at_replaced, elsewhere_ended, elsewhere_replaced, found_at}

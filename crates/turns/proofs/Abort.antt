@@ -1,20 +1,10 @@
 -- A write is aborted: it is open no longer, and what flows hold stays right.
 use Rattle.std.proofs.Common.{◌≡◌, ◌≢◌, inl, ℕ, List, Some, None, slice_get, slice_index_or, Contains, refl, sym, ◌∙◌, ap, subst, arith, false}
-use Rattle.tuples.specs.declared.entry.Entry.{Entry}
-use Rattle.tuples.specs.declared.entry.WriteId.{WriteId}
-use Rattle.records.specs.declared.record.Record.{Record}
-use Rattle.records.specs.Coordinators.{CoordinatorState}
-use Rattle.records.specs.Replays.{without}
-use Rattle.turns.specs.AbortLaws.{AbortsStand, IsUndecidedFlow, with_closed, with_verdict}
-use Rattle.turns.specs.Flows.{WriteHolds, id_of, writing}
-use Rattle.turns.specs.Held.{IsOpen, IsRight, IsRightOwn, IsRightVerdict, IsRightWrite, IsUndecided, WasGiven, own_write}
-use Rattle.turns.specs.Moments.{Moment, Running, replaced}
-use Rattle.laws.specs.Nodes.{CoordinatorKnows, NodeName, Nodes}
-use Rattle.turns.specs.Stands.{Stands}
+use Rattle.turns.proofs.Words.{CoordinatorKnows, CoordinatorState, Entry, IsOpen, IsRight, IsRightOwn, IsRightVerdict, IsRightWrite, IsUndecided, IsUndecidedFlow, Moment, NodeName, Nodes, Record, Running, Stands, WasGiven, WriteHolds, WriteId, id_of, of_without, own_write, replaced, with_closed, with_verdict, without, writing}
+use Rattle.turns.specs.AbortLaws.{AbortsStand}
 use Rattle.turns.proofs.FlowBegins.{same_verdict}
 use Rattle.turns.proofs.Frames.{KeepsDoubts, KeepsStore, decision_on, frame, given_on, same_doubts, same_knew, same_taken, ticket_on, undecided_on, verdict_on, vote_on}
 use Rattle.turns.proofs.DecisionLists.{few_still, new_without, other_without, stays_without}
-use Rattle.laws.proofs.Locks.{of_without}
 use Rattle.turns.proofs.ShardStagesStands.{contained_at, contained_from}
 use Rattle.turns.proofs.FlowGoesOn.{sees_more, flows_turn}
 

@@ -2,20 +2,10 @@
 use Rattle.std.proofs.Common.{◌≡◌, ◌⊎◌, inl, inr, ⊎_elim, ℕ, ◌≤◌, ◌<◌, true, List, ◌++◌, Some, Contains, refl, sym, ◌∙◌, ap, subst, arith}
 use Rattle.std.proofs.lemmas.Bool.{cases_Bool, cases_lt}
 use Rattle.std.proofs.lemmas.List.Elements.{All-contains}
-use Rattle.tuples.specs.declared.entry.Entry.{Entry}
-use Rattle.tuples.specs.Parts.{part}
-use Rattle.records.specs.declared.record.Record.{Record}
-use Rattle.records.specs.Coordinators.{CoordinatorState, coordinator_state}
-use Rattle.records.specs.Replays.{ShardState, empty_shard, find_in_doubt, shard_from, shard_state}
-use Rattle.replay.proofs.States.{shard_from-append}
-use Rattle.decisions.specs.Values.{IntentValue}
-use Rattle.turns.specs.AbortLaws.{IsUndecidedFlow, RefusedIntents, RefusedTickets}
-use Rattle.turns.specs.Causes.{IsCutOff, IsLost}
-use Rattle.turns.specs.Flows.{HeldTicket, WriteHolds, writing}
-use Rattle.turns.specs.Held.{IsOpen, IsRight, IsRightOwn, IsRightTicket, IsRightWrite}
-use Rattle.turns.specs.Moments.{Moment, Running}
-use Rattle.laws.specs.Nodes.{CoordinatorKnows, NodeName, NodeState, ShardKnows, coordinator, down, refused, shard, up}
-use Rattle.turns.specs.Stands.{Stands}
+use Rattle.turns.proofs.Words.{CoordinatorKnows, CoordinatorState, Entry, HeldTicket, IntentValue, IsCutOff, IsOpen, IsRight, IsRightOwn, IsRightTicket, IsRightWrite, IsUndecidedFlow, Moment, NodeName, NodeState, Record, Running, ShardKnows, ShardState, Stands, WriteHolds, coordinator, coordinator_state, down, empty_shard, find_in_doubt, part, refused, shard, shard_from, shard_from-append, up, writing}
+use Rattle.records.specs.Replays.{shard_state}
+use Rattle.turns.specs.AbortLaws.{RefusedIntents, RefusedTickets}
+use Rattle.turns.specs.Causes.{IsLost}
 use Rattle.turns.proofs.WriteBegins.{one_memory}
 use Rattle.turns.proofs.ShardFlush.{epoch_stays}
 

@@ -2,16 +2,9 @@
 use Rattle.std.proofs.Common.{◌≡◌, ◌⊎◌, inl, inr, ⊎_elim, ℕ, true, false, List, [], ◌∷◌, Some, refl, sym, ◌∙◌, ap}
 use Rattle.std.proofs.lemmas.Bool.{cases_Bool}
 use Rattle.std.proofs.lemmas.List.Elements.{All-nil}
-use Rattle.tuples.specs.declared.entry.Entry.{Entry}
-use Rattle.records.specs.declared.record.Record.{Record}
-use Rattle.decisions.specs.Coordinators.{AbortsAt, CoordinatorView, without_id}
-use Rattle.laws.specs.Nodes.{NodeName, Nodes, SameBut, coordinator, up}
-use Rattle.turns.specs.AbortLaws.{IsUndecidedFlow, with_closed, with_verdict}
-use Rattle.turns.specs.Flows.{WriteHolds, id_of}
-use Rattle.turns.specs.Moments.{Moment, Running, replaced}
-use Rattle.turns.specs.Runs.{EndsAs, EndsQuietly, IsQuiet, MayRise, Told, Turns, goes_on}
-use Rattle.turns.specs.SeamLaws.{AbortTurns, IsSeen, told_unless}
-use Rattle.turns.specs.Stands.{IsHorizonIn}
+use Rattle.turns.proofs.Words.{CoordinatorView, EndsAs, EndsQuietly, Entry, IsHorizonIn, IsQuiet, IsSeen, IsUndecidedFlow, MayRise, Moment, NodeName, Nodes, Record, Running, SameBut, Told, Turns, WriteHolds, coordinator, goes_on, id_of, replaced, told_unless, up, with_closed, with_verdict, without_id}
+use Rattle.decisions.specs.Coordinators.{AbortsAt}
+use Rattle.turns.specs.SeamLaws.{AbortTurns}
 use Rattle.turns.proofs.Abort.{aborts_stand}
 use Rattle.turns.proofs.DecideSeam.{ids_without}
 

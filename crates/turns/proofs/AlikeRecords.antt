@@ -1,19 +1,10 @@
 -- A shard's records are replaced by others of alike state: the store stands for the same machine.
 use Rattle.std.proofs.Common.{inl, ⊎_elim, ℕ, ◌≤◌, ◌<◌, List, [], length, take, refl, sym, ◌∙◌, ap, subst, arith, append-nil}
-use Rattle.tuples.specs.declared.entry.Entry.{Entry}
-use Rattle.records.specs.declared.record.Record.{Record}
-use Rattle.records.specs.Coordinators.{CoordinatorState, coordinator_state}
-use Rattle.records.specs.Replays.{ShardState, find_in_doubt, shard_state}
-use Rattle.tuples.specs.Versions.{of_shard, versions}
+use Rattle.turns.proofs.Words.{CoordinatorState, Entry, IsMeaning, Moment, NodeName, Nodes, Record, Rests, ShardMeans, ShardState, Stands, at_shards, coordinator_state, find_in_doubt, leaves, of_shard, shard, shard_state, versions}
 use Rattle.versions.specs.Alike.{AreAlike}
 use Rattle.versions.proofs.Alike.{alike_sym, alike_trans}
-use Rattle.laws.specs.Nodes.{NodeName, Nodes, leaves, shard}
-use Rattle.laws.specs.Shards.{ShardMeans}
-use Rattle.laws.specs.Worlds.{IsMeaning, Rests}
 use Rattle.replay.specs.Alike.{IsAlike}
 use Rattle.turns.specs.AlikeLaws.{AlikeRecordsStand, ReplacesRecords}
-use Rattle.turns.specs.Moments.{Moment}
-use Rattle.turns.specs.Stands.{Stands, at_shards}
 use Rattle.turns.proofs.ShardReplaced.{HasOther, IsReplacing, replaced_stands, shard_left}
 
 -- states that are alike mean the same

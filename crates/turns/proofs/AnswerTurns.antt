@@ -1,22 +1,9 @@
 -- Flows that end: their answers agree.
 use Rattle.std.proofs.Common.{◌≡◌, ◌≢◌, inl, ⊎_elim, ◌≤◌, ℕ, false, List, [], ◌∷◌, ◌++◌, All, Contains, Some, None, refl, sym, ◌∙◌, ap, subst, arith}
 use Rattle.std.proofs.lemmas.List.Elements.{All-cons, All-head, All-nil, All-tail}
-use Rattle.refusal.specs.declared.refusal.Refusal.{Refusal}
-use Rattle.refusal.specs.declared.refusal.Refusal.TheVariants.{Unsure}
-use Rattle.records.specs.declared.record.Record.{Record}
-use Rattle.records.specs.Coordinators.{coordinator_state}
-use Rattle.laws.specs.Machines.{Machine}
-use Rattle.laws.specs.Nodes.{NodeName, Nodes, coordinator, down, leaves, staged_of, up}
-use Rattle.laws.specs.Worlds.{Means}
+use Rattle.turns.proofs.Words.{Agrees, Answer, Asked, Holds, IsQuietCall, IsResolved, IsRight, IsRightRaise, IsRightResolved, IsRightVerdict, IsRightWrite, IsStaged, Machine, Means, Moment, NodeName, Nodes, Record, Refusal, Resolved, Running, Unsure, aborted, all_kept, at_shards, behind_call, committed, coordinator, coordinator_state, down, ending, is_write, leaves, raising, staged_of, told_by, undecided, up, writing}
 use Rattle.turns.specs.AnswerLaws.{ChecksAnswerNo, ChecksAnswerYes, CollectsAnswer, EndsWith, LearnsAnswer, RaisesAnswer, ReadsAnswer, RefusedWritesEnd, ResolvesAnswer, WatchesAnswer, having_seen}
-use Rattle.turns.specs.Flows.{Asked, Holds, Resolved, aborted, committed, raising, undecided, writing}
-use Rattle.turns.specs.FlushLaws.{all_kept}
-use Rattle.turns.specs.Held.{IsRight, IsRightRaise, IsRightResolved, IsRightVerdict, IsRightWrite, IsStaged}
-use Rattle.turns.specs.Moments.{Moment, Running, is_write}
-use Rattle.turns.specs.QuietTurns.{IsQuietCall, behind_call, ending}
-use Rattle.turns.specs.Replies.{Agrees, Answer, IsResolved}
-use Rattle.turns.specs.Runs.{aborted_ids, told_by}
-use Rattle.turns.specs.Stands.{at_shards}
+use Rattle.turns.specs.Runs.{aborted_ids}
 use Rattle.turns.proofs.Batches.{watches_agree}
 use Rattle.turns.proofs.CheckWalk.{checks_say_no, checks_say_yes}
 use Rattle.turns.proofs.FlushTurn.{flushes_are_quiet}

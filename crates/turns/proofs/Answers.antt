@@ -2,25 +2,10 @@
 use Rattle.std.proofs.Common.{◌≡◌, inl, ℕ, ◌≤◌, ◌<◌, Contains, ◌+◌, ◌-◌, min, List, [], ◌∷◌, ◌++◌, length, take, drop, Option, Some, None, slice_get, refl, sym, ◌∙◌, ap, subst, arith}
 use Rattle.std.proofs.lemmas.List.{drop-drop, drop-take, length-drop, length-take, length-take-le, take-take, take_all}
 use Rattle.std.proofs.lemmas.Option.{slice_get_within}
-use Rattle.tuples.specs.declared.entry.Entry.{Entry}
-use Rattle.tuples.specs.declared.entry.WriteId.{WriteId}
-use Rattle.records.specs.declared.record.Record.{Record}
-use Rattle.records.specs.declared.record.Record.TheVariants.{Decision, Dropped, Epoch, Horizon, Learned, Prepare}
-use Rattle.records.specs.Coordinators.{CoordinatorState, coordinator_from, coordinator_state, coordinator_step, empty_coordinator, end_of}
-use Rattle.decisions.specs.Values.{BatchValue}
-use Rattle.decisions.specs.Standing.{HeadsValue}
+use Rattle.turns.proofs.Words.{AreRightHeads, BatchValue, CoordinatorKnows, CoordinatorState, Decision, Dropped, Entry, Epoch, HasSeenBelow, HeadsValue, Horizon, IsResolved, IsRight, IsRightBatch, IsRightDecision, IsRightWrite, IsWriteAnswer, Learned, Means, Moment, NodeName, Prepare, Record, Running, Stands, WriteId, at_shards, committed, coordinator, coordinator_from, coordinator_from-append, empty_coordinator, end_is_length, end_of, id_of, leaves, own_write, slice_get_drop, slice_get_taken, writing}
+use Rattle.records.specs.Coordinators.{coordinator_state, coordinator_step}
 use Rattle.turns.specs.AbortLaws.{InquiriesAbort, InquiriesFind, OutcomesAgree}
-use Rattle.turns.specs.Flows.{committed, writing, id_of}
 use Rattle.turns.specs.HeadsLaws.{BatchesAreRight, HeadsAreRight}
-use Rattle.turns.specs.Held.{AreRightHeads, IsRightBatch, IsRight, IsRightDecision, IsRightWrite, own_write}
-use Rattle.turns.specs.Moments.{Moment, Running}
-use Rattle.laws.specs.Nodes.{CoordinatorKnows, NodeName, coordinator, leaves}
-use Rattle.turns.specs.Replies.{IsResolved, IsWriteAnswer}
-use Rattle.turns.specs.Stands.{Stands, at_shards, HasSeenBelow}
-use Rattle.laws.specs.Worlds.{Means}
-use Rattle.laws.proofs.LearnStep.{slice_get_drop}
-use Rattle.laws.proofs.Lists.{slice_get_taken}
-use Rattle.laws.proofs.CoordinatorStates.{coordinator_from-append, end_is_length}
 use Rattle.laws.specs.Coordinators.{CoordinatorMeans}
 use Rattle.turns.proofs.ShardStagesStands.{contained_from}
 

@@ -1,20 +1,9 @@
 -- What shards and watches make of batches and heads, and what shards have settled.
 use Rattle.std.proofs.Common.{◌≡◌, inr, ⊎_elim, ℕ, ◌+◌, ◌-◌, ◌≤◌, ◌<◌, min, true, List, ◌++◌, length, take, drop, Some, slice_get, refl, sym, ◌∙◌, ap, subst, arith}
-use Rattle.tuples.specs.declared.entry.Entry.{Entry}
-use Rattle.tuples.specs.Parts.{expected, part, takes_part}
+use Rattle.turns.proofs.Words.{AreOfLog, Entry, IsRightSettled, IsShardImage, Moment, NodeName, Record, ShardKnows, ShardMeans, ShardState, Stands, leaves, part, shard, shard_node, shard_state, slice_get_drop, slice_get_taken, staged_of, takes_part}
+use Rattle.tuples.specs.Parts.{expected}
 use Rattle.tuples.specs.Watching.{events, events_from}
-use Rattle.records.specs.declared.record.Record.{Record}
-use Rattle.records.specs.Replays.{ShardState, shard_state, IsShardImage}
-use Rattle.laws.specs.Nodes.{NodeName, ShardKnows, leaves, shard, staged_of}
-use Rattle.laws.specs.ShardLaws.{AreOfLog}
-use Rattle.laws.specs.Shards.{ShardMeans}
-use Rattle.laws.specs.Worlds.{shard_node}
-use Rattle.laws.proofs.LearnStep.{slice_get_drop}
-use Rattle.laws.proofs.Lists.{slice_get_taken}
 use Rattle.turns.specs.HeadsLaws.{BatchesMeetPrepares, SettledIsLearned, ShardsSettle, WatchesAgree}
-use Rattle.turns.specs.Held.{IsRightSettled}
-use Rattle.turns.specs.Moments.{Moment}
-use Rattle.turns.specs.Stands.{Stands}
 use Rattle.turns.proofs.ShardFlush.{learned_more}
 use Rattle.std.proofs.lemmas.List.Elements.{All-contains}
 

@@ -3,22 +3,9 @@ use Rattle.std.proofs.Common.{◌≡◌, inl, inr, ⊎_elim, ℕ, ◌+◌, ◌<�
 use Rattle.std.proofs.lemmas.Bool.{cases_lt}
 use Rattle.std.proofs.lemmas.List.{length-map}
 use Rattle.std.proofs.lemmas.List.Elements.{All-nil}
-use Rattle.tuples.specs.declared.change.Change.{Change}
-use Rattle.tuples.specs.declared.change.Condition.{Condition}
-use Rattle.tuples.specs.declared.entry.Entry.{Entry}
-use Rattle.tuples.specs.declared.entry.WriteId.{WriteId}
-use Rattle.records.specs.declared.record.Record.{Record}
-use Rattle.records.specs.Coordinators.{end_of}
-use Rattle.decisions.specs.Coordinators.{BeginsAt, CoordinatorView, FirstIs, HasNoId, NamesCollected, NamesFuture, kept_of, memory_of, next_id}
-use Rattle.decisions.specs.Values.{IntentValue}
-use Rattle.laws.specs.Nodes.{CoordinatorKnows, NodeName, Nodes, SameBut, coordinator, up}
-use Rattle.turns.specs.Causes.{IsBelow, IsCause, IsFull, IsFuture, TakesMemory}
-use Rattle.turns.specs.FlowLaws.{IsBegin, with_intent, with_open}
-use Rattle.turns.specs.Flows.{WriteHolds, id_of, to_write, writing}
-use Rattle.turns.specs.Moments.{Moment, Running, replaced}
-use Rattle.turns.specs.Runs.{IsQuiet, MayRise, Turns, goes_on}
-use Rattle.turns.specs.SeamLaws.{BeginHasCause, BeginTurns, IsBeginner, IsSeen}
-use Rattle.turns.specs.Stands.{IsHorizonIn, Stands}
+use Rattle.turns.proofs.Words.{Change, Condition, CoordinatorKnows, CoordinatorView, Entry, IntentValue, IsBegin, IsBelow, IsCause, IsFull, IsFuture, IsHorizonIn, IsQuiet, IsSeen, MayRise, Moment, NodeName, Nodes, Record, Running, SameBut, Stands, TakesMemory, Turns, WriteHolds, WriteId, coordinator, end_of, goes_on, id_of, kept_of, memory_of, replaced, to_write, up, with_intent, with_open, writing}
+use Rattle.decisions.specs.Coordinators.{BeginsAt, FirstIs, HasNoId, NamesCollected, NamesFuture, next_id}
+use Rattle.turns.specs.SeamLaws.{BeginHasCause, BeginTurns, IsBeginner}
 use Rattle.turns.proofs.ShardStagesStands.{contained_from}
 use Rattle.turns.proofs.WriteBegins.{writes_begin}
 

@@ -1,10 +1,9 @@
 -- A chain of promises is a run; and what a stop within a step or an opening leaves can be opened, with all that was told.
 use Rattle.std.proofs.Common.{◌≡◌, ◌+◌, inl, inr, ⊎_elim, ℕ, List, [], ◌∷◌, ◌++◌, length, slice_index_or, refl, sym, ◌∙◌, ap, subst, arith, append_assoc}
-use Rattle.device.specs.Device.{State}
+use Rattle.turns.proofs.Words.{Event, State, Store}
 use Rattle.turns.specs.Promises.{RunsAll}
-use Rattle.turns.specs.Runs.{Event}
 use Rattle.turns.specs.StoreLaws.{ChainsJoin, ChainsRun, StoppedOpeningsRest, StoppedStepsRest}
-use Rattle.turns.specs.Stores.{NamesHorizon, StandsOver, Store}
+use Rattle.turns.specs.Stores.{NamesHorizon, StandsOver}
 use Rattle.std.proofs.lemmas.Option.{slice_get-get_or}
 use Rattle.turns.proofs.ShardStagesStands.{contained_from}
 use Rattle.turns.proofs.RunLogs.{named_on, opened_log, run_more, told_unlisted}

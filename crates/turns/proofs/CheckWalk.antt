@@ -4,25 +4,13 @@ use Rattle.std.proofs.lemmas.Bool.{and_from, and_parts, cases_Bool, eq-eqb}
 use Rattle.std.proofs.lemmas.List.{append-nil, length-append}
 use Rattle.std.proofs.lemmas.List.Elements.{All-contains_itself, All-weaker, Contains-append_cases, Contains-append_left, Contains-append_right}
 use Rattle.std.proofs.lemmas.Option.{same_Some}
-use Rattle.tuples.specs.declared.object.Userset.{Userset}
-use Rattle.tuples.specs.declared.tuple.Tuple.{Tuple}
-use Rattle.tuples.specs.declared.user.User.{User}
-use Rattle.tuples.specs.declared.user.User.TheVariants.{Set}
-use Rattle.tuples.specs.Checking.{AreOnce, IsMember, IsReached, holding}
-use Rattle.tuples.specs.Log.{is_at}
-use Rattle.tuples.specs.Parts.{shard_of}
-use Rattle.tuples.specs.Walking.{IsCheckSelection, meets_check}
+use Rattle.turns.proofs.Words.{AreOnce, CheckHolds, Freshness, IsCheckSelection, IsFull, IsPlaceOf, IsReached, IsRightCheck, Moment, NodeName, Record, Running, Set, Tuple, User, Userset, Walks, holding, is_at, shard_of, there_of}
+use Rattle.tuples.specs.Checking.{IsMember}
+use Rattle.tuples.specs.Walking.{meets_check}
 use Rattle.tuples.proofs.Reaching.{closed_has_no_member, reached_is_member, reaches_further, reaches_itself}
 use Rattle.tuples.proofs.Walked.{asked_of, set_asked, user_asked}
-use Rattle.records.specs.declared.record.Record.{Record}
-use Rattle.laws.specs.Nodes.{NodeName}
-use Rattle.turns.specs.Causes.{IsFull}
-use Rattle.turns.specs.CheckingLaws.{CheckRepliesSelect, ChecksBegin, ChecksGoOn, ChecksSayNo, ChecksSayYes, FullChecksHaveCause, Walks}
-use Rattle.turns.specs.Flows.{CheckHolds, Freshness, most_walked}
-use Rattle.turns.specs.Held.{IsRightCheck}
-use Rattle.turns.specs.Moments.{Moment, Running}
-use Rattle.turns.specs.ReadingLaws.{there_of}
-use Rattle.turns.specs.Replies.{IsPlaceOf}
+use Rattle.turns.specs.CheckingLaws.{CheckRepliesSelect, ChecksBegin, ChecksGoOn, ChecksSayNo, ChecksSayYes, FullChecksHaveCause}
+use Rattle.turns.specs.Flows.{most_walked}
 use Rattle.turns.proofs.FlowBegins.{among}
 use Rattle.turns.proofs.OnceEach.{once_apart, once_both, once_right}
 use Rattle.turns.proofs.ReadAnswer.{rows_show}

@@ -3,25 +3,9 @@ use Rattle.std.proofs.Common.{◌≡◌, ⊎_elim, ℕ, max, ◌≤◌, ◌<◌,
 use Rattle.std.proofs.lemmas.Bool.{cases_lt}
 use Rattle.std.proofs.lemmas.List.{length-take-le, take_all}
 use Rattle.std.proofs.lemmas.List.Elements.{All-cons, All-nil}
-use Rattle.tuples.specs.declared.entry.Entry.{Entry}
-use Rattle.tuples.specs.declared.entry.WriteId.{WriteId}
-use Rattle.records.specs.declared.record.Record.{Record}
-use Rattle.records.specs.Coordinators.{coordinator_state, end_of}
-use Rattle.records.specs.Replays.{find_in_doubt, shard_state}
-use Rattle.turns.specs.Held.{IsRightVerdict, WasGiven}
-use Rattle.laws.specs.Machines.{Machine, Move, Moves, cut, keep, raise}
-use Rattle.laws.specs.Nodes.{NodeName, coordinator, down, leaves, refused, shard, up}
+use Rattle.turns.proofs.Words.{Entry, IsMeaning, IsOfOpening, IsRightVerdict, Machine, Means, Move, Moves, NodeName, Record, Refusal, Rests, Stands, WasGiven, WriteId, at_shards, coordinator, coordinator_state, cut, cut_to, doubts_apart, down, end_is_length, end_of, find_in_doubt, keep, leaves, less_rests, log_taken, not_found, raise, raised_means, refused, shard, shard_node, shard_state, up}
 use Rattle.turns.specs.ReopenLaws.{ClosedStoresStand, FindsCoordinator, closed_at, closed_nodes}
-use Rattle.turns.specs.RestartLaws.{cut_to}
-use Rattle.turns.specs.Runs.{IsOfOpening}
-use Rattle.turns.specs.Stands.{Stands, at_shards}
-use Rattle.laws.specs.Worlds.{IsMeaning, Means, Rests, shard_node}
-use Rattle.laws.proofs.CoordinatorStates.{end_is_length}
-use Rattle.laws.proofs.LessLeft.{less_rests, raised_means}
-use Rattle.laws.proofs.Locks.{doubts_apart, not_found}
-use Rattle.laws.proofs.Logs.{log_taken}
 use Rattle.turns.proofs.ShardStagesStands.{contained_at}
-use Rattle.refusal.specs.declared.refusal.Refusal.{Refusal}
 
 nothing_is_up : {d g : List Record} → down ≡ up d g → ⊥
 nothing_is_up is = cc

@@ -1,22 +1,10 @@
 -- A store that stands rests over its devices once it is closed, and unmade devices rest at the empty log.
 use Rattle.std.proofs.Common.{◌≡◌, ◌≤◌, inl, ℕ, List, [], take, Some, refl, sym, ◌∙◌, ap, subst, arith}
 use Rattle.std.proofs.lemmas.List.{take_all}
-use Rattle.tuples.specs.declared.entry.Entry.{Entry}
-use Rattle.records.specs.declared.record.Record.{Record}
-use Rattle.records.specs.Coordinators.{coordinator_state}
-use Rattle.records.specs.Replays.{ShardState, shard_state}
-use Rattle.device.specs.Device.{Leaves, State, left}
-use Rattle.device.proofs.Moments.{leaves_nothing_else}
+use Rattle.turns.proofs.Words.{AreSound, Entry, IsThere, Leaves, NodeName, Record, Rests, ShardMeans, ShardState, State, at_shards, coordinator, coordinator_state, empty_rests, leaves, leaves_nothing_else, left, less_rests, shard, shard_state, stops}
 use Rattle.gated.specs.Gated.{gated}
 use Rattle.journal.specs.Records.{found}
-use Rattle.laws.specs.Nodes.{IsThere, NodeName, coordinator, leaves, shard}
-use Rattle.laws.specs.Shards.{ShardMeans}
-use Rattle.laws.specs.Worlds.{Rests}
-use Rattle.turns.specs.Stands.{at_shards}
 use Rattle.turns.specs.StoreLaws.{ClosedStoresRest, IsUnmade, UnmadeStoresRest}
-use Rattle.turns.specs.Stores.{stops, AreSound}
-use Rattle.laws.proofs.EmptyStore.{empty_rests}
-use Rattle.laws.proofs.LessLeft.{less_rests}
 use Rattle.turns.proofs.ShardPrepareSeam.{last_sync}
 
 found_nothing : (y : List ℕ) → found [] y ≡ Some []

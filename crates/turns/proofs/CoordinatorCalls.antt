@@ -2,23 +2,10 @@
 use Rattle.std.proofs.Common.{◌≡◌, inl, inr, ⊎_elim, ◌+◌, ◌-◌, ◌≤◌, ◌<◌, ℕ, min, List, ◌++◌, length, drop, take, Contains, refl, sym, ◌∙◌, ap, subst, arith}
 use Rattle.std.proofs.lemmas.List.{length-drop, length-take}
 use Rattle.std.proofs.lemmas.List.Elements.{Contains-push}
-use Rattle.tuples.specs.declared.entry.Entry.{Entry}
-use Rattle.tuples.specs.declared.entry.WriteId.{WriteId}
-use Rattle.records.specs.declared.record.Record.{Record}
-use Rattle.records.specs.Coordinators.{CoordinatorState, coordinator_state, end_of}
-use Rattle.decisions.specs.Coordinators.{BatchesAt, CoordinatorView, FindsAt, FindsNone, IsGivenAt, heads_of, kept_of, memory_of}
-use Rattle.decisions.specs.Values.{BatchValue}
-use Rattle.laws.specs.Nodes.{CoordinatorKnows, IsGivenBy, NodeName, Nodes, coordinator, leaves, staged_of, up}
-use Rattle.laws.specs.Worlds.{Means}
-use Rattle.turns.specs.Causes.{IsBelow, IsFuture, WantsBelow, WantsFuture}
-use Rattle.turns.specs.CoordinatorSeamLaws.{AsksAbove, AsksBelow, BatchAnswers, BatchHasCause, DecisionsAreForgotten, GivesBelow, HeadsAnswer, HeadsHaveCause, InquiriesAnswer, PlacesAreFound}
-use Rattle.turns.specs.Flows.{Asked, Freshness, Holds, at_least, committed, exact, latest, to_check, to_collect, to_flush, to_learn, to_raise, to_read, to_resolve, to_watch, to_write}
-use Rattle.turns.specs.Held.{AreRightHeads, IsRightBatch, IsRightVerdict, WasGiven}
-use Rattle.turns.specs.Moments.{Moment, Running, WasKept}
-use Rattle.turns.specs.QuietTurns.{with_call}
-use Rattle.turns.specs.Replies.{IsResolved}
-use Rattle.turns.specs.SeamLaws.{IsSeen}
-use Rattle.turns.specs.Stands.{Stands, at_shards}
+use Rattle.turns.proofs.Words.{AreRightHeads, Asked, AsksAbove, AsksBelow, BatchValue, CoordinatorKnows, CoordinatorState, CoordinatorView, Entry, FindsAt, Freshness, Holds, IsBelow, IsFuture, IsGivenBy, IsResolved, IsRightBatch, IsRightVerdict, IsSeen, Means, Moment, NodeName, Nodes, Record, Running, Stands, WantsBelow, WasGiven, WasKept, WriteId, at_least, at_shards, committed, coordinator, coordinator_state, end_of, exact, heads_of, kept_of, latest, leaves, memory_of, staged_of, to_check, to_collect, to_flush, to_learn, to_raise, to_read, to_resolve, to_watch, to_write, up, with_call}
+use Rattle.decisions.specs.Coordinators.{BatchesAt, FindsNone, IsGivenAt}
+use Rattle.turns.specs.Causes.{WantsFuture}
+use Rattle.turns.specs.CoordinatorSeamLaws.{BatchAnswers, BatchHasCause, DecisionsAreForgotten, GivesBelow, HeadsAnswer, HeadsHaveCause, InquiriesAnswer, PlacesAreFound}
 use Rattle.turns.proofs.Answers.{batches_are_right, durable_means, heads_are_right, inquiries_abort, inquiries_find, replays}
 use Rattle.turns.proofs.DecisionNodes.{epoch_stays}
 use Rattle.turns.proofs.FlowGoesOn.{sees_more}

@@ -1,21 +1,13 @@
 -- The coordinator of a store that stands is flushed: the whole log is kept, and the horizon is the one that it knows.
 use Rattle.std.proofs.Common.{◌≡◌, inl, ⊎_elim, ℕ, ◌≤◌, List, [], ◌++◌, length, Contains, refl, sym, ◌∙◌, ap, subst, arith, append-nil, false}
-use Rattle.records.specs.declared.record.Record.{Record}
-use Rattle.records.specs.declared.record.Record.TheVariants.{Epoch}
-use Rattle.records.specs.Coordinators.{CoordinatorState, IsCoordinatorImage, coordinator_from, coordinator_state, empty_coordinator, end_of}
-use Rattle.turns.specs.FlushLaws.{CoordinatorFlushesStand, FlushesCoordinator, all_kept}
-use Rattle.turns.specs.Moments.{Moment}
-use Rattle.laws.specs.Nodes.{CoordinatorKnows, NodeName, NodeState, Nodes, coordinator, down, leaves, refused, shard, staged_of, up, IsOfRefusedOpening}
-use Rattle.turns.specs.Stands.{NodesStand, Stands, at_shards}
-use Rattle.laws.specs.Worlds.{Means, Rests, coordinator_node}
-use Rattle.laws.proofs.CoordinatorStates.{coordinator_from-append}
+use Rattle.turns.proofs.Words.{CoordinatorKnows, CoordinatorState, Epoch, FlushesCoordinator, IsCoordinatorImage, IsOfRefusedOpening, Means, Moment, NodeName, NodeState, Nodes, NodesStand, Record, Refusal, Rests, Stands, all_kept, at_shards, coordinator, coordinator_from, coordinator_from-append, coordinator_node, down, empty_coordinator, end_of, horizon_rises, leaves, less_rests, raised_means, refused, shard, staged_of, up}
+use Rattle.records.specs.Coordinators.{coordinator_state}
+use Rattle.turns.specs.FlushLaws.{CoordinatorFlushesStand}
 use Rattle.laws.proofs.CoordinatorSteps.{flushes_rest}
 use Rattle.turns.proofs.DecisionNodes.{epoch_stays}
-use Rattle.laws.proofs.LessLeft.{horizon_rises, less_rests, raised_means}
 use Rattle.turns.proofs.Frames.{shard_less}
 use Rattle.turns.proofs.SameWrites.{SameWrites, same_in_doubt, same_shard, still_stands}
 use Rattle.turns.proofs.ShardStages.{durable_in}
-use Rattle.refusal.specs.declared.refusal.Refusal.{Refusal}
 
 module _ (store shards : ℕ) (left after : NodeName → List Record → Type 0) (now : Moment) (next : Nodes) (stands : Stands store shards left now) (flush : FlushesCoordinator left after now.nodes next)
     (image : IsCoordinatorImage (coordinator_node store shards) (flush.durable ++ flush.staged)) where

@@ -3,31 +3,16 @@ use Rattle.std.proofs.Common.{◌≡◌, ◌≢◌, ◌⊎◌, inl, inr, ⊎_eli
 use Rattle.std.proofs.lemmas.Bool.{cases_lt}
 use Rattle.std.proofs.lemmas.List.{length-map, length-take-le, take_all}
 use Rattle.std.proofs.lemmas.List.Elements.{All-cons, All-nil, Contains-append_right}
-use Rattle.tuples.specs.declared.entry.WriteId.{WriteId}
-use Rattle.refusal.specs.declared.refusal.Refusal.{Refusal}
-use Rattle.records.specs.declared.record.Record.{Record}
-use Rattle.records.specs.declared.record.Record.TheVariants.{Epoch}
-use Rattle.records.specs.Coordinators.{CoordinatorState, IsCoordinatorImage, MayOpenAgain, coordinator_state, coordinator_step, end_of}
-use Rattle.decisions.specs.Standing.{IsGivenOut}
-use Rattle.turns.specs.Flows.{id_of}
-use Rattle.turns.specs.Held.{IsRight, IsRightVerdict, WasGiven}
-use Rattle.laws.specs.Machines.{Machine, Move, Moves, cut, keep, raise}
-use Rattle.turns.specs.Moments.{Moment, Running, reopened, is_write}
-use Rattle.laws.specs.Nodes.{IsOfRefusedOpening, CoordinatorKnows, NodeName, Nodes, SameBut, coordinator, leaves, refused, shard, staged_of, up}
-use Rattle.turns.specs.RestartLaws.{CoordinatorOpeningsStand, IsReopenedCoordinator, OpensCoordinator, RefusedCoordinatorsStand, RefusesCoordinator, cut_to, with_restart}
-use Rattle.turns.specs.Runs.{IsOfOpening, MayRise, Restarts, came_up, refuses}
-use Rattle.laws.specs.Shards.{ShardMeans}
-use Rattle.turns.specs.Stands.{FlowsStand, HeadsStand, IsHorizonIn, Stands, at_shards}
-use Rattle.laws.specs.Worlds.{Means, Rests, coordinator_node}
+use Rattle.turns.proofs.Words.{CoordinatorKnows, CoordinatorState, Epoch, FlowsStand, HeadsStand, IsCoordinatorImage, IsGivenOut, IsHorizonIn, IsOfOpening, IsOfRefusedOpening, IsReopenedCoordinator, IsRight, IsRightVerdict, Machine, MayRise, Means, Moment, Move, Moves, NodeName, Nodes, OpensCoordinator, Record, Refusal, RefusesCoordinator, Restarts, Rests, Running, SameBut, ShardMeans, Stands, WasGiven, WriteId, at_shards, came_up, coordinator, coordinator_last, coordinator_node, coordinator_push, coordinator_state, cut, cut_to, end_of, horizon_rises, id_of, is_write, keep, leaves, less_rests, raise, raised_means, refused, refuses, shard, shard_state, staged_of, up}
+use Rattle.records.specs.Coordinators.{MayOpenAgain, coordinator_step}
+use Rattle.turns.specs.Moments.{reopened}
+use Rattle.turns.specs.RestartLaws.{CoordinatorOpeningsStand, RefusedCoordinatorsStand, with_restart}
 use Rattle.turns.proofs.FlowBegins.{alone, among}
-use Rattle.laws.proofs.CoordinatorStates.{coordinator_last, coordinator_push}
 use Rattle.laws.proofs.CoordinatorSteps.{restarts_rest}
 use Rattle.turns.proofs.FailedFlush.{CoordinatorStands, nodes_stand, nothing_known}
-use Rattle.laws.proofs.LessLeft.{horizon_rises, less_rests, raised_means}
 use Rattle.turns.proofs.CoordinatorOpeningFlows.{Renews, ids_kept, kept_flow, left_before, locks_kept, verdict_kept}
 use Rattle.turns.proofs.ShardStages.{durable_in}
 use Rattle.turns.proofs.StopInside.{rests_within}
-use Rattle.records.specs.Replays.{shard_state}
 
 -- the horizon that records stand for is none, or a record names it
 -- a flow that is marked ran before

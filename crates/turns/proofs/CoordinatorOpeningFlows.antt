@@ -1,17 +1,7 @@
 -- The coordinator is opened, or its opening is refused: no write is open any more, and what flows hold stays right.
 use Rattle.std.proofs.Common.{◌≡◌, inl, inr, ◌↔◌, ℕ, zero, suc, ◌<◌, ◌≤◌, true, false, List, [], length, take, Some, slice_get, Contains, sym, ◌∙◌, ap, subst, arith, true≢false}
 use Rattle.std.proofs.lemmas.List.{take-take}
-use Rattle.tuples.specs.declared.entry.Entry.{Entry}
-use Rattle.tuples.specs.declared.entry.WriteId.{WriteId}
-use Rattle.records.specs.declared.record.Record.{Record}
-use Rattle.records.specs.Coordinators.{CoordinatorState}
-use Rattle.decisions.specs.Standing.{IsGivenOut}
-use Rattle.turns.specs.Held.{IsOpen, IsRight, IsRightVerdict, WasGiven}
-use Rattle.laws.specs.Machines.{Machine}
-use Rattle.turns.specs.Moments.{Moment, Running}
-use Rattle.laws.specs.Nodes.{CoordinatorKnows, NodeName, Nodes, coordinator, leaves, shard}
-use Rattle.turns.specs.Stands.{IdsStand, LocksStand, Stands}
-use Rattle.laws.proofs.Lists.{slice_get_taken}
+use Rattle.turns.proofs.Words.{CoordinatorKnows, CoordinatorState, Entry, IdsStand, IsGivenOut, IsOpen, IsRight, IsRightVerdict, LocksStand, Machine, Moment, NodeName, Nodes, Record, Running, Stands, WasGiven, WriteId, coordinator, leaves, shard, slice_get_taken}
 use Rattle.turns.proofs.Frames.{KeepsStore, KeepsWrite, frame, given_on, same_doubts, shard_less, verdict_on}
 use Rattle.turns.proofs.ShardStagesStands.{contained_at, contained_from}
 

@@ -2,22 +2,9 @@
 use Rattle.std.proofs.Common.{◌≡◌, ◌≢◌, ◌⊎◌, inl, inr, ⊎_elim, ◌+◌, ◌≤◌, ◌++◌, ◌↔◌, ℕ, List, [], ◌∷◌, length, Some, refl, sym, ◌∙◌, ap, subst, arith}
 use Rattle.std.proofs.lemmas.List.{length_push}
 use Rattle.std.proofs.lemmas.Option.{same_Some}
-use Rattle.refusal.specs.declared.refusal.Refusal.{Refusal}
-use Rattle.records.specs.declared.record.Record.{Record}
-use Rattle.records.specs.Coordinators.{IsCoordinatorImage, coordinator_state}
-use Rattle.device.specs.Device.{HasFailed, Leaves, Revived, State, left as device_left}
-use Rattle.device.proofs.Moments.{leaves_nothing_else}
-use Rattle.journal.specs.Records.{Finds, found}
-use Rattle.decisions.specs.Coordinators.{CoordinatorView, IsOpenedCoordinator, WasLeftOrReopened, coordinator_opening}
-use Rattle.laws.specs.Nodes.{NodeName, Nodes, coordinator, shard, up}
-use Rattle.laws.specs.Worlds.{coordinator_node}
+use Rattle.turns.proofs.Words.{AreRevived, ComesUp, CoordinatorView, Finds, HasFailed, IsCoordinatorImage, IsReopenedCoordinator, IsSeen, Leaves, Moment, NodeName, Nodes, OpensCoordinator, Record, Refusal, RefusesCoordinator, Revived, State, behind, coordinator, coordinator_node, coordinator_state, device_left, found, leaves_nothing_else, shard, stops, up}
+use Rattle.decisions.specs.Coordinators.{IsOpenedCoordinator, WasLeftOrReopened, coordinator_opening}
 use Rattle.turns.specs.CoordinatorOpeningLaws.{CoordinatorOpeningsStep, FailedOpeningsHaveCause, FailsOverDevices, FlushesOverDevices, FullCoordinatorsWereOpened, IsFresh, IsOverDevices, NoCoordinatorIsDamaged, OpensOverDevices, RefusedOpeningsStep, behind_refusal}
-use Rattle.turns.specs.Moments.{Moment}
-use Rattle.turns.specs.Promises.{ComesUp}
-use Rattle.turns.specs.RestartLaws.{IsReopenedCoordinator, OpensCoordinator, RefusesCoordinator}
-use Rattle.turns.specs.SeamLaws.{IsSeen, behind}
-use Rattle.turns.specs.ShardOpeningLaws.{AreRevived}
-use Rattle.turns.specs.Stores.{stops}
 use Rattle.turns.proofs.CoordinatorOpening.{coordinator_openings_stand, refused_coordinators_stand}
 use Rattle.turns.proofs.ShardPrepareSeam.{last_sync}
 

@@ -2,24 +2,9 @@
 use Rattle.std.proofs.Common.{◌≡◌, inl, inr, ⊎_elim, ◌<◌, ℕ, List, [], Option, Some, None, Contains, refl, sym, ◌∙◌, ap, subst}
 use Rattle.std.proofs.lemmas.List.Elements.{All-nil, All-push}
 use Rattle.std.proofs.lemmas.Option.{same_Some}
-use Rattle.refusal.specs.declared.refusal.Refusal.TheVariants.{Unsure}
-use Rattle.tuples.specs.declared.change.Change.{Change}
-use Rattle.tuples.specs.declared.change.Condition.{Condition}
-use Rattle.tuples.specs.declared.entry.WriteId.{WriteId}
-use Rattle.records.specs.declared.record.Record.{Record}
-use Rattle.records.specs.Coordinators.{CoordinatorState}
-use Rattle.decisions.specs.Coordinators.{heads_of, kept_of, memory_of}
-use Rattle.decisions.specs.Standing.{DecidedValue, HeadsValue}
-use Rattle.laws.specs.Machines.{Machine}
-use Rattle.laws.specs.Nodes.{CoordinatorKnows, NodeName, down, refused, up}
+use Rattle.turns.proofs.Words.{Agrees, AreHeldHeads, AreRightHeads, Asked, Change, Condition, CoordinatorKnows, CoordinatorState, DecidedValue, HeadsHeld, HeadsValue, Holds, IfHeld, IsRight, IsRightDecision, IsRightResolve, IsRightResolved, IsRightVerdict, IsRightWrite, Machine, Moment, NodeName, Record, Resolved, Running, Stands, Unsure, WriteHolds, WriteId, aborted, checking, collecting, committed, down, ending, flushing, heads_of, id_of, kept_of, learning, memory_of, own_write, raising, reading, refused, resolving, to_check, to_collect, to_flush, to_learn, to_raise, to_read, to_resolve, to_watch, to_write, undecided, up, watching, with_call, writing, wrote}
 use Rattle.turns.specs.Causes.{IsUnsure}
 use Rattle.turns.specs.CoordinatorSeamLaws.{AwayIsForgotten, BatchTurns, HasDecided, HeadsTurn, IsForgotten, KeptAnswers, ResolvingTurns, StillTurns, TurnsTo, UnsureAnswers, VerdictsTurn, verdict_with, with_heads, with_resolved}
-use Rattle.turns.specs.Flows.{Asked, HeadsHeld, Holds, Resolved, WriteHolds, aborted, checking, collecting, committed, flushing, id_of, learning, raising, reading, resolving, to_check, to_collect, to_flush, to_learn, to_raise, to_read, to_resolve, to_watch, to_write, undecided, watching, writing}
-use Rattle.turns.specs.Held.{AreHeldHeads, AreRightHeads, IfHeld, IsRight, IsRightDecision, IsRightResolve, IsRightResolved, IsRightVerdict, IsRightWrite, own_write}
-use Rattle.turns.specs.Moments.{Moment, Running}
-use Rattle.turns.specs.QuietTurns.{ending, with_call}
-use Rattle.turns.specs.Replies.{Agrees, wrote}
-use Rattle.turns.specs.Stands.{Stands}
 use Rattle.turns.proofs.Answers.{outcomes_agree}
 use Rattle.turns.proofs.CoordinatorCalls.{batch_right, knows, right_heads}
 use Rattle.turns.proofs.QuietTurns.{nothing_changes, quiet_calls_answer, quiet_calls_keep, quiet_calls_refuse, quiet_calls_turn}

@@ -1,21 +1,8 @@
 -- What the coordinator refuses to decide has its cause, and a write that is not decided it finds at no place.
 use Rattle.std.proofs.Common.{◌≡◌, ◌⊎◌, inl, inr, ⊎_elim, ◌+◌, ◌-◌, ℕ, List, Contains, Some, slice_get, drop, sym, ◌∙◌, ap, refl, subst, arith}
-use Rattle.tuples.specs.declared.entry.Entry.{Entry}
-use Rattle.tuples.specs.declared.entry.WriteId.{WriteId}
-use Rattle.records.specs.declared.record.Record.{Record}
-use Rattle.records.specs.declared.record.Record.TheVariants.{Decision}
-use Rattle.records.specs.Coordinators.{end_of}
-use Rattle.decisions.specs.Coordinators.{CoordinatorView, FindsAt, IsDecidedAbove, memory_of}
-use Rattle.laws.specs.Nodes.{NodeName, coordinator, shard}
-use Rattle.laws.proofs.LearnStep.{slice_get_drop}
-use Rattle.turns.specs.AbortLaws.{IsUndecidedFlow}
-use Rattle.turns.specs.Causes.{IsCutOff, IsFull}
+use Rattle.turns.proofs.Words.{Asked, CoordinatorView, Decision, Entry, FindsAt, Holds, IsCutOff, IsFull, IsOpen, IsRight, IsRightWrite, IsSeen, IsUndecidedFlow, Moment, NodeName, Record, Running, Stands, WriteHolds, WriteId, coordinator, end_of, id_of, memory_of, shard, slice_get_drop, to_flush, to_write, writing}
+use Rattle.decisions.specs.Coordinators.{IsDecidedAbove}
 use Rattle.turns.specs.CoordinatorSeamLaws.{DecideHasCause, UndecidedAreNotFound}
-use Rattle.turns.specs.Flows.{Asked, Holds, WriteHolds, id_of, to_flush, to_write, writing}
-use Rattle.turns.specs.Held.{IsOpen, IsRight, IsRightWrite}
-use Rattle.turns.specs.Moments.{Moment, Running}
-use Rattle.turns.specs.SeamLaws.{IsSeen}
-use Rattle.turns.specs.Stands.{Stands}
 use Rattle.turns.proofs.AbortCauses.{refused_intents}
 use Rattle.turns.proofs.CoordinatorCalls.{finds_place, log_is, whole}
 use Rattle.turns.proofs.PrepareTurn.{map_has}

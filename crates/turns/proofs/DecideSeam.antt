@@ -1,29 +1,12 @@
 -- What the coordinator's own contract of decide says makes a turn of a run.
 use Rattle.std.proofs.Common.{◌≡◌, ⊎_elim, ℕ, ◌+◌, ◌≤◌, ◌<◌, List, [], ◌∷◌, ◌++◌, map, Some, All, slice_get, refl, sym, ◌∙◌, ap, subst, drop}
 use Rattle.std.proofs.lemmas.Bool.{cases_Bool}
-use Rattle.tuples.specs.declared.change.Condition.{Condition}
-use Rattle.tuples.specs.declared.entry.Entry.{Entry}
-use Rattle.tuples.specs.declared.entry.WriteId.{WriteId}
-use Rattle.tuples.specs.Log.{HoldAfter, same_id}
-use Rattle.records.specs.declared.record.Record.{Record}
-use Rattle.records.specs.declared.record.Record.TheVariants.{Decision}
-use Rattle.records.specs.Coordinators.{HoldsKnown, IsNotDecided, MayDecide, coordinator_state}
-use Rattle.records.specs.Replays.{without}
-use Rattle.decisions.specs.Coordinators.{CoordinatorView, DecidesAt, HaveVoted, memory_of, without_id}
-use Rattle.decisions.specs.Standing.{DecidedValue}
-use Rattle.decisions.specs.Values.{IntentValue}
-use Rattle.laws.specs.CoordinatorLaws.{IsPreparedInAll}
-use Rattle.laws.specs.Nodes.{CoordinatorKnows, NodeName, Nodes, leaves, shard, up}
-use Rattle.laws.specs.Worlds.{Means, coordinator_node}
-use Rattle.laws.proofs.CoordinatorStates.{coordinator_image_push}
-use Rattle.laws.proofs.LearnStep.{slice_get_drop}
+use Rattle.turns.proofs.Words.{Condition, CoordinatorKnows, CoordinatorView, DecidedValue, Decision, Entry, IntentValue, IsDecider, IsDeciding, IsOpen, IsPreparedInAll, IsRight, IsRightIntent, IsRightOwn, IsRightWrite, IsSeen, MayDecide, Means, Moment, NodeName, Nodes, Record, Running, Stands, WriteHolds, WriteId, at_shards, behind, coordinator_image_push, coordinator_node, coordinator_state, leaves, memory_of, same_id, shard, slice_get_drop, up, without, without_id, writing}
+use Rattle.tuples.specs.Log.{HoldAfter}
+use Rattle.records.specs.Coordinators.{HoldsKnown, IsNotDecided}
+use Rattle.decisions.specs.Coordinators.{DecidesAt, HaveVoted}
 use Rattle.laws.proofs.WriteConditions.{conditions_hold_as_known}
-use Rattle.turns.specs.DecidingLaws.{IsDecider, IsDeciding}
-use Rattle.turns.specs.Flows.{WriteHolds, writing}
-use Rattle.turns.specs.Held.{IsOpen, IsRight, IsRightIntent, IsRightOwn, IsRightWrite}
-use Rattle.turns.specs.Moments.{Moment, Running}
-use Rattle.turns.specs.SeamLaws.{DecideTurns, IsSeen, behind}
-use Rattle.turns.specs.Stands.{Stands, at_shards}
+use Rattle.turns.specs.SeamLaws.{DecideTurns}
 use Rattle.turns.proofs.DecisionFlows.{votes_prepare}
 use Rattle.turns.proofs.DecisionTurn.{deciders_turn}
 

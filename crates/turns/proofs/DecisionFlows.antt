@@ -2,20 +2,9 @@
 use Rattle.std.proofs.Common.{◌≡◌, ◌≢◌, inl, ⊎_elim, ℕ, ◌-◌, ◌<◌, true, false, List, [], ◌∷◌, ◌++◌, length, Option, Some, None, Contains, refl, sym, ◌∙◌, ap, subst, arith, slice_get, cond}
 use Rattle.std.proofs.lemmas.Bool.{cases_Bool, both_ways}
 use Rattle.std.proofs.lemmas.List.Elements.{All-contains, All-nil}
-use Rattle.tuples.specs.declared.entry.Entry.{Entry}
-use Rattle.tuples.specs.declared.entry.WriteId.{WriteId}
-use Rattle.tuples.specs.Log.{HoldAfter}
-use Rattle.tuples.specs.Parts.{expected, part, takes_part}
-use Rattle.decisions.specs.Standing.{DecidedValue}
-use Rattle.records.specs.declared.record.Record.{Record}
-use Rattle.records.specs.Replays.{find_in_doubt, shard_state}
-use Rattle.laws.specs.CoordinatorLaws.{IsPreparedInAll}
-use Rattle.turns.specs.DecidingLaws.{DecidersStand, DecisionsStand, IsDeciding, StandsButFor, VotesPrepare, with_decision}
-use Rattle.turns.specs.Flows.{onward, outward}
-use Rattle.turns.specs.Held.{IsRightDecision, IsRightOwn, IsRightVote, WasGiven, own_write}
-use Rattle.turns.specs.Moments.{Moment}
-use Rattle.laws.specs.Nodes.{NodeName, Nodes, leaves, shard}
-use Rattle.turns.specs.Stands.{at_shards}
+use Rattle.turns.proofs.Words.{DecidedValue, Entry, HoldAfter, IsDeciding, IsPreparedInAll, IsRightDecision, IsRightOwn, IsRightVote, Moment, NodeName, Nodes, Record, StandsButFor, WasGiven, WriteId, at_shards, find_in_doubt, leaves, onward, outward, own_write, part, shard, shard_state, takes_part, with_decision}
+use Rattle.tuples.specs.Parts.{expected}
+use Rattle.turns.specs.DecidingLaws.{DecidersStand, DecisionsStand, VotesPrepare}
 use Rattle.laws.proofs.WriteConditions.{conditions_hold_by_parts, decisions_leave_conditions}
 use Rattle.turns.proofs.DecisionLists.{stays_without}
 use Rattle.turns.proofs.Frames.{KeepsWrite, batch_on, frame, same_doubts, ticket_on}

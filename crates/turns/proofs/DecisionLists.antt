@@ -1,12 +1,8 @@
 -- The coordinator of a store that stands stages a decision: what is known of the nodes then.
 use Rattle.std.proofs.Common.{◌≡◌, ◌≢◌, ⊎_elim, ℕ, zero, suc, ◌≤◌, false, List, [], ◌∷◌, ◌++◌, length, Some, Contains, refl, sym, ◌∙◌, ap, arith, slice_get}
 use Rattle.std.proofs.lemmas.Bool.{cases_Bool, both_ways}
-use Rattle.tuples.specs.declared.entry.Entry.{Entry}
-use Rattle.tuples.specs.declared.entry.WriteId.{WriteId}
-use Rattle.tuples.specs.Log.{AreNew, same_id}
-use Rattle.records.specs.Replays.{without}
+use Rattle.turns.proofs.Words.{AreNew, Entry, WriteId, of_without, same_id, without}
 use Rattle.replay.proofs.Doubts.{same_id_refl, same_id_true}
-use Rattle.laws.proofs.Locks.{of_without}
 use Rattle.turns.proofs.ShardStagesStands.{contained_at, contained_from}
 
 pub slice_get_longer : {X : Type 0} (xs ys : List X) (i : ℕ) (x : X) → slice_get xs i ≡ Some x → slice_get (xs ++ ys) i ≡ Some x

@@ -2,31 +2,14 @@
 use Rattle.std.proofs.Common.{◌≡◌, ◌≢◌, ◌⊎◌, inl, inr, ⊎_elim, ℕ, ◌+◌, ◌≤◌, List, [], ◌∷◌, ◌++◌, length, Contains, refl, sym, ◌∙◌, ap, subst, arith, append_assoc, false}
 use Rattle.std.proofs.lemmas.List.{length_push, take-append-le}
 use Rattle.std.proofs.lemmas.List.Elements.{Contains-append_right, Contains-push_cases}
-use Rattle.tuples.specs.declared.entry.Entry.{Entry}
-use Rattle.tuples.specs.declared.entry.WriteId.{WriteId}
-use Rattle.tuples.specs.Log.{AreNew}
-use Rattle.records.specs.declared.record.Record.{Record}
-use Rattle.records.specs.declared.record.Record.TheVariants.{Decision, Dropped, Epoch, Horizon, Learned, Prepare}
-use Rattle.records.specs.Coordinators.{CoordinatorState, coordinator_from, coordinator_state, coordinator_step, empty_coordinator, end_of}
-use Rattle.records.specs.Replays.{without, shard_state}
-use Rattle.turns.specs.DecidingLaws.{IsDeciding, with_decision, with_write}
-use Rattle.turns.specs.Held.{IsOpen, IsRightVerdict, WasGiven}
-use Rattle.laws.specs.LogLaws.{IsUnlisted}
-use Rattle.turns.specs.Moments.{Moment}
-use Rattle.laws.specs.Nodes.{CoordinatorKnows, NodeName, NodeState, Nodes, coordinator, leaves, refused, shard, staged_of, up, IsOfRefusedOpening, down}
-use Rattle.turns.specs.Stands.{HeadsStand, IdsStand, LocksStand, NodesStand, at_shards, ListedStand}
-use Rattle.laws.specs.Worlds.{Means, Rests}
-use Rattle.laws.proofs.CoordinatorStates.{coordinator_from-append, coordinator_push}
+use Rattle.turns.proofs.Words.{AreNew, CoordinatorKnows, CoordinatorState, Decision, Dropped, Entry, Epoch, HeadsStand, Horizon, IdsStand, IsDeciding, IsOfRefusedOpening, IsOpen, IsRightVerdict, IsUnlisted, Learned, ListedStand, LocksStand, Means, Moment, NodeName, NodeState, Nodes, NodesStand, Prepare, Record, Refusal, Rests, WasGiven, WriteId, at_shards, coordinator, coordinator_from, coordinator_from-append, coordinator_push, down, empty_coordinator, end_of, leaves, less_rests, of_without, refused, shard, shard_state, slice_get_push, staged_of, up, with_decision, with_write, without}
+use Rattle.records.specs.Coordinators.{coordinator_state, coordinator_step}
 use Rattle.laws.proofs.CoordinatorSteps.{decisions_rest}
 use Rattle.turns.proofs.Frames.{IsTaken, KeepsStore, given_on, shard_less, verdict_on}
 use Rattle.turns.proofs.DecisionLists.{slice_get_longer, few_still, new_without, other_without}
-use Rattle.laws.proofs.LessLeft.{less_rests}
-use Rattle.laws.proofs.Lists.{slice_get_push}
-use Rattle.laws.proofs.Locks.{of_without}
 use Rattle.turns.proofs.ShardStages.{durable_in}
 use Rattle.turns.proofs.ShardStagesStands.{contained_at, contained_from}
 use Rattle.laws.proofs.DecisionStep.{listed_means}
-use Rattle.refusal.specs.declared.refusal.Refusal.{Refusal}
 
 -- records without an opening leave the epoch as it is
 pub epoch_stays : (s : CoordinatorState) (rs : List Record) → ((a b c d : ℕ) → Contains rs (Epoch a b c d) → ⊥) → (coordinator_from s rs).epoch ≡ s.epoch

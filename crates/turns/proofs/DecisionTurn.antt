@@ -3,22 +3,9 @@ use Rattle.std.proofs.Common.{◌≡◌, ◌≢◌, inl, ⊎_elim, ℕ, ◌+◌,
 use Rattle.std.proofs.lemmas.Bool.{cases_Bool}
 use Rattle.std.proofs.lemmas.List.{length_push}
 use Rattle.std.proofs.lemmas.List.Elements.{All-contains}
-use Rattle.tuples.specs.declared.entry.Entry.{Entry}
-use Rattle.records.specs.declared.record.Record.{Record}
-use Rattle.records.specs.declared.record.Record.TheVariants.{Decision}
-use Rattle.records.specs.Coordinators.{MayDecide, coordinator_state}
-use Rattle.decisions.specs.Standing.{DecidedValue}
-use Rattle.turns.specs.DecidingLaws.{DecidersTurn, IsDecider, IsDeciding, StandsButFor, with_decided, with_decision, with_place, with_write}
-use Rattle.turns.specs.Flows.{WriteHolds, id_of, onward, outward, writing}
-use Rattle.turns.specs.Held.{IsRight, IsRightVerdict, IsRightWrite}
-use Rattle.laws.specs.Machines.{append}
-use Rattle.turns.specs.Moments.{Moment, Running, replaced, is_write}
-use Rattle.laws.specs.Nodes.{CoordinatorKnows, NodeName, Nodes, SameBut, coordinator, shard}
-use Rattle.turns.specs.Runs.{Decides, Turns, goes_on}
-use Rattle.turns.specs.Stands.{IsHorizonIn, Stands}
-use Rattle.laws.specs.Worlds.{coordinator_node}
+use Rattle.turns.proofs.Words.{CoordinatorKnows, DecidedValue, Decides, Decision, Entry, IsDecider, IsDeciding, IsHorizonIn, IsRight, IsRightVerdict, IsRightWrite, MayDecide, Moment, NodeName, Nodes, Record, Running, SameBut, Stands, StandsButFor, Turns, WriteHolds, append, coordinator, coordinator_last, coordinator_node, coordinator_state, goes_on, id_of, is_write, onward, outward, replaced, shard, with_decision, with_write, writing}
+use Rattle.turns.specs.DecidingLaws.{DecidersTurn, with_decided, with_place}
 use Rattle.turns.proofs.FlowBegins.{same_verdict}
-use Rattle.laws.proofs.CoordinatorStates.{coordinator_last}
 use Rattle.turns.proofs.DecisionFlows.{deciders_stand, decisions_stand}
 use Rattle.turns.proofs.ShardStagesStands.{contained_at}
 use Rattle.turns.proofs.FlowGoesOn.{sees_more, flows_turn}

@@ -1,19 +1,10 @@
 -- The coordinator of a store that stands fails in a flush.
 use Rattle.std.proofs.Common.{◌≡◌, inl, inr, ⊎_elim, ◌↔◌, ℕ, ◌≤◌, List, ◌++◌, Contains, refl, sym, ◌∙◌, ap, subst, append-nil}
-use Rattle.tuples.specs.declared.entry.WriteId.{WriteId}
-use Rattle.records.specs.declared.record.Record.{Record}
-use Rattle.records.specs.declared.record.Record.TheVariants.{Epoch}
-use Rattle.records.specs.Coordinators.{CoordinatorState, coordinator_from, coordinator_state, empty_coordinator}
-use Rattle.decisions.specs.Standing.{IsGivenOut}
-use Rattle.turns.specs.FlushLaws.{FailedFlushesStand, FailsFlush}
-use Rattle.laws.specs.Machines.{Machine}
-use Rattle.turns.specs.Moments.{Moment}
-use Rattle.laws.specs.Nodes.{CoordinatorKnows, NodeName, NodeState, Nodes, coordinator, down, leaves, refused, shard, staged_of, up, IsOfRefusedOpening}
-use Rattle.turns.specs.Stands.{HeadsStand, NodesStand, Stands}
-use Rattle.laws.proofs.CoordinatorStates.{coordinator_from-append}
+use Rattle.turns.proofs.Words.{CoordinatorKnows, CoordinatorState, Epoch, FailsFlush, HeadsStand, IsGivenOut, IsOfRefusedOpening, Machine, Moment, NodeName, NodeState, Nodes, NodesStand, Record, Refusal, Stands, WriteId, coordinator, coordinator_from, coordinator_from-append, down, empty_coordinator, leaves, refused, shard, staged_of, up}
+use Rattle.records.specs.Coordinators.{coordinator_state}
+use Rattle.turns.specs.FlushLaws.{FailedFlushesStand}
 use Rattle.turns.proofs.DecisionNodes.{epoch_stays}
 use Rattle.turns.proofs.LessLeftFlows.{GoesOn, both_less, stands_on}
-use Rattle.refusal.specs.declared.refusal.Refusal.{Refusal}
 
 -- what is asked of the coordinator that is known of it alone
 pub record CoordinatorStands (store shards : ℕ) (after : NodeName → List Record → Type 0) (next : Nodes) : Type 0 where

@@ -1,17 +1,9 @@
 -- A flush of the coordinator that fails is a turn of a run, which ends the flow that asked for it with Down.
 use Rattle.std.proofs.Common.{◌≡◌, ◌≢◌, inl, inr, ℕ, false, List, [], ◌∷◌, ◌++◌, None, Some, Contains, refl, sym, ◌∙◌, ap, subst}
 use Rattle.std.proofs.lemmas.List.Elements.{All-nil}
-use Rattle.refusal.specs.declared.refusal.Refusal.TheVariants.{Down, Unsure}
-use Rattle.records.specs.declared.record.Record.{Record}
-use Rattle.laws.specs.Nodes.{NodeName, Nodes, SameBut, coordinator, shard}
+use Rattle.turns.proofs.Words.{Asked, Calls, Down, FailsFlush, IsDown, IsHorizonIn, IsQuiet, MayRise, Moment, NodeName, Nodes, Record, Running, SameBut, Stands, Turns, Unsure, coordinator, ended, is_write, refuses, shard, to_flush, with_nodes}
 use Rattle.turns.specs.AnswerLaws.{FailedFlushesAreQuiet}
-use Rattle.turns.specs.Causes.{Calls, IsDown}
-use Rattle.turns.specs.Flows.{Asked, to_flush}
-use Rattle.turns.specs.FlushLaws.{FailedFlushesAnswer, FailsFlush}
-use Rattle.turns.specs.Moments.{Moment, Running, ended, is_write}
-use Rattle.turns.specs.Runs.{IsQuiet, MayRise, Turns, refuses}
-use Rattle.turns.specs.StagingLaws.{with_nodes}
-use Rattle.turns.specs.Stands.{IsHorizonIn, Stands}
+use Rattle.turns.specs.FlushLaws.{FailedFlushesAnswer}
 use Rattle.turns.proofs.FailedFlush.{failed_flushes_stand}
 use Rattle.turns.proofs.FlowEnds.{flows_end}
 

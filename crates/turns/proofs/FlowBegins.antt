@@ -3,19 +3,10 @@ use Rattle.std.proofs.Common.{◌≡◌, ◌⊎◌, inl, inr, ⊎_elim, ◌==◌
 use Rattle.std.proofs.lemmas.Bool.{eq-eqb}
 use Rattle.std.proofs.lemmas.List.Elements.{All-nil, Contains-append_cases, Contains-append_right}
 use Rattle.std.proofs.lemmas.Option.{same_Some}
-use Rattle.tuples.specs.declared.entry.Entry.{Entry}
-use Rattle.tuples.specs.declared.entry.WriteId.{WriteId}
-use Rattle.tuples.specs.declared.object.Userset.{Userset}
-use Rattle.refusal.specs.declared.refusal.Refusal.{Refusal}
-use Rattle.records.specs.declared.record.Record.{Record}
-use Rattle.laws.specs.Nodes.{NodeName}
-use Rattle.turns.specs.Flows.{Asked, onward, outward, nothing_held, id_of, to_write, to_read, to_check, to_watch, to_flush, to_learn, to_resolve, to_raise, to_collect}
-use Rattle.turns.specs.FlowLaws.{FlowsBegin, with_flow}
-use Rattle.turns.specs.Held.{AreHeldHeads, IsRight, IsRightResolved, IsRightSettled, IsRightVerdict}
-use Rattle.turns.specs.Moments.{Moment, Running, begun, flow_at}
-use Rattle.turns.specs.Runs.{named_by}
+use Rattle.turns.proofs.Words.{AreHeldHeads, Asked, Entry, HasSeenBelow, IsQuietFlow, IsRight, IsRightResolved, IsRightSettled, IsRightVerdict, Moment, NodeName, Record, Refusal, Running, Userset, WriteId, begun, flow_at, id_of, named_by, onward, outward, to_check, to_collect, to_flush, to_learn, to_raise, to_read, to_resolve, to_watch, to_write, with_flow}
+use Rattle.turns.specs.Flows.{nothing_held}
+use Rattle.turns.specs.FlowLaws.{FlowsBegin}
 use Rattle.turns.proofs.Frames.{KeepsStore, KeepsWrite, frame, same_doubts, same_knew}
-use Rattle.turns.specs.Stands.{HasSeenBelow, IsQuietFlow}
 
 module _ (shards : ℕ) (left : NodeName → List Record → Type 0) (now : Moment) (running : List Running) (told : List WriteId) (named : List ℕ) where
   -- the moment with other flows

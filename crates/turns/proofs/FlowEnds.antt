@@ -1,11 +1,8 @@
 -- A flow ends: the others stay as they are.
 use Rattle.std.proofs.Common.{◌≡◌, ⊎_elim, ◌==◌, ℕ, zero, suc, Bool, true, false, ◌≤◌, List, [], ◌∷◌, length, Some, slice_get, slice_index_or, Contains, refl, subst, ap, arith, if◌then◌else◌}
 use Rattle.std.proofs.lemmas.List.Elements.{Contains-append_right}
-use Rattle.records.specs.declared.record.Record.{Record}
-use Rattle.laws.specs.Nodes.{NodeName}
-use Rattle.turns.specs.Flows.{id_of}
+use Rattle.turns.proofs.Words.{NodeName, Record, Running, ended, id_of}
 use Rattle.turns.specs.FlowLaws.{FlowsEnd}
-use Rattle.turns.specs.Moments.{Running, ended}
 use Rattle.turns.proofs.FlowBegins.{alone, among, same_right, same_verdict}
 
 -- what is left of a list whose first flow is the one that ends, or is not

@@ -3,14 +3,8 @@ use Rattle.std.proofs.Common.{◌≡◌, ◌≢◌, ◌⊎◌, inl, inr, ⊎_eli
 use Rattle.std.proofs.lemmas.Bool.{eq-eqb, eqb-true}
 use Rattle.std.proofs.lemmas.List.Elements.{Contains-push_cases}
 use Rattle.std.proofs.lemmas.Option.{same_Some}
-use Rattle.laws.specs.Machines.{Machine}
-use Rattle.records.specs.declared.record.Record.{Record}
-use Rattle.turns.specs.Flows.{id_of}
+use Rattle.turns.proofs.Words.{FlowsStand, HasSeenBelow, IsQuietFlow, IsRight, Machine, Moment, NodeName, Record, Running, id_of, replaced}
 use Rattle.turns.specs.FlowLaws.{FlowsGoOn}
-use Rattle.turns.specs.Held.{IsRight}
-use Rattle.turns.specs.Moments.{Moment, Running, replaced}
-use Rattle.laws.specs.Nodes.{NodeName}
-use Rattle.turns.specs.Stands.{FlowsStand, HasSeenBelow, IsQuietFlow}
 use Rattle.turns.proofs.WriteBegins.{same_length}
 use Rattle.turns.proofs.FlowBegins.{same_right, same_verdict}
 use Rattle.turns.proofs.ShardStagesStands.{contained_at, contained_from}

@@ -2,19 +2,9 @@
 use Rattle.std.proofs.Common.{◌≡◌, ◌≢◌, inl, inr, ⊎_elim, ℕ, ◌≤◌, ◌<◌, max, false, List, [], ◌∷◌, ◌++◌, length, All, refl, sym, ap, subst, arith}
 use Rattle.std.proofs.lemmas.Bool.{cases_lt}
 use Rattle.std.proofs.lemmas.List.Elements.{All-cons, All-nil}
-use Rattle.records.specs.declared.record.Record.{Record}
-use Rattle.records.specs.Coordinators.{coordinator_state}
-use Rattle.laws.specs.Machines.{Machine, Move, Moves, keep, raise}
-use Rattle.laws.specs.Nodes.{NodeName, Nodes, SameBut, coordinator, leaves, shard, staged_of}
-use Rattle.laws.specs.Worlds.{Means}
+use Rattle.turns.proofs.Words.{Agrees, Asked, FlushesCoordinator, IsHorizonIn, IsQuiet, IsQuietCall, Machine, MayRise, Means, Moment, Move, Moves, NodeName, Nodes, Record, Running, SameBut, Stands, Turns, all_kept, answered, at_shards, coordinator, coordinator_state, done, ended, keep, leaves, raise, shard, staged_of, to_flush}
 use Rattle.turns.specs.AnswerLaws.{CoordinatorFlushesAreQuiet}
-use Rattle.turns.specs.Flows.{Asked, to_flush}
-use Rattle.turns.specs.FlushLaws.{FlushesAnswer, FlushesCoordinator, all_kept, with_flush}
-use Rattle.turns.specs.Moments.{Moment, Running, ended}
-use Rattle.turns.specs.QuietTurns.{IsQuietCall}
-use Rattle.turns.specs.Replies.{Agrees, done}
-use Rattle.turns.specs.Runs.{IsQuiet, MayRise, Turns, answered}
-use Rattle.turns.specs.Stands.{IsHorizonIn, Stands, at_shards}
+use Rattle.turns.specs.FlushLaws.{FlushesAnswer, with_flush}
 use Rattle.turns.proofs.CoordinatorFlush.{coordinator_flushes_stand}
 use Rattle.turns.proofs.FlowEnds.{flows_end}
 

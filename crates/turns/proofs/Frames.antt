@@ -3,26 +3,9 @@ use Rattle.std.proofs.Common.{◌≡◌, ◌⊎◌, inl, inr, ⊎_elim, ℕ, zer
 use Rattle.std.proofs.Math.Path.{fun_ext}
 use Rattle.std.proofs.lemmas.List.{drop-take, take-take}
 use Rattle.std.specs.List.{flat_map}
-use Rattle.tuples.specs.declared.entry.Entry.{Entry}
-use Rattle.tuples.specs.declared.entry.WriteId.{WriteId}
-use Rattle.tuples.specs.declared.tuple.Tuple.{Tuple}
-use Rattle.tuples.specs.declared.user.User.TheVariants.{Set}
-use Rattle.tuples.specs.Checking.{IsReached, holding}
-use Rattle.tuples.specs.Log.{HoldAfter, is_at, there_after}
-use Rattle.tuples.specs.Parts.{part, shard_of, takes_part}
-use Rattle.tuples.specs.Reads.{IsSelection}
-use Rattle.records.specs.declared.record.Record.{Record}
-use Rattle.records.specs.Coordinators.{CoordinatorState}
-use Rattle.records.specs.Replays.{ShardState, find_in_doubt, shard_state}
-use Rattle.decisions.specs.Values.{BatchValue, IntentValue}
-use Rattle.decisions.specs.Standing.{DecidedValue, HeadsValue, IsGivenOut, IsPromised, IsSettled, IsShardEpoch}
-use Rattle.laws.specs.LogLaws.{IsUnlisted}
-use Rattle.laws.specs.Nodes.{CoordinatorKnows, NodeName, NodeState, ShardKnows, coordinator, down, leaves, shard, staged_of}
-use Rattle.laws.proofs.Lists.{slice_get_taken}
-use Rattle.turns.specs.Flows.{Asked, Freshness, HeadsHeld, HeldTicket, HeldVote, Holds, Resolved, WriteHolds, aborted, at_least, checking, collecting, committed, exact, flushing, id_of, latest, learning, raising, reading, resolving, to_check, to_collect, to_flush, to_learn, to_raise, to_read, to_resolve, to_watch, to_write, undecided, watching, writing}
-use Rattle.turns.specs.Held.{AreHeldHeads, AreRightHeads, IsOpen, IsRight, IsRightBatch, IsRightDecision, IsRightIntent, IsRightOwn, IsRightResolved, IsRightTicket, IsRightVerdict, IsRightVote, IsStaged, IsUndecided, WasGiven, own_write, there_below}
-use Rattle.turns.specs.Moments.{Moment, Running}
-use Rattle.turns.specs.Replies.{IsAsWanted, IsPlaceOf}
+use Rattle.turns.proofs.Words.{AreHeldHeads, AreRightHeads, Asked, BatchValue, CoordinatorKnows, CoordinatorState, DecidedValue, Entry, Freshness, HeadsHeld, HeadsValue, HeldTicket, HeldVote, HoldAfter, Holds, IntentValue, IsAsWanted, IsGivenOut, IsOpen, IsPlaceOf, IsReached, IsRight, IsRightBatch, IsRightDecision, IsRightIntent, IsRightOwn, IsRightResolved, IsRightTicket, IsRightVerdict, IsRightVote, IsSelection, IsSettled, IsShardEpoch, IsStaged, IsUndecided, IsUnlisted, Moment, NodeName, NodeState, Record, Resolved, Running, Set, ShardKnows, ShardState, Tuple, WasGiven, WriteHolds, WriteId, aborted, at_least, checking, collecting, committed, coordinator, down, exact, find_in_doubt, flushing, holding, id_of, latest, learning, leaves, own_write, part, raising, reading, resolving, shard, shard_of, shard_state, slice_get_taken, staged_of, takes_part, there_after, there_below, to_check, to_collect, to_flush, to_learn, to_raise, to_read, to_resolve, to_watch, to_write, undecided, watching, writing}
+use Rattle.tuples.specs.Log.{is_at}
+use Rattle.decisions.specs.Standing.{IsPromised}
 
 -- one of the first of a list
 pub taken_there : {X : Type 0} (n : ℕ) (xs : List X) (i : ℕ) (x : X) → i < n → slice_get xs i ≡ Some x → slice_get (take n xs) i ≡ Some x
@@ -75,8 +58,8 @@ module _ (shards : ℕ) (left after : NodeName → List Record → Type 0) (now 
     pub promised : IsOpen now.nodes w → (t : ℕ) → IsPromised (leaves left now.nodes (shard t)) w.id (part shards t w) → IsPromised (leaves after later.nodes (shard t)) w.id (part shards t w)
     pub knew : (t : ℕ) (memory : ShardState) → ShardKnows later.nodes t memory
         → ((before : ShardState) × ShardKnows now.nodes t before × (before.epoch ≡ memory.epoch)
-            × (IsOpen now.nodes w → find_in_doubt w.id before.in_doubt ≡ Some (part shards t w) → find_in_doubt w.id memory.in_doubt ≡ Some (part shards t w)))
-            ⊎ ((epoch : ℕ) → IsShardEpoch (left (shard t)) epoch → epoch < memory.epoch)
+        × (IsOpen now.nodes w → find_in_doubt w.id before.in_doubt ≡ Some (part shards t w) → find_in_doubt w.id memory.in_doubt ≡ Some (part shards t w)))
+        ⊎ ((epoch : ℕ) → IsShardEpoch (left (shard t)) epoch → epoch < memory.epoch)
 
   -- What a step keeps of a flow's write: it stays open unless the coordinator is opened, and is not listed; the conditions of its prepares go on to
   -- hold; and its prepares are kept.
@@ -294,7 +277,7 @@ module _ (shards : ℕ) (left after : NodeName → List Record → Type 0) (now 
         few = k.few;
         rows = λ s q is at.
             let same : there_below shards left h.below now.machine.log s ≡ there_below shards after h.below later.machine.log s =
-                fun_ext (λ t. ap (λ (there : Tuple → Bool). there t && nat_lt (shard_of shards t.object) h.below) (same_at s (k.place s is).kept)) in
+            fun_ext (λ t. ap (λ (there : Tuple → Bool). there t && nat_lt (shard_of shards t.object) h.below) (same_at s (k.place s is).kept)) in
             subst (λ (there : Tuple → Bool). IsSelection there q h.rows) same (k.rows s q is at);
         nothing = k.nothing;
         batch = λ b is. batch_on b (k.batch b is);

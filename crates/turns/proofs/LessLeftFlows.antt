@@ -1,18 +1,8 @@
 -- A stop leaves less, and nodes know what they knew: what a store stands for stays.
 use Rattle.std.proofs.Common.{◌≡◌, inl, inr, ⊎_elim, ℕ, ◌++◌, arith, List, sym, ◌∙◌, ap, ◌<◌, refl, ◌⊎◌, false}
-use Rattle.tuples.specs.declared.entry.WriteId.{WriteId}
-use Rattle.records.specs.declared.record.Record.{Record}
-use Rattle.records.specs.Coordinators.{CoordinatorState}
-use Rattle.records.specs.Replays.{ShardState, shard_state}
-use Rattle.decisions.specs.Standing.{IsGivenOut, IsSettled, IsShardEpoch}
-use Rattle.laws.specs.Worlds.{Means, Rests}
-use Rattle.laws.proofs.LessLeft.{less_rests}
-use Rattle.turns.specs.Moments.{Moment}
-use Rattle.laws.specs.Nodes.{CoordinatorKnows, NodeName, Nodes, ShardKnows, coordinator, down, leaves, shard, up, staged_of, NodeState}
-use Rattle.turns.specs.StagingLaws.{with_nodes}
+use Rattle.turns.proofs.Words.{CoordinatorKnows, CoordinatorState, IsGivenOut, IsSettled, IsShardEpoch, ListedStand, Means, Moment, NodeName, NodeState, Nodes, NodesStand, Record, Rests, ShardKnows, ShardState, Stands, WriteId, at_shards, coordinator, down, leaves, less_rests, shard, shard_state, staged_of, up, with_nodes}
 use Rattle.turns.proofs.Frames.{same_taken}
 use Rattle.turns.proofs.SameWrites.{SameWrites, still_stands}
-use Rattle.turns.specs.Stands.{NodesStand, Stands, at_shards, ListedStand}
 
 -- a stop leaves no more of any node: all nodes go on to rest
 pub both_less : (store shards : ℕ) (left after : NodeName → List Record → Type 0) (now : Moment) (next : Nodes) → ((rs : List Record) → leaves after next coordinator rs → leaves left now.nodes coordinator rs)

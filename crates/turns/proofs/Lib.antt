@@ -1,3 +1,4 @@
+mod Words
 pub mod ShardStages
 pub mod ShardStagesFlows
 pub mod ShardStagesStands

@@ -1,25 +1,9 @@
 -- Causes are those of the call that answers: beside each that is one, its like of another node, of another place or of another flow, which is none.
 use Rattle.std.proofs.Common.{◌≡◌, ◌≢◌, inl, inr, ◌<◌, ℕ, Some, None, List, [], ◌∷◌, ◌++◌, refl, sym, ◌∙◌, ap, subst, arith}
 use Rattle.std.proofs.lemmas.Option.{same_Some}
-use Rattle.refusal.specs.declared.refusal.Refusal.TheVariants.{Collected, Down, Full, NoMemory}
-use Rattle.tuples.specs.declared.object.Userset.{Userset}
-use Rattle.tuples.specs.declared.tuple.Tuple.{Tuple}
-use Rattle.tuples.specs.declared.tupleset.Tupleset.{Tupleset}
-use Rattle.tuples.specs.declared.tupleset.Tupleset.TheVariants.{Key}
-use Rattle.tuples.specs.declared.user.User.{User}
-use Rattle.tuples.specs.Parts.{shard_of}
-use Rattle.tuples.proofs.Examples.{three}
-use Rattle.records.specs.declared.record.PlacedId.{PlacedId}
-use Rattle.records.specs.declared.record.Record.{Record}
-use Rattle.records.specs.declared.record.Record.TheVariants.{Decision, Horizon, Learned, Prepare}
-use Rattle.records.specs.Format.{IsRecord}
-use Rattle.records.specs.Replays.{shard_state}
-use Rattle.journal.specs.Records.{HasNoRoom}
-use Rattle.laws.specs.Machines.{Machine}
-use Rattle.laws.specs.Nodes.{NodeName, NodeState, coordinator, down, refused, shard, up}
-use Rattle.turns.specs.Causes.{Calls, HasItsCause, IsToLearn, Needs, Stages}
-use Rattle.turns.specs.Flows.{checking, latest, nothing_read, reading, to_check, to_collect, to_flush, to_learn, to_raise, to_read, to_write}
-use Rattle.turns.specs.Moments.{Moment, Running, begun}
+use Rattle.turns.proofs.Words.{Calls, Collected, Decision, Down, Full, HasItsCause, HasNoRoom, Horizon, IsRecord, IsToLearn, Key, Learned, Machine, Moment, NoMemory, NodeName, NodeState, PlacedId, Prepare, Record, Running, Tuple, Tupleset, User, Userset, begun, checking, coordinator, down, latest, reading, refused, shard, shard_of, shard_state, three, to_check, to_collect, to_flush, to_learn, to_raise, to_read, to_write, up}
+use Rattle.turns.specs.Causes.{Needs, Stages}
+use Rattle.turns.specs.Flows.{nothing_read}
 use Rattle.turns.proofs.SmallRuns.{two_kept}
 
 abbrev with_nodes : Machine → (NodeName → NodeState) → Moment

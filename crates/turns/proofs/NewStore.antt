@@ -1,18 +1,10 @@
 -- A store that was just made stands for the empty log.
 use Rattle.std.proofs.Common.{◌≡◌, inr, ⊎_elim, ℕ, ◌≤◌, List, [], ◌++◌, length, Contains, refl, sym, ◌∙◌, ap, subst, arith}
 use Rattle.std.proofs.lemmas.List.Elements.{All-nil}
-use Rattle.records.specs.declared.record.Record.{Record}
-use Rattle.records.specs.declared.record.Record.TheVariants.{Epoch}
-use Rattle.records.specs.Coordinators.{CoordinatorState, coordinator_state, coordinator_step, end_of}
+use Rattle.turns.proofs.Words.{AreApart, CoordinatorKnows, CoordinatorState, Epoch, HeadsStand, IsRightVerdict, ListedStand, Means, NodeName, NodeState, NodesStand, Record, Refusal, Rests, Stands, at_shards, coordinator, down, empty_rests, end_of, leaves, only_opened, opened, opened_nodes, opening_of, refused, shard, up, whole_rests}
+use Rattle.records.specs.Coordinators.{coordinator_state, coordinator_step}
 use Rattle.records.specs.Replays.{shard_state, shard_step}
-use Rattle.laws.specs.Worlds.{Means, Rests}
-use Rattle.laws.specs.Nodes.{NodeName, coordinator, shard, NodeState, up, down, refused, leaves, CoordinatorKnows}
-use Rattle.turns.specs.NewStores.{empty_machine, opened, opened_nodes, opening_of, only_opened}
-use Rattle.turns.specs.Stands.{at_shards, AreApart, NodesStand, HeadsStand, Stands, ListedStand}
-use Rattle.turns.specs.Held.{IsRightVerdict}
-use Rattle.laws.proofs.EmptyStore.{empty_rests}
-use Rattle.laws.proofs.LessLeft.{whole_rests}
-use Rattle.refusal.specs.declared.refusal.Refusal.{Refusal}
+use Rattle.turns.specs.NewStores.{empty_machine}
 
 durable_part : NodeState → List Record
 durable_part (up durable staged) = durable

@@ -1,8 +1,7 @@
 -- Lists of usersets in which none stands twice.
 use Rattle.std.proofs.Common.{◌≡◌, ◌⊎◌, inl, inr, ⊎_elim, ℕ, zero, suc, ◌+◌, List, [], ◌∷◌, ◌++◌, length, Some, slice_get, Contains, sym, subst, arith}
 use Rattle.std.proofs.lemmas.Option.{slice_get_within}
-use Rattle.tuples.specs.declared.object.Userset.{Userset}
-use Rattle.tuples.specs.Checking.{AreOnce}
+use Rattle.turns.proofs.Words.{AreOnce, Userset}
 use Rattle.turns.proofs.DecisionLists.{slice_get_longer}
 use Rattle.turns.proofs.ShardStagesStands.{contained_at, contained_from}
 

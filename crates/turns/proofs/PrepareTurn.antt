@@ -2,35 +2,22 @@
 use Rattle.std.proofs.Common.{◌≡◌, ◌⊎◌, inl, inr, ⊎_elim, ◌==◌, ℕ, zero, suc, ◌<◌, ◌≤◌, Bool, true, false, true≢false, List, [], ◌∷◌, ◌++◌, length, map, filter, cond, None, Some, Contains, All, refl, sym, ◌∙◌, ap, subst, arith, not, ◌||◌}
 use Rattle.std.proofs.lemmas.Bool.{cases_Bool, cases_lt, eqb-true}
 use Rattle.std.proofs.lemmas.List.Elements.{All-cons, All-nil, Contains-append_left, Contains-append_right, Contains-append_cases, All-contains, All-head}
-use Rattle.tuples.specs.declared.tuple.Tuple.{Tuple}
-use Rattle.tuples.specs.declared.change.Change.{Change}
-use Rattle.tuples.specs.declared.change.Condition.{Condition}
+use Rattle.turns.proofs.Words.{AskBelow, Asked, CallsShard, Change, Condition, Entry, HasNoRoom, IsBusy, IsFull, IsPreparing, IsRecord, Moment, NodeName, Prepare, Record, Running, ShardKnows, ShardMeans, Tuple, WriteId, find_in_doubt, id_of, leaves, not_found, shard, shard_of, staged_of, tuple_of}
 use Rattle.tuples.specs.declared.change.Want.{Want}
 use Rattle.tuples.specs.declared.change.Want.TheVariants.{NotAfter, Exists, Absent}
-use Rattle.tuples.specs.declared.entry.Entry.{Entry}
-use Rattle.tuples.specs.declared.entry.WriteId.{WriteId}
-use Rattle.tuples.specs.Changes.{changed, conditioned, has_tuple, tuple_of}
+use Rattle.tuples.specs.Changes.{changed, conditioned, has_tuple}
 use Rattle.tuples.specs.Log.{HoldAfter, Holds, meets_want}
-use Rattle.tuples.specs.Parts.{part, shard_of, takes_part}
-use Rattle.records.specs.declared.record.Record.{Record}
-use Rattle.records.specs.declared.record.Record.TheVariants.{Prepare}
-use Rattle.records.specs.Replays.{find_in_doubt, is_held, named}
-use Rattle.shard.specs.Shards.{AreFree, AskBelow, IsBelow, IsBroken as BreaksThere, IsPreparable as PassesThere}
+use Rattle.tuples.specs.Parts.{part, takes_part}
+use Rattle.records.specs.Replays.{is_held, named}
+use Rattle.shard.specs.Shards.{AreFree, IsBelow, IsBroken as BreaksThere, IsPreparable as PassesThere}
 use Rattle.laws.specs.LockLaws.{IsMetHere}
-use Rattle.laws.specs.Nodes.{NodeName, ShardKnows, leaves, shard, staged_of}
-use Rattle.laws.specs.Shards.{ShardMeans}
 use Rattle.laws.proofs.BrokenConditions.{met_conditions_are_met_here}
-use Rattle.laws.proofs.Locks.{not_found}
 use Rattle.laws.proofs.PreparableConditions.{preparable_conditions_hold}
-use Rattle.turns.specs.Causes.{IsBelow as IsBelowCause, IsBroken, IsBusy, IsFull, IsHeldByOther, CallsShard}
-use Rattle.turns.specs.Flows.{Asked, id_of}
-use Rattle.turns.specs.Moments.{Moment, Running}
-use Rattle.turns.specs.PrepareLaws.{BrokenShardsHaveCause, BusyShardsHaveCause, CollectedShardsHaveCause, FullShardsHaveCause, IsPreparing, PreparedConditionsAreMet}
+use Rattle.turns.specs.Causes.{IsBelow as IsBelowCause, IsBroken, IsHeldByOther}
+use Rattle.turns.specs.PrepareLaws.{BrokenShardsHaveCause, BusyShardsHaveCause, CollectedShardsHaveCause, FullShardsHaveCause, PreparedConditionsAreMet}
 use Rattle.turns.proofs.FlowBegins.{alone, among}
 use Rattle.turns.proofs.ShardStagesStands.{contained_at}
-use Rattle.records.specs.Format.{IsRecord}
 use Rattle.tuples.specs.Versions.{last_version, there_at}
-use Rattle.journal.specs.Records.{HasNoRoom}
 
 -- one of these tuples is held, or none is
 held_or_free : (ws : List Entry) (ts : List Tuple) → All (λ (t : Tuple). is_held t ws ≡ false) ts ⊎ ((t : Tuple) × Contains ts t × (is_held t ws ≡ true))

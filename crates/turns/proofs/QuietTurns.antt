@@ -2,26 +2,10 @@
 use Rattle.std.proofs.Common.{◌≡◌, ◌≢◌, ◌⊎◌, inl, inr, ⊎_elim, ℕ, true, false, List, [], ◌∷◌, ◌++◌, Option, Some, None, Contains, All, slice_index_or, ◌==◌, refl, sym, ◌∙◌, ap, subst, arith}
 use Rattle.std.proofs.lemmas.Bool.{cases_Bool, eq-eqb, eqb-true}
 use Rattle.std.proofs.lemmas.List.Elements.{All-append, All-cons, All-contains, All-nil, Contains-append_right}
-use Rattle.tuples.specs.declared.change.Change.{Change}
-use Rattle.tuples.specs.declared.change.Condition.{Condition}
-use Rattle.tuples.specs.declared.entry.Entry.{Entry}
-use Rattle.tuples.specs.declared.entry.WriteId.{WriteId}
-use Rattle.refusal.specs.declared.refusal.Refusal.{Refusal}
-use Rattle.refusal.specs.declared.refusal.Refusal.TheVariants.{Down, Full, NoMemory, Unsure}
-use Rattle.records.specs.declared.record.Record.{Record}
-use Rattle.records.specs.declared.record.Record.TheVariants.{Epoch}
-use Rattle.laws.specs.Machines.{Machine, Move, Moves}
-use Rattle.laws.specs.Nodes.{IsOfRefusedOpening, NodeName, NodeState, NodeTurns, Nodes, SameBut, coordinator, refused, shard, up}
-use Rattle.turns.specs.Causes.{Calls, HasItsCause, IsCause, LetsLearn, TakesMemory}
-use Rattle.turns.specs.Flows.{Asked, HeldTicket, HeldVote, Holds, WriteHolds, id_of, outward, to_check, to_collect, to_flush, to_learn, to_raise, to_read, to_resolve, to_watch, to_write, writing}
-use Rattle.turns.specs.Held.{HoldsNothing, HoldsOf, IsRight, IsRightOwn, IsRightTicket, IsRightVerdict, IsRightVote, IsRightWrite, own_write}
-use Rattle.turns.specs.Moments.{Moment, Running, ended, replaced}
-use Rattle.turns.specs.QuietTurns.{HasMet, AwayNodesHaveCause, HoldsLess, IsQuietCall, IsQuietStep, QuietCallsAnswer, QuietCallsEnd, QuietCallsKeep, QuietCallsRefuse, QuietCallsTurn, RefusedFlowsEnd, RefusedWritesGoOut, WritesSpend, behind_call, ending, going_on, with_batch, with_call}
-use Rattle.turns.specs.Replies.{Agrees, Answer}
-use Rattle.turns.specs.Runs.{EndsAs, EndsQuietly, IsQuiet, IsTurned, KeepsOpen, MayRise, Told, Turns, answered, goes_on, refuses, told_by}
-use Rattle.turns.specs.SeamLaws.{told_unless}
-use Rattle.turns.specs.StagingLaws.{StagesAt, with_nodes}
-use Rattle.turns.specs.Stands.{IsHorizonIn, Stands}
+use Rattle.turns.proofs.Words.{Agrees, Answer, Asked, Calls, Change, Condition, Down, EndsAs, EndsQuietly, Entry, Epoch, Full, HasItsCause, HeldTicket, HeldVote, Holds, HoldsLess, HoldsOf, IsCause, IsHorizonIn, IsOfRefusedOpening, IsQuiet, IsQuietCall, IsRight, IsRightOwn, IsRightTicket, IsRightVerdict, IsRightVote, IsRightWrite, IsTurned, LetsLearn, Machine, MayRise, Moment, Move, Moves, NoMemory, NodeName, NodeState, NodeTurns, Nodes, Record, Refusal, Running, SameBut, StagesAt, Stands, TakesMemory, Told, Turns, Unsure, WriteHolds, WriteId, answered, behind_call, coordinator, ended, ending, goes_on, going_on, id_of, outward, own_write, refused, refuses, replaced, shard, to_check, to_collect, to_flush, to_learn, to_raise, to_read, to_resolve, to_watch, to_write, told_by, told_unless, up, with_batch, with_call, with_nodes, writing}
+use Rattle.turns.specs.Held.{HoldsNothing}
+use Rattle.turns.specs.QuietTurns.{HasMet, AwayNodesHaveCause, IsQuietStep, QuietCallsAnswer, QuietCallsEnd, QuietCallsKeep, QuietCallsRefuse, QuietCallsTurn, RefusedFlowsEnd, RefusedWritesGoOut, WritesSpend}
+use Rattle.turns.specs.Runs.{KeepsOpen}
 use Rattle.turns.proofs.FlowBegins.{alone, same_right, same_verdict}
 use Rattle.turns.proofs.FlowEnds.{flows_end}
 use Rattle.turns.proofs.FlowGoesOn.{flows_go_on, sees_more}

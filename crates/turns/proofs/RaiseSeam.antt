@@ -4,24 +4,10 @@ use Rattle.std.proofs.Math.Path.{fun_ext}
 use Rattle.std.proofs.lemmas.Bool.{cases_lt}
 use Rattle.std.proofs.lemmas.List.{append-nil}
 use Rattle.std.proofs.lemmas.List.Elements.{All-nil, Contains-append_right}
-use Rattle.records.specs.declared.record.Record.{Record}
-use Rattle.records.specs.declared.record.Record.TheVariants.{Decision, Dropped, Epoch, Horizon, Learned, Prepare}
-use Rattle.records.specs.Coordinators.{CoordinatorState, IsCoordinatorImage, MayComeNext, MayRaise, coordinator_from, coordinator_state, coordinator_step}
-use Rattle.records.specs.Replays.{Identity}
-use Rattle.decisions.specs.Coordinators.{CoordinatorView, HaveSettled, IsRising, RaisesAt, StagesOne, kept_of, memory_of}
-use Rattle.laws.specs.CoordinatorLaws.{IsLearnedInAll}
-use Rattle.laws.specs.Nodes.{NodeName, NodeState, Nodes, SameBut, coordinator, leaves, shard, up}
-use Rattle.laws.specs.Worlds.{coordinator_node}
-use Rattle.laws.proofs.CoordinatorStates.{coordinator_image_push, coordinator_push}
-use Rattle.turns.specs.Causes.{IsBelow, IsFull, IsFuture}
+use Rattle.turns.proofs.Words.{Asked, CoordinatorState, CoordinatorView, Decision, Dropped, Epoch, Holds, Horizon, Identity, IsBelow, IsCoordinatorImage, IsFull, IsFuture, IsLearnedInAll, IsQuietCall, IsRight, IsRightRaise, IsRightSettled, IsSeen, Learned, MayRaise, Moment, NodeName, NodeState, Nodes, Prepare, RaiseHolds, Record, Running, SameBut, StagesHorizon, Stands, at_shards, behind, behind_call, coordinator, coordinator_from, coordinator_image_push, coordinator_node, coordinator_push, coordinator_state, id_of, kept_of, leaves, memory_of, raising, shard, to_flush, to_raise, up, with_call}
+use Rattle.records.specs.Coordinators.{MayComeNext, coordinator_step}
+use Rattle.decisions.specs.Coordinators.{HaveSettled, IsRising, RaisesAt, StagesOne}
 use Rattle.turns.specs.CoordinatorSeamLaws.{RaiseHasCause, RaisesTurn}
-use Rattle.turns.specs.Flows.{Asked, Holds, RaiseHolds, id_of, raising, to_flush, to_raise}
-use Rattle.turns.specs.Held.{IsRight, IsRightRaise, IsRightSettled}
-use Rattle.turns.specs.Moments.{Moment, Running}
-use Rattle.turns.specs.QuietTurns.{IsQuietCall, behind_call, with_call}
-use Rattle.turns.specs.RaisingLaws.{StagesHorizon}
-use Rattle.turns.specs.SeamLaws.{IsSeen, behind}
-use Rattle.turns.specs.Stands.{Stands, at_shards}
 use Rattle.turns.proofs.Answers.{replays}
 use Rattle.turns.proofs.Batches.{settled_is_learned}
 use Rattle.turns.proofs.CoordinatorCalls.{horizon_is, kept_is, knows, same_epoch, whole}

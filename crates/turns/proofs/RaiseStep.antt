@@ -1,23 +1,13 @@
 -- The coordinator of a store that stands stages a horizon.
 use Rattle.std.proofs.Common.{◌≡◌, ◌⊎◌, inl, inr, ⊎_elim, ℕ, ◌≤◌, List, [], ◌∷◌, ◌++◌, Contains, refl, sym, ◌∙◌, ap, subst, append_assoc, arith, false}
 use Rattle.std.proofs.lemmas.List.Elements.{Contains-push_cases}
-use Rattle.records.specs.declared.record.Record.{Record}
-use Rattle.records.specs.declared.record.Record.TheVariants.{Epoch, Horizon}
-use Rattle.records.specs.Coordinators.{CoordinatorState, IsCoordinatorImage, coordinator_state, coordinator_step, end_of, MayRaise}
-use Rattle.laws.specs.CoordinatorLaws.{IsLearnedInAll}
-use Rattle.turns.specs.Moments.{Moment}
-use Rattle.laws.specs.Nodes.{CoordinatorKnows, NodeName, NodeState, Nodes, coordinator, down, leaves, refused, shard, staged_of, up, IsOfRefusedOpening}
-use Rattle.turns.specs.RaisingLaws.{RaisesStand, StagesHorizon}
-use Rattle.turns.specs.StagingLaws.{with_nodes}
-use Rattle.turns.specs.Stands.{NodesStand, Stands, at_shards}
-use Rattle.laws.specs.Worlds.{Means, Rests, coordinator_node}
-use Rattle.laws.proofs.CoordinatorStates.{coordinator_push, coordinator_last}
+use Rattle.turns.proofs.Words.{CoordinatorKnows, CoordinatorState, Epoch, Horizon, IsCoordinatorImage, IsLearnedInAll, IsOfRefusedOpening, MayRaise, Means, Moment, NodeName, NodeState, Nodes, NodesStand, Record, Refusal, Rests, StagesHorizon, Stands, at_shards, coordinator, coordinator_last, coordinator_node, coordinator_push, coordinator_state, down, end_of, leaves, less_rests, refused, shard, staged_of, up, with_nodes}
+use Rattle.records.specs.Coordinators.{coordinator_step}
+use Rattle.turns.specs.RaisingLaws.{RaisesStand}
 use Rattle.laws.proofs.CoordinatorSteps.{horizons_rest}
-use Rattle.laws.proofs.LessLeft.{less_rests}
 use Rattle.turns.proofs.Frames.{IsTaken, shard_less}
 use Rattle.turns.proofs.SameWrites.{SameWrites, same_in_doubt, same_shard, still_stands}
 use Rattle.turns.proofs.ShardStages.{durable_in}
-use Rattle.refusal.specs.declared.refusal.Refusal.{Refusal}
 
 module _ (store shards : ℕ) (left : NodeName → List Record → Type 0) (now : Moment) (next : Nodes) (place : ℕ) (stands : Stands store shards left now) (step : StagesHorizon place now.nodes next)
     (image : IsCoordinatorImage (coordinator_node store shards) ((step.durable ++ step.staged) ++ Horizon place ∷ [])) (learned : IsLearnedInAll shards (at_shards (leaves left now.nodes)) place) where
@@ -145,7 +135,7 @@ module _ (store shards : ℕ) (left : NodeName → List Record → Type 0) (now 
         whole = λ d g is.
             let both : up step.durable (step.staged ++ Horizon place ∷ []) ≡ up d g = sym step.now ∙ is in
             let same : (step.durable ++ step.staged) ++ Horizon place ∷ [] ≡ d ++ g =
-                append_assoc step.durable step.staged (Horizon place ∷ []) ∙ ap (λ (l : List Record). l ++ (step.staged ++ Horizon place ∷ [])) (ap durable_in both) ∙ ap (λ (l : List Record). d ++ l) (ap staged_of both) in
+            append_assoc step.durable step.staged (Horizon place ∷ []) ∙ ap (λ (l : List Record). l ++ (step.staged ++ Horizon place ∷ [])) (ap durable_in both) ∙ ap (λ (l : List Record). d ++ l) (ap staged_of both) in
             subst (λ (l : List Record). Means store shards now.machine.log now.machine.horizon l (at_shards (leaves left next))) same (both_less.1 _ both_rest.1);
       })
       (λ t found lt is. stands.listed t found lt (shards_less t found is))

@@ -1,24 +1,11 @@
 -- The opening of a shard of a store that stands is refused.
 use Rattle.std.proofs.Common.{◌≡◌, ◌≢◌, ◌⊎◌, inl, inr, ⊎_elim, ℕ, ◌≤◌, List, [], ◌∷◌, ◌++◌, refl, sym, ◌∙◌, ap, subst, arith, append-nil}
-use Rattle.refusal.specs.declared.refusal.Refusal.{Refusal}
-use Rattle.records.specs.declared.record.Record.{Record}
-use Rattle.records.specs.declared.record.Record.TheVariants.{Epoch}
-use Rattle.records.specs.Replays.{IsShardImage, MayOpen, ShardState, shard_state, shard_step}
-use Rattle.replay.proofs.States.{image_last, shard_push}
-use Rattle.decisions.specs.Standing.{IsSettled, IsShardEpoch}
-use Rattle.turns.specs.Moments.{Moment}
-use Rattle.laws.specs.Nodes.{IsOfRefusedOpening, NodeName, NodeState, Nodes, coordinator, leaves, refused, shard, staged_of, up}
-use Rattle.turns.specs.RestartLaws.{IsReopenedShard, RefusedShardsStand, RefusesShard, ShardOpeningsRestart}
-use Rattle.turns.specs.Runs.{Restarts, came_up, refuses}
-use Rattle.turns.specs.StagingLaws.{with_nodes}
-use Rattle.turns.specs.Stands.{IsHorizonIn, NodesStand, Stands, at_shards}
-use Rattle.laws.specs.Worlds.{shard_node}
+use Rattle.turns.proofs.Words.{Epoch, IsHorizonIn, IsOfRefusedOpening, IsReopenedShard, IsSettled, IsShardEpoch, IsShardImage, MayOpen, Moment, NodeName, NodeState, Nodes, NodesStand, Record, Refusal, Restarts, ShardMeans, ShardState, Stands, at_shards, came_up, coordinator, image_last, leaves, opened_shard_means, refused, refuses, same_or_not, shard, shard_node, shard_push, shard_state, staged_of, up, with_nodes}
+use Rattle.records.specs.Replays.{shard_step}
+use Rattle.turns.specs.RestartLaws.{RefusedShardsStand, RefusesShard, ShardOpeningsRestart}
 use Rattle.turns.proofs.LessLeftFlows.{GoesOn, stands_on}
-use Rattle.laws.proofs.Locks.{same_or_not}
 use Rattle.turns.proofs.ShardStages.{is_shard, shard_number}
 use Rattle.turns.proofs.StopInside.{means_within, rests_within}
-use Rattle.laws.specs.Shards.{ShardMeans}
-use Rattle.laws.proofs.ShardSteps.{opened_shard_means}
 
 -- an opening raises the epoch, and leaves the writes in doubt and the learned place as they are
 module _ (store shards s : ℕ) (rs : List Record) (epoch : ℕ) (image : IsShardImage (shard_node store shards s) (rs ++ Epoch epoch store shards s ∷ [])) where

@@ -1,7 +1,6 @@
 -- Banks that have no room for a batch more.
 use Rattle.std.proofs.Common.{inl, inr, ⊎_elim, ◌≡◌, ◌⊎◌, ◌≤◌, ◌<◌, ◌+◌, ◌^◌, ℕ, List, length, subst, ap, arith}
-use Rattle.records.specs.declared.record.Record.{Record}
-use Rattle.device.specs.Device.{HasFailed, State, left}
+use Rattle.turns.proofs.Words.{HasFailed, Record, State, left}
 use Rattle.journal.specs.Records.{LacksRoom}
 use Rattle.turns.specs.Promises.{IsNearlyFull}
 use Rattle.turns.specs.RoomLaws.{FailedFlushesHaveCause, OpeningsWithoutRoomHaveCause}

@@ -1,9 +1,7 @@
 -- A run moves the machine.
 use Rattle.std.proofs.Common.{inl, inr, ◌+◌, ℕ, List, [], ◌∷◌, ◌++◌, Option, Some, None, ap}
-use Rattle.laws.specs.Machines.{Move, Moves}
-use Rattle.turns.specs.Moments.{Moment, Running, flow_at}
+use Rattle.turns.proofs.Words.{Event, IfRunning, IsCancelled, IsRun, Moment, Move, Moves, Running, Step, Takes, Told, Turns, cancel, flow_at, restart, start, turn}
 use Rattle.turns.specs.StoreLaws.{RunsMove}
-use Rattle.turns.specs.Runs.{Step, start, turn, cancel, restart, Event, Told, IsRun, Takes, IfRunning, Turns, IsCancelled}
 use Rattle.laws.proofs.MachineMoves.{moves_then}
 
 module _ (shards : ℕ) (found_before : ℕ → Type 0) where

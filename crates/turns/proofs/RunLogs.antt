@@ -1,14 +1,8 @@
 -- What a step does to the log: it keeps it, cuts it, or lists one write of which nobody was told that it is aborted.
 use Rattle.std.proofs.Common.{◌≡◌, ◌⊎◌, inl, inr, ⊎_elim, ℕ, List, [], ◌∷◌, ◌++◌, Option, Some, None, Contains, All, slice_get, sym, ◌∙◌, ap, subst, ◌+◌}
 use Rattle.std.proofs.lemmas.List.Elements.{All-head, All-tail, Contains-append_right}
-use Rattle.tuples.specs.declared.entry.Entry.{Entry}
-use Rattle.tuples.specs.declared.entry.WriteId.{WriteId}
-use Rattle.laws.specs.Machines.{Machine, Makes, Move, Moves, append, keep, cut, raise}
-use Rattle.laws.specs.Nodes.{NodeName, coordinator, shard}
-use Rattle.laws.specs.ShardLaws.{IsUnlistedAbove}
-use Rattle.laws.proofs.Lists.{slice_get_push, slice_get_taken}
-use Rattle.turns.specs.Moments.{Moment, Running, flow_at}
-use Rattle.turns.specs.Runs.{Decides, DecidesNothing, Event, IfRunning, IsCancelled, IsIdle, IsOfOpening, IsQuiet, IsRun, MayRise, Restarts, Step, Takes, Told, Turns, start, turn, cancel, restart, named_by}
+use Rattle.turns.proofs.Words.{Decides, DecidesNothing, Entry, Event, IfRunning, IsCancelled, IsOfOpening, IsQuiet, IsRun, IsUnlistedAbove, Machine, Makes, MayRise, Moment, Move, Moves, NodeName, Restarts, Running, Step, Takes, Told, Turns, WriteId, append, cancel, coordinator, cut, flow_at, keep, named_by, raise, restart, shard, slice_get_push, slice_get_taken, start, turn}
+use Rattle.turns.specs.Runs.{IsIdle}
 use Rattle.turns.proofs.RunNames.{restarts_more, turns_more}
 
 -- each write of the one log stands at its place in the other

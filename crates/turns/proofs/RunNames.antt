@@ -1,9 +1,7 @@
 -- A step that may raise the horizon to some places is one that may raise it to more: so steps fit into a longer run.
 use Rattle.std.proofs.Common.{inl, inr, ⊎_elim, ℕ, List, slice_index_or}
-use Rattle.laws.specs.Machines.{Move, append, cut, keep, raise}
-use Rattle.turns.specs.Moments.{Moment, Running}
-use Rattle.laws.specs.Nodes.{NodeName, coordinator, shard}
-use Rattle.turns.specs.Runs.{Decides, DecidesNothing, EndsAs, IsOfOpening, IsQuiet, IsTurned, MayRise, OpeningMoves, OpensAs, Restarts, Told, Turns, answered, began, came_up, goes_on, refuses}
+use Rattle.turns.proofs.Words.{Decides, DecidesNothing, EndsAs, IsOfOpening, IsQuiet, IsTurned, MayRise, Moment, Move, NodeName, Restarts, Running, Told, Turns, answered, append, began, came_up, coordinator, cut, goes_on, keep, raise, refuses, shard}
+use Rattle.turns.specs.Runs.{OpeningMoves, OpensAs}
 
 of_opening : (a b : ℕ → Type 0) → ((x : ℕ) → a x → b x) → (move : Move) → IsOfOpening a move → IsOfOpening b move
 of_opening a b more (append w) is = absurd is

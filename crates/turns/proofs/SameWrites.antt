@@ -1,17 +1,6 @@
 -- A step that leaves the log and which writes are open: what a store stands for stays, where its nodes rest and stand.
 use Rattle.std.proofs.Common.{◌≡◌, ◌⊎◌, inl, inr, ⊎_elim, ℕ, ◌<◌, ◌≤◌, false, List, length, Contains, refl, sym, ◌∙◌, ap, subst, arith}
-use Rattle.tuples.specs.declared.entry.Entry.{Entry}
-use Rattle.tuples.specs.declared.entry.WriteId.{WriteId}
-use Rattle.tuples.specs.Log.{AreNew}
-use Rattle.records.specs.declared.record.Record.{Record}
-use Rattle.records.specs.Coordinators.{CoordinatorState}
-use Rattle.records.specs.Replays.{ShardState, find_in_doubt, shard_state}
-use Rattle.decisions.specs.Standing.{IsGivenOut, IsSettled, IsShardEpoch}
-use Rattle.laws.specs.Nodes.{CoordinatorKnows, NodeName, Nodes, ShardKnows, coordinator, leaves, shard}
-use Rattle.laws.specs.Worlds.{Rests}
-use Rattle.turns.specs.Held.{IsOpen}
-use Rattle.turns.specs.Moments.{Moment}
-use Rattle.turns.specs.Stands.{AreApart, HeadsStand, ListedStand, NodesStand, Stands, at_shards}
+use Rattle.turns.proofs.Words.{AreApart, AreNew, CoordinatorKnows, CoordinatorState, Entry, HeadsStand, IsGivenOut, IsOpen, IsSettled, IsShardEpoch, ListedStand, Moment, NodeName, Nodes, NodesStand, Record, Rests, ShardKnows, ShardState, Stands, WriteId, at_shards, coordinator, find_in_doubt, leaves, shard, shard_state}
 use Rattle.turns.proofs.Frames.{IsTaken, KeepsStore, KeepsWrite, frame, given_on, shard_less, verdict_on}
 
 module _ (store shards : ℕ) (left after : NodeName → List Record → Type 0) (now : Moment) (next : Nodes) (kept horizon : ℕ) where

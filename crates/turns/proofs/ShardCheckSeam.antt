@@ -1,23 +1,7 @@
 -- What a shard's own contract of a read for a check says makes turns of a run.
 use Rattle.std.proofs.Common.{◌≡◌, inl, ⊎_elim, ℕ, ◌<◌, List, refl, sym, ◌∙◌, ap, subst, arith}
-use Rattle.tuples.specs.declared.object.Userset.{Userset}
-use Rattle.tuples.specs.declared.tuple.Tuple.{Tuple}
-use Rattle.tuples.specs.declared.user.User.{User}
-use Rattle.tuples.specs.Log.{is_at}
-use Rattle.tuples.specs.Parts.{shard_of}
-use Rattle.tuples.specs.Walking.{IsCheckSelection}
-use Rattle.refusal.specs.declared.refusal.Refusal.TheVariants.{Collected, NoMemory, Unsure}
-use Rattle.records.specs.declared.record.Record.{Record}
-use Rattle.shard.specs.Shards.{ShardView, memory}
-use Rattle.laws.specs.Nodes.{NodeName, coordinator, shard}
-use Rattle.turns.specs.Causes.{HasItsCause, IsBelow, TakesMemory}
-use Rattle.turns.specs.Flows.{Asked, CheckHolds, Freshness, Holds, checking, id_of, place_of, to_check}
-use Rattle.turns.specs.Held.{IsRight, IsRightCheck}
-use Rattle.turns.specs.Moments.{Moment, Running}
-use Rattle.turns.specs.QuietTurns.{with_call}
+use Rattle.turns.proofs.Words.{Asked, CheckHolds, Collected, Freshness, HasItsCause, Holds, IsBelow, IsCheckSelection, IsRight, IsRightCheck, Moment, NoMemory, NodeName, Record, Running, ShardIsSeen, ShardView, Stands, TakesMemory, Tuple, Unsure, User, Userset, checking, coordinator, id_of, is_at, memory, place_of, shard, shard_of, to_check, with_call}
 use Rattle.turns.specs.ShardCheckLaws.{CheckTurns, CheckYesTurns, IsChecker, ReadsForCheckAt, RefusedChecksHaveCause}
-use Rattle.turns.specs.ShardSeamLaws.{ShardIsSeen}
-use Rattle.turns.specs.Stands.{Stands}
 use Rattle.turns.proofs.AnswerTurns.{checks_end_yes}
 use Rattle.turns.proofs.Batches.{known_means}
 use Rattle.turns.proofs.CheckWalk.{check_replies_select, checks_go_on}

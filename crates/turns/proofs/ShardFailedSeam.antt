@@ -1,20 +1,9 @@
 -- What a shard's own contracts of an opening that is refused and of a flush that fails say makes steps of a run.
 use Rattle.std.proofs.Common.{◌≡◌, ◌⊎◌, inl, inr, ⊎_elim, ℕ, ◌≤◌, ◌+◌, ◌++◌, List, [], ◌∷◌, Some, refl, sym, ◌∙◌, ap, subst}
 use Rattle.std.proofs.lemmas.List.Elements.{All-nil}
-use Rattle.records.specs.declared.record.Record.{Record}
-use Rattle.records.specs.Replays.{Identity, IsShardImage, shard_state}
-use Rattle.device.specs.Device.{Leaves, Revived, State, left as device_left}
-use Rattle.device.proofs.Moments.{leaves_nothing_else}
-use Rattle.journal.specs.Records.{Finds, found}
-use Rattle.shard.specs.Shards.{WasLeftOrOpened, opening}
-use Rattle.laws.specs.Nodes.{down, refused, shard}
-use Rattle.laws.specs.Worlds.{shard_node}
-use Rattle.turns.specs.FlushLaws.{FlushesShard}
-use Rattle.turns.specs.RestartLaws.{IsReopenedShard}
-use Rattle.turns.specs.Runs.{IsQuiet, MayRise}
+use Rattle.turns.proofs.Words.{Finds, FlushesShard, Identity, IsHorizonIn, IsQuiet, IsReopenedShard, IsShardImage, Leaves, MayRise, Record, Revived, State, device_left, down, found, leaves_nothing_else, opening, refused, shard, shard_node, shard_state, stops}
+use Rattle.shard.specs.Shards.{WasLeftOrOpened}
 use Rattle.turns.specs.ShardOpeningLaws.{FailedShardFlushesAreQuiet, RefusedOpeningsStep, put_at}
-use Rattle.turns.specs.Stands.{IsHorizonIn}
-use Rattle.turns.specs.Stores.{stops}
 use Rattle.turns.proofs.RefusedOpening.{refused_shards_stand}
 use Rattle.turns.proofs.ShardFlush.{shard_flushes_stand}
 use Rattle.turns.proofs.ShardOpeningSeam.{left_elsewhere, to_shard, was_left}

@@ -1,20 +1,11 @@
 -- A shard of a store that stands is flushed.
 use Rattle.std.proofs.Common.{◌≡◌, ◌≢◌, ◌⊎◌, inl, inr, ⊎_elim, ℕ, ◌≤◌, List, [], ◌∷◌, ◌++◌, Contains, refl, sym, ◌∙◌, ap, subst, arith, append-nil, append_assoc}
 use Rattle.std.proofs.lemmas.List.Elements.{Contains-append_right}
-use Rattle.records.specs.declared.record.Record.{Record}
-use Rattle.records.specs.declared.record.Record.TheVariants.{Decision, Dropped, Epoch, Horizon, Learned, Prepare}
-use Rattle.records.specs.Replays.{Identity, IsShardImage, MayCome, ShardState, empty_shard, shard_from, shard_state, shard_step}
-use Rattle.replay.proofs.States.{shard_from-append, shard_push}
-use Rattle.decisions.specs.Standing.{IsSettled, IsShardEpoch}
-use Rattle.turns.specs.FlushLaws.{FlushesShard, ShardFlushesStand}
-use Rattle.turns.specs.Moments.{Moment}
-use Rattle.laws.specs.Nodes.{NodeName, NodeState, Nodes, ShardKnows, coordinator, down, leaves, refused, shard, staged_of, up, IsOfRefusedOpening}
-use Rattle.turns.specs.Stands.{NodesStand, Stands}
-use Rattle.laws.specs.Worlds.{shard_node}
+use Rattle.turns.proofs.Words.{Decision, Dropped, Epoch, FlushesShard, Horizon, Identity, IsOfRefusedOpening, IsSettled, IsShardEpoch, IsShardImage, Learned, MayCome, Moment, NodeName, NodeState, Nodes, NodesStand, Prepare, Record, Refusal, ShardKnows, ShardState, Stands, coordinator, down, empty_shard, leaves, refused, same_or_not, shard, shard_from, shard_from-append, shard_node, shard_push, staged_of, up}
+use Rattle.records.specs.Replays.{shard_state, shard_step}
+use Rattle.turns.specs.FlushLaws.{ShardFlushesStand}
 use Rattle.turns.proofs.LessLeftFlows.{GoesOn, both_less, stands_on}
-use Rattle.laws.proofs.Locks.{same_or_not}
 use Rattle.turns.proofs.ShardStages.{durable_in, is_shard, shard_number}
-use Rattle.refusal.specs.declared.refusal.Refusal.{Refusal}
 
 -- records without an opening leave the epoch as it is
 pub epoch_stays : (s : ShardState) (rs : List Record) → ((a b c d : ℕ) → Contains rs (Epoch a b c d) → ⊥) → (shard_from s rs).epoch ≡ s.epoch

@@ -1,18 +1,8 @@
 -- A flush of a shard is a turn of a run, which ends the flow that asked for it.
 use Rattle.std.proofs.Common.{◌≡◌, ◌≢◌, inl, inr, ℕ, ◌<◌, ◌⊎◌, false, List, [], ◌∷◌, ◌++◌, Option, Some, Contains, refl, sym, ap, subst, arith}
 use Rattle.std.proofs.lemmas.List.Elements.{All-nil}
-use Rattle.refusal.specs.declared.refusal.Refusal.{Refusal}
-use Rattle.refusal.specs.declared.refusal.Refusal.TheVariants.{Down, Unsure}
-use Rattle.records.specs.declared.record.Record.{Record}
-use Rattle.laws.specs.Nodes.{NodeName, Nodes, coordinator, down, shard, up}
-use Rattle.turns.specs.Causes.{Calls, HasItsCause}
-use Rattle.turns.specs.Flows.{Asked, to_flush}
-use Rattle.turns.specs.FlushLaws.{FlushesShard, ShardFlushesAnswer}
-use Rattle.turns.specs.Moments.{Moment, Running, ended, is_write}
-use Rattle.turns.specs.Replies.{Agrees, done}
-use Rattle.turns.specs.Runs.{IsQuiet, IsTurned, MayRise, Turns, answered, refuses}
-use Rattle.turns.specs.StagingLaws.{with_nodes}
-use Rattle.turns.specs.Stands.{IsHorizonIn, Stands}
+use Rattle.turns.proofs.Words.{Agrees, Asked, Calls, Down, FlushesShard, HasItsCause, IsHorizonIn, IsQuiet, IsTurned, MayRise, Moment, NodeName, Nodes, Record, Refusal, Running, Stands, Turns, Unsure, answered, coordinator, done, down, ended, is_write, refuses, shard, to_flush, up, with_nodes}
+use Rattle.turns.specs.FlushLaws.{ShardFlushesAnswer}
 use Rattle.turns.proofs.FlowEnds.{flows_end}
 use Rattle.turns.proofs.ShardFlush.{shard_flushes_stand}
 use Rattle.turns.proofs.ShardStages.{is_shard}

@@ -1,17 +1,10 @@
 -- A learning is done where its shard learns up to the kept place of its heads.
 use Rattle.std.proofs.Common.{◌≡◌, ◌⊎◌, inl, inr, ⊎_elim, ℕ, ◌≤◌, ◌<◌, ◌+◌, true, true≢false, List, length, Some, Contains, refl, sym, ap, subst, arith}
 use Rattle.std.proofs.lemmas.Bool.{cases_lt}
-use Rattle.records.specs.declared.record.Record.{Record}
-use Rattle.records.specs.Replays.{ShardState, shard_step}
-use Rattle.device.specs.Device.{State}
-use Rattle.decisions.specs.Standing.{HeadsValue}
-use Rattle.shard.specs.Shards.{ShardView, learning, memory}
-use Rattle.laws.specs.Nodes.{NodeName, ShardKnows}
-use Rattle.turns.specs.Flows.{Asked, HeadsHeld, Holds, learning as learns, to_learn}
-use Rattle.turns.specs.Held.{AreHeldHeads, IsRight, IsRightBatch}
-use Rattle.turns.specs.Moments.{Moment, Running}
-use Rattle.turns.specs.ShardSeamLaws.{LearnAnswers, behind_shard}
-use Rattle.turns.specs.Stands.{Stands}
+use Rattle.turns.proofs.Words.{AreHeldHeads, Asked, HeadsHeld, HeadsValue, Holds, IsRight, IsRightBatch, Moment, NodeName, Record, Running, ShardKnows, ShardState, ShardView, Stands, State, behind_shard, learns, memory, to_learn}
+use Rattle.records.specs.Replays.{shard_step}
+use Rattle.shard.specs.Shards.{learning}
+use Rattle.turns.specs.ShardSeamLaws.{LearnAnswers}
 use Rattle.turns.proofs.AnswerTurns.{learns_end}
 use Rattle.turns.proofs.SeesOn.{heads_on}
 use Rattle.turns.proofs.ShardLearnSeam.{learns_quietly}

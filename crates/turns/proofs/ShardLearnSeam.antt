@@ -3,35 +3,18 @@ use Rattle.std.proofs.Common.{◌≡◌, ◌≢◌, ◌⊎◌, inl, inr, ⊎_eli
 use Rattle.std.specs.Option.{is_some}
 use Rattle.std.proofs.lemmas.Bool.{cases_lt}
 use Rattle.std.proofs.lemmas.List.{append-nil, drop-drop, drop-take}
-use Rattle.replay.proofs.States.{shard_push}
-use Rattle.tuples.specs.declared.entry.Entry.{Entry}
-use Rattle.tuples.specs.declared.entry.WriteId.{WriteId}
-use Rattle.refusal.specs.declared.refusal.Refusal.{Refusal}
-use Rattle.refusal.specs.declared.refusal.Refusal.TheVariants.{Damaged, Full, NoMemory, Unsure}
-use Rattle.records.specs.declared.record.Record.{Record}
-use Rattle.records.specs.declared.record.Record.TheVariants.{Decision, Dropped, Epoch, Horizon, Learned, Prepare}
-use Rattle.records.specs.Format.{IsRecord}
-use Rattle.records.specs.Replays.{Identity, IsShardImage, MayCome, ShardState, find_in_doubt, greatest_number, shard_state, shard_step}
-use Rattle.device.specs.Device.{State}
+use Rattle.turns.proofs.Words.{AreOfLog, Asked, BatchValue, CallsShard, Decision, Dropped, Entry, Epoch, Full, HasItsCause, HasNoRoom, Holds, Horizon, Identity, IfHeld, IsFull, IsQuietCall, IsRecord, IsRight, IsRightBatch, IsRightResolve, IsRightVerdict, IsRightWrite, IsShardImage, IsToLearn, IsUp, Learned, LetsLearn, Machine, MayCome, Moment, NoMemory, NodeName, Prepare, Record, Refusal, Running, ShardIsSeen, ShardState, ShardView, Stages, Stands, State, Unsure, WriteId, behind_shard, checking, collecting, find_in_doubt, flushing, id_of, learns, memory, placed_ids_from, raising, reading, resolving, shard, shard_node, shard_push, to_check, to_collect, to_flush, to_learn, to_raise, to_read, to_resolve, to_watch, to_write, watching, with_call, with_nodes, writing}
+use Rattle.refusal.specs.declared.refusal.Refusal.TheVariants.{Damaged}
+use Rattle.records.specs.Replays.{greatest_number, shard_state, shard_step}
 use Rattle.gated.specs.Gated.{max_body}
-use Rattle.journal.specs.Records.{HasNoRoom, batch_size, max_records}
-use Rattle.decisions.specs.Values.{BatchValue}
+use Rattle.journal.specs.Records.{batch_size, max_records}
 use Rattle.shard.specs.Calls.{CollectsAt, DropsAt, LearnRefused, LearnsAt}
-use Rattle.shard.specs.Shards.{AreLearnable, IsUp, ShardView, Stages, learning, memory, placed_ids_from, unlearned}
+use Rattle.shard.specs.Shards.{AreLearnable, learning, unlearned}
 use Rattle.shard.proofs.Given.{given_image}
 use Rattle.shard.proofs.Parts.{all_prepared, learned_spelled}
-use Rattle.laws.specs.Machines.{Machine}
-use Rattle.laws.specs.Nodes.{NodeName, shard}
-use Rattle.laws.specs.ShardLaws.{AreOfLog}
-use Rattle.laws.specs.Worlds.{shard_node}
-use Rattle.turns.specs.Causes.{CallsShard, HasFullBatch, HasItsCause, IsFull, IsToLearn, LetsLearn, Stages as MayStage}
-use Rattle.turns.specs.Flows.{Asked, Holds, checking, collecting, flushing, id_of, learning as learns, raising, reading, resolving, to_check, to_collect, to_flush, to_learn, to_raise, to_read, to_resolve, to_watch, to_write, watching, writing}
-use Rattle.turns.specs.Held.{IfHeld, IsRight, IsRightBatch, IsRightResolve, IsRightVerdict, IsRightWrite}
-use Rattle.turns.specs.Moments.{Moment, Running}
-use Rattle.turns.specs.QuietTurns.{IsQuietCall, batch_of, with_call}
-use Rattle.turns.specs.ShardSeamLaws.{CollectTurns, DropTurns, LearnTurns, RefusedCollectsHaveCause, RefusedLearnsHaveCause, ResolvedDropTurns, ShardIsSeen, behind_shard}
-use Rattle.turns.specs.StagingLaws.{with_nodes}
-use Rattle.turns.specs.Stands.{Stands}
+use Rattle.turns.specs.Causes.{HasFullBatch, Stages as MayStage}
+use Rattle.turns.specs.QuietTurns.{batch_of}
+use Rattle.turns.specs.ShardSeamLaws.{CollectTurns, DropTurns, LearnTurns, RefusedCollectsHaveCause, RefusedLearnsHaveCause, ResolvedDropTurns}
 use Rattle.turns.proofs.AnswerTurns.{collects_end}
 use Rattle.turns.proofs.Batches.{batches_meet_prepares}
 use Rattle.turns.proofs.QuietTurns.{lets_take_memory, quiet_calls_keep, quiet_calls_turn, writes_spend}

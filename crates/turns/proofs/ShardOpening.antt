@@ -1,15 +1,9 @@
 -- A shard of a store that stands is opened.
 use Rattle.std.proofs.Common.{◌≡◌, inl, inr, refl, ℕ, ◌+◌, ◌≤◌, List, [], ◌∷◌, ◌++◌, sym, ◌∙◌, ap, arith}
-use Rattle.records.specs.declared.record.Record.{Record}
-use Rattle.records.specs.declared.record.Record.TheVariants.{Epoch}
-use Rattle.records.specs.Replays.{IsShardImage, MayOpen, ShardState, shard_state, shard_step}
-use Rattle.replay.proofs.States.{image_last, shard_push}
-use Rattle.laws.specs.Nodes.{NodeName, Nodes, leaves}
-use Rattle.laws.specs.Worlds.{shard_node}
-use Rattle.laws.proofs.ShardSteps.{opened_shard_means, shard_openings_rest}
-use Rattle.turns.specs.Moments.{Moment}
-use Rattle.turns.specs.OpeningLaws.{OpensShard, ShardOpeningsStand}
-use Rattle.turns.specs.Stands.{Stands, at_shards}
+use Rattle.turns.proofs.Words.{Epoch, IsShardImage, MayOpen, Moment, NodeName, Nodes, OpensShard, Record, ShardState, Stands, at_shards, image_last, leaves, opened_shard_means, shard_node, shard_push, shard_state}
+use Rattle.records.specs.Replays.{shard_step}
+use Rattle.laws.proofs.ShardSteps.{shard_openings_rest}
+use Rattle.turns.specs.OpeningLaws.{ShardOpeningsStand}
 use Rattle.turns.proofs.ShardReplaced.{HasOther, IsReplacing, replaced_stands, shard_left}
 
 module _ (store shards : ℕ) (left after : NodeName → List Record → Type 0) (now : Moment) (next : Nodes) (s : ℕ) (stands : Stands store shards left now) (opens : OpensShard store shards s left after now.nodes next)

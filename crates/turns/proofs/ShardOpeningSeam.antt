@@ -2,22 +2,9 @@
 use Rattle.std.proofs.Common.{◌≡◌, ◌≢◌, inl, inr, ⊎_elim, ℕ, ◌≤◌, ◌+◌, ◌++◌, ◌↔◌, List, [], ◌∷◌, Some, refl, sym, ◌∙◌, ap, subst, arith}
 use Rattle.std.proofs.lemmas.List.{append-nil}
 use Rattle.std.proofs.lemmas.List.Elements.{All-nil}
-use Rattle.records.specs.declared.record.Record.{Record}
-use Rattle.records.specs.declared.record.Record.TheVariants.{Epoch}
-use Rattle.records.specs.Replays.{Identity, IsShardImage, shard_state}
-use Rattle.device.specs.Device.{HasFailed, State, left as device_left}
-use Rattle.journal.specs.Records.{Finds, found}
-use Rattle.shard.specs.Shards.{IsOpenedShard, IsUp, ShardView, opening}
-use Rattle.laws.specs.Nodes.{NodeName, Nodes, shard, up}
-use Rattle.laws.specs.Worlds.{shard_node}
-use Rattle.turns.specs.Moments.{Moment}
-use Rattle.turns.specs.OpeningLaws.{OpensShard}
-use Rattle.turns.specs.FlushLaws.{FlushesShard}
-use Rattle.turns.specs.Runs.{IsQuiet, MayRise}
-use Rattle.turns.specs.ShardOpeningLaws.{AreRevived, FailedShardsHaveCause, FullShardsWereOpened, IsOver, NoShardIsDamaged, ShardFlushesAreQuiet, ShardOpeningsStep}
-use Rattle.turns.specs.ShardSeamLaws.{behind_shard}
-use Rattle.turns.specs.Stands.{IsHorizonIn, Stands}
-use Rattle.turns.specs.Stores.{stops}
+use Rattle.turns.proofs.Words.{AreRevived, Epoch, Finds, FlushesShard, HasFailed, Identity, IsHorizonIn, IsQuiet, IsShardImage, IsUp, MayRise, Moment, NodeName, Nodes, OpensShard, Record, ShardView, Stands, State, behind_shard, device_left, found, opening, shard, shard_node, shard_state, stops, up}
+use Rattle.shard.specs.Shards.{IsOpenedShard}
+use Rattle.turns.specs.ShardOpeningLaws.{FailedShardsHaveCause, FullShardsWereOpened, IsOver, NoShardIsDamaged, ShardFlushesAreQuiet, ShardOpeningsStep}
 use Rattle.turns.proofs.RefusedOpening.{shard_openings_restart}
 use Rattle.turns.proofs.ShardFlush.{shard_flushes_stand}
 use Rattle.turns.proofs.ShardOpening.{shard_openings_stand}

@@ -2,31 +2,15 @@
 use Rattle.std.proofs.Common.{◌≡◌, ◌⊎◌, inl, inr, ⊎_elim, ℕ, ◌≤◌, ◌<◌, true, List, [], ◌∷◌, ◌++◌, length, Option, Some, None, Contains, All, refl, sym, ◌∙◌, ap, subst, arith}
 use Rattle.std.specs.Option.{is_some}
 use Rattle.std.proofs.lemmas.List.Elements.{All-append, All-cons, All-contains, All-nil, Contains-append_left, Contains-append_right}
-use Rattle.tuples.specs.declared.entry.Entry.{Entry}
-use Rattle.tuples.specs.declared.entry.WriteId.{WriteId}
-use Rattle.refusal.specs.declared.refusal.Refusal.{Refusal}
+use Rattle.turns.proofs.Words.{AskBelow, Asked, Entry, HasItsCause, HasNoRoom, HeldTicket, HeldVote, Holds, HoldsLess, HoldsOf, Identity, IntentValue, IsCause, IsCutOff, IsPreparing, IsRight, IsRightTicket, IsRightVote, IsRightWrite, IsUp, Moment, NodeName, Nodes, Prepare, Record, Refusal, Running, ShardIsSeen, ShardKnows, ShardState, ShardView, Stages, Stands, StandsAndTurns, State, TakesMemory, WriteHolds, WriteId, behind_shard, device_left, find_in_doubt, find_push_same, going_on, id_of, leaves, memory, onward, outward, own_part, own_write, part, shard, shard_state, takes_part, with_call, with_nodes, writing}
 use Rattle.refusal.specs.declared.refusal.Refusal.TheVariants.{Aborted}
-use Rattle.tuples.specs.Parts.{part, takes_part}
-use Rattle.records.specs.declared.record.Record.{Record}
-use Rattle.records.specs.declared.record.Record.TheVariants.{Prepare}
-use Rattle.records.specs.Replays.{Identity, ShardState, find_in_doubt, shard_state, shard_step}
-use Rattle.replay.proofs.Doubts.{find_push_same}
-use Rattle.device.specs.Device.{State, left as device_left, reach}
-use Rattle.journal.specs.Records.{HasNoRoom}
-use Rattle.decisions.specs.Values.{IntentValue, IsIntent, TicketValue, VoteValue}
+use Rattle.records.specs.Replays.{shard_step}
+use Rattle.device.specs.Device.{reach}
+use Rattle.decisions.specs.Values.{IsIntent, TicketValue, VoteValue}
 use Rattle.shard.specs.Calls.{PrepareRefused, PreparesAt, VotesAt}
-use Rattle.shard.specs.Shards.{AskBelow, IsBroken, IsBusy, IsPreparable, IsUp, ShardView, Stages, memory, own_part}
+use Rattle.shard.specs.Shards.{IsBroken, IsBusy, IsPreparable}
 use Rattle.shard.proofs.Tested.{part_prepared, same_part_id}
-use Rattle.laws.specs.Nodes.{NodeName, Nodes, ShardKnows, leaves, shard}
-use Rattle.turns.specs.Causes.{HasItsCause, IsCause, IsCutOff, TakesMemory}
-use Rattle.turns.specs.Flows.{Asked, HeldTicket, HeldVote, Holds, WriteHolds, id_of, onward, outward, writing}
-use Rattle.turns.specs.Held.{HoldsOf, IsRight, IsRightTicket, IsRightVote, IsRightWrite, own_write}
-use Rattle.turns.specs.Moments.{Moment, Running}
-use Rattle.turns.specs.PrepareLaws.{IsPreparing}
-use Rattle.turns.specs.QuietTurns.{HoldsLess, going_on, with_call}
-use Rattle.turns.specs.ShardSeamLaws.{IsHolder, IsOfPrepare, PrepareTurns, RefusedPrepareTurns, RefusedVoteTurns, ShardIsSeen, StandsAndTurns, VoteTurns, behind_shard, held_ticket}
-use Rattle.turns.specs.StagingLaws.{with_nodes}
-use Rattle.turns.specs.Stands.{Stands}
+use Rattle.turns.specs.ShardSeamLaws.{IsHolder, IsOfPrepare, PrepareTurns, RefusedPrepareTurns, RefusedVoteTurns, VoteTurns, held_ticket}
 use Rattle.turns.proofs.AbortCauses.{refused_tickets}
 use Rattle.turns.proofs.PrepareTurn.{broken_shards_have_cause, busy_shards_have_cause, collected_shards_have_cause, full_shards_have_cause, prepared_conditions_are_met}
 use Rattle.turns.proofs.FlowBegins.{alone}

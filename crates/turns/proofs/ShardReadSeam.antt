@@ -1,28 +1,10 @@
 -- What a shard's own contracts of a read, of what is in doubt and of what is settled say makes turns of a run.
 use Rattle.std.proofs.Common.{◌≡◌, inl, ⊎_elim, ℕ, zero, suc, ◌<◌, ◌+◌, List, [], ◌∷◌, ◌++◌, Some, Contains, refl, sym, ◌∙◌, ap, subst, arith}
 use Rattle.std.proofs.lemmas.List.Elements.{All-append, All-cons, All-nil, Contains-append_right}
-use Rattle.tuples.specs.declared.entry.Entry.{Entry}
-use Rattle.tuples.specs.declared.entry.WriteId.{WriteId}
-use Rattle.tuples.specs.declared.tuple.Tuple.{Tuple}
-use Rattle.tuples.specs.declared.tupleset.Tupleset.{Tupleset}
-use Rattle.tuples.specs.Reads.{IsSelection}
-use Rattle.refusal.specs.declared.refusal.Refusal.TheVariants.{Collected, NoMemory, Unsure}
-use Rattle.records.specs.declared.record.Record.{Record}
-use Rattle.records.specs.Replays.{Identity}
-use Rattle.device.specs.Device.{State}
-use Rattle.decisions.specs.Standing.{IsSettled}
+use Rattle.turns.proofs.Words.{Asked, Collected, Entry, Freshness, HasItsCause, Holds, Identity, IsAsWanted, IsBelow, IsRight, IsRightRaise, IsRightRead, IsRightSettled, IsSelection, IsSettled, Moment, NoMemory, NodeName, RaiseHolds, ReadHolds, Record, Running, ShardIsSeen, ShardView, Stands, StandsAndTurns, State, TakesMemory, Tuple, Tupleset, Unsure, WantsBelow, WasGiven, WriteId, at_least, coordinator, exact, id_of, latest, memory, place_of, raising, reading, shard, there_of, to_raise, to_read, with_call}
 use Rattle.shard.specs.Calls.{ReadsAt}
-use Rattle.shard.specs.Shards.{ShardView, ids, memory}
-use Rattle.laws.specs.Nodes.{NodeName, coordinator, shard}
-use Rattle.turns.specs.Causes.{HasItsCause, IsBelow, TakesMemory, WantsBelow}
-use Rattle.turns.specs.Flows.{Asked, Freshness, Holds, RaiseHolds, ReadHolds, at_least, exact, id_of, latest, place_of, raising, reading, to_raise, to_read}
-use Rattle.turns.specs.Held.{IsRight, IsRightRaise, IsRightRead, IsRightSettled, WasGiven}
-use Rattle.turns.specs.Moments.{Moment, Running}
-use Rattle.turns.specs.QuietTurns.{with_call}
-use Rattle.turns.specs.ReadingLaws.{there_of}
-use Rattle.turns.specs.Replies.{IsAsWanted}
-use Rattle.turns.specs.ShardSeamLaws.{ReadOneTurns, ReadTurns, RefusedReadsHaveCause, SettleTurns, ShardIsSeen, StandsAndTurns, ToldDoubtsAreGiven}
-use Rattle.turns.specs.Stands.{Stands}
+use Rattle.shard.specs.Shards.{ids}
+use Rattle.turns.specs.ShardSeamLaws.{ReadOneTurns, ReadTurns, RefusedReadsHaveCause, SettleTurns, ToldDoubtsAreGiven}
 use Rattle.turns.proofs.Batches.{known_means, shards_settle}
 use Rattle.turns.proofs.FlowBegins.{alone}
 use Rattle.turns.proofs.QuietTurns.{nothing_changes, quiet_calls_turn}

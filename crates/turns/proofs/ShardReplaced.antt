@@ -1,18 +1,6 @@
 -- A shard has other records, nothing staged, and a stop leaves these alone: what the store stands for stays.
 use Rattle.std.proofs.Common.{◌≡◌, ◌≢◌, ◌⊎◌, ◌↔◌, inl, inr, ⊎_elim, ℕ, ◌≤◌, ◌<◌, List, [], ◌++◌, length, Contains, refl, sym, ◌∙◌, ap, subst, arith, append-nil}
-use Rattle.refusal.specs.declared.refusal.Refusal.{Refusal}
-use Rattle.records.specs.declared.record.Record.{Record}
-use Rattle.records.specs.declared.record.Record.TheVariants.{Epoch}
-use Rattle.records.specs.Replays.{ShardState, shard_state}
-use Rattle.decisions.specs.Standing.{IsShardEpoch}
-use Rattle.laws.specs.Nodes.{IsOfRefusedOpening, NodeName, NodeState, Nodes, SameBut, ShardKnows, coordinator, leaves, refused, shard, staged_of, up}
-use Rattle.laws.specs.Shards.{ShardMeans}
-use Rattle.laws.specs.Worlds.{Means, Rests}
-use Rattle.laws.proofs.LessLeft.{less_rests, whole_rests}
-use Rattle.laws.proofs.Locks.{same_or_not}
-use Rattle.turns.specs.Moments.{Moment}
-use Rattle.turns.specs.StagingLaws.{with_nodes}
-use Rattle.turns.specs.Stands.{NodesStand, Stands, at_shards}
+use Rattle.turns.proofs.Words.{Epoch, IsOfRefusedOpening, IsShardEpoch, Means, Moment, NodeName, NodeState, Nodes, NodesStand, Record, Refusal, Rests, SameBut, ShardKnows, ShardMeans, ShardState, Stands, at_shards, coordinator, leaves, less_rests, refused, same_or_not, shard, shard_state, staged_of, up, whole_rests, with_nodes}
 use Rattle.turns.proofs.LessLeftFlows.{GoesOn, stands_on}
 use Rattle.turns.proofs.ShardStages.{durable_in, is_shard, shard_number}
 

@@ -3,20 +3,9 @@ use Rattle.std.proofs.Common.{◌≡◌, ◌≢◌, ◌⊎◌, inl, inr, ⊎_eli
 use Rattle.std.proofs.Math.Path.{fun_ext}
 use Rattle.std.proofs.lemmas.Bool.{cases_Bool, eq-eqb, eqb-true}
 use Rattle.std.proofs.lemmas.List.Elements.{Contains-append_right}
-use Rattle.tuples.specs.declared.entry.Entry.{Entry}
-use Rattle.tuples.specs.Parts.{part}
-use Rattle.records.specs.declared.record.Record.{Record}
-use Rattle.records.specs.declared.record.Record.TheVariants.{Decision, Dropped, Epoch, Horizon, Learned, Prepare}
-use Rattle.records.specs.Replays.{Identity, IsShardImage, ShardState, empty_shard, shard_from, shard_state, shard_step}
-use Rattle.replay.proofs.States.{shard_from-append, shard_push}
-use Rattle.shard.specs.Shards.{ShardView, Stages, memory, own_part}
-use Rattle.laws.specs.Nodes.{NodeName, NodeState, Nodes, ShardKnows, coordinator, leaves, shard, staged_of, up}
-use Rattle.laws.specs.Worlds.{shard_node}
-use Rattle.turns.specs.Moments.{Moment}
-use Rattle.turns.specs.QuietTurns.{IsQuietCall}
-use Rattle.turns.specs.ShardSeamLaws.{ShardIsSeen, at_shard, behind_shard}
-use Rattle.turns.specs.StagingLaws.{IsStaging, StagesAt, with_nodes}
-use Rattle.turns.specs.Stands.{Stands}
+use Rattle.turns.proofs.Words.{Decision, Dropped, Entry, Epoch, Horizon, Identity, IsQuietCall, IsShardImage, IsStaging, Learned, Moment, NodeName, NodeState, Nodes, Prepare, Record, ShardIsSeen, ShardKnows, ShardState, ShardView, Stages, StagesAt, Stands, behind_shard, coordinator, empty_shard, leaves, memory, own_part, part, shard, shard_from, shard_from-append, shard_node, shard_push, staged_of, up, with_nodes}
+use Rattle.records.specs.Replays.{shard_state, shard_step}
+use Rattle.turns.specs.ShardSeamLaws.{at_shard}
 use Rattle.turns.proofs.FlowBegins.{alone}
 use Rattle.turns.proofs.QuietTurns.{nothing_changes, one_more_staged}
 use Rattle.turns.proofs.ShardStages.{durable_in}

@@ -1,16 +1,7 @@
 -- A shard of a store that stands stages one record more: what is known of the nodes then.
 use Rattle.std.proofs.Common.{◌≡◌, ◌≢◌, ◌⊎◌, inl, inr, ⊎_elim, ℕ, ◌<◌, ◌≤◌, List, [], ◌∷◌, ◌++◌, refl, sym, ◌∙◌, ap, subst, arith, append_assoc, append-nil}
-use Rattle.tuples.specs.declared.entry.Entry.{Entry}
-use Rattle.tuples.specs.declared.entry.WriteId.{WriteId}
-use Rattle.records.specs.declared.record.Record.{Record}
-use Rattle.records.specs.Coordinators.{CoordinatorState, coordinator_state}
-use Rattle.records.specs.Replays.{ShardState, shard_state}
+use Rattle.turns.proofs.Words.{CoordinatorKnows, CoordinatorState, Entry, IsGivenBy, IsOpen, IsRightVerdict, IsStaging, Moment, NodeName, NodeState, Nodes, Record, ShardKnows, ShardState, WasGiven, WriteId, coordinator, coordinator_state, down, leaves, refused, same_or_not, shard, shard_state, staged_of, up, with_nodes}
 use Rattle.laws.specs.ShardLaws.{IsEpochGiven}
-use Rattle.laws.specs.Nodes.{CoordinatorKnows, IsGivenBy, NodeName, NodeState, Nodes, ShardKnows, coordinator, down, leaves, refused, shard, staged_of, up}
-use Rattle.turns.specs.Held.{IsOpen, IsRightVerdict, WasGiven}
-use Rattle.turns.specs.Moments.{Moment}
-use Rattle.turns.specs.StagingLaws.{IsStaging, with_nodes}
-use Rattle.laws.proofs.Locks.{same_or_not}
 
 -- a node's records, told apart
 abbrev pub durable_in : NodeState → List Record

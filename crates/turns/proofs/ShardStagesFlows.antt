@@ -1,16 +1,7 @@
 -- A shard of a store that stands stages one record more: what flows hold stays right.
 use Rattle.std.proofs.Common.{◌≡◌, ◌⊎◌, inl, inr, ⊎_elim, ℕ, true, List, [], ◌∷◌, ◌++◌, Some, refl, sym, ◌∙◌, ap, subst, Bool, false, arith}
 use Rattle.std.proofs.lemmas.List.Elements.{All-append, All-cons, All-nil, Contains-append_left, Contains-append_right}
-use Rattle.tuples.specs.declared.entry.Entry.{Entry}
-use Rattle.tuples.specs.Log.{HoldAfter}
-use Rattle.tuples.specs.Parts.{part, takes_part}
-use Rattle.records.specs.declared.record.Record.{Record}
-use Rattle.records.specs.Replays.{ShardState, find_in_doubt, shard_state}
-use Rattle.laws.specs.Nodes.{NodeName, Nodes, ShardKnows, leaves, shard}
-use Rattle.turns.specs.Flows.{HeldTicket, WriteHolds, id_of}
-use Rattle.turns.specs.Held.{IsOpen, IsRight, IsRightOwn, IsRightTicket, IsUndecided}
-use Rattle.turns.specs.Moments.{Moment, Running}
-use Rattle.turns.specs.StagingLaws.{IsStaging, with_nodes}
+use Rattle.turns.proofs.Words.{Entry, HeldTicket, HoldAfter, IsOpen, IsRight, IsRightOwn, IsRightTicket, IsStaging, IsUndecided, Moment, NodeName, Nodes, Record, Running, ShardKnows, ShardState, WriteHolds, find_in_doubt, id_of, leaves, part, shard, shard_state, takes_part, with_nodes}
 use Rattle.turns.proofs.FlowBegins.{alone}
 use Rattle.turns.proofs.Frames.{IsDoubt, KeepsStore, KeepsWrite, decision_on, frame, intent_on, same_knew, same_taken, ticket_on, undecided_on, verdict_on, vote_on}
 use Rattle.turns.proofs.ShardStages.{is_open, left_now, longer, memory, memory_left, same_coordinator, same_given, shard_knew, shard_knows, was_open}
@@ -21,7 +12,7 @@ module _ (store shards : ℕ) (left : NodeName → List Record → Type 0) (now 
   pub record StagesDoubts (prepares : Bool) (w : Entry) : Type 0 where
     pub found : (p : Entry) → find_in_doubt w.id (shard_state (longer store shards left now next s r st)).in_doubt ≡ Some p
         → (find_in_doubt w.id (shard_state (memory store shards left now next s r st)).in_doubt ≡ Some p)
-            ⊎ ((prepares ≡ true) × (takes_part shards s w ≡ true) × (p ≡ part shards s w) × (IsOpen now.nodes w → HoldAfter now.machine.log p.conditions))
+        ⊎ ((prepares ≡ true) × (takes_part shards s w ≡ true) × (p ≡ part shards s w) × (IsOpen now.nodes w → HoldAfter now.machine.log p.conditions))
     pub promised : IsOpen now.nodes w → find_in_doubt w.id (shard_state (memory store shards left now next s r st)).in_doubt ≡ Some (part shards s w)
         → find_in_doubt w.id (shard_state (longer store shards left now next s r st)).in_doubt ≡ Some (part shards s w)
     pub epoch : (shard_state (longer store shards left now next s r st)).epoch ≡ (shard_state (memory store shards left now next s r st)).epoch

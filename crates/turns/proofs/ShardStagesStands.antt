@@ -2,24 +2,9 @@
 use Rattle.std.proofs.Common.{◌≡◌, ◌⊎◌, inl, inr, ⊎_elim, ℕ, ◌≤◌, List, [], ◌∷◌, ◌++◌, length, Some, Contains, refl, sym, ◌∙◌, ap, subst, arith, slice_get, false}
 use Rattle.std.proofs.lemmas.List.Elements.{Contains-push_cases}
 use Rattle.std.proofs.lemmas.Option.{get_or_from_slice_get, slice_get-get_or, slice_get_within}
-use Rattle.tuples.specs.declared.entry.Entry.{Entry}
-use Rattle.tuples.specs.Log.{AreNew}
-use Rattle.records.specs.declared.record.Record.{Record}
-use Rattle.records.specs.declared.record.Record.TheVariants.{Epoch}
-use Rattle.records.specs.Replays.{shard_state}
-use Rattle.laws.specs.Worlds.{Means, Rests, shard_node}
-use Rattle.laws.specs.Nodes.{NodeName, NodeState, Nodes, coordinator, leaves, refused, shard, staged_of, up, IsOfRefusedOpening}
-use Rattle.turns.specs.Flows.{id_of}
-use Rattle.turns.specs.Held.{WasGiven}
-use Rattle.turns.specs.Moments.{Moment, Running}
-use Rattle.turns.specs.StagingLaws.{IsStaging, with_nodes}
-use Rattle.turns.specs.Stands.{AreApart, FlowsStand, HeadsStand, IdsStand, LocksStand, NodesStand, Stands, at_shards, ListedStand}
-use Rattle.laws.proofs.LessLeft.{less_rests, whole_rests}
-use Rattle.laws.proofs.Locks.{doubts_apart, same_or_not}
+use Rattle.turns.proofs.Words.{AreApart, AreNew, Entry, Epoch, FlowsStand, HeadsStand, IdsStand, IsOfRefusedOpening, IsStaging, ListedStand, LocksStand, Means, Moment, NodeName, NodeState, Nodes, NodesStand, Record, Refusal, Rests, Running, ShardMeans, Stands, WasGiven, at_shards, coordinator, doubts_apart, id_of, leaves, less_rests, refused, same_or_not, shard, shard_node, shard_state, staged_of, up, whole_rests, with_nodes}
 use Rattle.turns.proofs.ShardStages.{coordinator_knew, coordinator_left, durable_in, given_kept, left_now, longer, memory, memory_left, was_open, same_coordinator, same_given, same_open, shard_number, verdict_kept}
 use Rattle.turns.proofs.ShardStagesFlows.{StagesDoubts, kept_flow}
-use Rattle.laws.specs.Shards.{ShardMeans}
-use Rattle.refusal.specs.declared.refusal.Refusal.{Refusal}
 
 pub contained_at : {X : Type 0} (xs : List X) (x : X) → Contains xs x → (i : ℕ) × (slice_get xs i ≡ Some x)
 contained_at xs x is = (is.0, slice_get-get_or xs is.0 x is.1 ∙ ap Some is.2)

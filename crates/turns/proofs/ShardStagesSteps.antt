@@ -3,37 +3,20 @@ use Rattle.std.proofs.Common.{◌≡◌, ◌≢◌, inl, inr, ⊎_elim, ℕ, ◌
 use Rattle.std.proofs.lemmas.List.{take_all}
 use Rattle.std.proofs.lemmas.List.Elements.{Contains-push_cases}
 use Rattle.std.proofs.lemmas.Option.{same_Some}
-use Rattle.tuples.specs.declared.entry.Entry.{Entry}
-use Rattle.tuples.specs.declared.entry.WriteId.{WriteId}
-use Rattle.tuples.specs.Log.{HoldAfter}
-use Rattle.tuples.specs.Parts.{part, takes_part}
-use Rattle.records.specs.declared.record.PlacedId.{PlacedId}
-use Rattle.records.specs.declared.record.Record.{Record}
-use Rattle.records.specs.declared.record.Record.TheVariants.{Prepare, Learned, Dropped, Epoch, Horizon}
-use Rattle.records.specs.Replays.{MayPrepare, ShardState, find_in_doubt, shard_state, shard_step, without, without_placed_ids}
-use Rattle.replay.proofs.Doubts.{HasPlacedId, cases_id, find_not_learned, find_push, find_push_same, find_without_other, find_without_same}
-use Rattle.replay.proofs.States.{image_last, shard_push}
-use Rattle.decisions.specs.Values.{BatchValue}
-use Rattle.shard.specs.Shards.{learning, placed_ids_from}
+use Rattle.turns.proofs.Words.{Asked, BatchValue, Dropped, Entry, Epoch, HeldTicket, HoldAfter, Holds, Horizon, IsOpen, IsRight, IsRightBatch, IsRightOwn, IsRightTicket, IsRightVerdict, IsRightWrite, IsStaging, IsUndecided, IsUnlisted, Learned, Moment, NodeName, Nodes, PlacedId, Prepare, Record, Rests, Running, ShardMeans, ShardState, Stands, WasGiven, WriteHolds, WriteId, at_shards, find_in_doubt, find_push_same, id_of, image_last, leaves, of_without, own_write, placed_ids_from, replaced, shard_node, shard_push, shard_state, slice_get_drop, slice_get_taken, takes_part, to_write, with_nodes, without, writing}
+use Rattle.tuples.specs.Parts.{part}
+use Rattle.records.specs.Replays.{MayPrepare, shard_step, without_placed_ids}
+use Rattle.replay.proofs.Doubts.{HasPlacedId, cases_id, find_not_learned, find_push, find_without_other, find_without_same}
+use Rattle.shard.specs.Shards.{learning}
 use Rattle.shard.proofs.Waiting.{still_placed_ids}
-use Rattle.laws.specs.LogLaws.{IsUnlisted}
 use Rattle.laws.specs.ShardLaws.{IsShardStep}
-use Rattle.laws.specs.Worlds.{Rests, shard_node}
-use Rattle.laws.specs.Nodes.{NodeName, Nodes, leaves}
-use Rattle.turns.specs.Flows.{Asked, HeldTicket, Holds, WriteHolds, id_of, to_write, writing}
-use Rattle.turns.specs.Held.{IsOpen, IsRight, IsRightBatch, IsRightOwn, IsRightTicket, IsRightVerdict, IsRightWrite, IsUndecided, WasGiven, own_write}
-use Rattle.turns.specs.Moments.{Moment, Running, replaced}
-use Rattle.turns.specs.StagingLaws.{IsFlowOf, IsStaging, with_nodes, with_ticket}
-use Rattle.turns.specs.Stands.{Stands, at_shards}
-use Rattle.laws.proofs.LearnStep.{part_is_from, slice_get_drop}
-use Rattle.laws.proofs.Lists.{slice_get_taken}
-use Rattle.laws.proofs.Locks.{of_without}
+use Rattle.turns.specs.StagingLaws.{IsFlowOf, with_ticket}
+use Rattle.laws.proofs.LearnStep.{part_is_from}
 use Rattle.laws.proofs.ShardSteps.{collects_rest, drops_rest, learns_rest, prepares_rest, unlearned_of_log, collected_means, batch_means, dropped_unlisted}
 use Rattle.turns.proofs.ShardStages.{epoch_given, left_now, memory, memory_left}
 use Rattle.turns.proofs.FlowGoesOn.{flows_turn, sees_more}
 use Rattle.turns.proofs.ShardStagesFlows.{StagesDoubts, kept_flow, kept_with_ticket}
 use Rattle.turns.proofs.ShardStagesStands.{contained_at, contained_from, stands_kept, stands_with}
-use Rattle.laws.specs.Shards.{ShardMeans}
 use Rattle.laws.proofs.PrepareStep.{dropped_means, prepared_means}
 
 module _ (store shards : ℕ) (left : NodeName → List Record → Type 0) (now : Moment) (next : Nodes) (s : ℕ) where

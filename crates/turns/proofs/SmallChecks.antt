@@ -1,15 +1,8 @@
 -- A small check: a holds b, which holds no other. One step of its walk meets what the laws ask of it.
 use Rattle.std.proofs.Common.{◌≡◌, inr, ⊎_elim, ℕ, List, [], ◌∷◌, Some, None, Contains, get_or, refl, sym, ◌∙◌, ap, arith}
 use Rattle.std.proofs.lemmas.Option.{slice_get_within}
-use Rattle.tuples.specs.declared.object.Userset.{Userset}
-use Rattle.tuples.specs.declared.tuple.Tuple.{Tuple}
-use Rattle.tuples.specs.declared.user.User.{User}
-use Rattle.tuples.specs.declared.user.User.TheVariants.{Set}
-use Rattle.tuples.specs.Checking.{AreOnce, holding}
-use Rattle.decisions.specs.Standing.{HeadsValue}
-use Rattle.turns.specs.CheckingLaws.{Walks}
-use Rattle.turns.specs.CoordinatorSeamLaws.{AsksAbove, AsksBelow, FindsPlace}
-use Rattle.turns.specs.Flows.{CheckHolds, at_least, exact, latest, to_raise, to_watch}
+use Rattle.turns.proofs.Words.{AreOnce, AsksAbove, AsksBelow, CheckHolds, HeadsValue, Set, Tuple, User, Userset, Walks, at_least, exact, holding, latest, to_raise, to_watch}
+use Rattle.turns.specs.CoordinatorSeamLaws.{FindsPlace}
 use Rattle.turns.proofs.FlowBegins.{among}
 
 -- g:x#m, for a byte x

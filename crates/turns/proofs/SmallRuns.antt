@@ -1,15 +1,11 @@
 -- Small runs of the machine, computed: moves and answers that are allowed, and some that are not.
 use Rattle.std.proofs.Common.{◌≡◌, inl, inr, ◌≤◌, zero, suc, List, [], ◌∷◌, Option, Some, None, Contains, min, refl, ◌∙◌, subst, ap, arith, ◌+◌}
 use Rattle.std.proofs.lemmas.List.Elements.{All-nil, All-cons}
-use Rattle.tuples.specs.declared.change.Change.TheVariants.{Touch, Delete}
+use Rattle.turns.proofs.Words.{Agrees, Asked, IsQuiet, IsRun, Machine, Makes, MayRise, Moment, Move, Nodes, Running, Touch, Turns, answered, append, began, begun, coordinator, cut, done, down, keep, numbered, raise, start, three, to_flush, to_raise, to_watch, to_write, turn, viewed, wrote}
+use Rattle.tuples.specs.declared.change.Change.TheVariants.{Delete}
 use Rattle.tuples.specs.Watching.{events}
-use Rattle.tuples.proofs.Examples.{doc, numbered, three, viewed}
-use Rattle.laws.specs.Machines.{Machine, Move, append, keep, cut, raise, Makes}
-use Rattle.laws.specs.Nodes.{coordinator, down, Nodes}
-use Rattle.turns.specs.Flows.{Asked, to_flush, to_raise, to_watch, to_write}
-use Rattle.turns.specs.Moments.{Moment, Running, begun}
-use Rattle.turns.specs.Replies.{wrote, listed, done, Agrees}
-use Rattle.turns.specs.Runs.{start, turn, began, answered, IsQuiet, MayRise, IsRun, Turns}
+use Rattle.tuples.proofs.Examples.{doc}
+use Rattle.turns.specs.Replies.{listed}
 
 -- three writes, of which two are kept
 abbrev pub two_kept : Machine

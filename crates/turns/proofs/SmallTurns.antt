@@ -1,18 +1,9 @@
 -- A small turn, by the contract of a call: the shard of a store that was just made settles for a raise of the horizon to the first place.
 use Rattle.std.proofs.Common.{◌≡◌, ℕ, ◌<◌, false, [], ◌∷◌, refl, arith}
 use Rattle.records.specs.Replays.{shard_state, shard_step}
-use Rattle.device.specs.Device.{State}
+use Rattle.turns.proofs.Words.{ShardView, Stands, StandsAndTurns, State, begun, only_opened, opened, opened_nodes, opening_of, raising, shard, shard_node, to_raise, with_call, with_flow}
 use Rattle.decisions.specs.Values.{SettledValue}
-use Rattle.shard.specs.Shards.{ShardView}
-use Rattle.laws.specs.Nodes.{shard}
-use Rattle.laws.specs.Worlds.{shard_node}
-use Rattle.turns.specs.FlowLaws.{with_flow}
-use Rattle.turns.specs.Flows.{nothing_raised, raising, to_raise}
-use Rattle.turns.specs.Moments.{begun}
-use Rattle.turns.specs.NewStores.{only_opened, opened, opened_nodes, opening_of}
-use Rattle.turns.specs.QuietTurns.{with_call}
-use Rattle.turns.specs.ShardSeamLaws.{StandsAndTurns}
-use Rattle.turns.specs.Stands.{Stands}
+use Rattle.turns.specs.Flows.{nothing_raised}
 use Rattle.turns.proofs.FlowBegins.{alone, flows_begin}
 use Rattle.turns.proofs.NewStore.{stands}
 use Rattle.turns.proofs.ShardReadSeam.{settle_turns}

@@ -1,12 +1,7 @@
 -- Within a step a stop leaves what it could leave before, or that with an opening: it means what it meant.
 use Rattle.std.proofs.Common.{◌⊎◌, inl, ⊎_elim, ℕ, ◌≤◌, List, length, take, refl, sym, subst}
-use Rattle.tuples.specs.declared.entry.Entry.{Entry}
-use Rattle.records.specs.declared.record.Record.{Record}
-use Rattle.records.specs.Coordinators.{coordinator_state}
-use Rattle.laws.specs.Nodes.{NodeName, Nodes, coordinator, leaves, shard}
-use Rattle.turns.specs.RestartLaws.{IsReopenedCoordinator, IsReopenedShard, StopsWithinSteps}
-use Rattle.turns.specs.Stands.{at_shards}
-use Rattle.laws.specs.Worlds.{IsMeaning, Means, Rests}
+use Rattle.turns.proofs.Words.{Entry, IsMeaning, IsReopenedCoordinator, IsReopenedShard, Means, NodeName, Nodes, Record, Rests, at_shards, coordinator, coordinator_state, leaves, shard}
+use Rattle.turns.specs.RestartLaws.{StopsWithinSteps}
 use Rattle.laws.proofs.CoordinatorSteps.{opened_means}
 use Rattle.laws.proofs.ShardSteps.{opened_meaning}
 

@@ -1,25 +1,12 @@
 -- What a stop at a moment of a step, or of an opening, leaves rests at a machine that it might have stopped at.
 use Rattle.std.proofs.Common.{◌≡◌, ◌≤◌, inl, inr, ⊎_elim, ℕ, List, length, take, Some, refl, sym, ◌∙◌, ap, subst, arith}
 use Rattle.std.proofs.lemmas.List.{length-take-le, take_all}
-use Rattle.tuples.specs.declared.entry.Entry.{Entry}
-use Rattle.tuples.specs.declared.entry.WriteId.{WriteId}
-use Rattle.records.specs.declared.record.Record.{Record}
-use Rattle.records.specs.Coordinators.{coordinator_state}
-use Rattle.records.specs.Replays.{shard_state}
-use Rattle.device.specs.Device.{State}
-use Rattle.journal.specs.Records.{found}
-use Rattle.decisions.specs.Standing.{IsGivenOut}
-use Rattle.laws.specs.Machines.{Machine}
-use Rattle.laws.specs.Nodes.{IsThere, NodeName, coordinator, shard}
-use Rattle.laws.specs.ShardLaws.{IsUnlistedAbove}
+use Rattle.turns.proofs.Words.{AreSound, Entry, IsGivenOut, IsThere, IsUnlistedAbove, Machine, Means, NodeName, Record, State, StopsBetween, WriteId, at_shards, coordinator, coordinator_state, found, log_taken, shard, shard_state, slice_get_taken, stops}
 use Rattle.laws.specs.Stops.{MeansOne}
-use Rattle.laws.specs.Worlds.{IsLog, Means}
-use Rattle.laws.proofs.Lists.{slice_get_taken}
-use Rattle.laws.proofs.Logs.{log_taken}
-use Rattle.turns.specs.Promises.{StopsBetween, stops_since}
-use Rattle.turns.specs.Stands.{at_shards}
+use Rattle.laws.specs.Worlds.{IsLog}
+use Rattle.turns.specs.Promises.{stops_since}
 use Rattle.turns.specs.StoreLaws.{IsStopOf, IsStopped}
-use Rattle.turns.specs.Stores.{AreSound, IsToldOver, RestsOver, stops}
+use Rattle.turns.specs.Stores.{IsToldOver, RestsOver}
 use Rattle.turns.proofs.ClosedStoreRests.{means_lower}
 use Rattle.turns.proofs.ShardStagesStands.{contained_at}
 

@@ -3,22 +3,10 @@ use Rattle.std.proofs.Common.{◌≡◌, ◌≢◌, ◌⊎◌, inl, inr, ⊎_eli
 use Rattle.std.proofs.lemmas.Bool.{eqb-true}
 use Rattle.std.proofs.lemmas.List.Elements.{All-nil, Contains-append_right, Contains-push_cases}
 use Rattle.std.proofs.lemmas.Option.{same_Some}
-use Rattle.tuples.specs.declared.entry.Entry.{Entry}
-use Rattle.tuples.specs.declared.entry.WriteId.{WriteId}
-use Rattle.tuples.specs.Log.{AreNew, same_id}
-use Rattle.records.specs.declared.record.Record.{Record}
-use Rattle.records.specs.declared.record.Record.TheVariants.{Prepare, Learned, Dropped, Epoch, Decision, Horizon}
-use Rattle.records.specs.Coordinators.{CoordinatorState, coordinator_from, coordinator_state, coordinator_step, empty_coordinator}
-use Rattle.records.specs.Replays.{find_in_doubt, shard_state}
+use Rattle.turns.proofs.Words.{AreNew, Asked, CoordinatorKnows, CoordinatorState, Decision, Dropped, Entry, Epoch, HasSeenBelow, Holds, Horizon, IsBegin, IsOpen, IsQuietFlow, IsRight, IsRightIntent, IsRightOwn, IsRightTicket, IsRightVerdict, IsRightVote, IsRightWrite, IsUnlisted, Learned, Machine, Moment, NodeName, NodeState, Nodes, Prepare, Record, Running, Stands, WasGiven, WriteHolds, WriteId, coordinator, coordinator_from, down, empty_coordinator, find_in_doubt, id_of, leaves, own_write, refused, replaced, same_id, shard, shard_state, to_write, up, with_intent, with_open, writing}
+use Rattle.records.specs.Coordinators.{coordinator_state, coordinator_step}
 use Rattle.replay.proofs.Doubts.{found_id}
-use Rattle.laws.specs.LogLaws.{IsUnlisted}
-use Rattle.laws.specs.Nodes.{NodeName, Nodes, CoordinatorKnows, NodeState, coordinator, down, leaves, refused, shard, up}
-use Rattle.turns.specs.Flows.{Asked, WriteHolds, Holds, writing, id_of, to_write}
-use Rattle.turns.specs.FlowLaws.{IsBegin, WritesBegin, with_intent, with_open}
-use Rattle.turns.specs.Held.{IsOpen, IsRight, IsRightIntent, IsRightOwn, IsRightTicket, IsRightVerdict, IsRightVote, IsRightWrite, WasGiven, own_write}
-use Rattle.turns.specs.Moments.{Moment, Running, replaced}
-use Rattle.laws.specs.Machines.{Machine}
-use Rattle.turns.specs.Stands.{HasSeenBelow, IsQuietFlow, Stands}
+use Rattle.turns.specs.FlowLaws.{WritesBegin}
 use Rattle.turns.proofs.FlowBegins.{alone, among}
 use Rattle.turns.proofs.Frames.{KeepsStore, KeepsWrite, frame, given_on, own_given, same_doubts, same_knew, same_taken, verdict_on}
 use Rattle.turns.proofs.ShardStagesStands.{contained_at, contained_from}

@@ -1,23 +1,12 @@
 -- What no run of the store is: mistakes that the definitions refuse, one by one.
 use Rattle.std.proofs.Common.{◌≡◌, ⊎_elim, zero, suc, true, false, true≢false, List, [], ◌∷◌, ◌++◌, Some, None, All, Contains, refl, sym, ◌∙◌, ap, arith, subst}
 use Rattle.std.proofs.lemmas.List.Elements.{All-head}
-use Rattle.tuples.specs.declared.change.Change.TheVariants.{Touch}
-use Rattle.refusal.specs.declared.refusal.Refusal.TheVariants.{Busy, Down, Unsure}
-use Rattle.tuples.specs.declared.tupleset.Tupleset.{Tupleset}
-use Rattle.tuples.specs.declared.tupleset.Tupleset.TheVariants.{Key}
+use Rattle.turns.proofs.Words.{DecidedValue, Decides, Down, HasItsCause, IsAsWanted, IsBusy, IsDown, IsQuiet, IsReadAnswer, IsWriteAnswer, Key, Machine, MayRise, Moment, Move, NodeName, NodeState, Nodes, Record, Running, ShardState, Touch, Tupleset, Unsure, begun, cut, down, exact, latest, raise, refused, to_read, to_write, up, viewed}
+use Rattle.refusal.specs.declared.refusal.Refusal.TheVariants.{Busy}
 use Rattle.tuples.specs.Log.{is_at}
 use Rattle.tuples.specs.Order.{tuple_eq}
-use Rattle.tuples.proofs.Examples.{viewed}
-use Rattle.records.specs.declared.record.Record.{Record}
-use Rattle.records.specs.Replays.{ShardState, shard_state}
-use Rattle.decisions.specs.Standing.{DecidedValue}
-use Rattle.turns.specs.Causes.{HasItsCause, IsBusy, IsDown}
-use Rattle.turns.specs.Flows.{exact, latest, to_read, to_write}
-use Rattle.laws.specs.Machines.{Machine, Move, cut, raise}
-use Rattle.turns.specs.Moments.{Moment, Running, begun}
-use Rattle.laws.specs.Nodes.{NodeName, NodeState, up, down, refused, Nodes}
-use Rattle.turns.specs.Replies.{IsAsWanted, IsReadAnswer, IsWriteAnswer}
-use Rattle.turns.specs.Runs.{Decides, IsQuiet, IsRefused, MayRise}
+use Rattle.records.specs.Replays.{shard_state}
+use Rattle.turns.specs.Runs.{IsRefused}
 use Rattle.turns.proofs.SmallRuns.{after_one_turn, moment_of, two_kept}
 
 not_true : false ≡ true → ⊥

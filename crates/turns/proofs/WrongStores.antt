@@ -1,30 +1,14 @@
 -- What no store stands for and no promise allows: mistakes that the definitions refuse, one by one.
 use Rattle.std.proofs.Common.{◌≡◌, ◌⊎◌, ◌^◌, ◌-◌, ◌+◌, inr, ⊎_elim, ℕ, zero, suc, ◌<◌, true, false, true≢false, List, [], ◌∷◌, ◌++◌, length, Some, None, Contains, refl, sym, ◌∙◌, ap, subst, arith}
-use Rattle.tuples.specs.declared.change.Change.TheVariants.{Touch}
-use Rattle.tuples.specs.declared.entry.Entry.{Entry}
-use Rattle.tuples.specs.declared.entry.WriteId.{WriteId}
-use Rattle.refusal.specs.declared.refusal.Refusal.{Refusal}
+use Rattle.turns.proofs.Words.{ComesUp, Entry, Epoch, HasSeenBelow, IsBusy, IsQuietFlow, IsWriteAnswer, Machine, Moment, NodeName, NodeState, NodeTurns, Prepare, Record, Refusal, Running, ShardMeans, ShardState, Stands, State, StopsBetween, Store, Touch, Tuple, WriteId, begun, coordinator, down, found, numbered, refused, shard, stops, to_flush, to_watch, to_write, up, viewed, writing}
 use Rattle.tuples.specs.Parts.{expected, part, shard_of, takes_part}
-use Rattle.tuples.proofs.Examples.{numbered, viewed}
-use Rattle.records.specs.declared.record.Record.{Record}
-use Rattle.records.specs.declared.record.Record.TheVariants.{Epoch, Prepare}
 use Rattle.records.specs.Coordinators.{coordinator_state}
-use Rattle.records.specs.Replays.{ShardState, shard_state, shard_step}
-use Rattle.device.specs.Device.{State}
-use Rattle.journal.specs.Records.{found}
-use Rattle.laws.specs.Machines.{Machine}
-use Rattle.laws.specs.Nodes.{NodeName, NodeState, NodeTurns, coordinator, down, refused, shard, up}
-use Rattle.laws.specs.Shards.{ShardMeans}
-use Rattle.turns.specs.Causes.{IsBusy}
-use Rattle.turns.specs.Flows.{nothing_begun, to_flush, to_watch, to_write, writing}
-use Rattle.turns.specs.Moments.{Moment, Running, begun}
-use Rattle.turns.specs.Promises.{ComesUp, HasDeviceCause, StopsBetween}
+use Rattle.records.specs.Replays.{shard_state, shard_step}
+use Rattle.turns.specs.Flows.{nothing_begun}
+use Rattle.turns.specs.Promises.{HasDeviceCause}
 use Rattle.turns.specs.Reopens.{IsOpened}
-use Rattle.turns.specs.Replies.{IsWriteAnswer}
-use Rattle.turns.specs.Stands.{HasSeenBelow, IsQuietFlow, Stands}
-use Rattle.turns.specs.Stores.{ShowsFlow, Store, stops}
+use Rattle.turns.specs.Stores.{ShowsFlow}
 use Rattle.std.proofs.lemmas.List.{length_push}
-use Rattle.tuples.specs.declared.tuple.Tuple.{Tuple}
 use Rattle.turns.proofs.SmallRuns.{two_kept}
 
 -- a flow that the store shows as running on is not read as cancelled, and one that is no write is never cancelled while it runs
