@@ -1,0 +1,68 @@
+-- A shard under its lock, as its callers see it, and what each of its calls leaves of it.
+use Rattle.std.specs.Prelude.{◌≡◌, ◌≤◌, ℕ, List, [], length, Option, Some, None, Ok}
+use mathlib.Core.List.{IsPrefix}
+use Rattle.atomic_table.specs.Seated.{TableId}
+use Rattle.tuples.specs.declared.entry.Entry.{Entry}
+use Rattle.tuples.specs.declared.tupleset.Tupleset.{Tupleset}
+use Rattle.tuples.specs.Reads.{IsSelection}
+use Rattle.device.specs.Device.{State}
+use Rattle.published.specs.Known.{Known}
+use Rattle.shard.specs.declared.replies.ReadReply.TheVariants.{Rows}
+use Rattle.calls.specs.declared.call.NodeCall.TheVariants.{Shard}
+use Rattle.calls.specs.declared.call.ShardCall.{ShardCall}
+use Rattle.calls.specs.declared.reply.Reply.{Reply}
+use Rattle.calls.specs.declared.reply.Reply.TheVariants.{Shard as from_shard}
+use Rattle.calls.specs.declared.reply.ShardReply.TheVariants as told_by
+use Rattle.calls.specs.Asking.{Answered, MayAsk}
+use Rattle.calls.specs.Belonging.{IsReplyTo}
+use Rattle.calls.specs.Views.{NodeView}
+use Rattle.laws.specs.Shards.{there_of}
+use Rattle.ties.specs.ShardTies.{IsShardTied}
+
+-- the words of no store
+abbrev pub no_table : TableId
+no_table = record { words = 0; slots = 0; views_name = 0; atom = 0; block = 0; offset = 0; slot_names = [] }
+
+-- The node, its number among the shards, and what the pass beside it knows. The node is always there; only while it is opened again it is away.
+pub record Side (D : Type 0) : Type 0 where
+  pub node : Option (NodeView D)
+  pub number : ℕ
+  pub pass : Known Entry
+
+-- a pass of the same words knows what this one knew
+pub record IsLater (old new : Known Entry) : Type 0 where
+  pub table : new.table ≡ old.table
+  pub seen : IsPrefix old.seen new.seen
+  pub horizon : old.horizon ≤ new.horizon
+
+-- a pass knows what either of two knew
+pub record KnowsBoth (one other new : Known Entry) : Type 0 where
+  pub first : IsLater one new
+  pub second : IsLater other new
+
+-- the node is there, and tied to what the pass beside it knows
+abbrev pub IsTiedIn : {D : Type 0} → (D → State) → (D → Type 0) → ℕ → ℕ → ℕ → Option (NodeView D) → Known Entry → Type 0
+IsTiedIn state honest store shards s (Some node) pass = IsShardTied state honest store shards s node pass.seen pass.horizon
+IsTiedIn state honest store shards s None pass = ⊥
+
+-- the node of shard s is there, and may be asked this
+abbrev pub MayAskIn : {D : Type 0} → ℕ → Option (NodeView D) → ShardCall → Type 0
+MayAskIn s (Some node) call = MayAsk node (Shard s call)
+MayAskIn s None call = ⊥
+
+module _ {D : Type 0} (state : D → State) (honest : D → Type 0) (moment : D → ℕ) (left_since : D → ℕ → List ℕ → Type 0) where
+  -- the node of shard s was there, and has answered the call
+  abbrev pub AnsweredIn : ℕ → Option (NodeView D) → ShardCall → Reply → Option (NodeView D) → Type 0
+  AnsweredIn s (Some old) call reply (Some new) = Answered state honest moment left_since old (Shard s call) reply new
+  AnsweredIn s old call reply new = ⊥
+
+  -- the node has answered the call, and is the same shard
+  pub record SideAnswers (old : Side D) (call : ShardCall) (reply : Reply) (new : Side D) : Type 0 where
+    pub answered : AnsweredIn old.number old.node call reply new.node
+    pub belongs : IsReplyTo (Shard old.number call) reply
+    pub number : new.number ≡ old.number
+
+-- Rows that are told at a place are those that a tupleset selects of the list there, of the tuples of this shard; the place is one of the list.
+abbrev pub TellsRows : ℕ → ℕ → List Entry → ℕ → Tupleset → Reply → Type 0
+TellsRows shards s seen place set (from_shard (told_by.Read back (Ok (Rows rows)))) = (place ≤ length seen) × IsSelection (there_of shards s seen place) set rows.items
+TellsRows shards s seen place set reply = Unit {0}

@@ -1,0 +1,14 @@
+//! What lies under the lock of a node that callers share, changed by calls that take no lock and wait for nobody.
+//!
+//! Keeps: the node is tied to the list of writes that the pass beside it has seen, whatever was called.
+//! Never: takes a lock, waits, or tells of a write that the caller's pass has not seen.
+//! Callers rely on: what a pass had seen it sees behind each call, and rows that are told are of the list that it has seen then.
+//!
+//! No program uses this yet. Start at `specs/Sides.antt`, and then `ShardSide`.
+#![tactic(auto)]
+
+mod room;
+mod shard_side;
+
+pub use room::Room;
+pub use shard_side::ShardSide;
