@@ -3,6 +3,8 @@ use Rattle.std.proofs.Common.{◌≡◌, ◌≤◌, ◌+◌, ◌++◌, inr, ℕ,
 use Rattle.std.proofs.lemmas.List.Elements.{All-head, All-tail}
 use Rattle.device.specs.Device.{State, left}
 use Rattle.device.specs.declared.tear.Tear.{Tear}
+use Rattle.laws.specs.Nodes.{coordinator}
+use Rattle.turns.specs.Promises.{events_of}
 use Rattle.turns.specs.Runs as runs
 use Rattle.turns.specs.Stores.{NamesHorizon, StandsOver}
 use Rattle.turns.proofs.RunLogs.{run_more}
@@ -12,9 +14,10 @@ use Rattle.cluster.specs.declared.event.What.{What}
 use Rattle.headline.specs.Acts.{ActedHeadline, ActsKeep, KeepsActs, numbered, sets_script, steps_in, takes_step}
 use Rattle.headline.specs.Promised.{StepsKeep}
 use Rattle.headline.specs.Shown.{Shows}
-use Rattle.headline.specs.Told.{IsWholeStep, step_of}
+use Rattle.headline.specs.Told.{IsWholeStep, all_told, step_of}
 use Rattle.headline.proofs.DeviceScripts.{scripts_keep}
 use Rattle.headline.proofs.Joined.{steps_keep}
+use Rattle.headline.proofs.PastWrites.{past_writes_stay}
 use Rattle.headline.proofs.Whole.{openings_keep}
 
 module _ {D : Type 0} (set : D → ℕ → Tear → Type 0) (state : D → State) (honest : D → Type 0) (moment : D → ℕ) (left_since : D → ℕ → List ℕ → Type 0) (keep : StepsKeep state honest moment left_since) where
@@ -28,6 +31,7 @@ module _ {D : Type 0} (set : D → ℕ → Tear → Type 0) (state : D → State
     after = now;
     run = (ap (λ (ts : List (Option What)). numbered number ts) acted.0, refl);
     stands = standing;
+    past = λ id is. is;
   }
   acts_keep old new s now number (takes_step step ∷ acts) told shows whole (mid, first, rest, takes, acted, told_is) standing =
       let k = keep step old mid s first shows (All-head IsWholeStep step (steps_in acts) whole) takes in
@@ -55,6 +59,7 @@ module _ {D : Type 0} (set : D → ℕ → Tear → Type 0) (state : D → State
           ap (λ (ts : List (Option What)). numbered number ts) told_is ∙ ap (λ (es : List runs.Event). es ++ numbered (number + 1) rest) ran.tells,
         );
         stands = further.stands;
+        past = λ id is. further.past id (past_writes_stay state honest moment left_since old.store old.shards s k.later now number (step_of step) (events_of number (all_told first)) id standing ran is);
       }
   acts_keep old new s now number (sets_script name bank n tear ∷ acts) told shows whole (mid, is_set, acted) standing =
       let k = scripts_keep set state honest moment left_since bank n tear name old mid s shows is_set in
@@ -76,6 +81,11 @@ module _ {D : Type 0} (set : D → ℕ → Tear → Type 0) (state : D → State
         run = run_more old.shards (NamesHorizon state honest old.store old.shards k.later now) (NamesHorizon state honest old.store old.shards s now) number now further.after
             (map step_of (steps_in acts)) (numbered number told) (λ x names. inr (k.named now x standing names)) further.run;
         stands = further.stands;
+        past = λ id is. further.past id (record {
+          given = record { epoch = λ found left. is.given.epoch found (k.leaves now coordinator found standing left); now = is.given.now };
+          unlisted = is.unlisted;
+          unheld = is.unheld;
+        });
       }
 
 module _ {D : Type 0} (set : D → ℕ → Tear → Type 0) (state : D → State) (honest : D → Type 0) (moment : D → ℕ) (left_since : D → ℕ → List ℕ → Type 0)

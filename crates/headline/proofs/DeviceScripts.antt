@@ -199,6 +199,9 @@ module _ {D : Type 0} (set : D → ℕ → Tear → Type 0) (state : D → State
         stands = subst (λ (f : NodeName → List Record → Type 0). Stands old.store old.shards f now) (sym same_stops) standing.stands;
       }
 
+      pub left_before : (m : NodeName) (found : List Record) → stops_of later.devices m found → stops_of s.devices m found
+      left_before m found = subst (λ (f : NodeName → List Record → Type 0). f m found) same_stops
+
       pub named_before : (x : ℕ) → NamesHorizon state honest old.store old.shards later now x → NamesHorizon state honest old.store old.shards s now x
       named_before x names = subst (λ (f : NodeName → List Record → Type 0). IsHorizonIn old.store old.shards f now.nodes x) same_stops names
 
@@ -208,6 +211,7 @@ module _ {D : Type 0} (set : D → ℕ → Tear → Type 0) (state : D → State
       shows = shows_later;
       stands = λ now standing. stands_later now standing;
       named = λ now x standing names. named_before now standing x names;
+      leaves = λ now n found standing there. left_before now standing n found there;
     }
 
   -- whether the world has the node or not: one that has none is as it was
@@ -219,6 +223,7 @@ module _ {D : Type 0} (set : D → ℕ → Tear → Type 0) (state : D → State
     shows = subst (λ (w : WorldView D). Shows w s) (sym (rest ∙ ap (λ (ns : List (NodeView D)). record old { nodes = ns }) same)) shows;
     stands = λ now standing. standing;
     named = λ now x standing names. names;
+    leaves = λ now n found standing there. there;
   }
   keeps_at n old new s shows (Some was) at is_set rest = subst (λ (w : WorldView D). StandsAsBefore state honest old s w) (sym rest) (keeps_there old s shows n was at new.nodes is_set)
 

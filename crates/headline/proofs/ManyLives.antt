@@ -20,6 +20,7 @@ use Rattle.turns.proofs.Chains.{stopped_openings_rest, stopped_steps_rest}
 use Rattle.turns.proofs.ClosedStoreRests.{closed_stores_rest}
 use Rattle.turns.proofs.RunChain.{runs_move}
 use Rattle.headline.specs.Acts.{Acted, KeepsActs, numbered, steps_in}
+use Rattle.headline.specs.PastWrites.{IsPast, IsPastOver}
 use Rattle.headline.specs.ManyLives.{AreDevicesOf, End, EndsOver, IsRunIn, Life, Lived, LivesAll, LivesOn, LivesOnce, ManyLives, RunsIn, closes, stops_opening, stops_within}
 use Rattle.headline.specs.Promised.{KeepsOpened, devices_at}
 use Rattle.headline.specs.Shown.{Shows, named}
@@ -27,6 +28,8 @@ use Rattle.headline.specs.Told.{IsWholeStep, all_told, step_of}
 use Rattle.headline.proofs.Acting.{acts_keep}
 use Rattle.headline.proofs.Joined.{steps_keep}
 use Rattle.headline.proofs.Nodes.{node_there}
+use Rattle.headline.proofs.PastRests.{past_opened, past_stopped}
+use Rattle.headline.proofs.PastWrites.{past_writes_stay}
 use Rattle.headline.proofs.StopMoves.{stop_moves}
 use Rattle.headline.proofs.Whole.{openings_keep}
 
@@ -35,7 +38,7 @@ module _ {D : Type 0} (state : D → State) (honest : D → Type 0) (store shard
   was_left : (n : NodeName) (found : List Record) → IsThere shards n → stops state honest store shards new n found → stops state honest store shards old n found
   was_left n found there = subst (λ (p : D × D). Finds (left (state p.0)) (left (state p.1)) found) (same n there)
 
-  same_rests : (m : Machine) → RestsOver state honest store shards old m → RestsOver state honest store shards new m
+  pub same_rests : (m : Machine) → RestsOver state honest store shards old m → RestsOver state honest store shards new m
   same_rests m r = record {
     sound = record {
       honest_a = λ n there. subst (λ (p : D × D). honest p.0) (sym (same n there)) (r.sound.honest_a n there);
@@ -54,6 +57,10 @@ module _ {D : Type 0} (state : D → State) (honest : D → Type 0) (store shard
     given = λ w has found is. r.given w has found (was_left coordinator found tt is);
   }
 
+  pub same_past : (moment : D → ℕ) (left_since : D → ℕ → List ℕ → Type 0) (m : Machine) (id : WriteId) → IsPastOver state honest moment left_since store shards old m id
+      → IsPastOver state honest moment left_since store shards new m id
+  same_past moment left_since m id is = record { given = λ found there. is.given found (was_left coordinator found tt there); unlisted = is.unlisted }
+
   same_told : (m : Machine) (ids : List WriteId) → All (IsToldOver state honest store shards old m) ids → All (IsToldOver state honest store shards new m) ids
   same_told m ids all = λ j d lt. let one = all j d lt in record { given = λ found is. one.given found (was_left coordinator found tt is); none = one.none }
 
@@ -61,7 +68,7 @@ module _ {D : Type 0} (set : D → ℕ → Tear → Type 0) (state : D → State
     (counts_now : (d : D) (t : ℕ) (c : List ℕ) → honest d → t ≤ moment d → left (state d) c → left_since d t c)
     (only_now : (d : D) (c : List ℕ) → honest d → left_since d (moment d) c → left (state d) c) (store shards : ℕ) (any : D) where
   -- the devices of a world are those of a store that shows it
-  same_devices : (w : WorldView D) (s : Store D) (devices : NodeName → D × D) → w.shards ≡ shards → Shows w s → AreDevicesOf set state honest moment left_since w devices
+  pub same_devices : (w : WorldView D) (s : Store D) (devices : NodeName → D × D) → w.shards ≡ shards → Shows w s → AreDevicesOf set state honest moment left_since w devices
       → (n : NodeName) → IsThere shards n → devices n ≡ s.devices n
   same_devices w s devices shards_is shows are n there = by_node (node_at w.nodes (named n)) refl
     where
@@ -70,7 +77,7 @@ module _ {D : Type 0} (set : D → ℕ → Tear → Type 0) (state : D → State
       by_node (Some v) at = are n v at ∙ sym (shows.nodes n v at).devices
 
   -- a stop between devices is one between those that are the same
-  same_stop : (old older new newer stopped : NodeName → D × D) → ((n : NodeName) → IsThere shards n → old n ≡ older n) → ((n : NodeName) → IsThere shards n → new n ≡ newer n)
+  pub same_stop : (old older new newer stopped : NodeName → D × D) → ((n : NodeName) → IsThere shards n → old n ≡ older n) → ((n : NodeName) → IsThere shards n → new n ≡ newer n)
       → IsStopped state honest moment left_since store shards old new stopped → IsStopped state honest moment left_since store shards older newer stopped
   same_stop old older new newer stopped same_old same_new stop = record {
     honest_a = stop.honest_a;
@@ -89,6 +96,10 @@ module _ {D : Type 0} (set : D → ℕ → Tear → Type 0) (state : D → State
 
       abbrev reopened : Reopened state honest moment left_since store shards (devices_at any old) m ids k.later
       reopened = (k.reopens m ids rests told_all).0
+
+      -- a write that came to nothing before the life
+      was_past : (id : WriteId) → IsPastOver state honest moment left_since store shards (devices_at any old) m id → IsPast state honest moment left_since store shards k.later reopened.after id
+      was_past id is = past_opened state honest moment left_since store shards (devices_at any old) m ids k.later k.reopens rests told_all id is
 
       -- the steps of the life
       acted : (last : WorldView D) → All IsWholeStep (steps_in life.acts) → Acted set state honest moment left_since opened life.acts life.told last
@@ -139,6 +150,9 @@ module _ {D : Type 0} (set : D → ℕ → Tear → Type 0) (state : D → State
             moved = moves.1;
             rests = same_rests state honest store shards over.later.devices (devices_at any new) same over.after.machine closed.0;
             told_stays = same_told state honest store shards over.later.devices (devices_at any new) same over.after.machine over.after.told closed.1;
+            past = λ id is.
+                let still = over.past id (was_past id is) in
+                same_past state honest store shards over.later.devices (devices_at any new) same moment left_since over.after.machine id (record { given = still.given.epoch; unlisted = still.unlisted });
             runs = subst (λ (e : End). IsRunIn set state honest moment left_since store shards any old m ids life e over.after.machine over.after.told) (sym is) (runs_in last over over.after.machine [] refl, refl);
           }
       by_end stops_opening is (devices, none, nothing, are, stop) =
@@ -153,6 +167,9 @@ module _ {D : Type 0} (set : D → ℕ → Tear → Type 0) (state : D → State
             moved = moves.1;
             rests = stopped.2;
             told_stays = stopped.3;
+            past = λ id is. past_stopped state honest moment left_since store shards (devices_at any old) k.later.devices (devices_at any new)
+                (same_stop (devices_at any old) (devices_at any old) devices k.later.devices (devices_at any new) (λ n there. refl) same stop)
+                m reopened.after.machine stopped.0 id (k.reopens m ids rests told_all).1 stopped.1 is.given is.unlisted (was_past id is).unlisted;
             runs = subst (λ (e : End). IsRunIn set state honest moment left_since store shards any old m ids life e stopped.0 ids) (sym is) (refl, (k.later, reopened, stopped.1));
           }
       by_end (stops_within step) is (last, next, tells, devices, later, whole, acts, whole_step, takes, are, are_next, stop) =
@@ -180,6 +197,12 @@ module _ {D : Type 0} (set : D → ℕ → Tear → Type 0) (state : D → State
             moved = moves.1;
             rests = stopped.2;
             told_stays = stopped.3;
+            past = λ id is.
+                let still = over.past id (was_past id is) in
+                let next_past = past_writes_stay state honest moment left_since store shards over.later keeps.later over.after 0 (step_of step) (events_of 0 (all_told tells)) id over.stands ran still in
+                past_stopped state honest moment left_since store shards over.later.devices keeps.later.devices (devices_at any new)
+                (same_stop devices over.later.devices later keeps.later.devices (devices_at any new) same same_next stop)
+                over.after.machine ran.after.machine stopped.0 id ran.inside stopped.1 still.given.epoch still.unlisted next_past.unlisted;
             runs = subst (λ (e : End). IsRunIn set state honest moment left_since store shards any old m ids life e stopped.0 over.after.told) (sym is) (runs_in last over stopped.0 ending.0 ending.1, tells, keeps.later, ran, stopped.1);
           }
 
@@ -200,6 +223,7 @@ module _ {D : Type 0} (set : D → ℕ → Tear → Type 0) (state : D → State
     kept_stays = refl;
     rests = subst (λ (l : List D). RestsOver state honest store shards (devices_at any l) m) (sym same) rests;
     told_stays = subst (λ (l : List D). All (IsToldOver state honest store shards (devices_at any l) m) ids) (sym same) told_all;
+    past = λ id is. subst (λ (l : List D). IsPastOver state honest moment left_since store shards (devices_at any l) m id) (sym same) is;
   }
   many_lives old new (life ∷ lives) m ids some few count rests told_all (mid, once, all) =
       let lived = lives_once old mid m ids some few count rests told_all life once in
@@ -214,6 +238,7 @@ module _ {D : Type 0} (set : D → ℕ → Tear → Type 0) (state : D → State
         kept_stays = (kept_stay m further.after (lived.moves ++ further.moves) rests.rests.within moved).3;
         rests = further.rests;
         told_stays = further.told_stays;
+        past = λ id is. further.past id (lived.past id is);
       }
 
 pub many : {D : Type 0} (set : D → ℕ → Tear → Type 0) (state : D → State) (honest : D → Type 0) (moment : D → ℕ) (left_since : D → ℕ → List ℕ → Type 0)

@@ -78,7 +78,7 @@ pub quiet_on : (P : ℕ → Type 0) (m n : Machine) (moves : List Move) (id : Wr
 quiet_on P m n moves id all moved none = opened_on P m n moves id (no_more P moves all) moved none
 
 -- the records of a node
-abbrev records_of : NodeState → List Record
+abbrev pub records_of : NodeState → List Record
 records_of (up durable staged) = durable ++ staged
 records_of down = []
 records_of (refused e) = []

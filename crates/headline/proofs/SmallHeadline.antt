@@ -171,26 +171,26 @@ module _ {D : Type 0} (state : D → State) (honest : D → Type 0) (moment : D 
           (All-nil (IsToldOver state honest 7 1 (devices_at old (four old)) empty_machine)) is_opened (All-nil IsWholeStep) (refl, refl)
 
 -- A small device: it is what the laws see of it. Honest is one that reads as a stop may leave it, and at its longest; and no time passes at it.
-abbrev itself : State → State
+abbrev pub itself : State → State
 itself s = s
 
 pub record IsHonest (s : State) : Type 0 where
   pub reads_left : s.stopped ≡ false → left s s.seen
   pub reads_longest : s.stopped ≡ false → reach s.written (length s.durable) ≤ length s.seen
 
-abbrev at_once : State → ℕ
+abbrev pub at_once : State → ℕ
 at_once s = 0
 
-abbrev left_now : State → ℕ → List ℕ → Type 0
+abbrev pub left_now : State → ℕ → List ℕ → Type 0
 left_now s t c = left s c
 
-abbrev unmade : State
+abbrev pub unmade : State
 unmade = record { seen = []; durable = []; written = []; stopped = false; failures = 0 }
 
 abbrev failed_once : State
 failed_once = record { seen = []; durable = []; written = []; stopped = true; failures = 1 }
 
-unmade_honest : IsHonest unmade
+pub unmade_honest : IsHonest unmade
 unmade_honest = record { reads_left = λ up. record { no_shorter = omega arith; no_longer = omega arith; same = λ i lt none. refl }; reads_longest = λ up. omega arith }
 
 failed_honest : IsHonest failed_once

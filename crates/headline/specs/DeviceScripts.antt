@@ -7,16 +7,21 @@ use Rattle.names.specs.declared.node_name.NodeName.{NodeName}
 use Rattle.cluster.specs.Nodes.{IsSetIn}
 use Rattle.cluster.specs.Worlds.{WorldView, node_at}
 use Rattle.turns.specs.Moments.{Moment}
-use Rattle.turns.specs.Stores.{NamesHorizon, StandsOver, Store}
+use Rattle.laws.specs.Nodes as laws
+use Rattle.records.specs.declared.record.Record.{Record}
+use Rattle.turns.specs.Stores.{NamesHorizon, StandsOver, Store, stops}
 use Rattle.headline.specs.Shown.{Shows}
 
--- A store that shows the world behind the script, and stands for each moment that the store before it stands for. No horizon is named that was not.
+-- A store that shows the world behind the script, and stands for each moment that the store before it stands for. No horizon is named that was not, and a
+-- stop leaves of each node nothing that it could not leave before.
 pub record StandsAsBefore {D : Type 0} (state : D → State) (honest : D → Type 0) (old : WorldView D) (s : Store D) (new : WorldView D) : Type 0 where
   pub later : Store D
   pub shows : Shows new later
   pub stands : (now : Moment) → StandsOver state honest old.store old.shards s now → StandsOver state honest old.store old.shards later now
   pub named : (now : Moment) (x : ℕ) → StandsOver state honest old.store old.shards s now → NamesHorizon state honest old.store old.shards later now x
       → NamesHorizon state honest old.store old.shards s now x
+  pub leaves : (now : Moment) (n : laws.NodeName) (found : List Record) → StandsOver state honest old.store old.shards s now → stops state honest old.store old.shards later.devices n found
+      → stops state honest old.store old.shards s.devices n found
 
 -- Given what it is to be set to fail, what a device holds and whether it is honest, how often a stop may have come at it, and what a stop since then may
 -- have left

@@ -4,5 +4,6 @@ pub mod Promised
 pub mod DeviceScripts
 pub mod Acts
 pub mod Headline
-pub mod ManyLives
 pub mod PastWrites
+pub mod ManyLives
+pub mod PastLives

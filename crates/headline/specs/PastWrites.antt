@@ -3,8 +3,11 @@ use Rattle.std.specs.Prelude.{◌≡◌, ◌≢◌, ℕ, true, List, [], ◌∷�
 use Rattle.tuples.specs.declared.entry.WriteId.{WriteId}
 use Rattle.refusal.specs.declared.refusal.Refusal.{Refusal}
 use Rattle.refusal.specs.declared.refusal.Refusal.TheVariants.{Unsure}
+use Rattle.decisions.specs.Standing.{IsGivenOut}
 use Rattle.device.specs.Device.{State}
 use Rattle.laws.specs.LogLaws.{IsUnlisted}
+use Rattle.laws.specs.Machines.{Machine}
+use Rattle.laws.specs.Nodes.{NodeName, coordinator}
 use Rattle.turns.specs.Flows.{id_of}
 use Rattle.turns.specs.Held.{WasGiven}
 use Rattle.turns.specs.Moments.{Moment, Running, flow_at}
@@ -20,6 +23,12 @@ module _ {D : Type 0} (state : D → State) (honest : D → Type 0) (moment : D 
     pub given : WasGiven shards (stops state honest store shards s.devices) now.nodes id
     pub unlisted : IsUnlisted id now.machine.log
     pub unheld : (r : Running) → Contains now.running r → id_of r.holds ≢ Some id
+
+  -- Of devices that rest: an id that was given out, in an epoch that every stop leaves, and that the log lists at no place. The next opening is of a later
+  -- epoch, so no other write gets the id.
+  pub record IsPastOver (devices : NodeName → D × D) (m : Machine) (id : WriteId) : Type 0 where
+    pub given : IsGivenOut (stops state honest store shards devices coordinator) id
+    pub unlisted : IsUnlisted id m.log
 
   -- a write that ends with a refusal, and is not Unsure, is past
   abbrev pub RefusedWritesArePast : Type 0

@@ -3,6 +3,7 @@ ghost use Rattle.std.specs.Prelude.{ℕ};
 ghost use Rattle.headline.specs.Acts.{ActedHeadline};
 ghost use Rattle.headline.specs.Headline.{Headline};
 ghost use Rattle.headline.specs.ManyLives.{ManyLives};
+ghost use Rattle.headline.specs.PastLives.{PastWritesOutlive};
 ghost use Rattle.headline.specs.PastWrites.{
   CancelledWritesArePast,
   PastWritesAreNeverListed,
@@ -34,7 +35,8 @@ pub fn acted_headline<D: Device>()
     ensures { (store shards : ℕ) → ActedHeadline D.set_to_fail D.state D.honest D.moment D.left_since store shards }
 {}
 
-/// Many lives, each opened over what the one before left, and closed, or stopped at any moment of its opening or of a step, are one list of moves.
+/// Many lives, each opened over what the one before left, and closed, or stopped at any moment of its opening or of a step, are one list of moves. A
+/// write that came to nothing before them is listed at no place behind them, and no write of them has its id.
 pub fn many_lives<D: Device>()
     ensures { (store shards : ℕ) → ManyLives D.set_to_fail D.state D.honest D.moment D.left_since store shards }
 {}
@@ -46,4 +48,10 @@ pub fn refused_writes_are_never_listed<D: Device>()
     ensures cancelled { (store shards : ℕ) → CancelledWritesArePast D.state D.honest D.moment D.left_since store shards }
     ensures stay { (store shards : ℕ) → PastWritesStay D.state D.honest D.moment D.left_since store shards }
     ensures ever { (store shards : ℕ) → PastWritesAreNeverListed D.state D.honest D.moment D.left_since store shards }
+{}
+
+/// Nor is it in a later life: what is left of its own, with scripts set on devices, and closed, or stopped within a step, ends so that `many_lives` goes on
+/// from there.
+pub fn refused_writes_outlive_their_life<D: Device>()
+    ensures { PastWritesOutlive D.set_to_fail D.state D.honest D.moment D.left_since }
 {}

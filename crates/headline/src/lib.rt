@@ -12,8 +12,8 @@ mod opening_laws;
 mod step_laws;
 
 pub use headline_laws::{
-    acted_headline, headline, many_lives, refused_writes_are_never_listed, runs_keep_their_promise,
-    steps_keep_their_promise,
+    acted_headline, headline, many_lives, refused_writes_are_never_listed,
+    refused_writes_outlive_their_life, runs_keep_their_promise, steps_keep_their_promise,
 };
 pub use opening_laws::{openings_keep, refused_openings_hand_back, restarts_keep};
 pub use step_laws::{cancels_keep, scripts_keep, starts_keep, turns_keep};
