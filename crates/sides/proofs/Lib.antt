@@ -1,1 +1,2 @@
 pub mod ShardCalls
+pub mod ShardReads

@@ -7,6 +7,9 @@
 //! No program uses this yet. Start at `specs/Sides.antt`, and then `ShardSide`.
 #![tactic(auto)]
 
+mod learning;
+mod preparing;
+mod reading;
 mod room;
 mod shard_side;
 
