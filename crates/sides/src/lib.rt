@@ -10,6 +10,7 @@
 mod learning;
 mod preparing;
 mod reading;
+mod reopening;
 mod room;
 mod shard_side;
 
