@@ -1,1 +1,3 @@
 pub mod ShardCalls
+pub mod ShardReads
+pub mod Openings

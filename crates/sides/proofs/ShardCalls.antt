@@ -1,30 +1,48 @@
 -- The calls of a shard under its lock leave it tied.
-use Rattle.std.proofs.Common.{◌≡◌, ◌≤◌, ℕ, Bool, true, false, List, Result, Option, Some, None, Ok, Err, length, refl, sym, subst, ap}
+use Rattle.std.proofs.Common.{◌≡◌, ◌≤◌, ◌+◌, ⊎_elim, inl, inr, ◌⊎◌, zero, suc, ℕ, Bool, true, false, List, [], ◌∷◌, ◌++◌, length, take, drop, Result, Option, Some, None, Ok, Err, refl, sym, ◌∙◌, subst, ap, arith}
+use Rattle.std.proofs.lemmas.List.{length-take, take-append-le}
+use mathlib.Core.List.{IsPrefix}
 use Rattle.refusal.specs.declared.refusal.Refusal.{Refusal}
 use Rattle.tuples.specs.declared.entry.Entry.{Entry}
-use Rattle.tuples.specs.declared.tupleset.Tupleset.{Tupleset}
-use Rattle.device.specs.Device.{State}
+use Rattle.device.specs.Device.{State, left}
+use Rattle.decisions.specs.Values.{BatchValue, HeadsValue, IntentValue, TicketValue, VerdictValue}
 use Rattle.published.specs.Known.{Known}
 use Rattle.shard.specs.Shards.{ShardView}
-use Rattle.shard.specs.declared.replies.ReadReply.{ReadReply}
-use Rattle.shard.specs.declared.replies.ReadReply.TheVariants.{Rows, Behind}
 use Rattle.calls.specs.declared.call.NodeCall.TheVariants.{Shard}
 use Rattle.calls.specs.declared.call.ShardCall.{ShardCall}
-use Rattle.calls.specs.declared.call.ShardCall.TheVariants.{Read}
+use Rattle.calls.specs.declared.call.ShardCall.TheVariants.{Learned, Learn, StagePrepare, Vote, DropWrite, InDoubt, Read, ReadForCheck, Settle, Collect, Flush}
 use Rattle.calls.specs.declared.reply.Reply.{Reply}
 use Rattle.calls.specs.declared.reply.Reply.TheVariants.{Shard as from_shard}
 use Rattle.calls.specs.declared.reply.ShardReply.{ShardReply}
 use Rattle.calls.specs.declared.reply.ShardReply.TheVariants as told_by
-use Rattle.calls.specs.Asking.{Answered, MayAsk, MayAskShard, Refuses, ShardAnswers}
-use Rattle.calls.specs.ShardAnswers.{ReadAnswers}
+use Rattle.calls.specs.Asking.{Answered, MayAsk, MayAskShard, ShardAnswers}
+use Rattle.calls.specs.ShardAnswers.{CollectAnswers, DropAnswers, FlushAnswers, LearnAnswers, PrepareAnswers}
 use Rattle.calls.specs.Views.{NodeView, coordinator, shard, refused}
+use Rattle.laws.specs.ShardLaws.{AreOfLog}
 use Rattle.ties.specs.ShardTies.{IsOpenedShardTied, IsShardTied}
-use Rattle.ties.proofs.ShardOpening.{longer_lists_stay_tied, reads_are_seen}
-use Rattle.sides.specs.Sides.{AnsweredIn, IsLater, IsTiedIn, MayAskIn, TellsRows}
+use Rattle.ties.specs.TellingLaws.{IsBatchOf}
+use Rattle.ties.proofs.ShardCalls.{collections_stay_tied, drops_stay_tied, learnings_stay_tied, prepares_stay_tied, shard_flushes_stay_tied}
+use Rattle.ties.proofs.ShardOpening.{failed_shard_flushes_stay_tied, longer_lists_stay_tied, shard_tied_up_is_tied}
+use Rattle.sides.specs.Sides.{AnsweredIn, IsLater, IsTiedIn, MayAskIn}
 
-is_up : (b : Bool) → (b ≡ true → ⊥) → b ≡ false
+pub is_up : (b : Bool) → (b ≡ true → ⊥) → b ≡ false
 is_up false down = refl
 is_up true down = absurd (down refl)
+
+up_or_down : (b : Bool) → (b ≡ false) ⊎ (b ≡ true)
+up_or_down false = inl refl
+up_or_down true = inr refl
+
+stretch_longer : (seen more : List Entry) (from : ℕ) (writes : List Entry) → AreOfLog seen from writes → AreOfLog (seen ++ more) from writes
+stretch_longer seen more zero writes of_list =
+    of_list ∙ sym (take-append-le (length writes) seen more (omega (arith, ap length of_list, length-take (length writes) seen)))
+stretch_longer [] more (suc from) [] of_list = refl
+stretch_longer [] more (suc from) (w ∷ writes) of_list = absurd (cc of_list)
+stretch_longer (x ∷ seen) more (suc from) writes of_list = stretch_longer seen more from writes of_list
+
+-- a batch of a list is one of each longer list
+pub batch_longer : (seen longer : List Entry) (b : BatchValue) → IsPrefix seen longer → IsBatchOf seen b → IsBatchOf longer b
+batch_longer seen longer b pre is = record { of_list = subst (λ (l : List Entry). AreOfLog l b.from b.writes) pre.1 (stretch_longer seen pre.0 b.from b.writes is.of_list); whole = is.whole }
 
 module _ {D : Type 0} (state : D → State) (honest : D → Type 0) (store shards s : ℕ) where
   -- a pass that knows more is as good
@@ -42,50 +60,127 @@ module _ {D : Type 0} (state : D → State) (honest : D → Type 0) (store shard
   may_ask (Some node) pass call tied may = may_ask_node node pass.seen pass.horizon call tied may
   may_ask None pass call tied may = absurd tied
 
+  -- Given a shard before and after a call
+  module _ (old new : ShardView D) (seen : List Entry) (low : ℕ) (tied : IsOpenedShardTied state honest store shards s old seen low) where
+    unchanged : new ≡ old → IsOpenedShardTied state honest store shards s new seen low
+    unchanged same = subst (λ (v : ShardView D). IsOpenedShardTied state honest store shards s v seen low) (sym same) tied
+
+    learned : (b : BatchValue) (r : Result Bool Refusal) → IsBatchOf seen b → LearnAnswers state honest old b r new → IsOpenedShardTied state honest store shards s new seen low
+    learned b (Ok is_known) of_list a =
+        let up = tied.up (is_up old.is_down (λ down. cc (a.down.1 down))) in
+        shard_tied_up_is_tied state honest store shards s new seen low (learnings_stay_tied state honest store shards s old new b is_known seen low up of_list (a.ok up.up)).0
+    learned b (Err e) of_list a = unchanged a.err.0
+
+    prepared : (intent : IntentValue) (r : Result TicketValue Refusal) → PrepareAnswers state honest old intent r new → IsOpenedShardTied state honest store shards s new seen low
+    prepared intent (Ok t) a =
+        let up = tied.up (is_up old.is_down (λ down. cc (a.down.1 down))) in
+        shard_tied_up_is_tied state honest store shards s new seen low (prepares_stay_tied state honest store shards s old new intent.write t seen low up (a.ok up.up))
+    prepared intent (Err e) a = unchanged a.err.0
+
+    dropped : (verdict : VerdictValue) (r : Result (Unit {0}) Refusal) → DropAnswers state honest old verdict r new → IsOpenedShardTied state honest store shards s new seen low
+    dropped verdict (Ok done) a =
+        let up = tied.up (is_up old.is_down (λ down. cc (a.down.1 down))) in
+        shard_tied_up_is_tied state honest store shards s new seen low (drops_stay_tied state honest store shards s old new verdict.id seen low up (a.drops up.up))
+    dropped verdict (Err e) a = unchanged a.err.1
+
+    collected : (heads : HeadsValue) (r : Result (Unit {0}) Refusal) → heads.horizon ≤ low → CollectAnswers state honest old heads r new → IsOpenedShardTied state honest store shards s new seen low
+    collected heads (Ok done) le a =
+        let up = tied.up (is_up old.is_down (λ down. cc (a.down.1 down))) in
+        shard_tied_up_is_tied state honest store shards s new seen low (collections_stay_tied state honest store shards s old new heads.horizon seen low up le (a.ok up.up))
+    collected heads (Err e) le a = unchanged a.err.0
+
+    flushed : (moment : D → ℕ) (left_since : D → ℕ → List ℕ → Type 0) → ((d : D) (t : ℕ) (c : List ℕ) → honest d → t ≤ moment d → left (state d) c → left_since d t c)
+        → (r : Result (Unit {0}) Refusal) → FlushAnswers state honest moment left_since old r new → IsOpenedShardTied state honest store shards s new seen low
+    flushed moment left_since counts_now (Ok done) a =
+        let up = tied.up (is_up old.is_down (λ down. cc (a.down down))) in
+        shard_tied_up_is_tied state honest store shards s new seen low (shard_flushes_stay_tied state honest store shards s old new seen low up (a.ok up.up) a.me)
+    flushed moment left_since counts_now (Err e) a = ⊎_elim
+        (λ is_up.
+        let up = tied.up is_up in
+        failed_shard_flushes_stay_tied state honest moment left_since counts_now store shards s old new seen low up a.me (a.still_honest.0.0 up.up.honest_a) (a.still_honest.1.0 up.up.honest_b) a.err.1 (a.any_moment up.up))
+        (λ is_down. unchanged (a.quiet (inl is_down)))
+        (up_or_down old.is_down)
+
+-- a call that changes nothing
+abbrev pub IsQuiet : ShardCall → Type 0
+IsQuiet (Learn b) = ⊥
+IsQuiet (StagePrepare intent) = ⊥
+IsQuiet (DropWrite verdict held) = ⊥
+IsQuiet (Collect heads) = ⊥
+IsQuiet Flush = ⊥
+IsQuiet call = Unit {0}
+
 -- Given also what a device tells of the moments of a call
 module _ {D : Type 0} (state : D → State) (honest : D → Type 0) (moment : D → ℕ) (left_since : D → ℕ → List ℕ → Type 0) (store shards s : ℕ) where
-  shard_reads : (old new : ShardView D) (place : ℕ) (set : Tupleset) (reply : ShardReply) → ShardAnswers state honest moment left_since old (Read place set) reply new → shard new ≡ shard old
-  shard_reads old new place set (told_by.Read back r) a = ap shard a.0
-  shard_reads old new place set reply a = absurd a
+  abbrev Keeps : ShardCall → Known Entry → Type 0
+  Keeps call pass = (old new : ShardView D) (reply : ShardReply) → IsOpenedShardTied state honest store shards s old pass.seen pass.horizon → ShardAnswers state honest moment left_since old call reply new
+      → IsOpenedShardTied state honest store shards s new pass.seen pass.horizon
 
-  reads : (old : NodeView D) (place : ℕ) (set : Tupleset) (reply : Reply) (new : NodeView D) → Answered state honest moment left_since old (Shard s (Read place set)) reply new → new ≡ old
-  reads (shard old) place set (from_shard reply) (shard new) a = shard_reads old new place set reply a
-  reads (refused e x y) place set reply new a = a.0
-  reads old place set reply new a = absurd a
+  node_stays : (call : ShardCall) (pass : Known Entry) → Keeps call pass → (old : NodeView D) (reply : Reply) (new : NodeView D) → IsShardTied state honest store shards s old pass.seen pass.horizon
+      → Answered state honest moment left_since old (Shard s call) reply new → IsShardTied state honest store shards s new pass.seen pass.horizon
+  node_stays call pass keeps (shard old) (from_shard reply) (shard new) tied a = keeps old new reply tied a
+  node_stays call pass keeps (refused e x y) reply new tied a = subst (λ (n : NodeView D). IsShardTied state honest store shards s n pass.seen pass.horizon) (sym a.0) tied
+  node_stays call pass keeps old reply new tied a = absurd a
 
-  -- a read changes nothing
-  pub read_stays : (old new : Option (NodeView D)) (pass : Known Entry) (place : ℕ) (set : Tupleset) (reply : Reply) → IsTiedIn state honest store shards s old pass
-      → AnsweredIn state honest moment left_since s old (Read place set) reply new → IsTiedIn state honest store shards s new pass
-  read_stays (Some old) (Some new) pass place set reply tied a = subst (λ (n : NodeView D). IsShardTied state honest store shards s n pass.seen pass.horizon) (sym (reads old place set reply new a)) tied
-  read_stays old new pass place set reply tied a = absurd a
+  -- what leaves the shard tied leaves what lies under the lock tied
+  abbrev Stays : ShardCall → Known Entry → Type 0
+  Stays call pass = (old new : Option (NodeView D)) (reply : Reply) → IsTiedIn state honest store shards s old pass → AnsweredIn state honest moment left_since s old call reply new
+      → IsTiedIn state honest store shards s new pass
 
-  rows_of_shard : (old : ShardView D) (seen : List Entry) (low place : ℕ) (set back : Tupleset) (r : Result ReadReply Refusal) → IsOpenedShardTied state honest store shards s old seen low
-      → ReadAnswers state honest old place set r → TellsRows shards s seen place set (from_shard (told_by.Read back r))
-  rows_of_shard old seen low place set back (Ok (Rows rows)) tied a =
-      let up = tied.up (is_up old.is_down (λ down. cc (a.down.1 down))) in
-      reads_are_seen state honest store shards s old place set rows.items seen low up (a.rows rows up.up refl)
-  rows_of_shard old seen low place set back (Ok Behind) tied a = tt
-  rows_of_shard old seen low place set back (Err e) tied a = tt
+  stays : (call : ShardCall) (pass : Known Entry) → Keeps call pass → Stays call pass
+  stays call pass keeps (Some old) (Some new) reply tied a = node_stays call pass keeps old reply new tied a
+  stays call pass keeps old new reply tied a = absurd a
 
-  rows_of_refused : (e : Refusal) (seen : List Entry) (place : ℕ) (set : Tupleset) (reply : Reply) → Refuses e (Shard s (Read place set)) reply → TellsRows shards s seen place set reply
-  rows_of_refused e seen place set (from_shard (told_by.Read back (Ok (Rows rows)))) h = absurd (cc (h.1))
-  rows_of_refused e seen place set (from_shard (told_by.Read back (Ok Behind))) h = tt
-  rows_of_refused e seen place set (from_shard (told_by.Read back (Err f))) h = tt
-  rows_of_refused e seen place set reply h = absurd h
+  same_shard : (old new : ShardView D) (call : ShardCall) (reply : ShardReply) → IsQuiet call → ShardAnswers state honest moment left_since old call reply new → new ≡ old
+  same_shard old new (Learn b) reply quiet a = absurd quiet
+  same_shard old new (StagePrepare intent) reply quiet a = absurd quiet
+  same_shard old new (DropWrite verdict held) reply quiet a = absurd quiet
+  same_shard old new (Collect heads) reply quiet a = absurd quiet
+  same_shard old new Flush reply quiet a = absurd quiet
+  same_shard old new Learned (told_by.Learned r) quiet a = a.0
+  same_shard old new (Vote ticket) (told_by.Vote r) quiet a = a.0
+  same_shard old new InDoubt (told_by.InDoubt r) quiet a = a.0
+  same_shard old new (Read place set) (told_by.Read back r) quiet a = a.0
+  same_shard old new (ReadForCheck place x u) (told_by.ReadForCheck back_x back_u r) quiet a = a.0
+  same_shard old new Settle (told_by.Settle r) quiet a = a.0
+  same_shard old new call reply quiet a = absurd a
 
-  rows_by_shard : (old new : ShardView D) (seen : List Entry) (low place : ℕ) (set : Tupleset) (reply : ShardReply) → IsOpenedShardTied state honest store shards s old seen low
-      → ShardAnswers state honest moment left_since old (Read place set) reply new → TellsRows shards s seen place set (from_shard reply)
-  rows_by_shard old new seen low place set (told_by.Read back r) tied a = rows_of_shard old seen low place set back r tied a.2
-  rows_by_shard old new seen low place set reply tied a = absurd a
+  pub quiet_stays : (call : ShardCall) (pass : Known Entry) → IsQuiet call → Stays call pass
+  quiet_stays call pass quiet = stays call pass (λ old new reply tied a. subst (λ (v : ShardView D). IsOpenedShardTied state honest store shards s v pass.seen pass.horizon) (sym (same_shard old new call reply quiet a)) tied)
 
-  told_rows : (old : NodeView D) (seen : List Entry) (low place : ℕ) (set : Tupleset) (reply : Reply) (new : NodeView D) → IsShardTied state honest store shards s old seen low
-      → Answered state honest moment left_since old (Shard s (Read place set)) reply new → TellsRows shards s seen place set reply
-  told_rows (shard old) seen low place set (from_shard reply) (shard new) tied a = rows_by_shard old new seen low place set reply tied a
-  told_rows (refused e x y) seen low place set reply new tied a = rows_of_refused e seen place set reply a.1
-  told_rows old seen low place set reply new tied a = absurd a
+  keeps_learn : (b : BatchValue) (pass : Known Entry) → IsBatchOf pass.seen b → Keeps (Learn b) pass
+  keeps_learn b pass of_list old new (told_by.Learn back r) tied a = learned state honest store shards s old new pass.seen pass.horizon tied b r of_list a.1
+  keeps_learn b pass of_list old new reply tied a = absurd a
 
-  -- what is read is of the list
-  pub rows_are_told : (old new : Option (NodeView D)) (pass : Known Entry) (place : ℕ) (set : Tupleset) (reply : Reply) → IsTiedIn state honest store shards s old pass
-      → AnsweredIn state honest moment left_since s old (Read place set) reply new → TellsRows shards s pass.seen place set reply
-  rows_are_told (Some old) (Some new) pass place set reply tied a = told_rows old pass.seen pass.horizon place set reply new tied a
-  rows_are_told old new pass place set reply tied a = absurd a
+  pub learn_stays : (b : BatchValue) (pass : Known Entry) → IsBatchOf pass.seen b → Stays (Learn b) pass
+  learn_stays b pass of_list = stays (Learn b) pass (keeps_learn b pass of_list)
+
+  keeps_prepare : (intent : IntentValue) (pass : Known Entry) → Keeps (StagePrepare intent) pass
+  keeps_prepare intent pass old new (told_by.StagePrepare back r) tied a = prepared state honest store shards s old new pass.seen pass.horizon tied intent r a.1
+  keeps_prepare intent pass old new reply tied a = absurd a
+
+  pub prepare_stays : (intent : IntentValue) (pass : Known Entry) → Stays (StagePrepare intent) pass
+  prepare_stays intent pass = stays (StagePrepare intent) pass (keeps_prepare intent pass)
+
+  keeps_drop : (verdict : VerdictValue) (held : _) (pass : Known Entry) → Keeps (DropWrite verdict held) pass
+  keeps_drop verdict held pass old new (told_by.DropWrite back r) tied a = dropped state honest store shards s old new pass.seen pass.horizon tied verdict r a.1
+  keeps_drop verdict held pass old new reply tied a = absurd a
+
+  pub drop_stays : (verdict : VerdictValue) (held : _) (pass : Known Entry) → Stays (DropWrite verdict held) pass
+  drop_stays verdict held pass = stays (DropWrite verdict held) pass (keeps_drop verdict held pass)
+
+  keeps_collect : (heads : HeadsValue) (pass : Known Entry) → heads.horizon ≤ pass.horizon → Keeps (Collect heads) pass
+  keeps_collect heads pass le old new (told_by.Collect back r) tied a = collected state honest store shards s old new pass.seen pass.horizon tied heads r le a.1
+  keeps_collect heads pass le old new reply tied a = absurd a
+
+  pub collect_stays : (heads : HeadsValue) (pass : Known Entry) → heads.horizon ≤ pass.horizon → Stays (Collect heads) pass
+  collect_stays heads pass le = stays (Collect heads) pass (keeps_collect heads pass le)
+
+  -- Given that what a stop may leave now is among what it may leave since an earlier moment
+  module _ (counts_now : (d : D) (t : ℕ) (c : List ℕ) → honest d → t ≤ moment d → left (state d) c → left_since d t c) where
+    keeps_flush : (pass : Known Entry) → Keeps Flush pass
+    keeps_flush pass old new (told_by.Flush r) tied a = flushed state honest store shards s old new pass.seen pass.horizon tied moment left_since counts_now r a
+    keeps_flush pass old new reply tied a = absurd a
+
+    pub flush_stays : (pass : Known Entry) → Stays Flush pass
+    flush_stays pass = stays Flush pass (keeps_flush pass)

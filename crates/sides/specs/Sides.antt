@@ -3,8 +3,11 @@ use Rattle.std.specs.Prelude.{◌≡◌, ◌≤◌, ℕ, List, [], length, Optio
 use mathlib.Core.List.{IsPrefix}
 use Rattle.atomic_table.specs.Seated.{TableId}
 use Rattle.tuples.specs.declared.entry.Entry.{Entry}
+use Rattle.tuples.specs.declared.object.Userset.{Userset}
+use Rattle.tuples.specs.declared.user.User.{User}
 use Rattle.tuples.specs.declared.tupleset.Tupleset.{Tupleset}
 use Rattle.tuples.specs.Reads.{IsSelection}
+use Rattle.tuples.specs.Walking.{IsCheckSelection}
 use Rattle.device.specs.Device.{State}
 use Rattle.published.specs.Known.{Known}
 use Rattle.shard.specs.declared.replies.ReadReply.TheVariants.{Rows}
@@ -66,3 +69,8 @@ module _ {D : Type 0} (state : D → State) (honest : D → Type 0) (moment : D 
 abbrev pub TellsRows : ℕ → ℕ → List Entry → ℕ → Tupleset → Reply → Type 0
 TellsRows shards s seen place set (from_shard (told_by.Read back (Ok (Rows rows)))) = (place ≤ length seen) × IsSelection (there_of shards s seen place) set rows.items
 TellsRows shards s seen place set reply = Unit {0}
+
+-- and so is what a check asks of a userset, about a user
+abbrev pub TellsCheckRows : ℕ → ℕ → List Entry → ℕ → Userset → User → Reply → Type 0
+TellsCheckRows shards s seen place x u (from_shard (told_by.ReadForCheck back_x back_u (Ok (Rows rows)))) = (place ≤ length seen) × IsCheckSelection (there_of shards s seen place) x u rows.items
+TellsCheckRows shards s seen place x u reply = Unit {0}

@@ -7,6 +7,10 @@
 //! No program uses this yet. Start at `specs/Sides.antt`, and then `ShardSide`.
 #![tactic(auto)]
 
+mod learning;
+mod preparing;
+mod reading;
+mod reopening;
 mod room;
 mod shard_side;
 

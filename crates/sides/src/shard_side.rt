@@ -3,38 +3,43 @@ ghost use Rattle.std.specs.Prelude.{◌≡◌};
 ghost use Rattle.calls.specs.Belonging.{IsReplyTo};
 ghost use Rattle.calls.specs.Refusing.{Notes};
 ghost use Rattle.calls.specs.declared.call.NodeCall.TheVariants.{Shard as of_shard};
-ghost use Rattle.calls.specs.declared.call.ShardCall.TheVariants.{Read as read_call};
-ghost use Rattle.sides.specs.Sides.{AnsweredIn, IsTiedIn, KnowsBoth, MayAskIn, SideAnswers, TellsRows};
+ghost use Rattle.sides.specs.Sides.{AnsweredIn, IsTiedIn, KnowsBoth, MayAskIn};
 
 use crate::Room;
 use calls::{Node, NodeCall, Reply, ShardCall, Told, ask};
 use device::Device;
 use published::{Published, SessionPass};
+use records::Identity;
 use std::marker::{Model, PhantomData};
-use tuples::{Entry, Tupleset};
+use tuples::Entry;
 
 /// A shard, and the pass of what it has seen of its store's list.
+///
+/// Each call of the node is a call here, and leaves it tied to the list. One that needs or tells a fact of the list takes the caller's pass, and
+/// shares first: the shard may then know no less than its caller, and the caller no less than the shard.
 #[derive(Drop)]
 pub struct ShardSide<D: Device, B: Room> {
     // away only while it is opened again
-    node: Option<Node<D>>,
-    number: u8,
-    pass: SessionPass<Entry>,
-    room: PhantomData<B>,
+    pub(crate) node: Option<Node<D>>,
+    pub(crate) me: Identity,
+    pub(crate) pass: SessionPass<Entry>,
+    pub(crate) room: PhantomData<B>,
 }
 
 impl<D: Device, B: Room> Model for ShardSide<D, B> {
     ghost use Rattle.std.specs.Prelude.{◌≡◌, ◌<◌};
+    ghost use Rattle.laws.specs.Worlds.{shard_node};
     ghost use Rattle.sides.specs.Sides.{IsTiedIn, Side};
 
     ghost Value = { Side D };
 
-    ghost view = { λ s. record { node = s.node; number = s.number; pass = s.pass } };
+    ghost view = { λ s. record { node = s.node; number = s.me.node; pass = s.pass } };
 
-    ghost invariant = { λ s. (s.pass.table ≡ B.log) × (s.number < B.shards) × IsTiedIn D.state D.honest B.store B.shards s.number s.node s.pass };
+    ghost invariant = { λ s. (s.pass.table ≡ B.log) × (s.me ≡ shard_node B.store B.shards s.me.node) × (s.me.node < B.shards) × IsTiedIn D.state D.honest B.store B.shards s.me.node s.node s.pass };
 }
 
-fn ask_shard<D: Device>(
+// Makes the one call, of the node, which is there.
+pub(crate) fn ask_shard<D: Device>(
     node: &mut Option<Node<D>>,
     number: u8,
     call: ShardCall,
@@ -52,6 +57,13 @@ fn ask_shard<D: Device>(
 }
 
 impl<D: Device, B: Room> ShardSide<D, B> {
+    /// Its number among the shards.
+    pub fn number(&self) -> u8
+        ensures { result ≡ self.now.number }
+    {
+        self.me.node()
+    }
+
     /// The shard's pass and the caller's both know what either knew.
     pub fn share(&mut self, words: &Published<Entry>, pass: &mut SessionPass<Entry>)
         requires own { (words.now ≡ B.log) × (pass.old.table ≡ B.log) }
@@ -63,30 +75,5 @@ impl<D: Device, B: Room> ShardSide<D, B> {
         ensures tied { IsTiedIn D.state D.honest B.store B.shards self.new.number self.new.node pass.new }
     {
         words.share(&mut self.pass, pass);
-    }
-
-    /// The tuples of a tupleset at a place.
-    pub fn read(
-        &mut self,
-        words: &Published<Entry>,
-        pass: &mut SessionPass<Entry>,
-        told: &mut Told,
-        place: u64,
-        set: Tupleset,
-    ) -> Reply
-        requires own { (words.now ≡ B.log) × (pass.old.table ≡ B.log) }
-        ensures answers { SideAnswers D.state D.honest D.moment D.left_since self.old (read_call place set) result self.new }
-        ensures own { KnowsBoth self.old.pass pass.old self.new.pass }
-        ensures caller { KnowsBoth self.old.pass pass.old pass.new }
-        ensures rows { TellsRows B.shards self.old.number pass.new.seen place set result }
-        ensures told { Notes told.old result told.new }
-    {
-        self.share(words, pass);
-        ask_shard(
-            &mut self.node,
-            self.number,
-            ShardCall::Read(place, set),
-            told,
-        )
     }
 }

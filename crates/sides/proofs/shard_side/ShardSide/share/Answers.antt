@@ -6,11 +6,12 @@ pub invariant_of-self : goal.invariant_of-self
 invariant_of-self g c = let inv = c.self.invariant in let e = c.share.ensures in (
   e.same.0 ∙ inv.0,
   inv.1,
-  later_is_tied g.D.Device.state g.D.Device.honest g.B.Room.store g.B.Room.shards c.self.inside.number c.self.inside.node c.self.inside.pass c.share.new.one inv.2
+  inv.2,
+  later_is_tied g.D.Device.state g.D.Device.honest g.B.Room.store g.B.Room.shards c.self.inside.me.node c.self.inside.node c.self.inside.pass c.share.new.one inv.3
       (record { table = e.same.0; seen = e.one.0; horizon = omega (arith, e.horizon.0) }),
 )
 
 pub returns-clause-tied : goal.returns-clause-tied
 returns-clause-tied g c = let inv = c.self.invariant in let e = c.share.ensures in
-    later_is_tied g.D.Device.state g.D.Device.honest g.B.Room.store g.B.Room.shards c.self.inside.number c.self.inside.node c.self.inside.pass c.share.new.other inv.2
+    later_is_tied g.D.Device.state g.D.Device.honest g.B.Room.store g.B.Room.shards c.self.inside.me.node c.self.inside.node c.self.inside.pass c.share.new.other inv.3
     (record { table = e.same.1 ∙ c.requires.own.1 ∙ sym inv.0; seen = e.other.0; horizon = omega (arith, e.horizon.1) })
