@@ -1,3 +1,4 @@
 pub mod ShardCalls
 pub mod ShardReads
 pub mod Openings
+pub mod CoordinatorSides

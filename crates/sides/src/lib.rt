@@ -2,11 +2,16 @@
 //!
 //! Keeps: the node is tied to the list of writes that the pass beside it has seen, whatever was called.
 //! Never: takes a lock, waits, or tells of a write that the caller's pass has not seen.
-//! Callers rely on: what a pass had seen it sees behind each call, and rows that are told are of the list that it has seen then.
+//! Callers rely on: what a pass had seen it sees behind each call, rows that are told are of the list that it has seen then, and a write that is
+//! answered with its place stands in the list there, above all that the caller had seen.
 //!
-//! No program uses this yet. Start at `specs/Sides.antt`, and then `ShardSide`.
+//! No program uses this yet. Start at `specs/Sides.antt`, and then `ShardSide`; at `specs/CoordinatorSides.antt`, and then `CoordinatorSide`.
 #![tactic(auto)]
 
+mod coordinator_side;
+mod decision;
+mod joining;
+mod keeping;
 mod learning;
 mod preparing;
 mod reading;
@@ -14,5 +19,7 @@ mod reopening;
 mod room;
 mod shard_side;
 
+pub use coordinator_side::CoordinatorSide;
+pub use decision::Decision;
 pub use room::Room;
 pub use shard_side::ShardSide;

@@ -13,7 +13,7 @@ use Rattle.journal.specs.Records.{LeavesBoth, found}
 use Rattle.decisions.specs.Coordinators.{CoordinatorView, IsOpenedCoordinator, WasLeftOrReopened, coordinator_opening, kept_of, memory_of}
 use Rattle.calls.specs.Opening.{CoordinatorComesUp}
 use Rattle.laws.specs.Worlds.{coordinator_node}
-use Rattle.ties.specs.Ties.{Anywhere, AreListed, AreOf, AreOutside, AreStaged, Attempt, IsLonger, IsTiedUp, behind}
+use Rattle.ties.specs.Ties.{Anywhere, AreListed, AreOf, AreOutside, AreStaged, Attempt, IsLonger, IsOpenedTied, IsTiedUp, behind}
 use Rattle.ties.specs.JoiningLaws.{FailedFlushesStayTied, Joins, OpeningsStayTied, RefusedOpeningsStayTied, TiedUpIsTied}
 use Rattle.ties.proofs.Decided.{staged_whole, state_of_more}
 use Rattle.ties.proofs.Lists.{get_front}
@@ -211,3 +211,40 @@ module _ {D : Type 0} (state : D → State) (honest : D → Type 0) (moment : D 
   pub refused_openings_stay_tied : RefusedOpeningsStayTied state honest moment left_since store shards
   refused_openings_stay_tied a b x y e seen low tried was reads_a reads_b stays =
       left_anywhere a b seen low tried was reads_a reads_b x y (stays.still_honest.0.0 was.honest_a) (stays.still_honest.1.0 was.honest_b) (stays.any_moment was.honest_a was.honest_b)
+
+-- Given what a device holds and whether it is honest: attempts of which nobody waits to hear need not be known
+module _ {D : Type 0} (state : D → State) (honest : D → Type 0) where
+  longer_untried : (seen : List Entry) (low : ℕ) (tried : List Attempt) (s : CoordinatorState) → IsLonger seen low tried s → IsLonger seen low [] s
+  longer_untried seen low tried s longer = record {
+    more = longer.more;
+    are = longer.are;
+    listed = longer.listed;
+    raised = longer.raised;
+    within = longer.within;
+    past = λ j x none. absurd cc;
+  }
+
+  pub up_untried : (v : CoordinatorView D) (seen : List Entry) (low : ℕ) (tried : List Attempt) → IsTiedUp state honest v seen low tried → IsTiedUp state honest v seen low []
+  up_untried v seen low tried tied = record {
+    running = tied.running;
+    kept = tied.kept;
+    whole = tied.whole;
+    horizon = tied.horizon;
+    staged = tied.staged;
+    more = tied.more;
+    all = tied.all;
+    listed = tied.listed;
+    outside = tied.outside;
+    attempts = λ j x none. absurd cc;
+  }
+
+  pub untried : (store shards : ℕ) (v : CoordinatorView D) (seen : List Entry) (low : ℕ) (tried : List Attempt) → IsOpenedTied state honest store shards v seen low tried → IsOpenedTied state honest store shards v seen low []
+  untried store shards v seen low tried tied = record {
+    up = λ up. up_untried v seen low tried (tied.up up);
+    anywhere = record {
+      honest_a = tied.anywhere.honest_a;
+      honest_b = tied.anywhere.honest_b;
+      each = λ rs finds. longer_untried seen low tried (coordinator_state rs) (tied.anywhere.each rs finds);
+    };
+    me = tied.me;
+  }
