@@ -8,6 +8,7 @@ use Rattle.tuples.specs.Order.{tuple_eq}
 use Rattle.tuples.specs.Parts.{shard_of}
 use Rattle.tuples.specs.Versions.{collected, is_touch, of_shard, superseded}
 use Rattle.tuples.proofs.Same.{tuple_same}
+use Rattle.laws.proofs.WriteConditions.{or_left, or_right}
 
 -- the second is a later version of the first one's tuple, at or below the horizon
 abbrev follows : ℕ → Version → Version → Bool
@@ -25,13 +26,6 @@ three false b c is = absurd cc
 
 from_three : (a b c : Bool) → a ≡ true → b ≡ true → c ≡ true → (a && b && c) ≡ true
 from_three a b c x y z = rw x (rw y z)
-
-or_right : (a b : Bool) → b ≡ true → (a || b) ≡ true
-or_right true b is = refl
-or_right false b is = is
-
-or_left : (a b : Bool) → a ≡ true → (a || b) ≡ true
-or_left a b is = rw is refl
 
 -- what a version is followed by stays below a higher horizon too
 higher : (h g : ℕ) (v : Version) → h ≤ g → (rows : List Version) → superseded h v rows ≡ true → superseded g v rows ≡ true
