@@ -1,5 +1,6 @@
 -- Small turns of a read: it asks the heads of a coordinator whose opening was refused, and ends with that refusal. And turns of it that are none.
 use Rattle.std.proofs.Common.{◌≡◌, ◌≢◌, ◌≤◌, ℕ, zero, suc, Bool, true, false, List, [], ◌∷◌, length, Option, Err, Some, None, MatchOption, if◌then◌else◌, refl, sym, ap, subst, arith}
+use Rattle.std.proofs.lemmas.Option.{none-some}
 use Rattle.refusal.specs.declared.refusal.Refusal.TheVariants.{Down}
 use Rattle.tuples.specs.declared.tupleset.Tupleset.{Tupleset}
 use Rattle.records.specs.declared.record.Record.{Record}
@@ -125,11 +126,8 @@ module _ {D : Type 0} (state : D → State) (honest : D → Type 0) (moment : D 
   two_slots (suc (suc t)) = None
 
   took_another_flow : (after : ReadView) → ReadTurns state honest moment left_since 7 1 (record before { flows = two_slots }) behind 0 (fresh sets) after → ⊥
-  took_another_flow after turn = none_is_some (turn.turns.others 1 one_is_not)
+  took_another_flow after turn = none-some _ (turn.turns.others 1 one_is_not)
     where
-      none_is_some : {X : Type 0} {x : X} → None ≡ Some x → ⊥
-      none_is_some is = cc
-
       one_is_not : ◌≡◌ {A = ℕ} 1 0 → ⊥
       one_is_not is = omega (arith, is)
 

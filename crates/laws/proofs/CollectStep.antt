@@ -15,7 +15,7 @@ abbrev follows : ℕ → Version → Version → Bool
 follows h v u = tuple_eq (tuple_of v.change) (tuple_of u.change) && nat_lt v.place u.place && nat_le u.place h
 
 -- a version stays under the horizon, among these rows
-abbrev stays : ℕ → List Version → Version → Bool
+abbrev pub stays : ℕ → List Version → Version → Bool
 stays h rows v = nat_lt h v.place || (is_touch v.change && not (superseded h v rows))
 
 three : (a b c : Bool) → (a && b && c) ≡ true → (a ≡ true) × (b ≡ true) × (c ≡ true)

@@ -1,5 +1,5 @@
 -- What is kept under a horizon shows each snapshot from the horizon on.
-use Rattle.std.proofs.Common.{◌≡◌, ◌⊎◌, inl, inr, ⊎_elim, ℕ, zero, suc, Bool, true, false, true≢false, not, ◌&&◌, ◌||◌, nat_lt, nat_le, ◌<◌, ◌≤◌, ◌+◌, List, [], ◌∷◌, ◌++◌, map, filter, take, Some, slice_get, refl, sym, ◌∙◌, ap, subst, arith, append_assoc, if◌then◌else◌}
+use Rattle.std.proofs.Common.{◌≡◌, ◌⊎◌, inl, inr, ⊎_elim, ℕ, zero, suc, Bool, true, false, true≢false, ◌&&◌, ◌||◌, nat_lt, nat_le, ◌<◌, ◌≤◌, ◌+◌, List, [], ◌∷◌, ◌++◌, filter, take, Some, slice_get, refl, sym, ◌∙◌, ap, subst, arith, append_assoc, if◌then◌else◌}
 use Rattle.std.proofs.lemmas.Bool.{cases_Bool, lt-ltb, lt-leb, le-leb, le-ltb, ltb-true, ltb-false}
 use Rattle.tuples.specs.declared.change.Change.{Change}
 use Rattle.tuples.specs.declared.change.Change.TheVariants.{Touch, Delete}
@@ -12,7 +12,8 @@ use Rattle.tuples.specs.Order.{tuple_eq}
 use Rattle.tuples.specs.Versions.{changes_from, collected, is_touch, placed, superseded, there_at, versions}
 use Rattle.tuples.proofs.Same.{tuple_same}
 use Rattle.laws.specs.Worlds.{IsLog}
-use Rattle.laws.proofs.Snapshots.{there_at-changes}
+use Rattle.laws.proofs.CollectStep.{stays}
+use Rattle.laws.proofs.Snapshots.{changes_of, there_at-changes}
 
 -- a version of the tuple
 abbrev is_of : Tuple → Version → Bool
@@ -42,12 +43,6 @@ Free h t before (v ∷ rows) = (is_of t v ≡ true → superseded h v before ≡
 abbrev walk : Tuple → Bool → (Version → Bool) → List Version → Bool
 walk t b test [] = b
 walk t b test (v ∷ rows) = walk t (if test v then (if is_of t v then is_touch v.change else b) else b) test rows
-
-abbrev stays : ℕ → List Version → Version → Bool
-stays h all v = nat_lt h v.place || (is_touch v.change && not (superseded h v all))
-
-abbrev changes_of : List Version → List Change
-changes_of = map (λ (v : Version). v.change)
 
 -- one change more
 one_more : (t : Tuple) (b : Bool) (c : Change) (changes : List Change) → there_after t b (c ∷ changes) ≡ there_after t (if tuple_eq t (tuple_of c) then is_touch c else b) changes

@@ -16,7 +16,7 @@ use Rattle.laws.proofs.Rows.{above_changes, kept_all}
 abbrev at_or_below : ℕ → Version → Bool
 at_or_below s v = nat_le v.place s
 
-abbrev changes_of : List Version → List Change
+abbrev pub changes_of : List Version → List Change
 changes_of = map (λ (v : Version). v.change)
 
 map-append : (xs ys : List Version) → changes_of (xs ++ ys) ≡ changes_of xs ++ changes_of ys
