@@ -1,13 +1,8 @@
 -- Rows that are collected again under a higher horizon, and the rows of one shard.
 use Rattle.std.proofs.Common.{◌≡◌, ◌⊎◌, inl, inr, ⊎_elim, ℕ, Bool, true, false, not, ◌<◌, ◌≤◌, ◌==◌, ◌&&◌, ◌||◌, nat_lt, nat_le, cond, List, [], ◌∷◌, filter, refl, sym, ◌∙◌, ap, arith}
 use Rattle.std.proofs.lemmas.Bool.{cases_Bool, lt-ltb, le-leb, ltb-true, leb-true, leb-false, or_cases, both_ways}
-use Rattle.tuples.specs.declared.tuple.Tuple.{Tuple}
-use Rattle.tuples.specs.declared.version.Version.{Version}
-use Rattle.tuples.specs.Changes.{tuple_of}
-use Rattle.tuples.specs.Order.{tuple_eq}
-use Rattle.tuples.specs.Parts.{shard_of}
-use Rattle.tuples.specs.Versions.{collected, is_touch, of_shard, superseded}
-use Rattle.tuples.proofs.Same.{tuple_same}
+use Rattle.laws.proofs.Words.{Tuple, Version, is_touch, of_shard, shard_of, superseded, tuple_eq, tuple_of, tuple_same}
+use Rattle.tuples.specs.Versions.{collected}
 use Rattle.laws.proofs.WriteConditions.{or_left, or_right}
 
 -- the second is a later version of the first one's tuple, at or below the horizon

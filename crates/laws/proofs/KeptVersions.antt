@@ -1,17 +1,9 @@
 -- What is kept under a horizon shows each snapshot from the horizon on.
 use Rattle.std.proofs.Common.{◌≡◌, ◌⊎◌, inl, inr, ⊎_elim, ℕ, zero, suc, Bool, true, false, true≢false, ◌&&◌, ◌||◌, nat_lt, nat_le, ◌<◌, ◌≤◌, ◌+◌, List, [], ◌∷◌, ◌++◌, filter, take, Some, slice_get, refl, sym, ◌∙◌, ap, subst, arith, append_assoc, if◌then◌else◌}
 use Rattle.std.proofs.lemmas.Bool.{cases_Bool, lt-ltb, lt-leb, le-leb, le-ltb, ltb-true, ltb-false}
-use Rattle.tuples.specs.declared.change.Change.{Change}
-use Rattle.tuples.specs.declared.change.Change.TheVariants.{Touch, Delete}
-use Rattle.tuples.specs.declared.entry.Entry.{Entry}
-use Rattle.tuples.specs.declared.tuple.Tuple.{Tuple}
-use Rattle.tuples.specs.declared.version.Version.{Version}
-use Rattle.tuples.specs.Changes.{AreDistinct, IsWrite, changed, has_tuple, tuple_of}
-use Rattle.tuples.specs.Log.{is_at, there_after}
-use Rattle.tuples.specs.Order.{tuple_eq}
-use Rattle.tuples.specs.Versions.{changes_from, collected, is_touch, placed, superseded, there_at, versions}
-use Rattle.tuples.proofs.Same.{tuple_same}
-use Rattle.laws.specs.Worlds.{IsLog}
+use Rattle.laws.proofs.Words.{Change, Delete, Entry, IsLog, IsWrite, Touch, Tuple, Version, changed, changes_from, has_tuple, is_at, is_touch, placed, superseded, there_after, tuple_eq, tuple_of, tuple_same}
+use Rattle.tuples.specs.Changes.{AreDistinct}
+use Rattle.tuples.specs.Versions.{collected, there_at, versions}
 use Rattle.laws.proofs.CollectStep.{stays}
 use Rattle.laws.proofs.Snapshots.{changes_of, there_at-changes}
 

@@ -5,20 +5,14 @@ use Rattle.std.proofs.lemmas.List.{length-take-le, length-take}
 use Rattle.std.proofs.lemmas.List.Elements.{filter-append}
 use Rattle.std.proofs.Math.Seq.{take-add}
 use Rattle.std.proofs.lemmas.Option.{slice_get_within}
-use Rattle.laws.specs.Shards.{ShardMeans}
-use Rattle.records.specs.Replays.{ShardState, shard_step, learned_rows, find_in_doubt}
-use Rattle.shard.specs.Shards.{placed_ids_from}
-use Rattle.tuples.specs.Log.{AreNew}
+use Rattle.laws.proofs.Words.{AreNew, Entry, Learned, ShardMeans, ShardState, Version, WriteId, alike_refl, alike_same, alike_trans, changes_from, collected, find_in_doubt, learned_rows, none_stays, of_shard, placed_ids_from}
+use Rattle.records.specs.Replays.{shard_step}
 use Rattle.tuples.specs.Parts.{takes_part, expected}
-use Rattle.tuples.specs.Versions.{changes_from, of_shard, collected, versions}
-use Rattle.tuples.specs.declared.entry.Entry.{Entry}
-use Rattle.tuples.specs.declared.entry.WriteId.{WriteId}
-use Rattle.tuples.specs.declared.version.Version.{Version}
+use Rattle.tuples.specs.Versions.{versions}
 use Rattle.records.specs.declared.record.PlacedId.{PlacedId}
-use Rattle.records.specs.declared.record.Record.TheVariants.{Learned}
-use Rattle.replay.proofs.Doubts.{HasPlacedId, none_stays, find_learned, find_not_learned}
+use Rattle.replay.proofs.Doubts.{HasPlacedId, find_learned, find_not_learned}
 use Rattle.laws.proofs.Rows.{collected-append, changes_from-append, above_changes, rows_of_segment}
-use Rattle.versions.proofs.Alike.{alike_refl, alike_same, alike_trans, append_alike}
+use Rattle.versions.proofs.Alike.{append_alike}
 use Rattle.versions.specs.Alike.{AreAlike}
 
 pub slice_get_drop : {X : Type 0} (p : ℕ) (xs : List X) (j : ℕ) → slice_get (drop p xs) j ≡ slice_get xs (p + j)

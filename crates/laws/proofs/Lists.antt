@@ -1,7 +1,6 @@
 -- Lists with one more element, and their first ones.
 use Rattle.std.proofs.Common.{◌≡◌, ℕ, zero, suc, List, [], ◌∷◌, take, Some, slice_get}
-use Rattle.tuples.specs.declared.entry.Entry.{Entry}
-use Rattle.tuples.specs.Log.{AreNew}
+use Rattle.laws.proofs.Words.{AreNew, Entry}
 pub use Rattle.holds.proofs.Apart.{slice_get_push}
 
 -- an element of the first ones is one of the list

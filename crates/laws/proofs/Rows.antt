@@ -2,15 +2,9 @@
 use Rattle.std.proofs.Common.{◌≡◌, ⊎_elim, ℕ, zero, suc, Bool, true, false, not, ◌+◌, ◌<◌, ◌==◌, ◌&&◌, ◌||◌, nat_lt, nat_le, List, [], ◌∷◌, ◌++◌, map, filter, length, Some, slice_get, refl, sym, ◌∙◌, ap, arith, cond, append_assoc, add-zero}
 use Rattle.std.proofs.lemmas.Bool.{cases_Bool, lt-ltb, lt-leb, not-false, eqb-true}
 use Rattle.std.proofs.lemmas.List.Elements.{filter-append}
-use Rattle.records.specs.Replays.{learned_rows, find_in_doubt}
-use Rattle.shard.specs.Shards.{placed_ids_from}
-use Rattle.tuples.specs.Changes.{tuple_of}
-use Rattle.tuples.specs.Order.{tuple_eq}
-use Rattle.tuples.specs.Parts.{part, takes_part, expected, shard_of}
-use Rattle.tuples.specs.Versions.{changes_from, of_shard, collected, superseded, is_touch}
-use Rattle.tuples.specs.declared.change.Change.{Change}
-use Rattle.tuples.specs.declared.entry.Entry.{Entry}
-use Rattle.tuples.specs.declared.version.Version.{Version}
+use Rattle.laws.proofs.Words.{Change, Entry, Version, changes_from, find_in_doubt, is_touch, learned_rows, of_shard, placed_ids_from, shard_of, superseded, tuple_eq, tuple_of}
+use Rattle.tuples.specs.Parts.{part, takes_part, expected}
+use Rattle.tuples.specs.Versions.{collected}
 
 pub filter_same : {X : Type 0} (p q : X → Bool) (xs : List X) → ((x : X) → p x ≡ q x) → filter p xs ≡ filter q xs
 filter_same p q [] same = refl

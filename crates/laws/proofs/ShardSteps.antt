@@ -2,26 +2,19 @@
 use Rattle.std.proofs.Common.{◌≡◌, ⊎_elim, ℕ, ◌+◌, ◌-◌, ◌<◌, ◌≤◌, List, [], ◌∷◌, ◌++◌, length, take, drop, Option, Some, None, refl, sym, ◌∙◌, ap, subst, arith}
 use Rattle.std.proofs.lemmas.List.{drop-drop, drop-take, length-take-le, take-take}
 use Rattle.std.proofs.lemmas.Bool.{cases_lt}
-use Rattle.tuples.specs.declared.entry.Entry.{Entry}
-use Rattle.tuples.specs.declared.entry.WriteId.{WriteId}
-use Rattle.tuples.specs.Versions.{changes_from, collected, of_shard, versions}
-use Rattle.records.specs.declared.record.Record.{Record}
-use Rattle.records.specs.declared.record.Record.TheVariants.{Prepare, Learned, Dropped, Epoch, Horizon}
-use Rattle.records.specs.Coordinators.{CoordinatorState, coordinator_state}
-use Rattle.records.specs.Replays.{IsShardImage, MayCollect, MayDrop, ShardState, find_in_doubt, shard_state, shard_step, Identity}
-use Rattle.replay.proofs.Doubts.{cases_id, find_push, none_stays, none_without}
+use Rattle.laws.proofs.Words.{AreGivenInDoubt, AreNew, CoordinatorState, Dropped, Entry, Epoch, Horizon, IsMeaning, IsShardImage, IsUnlisted, Learned, Prepare, Record, ShardMeans, ShardState, WriteId, alike_same, alike_trans, changes_from, collected, coordinator_state, find_in_doubt, find_push, none_stays, of_shard, placed_ids_from, shard_node, shard_state}
+use Rattle.tuples.specs.Versions.{versions}
+use Rattle.records.specs.Replays.{MayCollect, MayDrop, shard_step, Identity}
+use Rattle.replay.proofs.Doubts.{cases_id, none_without}
 use Rattle.replay.proofs.States.{image_last, shard_push}
-use Rattle.shard.specs.Shards.{learning, placed_ids_from}
-use Rattle.laws.specs.LogLaws.{IsUnlisted}
-use Rattle.laws.specs.Shards.{ShardMeans}
-use Rattle.laws.specs.Worlds.{AreGivenInDoubt, IsMeaning, Rests, shard_node}
+use Rattle.shard.specs.Shards.{learning}
+use Rattle.laws.specs.Worlds.{Rests}
 use Rattle.laws.specs.ShardLaws.{AreOfLog, CollectsRest, DropsRest, IsShardStep, LearnsRest, PreparesRest, ShardOpeningsRest, IsUnlistedAbove}
 use Rattle.laws.proofs.Lists.{new_taken, slice_get_taken}
 use Rattle.laws.proofs.PrepareStep.{dropped_means, prepared_means}
 use Rattle.laws.proofs.LearnStep.{learned_means}
 use Rattle.laws.proofs.CollectStep.{collected_again, collected_own}
-use Rattle.versions.proofs.Alike.{alike_same, alike_trans, collected_alike}
-use Rattle.tuples.specs.Log.{AreNew}
+use Rattle.versions.proofs.Alike.{collected_alike}
 
 -- the longer list means what its last record makes of the rest
 pushed : (store shards s : ℕ) (log : List Entry) (h : ℕ) (c : CoordinatorState) (records : List Record) (r : Record) → IsShardImage (shard_node store shards s) (records ++ r ∷ [])
