@@ -1,23 +1,12 @@
 -- Where a turn leads a flow that answers a request: it goes on, answers, or is refused.
 use Rattle.std.proofs.Common.{◌≡◌, ◌≢◌, inl, ℕ, false, List, [], ◌∷◌, Some, None, All, Contains, refl, sym, subst}
 use Rattle.tuples.specs.declared.entry.WriteId.{WriteId}
-use Rattle.refusal.specs.declared.refusal.Refusal.{Refusal}
-use Rattle.refusal.specs.declared.refusal.Refusal.TheVariants.{NoMemory, Unsure}
-use Rattle.device.specs.Device.{State}
-use Rattle.laws.specs.Machines.{Machine}
-use Rattle.laws.specs.Nodes.{NodeName, Nodes}
-use Rattle.turns.specs.Causes.{Calls, HasItsCause, TakesMemory}
-use Rattle.turns.specs.Flows.{Asked, Holds}
-use Rattle.turns.specs.Held.{IsRight, IsRightVerdict}
-use Rattle.turns.specs.Moments.{Moment, Running, is_write}
-use Rattle.turns.specs.QuietTurns.{behind_call, ending, with_call}
+use Rattle.answer_turns.proofs.Words.{Asked, Calls, FailsQuietly, HasItsCause, Holds, IsQuietlyMade, IsRight, Machine, Moment, NoMemory, NodeName, Nodes, Refusal, Running, SlotTurns, StandsOver, State, Store, TakesMemory, TurnRuns, Unsure, answered, behind_call, ending, fails_with, goes, held_on, refused_by, refuses, runs, shown_answer, stops, the_flow, with_call}
+use Rattle.turns.specs.Held.{IsRightVerdict}
+use Rattle.turns.specs.Moments.{is_write}
 use Rattle.turns.specs.Replies.{Agrees, Answer}
-use Rattle.turns.specs.Runs.{Told, answered, goes_on, refuses, told_by}
-use Rattle.turns.specs.Stores.{StandsOver, Store, stops}
-use Rattle.call_turns.specs.StoreTurns.{SlotTurns, TurnRuns}
-use Rattle.call_turns.proofs.Made.{FailsQuietly, IsQuietlyMade}
-use Rattle.call_turns.proofs.Turned.{answers, fails_with, goes, held_on, refused_by, runs, the_flow}
-use Rattle.answer_turns.specs.AnswerTurns.{shown_answer}
+use Rattle.turns.specs.Runs.{Told, goes_on, told_by}
+use Rattle.call_turns.proofs.Turned.{answers}
 
 module _ {D : Type 0} (state : D → State) (honest : D → Type 0) (moment : D → ℕ) (left_since : D → ℕ → List ℕ → Type 0) (store shards : ℕ) (old new : Store D) (slot : ℕ)
     (asked : Asked) (no_write : is_write asked ≡ false) (holds : Holds) where

@@ -3,65 +3,29 @@ use Rattle.std.proofs.Common.{◌≡◌, ◌≢◌, ⊎_elim, inl, ◌≤◌, �
 use Rattle.std.proofs.lemmas.Bool.{cases_lt}
 use Rattle.std.proofs.lemmas.List.Elements.{All-nil}
 use Rattle.std.proofs.lemmas.Option.{same_Some}
-use Rattle.refusal.specs.declared.refusal.Refusal.{Refusal}
-use Rattle.refusal.specs.declared.refusal.Refusal.TheVariants.{Collected, Future, NoMemory, Unsure}
-use Rattle.device.specs.Device.{State, left}
-use Rattle.tuples.specs.declared.tuple.Tuple.{Tuple}
-use Rattle.tuples.specs.declared.tupleset.Tupleset.{Tupleset}
+use Rattle.answer_turns.proofs.Words.{Answered, AreRightHeads, Asked, AsksAbove, AsksBelow, BatchValue, Behind, Calls, CallsShard, CatchUpComes, Collected, FitsItsTypes, Freshness, Future, GivesTo, HasItsCause, HeadsValue, Holds, IfHeld, IsCalled, IsCatchingUp, IsQuietlyMade, IsRightBatch, LetsLearn, Machine, Moment, Next, NoMemory, NodeCall, NodeName, NodeView, Nodes, Progress, ReadReply, ReadView, Record, Refusal, Reply, Rows, Running, SlotTurns, StandsOver, State, Store, There, Tuple, Tupleset, TurnRuns, Unsure, all_kept, at_rest, batch_of, behind_call, called, calls_on, coordinator, coordinator_flushed, ended, ending, from_coordinator, from_shard, heads, heads_call, heads_have_cause, heads_of, heads_told, is_refused, knows, left, memory, of_coordinator, of_shard, places_are_found, read_tells, reading, right_heads, shard, shown_answer, some_coordinator, still_of, stops, waiting, with_call}
 use Rattle.tuples.specs.declared.tupleset.Tupleset.TheVariants.{Key, OfObject, OfUser}
 use Rattle.tuples.specs.Reads.{AreAscending, IsSelection}
-use Rattle.records.specs.declared.record.Record.{Record}
-use Rattle.decisions.specs.Coordinators.{heads_of}
-use Rattle.decisions.specs.Flows.{Freshness, ReadHolds, nothing_read}
+use Rattle.decisions.specs.Flows.{ReadHolds, nothing_read}
 use Rattle.decisions.specs.Merging.{IsMerged, NeedsOnly}
-use Rattle.decisions.specs.Values.{BatchValue, HeadsValue}
-use Rattle.shard.specs.Shards.{memory}
-use Rattle.shard.specs.declared.replies.ReadReply.{ReadReply}
-use Rattle.shard.specs.declared.replies.ReadReply.TheVariants.{Rows, Behind}
-use Rattle.calls.specs.Asking.{Answered}
 use Rattle.calls.specs.Belonging.{IsReplyTo}
-use Rattle.calls.specs.Views.{NodeView}
-use Rattle.calls.specs.declared.call.NodeCall.{NodeCall}
-use Rattle.calls.specs.declared.call.NodeCall.TheVariants.{Coordinator as of_coordinator, Shard as of_shard}
 use Rattle.calls.specs.declared.call.CoordinatorCall.TheVariants as calls
 use Rattle.calls.specs.declared.call.ShardCall.TheVariants as shard_calls
-use Rattle.calls.specs.declared.reply.Reply.{Reply}
-use Rattle.calls.specs.declared.reply.Reply.TheVariants.{Coordinator as from_coordinator, Shard as from_shard}
 use Rattle.calls.specs.declared.reply.CoordinatorReply.TheVariants as told
 use Rattle.calls.specs.declared.reply.ShardReply.TheVariants as told_by
-use Rattle.catch_up.specs.declared.caught.Progress.{Progress}
-use Rattle.catch_up.specs.declared.caught.Progress.TheVariants.{Next, There, Refused as is_refused}
 use Rattle.answer_flow.specs.Finding as finding
-use Rattle.answer_flow.specs.Reading.{AsksFor, CatchUpGives, CatchesUp, Continues, Finishes, FlushGives, GivesTo, HeadsGive, Merges, ProgressGives, ReadGives, RowsGive}
-use Rattle.answer_flow.specs.ReadViews.{ReadStep, ReadView, at_rest, catch_up, catch_up_call, ended, flush, flush_call, heads, heads_call, read, read_call, refused, shard_for, waiting}
-use Rattle.laws.specs.Machines.{Machine}
-use Rattle.laws.specs.Nodes.{NodeName, Nodes, coordinator, shard}
-use Rattle.turns.specs.Causes.{Calls, CallsShard, HasItsCause, LetsLearn, Needs}
-use Rattle.turns.specs.CoordinatorSeamLaws.{AsksAbove, AsksBelow}
-use Rattle.turns.specs.FlushLaws.{all_kept}
-use Rattle.turns.specs.Flows.{Asked, Holds, reading, to_read}
-use Rattle.turns.specs.Held.{AreRightHeads, IfHeld, IsRightBatch, IsRightRead}
-use Rattle.turns.specs.Moments.{Moment, Running}
-use Rattle.turns.specs.QuietTurns.{batch_of, behind_call, ending, with_call}
+use Rattle.answer_flow.specs.Reading.{AsksFor, CatchUpGives, CatchesUp, Continues, Finishes, FlushGives, HeadsGive, Merges, ProgressGives, ReadGives, RowsGive}
+use Rattle.answer_flow.specs.ReadViews.{ReadStep, catch_up, catch_up_call, flush, flush_call, read, read_call, refused, shard_for}
+use Rattle.turns.specs.Causes.{Needs}
+use Rattle.turns.specs.Flows.{to_read}
+use Rattle.turns.specs.Held.{IsRightRead}
 use Rattle.turns.specs.ReadingLaws.{IsReading, there_of}
 use Rattle.turns.specs.Replies.{selected as selected_answer}
-use Rattle.turns.specs.Stores.{StandsOver, Store, stops}
-use Rattle.turns.proofs.CoordinatorCalls.{heads_have_cause, places_are_found, right_heads}
 use Rattle.turns.proofs.ReadAnswer.{all_replies_select, one_shard_is_enough, reads_answer, reads_ask_all_of, reads_begin, reads_finish, reads_go_on_all}
-use Rattle.turns.proofs.QuietTurns.{calls_on}
 use Rattle.turns.proofs.ShardReadSeam.{refused_reads_have_cause}
-use Rattle.turns.proofs.ShardSeam.{knows}
-use Rattle.call_turns.specs.StoreCalls.{FitsItsTypes, IsCalled, called}
-use Rattle.call_turns.specs.StoreTurns.{SlotTurns, TurnRuns}
-use Rattle.call_turns.proofs.Asked.{heads_told}
 use Rattle.call_turns.proofs.Belongs.{belongs_to}
-use Rattle.call_turns.proofs.CaughtUp.{CatchUpComes, IsCatchingUp}
-use Rattle.call_turns.proofs.Flushed.{coordinator_flushed}
-use Rattle.call_turns.proofs.Made.{IsQuietlyMade, still_of}
 use Rattle.call_turns.proofs.ReadTold.{read_told}
-use Rattle.call_turns.proofs.Standing.{some_coordinator}
-use Rattle.answer_turns.specs.AnswerTurns.{shown_answer}
-use Rattle.answer_turns.specs.ReadTurns.{ReadsTurn, read_in_slot, read_tells}
+use Rattle.answer_turns.specs.ReadTurns.{ReadsTurn, read_in_slot}
 use Rattle.answer_turns.proofs.Leads.{ComesRight, IsFlow, Quietly, RefusedQuietly, answers_to, fails_to, goes_to, held_now, lacks_memory, refuses_to}
 use Rattle.answer_turns.proofs.Places.{asks_above, asks_below, finds_place}
 use Rattle.answer_turns.proofs.Ways.{came, moved}

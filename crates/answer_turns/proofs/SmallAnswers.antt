@@ -2,29 +2,20 @@
 use Rattle.std.proofs.Common.{◌≡◌, ◌≢◌, ◌≤◌, ℕ, zero, suc, Bool, true, false, List, [], ◌∷◌, length, Option, Err, Some, None, MatchOption, if◌then◌else◌, refl, sym, ap, subst, arith}
 use Rattle.std.proofs.lemmas.Option.{none-some}
 use Rattle.refusal.specs.declared.refusal.Refusal.TheVariants.{Down}
-use Rattle.tuples.specs.declared.tupleset.Tupleset.{Tupleset}
-use Rattle.records.specs.declared.record.Record.{Record}
-use Rattle.device.specs.Device.{State}
+use Rattle.answer_turns.proofs.Words.{Answered, GivesTo, NodeCall, NodeView, ReadView, Record, Reply, State, Store, Tupleset, at_rest, called, coordinator, ended, from_coordinator, heads, heads_call, read_tells, reading, refuses, shown_answer, waiting}
 use Rattle.names.specs.declared.call_name.CallName.TheVariants as names
-use Rattle.calls.specs.Asking.{Answered}
 use Rattle.calls.specs.Views as views
-use Rattle.calls.specs.Views.{NodeView}
-use Rattle.calls.specs.declared.call.NodeCall.{NodeCall}
 use Rattle.calls.specs.declared.call.NodeCall.TheVariants.{Coordinator, Shard}
 use Rattle.calls.specs.declared.call.CoordinatorCall.TheVariants as calls
 use Rattle.calls.specs.declared.call.ShardCall.TheVariants as shard_calls
-use Rattle.calls.specs.declared.reply.Reply.{Reply}
-use Rattle.calls.specs.declared.reply.Reply.TheVariants.{Coordinator as from_coordinator}
 use Rattle.calls.specs.declared.reply.CoordinatorReply.TheVariants as told
-use Rattle.answer_flow.specs.Reading.{Asks, GivesTo}
-use Rattle.answer_flow.specs.ReadViews.{ReadAwaited, ReadEnding, ReadFlowValue, ReadView, at_rest, ended, heads, heads_call, refused as ended_refused, selected, waiting}
-use Rattle.laws.specs.Nodes.{coordinator, down, refused, up}
-use Rattle.turns.specs.Flows.{latest, nothing_read, reading}
-use Rattle.turns.specs.Runs.{refuses}
-use Rattle.turns.specs.Stores.{FlowView, Store}
-use Rattle.call_turns.specs.StoreCalls.{IsNode, called}
-use Rattle.answer_turns.specs.AnswerTurns.{shown_answer}
-use Rattle.answer_turns.specs.ReadTurns.{ReadTurns, read_of, read_tells}
+use Rattle.answer_flow.specs.Reading.{Asks}
+use Rattle.answer_flow.specs.ReadViews.{ReadAwaited, ReadEnding, ReadFlowValue, refused as ended_refused, selected}
+use Rattle.laws.specs.Nodes.{down, refused, up}
+use Rattle.turns.specs.Flows.{latest, nothing_read}
+use Rattle.turns.specs.Stores.{FlowView}
+use Rattle.call_turns.specs.StoreCalls.{IsNode}
+use Rattle.answer_turns.specs.ReadTurns.{ReadTurns, read_of}
 
 -- a read of these tuplesets at the latest place, in a store of one shard, before its first call, and with that call out
 abbrev fresh : List Tupleset → ReadFlowValue

@@ -1,46 +1,26 @@
 -- A watch takes its turn.
 use Rattle.std.proofs.Common.{◌≡◌, ◌≢◌, ⊎_elim, inl, ◌≤◌, ◌<◌, ◌+◌, ◌-◌, ℕ, List, [], ◌∷◌, length, Some, None, Result, Ok, Err, MatchOption, Contains, refl, sym, ◌∙◌, ap, subst, arith}
 use Rattle.std.proofs.lemmas.Option.{same_Some}
-use Rattle.refusal.specs.declared.refusal.Refusal.{Refusal}
-use Rattle.refusal.specs.declared.refusal.Refusal.TheVariants.{Collected, Future, NoMemory, Unsure}
-use Rattle.device.specs.Device.{State, left}
+use Rattle.answer_turns.proofs.Words.{Answered, AreRightHeads, Asked, AsksAbove, AsksBelow, BatchValue, Calls, Collected, FailsQuietly, Future, HasItsCause, HeadsValue, Holds, IsCalled, IsQuietlyMade, IsRight, Machine, Moment, NoMemory, NodeCall, NodeView, Nodes, Refusal, Reply, Running, SlotTurns, StandsOver, State, Store, TakesMemory, TurnRuns, Unsure, answered, behind_call, called, calls_on, coordinator, coordinator_flushed, ending, fails_with, from_coordinator, goes, heads_have_cause, heads_of, heads_told, held_on, left, of_coordinator, of_shard, refused_by, right_heads, runs, shown_answer, stops, the_flow, with_call}
 use Rattle.tuples.specs.Watching.{events_from}
-use Rattle.decisions.specs.Coordinators.{heads_of}
 use Rattle.decisions.specs.Flows.{HeadsHeld, no_heads}
-use Rattle.decisions.specs.Values.{BatchValue, HeadsValue}
-use Rattle.calls.specs.Asking.{Answered, MayBeMade}
-use Rattle.calls.specs.Views.{NodeView}
-use Rattle.calls.specs.declared.call.NodeCall.{NodeCall}
-use Rattle.calls.specs.declared.call.NodeCall.TheVariants.{Coordinator as of_coordinator, Shard as of_shard}
+use Rattle.calls.specs.Asking.{MayBeMade}
 use Rattle.calls.specs.declared.call.CoordinatorCall.{CoordinatorCall}
 use Rattle.calls.specs.declared.call.CoordinatorCall.TheVariants as calls
-use Rattle.calls.specs.declared.reply.Reply.{Reply}
-use Rattle.calls.specs.declared.reply.Reply.TheVariants.{Coordinator as from_coordinator}
 use Rattle.calls.specs.declared.reply.CoordinatorReply.TheVariants as told
 use Rattle.answer_flow.specs.Watching.{AsksFor, BatchGives, FlushGives, GivesTo, HeadsGive, heartbeat}
 use Rattle.answer_flow.specs.WatchViews.{WatchCall, WatchView, at_rest, batch, ended, flush, heads, listed, refused, waiting, with_heads}
-use Rattle.laws.specs.Machines.{Machine}
-use Rattle.laws.specs.Nodes.{Nodes, coordinator}
-use Rattle.turns.specs.Causes.{Calls, HasItsCause, TakesMemory}
-use Rattle.turns.specs.CoordinatorSeamLaws.{AsksAbove, AsksBelow}
-use Rattle.turns.specs.Flows.{Asked, Holds, most_watched, to_watch, watching}
-use Rattle.turns.specs.Held.{AreHeldHeads, AreRightHeads, IsRight}
-use Rattle.turns.specs.Moments.{Moment, Running}
-use Rattle.turns.specs.QuietTurns.{behind_call, ending, with_call}
+use Rattle.turns.specs.Flows.{most_watched, to_watch, watching}
+use Rattle.turns.specs.Held.{AreHeldHeads}
 use Rattle.turns.specs.Replies.{listed as listed_answer}
-use Rattle.turns.specs.Runs.{Turns, answered}
-use Rattle.turns.specs.Stores.{NamesHorizon, StandsOver, Store, stops}
+use Rattle.turns.specs.Runs.{Turns}
+use Rattle.turns.specs.Stores.{NamesHorizon}
 use Rattle.turns.proofs.AnswerTurns.{watches_end}
-use Rattle.turns.proofs.CoordinatorCalls.{batch_answers, batch_has_cause, heads_have_cause, horizon_is, right_heads}
+use Rattle.turns.proofs.CoordinatorCalls.{batch_answers, batch_has_cause, horizon_is}
 use Rattle.turns.proofs.SeesOn.{heads_on}
-use Rattle.turns.proofs.QuietTurns.{calls_on}
-use Rattle.call_turns.specs.StoreCalls.{IsCalled, called}
-use Rattle.call_turns.specs.StoreTurns.{SlotTurns, TurnRuns}
-use Rattle.call_turns.proofs.Asked.{BatchComes, batch_told, heads_told}
-use Rattle.call_turns.proofs.Flushed.{coordinator_flushed}
-use Rattle.call_turns.proofs.Made.{FailsQuietly, IsQuietlyMade}
-use Rattle.call_turns.proofs.Turned.{fails_with, goes, held_on, ran_ending, refused_by, runs, the_flow}
-use Rattle.answer_turns.specs.AnswerTurns.{WatchesTurn, shown_answer, watch_in_slot, watch_tells}
+use Rattle.call_turns.proofs.Asked.{BatchComes, batch_told}
+use Rattle.call_turns.proofs.Turned.{ran_ending}
+use Rattle.answer_turns.specs.AnswerTurns.{WatchesTurn, watch_in_slot, watch_tells}
 
 module _ {D : Type 0} (state : D → State) (honest : D → Type 0) (moment : D → ℕ) (left_since : D → ℕ → List ℕ → Type 0)
     (counts_now : (d : D) (t : ℕ) (c : List ℕ) → honest d → t ≤ moment d → left (state d) c → left_since d t c) (only_now : (d : D) (c : List ℕ) → honest d → left_since d (moment d) c → left (state d) c)
