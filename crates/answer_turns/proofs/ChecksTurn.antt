@@ -3,7 +3,7 @@ use Rattle.std.proofs.Common.{◌≡◌, ◌≢◌, ⊎_elim, inl, ◌≤◌, �
 use Rattle.std.proofs.lemmas.Bool.{cases_lt}
 use Rattle.std.proofs.lemmas.List.Elements.{All-nil}
 use Rattle.std.proofs.lemmas.Option.{same_Some}
-use Rattle.answer_turns.proofs.Words.{Answered, AreRightHeads, Asked, AsksAbove, AsksBelow, BatchValue, Behind, Calls, CallsShard, CatchUpComes, Collected, FitsItsTypes, Freshness, Future, HasItsCause, HeadsValue, IfHeld, IsCalled, IsCatchingUp, IsQuietlyMade, IsRightBatch, LetsLearn, Machine, Moment, Next, NoMemory, NodeCall, NodeName, NodeView, Nodes, Progress, ReadReply, Record, Refusal, Reply, Rows, Running, SlotTurns, StandsOver, State, Store, There, Tuple, TurnRuns, Unsure, all_kept, batch_of, behind_call, called, calls_on, contained_from, coordinator, coordinator_flushed, ending, from_coordinator, from_shard, heads_have_cause, heads_of, heads_told, is_refused, knows, left, memory, of_coordinator, of_shard, places_are_found, right_heads, shard, shown_answer, some_coordinator, still_of, stops, with_call}
+use Rattle.answer_turns.proofs.Words.{Answered, AreRightHeads, Asked, BatchValue, Behind, Calls, CallsShard, CatchUpComes, FitsItsTypes, Freshness, HeadsValue, IfHeld, IsCalled, IsCatchingUp, IsQuietlyMade, IsRightBatch, LetsLearn, Machine, Moment, Next, NoMemory, NodeCall, NodeName, NodeView, Nodes, Progress, ReadReply, Record, Refusal, Reply, Rows, Running, SlotTurns, StandsOver, State, Store, There, Tuple, TurnRuns, Unsure, all_kept, batch_of, behind_call, called, calls_on, contained_from, coordinator, coordinator_flushed, ending, from_coordinator, from_shard, heads_told, is_refused, knows, left, memory, of_coordinator, of_shard, places_are_found, right_heads, shard, shown_answer, some_coordinator, still_of, stops, with_call}
 use Rattle.refusal.specs.declared.refusal.Refusal.TheVariants.{Full}
 use Rattle.tuples.specs.declared.object.Userset.{Userset}
 use Rattle.tuples.specs.declared.user.User.{User}
@@ -29,7 +29,7 @@ use Rattle.turns.proofs.ShardCheckSeam.{refused_checks_have_cause}
 use Rattle.call_turns.proofs.ReadTold.{read_for_check_told}
 use Rattle.answer_turns.specs.CheckTurns.{ChecksTurn, check_in_slot, check_tells}
 use Rattle.answer_turns.proofs.TupleLists.{has_or_not}
-use Rattle.answer_turns.proofs.Leads.{ComesRight, IsFlow, Quietly, RefusedQuietly, answers_to, fails_to, goes_to, held_now, lacks_memory, refuses_to}
+use Rattle.answer_turns.proofs.Leads.{ComesRight, IsFlow, Quietly, RefusedQuietly, answers_to, fails_to, goes_to, held_now, lacks_memory, refuses_to, wants_collected, wants_future}
 use Rattle.answer_turns.proofs.Places.{asks_above, asks_below, finds_place}
 use Rattle.answer_turns.proofs.Ways.{came, moved}
 
@@ -121,7 +121,10 @@ module _ {D : Type 0} (state : D → State) (honest : D → Type 0) (moment : D 
       (λ later. subst Leads (sym later.1) (goes h flush (λ now standing r flow.
       let it = heads_told state honest moment left_since counts_now only_now store shards old new now standing was is (Ok v) c so in
       (now.nodes, now.machine, it.0, λ q k. k))))
-      (λ (e, why, is_so). subst Leads (sym is_so) (⊎_elim (λ future. refuses_future e future (why.future future)) (λ collected. refuses_collected e collected (why.collected collected)) why.one))
+      (λ (e, why, is_so). subst Leads (sym is_so) (⊎_elim
+      (λ future. wants_future state honest moment left_since store shards old new slot asked refl (checking h) counts_now only_now was is v c so (asks_above fresh v (why.future future)) e future)
+      (λ collected. wants_collected state honest moment left_since store shards old new slot asked refl (checking h) counts_now only_now was is v c so (asks_below fresh v (why.collected collected)) e collected)
+      why.one))
       rest)
       gives
     where
@@ -140,20 +143,6 @@ module _ {D : Type 0} (state : D → State) (honest : D → Type 0) (moment : D 
 
       none_walked : FullHasCause h
       none_walked many y waits now standing r flow n ran = absurd (let empty = (held now standing r flow).nothing nowhere in omega (arith, many, ap (λ (l : List Userset). length l) empty.0))
-
-      refuses_future : (e : Refusal) → e ≡ Future → finding.IsAbove fresh v → Leads (ended (refused e))
-      refuses_future e is_e above = refuses e (λ now standing r flow.
-          let it = heads_told state honest moment left_since counts_now only_now store shards old new now standing was is (Ok v) c so in
-          let law = heads_have_cause store shards (stops state honest store shards old.devices) D now (ending now now.nodes now.machine r []) it.1.0 r standing.stands it.1.1 in
-          let cause = law.0 (subst (λ (a : Asked). AsksAbove (heads_of it.1.0) a) (sym flow.asked_is) (subst (λ (y : HeadsValue). AsksAbove y asked) it.1.2 (asks_above fresh v above))) in
-          (now.nodes, now.machine, it.0, subst (λ (f : Refusal). HasItsCause shards it.0.0.node now (ending now now.nodes now.machine r []) r f × (f ≢ Unsure)) (sym is_e) (inl cause, λ same. cc)))
-
-      refuses_collected : (e : Refusal) → e ≡ Collected → finding.IsForgotten fresh v → Leads (ended (refused e))
-      refuses_collected e is_e below = refuses e (λ now standing r flow.
-          let it = heads_told state honest moment left_since counts_now only_now store shards old new now standing was is (Ok v) c so in
-          let law = heads_have_cause store shards (stops state honest store shards old.devices) D now (ending now now.nodes now.machine r []) it.1.0 r standing.stands it.1.1 in
-          let cause = law.1 (subst (λ (a : Asked). AsksBelow (heads_of it.1.0) a) (sym flow.asked_is) (subst (λ (y : HeadsValue). AsksBelow y asked) it.1.2 (asks_below fresh v below))) in
-          (now.nodes, now.machine, it.0, subst (λ (f : Refusal). HasItsCause shards it.0.0.node now (ending now now.nodes now.machine r []) r f × (f ≢ Unsure)) (sym is_e) (inl cause, λ same. cc)))
 
   -- behind a flush it asks again
   by_flush : (was is : NodeView D) (r : Result (Unit {0}) Refusal) (after : CheckView) → IsCalled state honest moment left_since store shards coordinator was is old new
