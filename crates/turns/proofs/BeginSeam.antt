@@ -107,6 +107,7 @@ module _ (store shards : ℕ) (left : NodeName → List Record → Type 0) {D : 
     named = refl;
     tells = inl (own.goes_on, (goes_on, refl, (refl, refl)));
   }
+
 pub begin_turns : (store shards : ℕ) (left : NodeName → List Record → Type 0) (D : Type 0) → BeginTurns store shards left D
 begin_turns store shards left D now old new changes conditions i r h st seen begins own = (
   seen_after store shards left now old new changes conditions i r h st seen begins own,

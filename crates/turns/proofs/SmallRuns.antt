@@ -72,6 +72,7 @@ not_watched_beyond_it a = only a.was (a.heartbeat)
 -- a write that was not decided has no place to answer
 no_place_undecided : Agrees (begun 0 (to_write (Touch (viewed 97) ∷ []) [])) (moment_of two_kept []) (to_write (Touch (viewed 97) ∷ []) []) (wrote 1) → ⊥
 no_place_undecided a = none-some _ a.decided
+
 -- an answer to something else agrees with nothing
 no_other_answer : Agrees (begun 0 (to_raise 1)) (moment_of two_kept []) (to_raise 1) (wrote 1) → ⊥
 no_other_answer a = a

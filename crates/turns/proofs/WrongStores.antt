@@ -36,6 +36,7 @@ phantom = numbered 7 (Touch (viewed 97) ∷ []) []
 not_prepared : ShardMeans 1 0 (phantom ∷ []) 0 0 (shard_state []) → ⊥
 unfolding shard_state expected takes_part part shard_of
 not_prepared means = none-some _ (means.in_doubt.above 0 phantom refl (omega arith))
+
 -- a node goes down for no reason
 abbrev untouched : State
 untouched = record { seen = []; durable = []; written = []; stopped = false; failures = 0 }
@@ -173,6 +174,7 @@ unreadable_inside : {D : Type 0} (state : D → State) (honest : D → Type 0) (
     → left_since (new coordinator).0 (moment (old coordinator).0) a → left_since (new coordinator).1 (moment (old coordinator).1) b → found a b ≡ None
     → StopsBetween state honest moment left_since 1 1 old new before after → ⊥
 unreadable_inside state honest moment left_since old new before after a b in_a in_b none between = let rs = between.readable coordinator a b tt in_a in_b in none-some _ (sym none ∙ rs.1)
+
 -- a flow acknowledges a place where the log has another's write, though the changes are the same
 abbrev second : Running
 second = record (begun 0 (to_write (Touch (viewed 97) ∷ []) [])) { holds = writing (record nothing_begun { id = Some (record { epoch = 1; number = 2 }) }) }
