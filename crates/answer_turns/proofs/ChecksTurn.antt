@@ -3,68 +3,33 @@ use Rattle.std.proofs.Common.{◌≡◌, ◌≢◌, ⊎_elim, inl, ◌≤◌, �
 use Rattle.std.proofs.lemmas.Bool.{cases_lt}
 use Rattle.std.proofs.lemmas.List.Elements.{All-nil}
 use Rattle.std.proofs.lemmas.Option.{same_Some}
-use Rattle.refusal.specs.declared.refusal.Refusal.{Refusal}
-use Rattle.refusal.specs.declared.refusal.Refusal.TheVariants.{Collected, Full, Future, NoMemory, Unsure}
-use Rattle.device.specs.Device.{State, left}
+use Rattle.answer_turns.proofs.Words.{Answered, AreRightHeads, Asked, BatchValue, Behind, Calls, CallsShard, CatchUpComes, FitsItsTypes, Freshness, HeadsValue, IfHeld, IsCalled, IsCatchingUp, IsQuietlyMade, IsRightBatch, LetsLearn, Machine, Moment, Next, NoMemory, NodeCall, NodeName, NodeView, Nodes, Progress, ReadReply, Record, Refusal, Reply, Rows, Running, SlotTurns, StandsOver, State, Store, There, Tuple, TurnRuns, Unsure, all_kept, batch_of, behind_call, called, calls_on, contained_from, coordinator, coordinator_flushed, ending, from_coordinator, from_shard, heads_told, is_refused, knows, left, memory, of_coordinator, of_shard, places_are_found, right_heads, shard, shown_answer, some_coordinator, still_of, stops, with_call}
+use Rattle.refusal.specs.declared.refusal.Refusal.TheVariants.{Full}
 use Rattle.tuples.specs.declared.object.Userset.{Userset}
-use Rattle.tuples.specs.declared.tuple.Tuple.{Tuple}
 use Rattle.tuples.specs.declared.user.User.{User}
 use Rattle.tuples.specs.Checking.{holding}
 use Rattle.tuples.specs.Log.{is_at}
 use Rattle.tuples.specs.Parts.{shard_of}
 use Rattle.tuples.specs.Walking.{IsCheckSelection}
-use Rattle.records.specs.declared.record.Record.{Record}
-use Rattle.decisions.specs.Coordinators.{heads_of}
-use Rattle.decisions.specs.Flows.{CheckHolds, Freshness, most_walked}
-use Rattle.decisions.specs.Values.{BatchValue, HeadsValue}
+use Rattle.decisions.specs.Flows.{CheckHolds, most_walked}
 use Rattle.decisions.specs.Walks.{Walks}
-use Rattle.shard.specs.Shards.{memory}
-use Rattle.shard.specs.declared.replies.ReadReply.{ReadReply}
-use Rattle.shard.specs.declared.replies.ReadReply.TheVariants.{Rows, Behind}
-use Rattle.calls.specs.Asking.{Answered}
-use Rattle.calls.specs.Views.{NodeView}
-use Rattle.calls.specs.declared.call.NodeCall.{NodeCall}
-use Rattle.calls.specs.declared.call.NodeCall.TheVariants.{Coordinator as of_coordinator, Shard as of_shard}
 use Rattle.calls.specs.declared.call.CoordinatorCall.TheVariants as calls
 use Rattle.calls.specs.declared.call.ShardCall.TheVariants as shard_calls
-use Rattle.calls.specs.declared.reply.Reply.{Reply}
-use Rattle.calls.specs.declared.reply.Reply.TheVariants.{Coordinator as from_coordinator, Shard as from_shard}
 use Rattle.calls.specs.declared.reply.CoordinatorReply.TheVariants as told
 use Rattle.calls.specs.declared.reply.ShardReply.TheVariants as told_by
-use Rattle.catch_up.specs.declared.caught.Progress.{Progress}
-use Rattle.catch_up.specs.declared.caught.Progress.TheVariants.{Next, There, Refused as is_refused}
 use Rattle.answer_flow.specs.Finding as finding
 use Rattle.answer_flow.specs.Checking.{AsksFor, CatchUpGives, CatchesUp, Continues, FlushGives, GivesTo, HeadsGive, ProgressGives, ReadGives, RowsGive}
 use Rattle.answer_flow.specs.CheckViews.{CheckStep, CheckView, at_rest, catch_up, catch_up_call, checked, ended, flush, flush_call, heads, heads_call, read, read_call, refused, waiting}
-use Rattle.laws.specs.Machines.{Machine}
-use Rattle.laws.specs.Nodes.{NodeName, Nodes, coordinator, shard}
-use Rattle.turns.specs.Causes.{Calls, CallsShard, HasItsCause, IsCause, LetsLearn}
-use Rattle.turns.specs.CoordinatorSeamLaws.{AsksAbove, AsksBelow}
-use Rattle.turns.specs.FlushLaws.{all_kept}
-use Rattle.turns.specs.Flows.{Asked, checking, place_of, to_check}
-use Rattle.turns.specs.Held.{AreRightHeads, IfHeld, IsRightBatch, IsRightCheck}
-use Rattle.turns.specs.Moments.{Moment, Running}
-use Rattle.turns.specs.QuietTurns.{batch_of, behind_call, ending, with_call}
+use Rattle.turns.specs.Causes.{IsCause}
+use Rattle.turns.specs.Flows.{checking, place_of, to_check}
+use Rattle.turns.specs.Held.{IsRightCheck}
 use Rattle.turns.specs.Replies.{checked as checked_answer}
-use Rattle.turns.specs.Stores.{StandsOver, Store, stops}
 use Rattle.turns.proofs.CheckWalk.{check_replies_select, checks_begin, checks_go_on, checks_say_no, checks_say_yes, full_checks_have_cause}
-use Rattle.turns.proofs.CoordinatorCalls.{heads_have_cause, places_are_found, right_heads}
-use Rattle.turns.proofs.QuietTurns.{calls_on}
 use Rattle.turns.proofs.ShardCheckSeam.{refused_checks_have_cause}
-use Rattle.turns.proofs.ShardSeam.{knows}
-use Rattle.turns.proofs.ShardStagesStands.{contained_from}
-use Rattle.call_turns.specs.StoreCalls.{FitsItsTypes, IsCalled, called}
-use Rattle.call_turns.specs.StoreTurns.{SlotTurns, TurnRuns}
-use Rattle.call_turns.proofs.Asked.{heads_told}
-use Rattle.call_turns.proofs.CaughtUp.{CatchUpComes, IsCatchingUp}
-use Rattle.call_turns.proofs.Flushed.{coordinator_flushed}
-use Rattle.call_turns.proofs.Made.{IsQuietlyMade, still_of}
 use Rattle.call_turns.proofs.ReadTold.{read_for_check_told}
-use Rattle.call_turns.proofs.Standing.{some_coordinator}
-use Rattle.answer_turns.specs.AnswerTurns.{shown_answer}
 use Rattle.answer_turns.specs.CheckTurns.{ChecksTurn, check_in_slot, check_tells}
 use Rattle.answer_turns.proofs.TupleLists.{has_or_not}
-use Rattle.answer_turns.proofs.Leads.{ComesRight, IsFlow, Quietly, RefusedQuietly, answers_to, fails_to, goes_to, held_now, lacks_memory, refuses_to}
+use Rattle.answer_turns.proofs.Leads.{ComesRight, IsFlow, Quietly, RefusedQuietly, answers_to, fails_to, goes_to, held_now, lacks_memory, refuses_to, wants_collected, wants_future}
 use Rattle.answer_turns.proofs.Places.{asks_above, asks_below, finds_place}
 use Rattle.answer_turns.proofs.Ways.{came, moved}
 
@@ -156,7 +121,10 @@ module _ {D : Type 0} (state : D → State) (honest : D → Type 0) (moment : D 
       (λ later. subst Leads (sym later.1) (goes h flush (λ now standing r flow.
       let it = heads_told state honest moment left_since counts_now only_now store shards old new now standing was is (Ok v) c so in
       (now.nodes, now.machine, it.0, λ q k. k))))
-      (λ (e, why, is_so). subst Leads (sym is_so) (⊎_elim (λ future. refuses_future e future (why.future future)) (λ collected. refuses_collected e collected (why.collected collected)) why.one))
+      (λ (e, why, is_so). subst Leads (sym is_so) (⊎_elim
+      (λ future. wants_future state honest moment left_since store shards old new slot asked refl (checking h) counts_now only_now was is v c so (asks_above fresh v (why.future future)) e future)
+      (λ collected. wants_collected state honest moment left_since store shards old new slot asked refl (checking h) counts_now only_now was is v c so (asks_below fresh v (why.collected collected)) e collected)
+      why.one))
       rest)
       gives
     where
@@ -175,20 +143,6 @@ module _ {D : Type 0} (state : D → State) (honest : D → Type 0) (moment : D 
 
       none_walked : FullHasCause h
       none_walked many y waits now standing r flow n ran = absurd (let empty = (held now standing r flow).nothing nowhere in omega (arith, many, ap (λ (l : List Userset). length l) empty.0))
-
-      refuses_future : (e : Refusal) → e ≡ Future → finding.IsAbove fresh v → Leads (ended (refused e))
-      refuses_future e is_e above = refuses e (λ now standing r flow.
-          let it = heads_told state honest moment left_since counts_now only_now store shards old new now standing was is (Ok v) c so in
-          let law = heads_have_cause store shards (stops state honest store shards old.devices) D now (ending now now.nodes now.machine r []) it.1.0 r standing.stands it.1.1 in
-          let cause = law.0 (subst (λ (a : Asked). AsksAbove (heads_of it.1.0) a) (sym flow.asked_is) (subst (λ (y : HeadsValue). AsksAbove y asked) it.1.2 (asks_above fresh v above))) in
-          (now.nodes, now.machine, it.0, subst (λ (f : Refusal). HasItsCause shards it.0.0.node now (ending now now.nodes now.machine r []) r f × (f ≢ Unsure)) (sym is_e) (inl cause, λ same. cc)))
-
-      refuses_collected : (e : Refusal) → e ≡ Collected → finding.IsForgotten fresh v → Leads (ended (refused e))
-      refuses_collected e is_e below = refuses e (λ now standing r flow.
-          let it = heads_told state honest moment left_since counts_now only_now store shards old new now standing was is (Ok v) c so in
-          let law = heads_have_cause store shards (stops state honest store shards old.devices) D now (ending now now.nodes now.machine r []) it.1.0 r standing.stands it.1.1 in
-          let cause = law.1 (subst (λ (a : Asked). AsksBelow (heads_of it.1.0) a) (sym flow.asked_is) (subst (λ (y : HeadsValue). AsksBelow y asked) it.1.2 (asks_below fresh v below))) in
-          (now.nodes, now.machine, it.0, subst (λ (f : Refusal). HasItsCause shards it.0.0.node now (ending now now.nodes now.machine r []) r f × (f ≢ Unsure)) (sym is_e) (inl cause, λ same. cc)))
 
   -- behind a flush it asks again
   by_flush : (was is : NodeView D) (r : Result (Unit {0}) Refusal) (after : CheckView) → IsCalled state honest moment left_since store shards coordinator was is old new

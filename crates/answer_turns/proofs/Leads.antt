@@ -1,23 +1,14 @@
 -- Where a turn leads a flow that answers a request: it goes on, answers, or is refused.
-use Rattle.std.proofs.Common.{◌≡◌, ◌≢◌, inl, ℕ, false, List, [], ◌∷◌, Some, None, All, Contains, refl, sym, subst}
+use Rattle.std.proofs.Common.{◌≡◌, ◌≢◌, ◌≤◌, inl, ℕ, false, List, [], ◌∷◌, Some, None, All, Contains, refl, sym, subst, Ok}
 use Rattle.tuples.specs.declared.entry.WriteId.{WriteId}
-use Rattle.refusal.specs.declared.refusal.Refusal.{Refusal}
-use Rattle.refusal.specs.declared.refusal.Refusal.TheVariants.{NoMemory, Unsure}
-use Rattle.device.specs.Device.{State}
-use Rattle.laws.specs.Machines.{Machine}
-use Rattle.laws.specs.Nodes.{NodeName, Nodes}
-use Rattle.turns.specs.Causes.{Calls, HasItsCause, TakesMemory}
-use Rattle.turns.specs.Flows.{Asked, Holds}
-use Rattle.turns.specs.Held.{IsRight, IsRightVerdict}
-use Rattle.turns.specs.Moments.{Moment, Running, is_write}
-use Rattle.turns.specs.QuietTurns.{behind_call, ending, with_call}
+use Rattle.answer_turns.proofs.Words.{Answered, Asked, AsksAbove, AsksBelow, Calls, Collected, FailsQuietly, Future, HasItsCause, HeadsValue, Holds, IsCalled, IsQuietlyMade, IsRight, Machine, Moment, NoMemory, NodeName, NodeView, Nodes, Refusal, Running, SlotTurns, StandsOver, State, Store, TakesMemory, TurnRuns, Unsure, answered, behind_call, coordinator, ending, fails_with, from_coordinator, goes, heads_have_cause, heads_of, heads_told, held_on, left, of_coordinator, refused_by, refuses, runs, shown_answer, stops, the_flow, with_call}
+use Rattle.calls.specs.declared.call.CoordinatorCall.TheVariants as calls
+use Rattle.calls.specs.declared.reply.CoordinatorReply.TheVariants as told
+use Rattle.turns.specs.Held.{IsRightVerdict}
+use Rattle.turns.specs.Moments.{is_write}
 use Rattle.turns.specs.Replies.{Agrees, Answer}
-use Rattle.turns.specs.Runs.{Told, answered, goes_on, refuses, told_by}
-use Rattle.turns.specs.Stores.{StandsOver, Store, stops}
-use Rattle.call_turns.specs.StoreTurns.{SlotTurns, TurnRuns}
-use Rattle.call_turns.proofs.Made.{FailsQuietly, IsQuietlyMade}
-use Rattle.call_turns.proofs.Turned.{answers, fails_with, goes, held_on, refused_by, runs, the_flow}
-use Rattle.answer_turns.specs.AnswerTurns.{shown_answer}
+use Rattle.turns.specs.Runs.{Told, goes_on, told_by}
+use Rattle.call_turns.proofs.Turned.{answers}
 
 module _ {D : Type 0} (state : D → State) (honest : D → Type 0) (moment : D → ℕ) (left_since : D → ℕ → List ℕ → Type 0) (store shards : ℕ) (old new : Store D) (slot : ℕ)
     (asked : Asked) (no_write : is_write asked ≡ false) (holds : Holds) where
@@ -104,3 +95,21 @@ module _ {D : Type 0} (state : D → State) (honest : D → Type 0) (moment : D 
       let f = shown_answer asked holds in
       let flow = the_flow state honest moment left_since store shards old new now standing number slot f None turns in
       fails_with state honest moment left_since store shards old new now standing number slot f None turns flow.0 flow.1 asked flow.2 refl no_write n e calls refl (fails now standing)
+
+  -- or where heads tell that it wants what is not kept yet, or what lies below the horizon
+  module _ (counts_now : (d : D) (t : ℕ) (c : List ℕ) → honest d → t ≤ moment d → left (state d) c → left_since d t c) (only_now : (d : D) (c : List ℕ) → honest d → left_since d (moment d) c → left (state d) c)
+      (was is : NodeView D) (v : HeadsValue) (c : IsCalled state honest moment left_since store shards coordinator was is old new)
+      (so : Answered state honest moment left_since was (of_coordinator calls.Heads) (from_coordinator (told.Heads (Ok v))) is) where
+    pub wants_future : AsksAbove v asked → (e : Refusal) → e ≡ Future → EndsBy (refuses e)
+    wants_future above e is_e = refuses_to e (λ now standing r flow.
+        let it = heads_told state honest moment left_since counts_now only_now store shards old new now standing was is (Ok v) c so in
+        let law = heads_have_cause store shards (stops state honest store shards old.devices) D now (ending now now.nodes now.machine r []) it.1.0 r standing.stands it.1.1 in
+        let cause = law.0 (subst (λ (a : Asked). AsksAbove (heads_of it.1.0) a) (sym flow.asked_is) (subst (λ (y : HeadsValue). AsksAbove y asked) it.1.2 above)) in
+        (now.nodes, now.machine, it.0, subst (λ (f : Refusal). HasItsCause shards it.0.0.node now (ending now now.nodes now.machine r []) r f × (f ≢ Unsure)) (sym is_e) (inl cause, λ same. cc)))
+
+    pub wants_collected : AsksBelow v asked → (e : Refusal) → e ≡ Collected → EndsBy (refuses e)
+    wants_collected below e is_e = refuses_to e (λ now standing r flow.
+        let it = heads_told state honest moment left_since counts_now only_now store shards old new now standing was is (Ok v) c so in
+        let law = heads_have_cause store shards (stops state honest store shards old.devices) D now (ending now now.nodes now.machine r []) it.1.0 r standing.stands it.1.1 in
+        let cause = law.1 (subst (λ (a : Asked). AsksBelow (heads_of it.1.0) a) (sym flow.asked_is) (subst (λ (y : HeadsValue). AsksBelow y asked) it.1.2 below)) in
+        (now.nodes, now.machine, it.0, subst (λ (f : Refusal). HasItsCause shards it.0.0.node now (ending now now.nodes now.machine r []) r f × (f ≢ Unsure)) (sym is_e) (inl cause, λ same. cc)))

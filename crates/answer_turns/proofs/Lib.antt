@@ -1,3 +1,4 @@
+mod Words
 pub mod Watches
 pub mod Leads
 pub mod Places

@@ -1,7 +1,7 @@
 -- What heads tell of the place of an answer, as flows and laws say it.
 use Rattle.std.proofs.Common.{ℕ}
-use Rattle.decisions.specs.Flows.{Freshness, at_least, exact, latest}
-use Rattle.decisions.specs.Values.{HeadsValue}
+use Rattle.answer_turns.proofs.Words.{Freshness, HeadsValue}
+use Rattle.decisions.specs.Flows.{at_least, exact, latest}
 use Rattle.answer_flow.specs.Finding as finding
 use Rattle.turns.specs.Causes.{WantsFuture}
 use Rattle.turns.specs.CoordinatorSeamLaws.{FindsPlace, GivesBelow}

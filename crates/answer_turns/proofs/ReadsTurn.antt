@@ -1,68 +1,32 @@
 -- A read takes its turn.
-use Rattle.std.proofs.Common.{◌≡◌, ◌≢◌, ⊎_elim, inl, ◌≤◌, ◌<◌, ◌+◌, ◌++◌, ℕ, List, [], ◌∷◌, length, Option, Some, None, Result, Ok, Err, MatchOption, refl, sym, ◌∙◌, ap, slice_get, subst, arith}
+use Rattle.std.proofs.Common.{◌≡◌, ⊎_elim, ◌≤◌, ◌<◌, ◌+◌, ◌++◌, ℕ, List, [], ◌∷◌, length, Option, Some, None, Result, Ok, Err, MatchOption, refl, sym, ◌∙◌, ap, slice_get, subst, arith}
 use Rattle.std.proofs.lemmas.Bool.{cases_lt}
 use Rattle.std.proofs.lemmas.List.Elements.{All-nil}
 use Rattle.std.proofs.lemmas.Option.{same_Some}
-use Rattle.refusal.specs.declared.refusal.Refusal.{Refusal}
-use Rattle.refusal.specs.declared.refusal.Refusal.TheVariants.{Collected, Future, NoMemory, Unsure}
-use Rattle.device.specs.Device.{State, left}
-use Rattle.tuples.specs.declared.tuple.Tuple.{Tuple}
-use Rattle.tuples.specs.declared.tupleset.Tupleset.{Tupleset}
+use Rattle.answer_turns.proofs.Words.{Answered, AreRightHeads, Asked, BatchValue, Behind, Calls, CallsShard, CatchUpComes, FitsItsTypes, Freshness, GivesTo, HeadsValue, Holds, IfHeld, IsCalled, IsCatchingUp, IsQuietlyMade, IsRightBatch, LetsLearn, Machine, Moment, Next, NoMemory, NodeCall, NodeName, NodeView, Nodes, Progress, ReadReply, ReadView, Record, Refusal, Reply, Rows, Running, SlotTurns, StandsOver, State, Store, There, Tuple, Tupleset, TurnRuns, all_kept, at_rest, batch_of, behind_call, called, calls_on, coordinator, coordinator_flushed, ended, ending, from_coordinator, from_shard, heads, heads_call, heads_told, is_refused, knows, left, memory, of_coordinator, of_shard, places_are_found, read_tells, reading, right_heads, shard, shown_answer, some_coordinator, still_of, stops, waiting, with_call}
 use Rattle.tuples.specs.declared.tupleset.Tupleset.TheVariants.{Key, OfObject, OfUser}
 use Rattle.tuples.specs.Reads.{AreAscending, IsSelection}
-use Rattle.records.specs.declared.record.Record.{Record}
-use Rattle.decisions.specs.Coordinators.{heads_of}
-use Rattle.decisions.specs.Flows.{Freshness, ReadHolds, nothing_read}
+use Rattle.decisions.specs.Flows.{ReadHolds, nothing_read}
 use Rattle.decisions.specs.Merging.{IsMerged, NeedsOnly}
-use Rattle.decisions.specs.Values.{BatchValue, HeadsValue}
-use Rattle.shard.specs.Shards.{memory}
-use Rattle.shard.specs.declared.replies.ReadReply.{ReadReply}
-use Rattle.shard.specs.declared.replies.ReadReply.TheVariants.{Rows, Behind}
-use Rattle.calls.specs.Asking.{Answered}
 use Rattle.calls.specs.Belonging.{IsReplyTo}
-use Rattle.calls.specs.Views.{NodeView}
-use Rattle.calls.specs.declared.call.NodeCall.{NodeCall}
-use Rattle.calls.specs.declared.call.NodeCall.TheVariants.{Coordinator as of_coordinator, Shard as of_shard}
 use Rattle.calls.specs.declared.call.CoordinatorCall.TheVariants as calls
 use Rattle.calls.specs.declared.call.ShardCall.TheVariants as shard_calls
-use Rattle.calls.specs.declared.reply.Reply.{Reply}
-use Rattle.calls.specs.declared.reply.Reply.TheVariants.{Coordinator as from_coordinator, Shard as from_shard}
 use Rattle.calls.specs.declared.reply.CoordinatorReply.TheVariants as told
 use Rattle.calls.specs.declared.reply.ShardReply.TheVariants as told_by
-use Rattle.catch_up.specs.declared.caught.Progress.{Progress}
-use Rattle.catch_up.specs.declared.caught.Progress.TheVariants.{Next, There, Refused as is_refused}
 use Rattle.answer_flow.specs.Finding as finding
-use Rattle.answer_flow.specs.Reading.{AsksFor, CatchUpGives, CatchesUp, Continues, Finishes, FlushGives, GivesTo, HeadsGive, Merges, ProgressGives, ReadGives, RowsGive}
-use Rattle.answer_flow.specs.ReadViews.{ReadStep, ReadView, at_rest, catch_up, catch_up_call, ended, flush, flush_call, heads, heads_call, read, read_call, refused, shard_for, waiting}
-use Rattle.laws.specs.Machines.{Machine}
-use Rattle.laws.specs.Nodes.{NodeName, Nodes, coordinator, shard}
-use Rattle.turns.specs.Causes.{Calls, CallsShard, HasItsCause, LetsLearn, Needs}
-use Rattle.turns.specs.CoordinatorSeamLaws.{AsksAbove, AsksBelow}
-use Rattle.turns.specs.FlushLaws.{all_kept}
-use Rattle.turns.specs.Flows.{Asked, Holds, reading, to_read}
-use Rattle.turns.specs.Held.{AreRightHeads, IfHeld, IsRightBatch, IsRightRead}
-use Rattle.turns.specs.Moments.{Moment, Running}
-use Rattle.turns.specs.QuietTurns.{batch_of, behind_call, ending, with_call}
+use Rattle.answer_flow.specs.Reading.{AsksFor, CatchUpGives, CatchesUp, Continues, Finishes, FlushGives, HeadsGive, Merges, ProgressGives, ReadGives, RowsGive}
+use Rattle.answer_flow.specs.ReadViews.{ReadStep, catch_up, catch_up_call, flush, flush_call, read, read_call, refused, shard_for}
+use Rattle.turns.specs.Causes.{Needs}
+use Rattle.turns.specs.Flows.{to_read}
+use Rattle.turns.specs.Held.{IsRightRead}
 use Rattle.turns.specs.ReadingLaws.{IsReading, there_of}
 use Rattle.turns.specs.Replies.{selected as selected_answer}
-use Rattle.turns.specs.Stores.{StandsOver, Store, stops}
-use Rattle.turns.proofs.CoordinatorCalls.{heads_have_cause, places_are_found, right_heads}
 use Rattle.turns.proofs.ReadAnswer.{all_replies_select, one_shard_is_enough, reads_answer, reads_ask_all_of, reads_begin, reads_finish, reads_go_on_all}
-use Rattle.turns.proofs.QuietTurns.{calls_on}
 use Rattle.turns.proofs.ShardReadSeam.{refused_reads_have_cause}
-use Rattle.turns.proofs.ShardSeam.{knows}
-use Rattle.call_turns.specs.StoreCalls.{FitsItsTypes, IsCalled, called}
-use Rattle.call_turns.specs.StoreTurns.{SlotTurns, TurnRuns}
-use Rattle.call_turns.proofs.Asked.{heads_told}
 use Rattle.call_turns.proofs.Belongs.{belongs_to}
-use Rattle.call_turns.proofs.CaughtUp.{CatchUpComes, IsCatchingUp}
-use Rattle.call_turns.proofs.Flushed.{coordinator_flushed}
-use Rattle.call_turns.proofs.Made.{IsQuietlyMade, still_of}
 use Rattle.call_turns.proofs.ReadTold.{read_told}
-use Rattle.call_turns.proofs.Standing.{some_coordinator}
-use Rattle.answer_turns.specs.AnswerTurns.{shown_answer}
-use Rattle.answer_turns.specs.ReadTurns.{ReadsTurn, read_in_slot, read_tells}
-use Rattle.answer_turns.proofs.Leads.{ComesRight, IsFlow, Quietly, RefusedQuietly, answers_to, fails_to, goes_to, held_now, lacks_memory, refuses_to}
+use Rattle.answer_turns.specs.ReadTurns.{ReadsTurn, read_in_slot}
+use Rattle.answer_turns.proofs.Leads.{ComesRight, IsFlow, Quietly, RefusedQuietly, answers_to, fails_to, goes_to, held_now, lacks_memory, refuses_to, wants_collected, wants_future}
 use Rattle.answer_turns.proofs.Places.{asks_above, asks_below, finds_place}
 use Rattle.answer_turns.proofs.Ways.{came, moved}
 
@@ -161,7 +125,10 @@ module _ {D : Type 0} (state : D → State) (honest : D → Type 0) (moment : D 
       (λ later. subst Leads (sym later.1) (goes nothing_read flush (λ now standing r flow.
       let it = heads_told state honest moment left_since counts_now only_now store shards old new now standing was is (Ok v) c so in
       (now.nodes, now.machine, it.0, λ x k. nothing_right (stops state honest store shards new.devices) (behind_call now now.nodes now.machine) (with_call r x r.met now.machine)))))
-      (λ (e, why, is_so). subst Leads (sym is_so) (⊎_elim (λ future. refuses_future e future (why.future future)) (λ collected. refuses_collected e collected (why.collected collected)) why.one))
+      (λ (e, why, is_so). subst Leads (sym is_so) (⊎_elim
+      (λ future. wants_future state honest moment left_since store shards old new slot asked refl (reading h) counts_now only_now was is v c so (asks_above fresh v (why.future future)) e future)
+      (λ collected. wants_collected state honest moment left_since store shards old new slot asked refl (reading h) counts_now only_now was is v c so (asks_below fresh v (why.collected collected)) e collected)
+      why.one))
       rest)
       gives
     where
@@ -178,20 +145,6 @@ module _ {D : Type 0} (state : D → State) (honest : D → Type 0) (moment : D 
                 (nothing_right (stops state honest store shards new.devices) (behind_call now now.nodes now.machine) later) refl
                 (places_are_found (behind_call now now.nodes now.machine) later fresh v place right (finds_place fresh v place found)),
           )
-
-      refuses_future : (e : Refusal) → e ≡ Future → finding.IsAbove fresh v → Leads (ended (refused e))
-      refuses_future e is_e above = refuses e (λ now standing r flow.
-          let it = heads_told state honest moment left_since counts_now only_now store shards old new now standing was is (Ok v) c so in
-          let law = heads_have_cause store shards (stops state honest store shards old.devices) D now (ending now now.nodes now.machine r []) it.1.0 r standing.stands it.1.1 in
-          let cause = law.0 (subst (λ (a : Asked). AsksAbove (heads_of it.1.0) a) (sym flow.asked_is) (subst (λ (y : HeadsValue). AsksAbove y asked) it.1.2 (asks_above fresh v above))) in
-          (now.nodes, now.machine, it.0, subst (λ (f : Refusal). HasItsCause shards it.0.0.node now (ending now now.nodes now.machine r []) r f × (f ≢ Unsure)) (sym is_e) (inl cause, λ same. cc)))
-
-      refuses_collected : (e : Refusal) → e ≡ Collected → finding.IsForgotten fresh v → Leads (ended (refused e))
-      refuses_collected e is_e below = refuses e (λ now standing r flow.
-          let it = heads_told state honest moment left_since counts_now only_now store shards old new now standing was is (Ok v) c so in
-          let law = heads_have_cause store shards (stops state honest store shards old.devices) D now (ending now now.nodes now.machine r []) it.1.0 r standing.stands it.1.1 in
-          let cause = law.1 (subst (λ (a : Asked). AsksBelow (heads_of it.1.0) a) (sym flow.asked_is) (subst (λ (y : HeadsValue). AsksBelow y asked) it.1.2 (asks_below fresh v below))) in
-          (now.nodes, now.machine, it.0, subst (λ (f : Refusal). HasItsCause shards it.0.0.node now (ending now now.nodes now.machine r []) r f × (f ≢ Unsure)) (sym is_e) (inl cause, λ same. cc)))
 
   -- behind a flush it asks again
   by_flush : (was is : NodeView D) (r : Result (Unit {0}) Refusal) (after : ReadView) → IsCalled state honest moment left_since store shards coordinator was is old new

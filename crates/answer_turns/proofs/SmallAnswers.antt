@@ -1,29 +1,21 @@
 -- Small turns of a read: it asks the heads of a coordinator whose opening was refused, and ends with that refusal. And turns of it that are none.
 use Rattle.std.proofs.Common.{◌≡◌, ◌≢◌, ◌≤◌, ℕ, zero, suc, Bool, true, false, List, [], ◌∷◌, length, Option, Err, Some, None, MatchOption, if◌then◌else◌, refl, sym, ap, subst, arith}
+use Rattle.std.proofs.lemmas.Option.{none-some}
 use Rattle.refusal.specs.declared.refusal.Refusal.TheVariants.{Down}
-use Rattle.tuples.specs.declared.tupleset.Tupleset.{Tupleset}
-use Rattle.records.specs.declared.record.Record.{Record}
-use Rattle.device.specs.Device.{State}
+use Rattle.answer_turns.proofs.Words.{Answered, GivesTo, NodeCall, NodeView, ReadView, Record, Reply, State, Store, Tupleset, at_rest, called, coordinator, ended, from_coordinator, heads, heads_call, read_tells, reading, refuses, shown_answer, waiting}
 use Rattle.names.specs.declared.call_name.CallName.TheVariants as names
-use Rattle.calls.specs.Asking.{Answered}
 use Rattle.calls.specs.Views as views
-use Rattle.calls.specs.Views.{NodeView}
-use Rattle.calls.specs.declared.call.NodeCall.{NodeCall}
 use Rattle.calls.specs.declared.call.NodeCall.TheVariants.{Coordinator, Shard}
 use Rattle.calls.specs.declared.call.CoordinatorCall.TheVariants as calls
 use Rattle.calls.specs.declared.call.ShardCall.TheVariants as shard_calls
-use Rattle.calls.specs.declared.reply.Reply.{Reply}
-use Rattle.calls.specs.declared.reply.Reply.TheVariants.{Coordinator as from_coordinator}
 use Rattle.calls.specs.declared.reply.CoordinatorReply.TheVariants as told
-use Rattle.answer_flow.specs.Reading.{Asks, GivesTo}
-use Rattle.answer_flow.specs.ReadViews.{ReadAwaited, ReadEnding, ReadFlowValue, ReadView, at_rest, ended, heads, heads_call, refused as ended_refused, selected, waiting}
-use Rattle.laws.specs.Nodes.{coordinator, down, refused, up}
-use Rattle.turns.specs.Flows.{latest, nothing_read, reading}
-use Rattle.turns.specs.Runs.{refuses}
-use Rattle.turns.specs.Stores.{FlowView, Store}
-use Rattle.call_turns.specs.StoreCalls.{IsNode, called}
-use Rattle.answer_turns.specs.AnswerTurns.{shown_answer}
-use Rattle.answer_turns.specs.ReadTurns.{ReadTurns, read_of, read_tells}
+use Rattle.answer_flow.specs.Reading.{Asks}
+use Rattle.answer_flow.specs.ReadViews.{ReadAwaited, ReadEnding, ReadFlowValue, refused as ended_refused, selected}
+use Rattle.laws.specs.Nodes.{down, refused, up}
+use Rattle.turns.specs.Flows.{latest, nothing_read}
+use Rattle.turns.specs.Stores.{FlowView}
+use Rattle.call_turns.specs.StoreCalls.{IsNode}
+use Rattle.answer_turns.specs.ReadTurns.{ReadTurns, read_of}
 
 -- a read of these tuplesets at the latest place, in a store of one shard, before its first call, and with that call out
 abbrev fresh : List Tupleset → ReadFlowValue
@@ -125,11 +117,8 @@ module _ {D : Type 0} (state : D → State) (honest : D → Type 0) (moment : D 
   two_slots (suc (suc t)) = None
 
   took_another_flow : (after : ReadView) → ReadTurns state honest moment left_since 7 1 (record before { flows = two_slots }) behind 0 (fresh sets) after → ⊥
-  took_another_flow after turn = none_is_some (turn.turns.others 1 one_is_not)
+  took_another_flow after turn = none-some _ (turn.turns.others 1 one_is_not)
     where
-      none_is_some : {X : Type 0} {x : X} → None ≡ Some x → ⊥
-      none_is_some is = cc
-
       one_is_not : ◌≡◌ {A = ℕ} 1 0 → ⊥
       one_is_not is = omega (arith, is)
 

@@ -2,11 +2,10 @@
 use Rattle.std.proofs.Common.{◌⊎◌, ⊎_elim, inl, inr, zero, true≢false, List, [], ◌∷◌, Contains, refl, sym, ◌∙◌, subst, arith}
 use Rattle.std.proofs.lemmas.Bool.{cases_Bool}
 use Rattle.std.proofs.lemmas.List.Elements.{Contains-append_cases, Contains-append_right, Contains-push_cases}
-use Rattle.tuples.specs.declared.tuple.Tuple.{Tuple}
+use Rattle.answer_turns.proofs.Words.{Tuple, contained_from}
 use Rattle.tuples.specs.Order.{tuple_eq}
 use Rattle.tuples.proofs.Ordered.{tuple_eq_from_same}
 use Rattle.tuples.proofs.Same.{tuple_same}
-use Rattle.turns.proofs.ShardStagesStands.{contained_from}
 
 pub has_or_not : (rows : List Tuple) (t : Tuple) → Contains rows t ⊎ (Contains rows t → ⊥)
 has_or_not [] t = inr (λ has. omega (arith, has.1))

@@ -1,46 +1,27 @@
 -- A watch takes its turn.
-use Rattle.std.proofs.Common.{◌≡◌, ◌≢◌, ⊎_elim, inl, ◌≤◌, ◌<◌, ◌+◌, ◌-◌, ℕ, List, [], ◌∷◌, length, Some, None, Result, Ok, Err, MatchOption, Contains, refl, sym, ◌∙◌, ap, subst, arith}
+use Rattle.std.proofs.Common.{◌≡◌, ◌≢◌, ⊎_elim, inl, ◌≤◌, ◌+◌, ◌-◌, ℕ, List, [], ◌∷◌, length, Some, None, Result, Ok, Err, MatchOption, refl, sym, ◌∙◌, ap, subst, arith}
 use Rattle.std.proofs.lemmas.Option.{same_Some}
-use Rattle.refusal.specs.declared.refusal.Refusal.{Refusal}
-use Rattle.refusal.specs.declared.refusal.Refusal.TheVariants.{Collected, Future, NoMemory, Unsure}
-use Rattle.device.specs.Device.{State, left}
+use Rattle.answer_turns.proofs.Words.{Answered, AreRightHeads, Asked, BatchValue, Calls, Collected, FailsQuietly, HasItsCause, HeadsValue, IsCalled, Moment, NoMemory, NodeCall, NodeView, Refusal, Reply, Running, SlotTurns, StandsOver, State, Store, TakesMemory, TurnRuns, Unsure, answered, called, calls_on, coordinator, coordinator_flushed, ending, from_coordinator, heads_told, left, of_coordinator, of_shard, right_heads, runs, shown_answer, stops, the_flow, with_call}
 use Rattle.tuples.specs.Watching.{events_from}
-use Rattle.decisions.specs.Coordinators.{heads_of}
 use Rattle.decisions.specs.Flows.{HeadsHeld, no_heads}
-use Rattle.decisions.specs.Values.{BatchValue, HeadsValue}
-use Rattle.calls.specs.Asking.{Answered, MayBeMade}
-use Rattle.calls.specs.Views.{NodeView}
-use Rattle.calls.specs.declared.call.NodeCall.{NodeCall}
-use Rattle.calls.specs.declared.call.NodeCall.TheVariants.{Coordinator as of_coordinator, Shard as of_shard}
+use Rattle.calls.specs.Asking.{MayBeMade}
 use Rattle.calls.specs.declared.call.CoordinatorCall.{CoordinatorCall}
 use Rattle.calls.specs.declared.call.CoordinatorCall.TheVariants as calls
-use Rattle.calls.specs.declared.reply.Reply.{Reply}
-use Rattle.calls.specs.declared.reply.Reply.TheVariants.{Coordinator as from_coordinator}
 use Rattle.calls.specs.declared.reply.CoordinatorReply.TheVariants as told
 use Rattle.answer_flow.specs.Watching.{AsksFor, BatchGives, FlushGives, GivesTo, HeadsGive, heartbeat}
 use Rattle.answer_flow.specs.WatchViews.{WatchCall, WatchView, at_rest, batch, ended, flush, heads, listed, refused, waiting, with_heads}
-use Rattle.laws.specs.Machines.{Machine}
-use Rattle.laws.specs.Nodes.{Nodes, coordinator}
-use Rattle.turns.specs.Causes.{Calls, HasItsCause, TakesMemory}
-use Rattle.turns.specs.CoordinatorSeamLaws.{AsksAbove, AsksBelow}
-use Rattle.turns.specs.Flows.{Asked, Holds, most_watched, to_watch, watching}
-use Rattle.turns.specs.Held.{AreHeldHeads, AreRightHeads, IsRight}
-use Rattle.turns.specs.Moments.{Moment, Running}
-use Rattle.turns.specs.QuietTurns.{behind_call, ending, with_call}
+use Rattle.turns.specs.Flows.{most_watched, to_watch, watching}
+use Rattle.turns.specs.Held.{AreHeldHeads}
 use Rattle.turns.specs.Replies.{listed as listed_answer}
-use Rattle.turns.specs.Runs.{Turns, answered}
-use Rattle.turns.specs.Stores.{NamesHorizon, StandsOver, Store, stops}
+use Rattle.turns.specs.Runs.{Turns}
+use Rattle.turns.specs.Stores.{NamesHorizon}
 use Rattle.turns.proofs.AnswerTurns.{watches_end}
-use Rattle.turns.proofs.CoordinatorCalls.{batch_answers, batch_has_cause, heads_have_cause, horizon_is, right_heads}
+use Rattle.turns.proofs.CoordinatorCalls.{batch_answers, batch_has_cause, horizon_is}
 use Rattle.turns.proofs.SeesOn.{heads_on}
-use Rattle.turns.proofs.QuietTurns.{calls_on}
-use Rattle.call_turns.specs.StoreCalls.{IsCalled, called}
-use Rattle.call_turns.specs.StoreTurns.{SlotTurns, TurnRuns}
-use Rattle.call_turns.proofs.Asked.{BatchComes, batch_told, heads_told}
-use Rattle.call_turns.proofs.Flushed.{coordinator_flushed}
-use Rattle.call_turns.proofs.Made.{FailsQuietly, IsQuietlyMade}
-use Rattle.call_turns.proofs.Turned.{fails_with, goes, held_on, ran_ending, refused_by, runs, the_flow}
-use Rattle.answer_turns.specs.AnswerTurns.{WatchesTurn, shown_answer, watch_in_slot, watch_tells}
+use Rattle.call_turns.proofs.Asked.{BatchComes, batch_told}
+use Rattle.call_turns.proofs.Turned.{ran_ending}
+use Rattle.answer_turns.proofs.Leads.{ComesRight, IsFlow, RefusedQuietly, fails_to, goes_to, held_now, refuses_to, wants_collected, wants_future}
+use Rattle.answer_turns.specs.AnswerTurns.{WatchesTurn, watch_in_slot, watch_tells}
 
 module _ {D : Type 0} (state : D → State) (honest : D → Type 0) (moment : D → ℕ) (left_since : D → ℕ → List ℕ → Type 0)
     (counts_now : (d : D) (t : ℕ) (c : List ℕ) → honest d → t ≤ moment d → left (state d) c → left_since d t c) (only_now : (d : D) (c : List ℕ) → honest d → left_since d (moment d) c → left (state d) c)
@@ -55,111 +36,66 @@ module _ {D : Type 0} (state : D → State) (honest : D → Type 0) (moment : D 
   calls_coordinator : Calls shards asked (watching h) coordinator
   calls_coordinator t same = cc
 
-  -- the flow of a moment for which the store stands
-  record IsFlow (now : Moment) (r : Running) : Type 0 where
-    runs_now : Contains now.running r
-    asked_now : r.asked ≡ asked
-    holds_now : r.holds ≡ watching h
+  abbrev Is : Moment → Running → Type 0
+  Is = IsFlow state honest moment left_since store shards old new slot asked refl (watching h)
 
-  abbrev Quietly : ((now : Moment) → StandsOver state honest store shards old now → Running → Nodes → Machine → Type 0) → Type 0
-  Quietly P = (now : Moment) (standing : StandsOver state honest store shards old now) (r : Running) → IsFlow now r
-      → (next : Nodes) × (m : Machine) × IsQuietlyMade state honest moment left_since store shards old new now standing next m × P now standing r next m
-
-  held : (now : Moment) → StandsOver state honest store shards old now → (r : Running) → IsFlow now r → AreHeldHeads shards (stops state honest store shards old.devices) now r h
-  held now standing r flow = subst (λ (a : Asked). IsRight shards (stops state honest store shards old.devices) now r a (watching h)) flow.asked_now
-      (subst (λ (x : Holds). IsRight shards (stops state honest store shards old.devices) now r r.asked x) flow.holds_now (standing.stands.flows.held r flow.runs_now))
+  held : (now : Moment) → StandsOver state honest store shards old now → (r : Running) → Is now r → AreHeldHeads shards (stops state honest store shards old.devices) now r h
+  held now standing r flow = held_now state honest moment left_since store shards old new slot asked refl (watching h) now standing r flow
 
   -- it goes on with what is right
-  goes_to : (k : HeadsHeld) (call : WatchCall) → Quietly (λ now standing r next m.
-      AreHeldHeads shards (stops state honest store shards new.devices) (behind_call now next m) (with_call r (watching k) r.met m) h
-      → AreHeldHeads shards (stops state honest store shards new.devices) (behind_call now next m) (with_call r (watching k) r.met m) k) → Leads (at_rest call k)
-  goes_to k call quietly turns number now standing =
-      let f = shown_answer asked (watching h) in
-      let g = Some (shown_answer asked (watching k)) in
-      let flow = the_flow state honest moment left_since store shards old new now standing number slot f g turns in
-      let is_flow : IsFlow now flow.0 = record { runs_now = runs state honest moment left_since store shards old new now standing number slot f g turns flow.0 flow.1; asked_now = sym (flow.2.asked asked refl); holds_now = sym flow.2.holds } in
-      let it = quietly now standing flow.0 is_flow in
-      goes state honest moment left_since store shards old new now standing number slot f g turns flow.0 flow.1 asked flow.2 refl refl it.0 it.1 it.2 (watching k)
-      (it.3 (held_on state honest moment left_since store shards old new now standing number slot f g turns flow.0 flow.1 asked flow.2 refl refl it.0 it.1 it.2 (watching h) refl (watching k))) refl
+  goes : (k : HeadsHeld) (call : WatchCall) → ComesRight state honest moment left_since store shards old new slot asked refl (watching h) (watching k) → Leads (at_rest call k)
+  goes k call right = goes_to state honest moment left_since store shards old new slot asked refl (watching h) (watching k) right
 
-  -- the call was quiet, and a refusal of it has its cause at the node that was called
-  abbrev RefusedQuietly : Refusal → Type 0
-  RefusedQuietly e = (now : Moment) (standing : StandsOver state honest store shards old now) (r : Running) → IsFlow now r
-      → (next : Nodes) × (m : Machine) × (quiet : IsQuietlyMade state honest moment left_since store shards old new now standing next m)
-      × (HasItsCause shards quiet.0.node now (ending now next m r []) r e × (e ≢ Unsure))
+  refuses : (e : Refusal) → RefusedQuietly state honest moment left_since store shards old new slot asked refl (watching h) e → Leads (ended (refused e))
+  refuses e quietly = refuses_to state honest moment left_since store shards old new slot asked refl (watching h) e quietly
 
-  refuses_to : (e : Refusal) → RefusedQuietly e → Leads (ended (refused e))
-  refuses_to e quietly turns number now standing =
-      let f = shown_answer asked (watching h) in
-      let flow = the_flow state honest moment left_since store shards old new now standing number slot f None turns in
-      let is_flow : IsFlow now flow.0 = record { runs_now = runs state honest moment left_since store shards old new now standing number slot f None turns flow.0 flow.1; asked_now = sym (flow.2.asked asked refl); holds_now = sym flow.2.holds } in
-      let it = quietly now standing flow.0 is_flow in
-      refused_by state honest moment left_since store shards old new now standing number slot f None turns flow.0 flow.1 asked flow.2 refl refl it.0 it.1 it.2 e refl it.3
-
-  fails_to : (e : Refusal) → ((now : Moment) (standing : StandsOver state honest store shards old now) → FailsQuietly state honest moment left_since store shards old new now standing coordinator e) → Leads (ended (refused e))
-  fails_to e fails turns number now standing =
-      let f = shown_answer asked (watching h) in
-      let flow = the_flow state honest moment left_since store shards old new now standing number slot f None turns in
-      fails_with state honest moment left_since store shards old new now standing number slot f None turns flow.0 flow.1 asked flow.2 refl refl coordinator e calls_coordinator refl (fails now standing)
+  fails : (e : Refusal) → ((now : Moment) (standing : StandsOver state honest store shards old now) → FailsQuietly state honest moment left_since store shards old new now standing coordinator e) → Leads (ended (refused e))
+  fails e failing = fails_to state honest moment left_since store shards old new slot asked refl (watching h) coordinator e calls_coordinator failing
 
   -- it asks for heads: they tell that its cursor is kept, or not yet, or that it is refused
   by_heads : (was is : NodeView D) (r : Result HeadsValue Refusal) (after : WatchView) → IsCalled state honest moment left_since store shards coordinator was is old new
       → Answered state honest moment left_since was (of_coordinator calls.Heads) (from_coordinator (told.Heads r)) is → HeadsGive cursor r after → Leads after
-  by_heads was is (Err e) after c so gives = subst Leads (sym gives) (fails_to e (λ now standing. heads_told state honest moment left_since counts_now only_now store shards old new now standing was is (Err e) c so))
+  by_heads was is (Err e) after c so gives = subst Leads (sym gives) (fails e (λ now standing. heads_told state honest moment left_since counts_now only_now store shards old new now standing was is (Err e) c so))
   by_heads was is (Ok v) after c so gives = ⊎_elim
       (λ found. subst Leads (sym found.1) with_them)
       (λ rest. ⊎_elim
       (λ later. subst Leads (sym later.1) without)
-      (λ (e, why, is_so). subst Leads (sym is_so) (⊎_elim (λ future. refuses_future e future (why.future future)) (λ collected. refuses_collected e collected (why.collected collected)) why.one))
+      (λ (e, why, is_so). subst Leads (sym is_so) (⊎_elim (λ future. wants_future state honest moment left_since store shards old new slot asked refl (watching h) counts_now only_now was is v c so (why.future future) e future) (λ collected. wants_collected state honest moment left_since store shards old new slot asked refl (watching h) counts_now only_now was is v c so (why.collected collected).1 e collected) why.one))
       rest)
       gives
     where
       with_them : Leads (at_rest batch (with_heads v))
-      with_them = goes_to (with_heads v) batch (λ now standing r flow.
+      with_them = goes (with_heads v) batch (λ now standing r flow.
           let it = heads_told state honest moment left_since counts_now only_now store shards old new now standing was is (Ok v) c so in (
             now.nodes,
             now.machine,
             it.0,
-            λ k. record {
-              heads = λ x same. subst (AreRightHeads (with_call r (watching (with_heads v)) r.met now.machine) now.machine) (sym it.1.2 ∙ same_Some v x same)
-                  (right_heads store shards (stops state honest store shards old.devices) now it.1.0 standing.stands it.1.1 r (watching (with_heads v)) flow.runs_now);
+            λ y k. record {
+              heads = λ x same. subst (AreRightHeads (with_call r y r.met now.machine) now.machine) (sym it.1.2 ∙ same_Some v x same)
+                  (right_heads store shards (stops state honest store shards old.devices) now it.1.0 standing.stands it.1.1 r y flow.runs);
               batch = λ b none. absurd (let bad : None ≡ Some b = none in cc);
             },
           ))
 
       without : Leads (at_rest flush no_heads)
-      without = goes_to no_heads flush (λ now standing r flow.
+      without = goes no_heads flush (λ now standing r flow.
           let it = heads_told state honest moment left_since counts_now only_now store shards old new now standing was is (Ok v) c so in
-          (now.nodes, now.machine, it.0, λ k. record { heads = λ x none. absurd (let bad : None ≡ Some x = none in cc); batch = λ b none. absurd (let bad : None ≡ Some b = none in cc) }))
-
-      refuses_future : (e : Refusal) → e ≡ Future → v.length < cursor → Leads (ended (refused e))
-      refuses_future e is_e above = refuses_to e (λ now standing r flow.
-          let it = heads_told state honest moment left_since counts_now only_now store shards old new now standing was is (Ok v) c so in
-          let law = heads_have_cause store shards (stops state honest store shards old.devices) D now now it.1.0 r standing.stands it.1.1 in
-          let cause = law.0 (subst (λ (a : Asked). AsksAbove (heads_of it.1.0) a) (sym flow.asked_now) (subst (λ (x : HeadsValue). x.length < cursor) it.1.2 above)) in
-          (now.nodes, now.machine, it.0, subst (λ (f : Refusal). HasItsCause shards it.0.0.node now (ending now now.nodes now.machine r []) r f × (f ≢ Unsure)) (sym is_e) (inl cause, λ same. cc)))
-
-      refuses_collected : (e : Refusal) → e ≡ Collected → (cursor ≤ v.length) × (cursor < v.horizon) → Leads (ended (refused e))
-      refuses_collected e is_e below = refuses_to e (λ now standing r flow.
-          let it = heads_told state honest moment left_since counts_now only_now store shards old new now standing was is (Ok v) c so in
-          let law = heads_have_cause store shards (stops state honest store shards old.devices) D now now it.1.0 r standing.stands it.1.1 in
-          let cause = law.1 (subst (λ (a : Asked). AsksBelow (heads_of it.1.0) a) (sym flow.asked_now) (subst (λ (x : HeadsValue). cursor < x.horizon) it.1.2 below.1)) in
-          (now.nodes, now.machine, it.0, subst (λ (f : Refusal). HasItsCause shards it.0.0.node now (ending now now.nodes now.machine r []) r f × (f ≢ Unsure)) (sym is_e) (inl cause, λ same. cc)))
+          (now.nodes, now.machine, it.0, λ q k. record { heads = λ x none. absurd (let bad : None ≡ Some x = none in cc); batch = λ b none. absurd (let bad : None ≡ Some b = none in cc) }))
 
   -- behind a flush it asks again
   by_flush : (was is : NodeView D) (r : Result (Unit {0}) Refusal) (after : WatchView) → IsCalled state honest moment left_since store shards coordinator was is old new
       → Answered state honest moment left_since was (of_coordinator calls.Flush) (from_coordinator (told.Flush r)) is → FlushGives r after → Leads after
-  by_flush was is (Err e) after c so gives = subst Leads (sym gives) (fails_to e (λ now standing. coordinator_flushed state honest moment left_since counts_now only_now store shards old new now standing was is (Err e) c so))
-  by_flush was is (Ok x) after c so gives = subst Leads (sym gives) (goes_to no_heads heads (λ now standing r flow.
+  by_flush was is (Err e) after c so gives = subst Leads (sym gives) (fails e (λ now standing. coordinator_flushed state honest moment left_since counts_now only_now store shards old new now standing was is (Err e) c so))
+  by_flush was is (Ok x) after c so gives = subst Leads (sym gives) (goes no_heads heads (λ now standing r flow.
       let it = coordinator_flushed state honest moment left_since counts_now only_now store shards old new now standing was is (Ok x) c so in
-      (it.0, _, it.2, λ k. record { heads = λ y none. absurd (let bad : None ≡ Some y = none in cc); batch = λ b none. absurd (let bad : None ≡ Some b = none in cc) })))
+      (it.0, _, it.2, λ q k. record { heads = λ y none. absurd (let bad : None ≡ Some y = none in cc); batch = λ b none. absurd (let bad : None ≡ Some b = none in cc) })))
 
   -- it lists the decisions behind its cursor
   by_batch : (v : HeadsValue) → h ≡ with_heads v → cursor ≤ heartbeat cursor limit v → (was is : NodeView D) (r : Result BatchValue Refusal) (after : WatchView) → IsCalled state honest moment left_since store shards coordinator was is old new
       → Answered state honest moment left_since was (of_coordinator (calls.Batch cursor (heartbeat cursor limit v))) (from_coordinator (told.Batch r)) is → BatchGives cursor limit names (waiting batch h) r after → Leads after
   by_batch v has low was is (Ok b) after c so gives = ⊎_elim
       (λ lists. subst Leads (sym (lists v has)) lists_all)
-      (λ none. subst Leads (sym none) (refuses_to NoMemory (λ now standing r flow. (now.nodes, now.machine, (told_it now standing).0, (inl (subst TakesMemory (sym flow.asked_now) tt), λ same. cc)))))
+      (λ none. subst Leads (sym none) (refuses NoMemory (λ now standing r flow. (now.nodes, now.machine, (told_it now standing).0, (inl (subst TakesMemory (sym flow.asked_is) tt), λ same. cc)))))
       gives
     where
       told_it : (now : Moment) (standing : StandsOver state honest store shards old now) → BatchComes state honest moment left_since counts_now only_now store shards old new now standing cursor (heartbeat cursor limit v) (Ok b)
@@ -170,7 +106,7 @@ module _ {D : Type 0} (state : D → State) (honest : D → Type 0) (moment : D 
           let f = shown_answer asked (watching h) in
           let flow = the_flow state honest moment left_since store shards old new now standing number slot f None turns in
           let r = flow.0 in
-          let is_flow : IsFlow now r = record { runs_now = runs state honest moment left_since store shards old new now standing number slot f None turns r flow.1; asked_now = sym (flow.2.asked asked refl); holds_now = sym flow.2.holds } in
+          let is_flow : Is now r = record { runs = runs state honest moment left_since store shards old new now standing number slot f None turns r flow.1; asked_is = sym (flow.2.asked asked refl); holds_are = sym flow.2.holds } in
           let it = told_it now standing in
           let right = batch_answers store shards (stops state honest store shards old.devices) D now it.1.0 cursor (heartbeat cursor limit v) b standing.stands it.1.1 low it.1.2 in
           let held_heads = (held now standing r is_flow).heads v (ap (λ (x : HeadsHeld). x.heads) has) in
@@ -179,12 +115,12 @@ module _ {D : Type 0} (state : D → State) (honest : D → Type 0) (moment : D 
           let above = it.1.2.above in
           let from_is : b.from ≡ cursor = it.1.2.from_is in
           let size : length b.writes ≡ heartbeat cursor limit v - cursor = omega (arith, right.1, few) in
-          let law = watches_end store shards (stops state honest store shards old.devices) (stops state honest store shards new.devices) now now.nodes now.machine r cursor limit names v b it.0.0 is_flow.runs_now is_flow.asked_now on right.0
+          let law = watches_end store shards (stops state honest store shards old.devices) (stops state honest store shards new.devices) now now.nodes now.machine r cursor limit names v b it.0.0 is_flow.runs is_flow.asked_is on right.0
           (let low_heads = held_heads.horizon in omega (arith, low_heads, top, above)) (omega (arith, low)) from_is size in
           let taken = subst (λ (n : ℕ). Turns shards (NamesHorizon state honest store shards old now) now r (answered (listed_answer (heartbeat cursor limit v) (events_from (n + 1) names b.writes)) ∷ []) (ending now now.nodes now.machine r [])) (sym from_is) law.1 in
           ran_ending state honest moment left_since store shards old new now standing number slot f None turns r flow.1 now.nodes now.machine [] _ it.0.1 refl law.0 taken
-  by_batch v has low was is (Err e) after c so gives = subst Leads (sym gives) (refuses_to e (λ now standing r flow. ⊎_elim
-      (λ fails. (fails.0, now.machine, fails.1, fails.2 r (ending now fails.0 now.machine r []) refl (calls_on shards r asked (watching h) coordinator flow.asked_now flow.holds_now calls_coordinator)))
+  by_batch v has low was is (Err e) after c so gives = subst Leads (sym gives) (refuses e (λ now standing r flow. ⊎_elim
+      (λ fails. (fails.0, now.machine, fails.1, fails.2 r (ending now fails.0 now.machine r []) refl (calls_on shards r asked (watching h) coordinator flow.asked_is flow.holds_are calls_coordinator)))
       (λ told_so.
       let law = batch_has_cause store shards (stops state honest store shards old.devices) D now now told_so.1.0 r cursor (heartbeat cursor limit v) standing.stands told_so.1.1 in
       let held_heads = (held now standing r flow).heads v (ap (λ (x : HeadsHeld). x.heads) has) in (
@@ -194,8 +130,8 @@ module _ {D : Type 0} (state : D → State) (honest : D → Type 0) (moment : D 
         ⊎_elim
             (λ future. absurd (law.0 (let kept = held_heads.kept in omega (arith, kept)) future.1))
             (λ rest. ⊎_elim
-            (λ collected. subst (λ (f : Refusal). HasItsCause shards told_so.0.0.node now (ending now now.nodes now.machine r []) r f × (f ≢ Unsure)) (sym collected.0) (inl (law.1 limit names flow.asked_now collected.1), not_collected))
-            (λ none. subst (λ (f : Refusal). HasItsCause shards told_so.0.0.node now (ending now now.nodes now.machine r []) r f × (f ≢ Unsure)) (sym none) (inl (subst TakesMemory (sym flow.asked_now) tt), not_memory))
+            (λ collected. subst (λ (f : Refusal). HasItsCause shards told_so.0.0.node now (ending now now.nodes now.machine r []) r f × (f ≢ Unsure)) (sym collected.0) (inl (law.1 limit names flow.asked_is collected.1), not_collected))
+            (λ none. subst (λ (f : Refusal). HasItsCause shards told_so.0.0.node now (ending now now.nodes now.machine r []) r f × (f ≢ Unsure)) (sym none) (inl (subst TakesMemory (sym flow.asked_is) tt), not_memory))
             rest)
             told_so.1.2,
       ))

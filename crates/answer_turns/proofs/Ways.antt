@@ -1,23 +1,13 @@
 -- A catch-up in a flow that answers a request: what it makes of a reply does not rest on the shard that it names.
 use Rattle.std.proofs.Common.{◌≡◌, ◌≤◌, ℕ, Bool, List, Option, Ok, Err, sym, ◌∙◌, ap, subst}
-use Rattle.device.specs.Device.{State, left}
-use Rattle.decisions.specs.Values.{BatchValue}
-use Rattle.calls.specs.Asking.{Answered}
-use Rattle.calls.specs.Views.{NodeView}
-use Rattle.calls.specs.declared.call.NodeCall.{NodeCall}
+use Rattle.answer_turns.proofs.Words.{Answered, BatchValue, CatchUpComes, FitsItsTypes, IsCalled, IsCatchingUp, Moment, Next, NodeCall, NodeView, Progress, Reply, Running, StandsOver, State, Store, There, called, from_coordinator, from_shard, left}
 use Rattle.names.specs.declared.call_name.CallName.{CallName}
-use Rattle.calls.specs.declared.reply.Reply.{Reply}
-use Rattle.calls.specs.declared.reply.Reply.TheVariants.{Coordinator as from_coordinator, Shard as from_shard}
 use Rattle.calls.specs.declared.reply.CoordinatorReply.TheVariants as told
 use Rattle.calls.specs.declared.reply.ShardReply.TheVariants as told_by
 use Rattle.catch_up.specs.CatchingUp.{Asks, Gives}
 use Rattle.catch_up.specs.Held.{Awaited, CatchUpCallValue, CatchUpValue}
-use Rattle.catch_up.specs.declared.caught.Progress.{Progress}
-use Rattle.catch_up.specs.declared.caught.Progress.TheVariants.{Next, There, Refused}
-use Rattle.turns.specs.Moments.{Moment, Running}
-use Rattle.turns.specs.Stores.{StandsOver, Store}
-use Rattle.call_turns.specs.StoreCalls.{FitsItsTypes, IsCalled, called}
-use Rattle.call_turns.proofs.CaughtUp.{CatchUpComes, IsCatchingUp, caught_up, same_way}
+use Rattle.catch_up.specs.declared.caught.Progress.TheVariants.{Refused}
+use Rattle.call_turns.proofs.CaughtUp.{caught_up, same_way}
 
 -- progress of the same catch-up of this shard
 abbrev pub moved : ℕ → Progress → Progress

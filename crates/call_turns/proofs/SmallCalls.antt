@@ -1,6 +1,7 @@
 -- Small calls and steps of a store: nodes, calls, beginnings and ends of flows that are, and some that are none.
 use Rattle.std.specs.List.{AllByRecursion, IsDistinct}
 use Rattle.std.proofs.Common.{◌≡◌, ◌≢◌, ◌⊎◌, ⊎_elim, ◌≤◌, ◌<◌, ℕ, zero, suc, true, false, true≢false, List, [], ◌∷◌, length, Option, Some, None, Contains, refl, sym, ◌∙◌, ap, subst, arith}
+use Rattle.std.proofs.lemmas.Option.{none-some}
 use Rattle.std.proofs.Math.Dec.{eqb}
 use Rattle.std.proofs.lemmas.Bool.{cases_Bool, eq-eqb, eqb-true}
 use Rattle.tuples.specs.declared.change.Change.{Change}
@@ -11,9 +12,6 @@ use Rattle.calls.specs.Views as views
 use Rattle.laws.specs.Worlds.{coordinator_node}
 use Rattle.turns.specs.Promises.{IsNearlyFull}
 use Rattle.call_turns.specs.Steps.{IsDroppedThere}
-
-none_is_some : {X : Type 0} {x : X} → None ≡ Some x → ⊥
-none_is_some is = cc
 
 shard_is_not : (s : ℕ) → shard s ≡ coordinator → ⊥
 shard_is_not s is = cc
@@ -151,7 +149,7 @@ module _ {D : Type 0} (state : D → State) (honest : D → Type 0) (moment : D 
 
   -- no flow begins where another one runs
   begun_in_a_taken_slot : (new : Store D) (asked : Asked) → IsBegunThere (record away { flows = first_slot }) new 0 asked → ⊥
-  begun_in_a_taken_slot new asked begun = none_is_some (sym begun.free)
+  begun_in_a_taken_slot new asked begun = none-some _ (sym begun.free)
 
   -- nor takes down a node
   begun_with_a_call : (slot : ℕ) (asked : Asked) → IsBegunThere away (record away { at = λ n. down; flows = first_slot }) slot asked → ⊥
@@ -166,7 +164,7 @@ module _ {D : Type 0} (state : D → State) (honest : D → Type 0) (moment : D 
     taken = first 1024;
     many = let all = so_many 1024 in omega (arith, all);
     once = all_apart 1024;
-    each = λ t has none. none_is_some (sym none);
+    each = λ t has none. none-some _ (sym none);
     store_stays = record { devices = λ n. refl; at = λ n. refl; open_ids = refl; given = refl };
     same = λ t. refl;
   }

@@ -1,22 +1,11 @@
 -- A condition that is met after the whole log is met by the rows of its tuple's shard, where no write in doubt names the tuple.
 use Rattle.std.proofs.Common.{◌≡◌, ⊎_elim, ℕ, Bool, true, false, ◌||◌, ◌==◌, ◌+◌, ◌<◌, ◌≤◌, max, List, [], ◌∷◌, ◌++◌, take, filter, refl, sym, ◌∙◌, ap, subst, arith, if◌then◌else◌, length, nat_lt, ◌&&◌, not}
 use Rattle.std.proofs.lemmas.Bool.{cases_Bool, eq-eqb, le-leb, leb-true}
-use Rattle.tuples.specs.declared.tuple.Tuple.{Tuple}
-use Rattle.tuples.specs.declared.change.Change.{Change}
-use Rattle.tuples.specs.declared.change.Want.{Want}
-use Rattle.tuples.specs.declared.change.Want.TheVariants.{NotAfter, Exists, Absent}
-use Rattle.tuples.specs.declared.entry.Entry.{Entry}
-use Rattle.tuples.specs.declared.version.Version.{Version}
-use Rattle.tuples.specs.Changes.{changed, has_tuple, tuple_of}
-use Rattle.tuples.specs.Log.{is_at, last_from, last_place, meets_want}
-use Rattle.tuples.specs.Order.{tuple_eq}
-use Rattle.tuples.specs.Parts.{shard_of}
-use Rattle.tuples.specs.Versions.{changes_from, collected, last_version, of_shard, placed, there_at, versions, is_touch, superseded}
-use Rattle.versions.proofs.Alike.{last_alike}
+use Rattle.laws.proofs.Words.{Absent, Change, Entry, Exists, NotAfter, ShardMeans, ShardState, Tuple, Version, Want, changed, changes_from, has_tuple, is_at, is_touch, last_alike, last_from, meets_want, of_shard, placed, shard_of, superseded, tuple_eq, tuple_of}
+use Rattle.tuples.specs.Log.{last_place}
+use Rattle.tuples.specs.Versions.{collected, last_version, there_at, versions}
 use Rattle.laws.specs.LockLaws.{MetConditionsAreMetHere}
 use Rattle.laws.proofs.PreparableConditions.{last_before, there_before, there_by_rows, unheld_unchanged}
-use Rattle.records.specs.Replays.{ShardState}
-use Rattle.laws.specs.Shards.{ShardMeans}
 
 either : (b d : Bool) (place last : ℕ) → (if b then max place (if d then max place last else last) else (if d then max place last else last)) ≡ (if b || d then max place last else last)
 either true true place last = omega arith

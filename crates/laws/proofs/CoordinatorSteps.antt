@@ -1,14 +1,10 @@
 -- One record more at the coordinator.
 use Rattle.std.proofs.Common.{◌≡◌, ⊎_elim, ℕ, ◌+◌, ◌<◌, ◌≤◌, List, [], ◌∷◌, ◌++◌, length, take, sym, ◌∙◌, ap, subst, arith}
 use Rattle.std.proofs.lemmas.List.{drop-append-le, length-take-le, length_push, take-append-le, take_all}
-use Rattle.tuples.specs.declared.entry.Entry.{Entry}
-use Rattle.records.specs.declared.record.Record.{Record}
-use Rattle.records.specs.declared.record.Record.TheVariants.{Decision, Epoch, Horizon}
-use Rattle.records.specs.Coordinators.{CoordinatorState, IsCoordinatorImage, MayOpenAgain, MayRaise, coordinator_state, coordinator_step, end_of}
-use Rattle.records.specs.Replays.{shard_state}
-use Rattle.laws.specs.Coordinators.{AreGiven, CoordinatorMeans}
+use Rattle.laws.proofs.Words.{CoordinatorMeans, CoordinatorState, Decision, Entry, Epoch, Horizon, IsCoordinatorImage, IsMeaning, Means, Record, coordinator_node, coordinator_state, end_of, shard_state}
+use Rattle.records.specs.Coordinators.{MayOpenAgain, MayRaise, coordinator_step}
+use Rattle.laws.specs.Coordinators.{AreGiven}
 use Rattle.laws.specs.CoordinatorLaws.{DecisionsRest, FlushesRest, HorizonsRest, IsLearnedInAll, MayBeListed, OpeningsRest, RestartsRest}
-use Rattle.laws.specs.Worlds.{IsMeaning, Means, coordinator_node}
 use Rattle.laws.proofs.CoordinatorStates.{coordinator_last, coordinator_push, end_is_length}
 use Rattle.laws.proofs.DecisionStep.{listed_means}
 use Rattle.laws.proofs.Lists.{slice_get_push}

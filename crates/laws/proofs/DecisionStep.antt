@@ -1,13 +1,10 @@
 -- One write more is listed, whose part each content holds.
 use Rattle.std.proofs.Common.{◌≡◌, ⊎_elim, ℕ, ◌≤◌, List, [], ◌∷◌, ◌++◌, length, refl, sym, ap, subst, arith}
 use Rattle.std.proofs.lemmas.List.{take-append-le, length_push}
-use Rattle.tuples.specs.declared.entry.Entry.{Entry}
+use Rattle.laws.proofs.Words.{Entry, ShardMeans, ShardState, alike_same, alike_trans, find_in_doubt, of_shard}
 use Rattle.tuples.specs.Parts.{expected}
-use Rattle.tuples.specs.Versions.{of_shard, versions}
-use Rattle.records.specs.Replays.{ShardState, find_in_doubt}
-use Rattle.laws.specs.Shards.{ShardMeans}
+use Rattle.tuples.specs.Versions.{versions}
 use Rattle.laws.proofs.Lists.{slice_get_push}
-use Rattle.versions.proofs.Alike.{alike_same, alike_trans}
 
 -- the versions of the writes before it are the same
 versions_push : (log : List Entry) (w : Entry) (p h : ℕ) → p ≤ length log → versions (log ++ w ∷ []) p h ≡ versions log p h

@@ -3,17 +3,12 @@ use Rattle.std.proofs.Common.{◌≡◌, ◌⊎◌, inl, inr, ℕ, List, [], ◌
 use Rattle.tuples.specs.Log.{IsLegal}
 use Rattle.tuples.specs.Versions.{collected, versions}
 use Rattle.records.specs.Identity.{coordinator_number}
-use Rattle.records.specs.declared.record.Record.{Record}
-use Rattle.records.specs.declared.record.Record.TheVariants.{Epoch}
-use Rattle.records.specs.Coordinators.{CoordinatorState, IsCoordinatorImage, coordinator_state, coordinator_step}
-use Rattle.records.specs.Replays.{IsShardImage, shard_state, shard_step}
+use Rattle.laws.proofs.Words.{AreGivenInDoubt, CoordinatorMeans, CoordinatorState, Epoch, IsCoordinatorImage, IsLog, IsShardImage, Record, ShardMeans, alike_refl, coordinator_node, shard_node}
+use Rattle.records.specs.Coordinators.{coordinator_state, coordinator_step}
+use Rattle.records.specs.Replays.{shard_state, shard_step}
 use Rattle.replay.proofs.States.{image_empty, image_push}
-use Rattle.laws.specs.Coordinators.{CoordinatorMeans}
-use Rattle.laws.specs.Shards.{ShardMeans}
 use Rattle.laws.specs.StopLaws.{EmptyRests}
-use Rattle.laws.specs.Worlds.{AreGivenInDoubt, IsLog, coordinator_node, shard_node}
 use Rattle.laws.proofs.CoordinatorStates.{coordinator_empty, coordinator_image_push}
-use Rattle.versions.proofs.Alike.{alike_refl}
 
 empty_log : IsLog []
 unfolding IsLegal

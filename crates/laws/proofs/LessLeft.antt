@@ -1,11 +1,8 @@
 -- What a stop may leave gets less, and the places that are kept.
 use Rattle.std.proofs.Common.{◌≡◌, ◌⊎◌, inl, inr, ⊎_elim, ℕ, ◌≤◌, List, ◌++◌, length, take, refl, sym, ◌∙◌, ap, subst, arith, append-nil}
 use Rattle.std.proofs.lemmas.List.{take_all}
-use Rattle.tuples.specs.declared.entry.Entry.{Entry}
-use Rattle.records.specs.declared.record.Record.{Record}
-use Rattle.records.specs.Coordinators.{coordinator_state}
+use Rattle.laws.proofs.Words.{Entry, Means, Record, coordinator_state}
 use Rattle.laws.specs.StopLaws.{FlushesLeaveLess, HorizonRises, LeavesLessAt, LessRests, WholeRests}
-use Rattle.laws.specs.Worlds.{Means}
 
 module _ (old new : List Record → Type 0) (shard shard_after : ℕ → List Record → Type 0) where
   means_less : (store shards : ℕ) (log : List Entry) (h : ℕ) → LeavesLessAt shard shard_after → (records : List Record) → Means store shards log h records shard → Means store shards log h records shard_after

@@ -1,3 +1,4 @@
+mod Words
 pub mod Lists
 pub mod PrepareStep
 pub mod Rows

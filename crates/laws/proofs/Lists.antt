@@ -1,14 +1,7 @@
 -- Lists with one more element, and their first ones.
-use Rattle.std.proofs.Common.{◌≡◌, ◌⊎◌, inl, inr, ⊎_elim, ℕ, zero, suc, List, [], ◌∷◌, ◌++◌, length, take, Some, refl, arith, slice_get}
-use Rattle.tuples.specs.declared.entry.Entry.{Entry}
-use Rattle.tuples.specs.Log.{AreNew}
-
--- an element of a longer list is an old one or the new one
-pub slice_get_push : {X : Type 0} (xs : List X) (x y : X) (j : ℕ) → slice_get (xs ++ x ∷ []) j ≡ Some y → (slice_get xs j ≡ Some y) ⊎ ((j ≡ length xs) × (x ≡ y))
-slice_get_push [] x y zero is = inr (refl, cc)
-slice_get_push [] x y (suc j) is = absurd (cc)
-slice_get_push (z ∷ xs) x y zero is = inl is
-slice_get_push (z ∷ xs) x y (suc j) is = ⊎_elim (λ old. inl old) (λ new. inr (omega (arith, new.0), new.1)) (slice_get_push xs x y j is)
+use Rattle.std.proofs.Common.{◌≡◌, ℕ, zero, suc, List, [], ◌∷◌, take, Some, slice_get}
+use Rattle.laws.proofs.Words.{AreNew, Entry}
+pub use Rattle.holds.proofs.Apart.{slice_get_push}
 
 -- an element of the first ones is one of the list
 pub slice_get_taken : {X : Type 0} (n : ℕ) (xs : List X) (i : ℕ) (x : X) → slice_get (take n xs) i ≡ Some x → slice_get xs i ≡ Some x

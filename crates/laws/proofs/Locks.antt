@@ -2,13 +2,9 @@
 use Rattle.std.proofs.Common.{◌≡◌, ◌≢◌, ◌⊎◌, inl, inr, ⊎_elim, ℕ, ◌==◌, zero, suc, true, false, List, [], ◌∷◌, Some, None, All, sym, ◌∙◌, ap, cond, slice_get}
 use Rattle.std.proofs.lemmas.Bool.{cases_Bool, both_ways, eq-eqb, eqb-true}
 use Rattle.std.proofs.lemmas.List.Elements.{All-contains}
-use Rattle.tuples.specs.declared.tuple.Tuple.{Tuple}
-use Rattle.tuples.specs.declared.entry.Entry.{Entry}
-use Rattle.tuples.specs.declared.entry.WriteId.{WriteId}
-use Rattle.tuples.specs.Changes.{has_tuple}
-use Rattle.tuples.specs.Log.{same_id}
+use Rattle.laws.proofs.Words.{Entry, Tuple, WriteId, find_in_doubt, has_tuple, is_held, named, same_id}
 use Rattle.tuples.proofs.Named.{has_tuple_decides}
-use Rattle.records.specs.Replays.{find_in_doubt, is_held, named, without}
+use Rattle.records.specs.Replays.{without}
 use Rattle.replay.proofs.Doubts.{same_id_refl}
 use Rattle.laws.specs.LockLaws.{DoubtsAreApart}
 use Rattle.replay.proofs.Images.{image_apart}

@@ -3,11 +3,8 @@ use Rattle.std.proofs.Common.{⊎_elim, ℕ, ◌<◌, ◌≤◌, List, [], ◌�
 use Rattle.std.proofs.lemmas.List.{take-append-le, length-take-le, take-take}
 use Rattle.std.proofs.lemmas.Option.{slice_get_within}
 use Rattle.std.proofs.Math.Seq.{take-append_seam}
-use Rattle.tuples.specs.declared.entry.Entry.{Entry}
-use Rattle.tuples.specs.Changes.{IsWrite}
-use Rattle.tuples.specs.Log.{AreNew, HoldAfter, IsLegal}
-use Rattle.laws.specs.LogLaws.{IsUnlisted}
-use Rattle.laws.specs.Worlds.{IsLog}
+use Rattle.laws.proofs.Words.{AreNew, Entry, IsLog, IsUnlisted, IsWrite}
+use Rattle.tuples.specs.Log.{HoldAfter, IsLegal}
 use Rattle.laws.proofs.Lists.{new_taken, slice_get_push, slice_get_taken}
 
 legal_push : (log : List Entry) (w : Entry) → IsLegal log → HoldAfter log w.conditions → IsLegal (log ++ w ∷ [])

@@ -2,10 +2,9 @@
 use Rattle.std.proofs.Common.{◌≡◌, ◌≤◌, ◌++◌, ◌∷◌, [], ℕ, List, length, take, drop, false, ◌-◌, ◌+◌, sym, ◌∙◌, ap, arith, refl, subst}
 use Rattle.std.proofs.lemmas.List.{drop-take, length-take, length_push, take-append-le, take-take}
 use Rattle.std.specs.List.{flat_map}
-use Rattle.tuples.specs.declared.entry.Entry.{Entry}
-use Rattle.tuples.specs.declared.tuple.Tuple.{Tuple}
-use Rattle.tuples.specs.Log.{is_at, there_after}
-use Rattle.tuples.specs.Watching.{events, events_from}
+use Rattle.laws.proofs.Words.{Entry, Tuple, events_from, there_after}
+use Rattle.tuples.specs.Log.{is_at}
+use Rattle.tuples.specs.Watching.{events}
 use Rattle.laws.specs.Machines.{Machine, Move, append, keep, cut, raise, Makes, Moves}
 
 -- the second machine has all that the first one keeps

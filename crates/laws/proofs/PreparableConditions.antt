@@ -6,29 +6,16 @@ use Rattle.std.proofs.lemmas.Grind.{flat_map-append}
 use Rattle.std.proofs.lemmas.List.{take-append-drop}
 use Rattle.std.proofs.lemmas.List.Elements.{All-contains, All-contains_itself}
 use Rattle.std.proofs.lemmas.List.Folds.{list_any-append}
-use Rattle.tuples.specs.declared.tuple.Tuple.{Tuple}
-use Rattle.tuples.specs.declared.change.Change.{Change}
-use Rattle.tuples.specs.declared.change.Change.TheVariants.{Touch, Delete}
-use Rattle.tuples.specs.declared.change.Condition.{Condition}
-use Rattle.tuples.specs.declared.change.Want.{Want}
-use Rattle.tuples.specs.declared.change.Want.TheVariants.{NotAfter, Exists, Absent}
-use Rattle.tuples.specs.declared.entry.Entry.{Entry}
-use Rattle.tuples.specs.declared.version.Version.{Version}
-use Rattle.tuples.specs.Changes.{changed, conditioned, has_tuple, tuple_of}
-use Rattle.tuples.specs.Log.{HoldAfter, Holds, is_at, last_from, last_place, meets_want, there_after}
-use Rattle.tuples.specs.Order.{tuple_eq}
-use Rattle.tuples.specs.Parts.{expected, part, shard_of, takes_part}
-use Rattle.tuples.specs.Versions.{changes_from, collected, is_touch, last_version, of_shard, placed, superseded, there_at, versions}
-use Rattle.tuples.proofs.Same.{tuple_same}
-use Rattle.records.specs.Replays.{ShardState, find_in_doubt, is_held, named}
+use Rattle.laws.proofs.Words.{Absent, Change, Condition, Delete, Entry, Exists, Holds, IsLog, NotAfter, ShardMeans, ShardState, Touch, Tuple, Version, Want, changed, changes_from, conditioned, find_in_doubt, has_tuple, is_held, is_touch, last_alike, last_from, meets_want, named, of_shard, placed, shard_of, superseded, there_after, tuple_eq, tuple_of, tuple_same}
+use Rattle.tuples.specs.Log.{HoldAfter, is_at, last_place}
+use Rattle.tuples.specs.Parts.{expected, part, takes_part}
+use Rattle.tuples.specs.Versions.{collected, last_version, there_at, versions}
 use Rattle.laws.specs.LockLaws.{IsPreparable, PreparableConditionsHold}
-use Rattle.laws.specs.Shards.{ShardMeans}
-use Rattle.laws.specs.Worlds.{IsLog}
 use Rattle.laws.proofs.WriteConditions.{changed_in_part, find_at, last_from-append, or_left, or_right, own_conditioned, some_changes, there_both, there_last, there_unchanged, tuple_itself}
 use Rattle.laws.proofs.KeptVersions.{versions_give_snapshots}
 use Rattle.laws.proofs.LearnStep.{slice_get_drop}
 use Rattle.laws.proofs.Locks.{all_has, not_held}
-use Rattle.versions.proofs.Alike.{last_alike, there_at_alike}
+use Rattle.versions.proofs.Alike.{there_at_alike}
 
 -- writes of which none changes the tuple
 abbrev ChangeNone : Tuple → List Entry → Type 0

@@ -1,12 +1,8 @@
 -- A prepare is staged at a shard, or dropped, of a write that the log does not list.
 use Rattle.std.proofs.Common.{◌≡◌, ℕ, List, sym, ◌∙◌}
-use Rattle.laws.specs.Shards.{ShardMeans}
-use Rattle.records.specs.Replays.{ShardState, shard_step}
-use Rattle.tuples.specs.declared.entry.Entry.{Entry}
-use Rattle.tuples.specs.declared.entry.WriteId.{WriteId}
-use Rattle.records.specs.declared.record.Record.TheVariants.{Prepare, Dropped}
-use Rattle.laws.specs.LogLaws.{IsUnlisted}
-use Rattle.replay.proofs.Doubts.{find_push, find_without_other}
+use Rattle.laws.proofs.Words.{Dropped, Entry, IsUnlisted, Prepare, ShardMeans, ShardState, WriteId, find_push}
+use Rattle.records.specs.Replays.{shard_step}
+use Rattle.replay.proofs.Doubts.{find_without_other}
 
 module _ (shards s : ℕ) (log : List Entry) (hc h : ℕ) (state : ShardState) (id : WriteId) (unlisted : IsUnlisted id log) (m : ShardMeans shards s log hc h state) where
   pub prepared_means : (p : Entry) → p.id ≡ id → ShardMeans shards s log hc h (shard_step state (Prepare p))

@@ -1,22 +1,14 @@
 -- Small records, computed: what a shard's and a coordinator's mean, and some that mean nothing.
 use Rattle.std.proofs.Common.{◌≡◌, ◌≤◌, inl, ℕ, zero, suc, true≢false, List, [], ◌∷◌, ◌++◌, Some, None, refl, sym, ◌∙◌, subst, arith, slice_get}
 use Rattle.std.proofs.lemmas.List.Elements.{All-head, All-nil}
-use Rattle.tuples.specs.declared.change.Change.TheVariants.{Touch}
-use Rattle.tuples.specs.declared.change.Want.TheVariants.{Absent}
-use Rattle.tuples.specs.declared.entry.Entry.{Entry}
+use Rattle.laws.proofs.Words.{Absent, Decision, Entry, Epoch, IsCoordinatorImage, Record, ShardMeans, ShardState, Touch, alike_refl, alike_same, alike_trans, coordinator_node, find_in_doubt, last_alike, of_shard}
 use Rattle.tuples.specs.Log.{is_at}
 use Rattle.tuples.specs.Order.{tuple_eq}
 use Rattle.tuples.specs.Parts.{expected, part, shard_of, takes_part}
-use Rattle.tuples.specs.Versions.{collected, of_shard, versions}
+use Rattle.tuples.specs.Versions.{collected, versions}
 use Rattle.tuples.proofs.Examples.{numbered, viewed}
-use Rattle.records.specs.declared.record.Record.{Record}
-use Rattle.records.specs.declared.record.Record.TheVariants.{Decision, Epoch}
-use Rattle.records.specs.Coordinators.{HoldsKnown, IsCoordinatorImage, MayDecide, coordinator_state, coordinator_step}
-use Rattle.records.specs.Replays.{ShardState, find_in_doubt}
-use Rattle.laws.specs.Shards.{ShardMeans}
-use Rattle.laws.specs.Worlds.{coordinator_node}
+use Rattle.records.specs.Coordinators.{HoldsKnown, MayDecide, coordinator_state, coordinator_step}
 use Rattle.laws.proofs.CoordinatorStates.{coordinator_empty, coordinator_image_push}
-use Rattle.versions.proofs.Alike.{alike_refl, alike_same, alike_trans, last_alike}
 use Rattle.tuples.specs.Versions.{last_version}
 
 -- one write, which a store's only shard has in doubt, or has learned

@@ -3,20 +3,16 @@ use Rattle.std.proofs.Common.{◌≡◌, ◌⊎◌, inl, inr, ⊎_elim, ℕ, zer
 use Rattle.std.proofs.lemmas.Bool.{cases_Bool, le-leb, lt-leb, leb-true, leb-false, eq-eqb}
 use Rattle.std.proofs.lemmas.List.Elements.{filter-append}
 use Rattle.std.specs.List.{flat_map}
-use Rattle.tuples.specs.declared.tuple.Tuple.{Tuple}
-use Rattle.tuples.specs.declared.change.Change.{Change}
-use Rattle.tuples.specs.declared.entry.Entry.{Entry}
-use Rattle.tuples.specs.declared.version.Version.{Version}
-use Rattle.tuples.specs.Changes.{tuple_of}
-use Rattle.tuples.specs.Log.{is_at, there_after}
+use Rattle.laws.proofs.Words.{Change, Entry, Tuple, Version, changes_from, of_shard, placed, there_after, tuple_of}
+use Rattle.tuples.specs.Log.{is_at}
 use Rattle.tuples.specs.Parts.{shard_of}
-use Rattle.tuples.specs.Versions.{placed, changes_from, collected, of_shard, there_at, versions}
+use Rattle.tuples.specs.Versions.{collected, there_at, versions}
 use Rattle.laws.proofs.Rows.{above_changes, kept_all}
 
 abbrev at_or_below : ℕ → Version → Bool
 at_or_below s v = nat_le v.place s
 
-abbrev changes_of : List Version → List Change
+abbrev pub changes_of : List Version → List Change
 changes_of = map (λ (v : Version). v.change)
 
 map-append : (xs ys : List Version) → changes_of (xs ++ ys) ≡ changes_of xs ++ changes_of ys

@@ -2,9 +2,8 @@
 use Rattle.std.proofs.Common.{◌≡◌, ◌+◌, ◌-◌, ◌++◌, ◌∷◌, [], ℕ, List, length, take, drop, filter, sym, ◌∙◌, ap, arith, append_assoc, add-zero}
 use Rattle.std.proofs.lemmas.List.{length-take-le, length-drop, drop-drop}
 use Rattle.std.proofs.Math.Seq.{take-add}
-use Rattle.tuples.specs.declared.entry.Entry.{Entry}
-use Rattle.tuples.specs.Versions.{placed}
-use Rattle.tuples.specs.Watching.{EventsJoin, Placed, events, events_from, is_among}
+use Rattle.laws.proofs.Words.{Entry, events_from, placed}
+use Rattle.tuples.specs.Watching.{EventsJoin, Placed, events, is_among}
 
 -- the events of two logs, one behind the other
 events_from-append : (place : ℕ) (names : List (List ℕ)) (xs ys : List Entry) → events_from place names (xs ++ ys) ≡ events_from place names xs ++ events_from (place + length xs) names ys

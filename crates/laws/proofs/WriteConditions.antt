@@ -6,19 +6,10 @@ use Rattle.std.proofs.lemmas.Grind.{flat_map-append}
 use Rattle.std.proofs.lemmas.List.{length-take-le, map-append, take-append-drop, take_all}
 use Rattle.std.proofs.lemmas.List.Elements.{All-cons, All-head, All-nil, All-tail}
 use Rattle.std.proofs.lemmas.List.Folds.{list_any-append}
-use Rattle.tuples.specs.declared.tuple.Tuple.{Tuple}
-use Rattle.tuples.specs.declared.change.Change.{Change}
-use Rattle.tuples.specs.declared.change.Change.TheVariants.{Touch, Delete}
-use Rattle.tuples.specs.declared.change.Condition.{Condition}
-use Rattle.tuples.specs.declared.entry.Entry.{Entry}
-use Rattle.tuples.specs.declared.entry.WriteId.{WriteId}
-use Rattle.tuples.specs.Changes.{changed, conditioned, has_tuple, tuple_of}
-use Rattle.tuples.specs.Log.{HoldAfter, Holds, is_at, last_from, last_place, meets_want, same_id, there_after}
-use Rattle.tuples.specs.Order.{tuple_eq}
-use Rattle.tuples.specs.Parts.{expected, part, shard_of, takes_part}
+use Rattle.laws.proofs.Words.{Change, Condition, Delete, Entry, Holds, Touch, Tuple, WriteId, changed, conditioned, find_in_doubt, has_tuple, last_from, meets_want, named, same_id, shard_of, there_after, tuple_eq, tuple_of, tuple_same}
+use Rattle.tuples.specs.Log.{HoldAfter, is_at, last_place}
+use Rattle.tuples.specs.Parts.{expected, part, takes_part}
 use Rattle.tuples.proofs.Named.{shard_below, tuple_equivalence}
-use Rattle.tuples.proofs.Same.{tuple_same}
-use Rattle.records.specs.Replays.{find_in_doubt, named}
 use Rattle.laws.specs.LockLaws.{ConditionsHoldAsKnown, ConditionsHoldByParts, DecisionsLeaveConditions}
 use Rattle.holds.specs.Holds.{AreApart}
 use Rattle.laws.proofs.Rows.{empty_of_length}

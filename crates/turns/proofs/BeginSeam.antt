@@ -1,5 +1,6 @@
 -- What the coordinator's own contract of begin says makes a turn of a run, and gives each refusal its cause.
 use Rattle.std.proofs.Common.{◌≡◌, inl, inr, ⊎_elim, ℕ, ◌+◌, ◌<◌, List, [], ◌∷◌, length, map, Some, None, refl, sym, ◌∙◌, ap, subst, arith}
+use Rattle.std.proofs.lemmas.Option.{none-some}
 use Rattle.std.proofs.lemmas.Bool.{cases_lt}
 use Rattle.std.proofs.lemmas.List.{length-map}
 use Rattle.std.proofs.lemmas.List.Elements.{All-nil}
@@ -96,7 +97,7 @@ module _ (store shards : ℕ) (left : NodeName → List Record → Type 0) {D : 
     turned = record {
       slot = refl;
       asked = refl;
-      same_id = λ id is. absurd (no_id (sym unheld ∙ is));
+      same_id = λ id is. absurd (none-some _ (sym unheld ∙ is));
       seen = refl;
       decides = inr (record { moves_are = All-nil (IsQuiet (MayRise shards found_before now)); decided = refl });
       met = inl refl;
@@ -106,9 +107,6 @@ module _ (store shards : ℕ) (left : NodeName → List Record → Type 0) {D : 
     named = refl;
     tells = inl (own.goes_on, (goes_on, refl, (refl, refl)));
   }
-    where
-      no_id : {X : Type 0} {x : X} → None ≡ Some x → ⊥
-      no_id is = cc
 
 pub begin_turns : (store shards : ℕ) (left : NodeName → List Record → Type 0) (D : Type 0) → BeginTurns store shards left D
 begin_turns store shards left D now old new changes conditions i r h st seen begins own = (

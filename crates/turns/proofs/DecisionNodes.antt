@@ -1,11 +1,12 @@
 -- The coordinator of a store that stands stages a decision: what the nodes know then.
-use Rattle.std.proofs.Common.{◌≡◌, ◌≢◌, ◌⊎◌, inl, inr, ⊎_elim, ℕ, ◌+◌, ◌≤◌, List, [], ◌∷◌, ◌++◌, length, Contains, refl, sym, ◌∙◌, ap, subst, arith, append_assoc, false}
+use Rattle.std.proofs.Common.{◌≡◌, ◌≢◌, inl, inr, ⊎_elim, ℕ, ◌+◌, ◌≤◌, List, [], ◌∷◌, ◌++◌, length, Contains, refl, sym, ◌∙◌, ap, subst, arith, append_assoc, false}
 use Rattle.std.proofs.lemmas.List.{length_push, take-append-le}
 use Rattle.std.proofs.lemmas.List.Elements.{Contains-append_right, Contains-push_cases}
-use Rattle.turns.proofs.Words.{AreNew, CoordinatorKnows, CoordinatorState, Decision, Dropped, Entry, Epoch, HeadsStand, Horizon, IdsStand, IsDeciding, IsOfRefusedOpening, IsOpen, IsRightVerdict, IsUnlisted, Learned, ListedStand, LocksStand, Means, Moment, NodeName, NodeState, Nodes, NodesStand, Prepare, Record, Refusal, Rests, WasGiven, WriteId, at_shards, coordinator, coordinator_from, coordinator_from-append, coordinator_push, down, empty_coordinator, end_of, leaves, less_rests, of_without, refused, shard, shard_state, slice_get_push, staged_of, up, with_decision, with_write, without}
+use Rattle.turns.proofs.Words.{AreNew, CoordinatorKnows, CoordinatorState, Decision, Dropped, Entry, Epoch, HeadsStand, Horizon, IdsStand, IsDeciding, IsOpen, IsRightVerdict, IsUnlisted, Learned, ListedStand, LocksStand, Means, Moment, NodeName, Nodes, NodesStand, Prepare, Record, Rests, WasGiven, WriteId, at_shards, coordinator, coordinator_from, coordinator_from-append, coordinator_push, empty_coordinator, end_of, leaves, less_rests, of_without, shard, shard_state, slice_get_push, staged_of, up, with_decision, with_write, without}
 use Rattle.records.specs.Coordinators.{coordinator_state, coordinator_step}
 use Rattle.laws.proofs.CoordinatorSteps.{decisions_rest}
-use Rattle.turns.proofs.Frames.{IsTaken, KeepsStore, given_on, shard_less, verdict_on}
+use Rattle.turns.proofs.CoordinatorStages as stages
+use Rattle.turns.proofs.Frames.{KeepsStore, given_on, shard_less, verdict_on}
 use Rattle.turns.proofs.DecisionLists.{slice_get_longer, few_still, new_without, other_without}
 use Rattle.turns.proofs.ShardStages.{durable_in}
 use Rattle.turns.proofs.ShardStagesStands.{contained_at, contained_from}
@@ -23,23 +24,12 @@ epoch_stays s (Decision place v ∷ rs) none = epoch_stays (coordinator_step s (
 epoch_stays s (Horizon place ∷ rs) none = epoch_stays (coordinator_step s (Horizon place)) rs (λ a b c d has. none a b c d (Contains-append_right (Horizon place ∷ []) rs (Epoch a b c d) has))
 
 module _ (store shards : ℕ) (left : NodeName → List Record → Type 0) (now : Moment) (next : Nodes) (place : ℕ) (w : Entry) (st : IsDeciding store shards left now next place w) where
-  after : coordinator_state ((st.step.durable ++ st.step.staged) ++ Decision place w ∷ []) ≡ coordinator_step (coordinator_state (st.step.durable ++ st.step.staged)) (Decision place w)
-  after = coordinator_push (st.step.durable ++ st.step.staged) (Decision place w)
-
   pub knew : CoordinatorKnows now.nodes (coordinator_state st.step.durable) (coordinator_state (st.step.durable ++ st.step.staged))
   knew = record { durable = st.step.durable; staged = st.step.staged; is_up = st.step.was; durable_state = refl; replayed = refl }
 
   -- what the coordinator knows now: the same is durable, and it has one decision more
   pub knows_now : (kept m : CoordinatorState) → CoordinatorKnows next kept m → (kept ≡ coordinator_state st.step.durable) × (m ≡ coordinator_step (coordinator_state (st.step.durable ++ st.step.staged)) (Decision place w))
-  knows_now kept m k =
-      let both : up k.durable k.staged ≡ up st.step.durable (st.step.staged ++ Decision place w ∷ []) = sym k.is_up ∙ st.step.now in (
-        k.durable_state ∙ ap coordinator_state (ap durable_in both),
-        k.replayed
-            ∙ ap (λ (l : List Record). coordinator_state (l ++ k.staged)) (ap durable_in both)
-            ∙ ap (λ (l : List Record). coordinator_state (st.step.durable ++ l)) (ap staged_of both)
-            ∙ ap coordinator_state (sym (append_assoc st.step.durable st.step.staged (Decision place w ∷ [])))
-            ∙ after,
-      )
+  knows_now = stages.knows_now store shards left now next st.stands (Decision place w) st.step.durable st.step.staged st.step.was st.step.now st.step.shards
 
   pub same_epoch : (kept m : CoordinatorState) → CoordinatorKnows next kept m → m.epoch ≡ (coordinator_state (st.step.durable ++ st.step.staged)).epoch
   unfolding coordinator_step
@@ -47,18 +37,6 @@ module _ (store shards : ℕ) (left : NodeName → List Record → Type 0) (now 
 
   pub shard_left : (t : ℕ) (found : List Record) → leaves left next (shard t) found → leaves left now.nodes (shard t) found
   shard_left = shard_less shards left left now (with_decision now next w) false st.step.shards (λ t rs is. is)
-
-  coordinator_left : (found : List Record) → leaves left next coordinator found → leaves left now.nodes coordinator found ⊎ (found ≡ (st.step.durable ++ st.step.staged) ++ Decision place w ∷ [])
-  coordinator_left found is = ⊎_elim
-      (λ plain. inl (is.0, is.1, inl plain))
-      (λ more. inr (more
-      ∙ ap (λ (l : List Record). is.0 ++ l) (ap staged_of st.step.now)
-      ∙ ap (λ (l : List Record). l ++ (st.step.staged ++ Decision place w ∷ [])) ((st.stands.nodes.durable coordinator st.step.durable st.step.staged is.0 st.step.was).0 is.1)
-      ∙ sym (append_assoc st.step.durable st.step.staged (Decision place w ∷ []))))
-      is.2
-
-  here : leaves left now.nodes coordinator (st.step.durable ++ st.step.staged)
-  here = (st.step.durable, (st.stands.nodes.durable coordinator st.step.durable st.step.staged st.step.durable st.step.was).1 refl, inr (ap (λ (l : List Record). st.step.durable ++ l) (sym (ap staged_of st.step.was))))
 
   pub was_open : (v : Entry) → IsOpen next v → IsOpen now.nodes v × (v.id ≢ w.id)
   was_open v is =
@@ -71,19 +49,6 @@ module _ (store shards : ℕ) (left : NodeName → List Record → Type 0) (now 
   pub same_horizon : (coordinator_state (st.step.durable ++ st.step.staged)).horizon ≡ (coordinator_state (st.step.durable ++ (st.step.staged ++ Decision place w ∷ []))).horizon
   unfolding coordinator_step
   same_horizon = sym (ap (λ (c : CoordinatorState). c.horizon) (ap coordinator_state (sym (append_assoc st.step.durable st.step.staged (Decision place w ∷ []))) ∙ coordinator_push (st.step.durable ++ st.step.staged) (Decision place w)))
-
-  -- a raise that was taken still is
-  still_taken : (x : ℕ) → IsTaken shards left left now (with_decision now next w) false left now x → IsTaken shards left left now (with_decision now next w) false left (with_decision now next w) x
-  still_taken x is = ⊎_elim
-      (λ low. inl low)
-      (λ rest. ⊎_elim
-      (λ found.
-      let both : up found.durable found.staged ≡ up st.step.durable st.step.staged = sym found.is_up ∙ st.step.was in
-      let was : x ≤ (coordinator_state (st.step.durable ++ st.step.staged)).horizon = subst (λ (l : NodeState). x ≤ (coordinator_state (durable_in l ++ staged_of l)).horizon) both found.enough in
-      inr (inl (record { durable = st.step.durable; staged = st.step.staged ++ Decision place w ∷ []; is_up = st.step.now; enough = subst (λ (k : ℕ). x ≤ k) same_horizon was })))
-      (λ gone. let both : up st.step.durable st.step.staged ≡ down = sym st.step.was ∙ gone in absurd cc)
-      rest)
-      is
 
   pub keeps : KeepsStore shards left left now (with_decision now next w) false
   keeps = record {
@@ -104,7 +69,7 @@ module _ (store shards : ℕ) (left : NodeName → List Record → Type 0) (now 
     given_out = λ id g. g.epoch;
     epochs = λ t epoch is. is;
     settled = λ t p is. is;
-    taken = λ unopened. still_taken;
+    taken = λ unopened. stages.still_taken store shards left now next st.stands (Decision place w) st.step.durable st.step.staged st.step.was st.step.now st.step.shards (with_decision now next w) refl (omega arith) (omega (arith, same_horizon));
     named = λ x is. is;
   }
 
@@ -146,7 +111,7 @@ module _ (store shards : ℕ) (left : NodeName → List Record → Type 0) (now 
   both_rest =
       let a = own_epoch in
       decisions_rest (leaves left now.nodes coordinator) (leaves left next coordinator) (at_shards (leaves left now.nodes)) store shards now.machine.log now.machine.kept now.machine.horizon (st.step.durable ++ st.step.staged) place w
-      (record { rests = st.stands.rests; here = here; image = st.image; adds = coordinator_left })
+      (record { rests = st.stands.rests; here = stages.here store shards left now next st.stands (Decision place w) st.step.durable st.step.staged st.step.was st.step.now st.step.shards; image = st.image; adds = stages.coordinator_left store shards left now next st.stands (Decision place w) st.step.durable st.step.staged st.step.was st.step.now st.step.shards })
       (st.stands.heads.whole st.step.durable st.step.staged st.step.was)
       (record { whole = st.whole; new = st.stands.ids.unlisted w st.is_open; given = omega (arith, a); prepared = st.prepared; conditions = st.conditions })
 
@@ -158,33 +123,8 @@ module _ (store shards : ℕ) (left : NodeName → List Record → Type 0) (now 
   whole_kept = (less_rests (leaves left next coordinator) (leaves left next coordinator) (at_shards (leaves left now.nodes)) (at_shards (leaves left next)) store shards (now.machine.log ++ w ∷ []) now.machine.kept now.machine.horizon
       (λ found is. is) shard_left).1 ((st.step.durable ++ st.step.staged) ++ Decision place w ∷ []) both_rest.1
 
-  node_was : (n : NodeName) (d g : List Record) → next.at n ≡ up d g → (now.nodes.at n ≡ up d g) ⊎ ((n ≡ coordinator) × (d ≡ st.step.durable) × (g ≡ st.step.staged ++ Decision place w ∷ []))
-  node_was coordinator d g is = let both : up d g ≡ up st.step.durable (st.step.staged ++ Decision place w ∷ []) = sym is ∙ st.step.now in inr (refl, ap durable_in both, ap staged_of both)
-  node_was (shard t) d g is = inl (sym (st.step.shards t) ∙ is)
-
   pub nodes_kept : NodesStand store shards left next
-  nodes_kept = record {
-    durable = λ n d g found is. ⊎_elim
-        (λ was. st.stands.nodes.durable n d g found was)
-        (λ fresh.
-        let was : now.nodes.at n ≡ up d st.step.staged = ap now.nodes.at fresh.0 ∙ st.step.was ∙ ap (λ (l : List Record). up l st.step.staged) (sym fresh.1) in
-        st.stands.nodes.durable n d st.step.staged found was)
-        (node_was n d g is);
-    no_opening = λ n d g a b c e is has. ⊎_elim
-        (λ was. st.stands.nodes.no_opening n d g a b c e was has)
-        (λ fresh. ⊎_elim
-        (λ old. st.stands.nodes.no_opening coordinator st.step.durable st.step.staged a b c e st.step.was old)
-        (λ (new : Decision place w ≡ Epoch a b c e). absurd cc)
-        (Contains-push_cases st.step.staged (Decision place w) (Epoch a b c e) (subst (λ (l : List Record). Contains l (Epoch a b c e)) fresh.2 has)))
-        (node_was n d g is);
-    coordinator_opened = λ kept m k. subst (λ (c : CoordinatorState). 1 ≤ c.epoch) (sym (knows_now kept m k).0) (st.stands.nodes.coordinator_opened (coordinator_state st.step.durable) (coordinator_state (st.step.durable ++ st.step.staged)) knew);
-    shard_opened = λ t d g is. st.stands.nodes.shard_opened t d g (sym (st.step.shards t) ∙ is);
-    sound = not_damaged;
-  }
-    where
-      not_damaged : (n : NodeName) (e : Refusal) → next.at n ≡ refused e → IsOfRefusedOpening e
-      not_damaged coordinator e is = let both : refused e ≡ up st.step.durable (st.step.staged ++ Decision place w ∷ []) = sym is ∙ st.step.now in absurd cc
-      not_damaged (shard t) e is = st.stands.nodes.sound (shard t) e (sym (st.step.shards t) ∙ is)
+  nodes_kept = stages.nodes_kept store shards left now next st.stands (Decision place w) st.step.durable st.step.staged st.step.was st.step.now st.step.shards (λ a b c d is. absurd cc)
 
   pub heads_kept : HeadsStand store shards left next (with_write now.machine w)
   unfolding coordinator_step
@@ -196,11 +136,7 @@ module _ (store shards : ℕ) (left : NodeName → List Record → Type 0) (now 
         ap end_of (knows_now kept m k).1 ∙ (let e : state.base + length (state.log ++ w ∷ []) ≡ length (now.machine.log ++ w ∷ []) = omega (arith, old, longer, length_push now.machine.log w) in e);
     kept = λ kept m k. ap end_of (knows_now kept m k).0 ∙ st.stands.heads.kept (coordinator_state st.step.durable) (coordinator_state (st.step.durable ++ st.step.staged)) knew;
     horizon = λ kept m k. ap (λ (c : CoordinatorState). c.horizon) (knows_now kept m k).0 ∙ st.stands.heads.horizon (coordinator_state st.step.durable) (coordinator_state (st.step.durable ++ st.step.staged)) knew;
-    whole = λ d g is.
-        let both : up st.step.durable (st.step.staged ++ Decision place w ∷ []) ≡ up d g = sym st.step.now ∙ is in
-        let same : (st.step.durable ++ st.step.staged) ++ Decision place w ∷ [] ≡ d ++ g =
-        append_assoc st.step.durable st.step.staged (Decision place w ∷ []) ∙ ap (λ (l : List Record). l ++ (st.step.staged ++ Decision place w ∷ [])) (ap durable_in both) ∙ ap (λ (l : List Record). d ++ l) (ap staged_of both) in
-        subst (λ (l : List Record). Means store shards (now.machine.log ++ w ∷ []) now.machine.horizon l (at_shards (leaves left next))) same whole_kept;
+    whole = λ d g is. subst (λ (l : List Record). Means store shards (now.machine.log ++ w ∷ []) now.machine.horizon l (at_shards (leaves left next))) (stages.all_of store shards left now next st.stands (Decision place w) st.step.durable st.step.staged st.step.was st.step.now st.step.shards d g is) whole_kept;
   }
 
   pub listed_kept : ListedStand store shards left next (with_write now.machine w)

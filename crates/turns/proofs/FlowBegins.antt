@@ -2,7 +2,7 @@
 use Rattle.std.proofs.Common.{◌≡◌, ◌⊎◌, inl, inr, ⊎_elim, ◌==◌, ℕ, zero, suc, Bool, true, false, true≢false, List, [], ◌∷◌, ◌++◌, Option, Some, None, slice_get, slice_index_or, Contains, refl, sym, ◌∙◌, ap, subst, arith, if◌then◌else◌}
 use Rattle.std.proofs.lemmas.Bool.{eq-eqb}
 use Rattle.std.proofs.lemmas.List.Elements.{All-nil, Contains-append_cases, Contains-append_right}
-use Rattle.std.proofs.lemmas.Option.{same_Some}
+use Rattle.std.proofs.lemmas.Option.{none-some, same_Some}
 use Rattle.turns.proofs.Words.{AreHeldHeads, Asked, Entry, HasSeenBelow, IsQuietFlow, IsRight, IsRightResolved, IsRightSettled, IsRightVerdict, Moment, NodeName, Record, Refusal, Running, Userset, WriteId, begun, flow_at, id_of, named_by, onward, outward, to_check, to_collect, to_flush, to_learn, to_raise, to_read, to_resolve, to_watch, to_write, with_flow}
 use Rattle.turns.specs.Flows.{nothing_held}
 use Rattle.turns.specs.FlowLaws.{FlowsBegin}
@@ -43,21 +43,18 @@ module _ (shards : ℕ) (left : NodeName → List Record → Type 0) (now : Mome
         doubts = same_doubts shards left left now next false (λ t. refl) (λ t rs is. is) w;
       }
 
-no_value : {X : Type 0} {x : X} → None ≡ Some x → ⊥
-no_value is = cc
-
 not_true : false ≡ true → ⊥
 not_true is = true≢false (sym is)
 
 -- no flow stands in a slot that is free
 free_slot : (slot : ℕ) (rs : List Running) (j : ℕ) (r : Running) → flow_at slot rs ≡ None → slice_get rs j ≡ Some r → r.slot ≡ slot → ⊥
-free_slot slot [] zero r free is same = no_value is
-free_slot slot [] (suc j) r free is same = no_value is
+free_slot slot [] zero r free is same = none-some _ is
+free_slot slot [] (suc j) r free is same = none-some _ is
 free_slot slot (q ∷ rs) j r free is same = by_slot j is (q.slot == slot) refl (λ k more is_k. free_slot slot rs k r more is_k same)
   where
     by_slot : (k : ℕ) → slice_get (q ∷ rs) k ≡ Some r → (b : Bool) → (q.slot == slot) ≡ b → ((k : ℕ) → flow_at slot rs ≡ None → slice_get rs k ≡ Some r → ⊥) → ⊥
-    by_slot zero here b eq rest = no_value (sym free ∙ ap (λ c. if c then Some q else flow_at slot rs) (eq-eqb q.slot slot (ap (λ (x : Running). x.slot) (same_Some q r here) ∙ same)))
-    by_slot (suc k) there true eq rest = no_value (sym free ∙ ap (λ c. if c then Some q else flow_at slot rs) eq)
+    by_slot zero here b eq rest = none-some _ (sym free ∙ ap (λ c. if c then Some q else flow_at slot rs) (eq-eqb q.slot slot (ap (λ (x : Running). x.slot) (same_Some q r here) ∙ same)))
+    by_slot (suc k) there true eq rest = none-some _ (sym free ∙ ap (λ c. if c then Some q else flow_at slot rs) eq)
     by_slot (suc k) there false eq rest = rest k (ap (λ c. if c then Some q else flow_at slot rs) (sym eq) ∙ free) there
 
 -- a flow that begins has no write yet
@@ -85,15 +82,15 @@ among x y xs has = ⊎_elim (λ first. inl (only first)) (λ rest. inr rest) (Co
 
 module _ (store shards : ℕ) (left : NodeName → List Record → Type 0) (now : Moment) (slot : ℕ) where
   no_heads_right : (asked : Asked) → AreHeldHeads shards left (with_flow now slot asked) (begun slot asked) (record { heads = None; batch = None })
-  no_heads_right asked = record { heads = λ h is. absurd (no_value is); batch = λ b is. absurd (no_value is) }
+  no_heads_right asked = record { heads = λ h is. absurd (none-some _ is); batch = λ b is. absurd (none-some _ is) }
 
   -- what a flow holds before its first call is right
   begun_right : (asked : Asked) → IsRight shards left (with_flow now slot asked) (begun slot asked) asked (nothing_held asked)
   begun_right (to_write changes conditions) = record {
     nothing = λ none. record { intent = refl; tickets = refl; votes = refl; decided = refl; verdict = refl };
-    own = λ id is. absurd (no_value is);
+    own = λ id is. absurd (none-some _ is);
     same_decision = refl;
-    batch = λ b is. absurd (no_value is);
+    batch = λ b is. absurd (none-some _ is);
     out = λ met is. absurd (not_out met is);
     cancelled = λ is none. absurd (not_true is);
     refused_or_cancelled = λ is. absurd (not_out None is);
@@ -102,45 +99,45 @@ module _ (store shards : ℕ) (left : NodeName → List Record → Type 0) (now 
       not_out : (met : Option Refusal) → onward ≡ outward met → ⊥
       not_out met is = cc
   begun_right (to_read fresh sets) = record {
-    heads = λ h is. absurd (no_value is);
-    place = λ s is. absurd (no_value is);
-    done = λ s i q rows is at_q at_rows. absurd (no_value is);
+    heads = λ h is. absurd (none-some _ is);
+    place = λ s is. absurd (none-some _ is);
+    done = λ s i q rows is at_q at_rows. absurd (none-some _ is);
     few = omega arith;
-    rows = λ s q is at_q. absurd (no_value is);
+    rows = λ s q is at_q. absurd (none-some _ is);
     nothing = λ none. (refl, refl, refl);
-    batch = λ b is. absurd (no_value is);
+    batch = λ b is. absurd (none-some _ is);
   }
   begun_right (to_check fresh x u) = record {
-    heads = λ h is. absurd (no_value is);
-    place = λ s is. absurd (no_value is);
+    heads = λ h is. absurd (none-some _ is);
+    place = λ s is. absurd (none-some _ is);
     nothing = λ none. (refl, refl);
     asked = alone x [];
     once = only_one;
-    reached = λ s y is has. absurd (no_value is);
-    none = λ s y is has. absurd (no_value is);
-    further = λ s y z is has holds. absurd (no_value is);
-    batch = λ b is. absurd (no_value is);
+    reached = λ s y is has. absurd (none-some _ is);
+    none = λ s y is has. absurd (none-some _ is);
+    further = λ s y z is has holds. absurd (none-some _ is);
+    batch = λ b is. absurd (none-some _ is);
   }
     where
       only_one : (i j : ℕ) (y : Userset) → slice_get (x ∷ []) i ≡ Some y → slice_get (x ∷ []) j ≡ Some y → i ≡ j
       only_one zero zero y is_i is_j = refl
-      only_one zero (suc zero) y is_i is_j = absurd (no_value is_j)
-      only_one zero (suc (suc j)) y is_i is_j = absurd (no_value is_j)
-      only_one (suc zero) j y is_i is_j = absurd (no_value is_i)
-      only_one (suc (suc i)) j y is_i is_j = absurd (no_value is_i)
+      only_one zero (suc zero) y is_i is_j = absurd (none-some _ is_j)
+      only_one zero (suc (suc j)) y is_i is_j = absurd (none-some _ is_j)
+      only_one (suc zero) j y is_i is_j = absurd (none-some _ is_i)
+      only_one (suc (suc i)) j y is_i is_j = absurd (none-some _ is_i)
   begun_right (to_watch c limit names) = no_heads_right (to_watch c limit names)
   begun_right (to_flush n) = tt
   begun_right (to_learn s) = no_heads_right (to_learn s)
   begun_right (to_resolve s) = record {
     found = All-nil (IsRightResolved shards left (with_flow now slot (to_resolve s)));
-    verdict = λ id is. absurd (no_value is);
-    batch = λ b is. absurd (no_value is);
+    verdict = λ id is. absurd (none-some _ is);
+    batch = λ b is. absurd (none-some _ is);
   }
   begun_right (to_raise x) = record {
     named = alone x now.named;
-    heads = λ h is. absurd (no_value is);
+    heads = λ h is. absurd (none-some _ is);
     settled = All-nil (IsRightSettled shards left x);
-    batch = λ b is. absurd (no_value is);
+    batch = λ b is. absurd (none-some _ is);
     raised = λ is same. absurd (not_true is);
   }
   begun_right (to_collect s) = no_heads_right (to_collect s)
@@ -178,6 +175,6 @@ flows_begin store shards left now slot asked free few st = record {
 
     ids : (i j : ℕ) (q r : Running) (id : WriteId) → slice_get (begun slot asked ∷ now.running) i ≡ Some q → slice_get (begun slot asked ∷ now.running) j ≡ Some r
         → id_of q.holds ≡ Some id → id_of r.holds ≡ Some id → i ≡ j
-    ids zero j q r id is_q is_r has also = absurd (no_value (sym (no_id asked) ∙ ap (λ (x : Running). id_of x.holds) (same_Some _ _ is_q) ∙ has))
-    ids (suc i) zero q r id is_q is_r has also = absurd (no_value (sym (no_id asked) ∙ ap (λ (x : Running). id_of x.holds) (same_Some _ _ is_r) ∙ also))
+    ids zero j q r id is_q is_r has also = absurd (none-some _ (sym (no_id asked) ∙ ap (λ (x : Running). id_of x.holds) (same_Some _ _ is_q) ∙ has))
+    ids (suc i) zero q r id is_q is_r has also = absurd (none-some _ (sym (no_id asked) ∙ ap (λ (x : Running). id_of x.holds) (same_Some _ _ is_r) ∙ also))
     ids (suc i) (suc j) q r id is_q is_r has also = ap suc (st.flows.ids i j q r id is_q is_r has also)

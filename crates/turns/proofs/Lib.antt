@@ -29,6 +29,7 @@ pub mod NewStore
 pub mod RunChain
 pub mod RunNames
 pub mod Frames
+pub mod CoordinatorStages
 pub mod SameWrites
 pub mod FlowBegins
 pub mod FlowEnds

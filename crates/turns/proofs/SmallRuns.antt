@@ -1,5 +1,6 @@
 -- Small runs of the machine, computed: moves and answers that are allowed, and some that are not.
-use Rattle.std.proofs.Common.{◌≡◌, inl, inr, ◌≤◌, zero, suc, List, [], ◌∷◌, Option, Some, None, Contains, min, refl, ◌∙◌, subst, ap, arith, ◌+◌}
+use Rattle.std.proofs.Common.{◌≡◌, inl, inr, ◌≤◌, zero, suc, List, [], ◌∷◌, Option, Some, Contains, min, refl, ◌∙◌, subst, ap, arith, ◌+◌}
+use Rattle.std.proofs.lemmas.Option.{none-some}
 use Rattle.std.proofs.lemmas.List.Elements.{All-nil, All-cons}
 use Rattle.turns.proofs.Words.{Agrees, Asked, IsQuiet, IsRun, Machine, Makes, MayRise, Moment, Move, Nodes, Running, Touch, Turns, answered, append, began, begun, coordinator, cut, done, down, keep, numbered, raise, start, three, to_flush, to_raise, to_watch, to_write, turn, viewed, wrote}
 use Rattle.tuples.specs.declared.change.Change.TheVariants.{Delete}
@@ -70,10 +71,7 @@ not_watched_beyond_it a = only a.was (a.heartbeat)
 
 -- a write that was not decided has no place to answer
 no_place_undecided : Agrees (begun 0 (to_write (Touch (viewed 97) ∷ []) [])) (moment_of two_kept []) (to_write (Touch (viewed 97) ∷ []) []) (wrote 1) → ⊥
-no_place_undecided a = none_is_some a.decided
-  where
-    none_is_some : {X : Type 0} {x : X} → None ≡ Some x → ⊥
-    none_is_some e = cc
+no_place_undecided a = none-some _ a.decided
 
 -- an answer to something else agrees with nothing
 no_other_answer : Agrees (begun 0 (to_raise 1)) (moment_of two_kept []) (to_raise 1) (wrote 1) → ⊥

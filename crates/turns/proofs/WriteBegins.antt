@@ -1,8 +1,8 @@
 -- A write begins: its id is new, so what other flows hold stays right.
-use Rattle.std.proofs.Common.{◌≡◌, ◌≢◌, ◌⊎◌, inl, inr, ⊎_elim, ◌==◌, ℕ, zero, suc, Bool, true, false, ◌<◌, ◌≤◌, ◌+◌, List, [], ◌∷◌, ◌++◌, length, Some, None, slice_get, slice_index_or, Contains, All, refl, sym, ◌∙◌, ap, subst, arith, if◌then◌else◌}
+use Rattle.std.proofs.Common.{◌≡◌, ◌≢◌, ◌⊎◌, inl, inr, ⊎_elim, ◌==◌, ℕ, zero, suc, Bool, true, false, ◌<◌, ◌≤◌, ◌+◌, List, [], ◌∷◌, ◌++◌, length, Some, slice_get, slice_index_or, Contains, All, refl, sym, ◌∙◌, ap, subst, arith, if◌then◌else◌}
 use Rattle.std.proofs.lemmas.Bool.{eqb-true}
 use Rattle.std.proofs.lemmas.List.Elements.{All-nil, Contains-append_right, Contains-push_cases}
-use Rattle.std.proofs.lemmas.Option.{same_Some}
+use Rattle.std.proofs.lemmas.Option.{none-some, same_Some}
 use Rattle.turns.proofs.Words.{AreNew, Asked, CoordinatorKnows, CoordinatorState, Decision, Dropped, Entry, Epoch, HasSeenBelow, Holds, Horizon, IsBegin, IsOpen, IsQuietFlow, IsRight, IsRightIntent, IsRightOwn, IsRightTicket, IsRightVerdict, IsRightVote, IsRightWrite, IsUnlisted, Learned, Machine, Moment, NodeName, NodeState, Nodes, Prepare, Record, Running, Stands, WasGiven, WriteHolds, WriteId, coordinator, coordinator_from, down, empty_coordinator, find_in_doubt, id_of, leaves, own_write, refused, replaced, same_id, shard, shard_state, to_write, up, with_intent, with_open, writing}
 use Rattle.records.specs.Coordinators.{coordinator_state, coordinator_step}
 use Rattle.replay.proofs.Doubts.{found_id}
@@ -10,9 +10,6 @@ use Rattle.turns.specs.FlowLaws.{WritesBegin}
 use Rattle.turns.proofs.FlowBegins.{alone, among}
 use Rattle.turns.proofs.Frames.{KeepsStore, KeepsWrite, frame, given_on, own_given, same_doubts, same_knew, same_taken, verdict_on}
 use Rattle.turns.proofs.ShardStagesStands.{contained_at, contained_from}
-
-no_value : {X : Type 0} {x : X} → None ≡ Some x → ⊥
-no_value is = cc
 
 -- Given a store, and a write whose id no id that was given is
 module _ (store shards : ℕ) (left : NodeName → List Record → Type 0) (now : Moment) (w : Entry) (running : List Running) (fresh : (id : WriteId) → WasGiven shards left now.nodes id → id ≢ w.id) where
@@ -64,11 +61,11 @@ module _ (store shards : ℕ) (left : NodeName → List Record → Type 0) (now 
   flow_given : (r : Running) (asked : Asked) (holds : Holds) (id : WriteId) → IsRight shards left now r asked holds → id_of holds ≡ Some id → WasGiven shards left now.nodes id
   flow_given r (to_write changes conditions) (writing h) id k is = own_given shards left left now next false keeps r (own_write id changes conditions) h (k.own id is) k.same_decision
   flow_given r asked (writing h) id k is = absurd k
-  flow_given r asked holds id k is = absurd (no_value is)
+  flow_given r asked holds id k is = absurd (none-some _ is)
 
 -- a write in doubt that is found is one of those in doubt
 found_in : (id : WriteId) (ws : List Entry) (p : Entry) → find_in_doubt id ws ≡ Some p → Contains ws p
-found_in id [] p is = absurd (no_value is)
+found_in id [] p is = absurd (none-some _ is)
 found_in id (v ∷ ws) p is = by_id (same_id v.id id) refl (found_in id ws p)
   where
     by_id : (b : Bool) → same_id v.id id ≡ b → (find_in_doubt id ws ≡ Some p → Contains ws p) → Contains (v ∷ ws) p
@@ -207,15 +204,15 @@ module _ (store shards : ℕ) (left : NodeName → List Record → Type 0) (now 
         intent = λ i is. (b.undecided, subst (IsRightIntent shards left after w) (same_Some _ i is) intent_right);
         tickets = subst (All (IsRightTicket shards left after w)) (sym nothing.tickets) (All-nil (IsRightTicket shards left after w));
         votes = subst (All (IsRightVote shards left after w)) (sym nothing.votes) (All-nil (IsRightVote shards left after w));
-        decision = λ d is. absurd (no_value (sym nothing.decided ∙ is));
-        verdict = λ id is. absurd (no_value (sym nothing.verdict ∙ is));
+        decision = λ d is. absurd (none-some _ (sym nothing.decided ∙ is));
+        verdict = λ id is. absurd (none-some _ (sym nothing.verdict ∙ is));
         not_reopened = λ i is not_since. alone w now.nodes.open_writes;
         gave = λ way none s found p lt here has. absurd (no_prepare s found p lt here has);
       }
 
   later_right : IsRight shards left after later later.asked later.holds
   later_right = subst (λ a. IsRight shards left after later a later.holds) (sym b.asked) (record {
-    nothing = λ none. absurd (no_value (sym none));
+    nothing = λ none. absurd (none-some _ (sym none));
     own = λ id is. subst (λ i. IsRightOwn shards left after later (own_write i w.changes w.conditions) (record h { id = Some w.id; intent = Some (record { write = w; kept = now.machine.kept }) })) (same_Some w.id id is) own_right;
     same_decision = was_write.same_decision;
     batch = was_write.batch;

@@ -1,5 +1,6 @@
 -- What no run of the store is: mistakes that the definitions refuse, one by one.
 use Rattle.std.proofs.Common.{◌≡◌, ⊎_elim, zero, suc, true, false, true≢false, List, [], ◌∷◌, ◌++◌, Some, None, All, Contains, refl, sym, ◌∙◌, ap, arith, subst}
+use Rattle.std.proofs.lemmas.Option.{none-some}
 use Rattle.std.proofs.lemmas.List.Elements.{All-head}
 use Rattle.turns.proofs.Words.{DecidedValue, Decides, Down, HasItsCause, IsAsWanted, IsBusy, IsDown, IsQuiet, IsReadAnswer, IsWriteAnswer, Key, Machine, MayRise, Moment, Move, NodeName, NodeState, Nodes, Record, Running, ShardState, Touch, Tupleset, Unsure, begun, cut, down, exact, latest, raise, refused, to_read, to_write, up, viewed}
 use Rattle.refusal.specs.declared.refusal.Refusal.TheVariants.{Busy}
@@ -11,9 +12,6 @@ use Rattle.turns.proofs.SmallRuns.{after_one_turn, moment_of, two_kept}
 
 not_true : false ≡ true → ⊥
 not_true is = true≢false (sym is)
-
-no_value : {X : Type 0} {x : X} → None ≡ Some x → ⊥
-no_value is = cc
 
 -- a turn cuts nothing
 cut_by_a_turn : All (IsQuiet (MayRise 2 (λ x. ⊥) (moment_of two_kept []))) (cut 2 ∷ []) → ⊥
@@ -77,7 +75,7 @@ read_from_the_newest_row r answer = let has = ((answer.each 0 (Key (viewed 97)) 
 
 -- a write that was decided is not refused but as unsure, and one that was not is not unsure
 refused_and_decided : (r : Running) (d : DecidedValue) → r.decided ≡ Some d → IsRefused 2 (λ x. ⊥) r Busy → ⊥
-refused_and_decided r d decided answer = no_value (sym (answer.undecided_write busy_is_not) ∙ decided)
+refused_and_decided r d decided answer = none-some _ (sym (answer.undecided_write busy_is_not) ∙ decided)
   where
     busy_is_not : Busy ≡ Unsure → ⊥
     busy_is_not is = cc
@@ -87,7 +85,7 @@ unsure_and_undecided r none answer = answer.decided none refl
 
 -- a write is decided once, and not after someone was told that it is aborted
 decided_twice : (before after : Moment) (r later : Running) (moves : List Move) (d : DecidedValue) → r.decided ≡ Some d → Decides 2 (λ x. ⊥) before r moves after later → ⊥
-decided_twice before after r later moves d decided again = no_value (sym again.first ∙ decided)
+decided_twice before after r later moves d decided again = none-some _ (sym again.first ∙ decided)
 
 decided_after_the_abort : (before after : Moment) (r later : Running) (moves : List Move) → (listing : Decides 2 (λ x. ⊥) before r moves after later) → Contains before.told listing.write.id → ⊥
 decided_after_the_abort before after r later moves listing told = listing.not_told told

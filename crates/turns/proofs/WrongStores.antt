@@ -1,5 +1,6 @@
 -- What no store stands for and no promise allows: mistakes that the definitions refuse, one by one.
 use Rattle.std.proofs.Common.{◌≡◌, ◌⊎◌, ◌^◌, ◌-◌, ◌+◌, inr, ⊎_elim, ℕ, zero, suc, ◌<◌, true, false, true≢false, List, [], ◌∷◌, ◌++◌, length, Some, None, Contains, refl, sym, ◌∙◌, ap, subst, arith}
+use Rattle.std.proofs.lemmas.Option.{none-some}
 use Rattle.turns.proofs.Words.{ComesUp, Entry, Epoch, HasSeenBelow, IsBusy, IsQuietFlow, IsWriteAnswer, Machine, Moment, NodeName, NodeState, NodeTurns, Prepare, Record, Refusal, Running, ShardMeans, ShardState, Stands, State, StopsBetween, Store, Touch, Tuple, WriteId, begun, coordinator, down, found, numbered, refused, shard, stops, to_flush, to_watch, to_write, up, viewed, writing}
 use Rattle.tuples.specs.Parts.{expected, part, shard_of, takes_part}
 use Rattle.records.specs.Coordinators.{coordinator_state}
@@ -34,10 +35,7 @@ phantom = numbered 7 (Touch (viewed 97) ∷ []) []
 
 not_prepared : ShardMeans 1 0 (phantom ∷ []) 0 0 (shard_state []) → ⊥
 unfolding shard_state expected takes_part part shard_of
-not_prepared means = none_is_some (means.in_doubt.above 0 phantom refl (omega arith))
-  where
-    none_is_some : {X : Type 0} {x : X} → None ≡ Some x → ⊥
-    none_is_some is = cc
+not_prepared means = none-some _ (means.in_doubt.above 0 phantom refl (omega arith))
 
 -- a node goes down for no reason
 abbrev untouched : State
@@ -175,10 +173,7 @@ busy_by_itself n (t, (suc k, lt, is), called, held) = omega (arith, lt)
 unreadable_inside : {D : Type 0} (state : D → State) (honest : D → Type 0) (moment : D → ℕ) (left_since : D → ℕ → List ℕ → Type 0) (old new : NodeName → D × D) (before after : Machine) (a b : List ℕ)
     → left_since (new coordinator).0 (moment (old coordinator).0) a → left_since (new coordinator).1 (moment (old coordinator).1) b → found a b ≡ None
     → StopsBetween state honest moment left_since 1 1 old new before after → ⊥
-unreadable_inside state honest moment left_since old new before after a b in_a in_b none between = let rs = between.readable coordinator a b tt in_a in_b in none_is_some (sym none ∙ rs.1)
-  where
-    none_is_some : {X : Type 0} {x : X} → None ≡ Some x → ⊥
-    none_is_some is = cc
+unreadable_inside state honest moment left_since old new before after a b in_a in_b none between = let rs = between.readable coordinator a b tt in_a in_b in none-some _ (sym none ∙ rs.1)
 
 -- a flow acknowledges a place where the log has another's write, though the changes are the same
 abbrev second : Running

@@ -1,7 +1,7 @@
 -- Whatever a write flow asks is a turn of it.
 use Rattle.std.proofs.Common.{◌≤◌, ℕ, List}
-use Rattle.device.specs.Device.{State, left}
-use Rattle.calls.specs.declared.call.NodeCall.TheVariants.{Coordinator, Shard}
+use Rattle.write_turns.proofs.Words.{Coordinator, State, left}
+use Rattle.calls.specs.declared.call.NodeCall.TheVariants.{Shard}
 use Rattle.calls.specs.declared.call.CoordinatorCall.TheVariants as coordinator_calls
 use Rattle.calls.specs.declared.call.ShardCall.TheVariants as shard_calls
 use Rattle.write_turns.specs.Turning.{AllTurn}

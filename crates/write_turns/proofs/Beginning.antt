@@ -2,43 +2,17 @@
 use Rattle.std.proofs.Common.{◌≡◌, ◌≢◌, ◌⊎◌, inl, inr, ⊎_elim, ◌≤◌, ◌+◌, ℕ, Bool, true, false, List, [], ◌∷◌, Result, Ok, Err, Some, None, refl, sym, ◌∙◌, ap, subst}
 use Rattle.std.specs.Prelude.{MatchOption}
 use Rattle.std.proofs.lemmas.Bool.{cases_Bool}
-use Rattle.tuples.specs.Writes.{WriteValue}
-use Rattle.refusal.specs.declared.refusal.Refusal.{Refusal}
-use Rattle.refusal.specs.declared.refusal.Refusal.TheVariants.{Collected, Down, Full, Future, NoMemory, Unsure}
-use Rattle.device.specs.Device.{State, left}
-use Rattle.records.specs.declared.record.Record.{Record}
-use Rattle.decisions.specs.Coordinators.{BeginsAt, BeginsRefused, CoordinatorView, next_id}
-use Rattle.decisions.specs.Values.{IntentValue}
-use Rattle.calls.specs.Asking.{Answered}
+use Rattle.write_turns.proofs.Words.{Answered, Collected, CoordinatorView, Down, FailsQuietly, Full, Future, GivesTo, IntentValue, IsCalled, IsMade, IsReplyTo, IsSeen, Moment, NamesHorizon, NoMemory, NodeName, NodeView, Nodes, Record, Refusal, Refused, Reply, Running, Stands, StandsOver, State, Store, Turns, TurnsBy, Unsure, WriteHolds, WriteValue, WriteView, answered_belongs, asked_of, coordinator, down_coordinator_fails, from_coordinator, goes_on, going_on, is_seen, left, of_coordinator, onward, outward, refused_fails, runs_now, still_made, still_of, stops, to_write, told_unless, view_ended, writing}
+use Rattle.decisions.specs.Coordinators.{BeginsAt, BeginsRefused, next_id}
 use Rattle.calls.specs.Views as views
-use Rattle.calls.specs.Views.{NodeView}
-use Rattle.calls.specs.declared.call.NodeCall.TheVariants.{Coordinator as of_coordinator}
 use Rattle.calls.specs.declared.call.CoordinatorCall.TheVariants as coordinator_calls
-use Rattle.calls.specs.declared.reply.Reply.{Reply}
-use Rattle.calls.specs.declared.reply.Reply.TheVariants.{Coordinator as from_coordinator}
 use Rattle.calls.specs.declared.reply.CoordinatorReply.TheVariants as told
-use Rattle.calls.specs.Belonging.{IsReplyTo}
-use Rattle.calls.proofs.Belonging.{answered_belongs}
-use Rattle.commit_flow.specs.Answering.{BeginGives, GivesTo}
-use Rattle.commit_flow.specs.Views.{WriteView, view_ended}
+use Rattle.commit_flow.specs.Answering.{BeginGives}
 use Rattle.commit_flow.specs.WriteHolds as waits
-use Rattle.commit_flow.specs.declared.end.WriteEnd.TheVariants.{Refused}
-use Rattle.laws.specs.Nodes.{NodeName, Nodes, coordinator}
 use Rattle.turns.specs.FlowLaws.{with_intent, with_open}
-use Rattle.turns.specs.Flows.{WriteHolds, nothing_begun, onward, outward, to_write, writing}
-use Rattle.turns.specs.Moments.{Moment, Running}
-use Rattle.turns.specs.QuietTurns.{going_on}
-use Rattle.turns.specs.Runs.{Turns, goes_on}
-use Rattle.turns.specs.SeamLaws.{IsBeginner, IsSeen, told_unless}
-use Rattle.turns.specs.Stands.{Stands}
-use Rattle.turns.specs.Stores.{NamesHorizon, StandsOver, Store, stops}
+use Rattle.turns.specs.Flows.{nothing_begun}
+use Rattle.turns.specs.SeamLaws.{IsBeginner}
 use Rattle.turns.proofs.BeginSeam.{begin_has_cause, begin_turns}
-use Rattle.call_turns.specs.StoreCalls.{IsCalled, IsMade}
-use Rattle.call_turns.proofs.Flushed.{down_coordinator_fails, refused_fails}
-use Rattle.call_turns.proofs.Made.{FailsQuietly, still_made, still_of}
-use Rattle.call_turns.proofs.Standing.{is_seen, runs_now}
-use Rattle.write_turns.specs.Seen.{asked_of}
-use Rattle.write_turns.specs.Turning.{TurnsBy}
 use Rattle.write_turns.proofs.Catching.{may_ask_coordinator}
 use Rattle.write_turns.proofs.Going.{IsFlow, Promises, calls_coordinator, flow_there, going, holds_is, moved, none_decided, refused, right}
 use Rattle.write_turns.proofs.Memory.{devices, still_made_of}

@@ -1,31 +1,16 @@
 -- A cancel of a write flow keeps the promise of a step.
 use Rattle.std.proofs.Common.{◌≡◌, inl, inr, ℕ, Bool, true, true≢false, List, [], Option, Some, None, refl, sym, ◌∙◌, ap, subst}
 use Rattle.std.proofs.Math.Path.{fun_ext}
-use Rattle.tuples.specs.declared.change.Change.{Change}
-use Rattle.tuples.specs.declared.change.Condition.{Condition}
-use Rattle.tuples.specs.Writes.{WriteValue}
-use Rattle.refusal.specs.declared.refusal.Refusal.{Refusal}
-use Rattle.device.specs.Device.{State, left}
-use Rattle.records.specs.declared.record.Record.{Record}
-use Rattle.decisions.specs.Standing.{DecidedValue}
-use Rattle.commit_flow.specs.Views.{WriteView, at_rest, view_ended}
+use Rattle.write_turns.proofs.Words.{Asked, Change, Condition, DecidedValue, FlowView, IsHorizonIn, IsRight, IsRightWrite, Moment, NamesHorizon, NodeName, Ran, Record, Refusal, Running, ShowsFlow, SlotTurns, Stands, StandsOver, State, Store, WriteHolds, WriteValue, WriteView, asked_of, at_rest, ended, flow_at, flows_end, id_of, inside_by, left, onward, outward, replaced, shown, shown_until, still_given, still_within, stops, view_ended, writing}
 use Rattle.commit_flow.specs.declared.end.WriteEnd.TheVariants.{Cancelled}
-use Rattle.laws.specs.Nodes.{NodeName}
-use Rattle.turns.specs.Flows.{Asked, Way, WriteHolds, id_of, onward, outward, writing}
-use Rattle.turns.specs.Held.{IsRight, IsRightWrite}
-use Rattle.turns.specs.Moments.{Moment, Running, ended, flow_at, is_write, replaced}
-use Rattle.turns.specs.Promises.{Ran}
+use Rattle.turns.specs.Flows.{Way}
+use Rattle.turns.specs.Moments.{is_write}
 use Rattle.turns.specs.Runs.{IfRunning, IsCancelled, cancel, restart}
-use Rattle.turns.specs.Stands.{IsHorizonIn, Stands}
-use Rattle.turns.specs.Stores.{AreSound, FlowView, NamesHorizon, ShowsFlow, ShowsSlot, StandsOver, Store, stops}
-use Rattle.turns.proofs.FlowEnds.{flows_end}
+use Rattle.turns.specs.Stores.{AreSound, ShowsSlot}
 use Rattle.turns.proofs.FlowGoesOn.{flows_go_on}
-use Rattle.call_turns.specs.StoreTurns.{SlotTurns}
-use Rattle.call_turns.proofs.Made.{inside_by, still_given, still_within}
 use Rattle.call_turns.proofs.Turned.{shows_ended, shows_going}
 use Rattle.write_turns.specs.Cancelling.{CancelsRun, IsCancelledThere}
 use Rattle.call_turns.specs.Steps.{IsUncalled}
-use Rattle.write_turns.specs.Seen.{asked_of, shown, shown_until}
 use Rattle.write_turns.proofs.Going.{IsFlow, asked_is, changes, conditions, flow_there, holds_is, right}
 
 module _ {D : Type 0} (state : D → State) (honest : D → Type 0) (moment : D → ℕ) (left_since : D → ℕ → List ℕ → Type 0)

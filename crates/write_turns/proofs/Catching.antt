@@ -2,39 +2,19 @@
 use Rattle.std.proofs.Common.{◌≡◌, ⊎_elim, ◌≤◌, ◌<◌, ℕ, Bool, false, List, Result, Ok, Err, Some, None, refl, sym, ◌∙◌, ap, subst}
 use Rattle.std.specs.Prelude.{MatchOption}
 use Rattle.std.proofs.lemmas.Bool.{cases_lt}
-use Rattle.refusal.specs.declared.refusal.Refusal.{Refusal}
-use Rattle.device.specs.Device.{State, left}
+use Rattle.write_turns.proofs.Words.{Answered, Calls, CatchUpGives, CatchUpValue, FailsQuietly, GivesTo, GoesOn, GoesOut, HasItsCause, HasShard, HoldsLess, IfHeld, IntentValue, IsCalled, IsOnItsWay, IsQuietlyMade, IsReplyTo, IsRightBatch, Machine, Moment, NodeName, NodeView, Nodes, ProgressGives, Refusal, Reply, Running, StandsOver, State, Store, TurnsBy, WriteHolds, WriteView, answered_belongs, coordinator, from_shard, left, of_coordinator, of_shard, onward, outward, shard}
 use Rattle.records.specs.Replays.{Identity}
-use Rattle.decisions.specs.Values.{IntentValue}
-use Rattle.calls.specs.Asking.{Answered, MayAsk, MayAskCoordinator, MayAskShard}
-use Rattle.calls.specs.Belonging.{IsReplyTo}
+use Rattle.calls.specs.Asking.{MayAsk, MayAskCoordinator, MayAskShard}
 use Rattle.calls.specs.Views as views
-use Rattle.calls.specs.Views.{NodeView}
-use Rattle.calls.specs.declared.call.NodeCall.TheVariants.{Coordinator as of_coordinator, Shard as of_shard}
 use Rattle.calls.specs.declared.call.CoordinatorCall.{CoordinatorCall}
 use Rattle.calls.specs.declared.call.ShardCall.{ShardCall}
 use Rattle.calls.specs.declared.call.ShardCall.TheVariants as shard_calls
-use Rattle.calls.specs.declared.reply.Reply.{Reply}
-use Rattle.calls.specs.declared.reply.Reply.TheVariants.{Shard as from_shard}
 use Rattle.calls.specs.declared.reply.ShardReply.TheVariants as told_by
-use Rattle.calls.proofs.Belonging.{answered_belongs}
-use Rattle.catch_up.specs.Held.{CatchUpValue, learned}
-use Rattle.commit_flow.specs.Answering.{CatchUpGives, GivesTo, GoesOn, GoesOut, GoesToPrepare, ProgressGives}
-use Rattle.commit_flow.specs.Views.{WriteView}
+use Rattle.catch_up.specs.Held.{learned}
+use Rattle.commit_flow.specs.Answering.{GoesToPrepare}
 use Rattle.commit_flow.specs.WriteHolds as waits
-use Rattle.commit_flow.specs.Writing.{HasShard, IsOnItsWay}
-use Rattle.laws.specs.Machines.{Machine}
-use Rattle.laws.specs.Nodes.{NodeName, Nodes, coordinator, shard}
-use Rattle.turns.specs.Causes.{Calls, HasItsCause}
-use Rattle.turns.specs.Flows.{WriteHolds, onward, outward}
-use Rattle.turns.specs.Held.{IfHeld, IsRightBatch}
-use Rattle.turns.specs.Moments.{Moment, Running}
-use Rattle.turns.specs.QuietTurns.{HoldsLess}
-use Rattle.turns.specs.Stores.{StandsOver, Store}
-use Rattle.call_turns.specs.StoreCalls.{IsCalled, IsNamed}
+use Rattle.call_turns.specs.StoreCalls.{IsNamed}
 use Rattle.call_turns.proofs.Asked.{learned_told}
-use Rattle.call_turns.proofs.Made.{FailsQuietly, IsQuietlyMade}
-use Rattle.write_turns.specs.Turning.{TurnsBy}
 use Rattle.write_turns.proofs.Going.{IsFlow, Promises, asks_own, calls_shard, fails_out, flow_there, goes_out, holds_is, keeps}
 
 -- a node that is there may be asked what it is owed

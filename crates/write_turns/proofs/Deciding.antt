@@ -5,56 +5,27 @@ use Rattle.std.specs.Global.{Vec}
 use Rattle.std.proofs.lemmas.Bool.{cases_Bool, cases_lt}
 use Rattle.std.proofs.lemmas.List.{append_assoc}
 use Rattle.std.proofs.lemmas.List.Elements.{All-head, All-tail}
-use Rattle.tuples.specs.declared.change.Condition.{Condition}
-use Rattle.tuples.specs.declared.change.Want.{Want}
-use Rattle.tuples.specs.declared.change.Want.TheVariants.{NotAfter, Exists, Absent}
-use Rattle.tuples.specs.declared.entry.Entry.{Entry}
-use Rattle.refusal.specs.declared.refusal.Refusal.TheVariants.{Aborted, Down, Full, NoMemory}
-use Rattle.device.specs.Device.{State, left}
-use Rattle.records.specs.declared.record.Record.{Record}
+use Rattle.write_turns.proofs.Words.{Absent, Answered, Condition, CoordinatorView, DecidedValue, Down, Entry, Exists, FailsQuietly, Full, GivesTo, GoesOut, HasItsCause, HoldsLess, IntentValue, IsCalled, IsHorizonIn, IsIntent, IsMade, IsOnItsWay, IsQuietlyMade, IsReplyTo, IsSeen, IsUndecidedFlow, Machine, Moment, NamesHorizon, NoMemory, NodeName, NodeView, Nodes, NotAfter, Record, Reply, Running, Stands, StandsOver, State, Store, TakesMemory, Turns, TurnsBy, VoteValue, Want, WriteHolds, WriteView, answered_belongs, at_rest, coordinator, down_coordinator_fails, end_of, from_coordinator, goes_on, going_on, greatest_number, is_seen, left, of_coordinator, onward, outward, refused_fails, runs_now, shard, still_made, still_of, stops, told_unless, without_id, writing}
+use Rattle.refusal.specs.declared.refusal.Refusal.TheVariants.{Aborted}
 use Rattle.records.specs.declared.record.Record.TheVariants.{Decision}
-use Rattle.records.specs.Coordinators.{CoordinatorState, coordinator_state, coordinator_step, end_of}
+use Rattle.records.specs.Coordinators.{CoordinatorState, coordinator_state, coordinator_step}
 use Rattle.records.specs.Format.{ConditionsFit, IsRecord, WantFits}
-use Rattle.records.specs.Replays.{AskOfLog, AsksOfLog, greatest_number, without}
+use Rattle.records.specs.Replays.{AskOfLog, AsksOfLog, without}
 use Rattle.records.proofs.CoordinatorStates.{coordinator_push}
-use Rattle.decisions.specs.Coordinators.{CoordinatorView, DecidesAt, HasNoPlace, HaveVoted, IsDecidedAbove, memory_of, without_id}
-use Rattle.decisions.specs.Standing.{DecidedValue}
-use Rattle.decisions.specs.Values.{IntentValue, IsIntent, VoteValue}
+use Rattle.decisions.specs.Coordinators.{DecidesAt, HasNoPlace, HaveVoted, IsDecidedAbove, memory_of}
 use Rattle.coordinator.specs.declared.decided.NotDecided.{NotDecided}
-use Rattle.calls.specs.Asking.{Answered}
 use Rattle.calls.specs.Views as views
-use Rattle.calls.specs.Views.{NodeView}
-use Rattle.calls.specs.declared.call.NodeCall.TheVariants.{Coordinator as of_coordinator}
 use Rattle.calls.specs.declared.call.CoordinatorCall.TheVariants as coordinator_calls
-use Rattle.calls.specs.declared.reply.Reply.{Reply}
-use Rattle.calls.specs.declared.reply.Reply.TheVariants.{Coordinator as from_coordinator}
 use Rattle.calls.specs.declared.reply.CoordinatorReply.TheVariants as told
-use Rattle.calls.specs.Belonging.{IsReplyTo}
-use Rattle.calls.proofs.Belonging.{answered_belongs}
-use Rattle.commit_flow.specs.Answering.{DecideGives, GivesTo, GoesOut, NotDecidedGives}
-use Rattle.commit_flow.specs.Views.{WriteView, at_rest}
+use Rattle.commit_flow.specs.Answering.{DecideGives, NotDecidedGives}
 use Rattle.commit_flow.specs.WriteHolds as waits
-use Rattle.commit_flow.specs.Writing.{IsOnItsWay}
-use Rattle.laws.specs.Machines.{Machine}
-use Rattle.laws.specs.Nodes.{CoordinatorKnows, NodeName, Nodes, coordinator, shard, staged_of}
-use Rattle.turns.specs.AbortLaws.{IsUndecidedFlow}
-use Rattle.turns.specs.Causes.{HasItsCause, IsFull, TakesMemory}
+use Rattle.laws.specs.Nodes.{CoordinatorKnows, staged_of}
+use Rattle.turns.specs.Causes.{IsFull}
 use Rattle.turns.specs.DecidingLaws.{IsDecider, with_decided, with_write}
-use Rattle.turns.specs.Flows.{WriteHolds, onward, outward, writing}
-use Rattle.turns.specs.Moments.{Moment, Running}
-use Rattle.turns.specs.QuietTurns.{HoldsLess, going_on}
-use Rattle.turns.specs.Runs.{Turns, goes_on}
-use Rattle.turns.specs.SeamLaws.{IsSeen, behind, told_unless}
-use Rattle.turns.specs.Stands.{IsHorizonIn, Stands}
-use Rattle.turns.specs.Stores.{NamesHorizon, StandsOver, Store, stops}
+use Rattle.turns.specs.SeamLaws.{behind}
 use Rattle.turns.proofs.DecideCauses.{decide_has_cause}
 use Rattle.turns.proofs.DecideSeam.{decide_turns}
 use Rattle.turns.proofs.ShardPrepareSeam.{last_sync}
-use Rattle.call_turns.specs.StoreCalls.{IsCalled, IsMade}
-use Rattle.call_turns.proofs.Flushed.{down_coordinator_fails, refused_fails}
-use Rattle.call_turns.proofs.Made.{FailsQuietly, IsQuietlyMade, still_made, still_of}
-use Rattle.call_turns.proofs.Standing.{is_seen, runs_now}
-use Rattle.write_turns.specs.Turning.{TurnsBy}
 use Rattle.write_turns.proofs.Catching.{may_ask_coordinator}
 use Rattle.write_turns.proofs.Going.{IsFlow, Promises, asks_own, calls_coordinator, flow_there, goes_out, going, holds_is, moved, none_decided, right, stays_so}
 use Rattle.write_turns.proofs.Learning.{is_full}

@@ -2,38 +2,16 @@
 use Rattle.std.proofs.Common.{◌≡◌, ◌≢◌, ◌⊎◌, inl, inr, ◌≤◌, ◌<◌, ℕ, Bool, true, false, List, ◌∷◌, Result, Ok, Err, Option, Some, None, All, refl, sym, ◌∙◌, ap, subst}
 use Rattle.std.specs.Prelude.{MatchOption}
 use Rattle.std.proofs.lemmas.List.Elements.{All-head}
-use Rattle.tuples.specs.declared.entry.Entry.{Entry}
-use Rattle.tuples.specs.declared.entry.WriteId.{WriteId}
-use Rattle.refusal.specs.declared.refusal.Refusal.{Refusal}
-use Rattle.device.specs.Device.{State, left}
-use Rattle.decisions.specs.Values.{BatchValue, TicketValue}
-use Rattle.calls.specs.Asking.{Answered}
-use Rattle.calls.specs.Belonging.{IsReplyTo}
-use Rattle.calls.specs.Views.{NodeView}
-use Rattle.calls.specs.declared.call.NodeCall.TheVariants.{Coordinator as of_coordinator, Shard as of_shard}
+use Rattle.write_turns.proofs.Words.{Answered, BatchValue, Calls, CatchUpGives, Entry, FailsQuietly, GivesTo, GoesOn, GoesOut, HasShard, HeldTicket, IsCalled, IsOnItsWay, IsQuietlyMade, IsReplyTo, IsRightTicket, Machine, Moment, NodeName, NodeView, Nodes, ProgressGives, Refusal, Reply, Running, StandsOver, State, Store, TicketValue, TurnsBy, WriteHolds, WriteId, WriteView, answered_belongs, at_rest, coordinator, from_coordinator, from_shard, left, of_coordinator, of_shard, onward, own_write, shard, stops, ticket_value}
 use Rattle.calls.specs.declared.call.CoordinatorCall.TheVariants as coordinator_calls
 use Rattle.calls.specs.declared.call.ShardCall.TheVariants as shard_calls
-use Rattle.calls.specs.declared.reply.Reply.{Reply}
-use Rattle.calls.specs.declared.reply.Reply.TheVariants.{Coordinator as from_coordinator, Shard as from_shard}
 use Rattle.calls.specs.declared.reply.CoordinatorReply.TheVariants as told
 use Rattle.calls.specs.declared.reply.ShardReply.TheVariants as told_by
-use Rattle.calls.proofs.Belonging.{answered_belongs}
 use Rattle.catch_up.specs.Held.{flushing}
-use Rattle.commit_flow.specs.Answering.{CatchUpGives, FlushGives, GivesTo, GoesOn, GoesOut, ProgressGives}
-use Rattle.commit_flow.specs.Views.{WriteView, at_rest, ticket_value}
+use Rattle.commit_flow.specs.Answering.{FlushGives}
 use Rattle.commit_flow.specs.WriteHolds as waits
-use Rattle.commit_flow.specs.Writing.{HasShard, IsOnItsWay, Waits}
-use Rattle.laws.specs.Machines.{Machine}
-use Rattle.laws.specs.Nodes.{NodeName, Nodes, coordinator, shard}
-use Rattle.turns.specs.Causes.{Calls}
-use Rattle.turns.specs.Flows.{HeldTicket, WriteHolds, onward}
-use Rattle.turns.specs.Held.{IsRightTicket, own_write}
-use Rattle.turns.specs.Moments.{Moment, Running}
-use Rattle.turns.specs.Stores.{StandsOver, Store, stops}
-use Rattle.call_turns.specs.StoreCalls.{IsCalled}
+use Rattle.commit_flow.specs.Writing.{Waits}
 use Rattle.call_turns.proofs.Flushed.{coordinator_flushed, shard_flushed}
-use Rattle.call_turns.proofs.Made.{FailsQuietly, IsQuietlyMade}
-use Rattle.write_turns.specs.Turning.{TurnsBy}
 use Rattle.write_turns.proofs.Catching.{calls_this, fails_at, may_ask_coordinator, may_ask_shard}
 use Rattle.write_turns.proofs.Going.{IsFlow, Promises, asked_is, batch_stays, calls_coordinator, calls_shard, changes, conditions, flow_there, holds_is, keeps, right}
 

@@ -1,40 +1,18 @@
 -- A write flow behind its call: it goes on, goes out or ends, and keeps the promise of a step.
 use Rattle.std.proofs.Common.{◌≡◌, ◌≢◌, inr, ◌<◌, ℕ, Bool, true, false, true≢false, List, [], ◌∷◌, Option, Some, None, Contains, refl, sym, ◌∙◌, ap, subst}
-use Rattle.tuples.specs.declared.change.Change.{Change}
-use Rattle.tuples.specs.declared.change.Condition.{Condition}
-use Rattle.tuples.specs.declared.entry.Entry.{Entry}
-use Rattle.tuples.specs.declared.entry.WriteId.{WriteId}
-use Rattle.tuples.specs.Parts.{takes_part}
-use Rattle.refusal.specs.declared.refusal.Refusal.{Refusal}
-use Rattle.refusal.specs.declared.refusal.Refusal.TheVariants.{Unsure}
-use Rattle.device.specs.Device.{State}
-use Rattle.records.specs.declared.record.Record.{Record}
-use Rattle.decisions.specs.Values.{BatchValue, IntentValue}
+use Rattle.write_turns.proofs.Words.{Asked, BatchValue, Calls, Change, Condition, Entry, FailsQuietly, FlowView, HasItsCause, HoldsLess, IfHeld, IntentValue, IsMade, IsQuietlyMade, IsRight, IsRightBatch, IsRightWrite, Machine, Moment, NamesHorizon, NodeName, Nodes, Ran, Record, Refusal, Refused, Running, ShowsFlow, SlotTurns, Stands, StandsOver, State, Store, Told, Turns, Unsure, WriteHolds, WriteId, WriteView, at_rest, coordinator, ending, flow_at, going_on, id_of, outward, own_write, refuses, shard, shown, shown_until, stops, takes_part, to_write, told_end, told_of, told_unless, view_ended, with_call, writing}
 use Rattle.commit_flow.specs.Answering.{end_of}
-use Rattle.commit_flow.specs.Views.{WriteView, at_rest, view_ended}
 use Rattle.commit_flow.specs.declared.end.WriteEnd.{WriteEnd}
-use Rattle.commit_flow.specs.declared.end.WriteEnd.TheVariants.{Refused}
-use Rattle.laws.specs.Machines.{Machine}
-use Rattle.laws.specs.Nodes.{NodeName, Nodes, coordinator, shard}
-use Rattle.turns.specs.Causes.{Calls, CallsShard, HasItsCause}
-use Rattle.turns.specs.Flows.{Asked, Holds, WriteHolds, id_of, outward, to_check, to_collect, to_flush, to_learn, to_raise, to_read, to_resolve, to_watch, to_write, writing}
-use Rattle.turns.specs.Held.{IfHeld, IsRight, IsRightBatch, IsRightWrite, own_write}
-use Rattle.turns.specs.Moments.{Moment, Running, flow_at}
-use Rattle.turns.specs.Promises.{Ran, events_of}
-use Rattle.turns.specs.QuietTurns.{HoldsLess, behind_call, ending, going_on, with_batch, with_call}
-use Rattle.turns.specs.Runs.{Told, Turns, refuses, turn}
-use Rattle.turns.specs.SeamLaws.{told_unless}
+use Rattle.turns.specs.Causes.{CallsShard}
+use Rattle.turns.specs.Flows.{Holds, to_check, to_collect, to_flush, to_learn, to_raise, to_read, to_resolve, to_watch}
+use Rattle.turns.specs.Promises.{events_of}
+use Rattle.turns.specs.QuietTurns.{behind_call, with_batch}
+use Rattle.turns.specs.Runs.{turn}
 use Rattle.turns.specs.StagingLaws.{IsFlowOf}
-use Rattle.turns.specs.Stands.{Stands}
-use Rattle.turns.specs.Stores.{FlowView, NamesHorizon, ShowsFlow, StandsOver, Store, stops}
 use Rattle.turns.proofs.AnswerTurns.{refused_writes_end}
 use Rattle.turns.proofs.PrepareTurn.{part_has, part_named}
 use Rattle.turns.proofs.QuietTurns.{quiet_calls_end, quiet_calls_keep, quiet_calls_refuse, refused_writes_go_out, writes_spend}
-use Rattle.call_turns.specs.StoreCalls.{IsMade}
-use Rattle.call_turns.specs.StoreTurns.{SlotTurns}
-use Rattle.call_turns.proofs.Made.{FailsQuietly, IsQuietlyMade}
 use Rattle.call_turns.proofs.Turned.{ran_ending, ran_going, runs, the_flow}
-use Rattle.write_turns.specs.Seen.{shown, shown_until, told_end, told_of}
 
 -- a flow that holds what a write holds was asked to write
 of_write : (shards : ℕ) (left : NodeName → List Record → Type 0) (now : Moment) (r : Running) (asked : Asked) (h : WriteHolds) → IsRight shards left now r asked (writing h)

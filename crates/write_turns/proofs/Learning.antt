@@ -1,44 +1,20 @@
 -- Decisions that a write fetches for a shard, and lets it learn.
 use Rattle.std.proofs.Common.{◌≡◌, ◌≢◌, ◌⊎◌, inl, inr, ⊎_elim, ◌≤◌, ◌<◌, ◌+◌, ℕ, Bool, true, false, List, length, Result, Ok, Err, Some, None, refl, sym, ◌∙◌, ap, subst, arith}
 use Rattle.std.specs.Prelude.{MatchOption}
-use Rattle.refusal.specs.declared.refusal.Refusal.{Refusal}
-use Rattle.refusal.specs.declared.refusal.Refusal.TheVariants.{Future, Collected, NoMemory, Full}
-use Rattle.device.specs.Device.{State, left}
-use Rattle.records.specs.Coordinators.{end_of}
-use Rattle.records.specs.Replays.{greatest_number}
-use Rattle.decisions.specs.Coordinators.{CoordinatorView, kept_of}
-use Rattle.decisions.specs.Values.{BatchValue}
-use Rattle.calls.specs.Asking.{Answered}
-use Rattle.calls.specs.Belonging.{IsReplyTo}
-use Rattle.calls.specs.Views.{NodeView}
-use Rattle.calls.specs.declared.call.NodeCall.TheVariants.{Coordinator as of_coordinator, Shard as of_shard}
+use Rattle.write_turns.proofs.Words.{Answered, BatchValue, CatchUpGives, CatchUpValue, Collected, CoordinatorView, Full, Future, GivesTo, GoesOn, HasItsCause, HasShard, IfHeld, IsCalled, IsOnItsWay, IsQuietlyMade, IsReplyTo, IsRightBatch, IsSeen, Machine, Moment, NoMemory, NodeView, Nodes, ProgressGives, Refusal, Reply, Running, StandsOver, State, Store, TakesMemory, TurnsBy, WriteView, answered_belongs, behind_shard, coordinator, end_of, from_coordinator, from_shard, greatest_number, left, of_coordinator, of_shard, shard, still_of, stops}
+use Rattle.decisions.specs.Coordinators.{kept_of}
 use Rattle.calls.specs.declared.call.CoordinatorCall.TheVariants as coordinator_calls
 use Rattle.calls.specs.declared.call.ShardCall.TheVariants as shard_calls
-use Rattle.calls.specs.declared.reply.Reply.{Reply}
-use Rattle.calls.specs.declared.reply.Reply.TheVariants.{Coordinator as from_coordinator, Shard as from_shard}
 use Rattle.calls.specs.declared.reply.CoordinatorReply.TheVariants as told
 use Rattle.calls.specs.declared.reply.ShardReply.TheVariants as told_by
-use Rattle.calls.proofs.Belonging.{answered_belongs}
-use Rattle.catch_up.specs.Held.{CatchUpValue, decisions, learning}
-use Rattle.commit_flow.specs.Answering.{CatchUpGives, GivesTo, GoesOn, ProgressGives}
-use Rattle.commit_flow.specs.Views.{WriteView}
+use Rattle.catch_up.specs.Held.{decisions, learning}
 use Rattle.commit_flow.specs.WriteHolds as waits
-use Rattle.commit_flow.specs.Writing.{HasShard, IsCaughtUpTo, IsOnItsWay}
-use Rattle.laws.specs.Machines.{Machine}
-use Rattle.laws.specs.Nodes.{Nodes, coordinator, shard}
-use Rattle.turns.specs.Causes.{HasItsCause, LetsLearn, TakesMemory}
-use Rattle.turns.specs.Held.{IfHeld, IsRightBatch}
-use Rattle.turns.specs.Moments.{Moment, Running}
+use Rattle.commit_flow.specs.Writing.{IsCaughtUpTo}
+use Rattle.turns.specs.Causes.{LetsLearn}
 use Rattle.turns.specs.QuietTurns.{batch_of}
-use Rattle.turns.specs.SeamLaws.{IsSeen}
-use Rattle.turns.specs.ShardSeamLaws.{behind_shard}
-use Rattle.turns.specs.Stores.{StandsOver, Store, stops}
 use Rattle.turns.proofs.CoordinatorCalls.{batch_answers, batch_has_cause}
 use Rattle.turns.proofs.ShardLearnSeam.{learns_quietly, refused_learns_have_cause}
-use Rattle.call_turns.specs.StoreCalls.{IsCalled}
 use Rattle.call_turns.proofs.Asked.{LearnComes, batch_told, learn_told}
-use Rattle.call_turns.proofs.Made.{IsQuietlyMade, still_of}
-use Rattle.write_turns.specs.Turning.{TurnsBy}
 use Rattle.write_turns.proofs.Catching.{calls_this, fails_at, goes_next, may_ask_coordinator, may_ask_shard, no_batch, refused_at}
 use Rattle.write_turns.proofs.Going.{IsFlow, Promises, asked_is, calls_coordinator, flow_there, holds_is, right}
 

@@ -3,57 +3,28 @@ use Rattle.std.proofs.Common.{◌≡◌, ◌⊎◌, inl, inr, ⊎_elim, ◌≤�
 use Rattle.std.specs.Prelude.{MatchOption}
 use Rattle.std.proofs.lemmas.Bool.{cases_Bool}
 use Rattle.std.proofs.lemmas.List.Elements.{All-nil, Contains-append_right}
-use Rattle.tuples.specs.declared.entry.Entry.{Entry}
-use Rattle.tuples.specs.declared.entry.WriteId.{WriteId}
-use Rattle.refusal.specs.declared.refusal.Refusal.{Refusal}
-use Rattle.refusal.specs.declared.refusal.Refusal.TheVariants.{Down}
-use Rattle.device.specs.Device.{State, left}
-use Rattle.records.specs.declared.record.Record.{Record}
-use Rattle.decisions.specs.Coordinators.{AbortsAt, CoordinatorView, without_id}
-use Rattle.decisions.specs.Values.{IntentValue, VerdictValue, VoteValue}
+use Rattle.write_turns.proofs.Words.{Answered, CoordinatorView, Down, Entry, GivesTo, GoesOn, HeldTicket, HoldsLess, IntentValue, IsCalled, IsMade, IsQuietlyMade, IsReplyTo, IsSeen, IsUndecidedFlow, Machine, Moment, NamesHorizon, NodeName, NodeView, Nodes, Record, Refusal, Refused, Reply, Running, Stands, StandsOver, State, Store, Told, Turns, TurnsBy, VoteValue, WriteId, WriteView, answered_belongs, at_rest, behind_shard, coordinator, devices_of, ending, flows_end, from_coordinator, from_shard, going_on, id_of, is_seen, left, of_coordinator, of_shard, onward, outward, own_write, refuses, runs_now, same_devices, shard, shard_is_seen, shard_is_up, still_made, stops, to_write, told_end, told_unless, view_ended, with_call, without_id, writing}
+use Rattle.decisions.specs.Coordinators.{AbortsAt}
+use Rattle.decisions.specs.Values.{VerdictValue}
 use Rattle.decisions.specs.declared.held.Held.{Held}
 use Rattle.coordinator.specs.declared.telling.Inquiry as inquiries
 use Rattle.coordinator.specs.declared.telling.Inquiry.TheVariants.{Commit, Abort as is_aborted, Undecided}
-use Rattle.calls.specs.Asking.{Answered}
 use Rattle.calls.specs.Views as views
-use Rattle.calls.specs.Views.{NodeView, devices_of}
-use Rattle.calls.specs.declared.call.NodeCall.TheVariants.{Coordinator as of_coordinator, Shard as of_shard}
 use Rattle.calls.specs.declared.call.CoordinatorCall.TheVariants as coordinator_calls
 use Rattle.calls.specs.declared.call.ShardCall.TheVariants as shard_calls
-use Rattle.calls.specs.declared.reply.Reply.{Reply}
-use Rattle.calls.specs.declared.reply.Reply.TheVariants.{Coordinator as from_coordinator, Shard as from_shard}
 use Rattle.calls.specs.declared.reply.CoordinatorReply.TheVariants as told
 use Rattle.calls.specs.declared.reply.ShardReply.TheVariants as told_by
-use Rattle.calls.specs.Belonging.{IsReplyTo}
-use Rattle.calls.proofs.Belonging.{answered_belongs}
-use Rattle.commit_flow.specs.Answering.{AbortGives, GivesTo, GoesOn, GoesToDrop, InquireGives, end_of}
-use Rattle.commit_flow.specs.Views.{WriteView, as_tickets, as_votes, at_rest, view_ended}
+use Rattle.commit_flow.specs.Answering.{AbortGives, GoesToDrop, InquireGives, end_of}
+use Rattle.commit_flow.specs.Views.{as_tickets, as_votes}
 use Rattle.commit_flow.specs.WriteHolds as waits
 use Rattle.commit_flow.specs.Writing.{IsOnItsWayOut}
-use Rattle.commit_flow.specs.declared.end.WriteEnd.TheVariants.{Refused}
-use Rattle.laws.specs.Machines.{Machine}
-use Rattle.laws.specs.Nodes.{NodeName, Nodes, coordinator, shard}
-use Rattle.turns.specs.AbortLaws.{IsUndecidedFlow, with_closed, with_verdict}
-use Rattle.turns.specs.Flows.{HeldTicket, id_of, onward, outward, to_write, writing}
-use Rattle.turns.specs.Held.{own_write}
-use Rattle.turns.specs.Moments.{Moment, Running}
-use Rattle.turns.specs.QuietTurns.{HoldsLess, ending, going_on, with_call}
-use Rattle.turns.specs.Runs.{EndsAs, EndsQuietly, IsQuiet, MayRise, Told, Turns, refuses}
-use Rattle.turns.specs.SeamLaws.{IsSeen, told_unless}
-use Rattle.turns.specs.ShardSeamLaws.{behind_shard}
-use Rattle.turns.specs.Stands.{Stands}
-use Rattle.turns.specs.Stores.{NamesHorizon, StandsOver, Store, stops}
+use Rattle.turns.specs.AbortLaws.{with_closed, with_verdict}
+use Rattle.turns.specs.Runs.{EndsAs, EndsQuietly, IsQuiet, MayRise}
 use Rattle.turns.proofs.AbortSeam.{abort_turns}
 use Rattle.turns.proofs.CoordinatorCalls.{inquiries_answer}
 use Rattle.turns.proofs.CoordinatorTurns.{verdicts_turn}
-use Rattle.turns.proofs.FlowEnds.{flows_end}
 use Rattle.turns.proofs.ShardLearnSeam.{drops_quietly}
-use Rattle.call_turns.specs.StoreCalls.{IsCalled, IsMade}
 use Rattle.call_turns.proofs.Asked.{staged_made}
-use Rattle.call_turns.proofs.Made.{IsQuietlyMade, same_devices, still_made}
-use Rattle.call_turns.proofs.Standing.{is_seen, runs_now, shard_is_seen, shard_is_up}
-use Rattle.write_turns.specs.Seen.{told_end}
-use Rattle.write_turns.specs.Turning.{TurnsBy}
 use Rattle.write_turns.proofs.Catching.{may_ask_coordinator, may_ask_shard}
 use Rattle.write_turns.proofs.Going.{IsFlow, Promises, asked_is, cancelled_is, changes, conditions, ends, ends_out, flow_there, going, holds_is, moved, right, spends}
 use Rattle.write_turns.proofs.Memory.{devices, ends_anyway, still_made_of}

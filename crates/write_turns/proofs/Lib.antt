@@ -1,3 +1,4 @@
+mod Words
 pub mod Going
 pub mod Catching
 pub mod Learning

@@ -1,21 +1,9 @@
 -- A call of the coordinator that changes its memory, and no device.
 use Rattle.std.proofs.Common.{◌≡◌, ◌≢◌, ◌⊎◌, ◌==◌, ℕ, Bool, true, false, List, [], ◌∷◌, Contains, refl, sym, ◌∙◌, ap, if◌then◌else◌}
 use Rattle.std.proofs.lemmas.Bool.{eq-eqb}
-use Rattle.tuples.specs.declared.entry.WriteId.{WriteId}
-use Rattle.device.specs.Device.{State, left}
-use Rattle.records.specs.declared.record.Record.{Record}
-use Rattle.decisions.specs.Coordinators.{CoordinatorView}
+use Rattle.write_turns.proofs.Words.{CoordinatorView, IsCalled, IsHorizonIn, IsMade, IsSeen, Machine, Moment, NamesHorizon, NodeName, Nodes, Record, Running, StandsOver, State, Store, WriteId, coordinator, devices_of, down, ended, fails_by, inside_by, is_seen, left, replaced, same_devices, shard, shows_nodes, still_given, still_named, still_sound, still_within, stops, up}
 use Rattle.calls.specs.Views as views
-use Rattle.calls.specs.Views.{devices_of}
-use Rattle.laws.specs.Machines.{Machine}
-use Rattle.laws.specs.Nodes.{NodeName, Nodes, coordinator, down, shard, up}
-use Rattle.turns.specs.Moments.{Moment, Running, ended, replaced}
-use Rattle.turns.specs.SeamLaws.{IsSeen}
-use Rattle.turns.specs.Stands.{IsHorizonIn}
-use Rattle.turns.specs.Stores.{NamesHorizon, ShowsNodes, StandsOver, Store, stops}
-use Rattle.call_turns.specs.StoreCalls.{IsCalled, IsMade}
-use Rattle.call_turns.proofs.Made.{fails_by, inside_by, same_devices, shows_nodes, still_given, still_named, still_sound, still_within}
-use Rattle.call_turns.proofs.Standing.{is_seen}
+use Rattle.turns.specs.Stores.{ShowsNodes}
 
 module _ {D : Type 0} (state : D → State) (honest : D → Type 0) (moment : D → ℕ) (left_since : D → ℕ → List ℕ → Type 0)
     (only_now : (d : D) (c : List ℕ) → honest d → left_since d (moment d) c → left (state d) c)

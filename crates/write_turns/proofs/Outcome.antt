@@ -2,42 +2,21 @@
 use Rattle.std.proofs.Common.{◌≡◌, inr, ⊎_elim, ◌≤◌, ℕ, Bool, false, List, [], ◌∷◌, Option, Some, None, refl, sym, ◌∙◌, ap, subst}
 use Rattle.std.specs.Prelude.{MatchOption}
 use Rattle.std.proofs.lemmas.Bool.{cases_Bool}
-use Rattle.tuples.specs.declared.entry.WriteId.{WriteId}
-use Rattle.refusal.specs.declared.refusal.Refusal.TheVariants.{Down, Unsure}
-use Rattle.device.specs.Device.{State, left}
-use Rattle.records.specs.declared.record.Record.{Record}
-use Rattle.decisions.specs.Coordinators.{CoordinatorView}
-use Rattle.decisions.specs.Standing.{DecidedValue}
+use Rattle.write_turns.proofs.Words.{Answered, CoordinatorView, DecidedValue, Down, GivesTo, IsCalled, IsQuietlyMade, IsReplyTo, Moment, NamesHorizon, NodeName, NodeView, Record, Refused, Reply, Running, StandsOver, State, Store, Turns, TurnsBy, Unsure, WriteHolds, WriteId, WriteView, answered_belongs, at_rest, coordinator, devices_of, ending, from_coordinator, is_seen, left, of_coordinator, runs_now, same_devices, still_made, stops, view_ended}
 use Rattle.coordinator.specs.declared.telling.Outcome as outcomes
 use Rattle.coordinator.specs.declared.telling.Outcome.TheVariants.{Kept, Later, Unsure as is_unsure}
-use Rattle.calls.specs.Asking.{Answered}
 use Rattle.calls.specs.Views as views
-use Rattle.calls.specs.Views.{NodeView, devices_of}
-use Rattle.calls.specs.declared.call.NodeCall.TheVariants.{Coordinator as of_coordinator}
 use Rattle.calls.specs.declared.call.CoordinatorCall.TheVariants as coordinator_calls
-use Rattle.calls.specs.declared.reply.Reply.{Reply}
-use Rattle.calls.specs.declared.reply.Reply.TheVariants.{Coordinator as from_coordinator}
 use Rattle.calls.specs.declared.reply.CoordinatorReply.TheVariants as told
-use Rattle.calls.specs.Belonging.{IsReplyTo}
-use Rattle.calls.proofs.Belonging.{answered_belongs}
-use Rattle.commit_flow.specs.Answering.{GivesTo, OutcomeGives}
-use Rattle.commit_flow.specs.Views.{WriteView, at_rest, view_ended}
+use Rattle.commit_flow.specs.Answering.{OutcomeGives}
 use Rattle.commit_flow.specs.WriteHolds as waits
-use Rattle.commit_flow.specs.declared.end.WriteEnd.TheVariants.{Refused, Wrote}
-use Rattle.laws.specs.Nodes.{NodeName, coordinator}
+use Rattle.commit_flow.specs.declared.end.WriteEnd.TheVariants.{Wrote}
 use Rattle.turns.specs.CoordinatorSeamLaws.{HasDecided, IsForgotten}
-use Rattle.turns.specs.Flows.{WriteHolds}
-use Rattle.turns.specs.Moments.{Moment, Running}
-use Rattle.turns.specs.QuietTurns.{ending}
 use Rattle.turns.specs.Replies.{wrote}
-use Rattle.turns.specs.Runs.{Turns, answered}
-use Rattle.turns.specs.Stores.{NamesHorizon, StandsOver, Store, stops}
+use Rattle.turns.specs.Runs.{answered}
 use Rattle.turns.proofs.CoordinatorCalls.{decisions_are_forgotten}
 use Rattle.turns.proofs.CoordinatorTurns.{away_is_forgotten, kept_answers, unsure_answers}
-use Rattle.call_turns.specs.StoreCalls.{IsCalled}
-use Rattle.call_turns.proofs.Made.{IsQuietlyMade, same_devices, still_made}
-use Rattle.call_turns.proofs.Standing.{coordinator_is_away, is_seen, runs_now}
-use Rattle.write_turns.specs.Turning.{TurnsBy}
+use Rattle.call_turns.proofs.Standing.{coordinator_is_away}
 use Rattle.write_turns.proofs.Catching.{may_ask_coordinator}
 use Rattle.write_turns.proofs.Going.{IsFlow, Promises, asked_is, changes, conditions, ends_as, flow_there, holds_is, moved, right, stays_so}
 

@@ -2,53 +2,29 @@
 use Rattle.std.proofs.Common.{◌≡◌, ◌≢◌, ◌⊎◌, inl, inr, ⊎_elim, ◌≤◌, ◌<◌, ◌++◌, ℕ, Bool, true, false, List, [], ◌∷◌, Result, Ok, Err, Option, Some, None, Contains, refl, sym, ◌∙◌, ap, subst, arith, if◌then◌else◌}
 use Rattle.std.specs.Prelude.{MatchOption}
 use Rattle.std.proofs.lemmas.Bool.{cases_Bool}
-use Rattle.tuples.specs.declared.change.Want.{Want}
-use Rattle.tuples.specs.declared.change.Want.TheVariants.{NotAfter, Exists, Absent}
-use Rattle.tuples.specs.declared.entry.Entry.{Entry}
-use Rattle.tuples.specs.Parts.{part, takes_part}
-use Rattle.refusal.specs.declared.refusal.Refusal.{Refusal}
-use Rattle.refusal.specs.declared.refusal.Refusal.TheVariants.{Busy, Collected, Down, Full, NoMemory, Precondition}
-use Rattle.device.specs.Device.{State, left}
-use Rattle.records.specs.declared.record.Record.{Record}
+use Rattle.write_turns.proofs.Words.{Absent, Answered, Calls, Collected, Down, Entry, Exists, FailsQuietly, Full, GivesTo, HasItsCause, HoldsLess, IntentValue, IsCalled, IsHolder, IsIntent, IsMade, IsOnItsWay, IsQuietlyMade, IsReplyTo, Moment, NoMemory, NodeName, NodeView, Nodes, NotAfter, Record, Refusal, Reply, Running, ShardView, StandsOver, State, Store, TakesMemory, TicketValue, TurnsBy, Want, WriteHolds, WriteView, answered_belongs, at_rest, behind_shard, devices_of, down, down_shard_fails, fails_by, from_shard, held_ticket, inside_by, knows, left, memory, of_shard, onward, outward, part, refused_fails, same_devices, shard, shard_is_seen, shard_is_up, shows_nodes, still_given, still_made, still_named, still_of, still_sound, still_within, stops, takes_part, ticket_value, up, with_call, writing}
+use Rattle.refusal.specs.declared.refusal.Refusal.TheVariants.{Busy, Precondition}
 use Rattle.records.specs.declared.record.Record.TheVariants.{Prepare}
 use Rattle.journal.specs.Records.{HasNoRoom}
-use Rattle.decisions.specs.Values.{IntentValue, IsIntent, TicketValue}
 use Rattle.shard.specs.Calls.{PrepareRefused, PreparesAt}
-use Rattle.shard.specs.Shards.{AskBelow, IsBelow, IsBroken, IsBusy, ShardView, memory, own_part}
+use Rattle.shard.specs.Shards.{AskBelow, IsBelow, IsBroken, IsBusy, own_part}
 use Rattle.shard.proofs.Tested.{part_prepared}
-use Rattle.calls.specs.Asking.{Answered}
 use Rattle.calls.specs.ShardAnswers.{Stays}
 use Rattle.calls.specs.Views as views
-use Rattle.calls.specs.Views.{NodeView, devices_of}
-use Rattle.calls.specs.declared.call.NodeCall.TheVariants.{Shard as of_shard}
 use Rattle.calls.specs.declared.call.ShardCall.TheVariants as shard_calls
-use Rattle.calls.specs.declared.reply.Reply.{Reply}
-use Rattle.calls.specs.declared.reply.Reply.TheVariants.{Shard as from_shard}
 use Rattle.calls.specs.declared.reply.ShardReply.TheVariants as told_by
-use Rattle.calls.specs.Belonging.{IsReplyTo}
-use Rattle.calls.proofs.Belonging.{answered_belongs}
-use Rattle.commit_flow.specs.Answering.{GivesTo, PrepareGives}
-use Rattle.commit_flow.specs.Views.{WriteView, at_rest, ticket_value}
+use Rattle.commit_flow.specs.Answering.{PrepareGives}
 use Rattle.commit_flow.specs.WriteHolds as waits
-use Rattle.commit_flow.specs.Writing.{GaveBelow, IsOnItsWay}
-use Rattle.laws.specs.Nodes.{NodeName, Nodes, down, shard, up}
+use Rattle.commit_flow.specs.Writing.{GaveBelow}
 use Rattle.laws.specs.Shards.{ShardMeans}
-use Rattle.turns.specs.Causes.{Calls, HasItsCause, IsBelow as IsBelowCause, TakesMemory}
-use Rattle.turns.specs.Flows.{HeldVote, WriteHolds, onward, outward, writing}
+use Rattle.turns.specs.Causes.{IsBelow as IsBelowCause}
+use Rattle.turns.specs.Flows.{HeldVote}
 use Rattle.turns.specs.Held.{HoldsOf}
-use Rattle.turns.specs.Moments.{Moment, Running}
 use Rattle.turns.specs.PrepareLaws.{IsPreparing}
-use Rattle.turns.specs.QuietTurns.{HoldsLess, with_call}
-use Rattle.turns.specs.ShardSeamLaws.{IsHolder, ShardIsSeen, behind_shard, held_ticket}
-use Rattle.turns.specs.Stores.{StandsOver, Store, stops}
+use Rattle.turns.specs.ShardSeamLaws.{ShardIsSeen}
 use Rattle.turns.proofs.PrepareTurn.{broken_shards_have_cause, busy_shards_have_cause, full_shards_have_cause, part_condition}
 use Rattle.turns.proofs.ShardPrepareSeam.{not_prepared, prepare_turns_of}
-use Rattle.turns.proofs.ShardSeam.{elsewhere, here, known_left, knows, own_is}
-use Rattle.call_turns.specs.StoreCalls.{IsCalled, IsMade}
-use Rattle.call_turns.proofs.Flushed.{down_shard_fails, refused_fails}
-use Rattle.call_turns.proofs.Made.{FailsQuietly, IsQuietlyMade, fails_by, inside_by, same_devices, shows_nodes, still_given, still_made, still_named, still_of, still_sound, still_within}
-use Rattle.call_turns.proofs.Standing.{shard_is_seen, shard_is_up}
-use Rattle.write_turns.specs.Turning.{TurnsBy}
+use Rattle.turns.proofs.ShardSeam.{elsewhere, here, known_left, own_is}
 use Rattle.write_turns.proofs.Catching.{may_ask_shard}
 use Rattle.write_turns.proofs.Going.{IsFlow, Promises, asks_own, calls_shard, flow_of, flow_there, goes_out, going, holds_is, moved, stays_so}
 use Rattle.write_turns.proofs.Learning.{is_full}

@@ -1,23 +1,14 @@
 -- A small turn: a write flow begins its write at a coordinator whose opening was refused, and ends with that refusal. So a flow can make a call as the laws
 -- ask for it.
 use Rattle.std.proofs.Common.{◌≡◌, ◌≢◌, ℕ, zero, suc, false, List, [], ◌∷◌, Option, Err, Some, None, refl, arith}
-use Rattle.tuples.specs.Writes.{WriteValue}
-use Rattle.refusal.specs.declared.refusal.Refusal.TheVariants.{Down}
-use Rattle.device.specs.Device.{State}
+use Rattle.write_turns.proofs.Words.{Coordinator, Down, FlowView, Refused, State, Store, WriteValue, WriteView, coordinator, from_coordinator, refuses, shown, told_of, view_ended}
 use Rattle.calls.specs.Views as views
-use Rattle.calls.specs.declared.call.NodeCall.TheVariants.{Coordinator}
 use Rattle.calls.specs.declared.call.CoordinatorCall.TheVariants.{Begin}
-use Rattle.calls.specs.declared.reply.Reply.TheVariants.{Coordinator as from_coordinator}
 use Rattle.calls.specs.declared.reply.CoordinatorReply.TheVariants as told
-use Rattle.commit_flow.specs.Views.{WriteView, view_ended}
 use Rattle.commit_flow.specs.WriteHolds.{nothing_begun}
 use Rattle.commit_flow.specs.WriteHolds as waits
-use Rattle.commit_flow.specs.declared.end.WriteEnd.TheVariants.{Refused}
-use Rattle.laws.specs.Nodes.{coordinator, refused}
-use Rattle.turns.specs.Runs.{refuses}
-use Rattle.turns.specs.Stores.{FlowView, Store}
+use Rattle.laws.specs.Nodes.{refused}
 use Rattle.call_turns.specs.StoreCalls.{IsNode}
-use Rattle.write_turns.specs.Seen.{shown, told_of}
 use Rattle.write_turns.specs.Turning.{MakesCall}
 
 module _ {D : Type 0} (state : D → State) (honest : D → Type 0) (moment : D → ℕ) (left_since : D → ℕ → List ℕ → Type 0) (a b : D) (write : WriteValue) where

@@ -3,48 +3,19 @@ use Rattle.std.proofs.Common.{◌≡◌, ◌⊎◌, inl, inr, ⊎_elim, ◌≤�
 use Rattle.std.specs.Prelude.{MatchOption}
 use Rattle.std.proofs.lemmas.Bool.{cases_Bool}
 use Rattle.std.proofs.lemmas.List.Elements.{All-contains, Contains-append_cases, Contains-append_right, Contains-push_cases}
-use Rattle.tuples.specs.declared.entry.Entry.{Entry}
-use Rattle.tuples.specs.Parts.{part}
-use Rattle.refusal.specs.declared.refusal.Refusal.{Refusal}
-use Rattle.refusal.specs.declared.refusal.Refusal.TheVariants.{Down}
-use Rattle.device.specs.Device.{State, left}
-use Rattle.records.specs.declared.record.Record.{Record}
+use Rattle.write_turns.proofs.Words.{Answered, Calls, Down, Entry, FailsQuietly, GivesTo, GoesOut, HasItsCause, HeldTicket, HoldsLess, IsCalled, IsHolder, IsOnItsWay, IsQuietlyMade, IsReplyTo, IsRightTicket, Moment, NodeName, NodeView, Record, Refusal, Reply, Running, ShardView, StandsOver, State, Store, TicketValue, TurnsBy, WriteHolds, WriteView, answered_belongs, at_rest, devices_of, down_shard_fails, from_shard, held_ticket, knows, left, memory, of_shard, onward, outward, own_write, part, refused_fails, same_devices, shard, shard_is_seen, shard_is_up, still_made, stops, ticket_value, with_call, writing}
 use Rattle.records.specs.Replays.{find_in_doubt}
-use Rattle.decisions.specs.Values.{TicketValue}
-use Rattle.shard.specs.Shards.{ShardView, memory}
 use Rattle.shard.specs.declared.replies.VoteReply.{VoteReply}
 use Rattle.shard.specs.declared.replies.VoteReply.TheVariants.{Yes, Later, No}
-use Rattle.calls.specs.Asking.{Answered}
 use Rattle.calls.specs.Views as views
-use Rattle.calls.specs.Views.{NodeView, devices_of}
-use Rattle.calls.specs.declared.call.NodeCall.TheVariants.{Shard as of_shard}
 use Rattle.calls.specs.declared.call.ShardCall.TheVariants as shard_calls
-use Rattle.calls.specs.declared.reply.Reply.{Reply}
-use Rattle.calls.specs.declared.reply.Reply.TheVariants.{Shard as from_shard}
 use Rattle.calls.specs.declared.reply.ShardReply.TheVariants as told_by
-use Rattle.calls.specs.Belonging.{IsReplyTo}
-use Rattle.calls.proofs.Belonging.{answered_belongs}
-use Rattle.commit_flow.specs.Answering.{GivesTo, GoesOut, VoteGives}
-use Rattle.commit_flow.specs.Views.{WriteView, at_rest, ticket_value}
+use Rattle.commit_flow.specs.Answering.{VoteGives}
 use Rattle.commit_flow.specs.WriteHolds as waits
-use Rattle.commit_flow.specs.Writing.{IsOnItsWay}
-use Rattle.laws.specs.Nodes.{NodeName, shard}
-use Rattle.turns.specs.Causes.{Calls, HasItsCause, IsCutOff}
-use Rattle.turns.specs.Flows.{HeldTicket, WriteHolds, onward, outward, writing}
-use Rattle.turns.specs.Held.{IsRightTicket, own_write}
-use Rattle.turns.specs.Moments.{Moment, Running}
-use Rattle.turns.specs.QuietTurns.{HoldsLess, with_call}
-use Rattle.turns.specs.ShardSeamLaws.{IsHolder, held_ticket}
-use Rattle.turns.specs.Stores.{StandsOver, Store, stops}
+use Rattle.turns.specs.Causes.{IsCutOff}
 use Rattle.turns.proofs.AbortCauses.{refused_tickets}
 use Rattle.turns.proofs.FlowBegins.{alone}
 use Rattle.turns.proofs.ShardPrepareSeam.{vote_turns_of}
-use Rattle.turns.proofs.ShardSeam.{knows}
-use Rattle.call_turns.specs.StoreCalls.{IsCalled}
-use Rattle.call_turns.proofs.Flushed.{down_shard_fails, refused_fails}
-use Rattle.call_turns.proofs.Made.{FailsQuietly, IsQuietlyMade, same_devices, still_made}
-use Rattle.call_turns.proofs.Standing.{shard_is_seen, shard_is_up}
-use Rattle.write_turns.specs.Turning.{TurnsBy}
 use Rattle.write_turns.proofs.Catching.{may_ask_shard}
 use Rattle.write_turns.proofs.Going.{IsFlow, Promises, asked_is, calls_shard, changes, conditions, fails_out, flow_of, flow_there, goes_out, going, holds_is, moved, right, stays_so}
 
