@@ -1,2 +1,3 @@
 pub mod Deeds
 pub mod Lives
+pub mod RefusedWrites

@@ -7,6 +7,8 @@
 //! Start at `specs/Lives.antt`.
 #![tactic(auto)]
 
+mod line_laws;
+
 ghost use Rattle.std.specs.Prelude.{◌≡◌, ◌≢◌, ◌≤◌, ◌⊎◌, All, List};
 ghost use Rattle.device.specs.Disk.{is_set_to_fail, left_since_of, moment_of, state_of};
 ghost use Rattle.device.specs.declared.sim_disk.SimDisk.{SimDisk as AnyDisk};
@@ -16,6 +18,7 @@ ghost use Rattle.tuples.specs.Limits.{max_shards};
 
 use device::SimDisk;
 use headline::acted_headline;
+pub use line_laws::writes_refused_memory;
 use std::alloc::Global;
 use std::io::{Read, Write};
 

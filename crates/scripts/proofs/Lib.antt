@@ -1,4 +1,4 @@
-mod Short
+pub mod Short
 mod Among
 mod Within
 mod Rooms
