@@ -143,7 +143,7 @@ module _ (store shards : ℕ) (left : NodeName → List Record → Type 0) (now 
       log_given = λ v has. given_kept store shards left now w.id v.id (st.ids.log_given v has);
       prepares_given = λ s found v lt here has. given_kept store shards left now w.id v.id (st.ids.prepares_given s found v lt here has);
     };
-    flows = flows_turn store shards left left now (record now { nodes = with_closed now.nodes w.id }) r later st.flows own.running refl (sym (ap id_of own.holds)) (omega arith) (omega arith)
+    flows = flows_turn store shards left left now (record now { nodes = with_closed now.nodes w.id }) r later st.flows own.running refl (inl (sym (ap id_of own.holds))) (omega arith) (omega arith)
         (sees_more now.machine now.machine now.machine r later refl (omega arith) (omega arith) (omega arith) (omega arith) (st.flows.seen r own.running)) (λ no_write. st.flows.quiet r own.running no_write) others_right later_right;
     told = λ j d lt. same_verdict shards left (record now { nodes = with_closed now.nodes w.id }) (replaced later now.running) now.told now.named (slice_index_or now.told j d) (verdict_kept store shards left now w.id (slice_index_or now.told j d) (st.told j d lt));
   }

@@ -1,10 +1,10 @@
 -- The coordinator of a store that stands is flushed: the whole log is kept, and the horizon is the one that it knows.
 use Rattle.std.proofs.Common.{◌≡◌, inl, ⊎_elim, ℕ, ◌≤◌, List, [], ◌++◌, length, Contains, refl, sym, ◌∙◌, ap, subst, arith, append-nil, false}
-use Rattle.turns.proofs.Words.{CoordinatorKnows, CoordinatorState, Epoch, FlushesCoordinator, IsCoordinatorImage, IsOfRefusedOpening, Means, Moment, NodeName, NodeState, Nodes, NodesStand, Record, Refusal, Rests, Stands, all_kept, at_shards, coordinator, coordinator_from, coordinator_from-append, coordinator_node, down, empty_coordinator, end_of, horizon_rises, leaves, less_rests, raised_means, refused, shard, staged_of, up}
+use Rattle.turns.proofs.Words.{CoordinatorKnows, CoordinatorState, Epoch, FlushesCoordinator, IsCoordinatorImage, IsOfRefusedOpening, Means, Moment, NodeName, NodeState, Nodes, NodesStand, Record, Refusal, Rests, Stands, all_kept, at_shards, coordinator, coordinator_node, down, end_of, horizon_rises, leaves, less_rests, raised_means, refused, shard, staged_of, up}
 use Rattle.records.specs.Coordinators.{coordinator_state}
 use Rattle.turns.specs.FlushLaws.{CoordinatorFlushesStand}
 use Rattle.laws.proofs.CoordinatorSteps.{flushes_rest}
-use Rattle.turns.proofs.DecisionNodes.{epoch_stays}
+use Rattle.turns.proofs.DecisionNodes.{staged_epoch}
 use Rattle.turns.proofs.Frames.{shard_less}
 use Rattle.turns.proofs.SameWrites.{SameWrites, same_in_doubt, same_shard, still_stands}
 use Rattle.turns.proofs.ShardStages.{durable_in}
@@ -34,10 +34,7 @@ module _ (store shards : ℕ) (left after : NodeName → List Record → Type 0)
       )
 
   same_epoch : (coordinator_state (flush.durable ++ flush.staged)).epoch ≡ (coordinator_state flush.durable).epoch
-  unfolding coordinator_state
-  same_epoch =
-      ap (λ (c : CoordinatorState). c.epoch) (coordinator_from-append empty_coordinator flush.durable flush.staged)
-      ∙ epoch_stays (coordinator_from empty_coordinator flush.durable) flush.staged (λ a b c d has. stands.nodes.no_opening coordinator flush.durable flush.staged a b c d flush.was has)
+  same_epoch = staged_epoch flush.durable flush.staged (λ a b c d has. stands.nodes.no_opening coordinator flush.durable flush.staged a b c d flush.was has)
 
   shards_less : (t : ℕ) (found : List Record) → leaves after next (shard t) found → leaves left now.nodes (shard t) found
   shards_less = shard_less shards left after now later false flush.shards (λ t rs. (flush.same t rs).0)

@@ -23,6 +23,11 @@ epoch_stays s (Epoch e f g h ∷ rs) none = absurd (none e f g h (0, omega arith
 epoch_stays s (Decision place v ∷ rs) none = epoch_stays (coordinator_step s (Decision place v)) rs (λ a b c d has. none a b c d (Contains-append_right (Decision place v ∷ []) rs (Epoch a b c d) has))
 epoch_stays s (Horizon place ∷ rs) none = epoch_stays (coordinator_step s (Horizon place)) rs (λ a b c d has. none a b c d (Contains-append_right (Horizon place ∷ []) rs (Epoch a b c d) has))
 
+-- so what is staged behind durable records leaves theirs
+pub staged_epoch : (durable staged : List Record) → ((a b c d : ℕ) → Contains staged (Epoch a b c d) → ⊥) → (coordinator_state (durable ++ staged)).epoch ≡ (coordinator_state durable).epoch
+unfolding coordinator_state
+staged_epoch durable staged none = ap (λ (c : CoordinatorState). c.epoch) (coordinator_from-append empty_coordinator durable staged) ∙ epoch_stays (coordinator_from empty_coordinator durable) staged none
+
 module _ (store shards : ℕ) (left : NodeName → List Record → Type 0) (now : Moment) (next : Nodes) (place : ℕ) (w : Entry) (st : IsDeciding store shards left now next place w) where
   pub knew : CoordinatorKnows now.nodes (coordinator_state st.step.durable) (coordinator_state (st.step.durable ++ st.step.staged))
   knew = record { durable = st.step.durable; staged = st.step.staged; is_up = st.step.was; durable_state = refl; replayed = refl }
@@ -89,10 +94,7 @@ module _ (store shards : ℕ) (left : NodeName → List Record → Type 0) (now 
       k.replayed ∙ ap (λ (l : List Record). coordinator_state (l ++ k.staged)) (ap durable_in both) ∙ ap (λ (l : List Record). coordinator_state (st.step.durable ++ l)) (ap staged_of both)
 
   durable_epoch : (coordinator_state (st.step.durable ++ st.step.staged)).epoch ≡ (coordinator_state st.step.durable).epoch
-  unfolding coordinator_state
-  durable_epoch =
-      ap (λ (c : CoordinatorState). c.epoch) (coordinator_from-append empty_coordinator st.step.durable st.step.staged)
-      ∙ epoch_stays (coordinator_from empty_coordinator st.step.durable) st.step.staged (λ a b c d has. st.stands.nodes.no_opening coordinator st.step.durable st.step.staged a b c d st.step.was has)
+  durable_epoch = staged_epoch st.step.durable st.step.staged (λ a b c d has. st.stands.nodes.no_opening coordinator st.step.durable st.step.staged a b c d st.step.was has)
 
   own_epoch : w.id.epoch ≡ (coordinator_state (st.step.durable ++ st.step.staged)).epoch
   own_epoch = (st.stands.ids.of_now w st.is_open _ _ knew).0

@@ -89,7 +89,7 @@ module _ (store shards : ℕ) (left : NodeName → List Record → Type 0) (now 
     listed = others.listed;
     locks = others.locks;
     ids = others.ids;
-    flows = flows_turn store shards left left now (with_decision now next w) r later st.stands.flows own.running refl id_kept (omega arith) (omega arith)
+    flows = flows_turn store shards left left now (with_decision now next w) r later st.stands.flows own.running refl (inl id_kept) (omega arith) (omega arith)
         (sees_more now.machine (with_write now.machine w) (with_write now.machine w) r later refl (omega arith) (omega arith) (omega arith) (omega arith) (st.stands.flows.seen r own.running))
         (λ no_write. absurd (true≢false (ap is_write (sym own.asked) ∙ no_write))) others_right later_right;
     told = λ j e lt. same_verdict shards left (with_decision now next w) (replaced later now.running) now.told now.named _ (others.told j e lt);

@@ -1,9 +1,9 @@
 -- The coordinator of a store that stands fails in a flush.
 use Rattle.std.proofs.Common.{◌≡◌, inl, inr, ⊎_elim, ◌↔◌, ℕ, ◌≤◌, List, ◌++◌, Contains, refl, sym, ◌∙◌, ap, subst, append-nil}
-use Rattle.turns.proofs.Words.{CoordinatorKnows, CoordinatorState, Epoch, FailsFlush, HeadsStand, IsGivenOut, IsOfRefusedOpening, Machine, Moment, NodeName, NodeState, Nodes, NodesStand, Record, Refusal, Stands, WriteId, coordinator, coordinator_from, coordinator_from-append, down, empty_coordinator, leaves, refused, shard, staged_of, up}
+use Rattle.turns.proofs.Words.{CoordinatorKnows, CoordinatorState, Epoch, FailsFlush, HeadsStand, IsGivenOut, IsOfRefusedOpening, Machine, Moment, NodeName, NodeState, Nodes, NodesStand, Record, Refusal, Stands, WriteId, coordinator, down, leaves, refused, shard, staged_of, up}
 use Rattle.records.specs.Coordinators.{coordinator_state}
 use Rattle.turns.specs.FlushLaws.{FailedFlushesStand}
-use Rattle.turns.proofs.DecisionNodes.{epoch_stays}
+use Rattle.turns.proofs.DecisionNodes.{staged_epoch}
 use Rattle.turns.proofs.LessLeftFlows.{GoesOn, both_less, stands_on}
 
 -- what is asked of the coordinator that is known of it alone
@@ -59,10 +59,7 @@ module _ (store shards : ℕ) (left after : NodeName → List Record → Type 0)
 
 module _ (store shards : ℕ) (left after : NodeName → List Record → Type 0) (now : Moment) (next : Nodes) (stands : Stands store shards left now) (fails : FailsFlush left after now.nodes next) where
   same_epoch : (coordinator_state (fails.durable ++ fails.staged)).epoch ≡ (coordinator_state fails.durable).epoch
-  unfolding coordinator_state
-  same_epoch =
-      ap (λ (c : CoordinatorState). c.epoch) (coordinator_from-append empty_coordinator fails.durable fails.staged)
-      ∙ epoch_stays (coordinator_from empty_coordinator fails.durable) fails.staged (λ a b c d has. stands.nodes.no_opening coordinator fails.durable fails.staged a b c d fails.was has)
+  same_epoch = staged_epoch fails.durable fails.staged (λ a b c d has. stands.nodes.no_opening coordinator fails.durable fails.staged a b c d fails.was has)
 
   durable_left : left coordinator fails.durable
   durable_left = (stands.nodes.durable coordinator fails.durable fails.staged fails.durable fails.was).1 refl

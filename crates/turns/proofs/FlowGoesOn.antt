@@ -1,17 +1,25 @@
 -- A flow takes its turn: it stands in its slot behind it, and the others stay as they are.
-use Rattle.std.proofs.Common.{◌≡◌, ◌≢◌, ◌⊎◌, inl, inr, ⊎_elim, ◌==◌, ◌≤◌, ◌++◌, ℕ, zero, suc, Bool, true, false, true≢false, List, [], ◌∷◌, Some, slice_get, Contains, refl, sym, ◌∙◌, ap, subst, arith, if◌then◌else◌}
+use Rattle.std.proofs.Common.{◌≡◌, ◌≢◌, ◌⊎◌, inl, inr, ⊎_elim, ◌==◌, ◌≤◌, ◌++◌, ℕ, zero, suc, Bool, true, false, true≢false, List, [], ◌∷◌, Some, slice_get, Contains, refl, sym, ◌∙◌, ap, subst, arith, if◌then◌else◌, length}
 use Rattle.std.proofs.lemmas.Bool.{eq-eqb, eqb-true}
 use Rattle.std.proofs.lemmas.List.Elements.{Contains-push_cases}
 use Rattle.std.proofs.lemmas.Option.{same_Some}
-use Rattle.turns.proofs.Words.{FlowsStand, HasSeenBelow, IsQuietFlow, IsRight, Machine, Moment, NodeName, Record, Running, id_of, replaced}
+use Rattle.turns.proofs.Words.{FlowsStand, HasSeenBelow, IsQuietFlow, IsRight, Machine, Moment, NodeName, Record, Running, id_of, replaced, WriteId}
 use Rattle.turns.specs.FlowLaws.{FlowsGoOn}
-use Rattle.turns.proofs.WriteBegins.{same_length}
 use Rattle.turns.proofs.FlowBegins.{same_right, same_verdict}
 use Rattle.turns.proofs.ShardStagesStands.{contained_at, contained_from}
 
 -- no two flows have one slot
 abbrev AreSlots : List Running → Type 0
 AreSlots rs = (i j : ℕ) (q r : Running) → slice_get rs i ≡ Some q → slice_get rs j ≡ Some r → q.slot ≡ r.slot → i ≡ j
+
+-- as many flows run
+same_length : (later : Running) (rs : List Running) → length (replaced later rs) ≡ length rs
+same_length later [] = refl
+same_length later (q ∷ rs) = by_slot (q.slot == later.slot) (same_length later rs)
+  where
+    by_slot : (b : Bool) → length (replaced later rs) ≡ length rs → length (if b then later ∷ rs else q ∷ replaced later rs) ≡ length (q ∷ rs)
+    by_slot true same = refl
+    by_slot false same = omega (arith, same)
 
 -- where one flow is replaced, a flow is that one behind its turn, or another that stood at its place before
 replaced_at : (later : Running) (rs : List Running) (k : ℕ) (r : Running) → AreSlots rs → slice_get rs k ≡ Some r → r.slot ≡ later.slot
@@ -34,7 +42,8 @@ replaced_at later (q ∷ rs) k r once at same j x is = by_slot (q.slot == later.
         (rest l at_l i x there)
 
 module _ (store shards : ℕ) (left stops : NodeName → List Record → Type 0) (now after : Moment) (r later : Running) (flows : FlowsStand store shards left now) (there : Contains now.running r)
-    (slot : later.slot ≡ r.slot) (id : id_of later.holds ≡ id_of r.holds) where
+    (slot : later.slot ≡ r.slot)
+    (id : (id_of later.holds ≡ id_of r.holds) ⊎ ((j : ℕ) (x : Running) (one : WriteId) → slice_get now.running j ≡ Some x → id_of x.holds ≡ Some one → id_of later.holds ≡ Some one → ⊥)) where
   at_k : slice_get now.running (contained_at now.running r there).0 ≡ Some r
   at_k = (contained_at now.running r there).1
 
@@ -42,12 +51,19 @@ module _ (store shards : ℕ) (left stops : NodeName → List Record → Type 0)
       → ((j ≡ (contained_at now.running r there).0) × (x ≡ later)) ⊎ ((j ≢ (contained_at now.running r there).0) × (slice_get now.running j ≡ Some x))
   is_at = replaced_at later now.running (contained_at now.running r there).0 r flows.slots at_k (sym slot)
 
-  -- it stood there before, or r did: with the same slot and the same write
-  origin : (j : ℕ) (x : Running) → slice_get (replaced later now.running) j ≡ Some x → (y : Running) × (slice_get now.running j ≡ Some y) × (y.slot ≡ x.slot) × (id_of y.holds ≡ id_of x.holds)
+  -- it stood there before, or r did: with the same slot
+  origin : (j : ℕ) (x : Running) → slice_get (replaced later now.running) j ≡ Some x → (y : Running) × (slice_get now.running j ≡ Some y) × (y.slot ≡ x.slot)
   origin j x is = ⊎_elim
-      (λ new. (r, subst (λ i. slice_get now.running i ≡ Some r) (sym new.0) at_k, sym slot ∙ ap (λ (y : Running). y.slot) (sym new.1), sym id ∙ ap (λ (y : Running). id_of y.holds) (sym new.1)))
-      (λ old. (x, old.1, refl, refl))
+      (λ new. (r, subst (λ i. slice_get now.running i ≡ Some r) (sym new.0) at_k, sym slot ∙ ap (λ (y : Running). y.slot) (sym new.1)))
+      (λ old. (x, old.1, refl))
       (is_at j x is)
+
+  -- no other flow has the write that it has behind its turn: it is the one that it had, or one that no flow has
+  other : (j : ℕ) (x : Running) (one : WriteId) → j ≢ (contained_at now.running r there).0 → slice_get now.running j ≡ Some x → id_of x.holds ≡ Some one → id_of later.holds ≡ Some one → ⊥
+  other j x one ne at has same = ⊎_elim
+      (λ kept. ne (flows.ids j (contained_at now.running r there).0 x r one at at_k has (sym kept ∙ same)))
+      (λ none. none j x one at has same)
+      id
 
   -- the others stand at other slots
   pub flows_turn : now.machine.kept ≤ after.machine.kept → now.machine.horizon ≤ after.machine.horizon → HasSeenBelow after.machine later → IsQuietFlow later
@@ -59,10 +75,16 @@ module _ (store shards : ℕ) (left stops : NodeName → List Record → Type 0)
         let a = origin i q is_q in
         let b = origin j x is_x in
         flows.slots i j a.0 b.0 a.1 b.1 (a.2 ∙ same ∙ sym b.2);
-    ids = λ i j q x one is_q is_x has also.
-        let a = origin i q is_q in
-        let b = origin j x is_x in
-        flows.ids i j a.0 b.0 one a.1 b.1 (a.3 ∙ has) (b.3 ∙ also);
+    ids = λ i j q x one is_q is_x has also. ⊎_elim
+        (λ new_q. ⊎_elim
+        (λ new_x. new_q.0 ∙ sym new_x.0)
+        (λ old_x. absurd (other j x one old_x.0 old_x.1 also (ap (λ (y : Running). id_of y.holds) (sym new_q.1) ∙ has)))
+        (is_at j x is_x))
+        (λ old_q. ⊎_elim
+        (λ new_x. absurd (other i q one old_q.0 old_q.1 has (ap (λ (y : Running). id_of y.holds) (sym new_x.1) ∙ also)))
+        (λ old_x. flows.ids i j q x one old_q.1 old_x.1 has also)
+        (is_at j x is_x))
+        (is_at i q is_q);
     held = λ x has.
         let at = contained_at (replaced later now.running) x has in
         ⊎_elim
@@ -99,6 +121,6 @@ flows_go_on store shards left now r later st there slot id sees quiet right = re
   listed = st.listed;
   locks = st.locks;
   ids = st.ids;
-  flows = flows_turn store shards left left now now r later st.flows there slot id (omega arith) (omega arith) sees quiet (λ x has ne. st.flows.held x has) right;
+  flows = flows_turn store shards left left now now r later st.flows there slot (inl id) (omega arith) (omega arith) sees quiet (λ x has ne. st.flows.held x has) right;
   told = λ j d lt. same_verdict shards left now (replaced later now.running) now.told now.named _ (st.told j d lt);
 }

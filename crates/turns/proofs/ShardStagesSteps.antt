@@ -133,7 +133,7 @@ module _ (store shards : ℕ) (left : NodeName → List Record → Type 0) (now 
         (Contains-push_cases (shard_state was).in_doubt (part shards s w) x (subst (λ (m : ShardState). Contains m.in_doubt x) after has));
     means = λ m. subst (ShardMeans shards s now.machine.log now.machine.horizon now.machine.horizon) (sym after)
         (prepared_means shards s now.machine.log now.machine.horizon now.machine.horizon (shard_state was) w.id own.unlisted m (part shards s w) refl);
-  }) (replaced later now.running) (flows_turn store shards left left now (with_nodes now next) r later st.stands.flows flow.there refl (sym (ap id_of holds)) (omega arith) (omega arith)
+  }) (replaced later now.running) (flows_turn store shards left left now (with_nodes now next) r later st.stands.flows flow.there refl (inl (sym (ap id_of holds))) (omega arith) (omega arith)
       (sees_more now.machine now.machine now.machine r later refl (omega arith) (omega arith) (omega arith) (omega arith) (st.stands.flows.seen r flow.there))
       (st.stands.flows.quiet r flow.there) others right)
     where

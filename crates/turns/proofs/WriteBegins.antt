@@ -1,15 +1,18 @@
 -- A write begins: its id is new, so what other flows hold stays right.
-use Rattle.std.proofs.Common.{◌≡◌, ◌≢◌, ◌⊎◌, inl, inr, ⊎_elim, ◌==◌, ℕ, zero, suc, Bool, true, false, ◌<◌, ◌≤◌, ◌+◌, List, [], ◌∷◌, ◌++◌, length, Some, slice_get, slice_index_or, Contains, All, refl, sym, ◌∙◌, ap, subst, arith, if◌then◌else◌}
-use Rattle.std.proofs.lemmas.Bool.{eqb-true}
-use Rattle.std.proofs.lemmas.List.Elements.{All-nil, Contains-append_right, Contains-push_cases}
+use Rattle.std.proofs.Common.{◌≡◌, ◌≢◌, inl, inr, ⊎_elim, ℕ, zero, suc, false, ◌<◌, ◌≤◌, ◌+◌, List, [], ◌∷◌, ◌++◌, Some, slice_get, slice_index_or, Contains, All, refl, sym, ◌∙◌, ap, subst, arith}
+use Rattle.std.proofs.lemmas.List.Elements.{All-nil, Contains-append_right}
 use Rattle.std.proofs.lemmas.Option.{none-some, same_Some}
-use Rattle.turns.proofs.Words.{AreNew, Asked, CoordinatorKnows, CoordinatorState, Decision, Dropped, Entry, Epoch, HasSeenBelow, Holds, Horizon, IsBegin, IsOpen, IsQuietFlow, IsRight, IsRightIntent, IsRightOwn, IsRightTicket, IsRightVerdict, IsRightVote, IsRightWrite, IsUnlisted, Learned, Machine, Moment, NodeName, NodeState, Nodes, Prepare, Record, Running, Stands, WasGiven, WriteHolds, WriteId, coordinator, coordinator_from, down, empty_coordinator, find_in_doubt, id_of, leaves, own_write, refused, replaced, same_id, shard, shard_state, to_write, up, with_intent, with_open, writing}
-use Rattle.records.specs.Coordinators.{coordinator_state, coordinator_step}
+use Rattle.turns.proofs.Words.{AreNew, Asked, CoordinatorKnows, CoordinatorState, Entry, Holds, IsBegin, IsOpen, IsRight, IsRightIntent, IsRightOwn, IsRightTicket, IsRightVerdict, IsRightVote, IsRightWrite, IsUnlisted, Moment, NodeName, Nodes, Record, Running, Stands, WasGiven, WriteHolds, WriteId, coordinator, find_in_doubt, id_of, leaves, own_write, replaced, shard, shard_state, to_write, up, with_intent, with_open, writing, staged_of}
+use Rattle.records.specs.Coordinators.{coordinator_state}
 use Rattle.replay.proofs.Doubts.{found_id}
 use Rattle.turns.specs.FlowLaws.{WritesBegin}
 use Rattle.turns.proofs.FlowBegins.{alone, among}
+use Rattle.turns.proofs.DecisionNodes.{staged_epoch}
+use Rattle.turns.proofs.FlowGoesOn.{flows_turn, sees_more}
+use Rattle.laws.proofs.WriteConditions.{find_at}
+use Rattle.turns.proofs.ShardStages.{durable_in}
 use Rattle.turns.proofs.Frames.{KeepsStore, KeepsWrite, frame, given_on, own_given, same_doubts, same_knew, same_taken, verdict_on}
-use Rattle.turns.proofs.ShardStagesStands.{contained_at, contained_from}
+use Rattle.turns.proofs.ShardStagesStands.{contained_from}
 
 -- Given a store, and a write whose id no id that was given is
 module _ (store shards : ℕ) (left : NodeName → List Record → Type 0) (now : Moment) (w : Entry) (running : List Running) (fresh : (id : WriteId) → WasGiven shards left now.nodes id → id ≢ w.id) where
@@ -65,78 +68,13 @@ module _ (store shards : ℕ) (left : NodeName → List Record → Type 0) (now 
 
 -- a write in doubt that is found is one of those in doubt
 found_in : (id : WriteId) (ws : List Entry) (p : Entry) → find_in_doubt id ws ≡ Some p → Contains ws p
-found_in id [] p is = absurd (none-some _ is)
-found_in id (v ∷ ws) p is = by_id (same_id v.id id) refl (found_in id ws p)
-  where
-    by_id : (b : Bool) → same_id v.id id ≡ b → (find_in_doubt id ws ≡ Some p → Contains ws p) → Contains (v ∷ ws) p
-    by_id true same rest = subst (Contains (v ∷ ws)) (same_Some v p (sym (ap (λ b. if b then Some v else find_in_doubt id ws) same) ∙ is)) (alone v ws)
-    by_id false same rest = Contains-append_right (v ∷ []) ws p (rest (sym (ap (λ b. if b then Some v else find_in_doubt id ws) same) ∙ is))
-
--- a flow where one is replaced stood there before, or is the one that replaces a flow of its slot
-IsReplaced : Running → List Running → ℕ → Running → Type 0
-IsReplaced later rs j x = (slice_get rs j ≡ Some x) ⊎ ((x ≡ later) × ((y : Running) × (slice_get rs j ≡ Some y) × (y.slot ≡ later.slot)))
-
-replaced_is : (later : Running) (rs : List Running) (j : ℕ) (x : Running) → slice_get (replaced later rs) j ≡ Some x → IsReplaced later rs j x
-unfolding IsReplaced
-replaced_is later [] j x is = inl is
-replaced_is later (q ∷ rs) j x is = by_slot (q.slot == later.slot) refl j is (replaced_is later rs)
-  where
-    by_slot : (b : Bool) → (q.slot == later.slot) ≡ b → (i : ℕ) → slice_get (if b then later ∷ rs else q ∷ replaced later rs) i ≡ Some x
-        → ((k : ℕ) (y : Running) → slice_get (replaced later rs) k ≡ Some y → IsReplaced later rs k y) → IsReplaced later (q ∷ rs) i x
-    by_slot true same zero here rest = inr (sym (same_Some later x here), (q, refl, eqb-true q.slot later.slot same))
-    by_slot true same (suc i) there rest = inl there
-    by_slot false same zero here rest = inl here
-    by_slot false same (suc i) there rest = rest i x there
-
-pub same_length : (later : Running) (rs : List Running) → length (replaced later rs) ≡ length rs
-same_length later [] = refl
-same_length later (q ∷ rs) = by_slot (q.slot == later.slot) (same_length later rs)
-  where
-    by_slot : (b : Bool) → length (replaced later rs) ≡ length rs → length (if b then later ∷ rs else q ∷ replaced later rs) ≡ length (q ∷ rs)
-    by_slot true same = refl
-    by_slot false same = omega (arith, same)
-
--- the durable and the staged part of a node that is up
-durable_part : NodeState → List Record
-durable_part (up durable staged) = durable
-durable_part down = []
-durable_part (refused e) = []
-
-staged_part : NodeState → List Record
-staged_part (up durable staged) = staged
-staged_part down = []
-staged_part (refused e) = []
+found_in id ws p is = let at = find_at id ws p is in contained_from ws at.0 p at.1
 
 -- what a coordinator knows is one thing
 pub one_memory : (all : Nodes) (k m k' m' : CoordinatorState) → CoordinatorKnows all k m → CoordinatorKnows all k' m' → m ≡ m'
-unfolding durable_part staged_part
 one_memory all k m k' m' one two =
     let same : up one.durable one.staged ≡ up two.durable two.staged = sym one.is_up ∙ two.is_up in
-    one.replayed ∙ ap (λ rs. coordinator_state (rs ++ one.staged)) (ap durable_part same) ∙ ap (λ rs. coordinator_state (two.durable ++ rs)) (ap staged_part same) ∙ sym two.replayed
-
-from_append : (s : CoordinatorState) (xs ys : List Record) → coordinator_from s (xs ++ ys) ≡ coordinator_from (coordinator_from s xs) ys
-from_append s [] ys = refl
-from_append s (x ∷ xs) ys = from_append (coordinator_step s x) xs ys
-
--- a record that is no opening leaves the epoch
-step_epoch : (s : CoordinatorState) (x : Record) → ((e a b c : ℕ) → x ≡ Epoch e a b c → ⊥) → (coordinator_step s x).epoch ≡ s.epoch
-unfolding coordinator_step
-step_epoch s (Prepare v) none = refl
-step_epoch s (Learned to placed_ids) none = refl
-step_epoch s (Dropped id) none = refl
-step_epoch s (Epoch e a b c) none = absurd (none e a b c refl)
-step_epoch s (Decision place v) none = refl
-step_epoch s (Horizon place) none = refl
-
--- records without an opening leave the epoch
-same_epoch : (s : CoordinatorState) (rs : List Record) → ((epoch a b c : ℕ) → Contains rs (Epoch epoch a b c) → ⊥) → (coordinator_from s rs).epoch ≡ s.epoch
-same_epoch s [] none = refl
-same_epoch s (r ∷ rs) none = same_epoch (coordinator_step s r) rs (λ e a b c has. none e a b c (Contains-append_right (r ∷ []) rs (Epoch e a b c) has)) ∙ step_epoch s r (λ e a b c is. none e a b c (subst (λ x. Contains (x ∷ rs) (Epoch e a b c)) (sym is) (alone (Epoch e a b c) rs)))
-
--- what is staged behind durable records without an opening leaves their epoch
-staged_epoch : (durable staged : List Record) → ((epoch a b c : ℕ) → Contains staged (Epoch epoch a b c) → ⊥) → (coordinator_state (durable ++ staged)).epoch ≡ (coordinator_state durable).epoch
-unfolding coordinator_state
-staged_epoch durable staged none = ap (λ (c : CoordinatorState). c.epoch) (from_append empty_coordinator durable staged) ∙ same_epoch (coordinator_from empty_coordinator durable) staged none
+    one.replayed ∙ ap (λ rs. coordinator_state (rs ++ one.staged)) (ap durable_in same) ∙ ap (λ rs. coordinator_state (two.durable ++ rs)) (ap staged_of same) ∙ sym two.replayed
 
 -- A write begins at a store that stands.
 module _ (store shards : ℕ) (left : NodeName → List Record → Type 0) (now : Moment) (r : Running) (h : WriteHolds) (w : Entry)
@@ -221,70 +159,9 @@ module _ (store shards : ℕ) (left : NodeName → List Record → Type 0) (now 
     refused_or_cancelled = was_write.refused_or_cancelled;
   })
 
-  -- a flow after it
-  flow_right : (x : Running) → Contains flows x → IsRight shards left after x x.asked x.holds
-  unfolding IsReplaced
-  flow_right x has =
-      let at = contained_at flows x has in
-      ⊎_elim
-      (λ old. right_on store shards left now w flows fresh x (st.flows.held x (contained_from now.running at.0 x old)))
-      (λ new. subst (λ (y : Running). IsRight shards left after y y.asked y.holds) (sym new.0) later_right)
-      (replaced_is later now.running at.0 x at.1)
-
-  flow_seen : (x : Running) → Contains flows x → HasSeenBelow now.machine x
-  unfolding IsReplaced
-  flow_seen x has =
-      let at = contained_at flows x has in
-      ⊎_elim
-      (λ old. st.flows.seen x (contained_from now.running at.0 x old))
-      (λ new. subst (HasSeenBelow now.machine) (sym new.0) (λ p there. ⊎_elim
-      (λ old. st.flows.seen r b.running p old)
-      (λ seen. subst (λ (m : Machine). (m.kept ≤ now.machine.kept) × (m.horizon ≤ now.machine.horizon)) seen (omega arith, omega arith))
-      (Contains-push_cases r.seen now.machine p there)))
-      (replaced_is later now.running at.0 x at.1)
-
-  flow_quiet : (x : Running) → Contains flows x → IsQuietFlow x
-  unfolding IsReplaced
-  flow_quiet x has =
-      let at = contained_at flows x has in
-      ⊎_elim
-      (λ old. st.flows.quiet x (contained_from now.running at.0 x old))
-      (λ new. subst IsQuietFlow (sym new.0) (λ no_write. st.flows.quiet r b.running no_write))
-      (replaced_is later now.running at.0 x at.1)
-
-  -- it stood there before with the same slot
-  origin : (j : ℕ) (x : Running) → slice_get flows j ≡ Some x → (y : Running) × (slice_get now.running j ≡ Some y) × (y.slot ≡ x.slot)
-  unfolding IsReplaced
-  origin j x is = ⊎_elim
-      (λ old. (x, old, refl))
-      (λ new. (new.1.0, new.1.1, new.1.2 ∙ sym (ap (λ (y : Running). y.slot) new.0)))
-      (replaced_is later now.running j x is)
-
-  slots : (i j : ℕ) (q x : Running) → slice_get flows i ≡ Some q → slice_get flows j ≡ Some x → q.slot ≡ x.slot → i ≡ j
-  slots i j q x is_q is_x same =
-      let from_q = origin i q is_q in
-      let from_x = origin j x is_x in
-      st.flows.slots i j from_q.0 from_x.0 from_q.1 from_x.1 (from_q.2 ∙ same ∙ sym from_x.2)
-
   -- a flow that stood there before has another write
-  other_id : (j : ℕ) (x : Running) (id : WriteId) → slice_get now.running j ≡ Some x → id_of x.holds ≡ Some id → id ≢ w.id
-  other_id j x id is has = fresh id (flow_given store shards left now w flows fresh x x.asked x.holds id (st.flows.held x (contained_from now.running j x is)) has)
-
-  later_id : (x : Running) (id : WriteId) → x ≡ later → id_of x.holds ≡ Some id → id ≡ w.id
-  later_id x id is has = sym (same_Some w.id id (ap (λ (y : Running). id_of y.holds) (sym is) ∙ has))
-
-  ids : (i j : ℕ) (q x : Running) (id : WriteId) → slice_get flows i ≡ Some q → slice_get flows j ≡ Some x → id_of q.holds ≡ Some id → id_of x.holds ≡ Some id → i ≡ j
-  unfolding IsReplaced
-  ids i j q x id is_q is_x has_q has_x = ⊎_elim
-      (λ old_q. ⊎_elim
-      (λ old_x. st.flows.ids i j q x id old_q old_x has_q has_x)
-      (λ new_x. absurd (other_id i q id old_q has_q (later_id x id new_x.0 has_x)))
-      (replaced_is later now.running j x is_x))
-      (λ new_q. ⊎_elim
-      (λ old_x. absurd (other_id j x id old_x has_x (later_id q id new_q.0 has_q)))
-      (λ new_x. st.flows.slots i j new_q.1.0 new_x.1.0 new_q.1.1 new_x.1.1 (new_q.1.2 ∙ sym new_x.1.2))
-      (replaced_is later now.running j x is_x))
-      (replaced_is later now.running i q is_q)
+  other_id : (j : ℕ) (x : Running) (id : WriteId) → slice_get now.running j ≡ Some x → id_of x.holds ≡ Some id → id_of later.holds ≡ Some id → ⊥
+  other_id j x id is has same = fresh id (flow_given store shards left now w flows fresh x x.asked x.holds id (st.flows.held x (contained_from now.running j x is)) has) (sym (same_Some w.id id same))
 
   -- an open write has another id
   other_open : (v : Entry) → Contains now.nodes.open_writes v → v.id ≢ w.id
@@ -330,14 +207,9 @@ module _ (store shards : ℕ) (left : NodeName → List Record → Type 0) (now 
       log_given = λ v has. given_kept store shards left now w flows fresh v.id (st.ids.log_given v has);
       prepares_given = λ s found v lt here has. given_kept store shards left now w flows fresh v.id (st.ids.prepares_given s found v lt here has);
     };
-    flows = record {
-      few = omega (arith, st.flows.few, same_length later now.running);
-      slots = slots;
-      ids = ids;
-      held = flow_right;
-      seen = flow_seen;
-      quiet = flow_quiet;
-    };
+    flows = flows_turn store shards left left now after r later st.flows b.running refl (inr other_id) (omega arith) (omega arith)
+        (sees_more now.machine now.machine now.machine r later refl (omega arith) (omega arith) (omega arith) (omega arith) (st.flows.seen r b.running)) (st.flows.quiet r b.running)
+        (λ x has ne. right_on store shards left now w flows fresh x (st.flows.held x has)) later_right;
     told = λ j d lt. verdict_kept store shards left now w flows fresh (slice_index_or now.told j d) (st.told j d lt);
   }
 
