@@ -7,6 +7,8 @@
 //! No program uses this yet. Start at `specs/Sides.antt`, and then `ShardSide`.
 #![tactic(auto)]
 
+mod checking;
+mod collecting;
 mod learning;
 mod preparing;
 mod reading;
