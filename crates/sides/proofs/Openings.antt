@@ -1,5 +1,5 @@
 -- A shard that is opened again is tied to what the pass beside it knows.
-use Rattle.std.proofs.Common.{◌≡◌, ◌⊎◌, ⊎_elim, inl, inr, ℕ, ◌≤◌, true, List, [], Option, Some, None, is_some, refl, sym, ◌∙◌, subst}
+use Rattle.std.proofs.Common.{◌≡◌, ◌⊎◌, ⊎_elim, ℕ, ◌≤◌, true, List, Option, Some, None, is_some, refl, sym, ◌∙◌, subst}
 use Rattle.refusal.specs.declared.refusal.Refusal.{Refusal}
 use Rattle.tuples.specs.declared.entry.Entry.{Entry}
 use Rattle.device.specs.Device.{Keeps, Leaves, Revived, State, left}

@@ -1,5 +1,5 @@
 -- What a shard under its lock reads is of the list that its pass has seen.
-use Rattle.std.proofs.Common.{◌≡◌, ℕ, List, Result, Option, Some, None, Ok, Err, refl}
+use Rattle.std.proofs.Common.{ℕ, List, Result, Option, Some, Ok, Err, refl}
 use Rattle.refusal.specs.declared.refusal.Refusal.{Refusal}
 use Rattle.tuples.specs.declared.entry.Entry.{Entry}
 use Rattle.tuples.specs.declared.object.Userset.{Userset}
@@ -18,7 +18,7 @@ use Rattle.calls.specs.declared.reply.ShardReply.{ShardReply}
 use Rattle.calls.specs.declared.reply.ShardReply.TheVariants as told_by
 use Rattle.calls.specs.Asking.{Answered, Refuses, ShardAnswers}
 use Rattle.calls.specs.ShardAnswers.{ReadAnswers, ReadForCheckAnswers}
-use Rattle.calls.specs.Views.{NodeView, coordinator, shard, refused}
+use Rattle.calls.specs.Views.{NodeView, shard, refused}
 use Rattle.ties.specs.ShardTies.{IsOpenedShardTied, IsShardTied}
 use Rattle.ties.proofs.ShardOpening.{check_reads_are_seen, reads_are_seen}
 use Rattle.sides.specs.Sides.{AnsweredIn, IsTiedIn, TellsCheckRows, TellsRows}

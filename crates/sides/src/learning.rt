@@ -1,14 +1,14 @@
-// What a shard learns of the list, makes durable, and forgets of it.
-ghost use Rattle.std.specs.Prelude.{◌≡◌, ◌≤◌};
+// What a shard learns of the list, and makes durable.
+ghost use Rattle.std.specs.Prelude.{◌≡◌};
 ghost use Rattle.calls.specs.Refusing.{Notes};
-ghost use Rattle.calls.specs.declared.call.ShardCall.TheVariants.{Collect as collect_call, Flush as flush_call, Learn as learn_call, Settle as settle_call};
+ghost use Rattle.calls.specs.declared.call.ShardCall.TheVariants.{Flush as flush_call, Learn as learn_call, Settle as settle_call};
 ghost use Rattle.sides.specs.Sides.{KnowsBoth, SideAnswers};
 ghost use Rattle.ties.specs.TellingLaws.{IsBatchOf};
 
 use crate::shard_side::ask_shard;
 use crate::{Room, ShardSide};
 use calls::{Reply, ShardCall, Told};
-use decisions::{Batch, Heads};
+use decisions::Batch;
 use device::Device;
 use published::{Published, SessionPass};
 use tuples::Entry;
@@ -52,26 +52,5 @@ impl<D: Device, B: Room> ShardSide<D, B> {
     {
         let number = self.me.node();
         ask_shard(&mut self.node, number, ShardCall::Settle, told)
-    }
-
-    /// Collects up to a horizon that the caller's pass knows to be reached.
-    pub fn collect(
-        &mut self,
-        words: &Published<Entry>,
-        pass: &mut SessionPass<Entry>,
-        told: &mut Told,
-        heads: Heads,
-    ) -> Reply
-        requires own { (words.now ≡ B.log) × (pass.old.table ≡ B.log) }
-        requires horizon { heads.horizon ≤ pass.old.horizon }
-        ensures answers { SideAnswers D.state D.honest D.moment D.left_since self.old (collect_call heads) result self.new }
-        ensures own { KnowsBoth self.old.pass pass.old self.new.pass }
-        ensures caller { KnowsBoth self.old.pass pass.old pass.new }
-        ensures told { Notes told.old result told.new }
-    {
-        self.share(words, pass);
-        let number = self.me.node();
-        let call = ShardCall::Collect(heads);
-        ask_shard(&mut self.node, number, call, told)
     }
 }

@@ -8,6 +8,8 @@
 //! No program uses this yet. Start at `specs/Sides.antt`, and then `ShardSide`; at `specs/CoordinatorSides.antt`, and then `CoordinatorSide`.
 #![tactic(auto)]
 
+mod checking;
+mod collecting;
 mod coordinator_side;
 mod decision;
 mod joining;

@@ -1,15 +1,15 @@
 // Reads of a shard, at a place of the list.
 ghost use Rattle.std.specs.Prelude.{◌≡◌};
 ghost use Rattle.calls.specs.Refusing.{Notes};
-ghost use Rattle.calls.specs.declared.call.ShardCall.TheVariants.{Learned as learned_call, Read as read_call, ReadForCheck as check_call};
-ghost use Rattle.sides.specs.Sides.{KnowsBoth, SideAnswers, TellsCheckRows, TellsRows};
+ghost use Rattle.calls.specs.declared.call.ShardCall.TheVariants.{Learned as learned_call, Read as read_call};
+ghost use Rattle.sides.specs.Sides.{KnowsBoth, SideAnswers, TellsRows};
 
 use crate::shard_side::ask_shard;
 use crate::{Room, ShardSide};
 use calls::{Reply, ShardCall, Told};
 use device::Device;
 use published::{Published, SessionPass};
-use tuples::{Entry, Tupleset, User, Userset};
+use tuples::{Entry, Tupleset};
 
 impl<D: Device, B: Room> ShardSide<D, B> {
     /// The place up to which it has learned.
@@ -41,28 +41,5 @@ impl<D: Device, B: Room> ShardSide<D, B> {
         self.share(words, pass);
         let number = self.me.node();
         ask_shard(&mut self.node, number, ShardCall::Read(place, set), told)
-    }
-
-    /// The tuples that a check asks of a userset, about a user, at a place. Rows are those of the list that the caller's pass has seen then.
-    pub fn read_for_check(
-        &mut self,
-        words: &Published<Entry>,
-        pass: &mut SessionPass<Entry>,
-        told: &mut Told,
-        place: u64,
-        userset: Userset,
-        user: User,
-    ) -> Reply
-        requires own { (words.now ≡ B.log) × (pass.old.table ≡ B.log) }
-        ensures answers { SideAnswers D.state D.honest D.moment D.left_since self.old (check_call place userset user) result self.new }
-        ensures own { KnowsBoth self.old.pass pass.old self.new.pass }
-        ensures caller { KnowsBoth self.old.pass pass.old pass.new }
-        ensures rows { TellsCheckRows B.shards self.old.number pass.new.seen place userset user result }
-        ensures told { Notes told.old result told.new }
-    {
-        self.share(words, pass);
-        let number = self.me.node();
-        let call = ShardCall::ReadForCheck(place, userset, user);
-        ask_shard(&mut self.node, number, call, told)
     }
 }

@@ -1,7 +1,7 @@
 use Rattle.std.proofs.Common.{subst}
 use Rattle.records.specs.Replays.{Identity}
 use Rattle.sides.specs.Reopening.{RestartedIn}
-use Rattle.sides.proofs.Openings.{is_there, restart_stays}
+use Rattle.sides.proofs.Openings.{restart_stays}
 use Rattle.sides.proofs.shard_side.ShardSide.restart.Goals as goal
 
 pub invariant_of-self : goal.invariant_of-self
