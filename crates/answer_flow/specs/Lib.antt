@@ -7,3 +7,4 @@ pub mod Reading
 pub mod Walking
 pub mod CheckViews
 pub mod Checking
+pub mod Running

@@ -22,6 +22,7 @@ mod read_flow;
 mod read_phase;
 mod read_turns;
 mod reading;
+mod running;
 mod walk;
 mod watch_flow;
 mod watch_phase;

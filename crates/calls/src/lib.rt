@@ -1,4 +1,4 @@
-//! The calls of nodes as values, and the one function that makes a call.
+//! The calls of nodes as values, the one function that makes a call, and what asks for one call after another.
 //!
 //! A call carries what it spends, as an intent, tickets and votes, and its reply gives back what comes back, so that a flow asks for a call
 //! without knowing the node, and a node is called without knowing the flow.
@@ -7,7 +7,7 @@
 //! Never: makes more than the one call, or keeps anything between two.
 //! Callers rely on: `ask` promises what the node's own call does, and what a `Told` holds was carried by a reply.
 //!
-//! Start at `specs/Asking.antt`, what may be asked and what is answered.
+//! Start at `specs/Asking.antt`, what may be asked and what is answered; then `Running`, which is all that a driver of flows has to know of one.
 #![tactic(auto)]
 
 mod asking;
@@ -15,10 +15,12 @@ mod call;
 mod fitting;
 mod node;
 mod reply;
+mod running;
 mod told;
 
 pub use asking::{ask, refuse};
 pub use call::{CoordinatorCall, NodeCall, ShardCall};
 pub use node::Node;
 pub use reply::{CoordinatorReply, Reply, ShardReply};
+pub use running::Running;
 pub use told::Told;

@@ -1,6 +1,8 @@
 -- Any care, as the flow that it is.
 use Rattle.std.specs.Prelude.{◌≡◌, ◌<◌, ℕ, Bool, [], map, Option, Some, is_some, option_map}
 use Rattle.decisions.specs.Flows.{no_heads, nothing_raised}
+use Rattle.calls.specs.Asking.{MayBeMade}
+use Rattle.calls.specs.Names.{name_of}
 use Rattle.calls.specs.declared.call.NodeCall.{NodeCall}
 use Rattle.names.specs.declared.call_name.CallName.{CallName}
 use Rattle.names.specs.declared.call_name.CallName.TheVariants as names
@@ -17,7 +19,7 @@ use Rattle.care_flow.specs.Learning as learning
 use Rattle.care_flow.specs.Resolving as resolving
 use Rattle.care_flow.specs.Raising as raising
 use Rattle.care_flow.specs.Collecting as collecting
-use Rattle.care_flow.specs.Views.{ready}
+use Rattle.care_flow.specs.Views.{GoesOrEnds, ready}
 
 -- the flow before its first call
 abbrev pub begun : ℕ → Care → CareFlow
@@ -84,6 +86,14 @@ end_of (Learn v) = v.seen.ended
 end_of (Resolve v) = v.seen.ended
 end_of (Raise v) = v.seen.ended
 end_of (Collect v) = v.seen.ended
+
+-- which call it makes, the one that is told as its next, and what it is while that is out; the node that it asks may be asked that
+abbrev pub AsksCare : CareFlow → NodeCall → CareFlow → Type 0
+AsksCare old call out = (next_name_of old ≡ Some (name_of call)) × NextCall old (Some call) out × ((shards : ℕ) → IsThere shards old → MayBeMade shards call)
+
+-- What the reply makes of it: behind it none is out.
+abbrev pub GivesCare : CareFlow → Reply → CareFlow → Type 0
+GivesCare out reply later = Answered out reply later × GoesOrEnds (has_next later) (end_of later)
 
 -- what a resolution tells is of each write that was in doubt, in their order
 abbrev pub TellsOfEach : CareFlow → Option CareEnd → Type 0

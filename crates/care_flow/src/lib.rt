@@ -19,6 +19,7 @@ mod raise_calls;
 mod raise_replies;
 mod raising;
 mod resolving;
+mod running;
 
 pub use care::CareFlow;
 pub use collecting::CollectFlow;

@@ -4,6 +4,8 @@ use Rattle.device.specs.Device.{State}
 use Rattle.answer_flow.specs.ReadViews.{ReadFlowValue}
 use Rattle.answer_flow.specs.CheckViews.{CheckFlowValue}
 use Rattle.answer_flow.specs.WatchViews.{WatchFlowValue}
+use Rattle.answer_flow.specs.Running.{AsksCheck, AsksRead, AsksWatch, GivesCheck, GivesRead, GivesWatch}
+use Rattle.care_flow.specs.Cares.{AsksCare, GivesCare}
 use Rattle.care_flow.specs.declared.care.CareFlow.{CareFlow}
 use Rattle.calls.specs.Fitting.{FitsItsTypes, IsWhole}
 use Rattle.calls.specs.Views.{NodeView}
@@ -12,7 +14,7 @@ use Rattle.calls.specs.declared.reply.Reply.{Reply}
 use Rattle.cluster.specs.declared.flow.Flow.{Flow}
 use Rattle.cluster.specs.declared.flow.Flow.TheVariants.{Write, Read, Check, Watch, Care}
 use Rattle.cluster.specs.declared.flow.Writing.{Writing}
-use Rattle.cluster.specs.Flows.{AsksCare, AsksCheck, AsksRead, AsksWatch, AsksWrite, GivesCare, GivesCheck, GivesRead, GivesWatch, GivesWrite}
+use Rattle.cluster.specs.Flows.{AsksWrite, GivesWrite}
 use Rattle.cluster.specs.Nodes.{Called}
 
 module _ {D : Type 0} (state : D → State) (honest : D → Type 0) (moment : D → ℕ) (left_since : D → ℕ → List ℕ → Type 0) where

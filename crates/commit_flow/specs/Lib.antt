@@ -7,3 +7,4 @@ pub mod Writing
 pub mod Answering
 pub mod Flows
 pub mod Cancelling
+pub mod Running

@@ -20,6 +20,7 @@ mod next;
 mod participants;
 mod phase;
 mod preparing;
+mod running;
 mod voting;
 
 pub use end::WriteEnd;

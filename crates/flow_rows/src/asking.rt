@@ -5,6 +5,7 @@ use crate::call_names::Named;
 use crate::logging::{log_check, log_read, log_watch};
 use crate::stores::{SHARDS, Store};
 use crate::texts::freshness_of;
+use crate::turning::turn;
 use answer_flow::{CheckFlow, ReadFlow, WatchFlow};
 use calls::Told;
 use device::Device;
@@ -21,12 +22,7 @@ pub(crate) struct Reading {
 
 impl Reading {
     fn turn<D: Device>(&mut self, store: &mut Store<D>, told: &mut Told) -> Option<Named> {
-        let name = self.flow.next_name()?;
-        let call = self.flow.next_call()?;
-        let named = Named::new(name, call.node());
-        let reply = store.ask(call, told);
-        self.flow.give(reply);
-        Some(named)
+        turn(&mut self.flow, store, told)
     }
 }
 
@@ -54,26 +50,8 @@ impl Checking {
     }
 
     fn turn<D: Device>(&mut self, store: &mut Store<D>, told: &mut Told) -> Option<Named> {
-        let name = self.flow.next_name()?;
-        let call = self.flow.next_call()?;
-        let named = Named::new(name, call.node());
-        let reply = store.ask(call, told);
-        self.flow.give(reply);
-        Some(named)
+        turn(&mut self.flow, store, told)
     }
-}
-
-fn turn_watch<D: Device>(
-    flow: &mut WatchFlow,
-    store: &mut Store<D>,
-    told: &mut Told,
-) -> Option<Named> {
-    let name = flow.next_name()?;
-    let call = flow.next_call()?;
-    let named = Named::new(name, call.node());
-    let reply = store.ask(call, told);
-    flow.give(reply);
-    Some(named)
 }
 
 /// A question to a store of two shards.
@@ -113,7 +91,7 @@ impl Asking {
         match self {
             Asking::Read(read) => read.turn(store, told),
             Asking::Check(check) => check.turn(store, told),
-            Asking::Watch(watch) => turn_watch(watch, store, told),
+            Asking::Watch(watch) => turn(watch, store, told),
         }
     }
 

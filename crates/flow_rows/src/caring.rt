@@ -2,8 +2,8 @@
 ghost use Rattle.std.specs.Prelude.{◌≡◌, true, IfSome};
 ghost use Rattle.care_flow.specs.Cares.{IsThere, begun};
 
-use crate::call_names::Named;
 use crate::stores::{SHARDS, Store};
+use crate::turning::turn;
 use calls::Told;
 use care_flow::CareFlow;
 use device::Device;
@@ -32,19 +32,6 @@ pub(crate) fn begin_care(alloc: Global, care: Care) -> Option<CareFlow>
         return None;
     }
     Some(CareFlow::new(alloc, SHARDS, care))
-}
-
-// Makes its next call, and gives it the reply; none where it has ended.
-fn turn<D: Device>(flow: &mut CareFlow, store: &mut Store<D>, told: &mut Told) -> Option<Named>
-    requires { IsThere 2 flow.old }
-    ensures { IsThere 2 flow.new }
-{
-    let name = flow.next_name()?;
-    let call = flow.next_call()?;
-    let named = Named::new(name, call.node());
-    let reply = store.ask(call, told);
-    flow.give(reply);
-    Some(named)
 }
 
 /// Makes so many of its calls, and logs them; fewer where it ends before.

@@ -3,11 +3,28 @@ ghost use Rattle.std.specs.Prelude.{◌≡◌};
 
 use crate::call_names::Named;
 use crate::stores::{SHARDS, Store};
-use calls::Told;
+use calls::{Running, Told};
 use commit_flow::{WriteEnd, WriteFlow};
 use device::Device;
 use std::alloc::Global;
 use tuples::{Refusal, Write};
+
+/// Makes its next call, and gives it the reply; none where it has ended.
+pub(crate) fn turn<F: Running, D: Device>(
+    flow: &mut F,
+    store: &mut Store<D>,
+    told: &mut Told,
+) -> Option<Named>
+    requires { F.is_of 2 flow.old }
+    ensures { F.is_of 2 flow.new }
+{
+    let name = flow.next_name()?;
+    let call = flow.next_call()?;
+    let named = Named::new(name, call.node());
+    let reply = store.ask(call, told);
+    flow.give(reply);
+    Some(named)
+}
 
 /// A write of a store of two shards. It has no `Drop`, as its flow.
 pub(crate) struct Turning {
@@ -27,12 +44,7 @@ impl Turning {
         store: &mut Store<D>,
         told: &mut Told,
     ) -> Option<Named> {
-        let name = self.flow.next_name()?;
-        let call = self.flow.next_call()?;
-        let named = Named::new(name, call.node());
-        let reply = store.ask(call, told);
-        self.flow.give(reply);
-        Some(named)
+        turn(&mut self.flow, store, told)
     }
 
     pub(crate) fn cancel(&mut self) {

@@ -11,7 +11,7 @@ use Rattle.answer_turns.specs.AnswerTurns.{shown_answer}
 use Rattle.answer_turns.specs.CheckTurns.{check_in_slot, check_of, check_tells}
 use Rattle.answer_turns.proofs.ChecksTurn.{checks_turn}
 use Rattle.cluster.specs.Ends.{IfEnded, TellsCheck}
-use Rattle.cluster.specs.Flows.{GivesCheck}
+use Rattle.answer_flow.specs.Running.{GivesCheck}
 use Rattle.cluster.specs.Steps.{Leaves}
 use Rattle.cluster.specs.Turns.{TurnsCheck}
 use Rattle.cluster.specs.Worlds.{WorldView, flow_at}

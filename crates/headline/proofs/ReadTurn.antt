@@ -13,7 +13,7 @@ use Rattle.answer_turns.specs.AnswerTurns.{shown_answer}
 use Rattle.answer_turns.specs.ReadTurns.{read_in_slot, read_of, read_tells}
 use Rattle.answer_turns.proofs.ReadsTurn.{reads_turn}
 use Rattle.cluster.specs.Ends.{IfEnded, TellsRead}
-use Rattle.cluster.specs.Flows.{GivesRead}
+use Rattle.answer_flow.specs.Running.{GivesRead}
 use Rattle.cluster.specs.Steps.{Leaves}
 use Rattle.cluster.specs.Turns.{TurnsRead}
 use Rattle.cluster.specs.Worlds.{WorldView, flow_at}

@@ -11,7 +11,7 @@ use Rattle.turns.specs.Stores.{FlowView, Store}
 use Rattle.answer_turns.specs.AnswerTurns.{asked_of, shown_answer, watch_in_slot, watch_tells}
 use Rattle.answer_turns.proofs.Watches.{watches_turn}
 use Rattle.cluster.specs.Ends.{IfEnded, TellsWatch}
-use Rattle.cluster.specs.Flows.{GivesWatch}
+use Rattle.answer_flow.specs.Running.{GivesWatch}
 use Rattle.cluster.specs.Steps.{Leaves}
 use Rattle.cluster.specs.Turns.{TurnsWatch}
 use Rattle.cluster.specs.Worlds.{WorldView, flow_at}
