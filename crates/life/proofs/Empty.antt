@@ -1,5 +1,5 @@
 -- Empty disks rest at the empty log.
-use Rattle.std.proofs.Common.{◌≡◌, ◌<◌, ◌≤◌, ◌+◌, ◌*◌, ℕ, List, All, length, get_or, arith}
+use Rattle.std.proofs.Common.{◌≡◌, ◌<◌, ◌+◌, ◌*◌, ℕ, List, All, length, get_or, arith}
 use Rattle.device.specs.Disk.{left_since_of, moment_of, state_of}
 use Rattle.device.specs.declared.sim_disk.SimDisk.{SimDisk}
 use Rattle.headline.specs.Promised.{devices_at}

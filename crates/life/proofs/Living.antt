@@ -1,7 +1,6 @@
 -- A script over empty disks is one life of a store.
-use Rattle.std.proofs.Common.{◌≡◌, ◌≤◌, ◌*◌, ◌+◌, ◌++◌, ℕ, List, [], ◌∷◌, All, Option, length, refl}
+use Rattle.std.proofs.Common.{◌≤◌, ◌++◌, ℕ, List, [], ◌∷◌, All, Option, refl}
 use Rattle.std.proofs.lemmas.List.Elements.{All-cons, All-nil}
-use Rattle.cluster.specs.declared.event.What.{What}
 use Rattle.cluster.specs.Steps.{Takes}
 use Rattle.cluster.specs.Worlds.{WorldView}
 use Rattle.device.specs.Device.{State}

@@ -1,6 +1,6 @@
 -- What was done for the lines of a script: its steps, each with what it told, and the scripts that were set on devices.
 use mathlib.Core.Logic.{inl, inr}
-use Rattle.std.specs.Prelude.{◌≡◌, ◌⊎◌, ℕ, List, [], ◌∷◌, ◌++◌, slice_index, Option, None, Some, Result}
+use Rattle.std.specs.Prelude.{◌⊎◌, ℕ, List, [], ◌∷◌, ◌++◌, slice_index, Option, None, Some, Result}
 use Rattle.std.specs.Global.{Vec}
 use Rattle.names.specs.declared.node_name.NodeName.{NodeName}
 use Rattle.names.specs.declared.call_name.CallName.{CallName}
@@ -17,11 +17,11 @@ use Rattle.lines.specs.declared.flow.Handling.TheVariants as handling
 use Rattle.refusal.specs.declared.refusal.Refusal.{Refusal}
 use Rattle.tuples.specs.declared.version.Version.{Version}
 use Rattle.headline.specs.Acts.{Act, sets_script, takes_step}
-use Rattle.scripts.specs.Answering.{Answers, Tries}
+use Rattle.scripts.specs.Answering.{Tries}
 use Rattle.scripts.specs.Asking.{request_of}
 use Rattle.scripts.specs.Refusing.{CancelsInPart, CarriesOutNot, EndsNot, GivesUp, HandlesNot, LeavesFlow, ServesNot, StartsNot, resolved_room}
 use Rattle.scripts.specs.Runs.{Prints, RepliesTo}
-use Rattle.scripts.specs.Scripts.{Cancels, CarriesOut, Ends, Handles, RunningView, ScriptView, Serves, Starts}
+use Rattle.scripts.specs.Scripts.{Cancels, CarriesOut, Ends, Handles, RunningView, ScriptView, Serves}
 
 -- a step that told this, or a script that was set on a device
 pub data Deed : Type 0 where
