@@ -1,18 +1,10 @@
 -- Where each step keeps its promise and each script keeps what a store stands for, so do acts of both kinds.
 use Rattle.std.proofs.Common.{◌≡◌, ◌≤◌, ◌+◌, ◌++◌, inr, ℕ, List, [], ◌∷◌, map, Option, refl, sym, ◌∙◌, ap, subst}
 use Rattle.std.proofs.lemmas.List.Elements.{All-head, All-tail}
-use Rattle.device.specs.Device.{State, left}
-use Rattle.device.specs.declared.tear.Tear.{Tear}
+use Rattle.headline.proofs.Words.{IsWholeStep, KeepsActs, NamesHorizon, Shows, StandsOver, State, StepsKeep, Tear, What, WorldView, closed_stores_rest, left, numbered, step_of, steps_in}
 use Rattle.turns.specs.Runs as runs
-use Rattle.turns.specs.Stores.{NamesHorizon, StandsOver}
 use Rattle.turns.proofs.RunLogs.{run_more}
-use Rattle.turns.proofs.ClosedStoreRests.{closed_stores_rest}
-use Rattle.cluster.specs.Worlds.{WorldView}
-use Rattle.cluster.specs.declared.event.What.{What}
-use Rattle.headline.specs.Acts.{ActedHeadline, ActsKeep, KeepsActs, numbered, sets_script, steps_in, takes_step}
-use Rattle.headline.specs.Promised.{StepsKeep}
-use Rattle.headline.specs.Shown.{Shows}
-use Rattle.headline.specs.Told.{IsWholeStep, step_of}
+use Rattle.headline.specs.Acts.{ActedHeadline, ActsKeep, sets_script, takes_step}
 use Rattle.headline.proofs.DeviceScripts.{scripts_keep}
 use Rattle.headline.proofs.Joined.{steps_keep}
 use Rattle.headline.proofs.Whole.{openings_keep}

@@ -1,27 +1,19 @@
 -- Behind a reply a read, a check and a watch wait for no other.
 use Rattle.std.proofs.Common.{◌≡◌, ◌≢◌, ⊎_elim, ◌<◌, ◌≤◌, ◌+◌, ℕ, List, [], ◌∷◌, length, Some, None, MatchOption, slice_get, Result, Ok, Err, refl, sym, ◌∙◌, ap, subst}
 use Rattle.std.proofs.lemmas.Bool.{cases_lt}
-use Rattle.refusal.specs.declared.refusal.Refusal.{Refusal}
-use Rattle.tuples.specs.declared.object.Userset.{Userset}
-use Rattle.tuples.specs.declared.tuple.Tuple.{Tuple}
+use Rattle.headline.proofs.Words.{Coordinator, Freshness, Next, NodeCall, Progress, Refusal, Refused, Reply, There, Tuple, Userset, from_coordinator, from_shard}
 use Rattle.tuples.specs.declared.tupleset.Tupleset.{Tupleset}
 use Rattle.tuples.specs.declared.tupleset.Tupleset.TheVariants.{Key, OfObject, OfUser}
 use Rattle.tuples.specs.declared.user.User.{User}
 use Rattle.tuples.specs.Checking.{holding}
-use Rattle.decisions.specs.Flows.{CheckHolds, Freshness, ReadHolds, most_walked}
+use Rattle.decisions.specs.Flows.{CheckHolds, ReadHolds, most_walked}
 use Rattle.decisions.specs.Standing.{HeadsValue}
 use Rattle.decisions.specs.Values.{BatchValue}
 use Rattle.shard.specs.declared.replies.ReadReply.{ReadReply}
 use Rattle.shard.specs.declared.replies.ReadReply.TheVariants.{Rows, Behind}
-use Rattle.calls.specs.declared.call.NodeCall.{NodeCall}
-use Rattle.calls.specs.declared.call.NodeCall.TheVariants.{Coordinator}
 use Rattle.calls.specs.declared.call.CoordinatorCall.TheVariants as calls
-use Rattle.calls.specs.declared.reply.Reply.{Reply}
-use Rattle.calls.specs.declared.reply.Reply.TheVariants.{Coordinator as from_coordinator, Shard as from_shard}
 use Rattle.calls.specs.declared.reply.CoordinatorReply.TheVariants as told
 use Rattle.calls.specs.declared.reply.ShardReply.TheVariants as told_by
-use Rattle.catch_up.specs.declared.caught.Progress.{Progress}
-use Rattle.catch_up.specs.declared.caught.Progress.TheVariants.{Next, There, Refused}
 use Rattle.answer_flow.specs.Reading as reads
 use Rattle.answer_flow.specs.ReadViews as read_views
 use Rattle.answer_flow.specs.ReadViews.{ReadAwaited, ReadStep, ReadView}

@@ -1,32 +1,24 @@
 -- Behind a reply a care makes a call next, or has ended; and it stays a care of what is there.
 use Rattle.std.proofs.Common.{◌≡◌, ◌≢◌, ◌⊎◌, inl, inr, ⊎_elim, ◌<◌, ◌≤◌, ◌+◌, ℕ, Bool, true, false, List, length, Option, Some, None, MatchOption, is_some, slice_get, Result, Ok, Err, sym, ◌∙◌, ap, subst}
 use Rattle.std.proofs.lemmas.Bool.{cases_eq, cases_lt}
-use Rattle.tuples.specs.declared.entry.WriteId.{WriteId}
-use Rattle.refusal.specs.declared.refusal.Refusal.{Refusal}
+use Rattle.headline.proofs.Words.{CareEnd, CareFlow, Commit, Flush, Next, NodeCall, Progress, Refusal, Refused, Reply, There, Undecided, WriteId, end_of, from_coordinator, from_shard, has_next, over, ready}
 use Rattle.std.specs.Global.{Vec}
 use Rattle.decisions.specs.Flows.{HeadsHeld, RaiseHolds, ResolveHolds}
 use Rattle.decisions.specs.Values.{HeadsValue, SettledValue}
 use Rattle.coordinator.specs.declared.raising.NotRaised.{NotRaised}
 use Rattle.coordinator.specs.declared.telling.Inquiry.{Inquiry}
-use Rattle.coordinator.specs.declared.telling.Inquiry.TheVariants.{Commit, Abort, Undecided}
-use Rattle.catch_up.specs.declared.caught.Progress.{Progress}
-use Rattle.catch_up.specs.declared.caught.Progress.TheVariants.{Next, There, Refused}
-use Rattle.calls.specs.declared.call.NodeCall.{NodeCall}
-use Rattle.calls.specs.declared.reply.Reply.{Reply}
-use Rattle.calls.specs.declared.reply.Reply.TheVariants.{Coordinator as from_coordinator, Shard as from_shard}
+use Rattle.coordinator.specs.declared.telling.Inquiry.TheVariants.{Abort}
 use Rattle.calls.specs.declared.reply.CoordinatorReply.TheVariants as told
 use Rattle.calls.specs.declared.reply.ShardReply.TheVariants as told_by
-use Rattle.care_flow.specs.Cares.{Answered, IsThere, NextCall, end_of, has_next}
+use Rattle.care_flow.specs.Cares.{Answered, IsThere, NextCall}
 use Rattle.care_flow.specs.CatchUps.{CatchUpGives, on_its_way}
 use Rattle.care_flow.specs.Flushing as flushing
 use Rattle.care_flow.specs.Learning as learning
 use Rattle.care_flow.specs.Resolving as resolving
 use Rattle.care_flow.specs.Raising as raising
 use Rattle.care_flow.specs.Collecting as collecting
-use Rattle.care_flow.specs.Views.{CareView, over, ready}
-use Rattle.care_flow.specs.declared.care.CareFlow.{CareFlow}
-use Rattle.care_flow.specs.declared.care.CareFlow.TheVariants.{Flush, Learn, Resolve, Raise, Collect}
-use Rattle.care_flow.specs.declared.end.CareEnd.{CareEnd}
+use Rattle.care_flow.specs.Views.{CareView}
+use Rattle.care_flow.specs.declared.care.CareFlow.TheVariants.{Learn, Resolve, Raise, Collect}
 use Rattle.headline.proofs.WriteRests.{once_more}
 
 -- a call comes next, or it has ended

@@ -1,30 +1,13 @@
 -- A turn of a care in a slot of a world keeps the promise of a step.
 use Rattle.std.proofs.Common.{◌≡◌, ◌≢◌, ◌≤◌, ⊎_elim, ℕ, true, false, true≢false, List, [], ◌∷◌, Option, Some, None, is_some, refl, sym, ◌∙◌, ap, subst}
-use Rattle.device.specs.Device.{State, left}
-use Rattle.calls.specs.Asking.{MayBeMade}
-use Rattle.calls.specs.declared.call.NodeCall.{NodeCall}
-use Rattle.calls.specs.declared.call.NodeCall.TheVariants.{Coordinator, Shard}
-use Rattle.names.specs.declared.call_name.CallName.{CallName}
-use Rattle.care_flow.specs.Cares.{IsThere, end_of, has_next, next_name_of}
-use Rattle.care_flow.specs.declared.care.CareFlow.{CareFlow}
-use Rattle.care_flow.specs.declared.end.CareEnd.{CareEnd}
+use Rattle.headline.proofs.Words.{CallName, Care, CareEnd, CareFlow, Coordinator, Flow, FlowView, GoesOn, HasGone, IfEnded, IsShownSlot, Keeps, Leaves, MayBeMade, NodeCall, Shard, Shows, State, Store, Turn, What, WorldView, all_told, called, end_of, flow_at, has_next, left, shows_care}
+use Rattle.care_flow.specs.Cares.{IsThere, next_name_of}
 use Rattle.care_flow.specs.declared.end.CareEnd.TheVariants as care_ends
 use Rattle.laws.specs.Nodes as nodes
-use Rattle.turns.specs.Stores.{FlowView, Store}
-use Rattle.call_turns.specs.StoreCalls.{called}
-use Rattle.care_turns.specs.CareTurns.{in_slot, shows as shows_care, tells}
+use Rattle.care_turns.specs.CareTurns.{in_slot, tells}
 use Rattle.care_turns.proofs.AnyCare.{cares_turn}
-use Rattle.cluster.specs.Ends.{IfEnded, TellsCare}
-use Rattle.cluster.specs.Steps.{GoesOn, HasGone, Leaves}
+use Rattle.cluster.specs.Ends.{TellsCare}
 use Rattle.cluster.specs.Turns.{TurnsCare}
-use Rattle.cluster.specs.Worlds.{WorldView, flow_at}
-use Rattle.cluster.specs.declared.event.What.{What}
-use Rattle.cluster.specs.declared.flow.Flow.{Flow}
-use Rattle.cluster.specs.declared.flow.Flow.TheVariants.{Care}
-use Rattle.cluster.specs.declared.step.Step.TheVariants.{Turn}
-use Rattle.headline.specs.Promised.{Keeps}
-use Rattle.headline.specs.Shown.{IsShownSlot, Shows}
-use Rattle.headline.specs.Told.{all_told}
 use Rattle.headline.proofs.CareRests.{GoesOrEnds, care_rests, care_there}
 use Rattle.headline.proofs.Leaving.{goes_on, has_gone, others}
 use Rattle.headline.proofs.Lifts.{keeps_turn, never_away, shown_there}

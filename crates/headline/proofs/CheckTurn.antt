@@ -1,27 +1,13 @@
 -- A turn of a check in a slot of a world keeps the promise of a step.
 use Rattle.std.proofs.Common.{◌≡◌, ◌≤◌, ℕ, List, [], ◌∷◌, Option, Some, None, refl, sym, ◌∙◌, ap, subst}
-use Rattle.device.specs.Device.{State, left}
-use Rattle.tuples.specs.declared.object.Userset.{Userset}
-use Rattle.calls.specs.Asking.{MayBeMade}
+use Rattle.headline.proofs.Words.{Asked, Check, Flow, FlowView, IfEnded, IsAsked, IsShownSlot, Keeps, Leaves, MayBeMade, Shows, State, Store, Turn, Userset, What, WorldView, all_told, check_of, checking, flow_at, left, shown_answer}
 use Rattle.answer_flow.specs.CheckViews as check_views
 use Rattle.answer_flow.specs.CheckViews.{CheckEnding, CheckFlowValue}
-use Rattle.turns.specs.Flows.{Asked, IsAsked, checking}
-use Rattle.turns.specs.Stores.{FlowView, Store}
-use Rattle.answer_turns.specs.AnswerTurns.{shown_answer}
-use Rattle.answer_turns.specs.CheckTurns.{check_in_slot, check_of, check_tells}
+use Rattle.answer_turns.specs.CheckTurns.{check_in_slot, check_tells}
 use Rattle.answer_turns.proofs.ChecksTurn.{checks_turn}
-use Rattle.cluster.specs.Ends.{IfEnded, TellsCheck}
+use Rattle.cluster.specs.Ends.{TellsCheck}
 use Rattle.cluster.specs.Flows.{GivesCheck}
-use Rattle.cluster.specs.Steps.{Leaves}
 use Rattle.cluster.specs.Turns.{TurnsCheck}
-use Rattle.cluster.specs.Worlds.{WorldView, flow_at}
-use Rattle.cluster.specs.declared.event.What.{What}
-use Rattle.cluster.specs.declared.flow.Flow.{Flow}
-use Rattle.cluster.specs.declared.flow.Flow.TheVariants.{Check}
-use Rattle.cluster.specs.declared.step.Step.TheVariants.{Turn}
-use Rattle.headline.specs.Promised.{Keeps}
-use Rattle.headline.specs.Shown.{IsShownSlot, Shows}
-use Rattle.headline.specs.Told.{all_told}
 use Rattle.headline.proofs.AnswerRests.{check_rests}
 use Rattle.headline.proofs.CareTurn.{made_there}
 use Rattle.headline.proofs.Leaving.{goes_on, has_gone, names_on, others}

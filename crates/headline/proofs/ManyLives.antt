@@ -1,29 +1,13 @@
 -- Many lives of a store are one list of moves.
 use Rattle.std.proofs.Common.{◌≡◌, ◌≤◌, ◌+◌, ◌*◌, ◌++◌, ℕ, List, [], ◌∷◌, length, map, All, Option, Some, None, refl, sym, ◌∙◌, subst}
-use Rattle.tuples.specs.declared.entry.WriteId.{WriteId}
+use Rattle.headline.proofs.Words.{Acted, EndsOver, Finds, IsOpenedOver, IsThere, IsToldOver, IsWholeStep, KeepsActs, Life, LivesAll, Machine, Move, Moves, NamesHorizon, NodeName, NodeView, Ran, Record, RestsOver, Shows, StandsOver, State, Store, Tear, WorldView, WriteId, all_told, closed_stores_rest, coordinator, devices_at, events_of, kept_stay, left, moves_then, named, node_at, numbered, shard, step_of, steps_in, stops, stops_opening}
 use Rattle.records.specs.Identity.{max_shards}
-use Rattle.records.specs.declared.record.Record.{Record}
-use Rattle.device.specs.Device.{State, left}
-use Rattle.device.specs.declared.tear.Tear.{Tear}
-use Rattle.journal.specs.Records.{Finds}
-use Rattle.calls.specs.Views.{NodeView}
-use Rattle.cluster.specs.Openings.{IsOpenedOver}
-use Rattle.cluster.specs.Worlds.{WorldView, node_at}
-use Rattle.laws.specs.Machines.{Machine, Move, Moves}
-use Rattle.laws.specs.Nodes.{IsThere, NodeName, coordinator, shard}
-use Rattle.laws.proofs.MachineMoves.{kept_stay, moves_then}
-use Rattle.turns.specs.Promises.{Ran, events_of}
 use Rattle.turns.specs.Reopens.{Reopened}
 use Rattle.turns.specs.StoreLaws.{IsStopped, SettlesOne}
-use Rattle.turns.specs.Stores.{IsToldOver, NamesHorizon, RestsOver, StandsOver, Store, stops}
 use Rattle.turns.proofs.Chains.{stopped_openings_rest, stopped_steps_rest}
-use Rattle.turns.proofs.ClosedStoreRests.{closed_stores_rest}
 use Rattle.turns.proofs.RunChain.{runs_move}
-use Rattle.headline.specs.Acts.{Acted, KeepsActs, numbered, steps_in}
-use Rattle.headline.specs.ManyLives.{AreDevicesOf, End, EndsOver, IsRunIn, Life, Lived, LivesAll, LivesOn, LivesOnce, ManyLives, RunsIn, closes, stops_opening, stops_within}
-use Rattle.headline.specs.Promised.{KeepsOpened, devices_at}
-use Rattle.headline.specs.Shown.{Shows, named}
-use Rattle.headline.specs.Told.{IsWholeStep, all_told, step_of}
+use Rattle.headline.specs.ManyLives.{AreDevicesOf, End, IsRunIn, Lived, LivesOn, LivesOnce, ManyLives, RunsIn, closes, stops_within}
+use Rattle.headline.specs.Promised.{KeepsOpened}
 use Rattle.headline.proofs.Acting.{acts_keep}
 use Rattle.headline.proofs.Joined.{steps_keep}
 use Rattle.headline.proofs.Nodes.{node_there}

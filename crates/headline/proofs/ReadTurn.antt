@@ -1,31 +1,15 @@
 -- A turn of a read in a slot of a world keeps the promise of a step.
 use Rattle.std.proofs.Common.{◌≡◌, ◌≤◌, ℕ, List, [], ◌∷◌, Option, Some, None, refl, sym, ◌∙◌, ap, subst}
-use Rattle.device.specs.Device.{State, left}
-use Rattle.tuples.specs.declared.tuple.Tuple.{Tuple}
-use Rattle.calls.specs.Asking.{MayBeMade}
+use Rattle.headline.proofs.Words.{Asked, Ended, Flow, FlowView, IfEnded, IsAsked, IsShownSlot, Keeps, Leaves, MayBeMade, Read, Shows, State, Store, Tuple, Turn, What, WorldView, all_told, answered, flow_at, left, read_of, reading, shown_answer}
 use Rattle.answer_flow.specs.ReadViews as read_views
 use Rattle.answer_flow.specs.ReadViews.{ReadEnding, ReadFlowValue, rows_of}
-use Rattle.turns.specs.Flows.{Asked, IsAsked, reading}
 use Rattle.turns.specs.Replies.{selected}
-use Rattle.turns.specs.Runs.{answered}
-use Rattle.turns.specs.Stores.{FlowView, Store}
-use Rattle.answer_turns.specs.AnswerTurns.{shown_answer}
-use Rattle.answer_turns.specs.ReadTurns.{read_in_slot, read_of, read_tells}
+use Rattle.answer_turns.specs.ReadTurns.{read_in_slot, read_tells}
 use Rattle.answer_turns.proofs.ReadsTurn.{reads_turn}
-use Rattle.cluster.specs.Ends.{IfEnded, TellsRead}
+use Rattle.cluster.specs.Ends.{TellsRead}
 use Rattle.cluster.specs.Flows.{GivesRead}
-use Rattle.cluster.specs.Steps.{Leaves}
 use Rattle.cluster.specs.Turns.{TurnsRead}
-use Rattle.cluster.specs.Worlds.{WorldView, flow_at}
 use Rattle.cluster.specs.declared.event.Answer.TheVariants.{Selected}
-use Rattle.cluster.specs.declared.event.What.{What}
-use Rattle.cluster.specs.declared.event.What.TheVariants.{Ended}
-use Rattle.cluster.specs.declared.flow.Flow.{Flow}
-use Rattle.cluster.specs.declared.flow.Flow.TheVariants.{Read}
-use Rattle.cluster.specs.declared.step.Step.TheVariants.{Turn}
-use Rattle.headline.specs.Promised.{Keeps}
-use Rattle.headline.specs.Shown.{IsShownSlot, Shows}
-use Rattle.headline.specs.Told.{all_told}
 use Rattle.headline.proofs.AnswerRests.{read_rests}
 use Rattle.headline.proofs.CareTurn.{made_there}
 use Rattle.headline.proofs.Leaving.{goes_on, has_gone, names_on, others}

@@ -1,29 +1,16 @@
 -- A turn of a watch in a slot of a world keeps the promise of a step.
 use Rattle.std.proofs.Common.{◌≡◌, ◌≢◌, ◌≤◌, ℕ, List, [], ◌∷◌, Option, Some, None, refl, sym, ◌∙◌, ap, subst}
-use Rattle.device.specs.Device.{State, left}
+use Rattle.headline.proofs.Words.{Asked, Ended, Flow, FlowView, IfEnded, IsAsked, IsShownSlot, Keeps, Leaves, Shows, State, Store, Turn, Watch, What, WorldView, all_told, answered, asked_of, flow_at, left, shown_answer, watching}
 use Rattle.tuples.specs.Watching.{Placed}
 use Rattle.answer_flow.specs.WatchViews as watch_views
 use Rattle.answer_flow.specs.WatchViews.{WatchEnding, WatchFlowValue, name_of, name_unless}
-use Rattle.turns.specs.Flows.{Asked, IsAsked, watching}
 use Rattle.turns.specs.Replies.{listed}
-use Rattle.turns.specs.Runs.{answered}
-use Rattle.turns.specs.Stores.{FlowView, Store}
-use Rattle.answer_turns.specs.AnswerTurns.{asked_of, shown_answer, watch_in_slot, watch_tells}
+use Rattle.answer_turns.specs.AnswerTurns.{watch_in_slot, watch_tells}
 use Rattle.answer_turns.proofs.Watches.{watches_turn}
-use Rattle.cluster.specs.Ends.{IfEnded, TellsWatch}
+use Rattle.cluster.specs.Ends.{TellsWatch}
 use Rattle.cluster.specs.Flows.{GivesWatch}
-use Rattle.cluster.specs.Steps.{Leaves}
 use Rattle.cluster.specs.Turns.{TurnsWatch}
-use Rattle.cluster.specs.Worlds.{WorldView, flow_at}
 use Rattle.cluster.specs.declared.event.Answer.TheVariants.{Listed}
-use Rattle.cluster.specs.declared.event.What.{What}
-use Rattle.cluster.specs.declared.event.What.TheVariants.{Ended}
-use Rattle.cluster.specs.declared.flow.Flow.{Flow}
-use Rattle.cluster.specs.declared.flow.Flow.TheVariants.{Watch}
-use Rattle.cluster.specs.declared.step.Step.TheVariants.{Turn}
-use Rattle.headline.specs.Promised.{Keeps}
-use Rattle.headline.specs.Shown.{IsShownSlot, Shows}
-use Rattle.headline.specs.Told.{all_told}
 use Rattle.headline.proofs.AnswerRests.{watch_rests}
 use Rattle.headline.proofs.CareTurn.{made_there}
 use Rattle.headline.proofs.Leaving.{goes_on, has_gone, others}

@@ -1,27 +1,22 @@
 -- Behind a reply, and behind a cancel, a write waits for no other.
 use Rattle.std.proofs.Common.{◌≡◌, ◌≢◌, ◌⊎◌, inl, inr, ⊎_elim, ℕ, Bool, true, false, Option, Some, None, MatchOption, Result, Ok, Err, refl, sym, ◌∙◌, ap}
-use Rattle.refusal.specs.declared.refusal.Refusal.{Refusal}
-use Rattle.refusal.specs.declared.refusal.Refusal.TheVariants.{Full}
-use Rattle.tuples.specs.Writes.{WriteValue}
-use Rattle.tuples.specs.declared.entry.WriteId.{WriteId}
+use Rattle.headline.proofs.Words.{Commit, Full, GivesTo, Next, Refusal, Reply, There, Undecided, VerdictValue, WriteId, WriteValue, WriteView}
 use Rattle.decisions.specs.Standing.{DecidedValue}
-use Rattle.decisions.specs.Values.{IntentValue, TicketValue, VerdictValue}
+use Rattle.decisions.specs.Values.{IntentValue, TicketValue}
 use Rattle.coordinator.specs.declared.decided.NotDecided.{NotDecided}
 use Rattle.coordinator.specs.declared.telling.Outcome as outcomes
 use Rattle.coordinator.specs.declared.telling.Outcome.TheVariants.{Kept, Later, Unsure as is_unsure}
 use Rattle.coordinator.specs.declared.telling.Inquiry as inquiries
-use Rattle.coordinator.specs.declared.telling.Inquiry.TheVariants.{Commit, Abort as is_aborted, Undecided}
+use Rattle.coordinator.specs.declared.telling.Inquiry.TheVariants.{Abort as is_aborted}
 use Rattle.shard.specs.declared.replies.VoteReply.{VoteReply}
 use Rattle.shard.specs.declared.replies.VoteReply.TheVariants.{Yes, Later as votes_later, No}
-use Rattle.calls.specs.declared.reply.Reply.{Reply}
 use Rattle.calls.specs.declared.reply.Reply.TheVariants.{Coordinator, Shard}
 use Rattle.calls.specs.declared.reply.CoordinatorReply.TheVariants as told
 use Rattle.calls.specs.declared.reply.ShardReply.TheVariants as told_by
 use Rattle.catch_up.specs.declared.caught.Progress as progresses
-use Rattle.catch_up.specs.declared.caught.Progress.TheVariants.{Next, There, Refused as is_refused}
-use Rattle.commit_flow.specs.Answering.{AbortGives, BeginGives, DecideGives, FlushGives, GivesTo, GoesToDrop, InquireGives, NotDecidedGives, OutcomeGives, PrepareGives, ProgressGives, VoteGives}
+use Rattle.catch_up.specs.declared.caught.Progress.TheVariants.{Refused as is_refused}
+use Rattle.commit_flow.specs.Answering.{AbortGives, BeginGives, DecideGives, FlushGives, GoesToDrop, InquireGives, NotDecidedGives, OutcomeGives, PrepareGives, ProgressGives, VoteGives}
 use Rattle.commit_flow.specs.Cancelling.{Cancels, IsUndecided}
-use Rattle.commit_flow.specs.Views.{WriteView}
 use Rattle.commit_flow.specs.WriteHolds.{Way, WriteAwaited, onward, outward}
 use Rattle.commit_flow.specs.WriteHolds as waits
 
