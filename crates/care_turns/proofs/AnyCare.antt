@@ -1,11 +1,7 @@
 -- Any care takes its turn: its kind stays.
 use Rattle.std.proofs.Common.{◌≤◌, ℕ, List, Some}
-use Rattle.device.specs.Device.{State, left}
-use Rattle.calls.specs.declared.call.NodeCall.{NodeCall}
-use Rattle.calls.specs.declared.reply.Reply.{Reply}
-use Rattle.care_flow.specs.Cares.{Answered, NextCall}
-use Rattle.care_flow.specs.declared.care.CareFlow.{CareFlow}
-use Rattle.care_flow.specs.declared.care.CareFlow.TheVariants.{Flush, Learn, Resolve, Raise, Collect}
+use Rattle.care_turns.proofs.Words.{CareFlow, Collect, Flush, Learn, NextCall, NodeCall, Raise, Reply, Resolve, State, left}
+use Rattle.care_flow.specs.Cares.{Answered}
 use Rattle.care_turns.specs.CareTurns.{CaresTurn, IsRunTurn}
 use Rattle.care_turns.proofs.Collects.{collects_turn}
 use Rattle.care_turns.proofs.Flushes.{flushes_turn}

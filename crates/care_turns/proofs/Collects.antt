@@ -2,44 +2,16 @@
 use Rattle.std.proofs.Common.{◌≡◌, ◌≢◌, ⊎_elim, inl, inr, ◌⊎◌, ◌≤◌, ℕ, Bool, true, false, List, [], ◌∷◌, Option, Some, None, Result, Ok, Err, MatchOption, refl, sym, ◌∙◌, ap, subst}
 use Rattle.std.proofs.lemmas.Bool.{cases_Bool}
 use Rattle.std.proofs.lemmas.Option.{same_Some}
-use Rattle.refusal.specs.declared.refusal.Refusal.{Refusal}
-use Rattle.refusal.specs.declared.refusal.Refusal.TheVariants.{Full, Unsure}
-use Rattle.device.specs.Device.{State, left}
-use Rattle.decisions.specs.Flows.{HeadsHeld, no_heads}
-use Rattle.decisions.specs.Values.{HeadsValue}
-use Rattle.calls.specs.Asking.{Answered}
-use Rattle.calls.specs.Views.{NodeView}
-use Rattle.calls.specs.declared.call.NodeCall.{NodeCall}
-use Rattle.calls.specs.declared.call.NodeCall.TheVariants.{Coordinator as of_coordinator, Shard as of_shard}
-use Rattle.calls.specs.declared.call.CoordinatorCall.TheVariants.{Heads}
+use Rattle.care_turns.proofs.Words.{Answered, AreHeldHeads, AreRightHeads, Asked, Calls, CareFlow, Collect, Flush, Full, HasItsCause, Heads, HeadsHeld, HeadsValue, Holds, IsCalled, IsRight, Learn, Moment, NodeCall, NodeView, Raise, Refusal, Refused, Reply, Resolve, Running, SlotTurns, StandsOver, State, Store, TurnRuns, Unsure, called, calls_on, coordinator, ending, from_coordinator, from_shard, heads_told, in_slot, left, no_heads, of_coordinator, of_shard, out, over, ready, right_heads, shard, shard_flushed, shown_care, shows, still_of, stops, tells, with_call}
 use Rattle.calls.specs.declared.call.ShardCall.TheVariants as shard_calls
-use Rattle.calls.specs.declared.reply.Reply.{Reply}
-use Rattle.calls.specs.declared.reply.Reply.TheVariants.{Coordinator as from_coordinator, Shard as from_shard}
 use Rattle.calls.specs.declared.reply.CoordinatorReply.TheVariants as told
 use Rattle.calls.specs.declared.reply.ShardReply.TheVariants as told_by
 use Rattle.care_flow.specs.Cares as cares
 use Rattle.care_flow.specs.Collecting.{Asks, CollectFlowValue, CollectGives, CollectStep, CollectView, Gives, ask, collect, flush, flush_to_collect}
-use Rattle.care_flow.specs.Views.{out, over, ready}
-use Rattle.care_flow.specs.declared.end.CareEnd.TheVariants.{Refused}
-use Rattle.care_flow.specs.declared.care.CareFlow.{CareFlow}
-use Rattle.care_flow.specs.declared.care.CareFlow.TheVariants.{Flush, Learn, Resolve, Raise, Collect}
-use Rattle.laws.specs.Nodes.{coordinator, shard}
-use Rattle.turns.specs.Causes.{Calls, HasItsCause}
-use Rattle.turns.specs.Flows.{Asked, Holds, collecting, to_collect}
-use Rattle.turns.specs.Held.{AreHeldHeads, AreRightHeads, IsRight}
-use Rattle.turns.specs.Moments.{Moment, Running}
-use Rattle.turns.specs.QuietTurns.{ending, with_call}
-use Rattle.turns.specs.Stores.{StandsOver, Store, stops}
-use Rattle.turns.proofs.CoordinatorCalls.{right_heads}
-use Rattle.turns.proofs.QuietTurns.{calls_on}
+use Rattle.turns.specs.Flows.{collecting, to_collect}
 use Rattle.turns.proofs.ShardLearnSeam.{collects_quietly, refused_collects_have_cause}
-use Rattle.call_turns.specs.StoreCalls.{IsCalled, called}
-use Rattle.call_turns.specs.StoreTurns.{SlotTurns, TurnRuns}
-use Rattle.call_turns.proofs.Asked.{heads_told}
 use Rattle.call_turns.proofs.AskedMore.{collect_told}
-use Rattle.call_turns.proofs.Flushed.{shard_flushed}
-use Rattle.call_turns.proofs.Made.{still_of}
-use Rattle.care_turns.specs.CareTurns.{CollectsTurn, in_slot, shown_care, shows, tells}
+use Rattle.care_turns.specs.CareTurns.{CollectsTurn}
 use Rattle.care_turns.proofs.Views.{IsFlow, LeadsTo, done_to, fails_to, goes_to, refuses_to}
 
 module _ {D : Type 0} (state : D → State) (honest : D → Type 0) (moment : D → ℕ) (left_since : D → ℕ → List ℕ → Type 0)

@@ -2,37 +2,18 @@
 use Rattle.std.proofs.Common.{◌≡◌, ◌≤◌, ℕ, List, [], ◌∷◌, Option, Some, None, Result, Ok, Err, MatchOption, refl, sym, ap, subst}
 use Rattle.std.proofs.lemmas.List.Elements.{All-nil}
 use Rattle.std.proofs.lemmas.Option.{same_Some}
-use Rattle.device.specs.Device.{State, left}
-use Rattle.refusal.specs.declared.refusal.Refusal.{Refusal}
-use Rattle.calls.specs.Asking.{Answered}
-use Rattle.calls.specs.Views.{NodeView}
+use Rattle.care_turns.proofs.Words.{Answered, Calls, CareEnd, CareFlow, Collect, FailsQuietly, Flush, FlushView, Gives, IsCalled, IsQuietlyMade, Learn, Machine, Moment, NodeCall, NodeView, Nodes, Raise, Refusal, Reply, Resolve, Runs, SlotTurns, StandsOver, State, Store, TurnRuns, answers, called, coordinator, coordinator_flushed, done, ended_by, fails_with, flush, from_coordinator, from_shard, in_slot, left, out, shard, shard_flushed, shown_care, shows, tells, the_flow}
 use Rattle.names.specs.declared.node_name.NodeName as names
 use Rattle.names.specs.declared.node_name.NodeName.TheVariants.{Coordinator, Shard}
-use Rattle.calls.specs.declared.call.NodeCall.{NodeCall}
-use Rattle.calls.specs.declared.reply.Reply.{Reply}
-use Rattle.calls.specs.declared.reply.Reply.TheVariants.{Coordinator as from_coordinator, Shard as from_shard}
 use Rattle.calls.specs.declared.reply.CoordinatorReply.TheVariants as told
 use Rattle.calls.specs.declared.reply.ShardReply.TheVariants as told_by
 use Rattle.care_flow.specs.Cares as cares
-use Rattle.care_flow.specs.Ends.{ended_by}
-use Rattle.care_flow.specs.Flushing.{FlushFlowValue, FlushStep, FlushView, Gives, flush, flush_of}
-use Rattle.care_flow.specs.Views.{out}
-use Rattle.care_flow.specs.declared.care.CareFlow.{CareFlow}
-use Rattle.care_flow.specs.declared.care.CareFlow.TheVariants.{Flush, Learn, Resolve, Raise, Collect}
-use Rattle.care_flow.specs.declared.end.CareEnd.{CareEnd}
-use Rattle.laws.specs.Machines.{Machine}
-use Rattle.laws.specs.Nodes.{IsThere, Nodes, coordinator, shard}
-use Rattle.turns.specs.Causes.{Calls}
+use Rattle.care_flow.specs.Flushing.{FlushFlowValue, FlushStep, flush_of}
+use Rattle.laws.specs.Nodes.{IsThere}
 use Rattle.turns.specs.Flows.{flushing, to_flush}
-use Rattle.turns.specs.Moments.{Moment}
-use Rattle.turns.specs.Replies.{IsFlushed, done}
-use Rattle.turns.specs.Stores.{StandsOver, Store}
-use Rattle.call_turns.specs.StoreCalls.{IsCalled, called, name_of}
-use Rattle.call_turns.specs.StoreTurns.{SlotTurns, TurnRuns}
-use Rattle.call_turns.proofs.Flushed.{coordinator_flushed, shard_flushed}
-use Rattle.call_turns.proofs.Made.{FailsQuietly, IsQuietlyMade}
-use Rattle.call_turns.proofs.Turned.{Runs, answers, fails_with, the_flow}
-use Rattle.care_turns.specs.CareTurns.{FlushesTurn, in_slot, shown_care, shows, tells}
+use Rattle.turns.specs.Replies.{IsFlushed}
+use Rattle.call_turns.specs.StoreCalls.{name_of}
+use Rattle.care_turns.specs.CareTurns.{FlushesTurn}
 
 module _ {D : Type 0} (state : D → State) (honest : D → Type 0) (moment : D → ℕ) (left_since : D → ℕ → List ℕ → Type 0)
     (counts_now : (d : D) (t : ℕ) (c : List ℕ) → honest d → t ≤ moment d → left (state d) c → left_since d t c) (only_now : (d : D) (c : List ℕ) → honest d → left_since d (moment d) c → left (state d) c)

@@ -1,46 +1,14 @@
 -- A shard's learning takes its turn.
 use Rattle.std.proofs.Common.{◌≡◌, ◌≤◌, ℕ, Bool, List, [], ◌∷◌, Option, Some, None, Result, Ok, Err, MatchOption, refl, sym, ◌∙◌, ap, subst}
 use Rattle.std.proofs.lemmas.Option.{same_Some}
-use Rattle.refusal.specs.declared.refusal.Refusal.{Refusal}
-use Rattle.device.specs.Device.{State, left}
-use Rattle.decisions.specs.Flows.{HeadsHeld, no_heads}
-use Rattle.decisions.specs.Values.{BatchValue, HeadsValue}
-use Rattle.calls.specs.Asking.{Answered}
-use Rattle.calls.specs.Views.{NodeView}
-use Rattle.calls.specs.declared.call.NodeCall.{NodeCall}
-use Rattle.calls.specs.declared.call.NodeCall.TheVariants.{Coordinator as of_coordinator}
-use Rattle.calls.specs.declared.call.CoordinatorCall.TheVariants.{Heads}
-use Rattle.calls.specs.declared.reply.Reply.{Reply}
-use Rattle.calls.specs.declared.reply.Reply.TheVariants.{Coordinator as from_coordinator}
+use Rattle.care_turns.proofs.Words.{Answered, AreHeldHeads, AreRightHeads, Asked, AsksToCatchUp, BatchValue, CallName, Calls, CareFlow, CatchUpCallValue, CatchUpComes, CatchUpGives, CatchUpValue, Collect, FitsItsTypes, Flush, Heads, HeadsHeld, HeadsValue, Holds, IsCalled, IsCatchingUp, IsRight, Learn, LetsLearn, Moment, Next, NodeCall, NodeView, Progress, Raise, Refusal, Reply, Resolve, Running, SlotTurns, StandsOver, State, Store, There, TurnRuns, batch_of, called, calls_on, caught_up, coordinator, ending, from_coordinator, heads_told, in_slot, is_refused, left, name_of, no_heads, of_coordinator, on_its_way, out, right_heads, same_way, shard, shown_care, shows, stops, tells, whichever_next, with_call}
 use Rattle.calls.specs.declared.reply.CoordinatorReply.TheVariants as told
 use Rattle.catch_up.specs.CatchingUp as catching
-use Rattle.catch_up.specs.Held.{CatchUpCallValue, CatchUpValue}
-use Rattle.catch_up.specs.declared.caught.Progress.{Progress}
-use Rattle.catch_up.specs.declared.caught.Progress.TheVariants.{Next, There, Refused as is_refused}
 use Rattle.care_flow.specs.Cares as cares
-use Rattle.care_flow.specs.CatchUps.{AsksToCatchUp, CatchUpGives, on_its_way}
 use Rattle.care_flow.specs.Learning.{Asks, Gives, LearnFlowValue, LearnStep, LearnView, ProgressGives, ask, catch_up}
-use Rattle.care_flow.specs.Views.{out}
-use Rattle.care_flow.specs.declared.care.CareFlow.{CareFlow}
-use Rattle.care_flow.specs.declared.care.CareFlow.TheVariants.{Flush, Learn, Resolve, Raise, Collect}
-use Rattle.laws.specs.Nodes.{coordinator, shard}
-use Rattle.turns.specs.Causes.{Calls, LetsLearn}
-use Rattle.turns.specs.Flows.{Asked, Holds, learning, to_learn}
-use Rattle.turns.specs.Held.{AreHeldHeads, AreRightHeads, IsRight}
-use Rattle.turns.specs.Moments.{Moment, Running}
-use Rattle.turns.specs.QuietTurns.{batch_of, ending, with_call}
-use Rattle.turns.specs.Stores.{StandsOver, Store, stops}
-use Rattle.turns.proofs.CoordinatorCalls.{right_heads}
-use Rattle.turns.proofs.QuietTurns.{calls_on}
+use Rattle.turns.specs.Flows.{learning, to_learn}
 use Rattle.turns.proofs.SeesOn.{heads_on}
-use Rattle.call_turns.specs.StoreCalls.{FitsItsTypes, IsCalled, called}
-use Rattle.call_turns.specs.StoreTurns.{SlotTurns, TurnRuns}
-use Rattle.call_turns.proofs.Asked.{heads_told}
-use Rattle.calls.specs.Names.{name_of}
-use Rattle.names.specs.declared.call_name.CallName.{CallName}
-use Rattle.care_flow.proofs.Naming.{whichever_next}
-use Rattle.call_turns.proofs.CaughtUp.{CatchUpComes, IsCatchingUp, caught_up, same_way}
-use Rattle.care_turns.specs.CareTurns.{LearnsTurn, in_slot, shown_care, shows, tells}
+use Rattle.care_turns.specs.CareTurns.{LearnsTurn}
 use Rattle.care_turns.proofs.Views.{IsFlow, LeadsTo, done_to, fails_to, goes_to, refuses_to}
 
 module _ {D : Type 0} (state : D → State) (honest : D → Type 0) (moment : D → ℕ) (left_since : D → ℕ → List ℕ → Type 0)

@@ -4,65 +4,32 @@ use Rattle.std.proofs.lemmas.Bool.{cases_Bool, cases_lt, eq-eqb, eqb-true}
 use Rattle.std.proofs.lemmas.List.Elements.{All-push}
 use Rattle.std.proofs.lemmas.Option.{same_Some}
 use Rattle.std.specs.Global.{Vec}
-use Rattle.refusal.specs.declared.refusal.Refusal.{Refusal}
-use Rattle.refusal.specs.declared.refusal.Refusal.TheVariants.{Collected, Full, Future, NoMemory, Unsure}
-use Rattle.device.specs.Device.{State, left}
+use Rattle.care_turns.proofs.Words.{Answered, AreRightHeads, Asked, AsksToCatchUp, BatchValue, CallName, Calls, CareFlow, CatchUpCallValue, CatchUpComes, CatchUpGives, CatchUpValue, Collect, Done, FailsQuietly, FitsItsTypes, Flush, Full, HasItsCause, HeadsValue, Holds, IsCalled, IsCatchingUp, IsRight, Learn, LetsLearn, Moment, Next, NoMemory, NodeCall, NodeName, NodeView, Progress, Raise, Refusal, Refused, Reply, Resolve, Running, SlotTurns, Stands, StandsOver, State, Store, TakesMemory, There, TurnRuns, Unsure, batch_of, behind_call, called, calls_on, caught_up, coordinator, coordinator_flushed, done, ended_by, ending, from_coordinator, from_shard, going_on, heads_told, in_slot, is_refused, left, name_of, of_coordinator, of_shard, on_its_way, out, over, ready, right_heads, same_way, shard, shard_flushed, shown_care, shows, still_of, stops, tells, whichever_next, with_call}
+use Rattle.refusal.specs.declared.refusal.Refusal.TheVariants.{Collected, Future}
 use Rattle.decisions.specs.Coordinators.{HaveSettled, heads_of}
 use Rattle.decisions.specs.Flows.{RaiseHolds, nothing_raised}
 use Rattle.decisions.specs.Standing.{IsSettled}
-use Rattle.decisions.specs.Values.{BatchValue, HeadsValue, SettledValue}
+use Rattle.decisions.specs.Values.{SettledValue}
 use Rattle.coordinator.specs.declared.raising.NotRaised.{NotRaised}
-use Rattle.calls.specs.Asking.{Answered}
 use Rattle.calls.specs.Belonging.{IsOwed, IsReplyTo}
-use Rattle.calls.specs.Views.{NodeView}
-use Rattle.calls.specs.declared.call.NodeCall.{NodeCall}
-use Rattle.calls.specs.declared.call.NodeCall.TheVariants.{Coordinator as of_coordinator, Shard as of_shard}
 use Rattle.calls.specs.declared.call.CoordinatorCall.TheVariants as coordinator_calls
 use Rattle.calls.specs.declared.call.ShardCall.TheVariants as shard_calls
-use Rattle.calls.specs.declared.reply.Reply.{Reply}
-use Rattle.calls.specs.declared.reply.Reply.TheVariants.{Coordinator as from_coordinator, Shard as from_shard}
 use Rattle.calls.specs.declared.reply.CoordinatorReply.TheVariants as told
 use Rattle.calls.specs.declared.reply.ShardReply.TheVariants as told_by
 use Rattle.catch_up.specs.CatchingUp as catching
-use Rattle.catch_up.specs.Held.{CatchUpCallValue, CatchUpValue}
-use Rattle.catch_up.specs.declared.caught.Progress.{Progress}
-use Rattle.catch_up.specs.declared.caught.Progress.TheVariants.{Next, There, Refused as is_refused}
 use Rattle.care_flow.specs.Cares as cares
-use Rattle.care_flow.specs.CatchUps.{AsksToCatchUp, CatchUpGives, on_its_way}
-use Rattle.care_flow.specs.Ends.{ended_by}
 use Rattle.care_flow.specs.Raising.{Asks, FlushGives, Gives, GoesRound, ProgressGives, RaiseFlowValue, RaiseGives, RaiseStep, RaiseView, SettleGives, ask, catch_up, flush, flush_raised, flush_to_ask, flush_to_raise, raise, settle}
-use Rattle.care_flow.specs.Views.{out, over, ready}
-use Rattle.care_flow.specs.declared.care.CareFlow.{CareFlow}
-use Rattle.care_flow.specs.declared.care.CareFlow.TheVariants.{Flush, Learn, Resolve, Raise, Collect}
-use Rattle.care_flow.specs.declared.end.CareEnd.TheVariants.{Done, Refused}
-use Rattle.laws.specs.Nodes.{NodeName, coordinator, shard}
 use Rattle.turns.specs.CoordinatorSeamLaws.{AsksAbove}
-use Rattle.turns.specs.Causes.{Calls, HasItsCause, LetsLearn, TakesMemory}
-use Rattle.turns.specs.Flows.{Asked, Holds, raising, to_raise}
-use Rattle.turns.specs.Held.{AreRightHeads, IsRight, IsRightRaise, IsRightSettled}
-use Rattle.turns.specs.Moments.{Moment, Running}
-use Rattle.turns.specs.QuietTurns.{batch_of, behind_call, ending, going_on, with_call}
-use Rattle.turns.specs.Replies.{done}
+use Rattle.turns.specs.Flows.{raising, to_raise}
+use Rattle.turns.specs.Held.{IsRightRaise, IsRightSettled}
 use Rattle.turns.specs.SeamLaws.{behind}
-use Rattle.turns.specs.Stands.{Stands}
-use Rattle.turns.specs.Stores.{StandsOver, Store, stops}
 use Rattle.turns.proofs.AnswerTurns.{raises_end}
 use Rattle.turns.proofs.Batches.{shards_settle}
-use Rattle.turns.proofs.CoordinatorCalls.{heads_have_cause, right_heads}
-use Rattle.turns.proofs.QuietTurns.{calls_on}
+use Rattle.turns.proofs.CoordinatorCalls.{heads_have_cause}
 use Rattle.turns.proofs.RaiseSeam.{raise_has_cause, raises_turn}
-use Rattle.call_turns.specs.StoreCalls.{FitsItsTypes, IsCalled, called}
-use Rattle.call_turns.specs.StoreTurns.{SlotTurns, TurnRuns}
-use Rattle.call_turns.proofs.Asked.{heads_told}
 use Rattle.call_turns.proofs.Belongs.{belongs_to}
-use Rattle.calls.specs.Names.{name_of}
-use Rattle.names.specs.declared.call_name.CallName.{CallName}
-use Rattle.care_flow.proofs.Naming.{whichever_next}
-use Rattle.call_turns.proofs.CaughtUp.{CatchUpComes, IsCatchingUp, caught_up, same_way}
-use Rattle.call_turns.proofs.Flushed.{coordinator_flushed, shard_flushed}
-use Rattle.call_turns.proofs.Made.{FailsQuietly, still_of}
 use Rattle.call_turns.proofs.RaiseTold.{raise_told, raised_devices, raised_made, settle_told}
-use Rattle.care_turns.specs.CareTurns.{RaisesTurn, in_slot, shown_care, shows, tells}
+use Rattle.care_turns.specs.CareTurns.{RaisesTurn}
 use Rattle.care_turns.proofs.Views.{IsFlow, LeadsTo, ends_by, fails_to, goes_by, goes_to, refuses_to}
 
 module _ {D : Type 0} (state : D → State) (honest : D → Type 0) (moment : D → ℕ) (left_since : D → ℕ → List ℕ → Type 0)

@@ -3,61 +3,31 @@ use Rattle.std.proofs.Common.{◌≡◌, ◌≢◌, ⊎_elim, inl, ◌≤◌, �
 use Rattle.std.proofs.lemmas.List.Elements.{All-contains, All-push}
 use Rattle.std.proofs.lemmas.Option.{same_Some}
 use Rattle.std.specs.Global.{Vec}
-use Rattle.refusal.specs.declared.refusal.Refusal.{Refusal}
-use Rattle.refusal.specs.declared.refusal.Refusal.TheVariants.{NoMemory, Unsure}
+use Rattle.care_turns.proofs.Words.{Answered, Asked, BatchValue, CallName, Calls, CareFlow, CatchUpCallValue, CatchUpComes, CatchUpValue, Collect, FailsQuietly, FitsItsTypes, Flush, HasItsCause, Holds, IsCalled, IsCatchingUp, IsQuietlyMade, IsRight, Learn, LetsLearn, Machine, Moment, Next, NoMemory, NodeCall, NodeName, NodeView, Nodes, Progress, Raise, Record, Refusal, Refused, Reply, Resolve, Running, SlotTurns, StandsOver, State, Store, TakesMemory, There, TurnRuns, Unsure, batch_of, behind_call, called, calls_on, caught_up, coordinator, ending, from_coordinator, from_shard, in_slot, is_refused, left, name_of, of_coordinator, of_shard, on_its_way, over, ready, same_way, shard, shown_care, shows, stops, tells, whichever_next}
 use Rattle.tuples.specs.declared.entry.WriteId.{WriteId}
-use Rattle.device.specs.Device.{State, left}
 use Rattle.decisions.specs.Flows as flows
 use Rattle.decisions.specs.Flows.{ResolveHolds, aborted, committed, undecided}
-use Rattle.decisions.specs.Values.{BatchValue, VerdictValue}
+use Rattle.decisions.specs.Values.{VerdictValue}
 use Rattle.coordinator.specs.declared.telling.Inquiry.{Inquiry}
 use Rattle.coordinator.specs.declared.telling.Inquiry.TheVariants.{Commit, Abort, Undecided}
-use Rattle.calls.specs.Asking.{Answered}
-use Rattle.calls.specs.Views.{NodeView}
-use Rattle.calls.specs.declared.call.NodeCall.{NodeCall}
-use Rattle.calls.specs.declared.call.NodeCall.TheVariants.{Coordinator as of_coordinator, Shard as of_shard}
 use Rattle.calls.specs.declared.call.CoordinatorCall.TheVariants as coordinator_calls
 use Rattle.calls.specs.declared.call.ShardCall.TheVariants as shard_calls
-use Rattle.calls.specs.declared.reply.Reply.{Reply}
-use Rattle.calls.specs.declared.reply.Reply.TheVariants.{Coordinator as from_coordinator, Shard as from_shard}
 use Rattle.calls.specs.declared.reply.CoordinatorReply.TheVariants as told
 use Rattle.calls.specs.declared.reply.ShardReply.TheVariants as told_by
 use Rattle.catch_up.specs.CatchingUp as catching
-use Rattle.catch_up.specs.Held.{CatchUpCallValue, CatchUpValue}
-use Rattle.catch_up.specs.declared.caught.Progress.{Progress}
-use Rattle.catch_up.specs.declared.caught.Progress.TheVariants.{Next, There, Refused as is_refused}
 use Rattle.care_flow.specs.Cares as cares
-use Rattle.care_flow.specs.CatchUps.{on_its_way}
 use Rattle.care_flow.specs.Ends.{resolved_value}
 use Rattle.care_flow.specs.Resolving.{Asks, DoubtsGive, DropGives, Gives, GoesThrough, HasCommitted, InquiryGives, ProgressGives, ResolveFlowValue, ResolveStep, ResolveView, catch_up, drop_write, finding, in_doubt, inquire}
-use Rattle.care_flow.specs.Views.{over, ready}
-use Rattle.care_flow.specs.declared.care.CareFlow.{CareFlow}
-use Rattle.care_flow.specs.declared.care.CareFlow.TheVariants.{Flush, Learn, Resolve, Raise, Collect}
-use Rattle.care_flow.specs.declared.end.CareEnd.TheVariants.{Refused, Resolved as all_resolved}
+use Rattle.care_flow.specs.declared.end.CareEnd.TheVariants.{Resolved as all_resolved}
 use Rattle.care_flow.specs.declared.end.Resolved.{Resolved}
-use Rattle.records.specs.declared.record.Record.{Record}
-use Rattle.laws.specs.Machines.{Machine}
-use Rattle.laws.specs.Nodes.{NodeName, Nodes, coordinator, shard}
-use Rattle.turns.specs.Causes.{Calls, HasItsCause, LetsLearn, TakesMemory}
-use Rattle.turns.specs.Flows.{Asked, Holds, resolving, to_resolve}
-use Rattle.turns.specs.Held.{IfHeld, IsRight, IsRightResolve, IsRightResolved, IsRightVerdict}
-use Rattle.turns.specs.Moments.{Moment, Running}
-use Rattle.turns.specs.QuietTurns.{batch_of, behind_call, ending}
+use Rattle.turns.specs.Flows.{resolving, to_resolve}
+use Rattle.turns.specs.Held.{IfHeld, IsRightResolve, IsRightResolved, IsRightVerdict}
 use Rattle.turns.specs.Replies.{IsResolved, resolved}
-use Rattle.turns.specs.Stores.{StandsOver, Store, stops}
 use Rattle.turns.proofs.AnswerTurns.{resolves_end}
 use Rattle.turns.proofs.CoordinatorCalls.{inquiries_answer}
-use Rattle.turns.proofs.QuietTurns.{calls_on}
 use Rattle.turns.proofs.ShardLearnSeam.{drops_quietly}
-use Rattle.call_turns.specs.StoreCalls.{FitsItsTypes, IsCalled, called}
-use Rattle.call_turns.specs.StoreTurns.{SlotTurns, TurnRuns}
-use Rattle.calls.specs.Names.{name_of}
-use Rattle.names.specs.declared.call_name.CallName.{CallName}
-use Rattle.care_flow.proofs.Naming.{whichever_next}
-use Rattle.call_turns.proofs.CaughtUp.{CatchUpComes, IsCatchingUp, caught_up, same_way}
-use Rattle.call_turns.proofs.Made.{FailsQuietly, IsQuietlyMade}
 use Rattle.call_turns.proofs.ResolveTold.{doubts_told, drop_told, inquire_told}
-use Rattle.care_turns.specs.CareTurns.{ResolvesTurn, in_slot, shown_care, shows, tells}
+use Rattle.care_turns.specs.CareTurns.{ResolvesTurn}
 use Rattle.care_turns.proofs.Views.{IsFlow, LeadsTo, Quietly, RefusedQuietly, ends_by, fails_to, goes_to, refuses_to}
 
 module _ {D : Type 0} (state : D → State) (honest : D → Type 0) (moment : D → ℕ) (left_since : D → ℕ → List ℕ → Type 0)

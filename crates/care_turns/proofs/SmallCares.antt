@@ -2,33 +2,19 @@
 use Rattle.std.proofs.Common.{◌≡◌, ◌≢◌, ◌<◌, ℕ, zero, suc, Bool, true, false, List, [], Option, Err, Some, None, if◌then◌else◌, refl, sym, ◌∙◌, ap, subst, arith}
 use Rattle.std.proofs.lemmas.Option.{same_Some}
 use Rattle.refusal.specs.declared.refusal.Refusal.TheVariants.{Down}
-use Rattle.records.specs.declared.record.Record.{Record}
-use Rattle.device.specs.Device.{State}
+use Rattle.care_turns.proofs.Words.{Answered, CareEnd, CareFlow, Collect, Done, Flush, FlushView, Gives, Learn, NextCall, NodeCall, NodeName, NodeView, Raise, Record, Refused, Reply, Resolve, State, Store, called, coordinator, ended_by, flush, from_coordinator, out, over, ready, shard, shows, tells}
 use Rattle.names.specs.declared.node_name.NodeName as names
 use Rattle.names.specs.declared.node_name.NodeName.TheVariants as named
-use Rattle.calls.specs.Asking.{Answered}
 use Rattle.calls.specs.Views as views
-use Rattle.calls.specs.Views.{NodeView}
-use Rattle.calls.specs.declared.call.NodeCall.{NodeCall}
 use Rattle.calls.specs.declared.call.NodeCall.TheVariants.{Coordinator}
 use Rattle.calls.specs.declared.call.CoordinatorCall.TheVariants as calls
-use Rattle.calls.specs.declared.reply.Reply.{Reply}
-use Rattle.calls.specs.declared.reply.Reply.TheVariants.{Coordinator as from_coordinator}
 use Rattle.calls.specs.declared.reply.CoordinatorReply.TheVariants as told
-use Rattle.care_flow.specs.Cares.{NextCall}
 use Rattle.care_flow.specs.Cares as cares
-use Rattle.care_flow.specs.Ends.{ended_by}
-use Rattle.care_flow.specs.Flushing.{FlushView, Gives, flush}
-use Rattle.care_flow.specs.Views.{out, over, ready}
-use Rattle.care_flow.specs.declared.care.CareFlow.{CareFlow}
-use Rattle.care_flow.specs.declared.care.CareFlow.TheVariants.{Flush, Learn, Resolve, Raise, Collect}
-use Rattle.care_flow.specs.declared.end.CareEnd.{CareEnd}
-use Rattle.care_flow.specs.declared.end.CareEnd.TheVariants.{Done, Refused}
-use Rattle.laws.specs.Nodes.{NodeName, NodeState, coordinator, down, refused, shard, up}
+use Rattle.laws.specs.Nodes.{NodeState, down, refused, up}
 use Rattle.turns.specs.Runs.{refuses}
-use Rattle.turns.specs.Stores.{FlowView, Store}
-use Rattle.call_turns.specs.StoreCalls.{IsNode, called}
-use Rattle.care_turns.specs.CareTurns.{CareTurns, shows, tells}
+use Rattle.turns.specs.Stores.{FlowView}
+use Rattle.call_turns.specs.StoreCalls.{IsNode}
+use Rattle.care_turns.specs.CareTurns.{CareTurns}
 
 -- the flush of the coordinator before its call, with the call out, and behind its end
 abbrev fresh : CareFlow

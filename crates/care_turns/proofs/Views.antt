@@ -1,29 +1,15 @@
 -- Where a turn leads a care, as its view says it: it goes on, or has ended.
 use Rattle.std.proofs.Common.{◌≡◌, ◌≢◌, ℕ, false, List, [], ◌∷◌, Some, None, Contains, refl, sym, ◌∙◌, ap, subst}
 use Rattle.std.proofs.lemmas.List.Elements.{All-nil}
-use Rattle.refusal.specs.declared.refusal.Refusal.{Refusal}
-use Rattle.refusal.specs.declared.refusal.Refusal.TheVariants.{Unsure}
-use Rattle.device.specs.Device.{State}
-use Rattle.care_flow.specs.Views.{CareView, over, ready}
-use Rattle.care_flow.specs.declared.end.CareEnd.{CareEnd}
-use Rattle.care_flow.specs.declared.end.CareEnd.TheVariants.{Done, Refused}
-use Rattle.laws.specs.Machines.{Machine}
-use Rattle.laws.specs.Nodes.{NodeName, Nodes}
-use Rattle.turns.specs.Causes.{Calls, HasItsCause}
-use Rattle.turns.specs.Flows.{Asked, Holds}
-use Rattle.turns.specs.Held.{IsRight}
-use Rattle.turns.specs.Moments.{Moment, Running, is_write}
-use Rattle.turns.specs.QuietTurns.{behind_call, ending, going_on, with_call}
-use Rattle.turns.specs.Replies.{Agrees, Answer, done}
+use Rattle.care_turns.proofs.Words.{Asked, Calls, CareEnd, Done, FailsQuietly, HasItsCause, Holds, IsQuietlyMade, IsRight, Machine, Moment, NodeName, Nodes, Refusal, Refused, Running, Runs, SlotTurns, Stands, StandsOver, State, Store, TurnRuns, Unsure, answers, behind_call, done, ending, fails_with, going_on, in_slot, over, ready, shown_care, stops, tells, the_flow, with_call}
+use Rattle.care_flow.specs.Views.{CareView}
+use Rattle.turns.specs.Moments.{is_write}
+use Rattle.turns.specs.Replies.{Agrees, Answer}
 use Rattle.turns.specs.Runs.{Told, Turns, answered, goes_on, told_by}
 use Rattle.turns.specs.SeamLaws.{told_unless}
-use Rattle.turns.specs.Stands.{Stands}
-use Rattle.turns.specs.Stores.{NamesHorizon, StandsOver, Store, stops}
+use Rattle.turns.specs.Stores.{NamesHorizon}
 use Rattle.call_turns.specs.StoreCalls.{IsMade}
-use Rattle.call_turns.specs.StoreTurns.{SlotTurns, TurnRuns}
-use Rattle.call_turns.proofs.Made.{FailsQuietly, IsQuietlyMade}
-use Rattle.call_turns.proofs.Turned.{Runs, answers, fails_with, goes, held_on, ran_ending, ran_going, refused_by, runs, the_flow}
-use Rattle.care_turns.specs.CareTurns.{in_slot, shown_care, tells}
+use Rattle.call_turns.proofs.Turned.{goes, held_on, ran_ending, ran_going, refused_by, runs}
 
 module _ {D : Type 0} (state : D → State) (honest : D → Type 0) (moment : D → ℕ) (left_since : D → ℕ → List ℕ → Type 0) (store shards : ℕ) (old new : Store D) (slot : ℕ)
     (asked : Asked) (no_write : is_write asked ≡ false) {H : Type 0} (S : Type 0) (hold : H → Holds) (h : H) where

@@ -1,19 +1,9 @@
 -- A turn of the flow in a slot, whatever its kind, keeps the promise of a step; an empty slot has none.
 use Rattle.std.proofs.Common.{◌≡◌, ◌≤◌, ℕ, List, [], Option, Some, None, MatchOption, refl, sym, subst}
-use Rattle.device.specs.Device.{State, left}
-use Rattle.laws.specs.Nodes.{NodeName}
-use Rattle.turns.specs.Moments.{Running, flow_at as running_at}
+use Rattle.headline.proofs.Words.{Care, Check, Flow, IsIdle, Keeps, Leaves, NamesHorizon, NodeName, Read, Running, Shows, State, StepKeeps, Store, Turn, Watch, What, WorldView, Write, flow_at, left, running_at}
 use Rattle.turns.specs.Runs as runs
-use Rattle.turns.specs.Stores.{NamesHorizon, Store}
-use Rattle.cluster.specs.Steps.{IsIdle, Leaves, TurnsIn}
+use Rattle.cluster.specs.Steps.{TurnsIn}
 use Rattle.cluster.specs.Turns.{Turns}
-use Rattle.cluster.specs.Worlds.{WorldView, flow_at}
-use Rattle.cluster.specs.declared.event.What.{What}
-use Rattle.cluster.specs.declared.flow.Flow.{Flow}
-use Rattle.cluster.specs.declared.flow.Flow.TheVariants.{Write, Read, Check, Watch, Care}
-use Rattle.cluster.specs.declared.step.Step.TheVariants.{Turn}
-use Rattle.headline.specs.Promised.{Keeps, StepKeeps}
-use Rattle.headline.specs.Shown.{Shows}
 use Rattle.headline.proofs.CareTurn.{care_turns}
 use Rattle.headline.proofs.CheckTurn.{check_turns}
 use Rattle.headline.proofs.ReadTurn.{read_turns}

@@ -1,39 +1,19 @@
 -- A write calls no node that the store has not, but to drop what such a node should have given: then no node is called, and the write goes on or ends.
 use Rattle.std.proofs.Common.{◌≡◌, ◌≤◌, ◌<◌, ⊎_elim, ℕ, Bool, List, ◌∷◌, Option, Some, None, MatchOption, Contains, refl, sym, ◌∙◌, ap, subst}
 use Rattle.std.proofs.lemmas.List.Elements.{All-contains}
-use Rattle.tuples.specs.declared.entry.WriteId.{WriteId}
-use Rattle.device.specs.Device.{State, left}
-use Rattle.refusal.specs.declared.refusal.Refusal.TheVariants.{Damaged}
-use Rattle.decisions.specs.Values.{VerdictValue}
+use Rattle.headline.proofs.Words.{Asks, Coordinator, Damaged, GivesTo, IsCalled, KeepsMemory, Moment, NodeCall, NodeName, NodeView, Ran, Refuses, Reply, Running, Shard, Shows, SlotTurns, StandsOver, State, Store, VerdictValue, WorldView, WriteId, WriteView, alone, called, coordinator, events_of, from_shard, left, named, node_at, shard, shown_until, stops, told_of, turn}
 use Rattle.decisions.specs.declared.held.Held.{Held}
-use Rattle.calls.specs.Asking.{Refuses}
 use Rattle.calls.specs.Views as views
-use Rattle.calls.specs.Views.{NodeView}
-use Rattle.calls.specs.declared.call.NodeCall.{NodeCall}
-use Rattle.calls.specs.declared.call.NodeCall.TheVariants.{Coordinator, Shard}
 use Rattle.calls.specs.declared.call.ShardCall.TheVariants as shard_calls
-use Rattle.calls.specs.declared.reply.Reply.{Reply}
-use Rattle.calls.specs.declared.reply.Reply.TheVariants.{Shard as from_shard}
 use Rattle.calls.specs.declared.reply.ShardReply.TheVariants as told_by
-use Rattle.commit_flow.specs.Answering.{GivesTo}
-use Rattle.commit_flow.specs.Views.{WriteView, ticket_value}
-use Rattle.commit_flow.specs.Writing.{Asks, AsksShard}
+use Rattle.commit_flow.specs.Views.{ticket_value}
+use Rattle.commit_flow.specs.Writing.{AsksShard}
 use Rattle.commit_flow.specs.WriteHolds.{HeldTicket}
-use Rattle.laws.specs.Nodes.{NodeName, coordinator, shard}
 use Rattle.turns.specs.Held.{IsRightTicket, own_write}
-use Rattle.turns.specs.Moments.{Moment, Running}
-use Rattle.turns.specs.Promises.{Ran, events_of}
-use Rattle.turns.specs.Runs.{turn}
-use Rattle.turns.specs.Stores.{StandsOver, Store, stops}
-use Rattle.turns.proofs.FlowBegins.{alone}
-use Rattle.call_turns.specs.StoreCalls.{IsCalled, KeepsMemory, called}
-use Rattle.call_turns.specs.StoreTurns.{SlotTurns}
 use Rattle.call_turns.proofs.Made.{IsQuietlyMade, still_made}
-use Rattle.write_turns.specs.Seen.{shown, shown_until, told_of}
+use Rattle.write_turns.specs.Seen.{shown}
 use Rattle.write_turns.proofs.Going.{IsFlow, changes, conditions, flow_there, right}
 use Rattle.write_turns.proofs.Leaving.{dropped}
-use Rattle.cluster.specs.Worlds.{WorldView, node_at}
-use Rattle.headline.specs.Shown.{Shows, named}
 use Rattle.headline.proofs.Behind.{behind, same_at, same_devices, same_memory, shows_node, slot_turns, with_slot}
 use Rattle.headline.proofs.Lifts.{Stays}
 use Rattle.headline.proofs.Nodes.{node_there}

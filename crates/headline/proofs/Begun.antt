@@ -5,27 +5,11 @@
 use Rattle.std.proofs.Common.{◌≡◌, ◌≢◌, inl, ⊎_elim, ◌≤◌, ◌<◌, ℕ, List, [], get_or, Some, All, refl, sym, ◌∙◌, ap, subst, arith}
 use Rattle.std.proofs.lemmas.List.Elements.{All-nil}
 use Rattle.std.proofs.lemmas.Option.{same_Some}
-use Rattle.tuples.specs.declared.entry.WriteId.{WriteId}
-use Rattle.records.specs.declared.record.Record.{Record}
-use Rattle.records.specs.Coordinators.{coordinator_state, end_of}
-use Rattle.records.specs.Replays.{shard_state}
-use Rattle.device.specs.Device.{Leaves, Revived, State, left}
-use Rattle.device.proofs.Moments.{leaves_nothing_else}
-use Rattle.journal.specs.Records.{found}
-use Rattle.calls.specs.Views.{NodeView}
-use Rattle.cluster.specs.Nodes.{IsFound, IsRevived, Opens, Reopened}
-use Rattle.laws.specs.Machines.{Machine, Move, Moves}
-use Rattle.laws.specs.Nodes.{IsThere, NodeName, coordinator, shard}
-use Rattle.laws.specs.Shards.{ShardMeans}
+use Rattle.headline.proofs.Words.{AreSound, FoundHorizon, IsFound, IsOfOpening, IsRevived, IsThere, IsToldOver, Machine, Move, Moves, NodeName, NodeView, Opens, Record, Reopened, RestsOver, Revived, ShardMeans, Stands, State, WriteId, coordinator, coordinator_state, cut_to, found, last_sync, leaves_nothing_else, left, named, shard, shard_state, stops}
+use Rattle.records.specs.Coordinators.{end_of}
+use Rattle.device.specs.Device.{Leaves}
 use Rattle.turns.specs.ReopenLaws.{FindsCoordinator}
-use Rattle.turns.specs.Reopens.{FoundHorizon}
-use Rattle.turns.specs.RestartLaws.{cut_to}
-use Rattle.turns.specs.Runs.{IsOfOpening}
-use Rattle.turns.specs.Stands.{Stands}
-use Rattle.turns.specs.Stores.{AreSound, IsToldOver, RestsOver, stops}
 use Rattle.turns.proofs.ClosedStore.{closed_stores_stand}
-use Rattle.turns.proofs.ShardPrepareSeam.{last_sync}
-use Rattle.headline.specs.Shown.{named}
 use Rattle.headline.proofs.Closed.{closed_with, opening_wider, stands_told, stands_uncut, told_cut}
 use Rattle.headline.proofs.Places.{in_place}
 use Rattle.headline.proofs.Within.{found_again, less_left}

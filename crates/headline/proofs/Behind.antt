@@ -1,16 +1,9 @@
 -- The store that shows a world behind a call: its nodes as they then are, and other flows.
 use Rattle.std.proofs.Common.{◌≡◌, ◌≢◌, ⊎_elim, ◌==◌, ℕ, false, List, Option, Some, None, refl, sym, ◌∙◌, ap, if◌then◌else◌}
 use Rattle.std.proofs.lemmas.Bool.{cases_Bool, eq-eqb, eqb-true}
-use Rattle.tuples.specs.declared.entry.WriteId.{WriteId}
+use Rattle.headline.proofs.Words.{FlowView, IsNamed, IsNode, IsThere, NodeName, NodeState, NodeView, ShowsMemory, SlotTurns, Store, WriteId, coordinator, devices_of, named, node_at, shard, shown}
 use Rattle.calls.specs.Views as views
-use Rattle.calls.specs.Views.{NodeView, devices_of}
 use Rattle.names.specs.declared.node_name.NodeName.TheVariants.{Coordinator}
-use Rattle.laws.specs.Nodes.{IsThere, NodeName, NodeState, coordinator, shard}
-use Rattle.turns.specs.Stores.{FlowView, Store}
-use Rattle.call_turns.specs.StoreCalls.{IsNamed, IsNode, ShowsMemory, shown}
-use Rattle.call_turns.specs.StoreTurns.{SlotTurns}
-use Rattle.cluster.specs.Worlds.{node_at}
-use Rattle.headline.specs.Shown.{named}
 
 -- what a store shows of a node that is there
 abbrev devices_in : {D : Type 0} → Option (NodeView D) → D × D → D × D

@@ -1,37 +1,16 @@
 -- A cancel of the flow in a slot keeps the promise of a step: a write goes out, or on to its end, and any other flow is gone.
 use Rattle.std.proofs.Common.{◌≡◌, ◌≢◌, ⊎_elim, ℕ, true, false, List, [], Option, Some, None, MatchOption, is_some, refl, sym, ◌∙◌, ap, subst}
 use Rattle.std.proofs.lemmas.Bool.{cases_eq}
-use Rattle.device.specs.Device.{State, left}
-use Rattle.names.specs.declared.call_name.CallName.{CallName}
-use Rattle.commit_flow.specs.declared.end.WriteEnd.{WriteEnd}
-use Rattle.care_flow.specs.declared.care.CareFlow.{CareFlow}
+use Rattle.headline.proofs.Words.{Asked, CallName, Cancel, Care, CareFlow, Check, Flow, FlowView, Holds, IsIdle, IsShownFlow, IsShownSlot, Keeps, NamesHorizon, NodeName, Read, Running, RunsOne, Shows, SlotTurns, State, StepKeeps, Store, Watch, What, WorldView, Write, WriteEnd, Writing, all_told, asked_of, check_of, checking, events_of, flow_at, left, read_of, reading, running_at, shown_flow, shown_until, shows_care, watching}
 use Rattle.care_flow.specs.declared.care.CareFlow.TheVariants as cares
-use Rattle.laws.specs.Nodes.{NodeName}
-use Rattle.turns.specs.Flows.{Asked, Holds, checking, reading, watching}
-use Rattle.turns.specs.Moments.{Running, flow_at as running_at, is_write}
-use Rattle.turns.specs.Promises.{RunsOne, events_of}
+use Rattle.turns.specs.Moments.{is_write}
 use Rattle.turns.specs.Runs as runs
-use Rattle.turns.specs.Stores.{FlowView, NamesHorizon, Store}
-use Rattle.call_turns.specs.Steps.{shown_flow}
-use Rattle.call_turns.specs.StoreTurns.{SlotTurns}
 use Rattle.call_turns.proofs.Cancels.{cancelled_flows_end}
-use Rattle.write_turns.specs.Seen.{shown, shown_until}
+use Rattle.write_turns.specs.Seen.{shown}
 use Rattle.write_turns.proofs.Cancel.{cancels_run}
-use Rattle.care_turns.specs.CareTurns.{shows as shows_care}
-use Rattle.answer_turns.specs.AnswerTurns.{asked_of}
-use Rattle.answer_turns.specs.CheckTurns.{check_of}
-use Rattle.answer_turns.specs.ReadTurns.{read_of}
 use Rattle.cluster.specs.Cancels.{Cancels, CancelsWrite}
-use Rattle.cluster.specs.Steps.{CancelsIn, IsIdle}
-use Rattle.cluster.specs.Worlds.{Puts, WorldView, flow_at}
-use Rattle.cluster.specs.declared.event.What.{What}
-use Rattle.cluster.specs.declared.flow.Flow.{Flow}
-use Rattle.cluster.specs.declared.flow.Flow.TheVariants.{Write, Read, Check, Watch, Care}
-use Rattle.cluster.specs.declared.flow.Writing.{Writing}
-use Rattle.cluster.specs.declared.step.Step.TheVariants.{Cancel}
-use Rattle.headline.specs.Promised.{Keeps, StepKeeps}
-use Rattle.headline.specs.Shown.{IsShownFlow, IsShownSlot, Shows}
-use Rattle.headline.specs.Told.{all_told}
+use Rattle.cluster.specs.Steps.{CancelsIn}
+use Rattle.cluster.specs.Worlds.{Puts}
 use Rattle.headline.proofs.Behind.{at_slot, off_slot, slot_turns, with_slot}
 use Rattle.headline.proofs.Leaving.{names_on, not_ended, not_waiting}
 use Rattle.headline.proofs.Lifts.{shown_there}

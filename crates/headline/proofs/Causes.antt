@@ -1,21 +1,13 @@
 -- A node that was opened again is up, or its opening was refused with its cause.
 use Rattle.std.proofs.Common.{◌≡◌, ◌⊎◌, inl, inr, ⊎_elim, ◌≤◌, ◌+◌, ◌++◌, ℕ, Bool, false, List, [], ◌∷◌, Some, sym, ◌∙◌, ap, subst, arith, if◌then◌else◌}
-use Rattle.device.specs.Device.{HasFailed, State}
-use Rattle.refusal.specs.declared.refusal.Refusal.{Refusal}
-use Rattle.refusal.specs.declared.refusal.Refusal.TheVariants.{Down, Full}
-use Rattle.records.specs.declared.record.Record.{Record}
+use Rattle.headline.proofs.Words.{ComesUp, Down, Full, HasFailed, IsFound, IsRevived, NodeName, NodeState, NodeView, Opens, OpensWithCause, Record, Refusal, Reopened, State, coordinator, devices_of, down, found, named, refused, shard, shown, stops, up}
 use Rattle.records.specs.Replays.{greatest_number}
-use Rattle.journal.specs.Records.{IsOpened, LacksRoom, View, found}
+use Rattle.journal.specs.Records.{IsOpened, LacksRoom, View}
 use Rattle.calls.specs.Views as views
-use Rattle.calls.specs.Views.{NodeView, devices_of}
-use Rattle.cluster.specs.Nodes.{IsFound, IsRevived, Opens, Reopened}
-use Rattle.laws.specs.Nodes.{NodeName, NodeState, coordinator, down, epoch_of, opening_record, refused, shard, up}
-use Rattle.turns.specs.Promises.{ComesUp, HasDeviceCause, OpensWithCause}
+use Rattle.laws.specs.Nodes.{epoch_of, opening_record}
+use Rattle.turns.specs.Promises.{HasDeviceCause}
 use Rattle.turns.specs.ShardOpeningLaws.{AreRevived}
-use Rattle.turns.specs.Stores.{stops}
 use Rattle.turns.proofs.Rooms.{openings_without_room_have_cause}
-use Rattle.call_turns.specs.StoreCalls.{shown}
-use Rattle.headline.specs.Shown.{named}
 
 -- a device that failed since it was revived failed since before
 failed_before : (x y z : State) → x.failures ≤ y.failures → HasFailed y z → HasFailed x z

@@ -2,18 +2,9 @@
 use Rattle.std.proofs.Common.{◌≡◌, ◌+◌, ◌++◌, ℕ, List, [], ◌∷◌, map, Option, Some, None, refl, sym, ◌∙◌, ap, subst}
 use Rattle.std.proofs.lemmas.List.{map-append}
 use Rattle.std.proofs.lemmas.List.Elements.{All-head, All-tail}
-use Rattle.device.specs.Device.{State}
-use Rattle.turns.specs.Moments.{Moment}
-use Rattle.turns.specs.Promises.{RunsAll, events_of}
+use Rattle.headline.proofs.Words.{Event, IsWholeStep, Moment, RunsAll, RunsKeep, Shows, StandsOver, State, StepsKeep, Store, What, WorldView, all_told, event_of, events_of, step_of}
 use Rattle.turns.specs.Runs as runs
-use Rattle.turns.specs.Stores.{StandsOver, Store}
 use Rattle.cluster.specs.Steps.{events_of as told_events}
-use Rattle.cluster.specs.Worlds.{WorldView}
-use Rattle.cluster.specs.declared.event.Event.{Event}
-use Rattle.cluster.specs.declared.event.What.{What}
-use Rattle.headline.specs.Promised.{RunsKeep, StepsKeep}
-use Rattle.headline.specs.Shown.{Shows}
-use Rattle.headline.specs.Told.{IsWholeStep, all_told, event_of, step_of}
 
 -- what one step tells, as the laws say it
 one_told : (number : ℕ) (told : Option What) → map event_of (told_events number told) ≡ events_of number (all_told told)

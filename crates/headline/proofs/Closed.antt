@@ -1,27 +1,12 @@
 -- A store that is closed stands with all nodes down, at what its coordinator is found to hold, or at all of its log.
 use Rattle.std.proofs.Common.{◌≡◌, ⊎_elim, ◌≤◌, ◌<◌, ◌++◌, ℕ, List, [], ◌∷◌, take, Option, Some, None, slice_get, Contains, All, refl, sym, ◌∙◌, subst, arith, append-nil}
 use Rattle.std.proofs.lemmas.List.Elements.{All-nil}
-use Rattle.tuples.specs.declared.entry.Entry.{Entry}
-use Rattle.tuples.specs.declared.entry.WriteId.{WriteId}
-use Rattle.refusal.specs.declared.refusal.Refusal.{Refusal}
-use Rattle.records.specs.declared.record.Record.{Record}
-use Rattle.records.specs.Coordinators.{coordinator_state}
-use Rattle.records.specs.Replays.{find_in_doubt, shard_state}
-use Rattle.decisions.specs.Standing.{IsGivenOut}
-use Rattle.laws.specs.Machines.{Machine, Move, Moves, append, cut, keep, raise}
-use Rattle.laws.specs.Nodes.{NodeName, coordinator, down, leaves, refused, shard, up}
+use Rattle.headline.proofs.Words.{Entry, IsGivenOut, IsOfOpening, Machine, Moment, Move, Moves, NodeName, Record, Refusal, Rests, ShardMeans, Stands, WasGiven, WriteId, append, at_shards, closed_nodes, contained_at, coordinator, coordinator_state, cut, down, keep, leaves, less_rests, raise, refused, shard, shard_node, shard_state, slice_get_taken, up}
+use Rattle.records.specs.Replays.{find_in_doubt}
 use Rattle.laws.specs.ShardLaws.{IsUnlistedAbove}
-use Rattle.laws.specs.Shards.{ShardMeans}
-use Rattle.laws.specs.Worlds.{Rests, shard_node}
-use Rattle.laws.proofs.LessLeft.{less_rests}
-use Rattle.laws.proofs.Lists.{slice_get_taken}
 use Rattle.laws.proofs.Locks.{doubts_apart, not_found}
-use Rattle.turns.specs.Held.{IsRightVerdict, WasGiven}
-use Rattle.turns.specs.Moments.{Moment}
-use Rattle.turns.specs.ReopenLaws.{closed_at, closed_nodes}
-use Rattle.turns.specs.Runs.{IsOfOpening}
-use Rattle.turns.specs.Stands.{Stands, at_shards}
-use Rattle.turns.proofs.ShardStagesStands.{contained_at}
+use Rattle.turns.specs.Held.{IsRightVerdict}
+use Rattle.turns.specs.ReopenLaws.{closed_at}
 
 -- the same with these ids, of which somebody was told
 abbrev pub closed_with : Machine → List WriteId → Moment

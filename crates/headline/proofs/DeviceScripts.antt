@@ -2,24 +2,12 @@
 use Rattle.std.proofs.Common.{◌≡◌, ◌≢◌, ⊎_elim, ℕ, List, length, Option, Some, None, MatchOption, refl, sym, ◌∙◌, ap, subst, if◌then◌else◌}
 use Rattle.std.proofs.Math.Path.{fun_ext}
 use Rattle.std.proofs.lemmas.List.{length-set}
-use Rattle.device.specs.Device.{Keeps, State, left}
-use Rattle.device.specs.declared.tear.Tear.{Tear}
-use Rattle.journal.specs.Records.{Finds}
-use Rattle.journal.specs.declared.refused.Bank.{Bank}
-use Rattle.records.specs.declared.record.Record.{Record}
+use Rattle.headline.proofs.Words.{Bank, Finds, IsHorizonIn, IsNamed, IsNode, IsThere, Moment, NamesHorizon, NodeName, NodeView, Record, Shows, ShowsMemory, Stands, StandsOver, State, Store, Tear, WorldView, coordinator, devices_of, down, index_of, left, named, node_at, node_cases, refused, shard, shown, stops, up}
+use Rattle.device.specs.Device.{Keeps}
 use Rattle.calls.specs.Failing.{DevicesAreSet, NodeIsSet}
 use Rattle.calls.specs.Views as views
-use Rattle.calls.specs.Views.{NodeView, devices_of}
 use Rattle.names.specs.declared.node_name.NodeName.TheVariants.{Coordinator, Shard}
-use Rattle.laws.specs.Nodes.{IsThere, NodeName, coordinator, down, refused, shard, up}
-use Rattle.turns.specs.Moments.{Moment}
-use Rattle.turns.specs.Stands.{IsHorizonIn, Stands}
-use Rattle.turns.specs.Stores.{NamesHorizon, StandsOver, Store, stops}
-use Rattle.call_turns.specs.StoreCalls.{IsNamed, IsNode, ShowsMemory, shown}
-use Rattle.call_turns.proofs.Made.{node_cases}
 use Rattle.cluster.specs.Nodes.{IsSetIn}
-use Rattle.cluster.specs.Worlds.{WorldView, index_of, node_at}
-use Rattle.headline.specs.Shown.{Shows, named}
 use Rattle.headline.specs.DeviceScripts.{ScriptsKeep, StandsAsBefore}
 use Rattle.headline.proofs.Behind.{behind, same_at, same_devices, shows_node}
 use Rattle.headline.proofs.Nodes.{IsPut, is_put}

@@ -2,24 +2,14 @@
 use Rattle.std.proofs.Common.{◌≡◌, ◌≢◌, ⊎_elim, ◌==◌, ℕ, true, true≢false, List, [], ◌∷◌, Option, Some, None, Contains, slice_get, sym, ◌∙◌, ap, subst, arith, if◌then◌else◌}
 use Rattle.std.proofs.lemmas.Bool.{cases_Bool, eq-eqb}
 use Rattle.std.proofs.lemmas.Option.{same_Some}
-use Rattle.tuples.specs.declared.entry.WriteId.{WriteId}
-use Rattle.refusal.specs.declared.refusal.Refusal.{Refusal}
+use Rattle.headline.proofs.Words.{Asked, DecidesNothing, EndsAs, Holds, IfRunning, IsPast, IsUnlisted, MayRise, Moment, NamesHorizon, NodeName, Ran, Record, Refusal, Running, StandsOver, State, Store, Turns, WasGiven, WriteId, among, checking, contained_at, ended, found_at, id_of, ran_before, reading, refuses, replaced, stops, to_check, to_collect, to_flush, to_learn, to_raise, to_read, to_resolve, to_watch, to_write, turn, watching}
 use Rattle.refusal.specs.declared.refusal.Refusal.TheVariants.{Unsure}
-use Rattle.device.specs.Device.{State}
-use Rattle.records.specs.declared.record.Record.{Record}
-use Rattle.laws.specs.LogLaws.{IsUnlisted}
-use Rattle.laws.specs.Nodes.{NodeName}
-use Rattle.turns.specs.Flows.{Asked, Holds, checking, collecting, flushing, id_of, learning, raising, reading, resolving, to_check, to_collect, to_flush, to_learn, to_raise, to_read, to_resolve, to_watch, to_write, watching, writing}
-use Rattle.turns.specs.Held.{IsRight, WasGiven}
-use Rattle.turns.specs.Moments.{Moment, Running, ended, flow_at, replaced}
-use Rattle.turns.specs.Promises.{Ran}
-use Rattle.turns.specs.Runs.{Event, DecidesNothing, EndsAs, IfRunning, MayRise, Turns, refuses, turn}
-use Rattle.turns.specs.Stores.{NamesHorizon, StandsOver, Store, stops}
-use Rattle.turns.proofs.FlowBegins.{among}
-use Rattle.turns.proofs.FlowEnds.{ran_before}
-use Rattle.turns.proofs.ShardStagesStands.{contained_at}
-use Rattle.call_turns.proofs.Slots.{at_ended, at_replaced, found_at}
-use Rattle.headline.specs.PastWrites.{CancelledWritesArePast, IsPast, RefusedWritesArePast}
+use Rattle.turns.specs.Flows.{collecting, flushing, learning, raising, resolving, writing}
+use Rattle.turns.specs.Held.{IsRight}
+use Rattle.turns.specs.Moments.{flow_at}
+use Rattle.turns.specs.Runs.{Event}
+use Rattle.call_turns.proofs.Slots.{at_ended, at_replaced}
+use Rattle.headline.specs.PastWrites.{CancelledWritesArePast, RefusedWritesArePast}
 use Rattle.headline.proofs.PastWrites.{coordinator_stays, given_by_it, more_given, no_value, quiet_on}
 
 -- a flow that runs in a slot is found there

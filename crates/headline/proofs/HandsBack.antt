@@ -1,16 +1,9 @@
 -- An opening that ends for lack of memory has touched no device: they rest where they rested.
 use Rattle.std.proofs.Common.{inl, ℕ, List, [], refl}
 use Rattle.std.proofs.lemmas.List.Elements.{All-nil}
-use Rattle.device.specs.Device.{State, left}
-use Rattle.records.specs.declared.record.Record.{Record}
-use Rattle.laws.specs.Machines.{Machine}
-use Rattle.laws.specs.Nodes.{IsThere, NodeName, coordinator, shard}
+use Rattle.headline.proofs.Words.{FoundHorizon, IsOfOpening, IsThere, Machine, NodeName, Record, RestsOver, State, at_shards, coordinator, left, shard, stops, stops_since}
 use Rattle.laws.specs.Stops.{RestsBetween}
-use Rattle.turns.specs.Promises.{stops_since}
-use Rattle.turns.specs.Reopens.{FoundHorizon, HandsBack}
-use Rattle.turns.specs.Runs.{IsOfOpening}
-use Rattle.turns.specs.Stands.{at_shards}
-use Rattle.turns.specs.Stores.{RestsOver, stops}
+use Rattle.turns.specs.Reopens.{HandsBack}
 
 module _ {D : Type 0} (state : D → State) (honest : D → Type 0) (moment : D → ℕ) (left_since : D → ℕ → List ℕ → Type 0)
     (only_now : (d : D) (c : List ℕ) → honest d → left_since d (moment d) c → left (state d) c) (store shards : ℕ) (devices : NodeName → D × D) where

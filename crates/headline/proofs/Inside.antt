@@ -1,23 +1,11 @@
 -- At every moment since some nodes were opened again a stop leaves of each what it could leave before, or that with the record of an opening.
 use Rattle.std.proofs.Common.{◌≡◌, ◌⊎◌, inl, inr, ⊎_elim, ◌≤◌, ◌+◌, ◌++◌, ℕ, List, [], ◌∷◌, Some, refl, sym, ◌∙◌, ap, subst, arith, append-nil}
 use Rattle.std.proofs.lemmas.Option.{same_Some}
-use Rattle.tuples.specs.declared.entry.WriteId.{WriteId}
-use Rattle.records.specs.declared.record.Record.{Record}
-use Rattle.records.specs.declared.record.Record.TheVariants.{Epoch}
-use Rattle.records.specs.Coordinators.{CoordinatorState, IsCoordinatorImage, MayOpenAgain, coordinator_state, coordinator_step}
-use Rattle.records.specs.Replays.{shard_state}
-use Rattle.device.specs.Device.{State, left}
-use Rattle.journal.specs.Records.{found}
-use Rattle.decisions.specs.Standing.{IsGivenOut}
-use Rattle.laws.specs.Machines.{Machine}
-use Rattle.laws.specs.Nodes.{IsThere, NodeName, Nodes, coordinator, leaves, shard, staged_of}
-use Rattle.laws.specs.Worlds.{Rests, coordinator_node}
-use Rattle.laws.proofs.CoordinatorStates.{coordinator_last, coordinator_push}
-use Rattle.calls.specs.Views.{NodeView, devices_of}
-use Rattle.turns.specs.Promises.{StopsBetween, stops_since}
+use Rattle.headline.proofs.Words.{AreSound, CoordinatorState, Epoch, IsCoordinatorImage, IsGivenOut, IsHorizonIn, IsThere, Machine, NodeName, NodeView, Nodes, Record, Rests, State, WriteId, at_shards, coordinator, coordinator_node, coordinator_push, coordinator_state, devices_of, found, leaves, left, shard, shard_state, staged_of, stops, stops_since}
+use Rattle.records.specs.Coordinators.{MayOpenAgain, coordinator_step}
+use Rattle.laws.proofs.CoordinatorStates.{coordinator_last}
+use Rattle.turns.specs.Promises.{StopsBetween}
 use Rattle.turns.specs.RestartLaws.{IsReopenedCoordinator, IsReopenedShard}
-use Rattle.turns.specs.Stands.{IsHorizonIn, at_shards}
-use Rattle.turns.specs.Stores.{AreSound, stops}
 use Rattle.turns.proofs.StopInside.{each_within}
 use Rattle.headline.proofs.Reopening.{AreOver, image_of, opening_of}
 use Rattle.headline.proofs.Within.{IsLonger, WasOrIsLonger, opened_now, opened_since}

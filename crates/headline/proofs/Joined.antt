@@ -1,13 +1,7 @@
 -- Openings and steps joined: each step keeps its promise, a list of them is a chain, and a store that is opened and takes a list lives.
 use Rattle.std.proofs.Common.{◌≤◌, ℕ, List, map, sym, subst}
-use Rattle.device.specs.Device.{State, left}
-use Rattle.cluster.specs.declared.step.Step.TheVariants.{Cancel, Care as care_for, Restart, Start, Turn}
-use Rattle.turns.specs.Promises.{RunsAll}
-use Rattle.turns.specs.Stores.{StandsOver}
+use Rattle.headline.proofs.Words.{Cancel, Restart, RunsAll, RunsKeep, StandsOver, Start, State, StepsKeep, Turn, care_for, closed_stores_rest, event_of, left, step_of}
 use Rattle.turns.proofs.Chains.{chains_run}
-use Rattle.turns.proofs.ClosedStoreRests.{closed_stores_rest}
-use Rattle.headline.specs.Promised.{RunsKeep, StepsKeep}
-use Rattle.headline.specs.Told.{event_of, step_of}
 use Rattle.headline.proofs.Restart.{restarts_keep}
 use Rattle.headline.proofs.Whole.{openings_keep}
 use Rattle.headline.proofs.AllTurns.{turns_keep}

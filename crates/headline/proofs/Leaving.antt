@@ -1,11 +1,7 @@
 -- How a flow is left behind its turn: it goes on where a call of it comes next, and is gone where none does.
 use Rattle.std.proofs.Common.{◌≡◌, ◌≢◌, ℕ, List, Option, Some, None, MatchOption, refl, subst}
-use Rattle.names.specs.declared.call_name.CallName.{CallName}
-use Rattle.cluster.specs.declared.event.What.{What}
-use Rattle.cluster.specs.declared.flow.Flow.{Flow}
+use Rattle.headline.proofs.Words.{CallName, Flow, GoesOn, HasGone, Leaves, What, flow_at}
 use Rattle.cluster.specs.Flows.{NamesNext, next_name_of}
-use Rattle.cluster.specs.Steps.{GoesOn, HasGone, Leaves}
-use Rattle.cluster.specs.Worlds.{flow_at}
 
 module _ (old : List (Option Flow)) (slot : ℕ) (later : Flow) (told : Option What) (new : List (Option Flow)) (l : Leaves old slot later told new) where
   pub goes_on : next_name_of later ≢ None → (name : CallName) × GoesOn old slot later name told new

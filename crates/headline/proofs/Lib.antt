@@ -1,3 +1,4 @@
+mod Words
 pub mod Nodes
 pub mod Behind
 pub mod Stays

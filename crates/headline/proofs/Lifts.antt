@@ -2,34 +2,12 @@
 use Rattle.std.proofs.Common.{◌≡◌, ◌≢◌, ⊎_elim, ℕ, List, length, Option, Some, None, MatchOption, set, refl, sym, ◌∙◌, ap, subst}
 use Rattle.std.proofs.lemmas.Bool.{cases_eq}
 use Rattle.std.proofs.lemmas.List.{length-set}
-use Rattle.device.specs.Device.{State}
-use Rattle.refusal.specs.declared.refusal.Refusal.TheVariants.{Damaged}
-use Rattle.calls.specs.Asking.{Answered, Refuses}
+use Rattle.headline.proofs.Words.{Answered, Damaged, Flow, FlowView, Identity, IsCalled, IsNamed, IsNode, IsShownFlow, IsShownSlot, IsThere, Keeps, KeepsMemory, Moment, NodeCall, NodeName, NodeView, Ran, Refuses, Reply, Shows, SlotTurns, StandsOver, State, Store, Told, Turn, What, WorldView, all_told, called, coordinator, events_of, flow_at, index_of, named, node_at, node_cases, node_of, of_coordinator, of_shard, shard, turn}
 use Rattle.calls.specs.Belonging.{IsNodeOf}
-use Rattle.calls.specs.Names.{node_of}
 use Rattle.calls.specs.Views as views
-use Rattle.calls.specs.Views.{NodeView}
-use Rattle.calls.specs.declared.call.NodeCall.{NodeCall}
-use Rattle.calls.specs.declared.call.NodeCall.TheVariants.{Coordinator as of_coordinator, Shard as of_shard}
-use Rattle.calls.specs.declared.reply.Reply.{Reply}
-use Rattle.records.specs.Identity.{Identity}
-use Rattle.laws.specs.Nodes.{IsThere, NodeName, coordinator, shard}
-use Rattle.turns.specs.Moments.{Moment}
-use Rattle.turns.specs.Promises.{Ran, events_of}
-use Rattle.turns.specs.Runs.{Told, turn}
-use Rattle.turns.specs.Stores.{FlowView, StandsOver, Store}
-use Rattle.call_turns.specs.StoreCalls.{IsCalled, IsNamed, IsNode, KeepsMemory, called}
-use Rattle.call_turns.specs.StoreTurns.{SlotTurns, TurnRuns}
+use Rattle.call_turns.specs.StoreTurns.{TurnRuns}
 use Rattle.call_turns.proofs.Fails.{failed_calls_have_cause}
-use Rattle.call_turns.proofs.Made.{node_cases}
 use Rattle.cluster.specs.Nodes.{AnsweredBy, Called}
-use Rattle.cluster.specs.Worlds.{WorldView, flow_at, index_of, node_at}
-use Rattle.cluster.specs.declared.event.What.{What}
-use Rattle.cluster.specs.declared.flow.Flow.{Flow}
-use Rattle.cluster.specs.declared.step.Step.TheVariants.{Turn}
-use Rattle.headline.specs.Promised.{Keeps}
-use Rattle.headline.specs.Shown.{IsShownFlow, IsShownSlot, Shows, named}
-use Rattle.headline.specs.Told.{all_told}
 use Rattle.headline.proofs.Behind.{at_slot, behind, off_slot, same_at, same_devices, same_memory, shows_node, slot_turns, with_slot}
 use Rattle.headline.proofs.Nodes.{IsPut, is_put, named_called, node_there}
 use Rattle.headline.proofs.Stays.{keeps_name}

@@ -1,13 +1,7 @@
 -- What a store shows of a node that was opened: its name, and what lies in its memory alone.
 use Rattle.std.proofs.Common.{◌≡◌, ◌≢◌, ⊎_elim, ℕ, List, refl, sym, ◌∙◌, subst}
-use Rattle.device.specs.Device.{State}
+use Rattle.headline.proofs.Words.{IsNamed, NodeName, NodeView, Opens, Reopened, ShowsMemory, State, Store, coordinator, devices_of, named, shard, shown}
 use Rattle.calls.specs.Views as views
-use Rattle.calls.specs.Views.{NodeView, devices_of}
-use Rattle.cluster.specs.Nodes.{Opens, Reopened}
-use Rattle.laws.specs.Nodes.{NodeName, coordinator, shard}
-use Rattle.turns.specs.Stores.{Store}
-use Rattle.call_turns.specs.StoreCalls.{IsNamed, ShowsMemory, shown}
-use Rattle.headline.specs.Shown.{named}
 use Rattle.headline.proofs.Places.{in_place}
 use Rattle.headline.proofs.Stepped.{given_behind, ids_behind}
 

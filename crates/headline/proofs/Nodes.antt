@@ -1,13 +1,6 @@
 -- The nodes of a world behind a call of one of them.
 use Rattle.std.proofs.Common.{◌≡◌, ◌≢◌, ◌<◌, ◌+◌, ℕ, zero, suc, List, [], ◌∷◌, length, Some, None, slice_get, set, refl, sym, ◌∙◌, ap, arith}
-use Rattle.calls.specs.Views.{NodeView}
-use Rattle.calls.specs.Names.{node_of}
-use Rattle.calls.specs.declared.call.NodeCall.{NodeCall}
-use Rattle.calls.specs.declared.call.NodeCall.TheVariants.{Coordinator as of_coordinator, Shard as of_shard}
-use Rattle.laws.specs.Nodes.{IsThere, NodeName, coordinator, shard}
-use Rattle.call_turns.specs.StoreCalls.{called}
-use Rattle.cluster.specs.Worlds.{index_of, node_at}
-use Rattle.headline.specs.Shown.{named}
+use Rattle.headline.proofs.Words.{IsThere, NodeCall, NodeName, NodeView, called, coordinator, index_of, named, node_at, node_of, of_coordinator, of_shard, shard}
 
 -- what is put at a place of a list stands there, and each other element in its own
 at_place : {X : Type 0} (xs : List X) (i : ℕ) (x : X) → i < length xs → slice_get (set xs i x) i ≡ Some x

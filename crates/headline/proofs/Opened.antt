@@ -2,27 +2,10 @@
 use Rattle.std.proofs.Common.{◌≡◌, ◌≢◌, ◌⊎◌, inl, inr, ⊎_elim, ◌≤◌, ◌<◌, ◌++◌, ℕ, zero, suc, List, [], get_or, length, map, refl, sym, ◌∙◌, ap, subst, arith}
 use Rattle.std.proofs.lemmas.Bool.{cases_lt}
 use Rattle.std.proofs.lemmas.List.Elements.{All-append}
-use Rattle.tuples.specs.declared.entry.Entry.{Entry}
-use Rattle.tuples.specs.declared.entry.WriteId.{WriteId}
-use Rattle.refusal.specs.declared.refusal.Refusal.{Refusal}
-use Rattle.records.specs.declared.record.Record.{Record}
-use Rattle.records.specs.Coordinators.{CoordinatorState}
-use Rattle.device.specs.Device.{State, left}
-use Rattle.calls.specs.Views.{NodeView, devices_of}
-use Rattle.cluster.specs.Nodes.{Reopened}
-use Rattle.laws.specs.Machines.{Machine, Move, Moves}
-use Rattle.laws.specs.Nodes.{CoordinatorKnows, IsOfRefusedOpening, IsThere, NodeName, NodeState, coordinator, down, refused, shard, up}
-use Rattle.turns.specs.Moments.{Moment}
-use Rattle.turns.specs.ReopenLaws.{closed_nodes}
-use Rattle.turns.specs.Reopens.{FoundHorizon, IsOpenedFrom}
+use Rattle.headline.proofs.Words.{AreSound, CoordinatorKnows, CoordinatorState, Entry, FoundHorizon, IsHorizonIn, IsOfOpening, IsOfRefusedOpening, IsThere, Machine, MayRise, Moment, Move, Moves, NodeName, NodeState, NodeView, OpensAs, Record, Refusal, Reopened, Stands, State, Told, WriteId, closed_nodes, coordinator, devices_of, down, left, named, node_cases, refused, shard, shown, stops, up}
+use Rattle.turns.specs.Reopens.{IsOpenedFrom}
 use Rattle.turns.specs.Runs as runs
-use Rattle.turns.specs.Runs.{IsOfOpening, MayRise, OpensAs, Told}
-use Rattle.turns.specs.Stands.{IsHorizonIn, Stands}
-use Rattle.turns.specs.Stores.{AreSound, stops}
 use Rattle.turns.proofs.ShardStages.{shard_number}
-use Rattle.call_turns.specs.StoreCalls.{shown}
-use Rattle.call_turns.proofs.Made.{node_cases}
-use Rattle.headline.specs.Shown.{named}
 use Rattle.headline.proofs.Begun.{Begins}
 use Rattle.headline.proofs.Closed.{closed_with, moves_join, only_left, opening_wider}
 use Rattle.headline.proofs.Inside.{HoldsOn, holds_opened, holds_still, sound_now}

@@ -2,29 +2,16 @@
 use Rattle.std.proofs.Common.{◌≡◌, ◌≢◌, ◌⊎◌, inl, inr, ⊎_elim, ◌≤◌, ◌<◌, ◌+◌, ◌==◌, ◌++◌, ℕ, zero, suc, Bool, true, false, List, [], ◌∷◌, Option, Some, None, Contains, All, slice_get, refl, sym, ◌∙◌, ap, subst, arith, append_assoc, if◌then◌else◌}
 use Rattle.std.proofs.lemmas.List.{append-nil}
 use Rattle.std.proofs.lemmas.List.Elements.{Contains-append_right}
-use Rattle.tuples.specs.declared.entry.Entry.{Entry}
-use Rattle.tuples.specs.declared.entry.WriteId.{WriteId}
-use Rattle.device.specs.Device.{State}
-use Rattle.records.specs.declared.record.Record.{Record}
-use Rattle.records.specs.declared.record.Record.TheVariants.{Epoch}
-use Rattle.records.specs.Coordinators.{CoordinatorState, coordinator_state, coordinator_step}
-use Rattle.laws.specs.LogLaws.{IsUnlisted}
-use Rattle.laws.specs.Machines.{Machine, Move, Moves, append, cut, keep, raise}
-use Rattle.laws.specs.Nodes.{CoordinatorKnows, IsGivenBy, NodeName, NodeState, NodeTurns, Nodes, SameBut, coordinator, down, refused, shard, up}
-use Rattle.laws.proofs.CoordinatorStates.{coordinator_push}
+use Rattle.headline.proofs.Words.{Asked, CoordinatorKnows, CoordinatorState, DecidesNothing, EndsAs, Entry, Epoch, IfRunning, IsOfOpening, IsPast, IsUnlisted, Machine, MayRise, Moment, Move, Moves, NamesHorizon, NodeName, NodeState, Nodes, Ran, Record, Restarts, Running, StandsOver, State, Store, Told, Turns, WriteId, alone, among, answered, append, coordinator, coordinator_push, coordinator_state, cut, down, ended, found_at, id_of, keep, nothing_held, raise, ran_before, refused, refuses, reopened, replaced, restart, shard, to_check, to_collect, to_flush, to_learn, to_raise, to_read, to_resolve, to_watch, to_write, turn, up}
+use Rattle.records.specs.Coordinators.{coordinator_step}
+use Rattle.laws.specs.Nodes.{IsGivenBy, NodeTurns, SameBut}
 use Rattle.laws.proofs.Lists.{slice_get_push}
-use Rattle.turns.specs.Flows.{Asked, id_of, nothing_held, to_check, to_collect, to_flush, to_learn, to_raise, to_read, to_resolve, to_watch, to_write}
-use Rattle.turns.specs.Moments.{Moment, Running, begun, ended, flow_at, reopened, replaced}
-use Rattle.turns.specs.Promises.{Ran}
-use Rattle.turns.specs.Runs.{Decides, Event, DecidesNothing, EndsAs, IfRunning, IsCancelled, IsOfOpening, IsQuiet, MayRise, OpenTurns, Restarts, Step, Takes, Told, Turns, answered, began, came_up, cancel, goes_on, refuses, restart, start, turn}
-use Rattle.turns.specs.Stores.{NamesHorizon, StandsOver, Store}
+use Rattle.turns.specs.Moments.{begun, flow_at}
+use Rattle.turns.specs.Runs.{Decides, Event, IsCancelled, IsQuiet, OpenTurns, Step, Takes, began, came_up, cancel, goes_on, start}
 use Rattle.turns.proofs.Answers.{replays}
 use Rattle.turns.proofs.DecisionNodes.{epoch_stays}
-use Rattle.turns.proofs.FlowBegins.{alone, among}
-use Rattle.turns.proofs.FlowEnds.{ran_before}
 use Rattle.turns.proofs.RunLogs.{opened_log}
-use Rattle.call_turns.proofs.Slots.{found_at}
-use Rattle.headline.specs.PastWrites.{IsPast, PastWritesAreNeverListed, PastWritesStay}
+use Rattle.headline.specs.PastWrites.{PastWritesAreNeverListed, PastWritesStay}
 
 -- a flow of a list in which one was replaced is that one, or was there
 in_replaced : (later : Running) (rs : List Running) (q : Running) → Contains (replaced later rs) q → (q ≡ later) ⊎ Contains rs q

@@ -1,7 +1,7 @@
 -- What stands at one node in place of what stood there.
 use Rattle.std.proofs.Common.{◌≡◌, ◌≢◌, ⊎_elim, ◌==◌, refl, ap, if◌then◌else◌}
 use Rattle.std.proofs.lemmas.Bool.{cases_Bool, eq-eqb, eqb-true}
-use Rattle.laws.specs.Nodes.{NodeName, coordinator, shard}
+use Rattle.headline.proofs.Words.{NodeName, coordinator, shard}
 
 -- this at the node, and at the others what was there
 abbrev pub in_place : {X : Type 0} → NodeName → X → (NodeName → X) → NodeName → X

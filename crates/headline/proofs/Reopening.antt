@@ -1,19 +1,10 @@
 -- What the contract of an opening says of the devices that it left.
 use Rattle.std.proofs.Common.{◌≡◌, inl, inr, ⊎_elim, ◌≤◌, ◌↔◌, ℕ, List, sym, ap, subst}
-use Rattle.device.specs.Device.{State, left}
-use Rattle.journal.specs.Records.{LeavesBoth}
-use Rattle.refusal.specs.declared.refusal.Refusal.TheVariants.{Down}
-use Rattle.records.specs.declared.record.Record.{Record}
-use Rattle.records.specs.Coordinators.{IsCoordinatorImage}
+use Rattle.headline.proofs.Words.{Down, IsCoordinatorImage, IsFound, IsRevived, LeavesBoth, NodeName, NodeView, Opens, Record, Reopened, State, coordinator, coordinator_node, devices_of, left, named, shard, shard_node}
 use Rattle.records.specs.Replays.{IsShardImage}
 use Rattle.decisions.specs.Coordinators.{coordinator_opening}
 use Rattle.shard.specs.Shards.{opening}
 use Rattle.calls.specs.Views as views
-use Rattle.calls.specs.Views.{NodeView, devices_of}
-use Rattle.cluster.specs.Nodes.{IsFound, IsRevived, Opens, Reopened}
-use Rattle.laws.specs.Nodes.{NodeName, coordinator, shard}
-use Rattle.laws.specs.Worlds.{coordinator_node, shard_node}
-use Rattle.headline.specs.Shown.{named}
 use Rattle.headline.proofs.Within.{AreOpenedOver, WasLeftOrLonger}
 
 -- what the records of the node are, and the record of an opening of it

@@ -1,26 +1,12 @@
 -- A restart of a node keeps the promise of a step.
 use Rattle.std.proofs.Common.{◌≡◌, ◌≢◌, inl, inr, ⊎_elim, ◌≤◌, ◌++◌, ℕ, List, [], ◌∷◌, Option, Some, None, MatchOption, slice_set, refl, sym, ◌∙◌, ap, subst}
 use Rattle.std.proofs.lemmas.List.{length-set}
-use Rattle.device.specs.Device.{State, left}
-use Rattle.calls.specs.Views.{NodeView, devices_of}
+use Rattle.headline.proofs.Words.{FlowView, IsIdle, IsNode, IsThere, Moment, NamesHorizon, NodeName, NodeState, NodeView, OpensAs, OpensWithCause, Ran, Reopened, Restart, Restarts, Running, RunsOne, Shows, ShowsSlot, StandsOver, State, StepKeeps, Store, Told, What, WorldView, all_told, coordinator, devices_of, down, events_of, index_of, inside_by, left, named, node_at, node_cases, refused, restart, shard, shown, staged_of, still_given, still_within, stops, up}
 use Rattle.names.specs.declared.node_name.NodeName as names
 use Rattle.names.specs.declared.node_name.NodeName.TheVariants as called
-use Rattle.cluster.specs.Nodes.{Reopened}
-use Rattle.cluster.specs.Steps.{IsIdle, RestartsIn, Takes}
-use Rattle.cluster.specs.Worlds.{WorldView, index_of, node_at}
-use Rattle.cluster.specs.declared.event.What.{What}
-use Rattle.cluster.specs.declared.step.Step.TheVariants.{Restart}
-use Rattle.laws.specs.Nodes.{IsThere, NodeName, NodeState, coordinator, down, refused, shard, staged_of, up}
-use Rattle.turns.specs.Moments.{Moment, Running, flow_at}
-use Rattle.turns.specs.Promises.{OpensWithCause, Ran, RunsOne, events_of}
+use Rattle.cluster.specs.Steps.{RestartsIn, Takes}
+use Rattle.turns.specs.Moments.{flow_at}
 use Rattle.turns.specs.Runs as runs
-use Rattle.turns.specs.Runs.{OpensAs, Restarts, Told, restart}
-use Rattle.turns.specs.Stores.{FlowView, NamesHorizon, ShowsSlot, StandsOver, Store, stops}
-use Rattle.call_turns.specs.StoreCalls.{IsNode, shown}
-use Rattle.call_turns.proofs.Made.{inside_by, node_cases, still_given, still_within}
-use Rattle.headline.specs.Promised.{StepKeeps}
-use Rattle.headline.specs.Shown.{Shows, named}
-use Rattle.headline.specs.Told.{all_told}
 use Rattle.headline.proofs.Causes.{opens_with_cause}
 use Rattle.headline.proofs.Inside.{HoldsOn, given_still, holds_opened, holds_still, inside, now_left, old_horizon, sound_now}
 use Rattle.headline.proofs.Lists.{is_somewhere, places_apart, set_elsewhere, set_here, shows_reopened}

@@ -5,11 +5,7 @@ use Rattle.std.proofs.Math.Dec.{eqb}
 use Rattle.std.proofs.lemmas.Bool.{cases_Bool, eqb-true}
 use Rattle.std.proofs.lemmas.List.Elements.{Contains-append_right}
 use Rattle.std.proofs.lemmas.List.Recursion.{is_count_by}
-use Rattle.turns.specs.Stores.{FlowView}
-use Rattle.turns.proofs.FlowBegins.{alone, among}
-use Rattle.cluster.specs.Worlds.{flow_at, flow_count}
-use Rattle.cluster.specs.declared.flow.Flow.{Flow}
-use Rattle.headline.specs.Shown.{IsShownSlot}
+use Rattle.headline.proofs.Words.{Flow, FlowView, IsShownSlot, alone, among, flow_at, flow_count}
 
 -- those from a number on
 slots_from : ℕ → List (Option Flow) → List ℕ

@@ -3,41 +3,23 @@
 -- headline asks for can be met at once.
 use Rattle.std.proofs.Common.{◌≡◌, ◌≢◌, inl, inr, ◌≤◌, ℕ, zero, suc, false, true, true≢false, List, [], ◌∷◌, length, Option, Err, Some, None, All, refl, sym, ◌∙◌, arith}
 use Rattle.std.proofs.lemmas.List.Elements.{All-nil, All-cons}
-use Rattle.refusal.specs.declared.refusal.Refusal.TheVariants.{Down}
-use Rattle.device.specs.Device.{Failed, State, left, reach}
+use Rattle.headline.proofs.Words.{AddsFlow, Began, Care, CareFlow, Coordinator, Down, Event, Flow, Flush, IsOpenedOver, IsRevived, IsThere, IsToldOver, IsWholeStep, Lives, NodeView, Reopened, RestsOver, State, Step, TookAll, Turn, WorldView, care_for, coordinator, devices_at, flow_at, from_coordinator, left, over, ready, shard}
+use Rattle.device.specs.Device.{Failed, reach}
 use Rattle.names.specs.declared.care.Care.TheVariants as cares
 use Rattle.names.specs.declared.node_name.NodeName.TheVariants as named
-use Rattle.calls.specs.Views.{NodeView, refused}
-use Rattle.calls.specs.declared.call.NodeCall.TheVariants.{Coordinator}
+use Rattle.calls.specs.Views.{refused}
 use Rattle.calls.specs.declared.call.CoordinatorCall.TheVariants as calls
-use Rattle.calls.specs.declared.reply.Reply.TheVariants.{Coordinator as from_coordinator}
 use Rattle.calls.specs.declared.reply.CoordinatorReply.TheVariants as told
 use Rattle.care_flow.specs.Flushing.{flush}
-use Rattle.care_flow.specs.Views.{out, over, ready}
-use Rattle.care_flow.specs.declared.care.CareFlow.{CareFlow}
-use Rattle.care_flow.specs.declared.care.CareFlow.TheVariants.{Flush}
+use Rattle.care_flow.specs.Views.{out}
 use Rattle.care_flow.specs.declared.end.CareEnd.TheVariants as ends
-use Rattle.cluster.specs.Nodes.{IsRevived, Reopened}
-use Rattle.cluster.specs.Openings.{IsOpenedOver}
-use Rattle.cluster.specs.Runs.{Took, TookAll}
-use Rattle.cluster.specs.Steps.{AddsFlow}
-use Rattle.cluster.specs.Worlds.{WorldView, flow_at}
-use Rattle.cluster.specs.declared.event.Event.{Event}
-use Rattle.cluster.specs.declared.event.What.TheVariants.{Began, Refused}
-use Rattle.cluster.specs.declared.flow.Flow.{Flow}
-use Rattle.cluster.specs.declared.flow.Flow.TheVariants.{Care}
-use Rattle.cluster.specs.declared.step.Step.{Step}
-use Rattle.cluster.specs.declared.step.Step.TheVariants.{Care as care_for, Turn}
+use Rattle.cluster.specs.Runs.{Took}
+use Rattle.cluster.specs.declared.event.What.TheVariants.{Refused}
 use Rattle.names.specs.declared.node_name.NodeName.{NodeName}
-use Rattle.laws.specs.Nodes.{IsThere, coordinator, shard}
 use Rattle.laws.specs.Nodes as nodes
 use Rattle.turns.specs.NewStores.{empty_machine}
 use Rattle.turns.specs.StoreLaws.{IsUnmade}
-use Rattle.turns.specs.Stores.{IsToldOver, RestsOver}
 use Rattle.turns.proofs.ClosedStoreRests.{unmade_stores_rest}
-use Rattle.headline.specs.Headline.{Lives}
-use Rattle.headline.specs.Promised.{devices_at}
-use Rattle.headline.specs.Told.{IsWholeStep}
 use Rattle.headline.proofs.Joined.{lives}
 
 -- the flush of the coordinator before its call, with the call out, and behind its end

@@ -1,38 +1,26 @@
 -- The start of a flow keeps the promise of a step: it begins in a free slot, is refused where as many run as may, or may not be asked for.
 use Rattle.std.proofs.Common.{◌≡◌, ◌⊎◌, ⊎_elim, inl, inr, ◌<◌, ◌≤◌, ℕ, List, [], length, Option, Some, refl, sym, ◌∙◌, ap, subst, arith}
 use Rattle.std.proofs.lemmas.Bool.{cases_eq, cases_lt}
-use Rattle.device.specs.Device.{State, left}
-use Rattle.refusal.specs.declared.refusal.Refusal.TheVariants.{Full}
+use Rattle.headline.proofs.Words.{AddsFlow, Asked, Began, Flow, FlowView, Freshness, Full, IsAsked, IsShownFlow, IsShownSlot, IsThere, IsWholeStep, Keeps, NamesHorizon, NodeName, RunsOne, Shows, Start, State, Step, StepKeeps, Store, What, WorldView, all_told, care_for, events_of, flow_at, flow_count, left, nothing_held, shown_flow, step_of}
 use Rattle.tuples.specs.Limits.{max_number}
-use Rattle.decisions.specs.Flows.{Freshness, at_least, exact, latest, most_namespaces, most_sets, most_watched}
+use Rattle.decisions.specs.Flows.{at_least, exact, latest, most_namespaces, most_sets, most_watched}
 use Rattle.names.specs.declared.node_name.NodeName as names
 use Rattle.names.specs.declared.node_name.NodeName.TheVariants as called_names
 use Rattle.answer_flow.specs.Finding.{fresh_of}
 use Rattle.care_flow.specs.Flushing as flushes
 use Rattle.names.specs.declared.care.Care.{Care}
 use Rattle.names.specs.declared.care.Care.TheVariants as any_care
-use Rattle.laws.specs.Nodes.{IsThere, NodeName}
-use Rattle.turns.specs.Flows.{Asked, IsAsked, IsFreshness, nothing_held}
-use Rattle.turns.specs.Promises.{RunsOne, events_of}
+use Rattle.turns.specs.Flows.{IsFreshness}
 use Rattle.turns.specs.Runs as runs
-use Rattle.turns.specs.Stores.{FlowView, NamesHorizon, Store}
-use Rattle.call_turns.specs.Steps.{shown_flow}
 use Rattle.call_turns.specs.StoreCalls.{name_of}
 use Rattle.call_turns.proofs.FullStores.{full_stores_refuse}
 use Rattle.call_turns.proofs.Starts.{flows_start}
 use Rattle.cluster.specs.Begun.{IsFresh, IsInLimits, IsNodeThere, MayCare, begun_for, caring_for}
-use Rattle.cluster.specs.Steps.{AddsFlow, Begins, most_flows}
-use Rattle.cluster.specs.Worlds.{WorldView, flow_at, flow_count}
-use Rattle.cluster.specs.declared.event.What.{What}
-use Rattle.cluster.specs.declared.event.What.TheVariants.{Began, Refused}
-use Rattle.cluster.specs.declared.flow.Flow.{Flow}
+use Rattle.cluster.specs.Steps.{Begins, most_flows}
+use Rattle.cluster.specs.declared.event.What.TheVariants.{Refused}
 use Rattle.cluster.specs.declared.request.Request.{Request}
 use Rattle.cluster.specs.declared.request.Request.TheVariants as requests
-use Rattle.cluster.specs.declared.step.Step.{Step}
-use Rattle.cluster.specs.declared.step.Step.TheVariants.{Care as care_for, Start}
-use Rattle.headline.specs.Promised.{Keeps, StepKeeps}
-use Rattle.headline.specs.Shown.{IsShownFlow, IsShownSlot, Shows}
-use Rattle.headline.specs.Told.{IsWholeStep, all_told, asked_by, asked_for, step_of}
+use Rattle.headline.specs.Told.{asked_by, asked_for}
 use Rattle.headline.proofs.Behind.{at_slot, off_slot, with_slot}
 use Rattle.headline.proofs.Slots.{all_taken, as_many, each_taken, none_shown, once, taken_slots}
 use Rattle.headline.proofs.Still.{keeps_idle, other_flows}

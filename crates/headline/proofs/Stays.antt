@@ -1,27 +1,16 @@
 -- A node of a store that stands keeps its name, whatever it is asked.
 use Rattle.std.proofs.Common.{◌≡◌, ◌⊎◌, ⊎_elim, true, false, ℕ, List, Ok, Err, sym, ◌∙◌, ap, subst}
 use Rattle.std.proofs.lemmas.Bool.{cases_Bool}
-use Rattle.refusal.specs.declared.refusal.Refusal.TheVariants.{Down}
-use Rattle.device.specs.Device.{State}
-use Rattle.records.specs.Identity.{Identity}
+use Rattle.headline.proofs.Words.{Answered, Coordinator, Down, Identity, IsNamed, IsNode, Moment, NodeCall, NodeName, NodeView, Reply, Shard, StandsOver, State, Store, coordinator, from_coordinator, from_shard, shard}
 use Rattle.decisions.specs.Coordinators.{CoordinatorView, IsRunning}
 use Rattle.shard.specs.Shards.{ShardView}
-use Rattle.calls.specs.Asking.{Answered, CoordinatorAnswers}
+use Rattle.calls.specs.Asking.{CoordinatorAnswers}
 use Rattle.calls.specs.Views as views
-use Rattle.calls.specs.Views.{NodeView}
-use Rattle.calls.specs.declared.call.NodeCall.{NodeCall}
-use Rattle.calls.specs.declared.call.NodeCall.TheVariants.{Coordinator, Shard}
 use Rattle.calls.specs.declared.call.CoordinatorCall.{CoordinatorCall}
 use Rattle.calls.specs.declared.call.CoordinatorCall.TheVariants.{Begin, Heads, Batch, Decide, Outcome, Abort, Inquire, Raise, Flush}
-use Rattle.calls.specs.declared.reply.Reply.{Reply}
-use Rattle.calls.specs.declared.reply.Reply.TheVariants.{Coordinator as from_coordinator, Shard as from_shard}
 use Rattle.calls.specs.declared.reply.CoordinatorReply.{CoordinatorReply}
 use Rattle.calls.specs.declared.reply.CoordinatorReply.TheVariants as told
 use Rattle.calls.proofs.Belonging.{shard_stays}
-use Rattle.laws.specs.Nodes.{NodeName, coordinator, shard}
-use Rattle.turns.specs.Moments.{Moment}
-use Rattle.turns.specs.Stores.{StandsOver, Store}
-use Rattle.call_turns.specs.StoreCalls.{IsNamed, IsNode}
 use Rattle.call_turns.proofs.Standing.{runs_now}
 
 module _ {D : Type 0} (state : D → State) (honest : D → Type 0) (moment : D → ℕ) (left_since : D → ℕ → List ℕ → Type 0) where

@@ -1,40 +1,21 @@
 -- The step of a run that an opening of one node is, over the devices of a store.
 use Rattle.std.proofs.Common.{◌≡◌, ◌≢◌, inl, inr, ⊎_elim, ◌<◌, ◌≤◌, ℕ, List, [], ◌∷◌, map, refl, sym, ◌∙◌, ap, subst}
-use Rattle.tuples.specs.declared.entry.Entry.{Entry}
-use Rattle.tuples.specs.declared.entry.WriteId.{WriteId}
-use Rattle.refusal.specs.declared.refusal.Refusal.{Refusal}
-use Rattle.refusal.specs.declared.refusal.Refusal.TheVariants.{Damaged, Down}
-use Rattle.records.specs.declared.record.Record.{Record}
-use Rattle.records.specs.Coordinators.{coordinator_state}
-use Rattle.device.specs.Device.{State, left}
-use Rattle.journal.specs.Records.{Finds}
+use Rattle.headline.proofs.Words.{AreSound, Damaged, Down, Entry, Finds, IsFound, IsHorizonIn, IsOfRefusedOpening, IsRevived, IsThere, Moment, NodeName, NodeView, Opens, Record, Refusal, Reopened, Restarts, Rests, Stands, State, Told, WriteId, at_shards, coordinator, coordinator_state, cut_to, devices_of, last_sync, leaves, left, less_rests, named, refused, shard, shown, stops}
 use Rattle.calls.specs.Opening.{IsOpeningRefusal, refusal_of}
 use Rattle.calls.specs.Views as views
-use Rattle.calls.specs.Views.{NodeView, devices_of}
-use Rattle.cluster.specs.Nodes.{IsFound, IsRevived, Opens, Reopened}
 use Rattle.cluster.specs.Steps.{told_of_opening}
-use Rattle.laws.specs.Nodes.{IsOfRefusedOpening, IsThere, NodeName, coordinator, leaves, refused, shard}
-use Rattle.laws.specs.Worlds.{Rests}
-use Rattle.laws.proofs.LessLeft.{less_rests}
 use Rattle.turns.specs.CoordinatorOpeningLaws.{IsOverDevices, behind_refusal}
-use Rattle.turns.specs.Moments.{Moment}
-use Rattle.turns.specs.RestartLaws.{cut_to, with_restart}
-use Rattle.turns.specs.Runs.{Restarts, Told}
+use Rattle.turns.specs.RestartLaws.{with_restart}
 use Rattle.turns.specs.SeamLaws.{behind}
 use Rattle.turns.specs.ShardOpeningLaws.{IsOver, put_at}
 use Rattle.turns.specs.ShardSeamLaws.{behind_shard}
 use Rattle.turns.specs.StagingLaws.{with_nodes}
-use Rattle.turns.specs.Stands.{IsHorizonIn, Stands, at_shards}
-use Rattle.turns.specs.Stores.{AreSound, stops}
 use Rattle.turns.proofs.CoordinatorOpening.{refused_coordinators_stand}
 use Rattle.turns.proofs.CoordinatorOpeningSeam as of_coordinator
 use Rattle.turns.proofs.RefusedOpening.{refused_shards_stand}
 use Rattle.turns.proofs.ShardFailedSeam as failed_shard
 use Rattle.turns.proofs.ShardOpeningSeam as of_shard
-use Rattle.turns.proofs.ShardPrepareSeam.{last_sync}
 use Rattle.turns.proofs.ShardSeam.{here, put_elsewhere, put_here}
-use Rattle.call_turns.specs.StoreCalls.{shown}
-use Rattle.headline.specs.Shown.{named}
 use Rattle.headline.specs.Told.{told_of}
 use Rattle.headline.proofs.Causes.{are_revived, shown_up}
 use Rattle.headline.proofs.Within.{less_left}

@@ -1,22 +1,8 @@
 -- Steps that call no node: the store has other flows, or nothing changes.
 use Rattle.std.proofs.Common.{◌≡◌, inr, ℕ, List, [], Option, Some, None, refl, sym, ap, subst}
-use Rattle.device.specs.Device.{State, left}
+use Rattle.headline.proofs.Words.{Flow, FlowView, IsShownSlot, Keeps, Moment, NamesHorizon, NodeName, NodeView, Ran, Running, Shows, ShowsMemory, ShowsSlot, StandsOver, State, Step, Store, What, WorldView, all_told, events_of, flow_at, inside_by, left, step_of, still_given, still_within}
 use Rattle.calls.specs.Views as views
-use Rattle.calls.specs.Views.{NodeView}
-use Rattle.laws.specs.Nodes.{NodeName}
-use Rattle.turns.specs.Moments.{Moment, Running}
-use Rattle.turns.specs.Promises.{Ran, events_of}
 use Rattle.turns.specs.Runs as runs
-use Rattle.turns.specs.Stores.{FlowView, NamesHorizon, ShowsSlot, StandsOver, Store}
-use Rattle.call_turns.specs.StoreCalls.{ShowsMemory}
-use Rattle.call_turns.proofs.Made.{inside_by, still_given, still_within}
-use Rattle.cluster.specs.Worlds.{WorldView, flow_at}
-use Rattle.cluster.specs.declared.event.What.{What}
-use Rattle.cluster.specs.declared.flow.Flow.{Flow}
-use Rattle.cluster.specs.declared.step.Step.{Step}
-use Rattle.headline.specs.Promised.{Keeps}
-use Rattle.headline.specs.Shown.{IsShownSlot, Shows}
-use Rattle.headline.specs.Told.{all_told, step_of}
 
 -- a store with other flows shows the nodes that it showed
 same_memory : {D : Type 0} (v : NodeView D) (s : Store D) (flows : ℕ → Option FlowView) → ShowsMemory v s → ShowsMemory v (record s { flows = flows })

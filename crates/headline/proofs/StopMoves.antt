@@ -1,8 +1,6 @@
 -- The machine after a stop is where moves lead.
 use Rattle.std.proofs.Common.{◌≡◌, ⊎_elim, ◌≤◌, ◌++◌, ◌∷◌, [], ℕ, List, length, take, max, refl, ◌∙◌, ap, subst, arith}
-use Rattle.tuples.specs.declared.entry.Entry.{Entry}
-use Rattle.laws.specs.Machines.{Machine, Move, append, keep, cut, raise, Moves}
-use Rattle.laws.proofs.MachineMoves.{moves_then}
+use Rattle.headline.proofs.Words.{Entry, Machine, Move, Moves, append, cut, keep, moves_then, raise}
 use Rattle.turns.specs.StoreLaws.{IsStopOf}
 
 -- the same log, kept up to another place, and with another horizon

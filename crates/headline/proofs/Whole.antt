@@ -1,23 +1,12 @@
 -- The opening of a whole store keeps the promise of an opening.
 use Rattle.std.proofs.Common.{◌≡◌, inl, inr, ⊎_elim, ◌≤◌, ◌<◌, ◌+◌, ◌*◌, ℕ, zero, suc, List, [], ◌∷◌, get_or, length, Option, Some, None, refl, sym, ◌∙◌, ap, subst, arith}
 use Rattle.std.proofs.lemmas.Option.{get_or_from_slice_get, slice_get_within}
-use Rattle.refusal.specs.declared.refusal.Refusal.TheVariants.{Down}
-use Rattle.device.specs.Device.{State, left}
+use Rattle.headline.proofs.Words.{AreOpened, ComesUp, Down, Flow, IsNode, IsThere, NodeName, NodeView, OpensWithCause, Reopened, Running, Shows, ShowsMemory, ShowsSlot, State, Store, WorldView, closed_nodes, coordinator, devices_at, devices_of, down, index_of, left, named, node_at, shard, shown, stops}
 use Rattle.calls.specs.Views as views
-use Rattle.calls.specs.Views.{NodeView, devices_of}
-use Rattle.cluster.specs.Nodes.{Reopened}
-use Rattle.cluster.specs.Openings.{AreOpened, name_at}
-use Rattle.cluster.specs.Worlds.{WorldView, index_of, node_at}
-use Rattle.cluster.specs.declared.flow.Flow.{Flow}
-use Rattle.laws.specs.Nodes.{IsThere, NodeName, coordinator, down, shard}
-use Rattle.turns.specs.Moments.{Running, flow_at}
-use Rattle.turns.specs.Promises.{ComesUp, OpensWithCause}
-use Rattle.turns.specs.ReopenLaws.{closed_nodes}
+use Rattle.cluster.specs.Openings.{name_at}
+use Rattle.turns.specs.Moments.{flow_at}
 use Rattle.turns.specs.Reopens.{Reopens}
-use Rattle.turns.specs.Stores.{ShowsSlot, Store, stops}
-use Rattle.call_turns.specs.StoreCalls.{IsNode, ShowsMemory, shown}
-use Rattle.headline.specs.Promised.{OpeningsKeep, devices_at}
-use Rattle.headline.specs.Shown.{Shows, named}
+use Rattle.headline.specs.Promised.{OpeningsKeep}
 use Rattle.headline.proofs.Begun.{begins}
 use Rattle.headline.proofs.Causes.{opens_with_cause}
 use Rattle.headline.proofs.Closed.{closed_rests}

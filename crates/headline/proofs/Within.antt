@@ -1,10 +1,9 @@
 -- What a stop may leave of two devices at any moment since a node over them was opened again.
 use Rattle.std.proofs.Common.{◌≡◌, ◌⊎◌, inl, inr, ⊎_elim, ◌≤◌, ◌++◌, ℕ, List, [], ◌∷◌, Some, refl, sym, ◌∙◌, subst, arith}
-use Rattle.device.specs.Device.{Keeps, Leaves, Revived, State, left}
-use Rattle.device.proofs.Moments.{leaves_itself, leaves_nothing_else}
-use Rattle.journal.specs.Records.{Finds, LeavesBoth, WasLeftOrFound, found}
-use Rattle.records.specs.declared.record.Record.{Record}
-use Rattle.cluster.specs.Nodes.{IsRevived}
+use Rattle.headline.proofs.Words.{Finds, IsRevived, LeavesBoth, Record, Revived, State, found, leaves_nothing_else, left}
+use Rattle.device.specs.Device.{Keeps, Leaves}
+use Rattle.device.proofs.Moments.{leaves_itself}
+use Rattle.journal.specs.Records.{WasLeftOrFound}
 
 -- of a device that was revived a stop leaves one of the contents that it could leave before
 revived_less : (old new : State) → Revived old new → (c : List ℕ) → left new c → left old c

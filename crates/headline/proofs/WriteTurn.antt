@@ -1,27 +1,14 @@
 -- A turn of a write in a slot of a world keeps the promise of a step.
 use Rattle.std.proofs.Common.{◌≡◌, ◌≤◌, ℕ, Bool, true, false, List, Option, Some, None, refl, sym, ◌∙◌, ap, subst}
-use Rattle.device.specs.Device.{State, left}
-use Rattle.commit_flow.specs.Writing.{Asks}
-use Rattle.commit_flow.specs.declared.end.WriteEnd.{WriteEnd}
+use Rattle.headline.proofs.Words.{Asks, CallName, Flow, FlowView, IfEnded, IsShownSlot, Keeps, Leaves, Shows, State, Store, Turn, What, WorldView, Write, WriteEnd, Writing, all_told, flow_at, left, shown_until, told_of}
 use Rattle.commit_flow.specs.declared.end.WriteEnd.TheVariants as write_ends
 use Rattle.turns.specs.SeamLaws.{told_unless}
-use Rattle.turns.specs.Stores.{FlowView, Store}
-use Rattle.write_turns.specs.Seen.{shown, shown_until, told_end, told_of}
+use Rattle.write_turns.specs.Seen.{shown, told_end}
 use Rattle.write_turns.proofs.All.{all_turn}
-use Rattle.cluster.specs.Ends.{IfEnded, TellsWrite}
-use Rattle.cluster.specs.Steps.{Leaves, unless}
+use Rattle.cluster.specs.Ends.{TellsWrite}
+use Rattle.cluster.specs.Steps.{unless}
 use Rattle.cluster.specs.Turns.{TurnsWrite}
-use Rattle.cluster.specs.Worlds.{WorldView, flow_at}
-use Rattle.cluster.specs.declared.event.What.{What}
 use Rattle.cluster.specs.declared.event.What.TheVariants.{Next}
-use Rattle.names.specs.declared.call_name.CallName.{CallName}
-use Rattle.cluster.specs.declared.flow.Flow.{Flow}
-use Rattle.cluster.specs.declared.flow.Flow.TheVariants.{Write}
-use Rattle.cluster.specs.declared.flow.Writing.{Writing}
-use Rattle.cluster.specs.declared.step.Step.TheVariants.{Turn}
-use Rattle.headline.specs.Promised.{Keeps}
-use Rattle.headline.specs.Shown.{IsShownSlot, Shows}
-use Rattle.headline.specs.Told.{all_told}
 use Rattle.headline.proofs.Away.{away_writes}
 use Rattle.headline.proofs.Leaving.{goes_on, has_gone, names_on, others}
 use Rattle.headline.proofs.Lifts.{keeps_turn, shown_there}

@@ -1,29 +1,12 @@
 -- What no world, no opening and no life of a store is: mistakes that the definitions refuse, one by one.
 use Rattle.std.proofs.Common.{◌≡◌, ◌⊎◌, ⊎_elim, ◌+◌, ◌++◌, ℕ, false, List, [], ◌∷◌, length, Some, None, refl, sym, ◌∙◌, ap, subst, arith}
-use Rattle.tuples.specs.Writes.{WriteValue}
-use Rattle.tuples.specs.declared.entry.WriteId.{WriteId}
-use Rattle.refusal.specs.declared.refusal.Refusal.TheVariants.{Down}
-use Rattle.device.specs.Device.{HasFailed, State}
-use Rattle.device.specs.declared.tear.Tear.{Tear}
-use Rattle.journal.specs.declared.refused.Bank.{Bank}
-use Rattle.calls.specs.Views.{NodeView, refused}
+use Rattle.headline.proofs.Words.{AreOpened, Bank, Down, Event, Flow, FlowView, HasFailed, IsOpenedOver, IsWholeStep, Lives, Machine, NodeName, NodeView, Shows, Start, State, Store, Tear, TookAll, Turn, WorldView, WriteId, WriteValue, coordinator}
+use Rattle.calls.specs.Views.{refused}
 use Rattle.names.specs.declared.node_name.NodeName as names
-use Rattle.cluster.specs.Openings.{AreOpened, IsOpenedOver}
-use Rattle.cluster.specs.Runs.{TookAll}
 use Rattle.cluster.specs.Steps.{events_of}
-use Rattle.cluster.specs.Worlds.{WorldView}
-use Rattle.cluster.specs.declared.event.Event.{Event}
-use Rattle.cluster.specs.declared.flow.Flow.{Flow}
 use Rattle.cluster.specs.declared.request.Request.TheVariants as requests
-use Rattle.cluster.specs.declared.step.Step.TheVariants.{Start, Turn}
-use Rattle.laws.specs.Machines.{Machine}
-use Rattle.laws.specs.Nodes.{NodeName, coordinator}
 use Rattle.turns.specs.Promises.{IsNearlyFull}
-use Rattle.turns.specs.Stores.{FlowView, Store}
 use Rattle.headline.specs.DeviceScripts.{SetsScript}
-use Rattle.headline.specs.Headline.{Lives}
-use Rattle.headline.specs.Shown.{Shows}
-use Rattle.headline.specs.Told.{IsWholeStep}
 
 -- a list with something in it is not empty
 not_empty : {X : Type 0} {x : X} {xs : List X} → x ∷ xs ≡ [] → ⊥
