@@ -7,4 +7,6 @@
 #[cfg(test)]
 mod laws_of_records;
 #[cfg(test)]
+mod laws_of_ties;
+#[cfg(test)]
 mod laws_of_turns;

@@ -1,10 +1,10 @@
 // What lies under the coordinator's lock.
 ghost use Rattle.std.specs.Prelude.{◌≡◌, ◌<◌, [], length};
 ghost use mathlib.Core.List.{IsPrefix};
-ghost use Rattle.calls.specs.Views.{coordinator as opened};
+ghost use Rattle.calls.specs.Views.{coordinator as opened, refused as not_opened_node};
 ghost use Rattle.decisions.specs.Coordinators.{HaveVoted};
 ghost use Rattle.ties.specs.DecidingLaws.{StandsAt};
-ghost use Rattle.ties.specs.Ties.{IsOpenedTied};
+ghost use Rattle.ties.specs.Ties.{Anywhere, IsOpenedTied};
 
 use crate::decision::Decision;
 use crate::keeping::decide;
@@ -65,6 +65,19 @@ impl<D: Device, B: Room> CoordinatorSide<D, B> {
     {
         CoordinatorSide {
             place: Place::Opened(coordinator),
+            log,
+            room: PhantomData,
+        }
+    }
+
+    /// A coordinator whose opening was refused, with a list that its devices are tied to.
+    pub fn refused(devices: Refused<D>, log: LogPass<Entry>) -> CoordinatorSide<D, B>
+        requires own { log.table ≡ B.log }
+        requires tied { Anywhere D.state D.honest devices.a devices.b log.seen log.horizon [] }
+        ensures { result ≡ record { node = not_opened_node devices.refusal devices.a devices.b; seen = log.seen; low = log.horizon } }
+    {
+        CoordinatorSide {
+            place: Place::Refused(devices),
             log,
             room: PhantomData,
         }
