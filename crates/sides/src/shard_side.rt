@@ -1,5 +1,5 @@
 // What lies under the lock of a shard.
-ghost use Rattle.std.specs.Prelude.{◌≡◌};
+ghost use Rattle.std.specs.Prelude.{◌≡◌, ◌<◌};
 ghost use Rattle.calls.specs.Belonging.{IsReplyTo};
 ghost use Rattle.calls.specs.Refusing.{Notes};
 ghost use Rattle.calls.specs.declared.call.NodeCall.TheVariants.{Shard as of_shard};
@@ -62,6 +62,15 @@ impl<D: Device, B: Room> ShardSide<D, B> {
         ensures { result ≡ self.now.number }
     {
         self.me.node()
+    }
+
+    /// What it keeps whatever is called: it is a shard of the room's store, beside a pass of the room's words, and tied to what that knows.
+    pub fn keeps(&self)
+        ensures own { self.now.pass.table ≡ B.log }
+        ensures number { self.now.number < B.shards }
+        ensures tied { IsTiedIn D.state D.honest B.store B.shards self.now.number self.now.node self.now.pass }
+    {
+        let _number = self.me.node();
     }
 
     /// The shard's pass and the caller's both know what either knew.
