@@ -3,6 +3,7 @@
 It takes much for granted that the gate does not: kept work of other runs, and edits of crates whose own text is as it was.
 """
 
+import contextlib
 import copy
 import os
 import tempfile
@@ -28,6 +29,18 @@ def note_passed(crates):
         os.makedirs(f"{crate.folder}/out", exist_ok=True)
         with open(file_of(crate), "w", encoding="utf-8") as file:
             file.write(state_of(crate))
+
+
+@contextlib.contextmanager
+def as_it_was(folder):
+    """Files that are made in the folder meanwhile go again: a program is run in its crate's folder here, and a second run would find them."""
+    before = set(os.listdir(folder))
+    try:
+        yield
+    finally:
+        for name in set(os.listdir(folder)) - before:
+            if os.path.isfile(f"{folder}/{name}"):
+                os.remove(f"{folder}/{name}")
 
 
 class Kept:
@@ -61,7 +74,7 @@ class Changed:
         if not self.proved_below(crate, given):
             return False
         crate = copy.copy(crate)
-        with tempfile.TemporaryFile("a+", errors="replace") as crate.out:
+        with as_it_was(crate.folder), tempfile.TemporaryFile("a+", errors="replace") as crate.out:
             status = crate.test_whole(["--jobs", str(jobs)])
             crate.out.seek(0)
             said = crate.out.read()
