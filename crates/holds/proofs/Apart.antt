@@ -12,9 +12,10 @@ use Rattle.tuples.specs.Log.{same_id}
 use Rattle.tuples.specs.Order.{tuple_eq}
 use Rattle.tuples.proofs.Same.{tuple_same}
 use Rattle.records.specs.declared.record.PlacedId.{PlacedId}
-use Rattle.records.specs.Replays.{find_in_doubt, is_held, named, without, without_placed_ids}
+use Rattle.records.specs.Replays.{find_in_doubt, is_held, named, put, without, without_placed_ids}
 use Rattle.holds.specs.Holds.{AreApart, IsFree}
 use Rattle.holds.proofs.Doubts.{same_id_refl, without_filter}
+use Rattle.holds.proofs.Put.{put_cases, put_or_there}
 
 pub slice_get_push : {X : Type 0} (xs : List X) (x y : X) (j : ℕ) → slice_get (xs ++ x ∷ []) j ≡ Some y → (slice_get xs j ≡ Some y) ⊎ ((j ≡ length xs) × (x ≡ y))
 slice_get_push [] x y zero is = inr (refl, cc)
@@ -43,18 +44,6 @@ module _ (R : Entry → Entry → Type 0) (turned : (v w : Entry) → R v w → 
   abbrev NoneOf : List Entry → Entry → Type 0
   NoneOf ws w = (j : ℕ) (v : Entry) → slice_get ws j ≡ Some v → R v w → ⊥
 
-  pub apart_push : (ws : List Entry) (w : Entry) → Apart ws → NoneOf ws w → Apart (ws ++ w ∷ [])
-  apart_push ws w apart none i j u v at_u at_v are = ⊎_elim
-      (λ old_u. ⊎_elim
-      (λ old_v. apart i j u v old_u old_v are)
-      (λ new_v. absurd (none i u old_u (subst (λ (x : Entry). R u x) (sym new_v.1) are)))
-      (slice_get_push ws w v j at_v))
-      (λ new_u. ⊎_elim
-      (λ old_v. absurd (none j v old_v (turned w v (subst (λ (x : Entry). R x v) (sym new_u.1) are))))
-      (λ new_v. new_u.0 ∙ sym new_v.0)
-      (slice_get_push ws w v j at_v))
-      (slice_get_push ws w u i at_u)
-
   apart_head : (w : Entry) (ws : List Entry) → Apart (w ∷ ws) → NoneOf ws w
   apart_head w ws apart j v at are = let h : suc j ≡ 0 = apart (suc j) 0 v w at refl are in absurd (omega (arith, h))
 
@@ -66,6 +55,23 @@ module _ (R : Entry → Entry → Type 0) (turned : (v w : Entry) → R v w → 
   apart_cons w ws apart none zero (suc j) u v at_u at_v are = let same : w ≡ u = cc in absurd (none j v at_v (turned w v (subst (λ (x : Entry). R x v) (sym same) are)))
   apart_cons w ws apart none (suc i) zero u v at_u at_v are = let same : w ≡ v = cc in absurd (none i u at_u (subst (λ (x : Entry). R u x) (sym same) are))
   apart_cons w ws apart none (suc i) (suc j) u v at_u at_v are = let h : i ≡ j = apart i j u v at_u at_v are in omega (arith, h)
+
+  none_behind : (ws : List Entry) (w v : Entry) → NoneOf ws v → (R w v → ⊥) → NoneOf (put w ws) v
+  none_behind ws w v none other j u at are = ⊎_elim
+      (λ new. other (subst (λ (x : Entry). R x v) new are))
+      (λ old. none old.0 u old.1 are)
+      (put_or_there w ws j u at)
+
+  none_tail : (v : Entry) (ws : List Entry) (w : Entry) → NoneOf (v ∷ ws) w → NoneOf ws w
+  none_tail v ws w none j u at = none (suc j) u at
+
+  -- a write that is in the relation to none of the others
+  pub apart_put : (ws : List Entry) (w : Entry) → Apart ws → NoneOf ws w → Apart (put w ws)
+  apart_put [] w apart none = apart_cons w [] apart none
+  apart_put (v ∷ ws) w apart none = put_cases Apart w v ws
+      (λ less. apart_cons w (v ∷ ws) apart none)
+      (λ same. apart_cons w ws (apart_tail v ws apart) (none_tail v ws w none))
+      (λ greater other. apart_cons v (put w ws) (apart_put ws w (apart_tail v ws apart) (none_tail v ws w none)) (none_behind ws w v (apart_head v ws apart) (λ are. none zero v refl (turned w v are))))
 
   pub apart_filter : (p : Entry → Bool) (ws : List Entry) → Apart ws → Apart (filter p ws)
   apart_filter p [] apart = apart
@@ -126,12 +132,12 @@ free_one ws (u ∷ ts) t free has = ⊎_elim
 pub apart_none : AreApart []
 apart_none = record { tuples = λ i j v w at_v at_w t a b. absurd cc; ids = λ i j v w at_v at_w is. absurd cc }
 
-pub apart_taken : (ws : List Entry) (w : Entry) → AreApart ws → IsFree ws w → AreApart (ws ++ w ∷ [])
+pub apart_taken : (ws : List Entry) (w : Entry) → AreApart ws → IsFree ws w → AreApart (put w ws)
 apart_taken ws w apart free = record {
-  tuples = λ i j u v at_u at_v t in_u in_v. apart_push Share share_turned ws w (λ i j u v at_u at_v s. apart.tuples i j u v at_u at_v s.0 s.1 s.2)
+  tuples = λ i j u v at_u at_v t in_u in_v. apart_put Share share_turned ws w (λ i j u v at_u at_v s. apart.tuples i j u v at_u at_v s.0 s.1 s.2)
       (λ j v at s. let held = held_by ws j v s.0 at s.1 in let none = free_one ws (named w) s.0 free.tuples s.2 in absurd cc)
       i j u v at_u at_v (t, in_u, in_v);
-  ids = apart_push SameId id_turned ws w apart.ids (none_by_id ws w free.new);
+  ids = apart_put SameId id_turned ws w apart.ids (none_by_id ws w free.new);
 }
 
 apart_filtered : (p : Entry → Bool) (ws : List Entry) → AreApart ws → AreApart (filter p ws)

@@ -32,19 +32,6 @@ found_id id (v ∷ ws) w is = ⊎_elim
     (λ no. found_id id ws w (ap (λ b. cond b (Some v) (find_in_doubt id ws)) (sym no) ∙ is))
     (cases_Bool (same_id v.id id))
 
--- one more write with another id is not what is found
-pub find_push : (id : WriteId) (ws : List Entry) (p : Entry) → (p.id ≡ id → ⊥) → find_in_doubt id (ws ++ p ∷ []) ≡ find_in_doubt id ws
-find_push id [] p ne = ⊎_elim (λ same. absurd (ne (same_id_true p.id id same))) (λ other. rw other refl) (cases_Bool (same_id p.id id))
-find_push id (w ∷ ws) p ne = ap (λ o. cond (same_id w.id id) (Some w) o) (find_push id ws p ne)
-
--- one more write with an id that was not in doubt is found by it
-pub find_push_same : (ws : List Entry) (p : Entry) → find_in_doubt p.id ws ≡ None → find_in_doubt p.id (ws ++ p ∷ []) ≡ Some p
-find_push_same [] p none = rw (same_id_refl p.id) refl
-find_push_same (w ∷ ws) p none = ⊎_elim
-    (λ yes. let some : Some w ≡ None = ap (λ b. cond b (Some w) (find_in_doubt p.id ws)) (sym yes) ∙ none in absurd cc)
-    (λ no. rw no (find_push_same ws p (ap (λ b. cond b (Some w) (find_in_doubt p.id ws)) (sym no) ∙ none)))
-    (cases_Bool (same_id w.id p.id))
-
 -- what is taken out is not found
 pub find_without_same : (id : WriteId) (ws : List Entry) → find_in_doubt id (without id ws) ≡ None
 find_without_same id [] = refl

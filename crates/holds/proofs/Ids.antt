@@ -9,7 +9,8 @@ use Rattle.std.proofs.lemmas.Cmp.{eq_by_cmp_equiv, on_total, then_total, nat_cmp
 use Rattle.tuples.specs.declared.entry.WriteId.{WriteId}
 use Rattle.tuples.specs.Log.{same_id}
 use Rattle.holds.proofs.Doubts.{same_id_refl, same_id_true}
-use Rattle.holds.specs.Holds.{AreAscendingIds, id_cmp}
+use Rattle.records.specs.Replays.{id_cmp}
+use Rattle.holds.specs.Holds.{AreAscendingIds}
 
 pub id_total : IsTotalOrder id_cmp
 id_total = then_total (on_total (λ (a : WriteId). a.epoch) nat_cmp_total) (on_total (λ (a : WriteId). a.number) nat_cmp_total)
@@ -28,7 +29,7 @@ first_less Less y is = inl refl
 first_less Equal y is = inr (refl, is)
 first_less Greater y is = absurd cc
 
-below : (a b : WriteId) → id_cmp a b ≡ Less → (a.epoch < b.epoch) ⊎ ((a.epoch ≡ b.epoch) × (a.number < b.number))
+pub below : (a b : WriteId) → id_cmp a b ≡ Less → (a.epoch < b.epoch) ⊎ ((a.epoch ≡ b.epoch) × (a.number < b.number))
 below a b is = ⊎_elim
     (λ epoch. inl (ranked a.epoch b.epoch Less (sym epoch)))
     (λ both. inr (ranked a.epoch b.epoch Equal (sym both.0), ranked a.number b.number Less (sym both.1)))

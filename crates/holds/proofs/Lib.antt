@@ -1,5 +1,6 @@
 pub mod Doubts
 pub mod Apart
 pub mod Ids
+pub mod Put
 pub mod Named
-mod Numbers
+mod ById

@@ -15,9 +15,10 @@ use Rattle.tuples.specs.Changes.{has_tuple}
 use Rattle.tuples.specs.Log.{same_id}
 use Rattle.tuples.specs.Order.{tuple_cmp, tuple_eq}
 use Rattle.tuples.proofs.Ordered.{tuple_eq_symm}
-use Rattle.records.specs.Replays.{find_in_doubt, is_held, named, without}
+use Rattle.records.specs.Replays.{find_in_doubt, is_held, named, put, without}
 use Rattle.holds.specs.Holds.{AreApart, is_in}
-use Rattle.holds.proofs.Doubts.{found_id, same_id_true}
+use Rattle.holds.proofs.Doubts.{found_id, same_id_refl, same_id_true}
+use Rattle.holds.proofs.Put.{put_cases}
 
 same_order : (a b : Tuple) → ghosts.cmp a b ≡ tuple_cmp a b
 same_order a b = search rules
@@ -69,11 +70,26 @@ module _ {X : Type 0} (tuple : X → Tuple) where
 
 -- ---- the writes that hold them
 
+-- what is not found is not the first, and not found behind it
+pub none_parts : (id : WriteId) (v : Entry) (ws : List Entry) → find_in_doubt id (v ∷ ws) ≡ None → (same_id v.id id ≡ false) × (find_in_doubt id ws ≡ None)
+none_parts id v ws none = elim (cases_Bool (same_id v.id id)) [
+  | inl is ↦ absurd (let some : Some v ≡ None = ap (λ (b : Bool). cond b (Some v) (find_in_doubt id ws)) (sym is) ∙ none in cc)
+  | inr other ↦ (other, ap (λ (b : Bool). cond b (Some v) (find_in_doubt id ws)) (sym other) ∙ none)
+]
+
+-- its id is that of the first, which it is not
+not_instead : {P : Type 0} (w v : Entry) → same_id v.id w.id ≡ false → w.id ≡ v.id → P
+not_instead w v apart same = absurd (let is : same_id v.id w.id ≡ true = ap (λ (i : WriteId). same_id i w.id) (sym same) ∙ same_id_refl w.id in cc)
+
 -- a write that is held besides
-pub held_push : (t : Tuple) (ws : List Entry) (w : Entry) → is_held t (ws ++ w ∷ []) ≡ (has_tuple t (named w) || is_held t ws)
-held_push t [] w = or_cond (has_tuple t (named w)) false
-held_push t (v ∷ ws) w =
-    ap (λ (b : Bool). cond (has_tuple t (named v)) true b) (held_push t ws w) ∙ turned (has_tuple t (named v)) (has_tuple t (named w)) (is_held t ws)
+pub held_put : (t : Tuple) (ws : List Entry) (w : Entry) → find_in_doubt w.id ws ≡ None → is_held t (put w ws) ≡ (has_tuple t (named w) || is_held t ws)
+held_put t [] w none = or_cond (has_tuple t (named w)) false
+held_put t (v ∷ ws) w none =
+    let parts = none_parts w.id v ws none in
+    put_cases (λ l. is_held t l ≡ (has_tuple t (named w) || is_held t (v ∷ ws))) w v ws
+    (λ less. or_cond (has_tuple t (named w)) (is_held t (v ∷ ws)))
+    (λ same. not_instead w v parts.0 same)
+    (λ greater other. ap (λ (b : Bool). cond (has_tuple t (named v)) true b) (held_put t ws w parts.1) ∙ turned (has_tuple t (named v)) (has_tuple t (named w)) (is_held t ws))
   where
     turned : (a b c : Bool) → cond a true (b || c) ≡ (b || cond a true c)
     turned true true c = refl
@@ -87,6 +103,16 @@ without_none id (w ∷ ws) none = elim (cases_Bool (same_id w.id id)) [
   | inl is ↦ absurd (let some : Some w ≡ None = ap (λ (b : Bool). cond b (Some w) (find_in_doubt id ws)) (sym is) ∙ none in cc)
   | inr other ↦ rw other (ap (λ (l : List Entry). w ∷ l) (without_none id ws (ap (λ (b : Bool). cond b (Some w) (find_in_doubt id ws)) (sym other) ∙ none)))
 ]
+
+-- a write that is put in its place and taken out again
+pub without_put : (w : Entry) (ws : List Entry) → find_in_doubt w.id ws ≡ None → without w.id (put w ws) ≡ ws
+without_put w [] none = ap (λ (b : Bool). cond b [] (w ∷ [])) (same_id_refl w.id)
+without_put w (v ∷ ws) none =
+    let parts = none_parts w.id v ws none in
+    put_cases (λ l. without w.id l ≡ v ∷ ws) w v ws
+    (λ less. ap (λ (b : Bool). cond b (without w.id (v ∷ ws)) (w ∷ without w.id (v ∷ ws))) (same_id_refl w.id) ∙ without_none w.id (v ∷ ws) none)
+    (λ same. not_instead w v parts.0 same)
+    (λ greater other. ap (λ (b : Bool). cond b (without w.id (put w ws)) (v ∷ without w.id (put w ws))) parts.0 ∙ ap (λ (l : List Entry). v ∷ l) (without_put w ws parts.1))
 
 pub any_same : (f g : Tuple → Bool) → ((t : Tuple) → f t ≡ g t) → (ts : List Tuple) → list_any f ts ≡ list_any g ts
 any_same f g same [] = refl

@@ -1,17 +1,16 @@
 -- Writes that hold their tuples.
-use Rattle.std.specs.Prelude.{◌≡◌, ◌⊎◌, ◌<◌, ℕ, Bool, true, false, List, [], ◌∷◌, map, Option, None, Some, All, slice_get, if◌then◌else◌}
-use Rattle.std.specs.List.{list_any}
+use Rattle.std.specs.Prelude.{◌≡◌, ◌⊎◌, ◌<◌, ℕ, Bool, true, false, List, [], ◌∷◌, map, None, Some, All, slice_get}
+use Rattle.std.specs.List.{AllByRecursion, list_any}
 use Rattle.std.specs.List.Sorted.{IsStrictlySortedBy}
 use Rattle.std.specs.Map.{keys_of}
-use Rattle.std.specs.Ordering.{is_eq, nat_cmp, ordering_then}
-use Rattle.std.specs.declared.cmp.Ordering.{Ordering}
+use Rattle.std.specs.Ordering.{is_eq}
 use Rattle.tuples.specs.contracts.tuple.TupleOrd.TheImpl.{ghosts}
 use Rattle.tuples.specs.declared.tuple.Tuple.{Tuple}
 use Rattle.tuples.specs.declared.entry.Entry.{Entry}
 use Rattle.tuples.specs.declared.entry.WriteId.{WriteId}
 use Rattle.tuples.specs.Changes.{has_tuple}
-use Rattle.tuples.specs.Log.{AreNew, same_id}
-use Rattle.records.specs.Replays.{find_in_doubt, is_held, named}
+use Rattle.tuples.specs.Log.{AreNew}
+use Rattle.records.specs.Replays.{find_in_doubt, id_cmp, is_held, named}
 
 -- no two of these writes name one tuple, changed or conditioned, and no two have one id
 pub record AreApart (ws : List Entry) : Type 0 where
@@ -42,22 +41,7 @@ pub record IsHolding (ws : List Entry) (held : List Tuple) : Type 0 where
   pub apart : AreApart ws
   pub exact : (t : Tuple) → is_in held t ≡ is_held t ws
 
--- the order of ids
-abbrev pub id_cmp : WriteId → WriteId → Ordering
-id_cmp a b = ordering_then (nat_cmp a.epoch b.epoch) (nat_cmp a.number b.number)
-
--- the number under which the write with this id is kept
-abbrev pub number_of : WriteId → List (ℕ × Entry) → Option ℕ
-number_of id [] = None
-number_of id (e ∷ es) = if same_id e.1.id id then Some e.0 else number_of id es
-
--- no id stands twice
-abbrev pub HasIdsOnce : List (ℕ × Entry) → Type 0
-HasIdsOnce [] = Unit {0}
-HasIdsOnce (e ∷ es) = (number_of e.1.id es ≡ None) × HasIdsOnce es
-
--- writes in the order of their numbers, none with an id twice, and a map that has the number of each
-pub record IsNumbered (number : WriteId → Option ℕ) (es : List (ℕ × Entry)) : Type 0 where
-  pub in_order : IsStrictlySortedBy nat_cmp (keys_of es)
-  pub once : HasIdsOnce es
-  pub numbers : (id : WriteId) → number id ≡ number_of id es
+-- writes under their ids, in the order of these
+pub record AreById (es : List (WriteId × Entry)) : Type 0 where
+  pub in_order : IsStrictlySortedBy id_cmp (keys_of es)
+  pub own : AllByRecursion (λ (e : WriteId × Entry). e.0 ≡ e.1.id) es

@@ -1,23 +1,24 @@
 // The writes that hold their tuples.
-ghost use Rattle.std.specs.Prelude.{◌≡◌, ◌≢◌, ◌↔◌, ◌⊎◌, ◌∷◌, ◌++◌, [], None, Contains, length, OnOk, OnErr, IfOk, IfErr, IsErrOf, IsTrue, MatchOption};
-ghost use Rattle.records.specs.Replays.{find_in_doubt, is_held, without, without_placed_ids};
+ghost use Rattle.std.specs.Prelude.{◌≡◌, ◌≢◌, ◌↔◌, ◌⊎◌, [], None, length, OnOk, OnErr, IfOk, IfErr, IsErrOf, IsTrue, MatchOption};
+ghost use Rattle.records.specs.Replays.{find_in_doubt, is_held, put, without, without_placed_ids};
 ghost use Rattle.holds.specs.Holds.{AreApart, AreAscendingIds, IsFree, IsHolding, ids, is_in};
 ghost use Rattle.tuples.specs.declared.entry.WriteId.{WriteId as AnyId};
 ghost use Rattle.tuples.specs.declared.tuple.Tuple.{Tuple as AnyTuple};
 
+use crate::by_id::ById;
 use crate::held::{hold, holds_change, holds_condition, let_go};
-use crate::numbered::Numbered;
 use records::PlacedId;
 use std::alloc::{AllocError, Global};
 use std::collections::BTreeSet;
+use std::collections::btree_map::Values;
 use std::marker::Model;
 use tuples::{Entry, Refusal, Tuple, WriteId};
 
-/// Writes in doubt, each of which holds the tuples of its changes and conditions. Contracts see them as their list, in the
-/// order in which they were taken.
+/// Writes in doubt, each of which holds the tuples of its changes and conditions. Contracts see them as their list,
+/// ascending by id.
 #[derive(Drop)]
 pub struct Holds {
-    writes: Numbered,
+    writes: ById,
     held: BTreeSet<Tuple>,
 }
 
@@ -39,7 +40,7 @@ impl Holds {
         ensures { result ≡ [] }
     {
         Holds {
-            writes: Numbered::new(alloc),
+            writes: ById::new(alloc),
             held: BTreeSet::new(alloc),
         }
     }
@@ -53,7 +54,7 @@ impl Holds {
 
     /// Holds all tuples of a write, or none of them: `Busy` where it is not free, `NoMemory`.
     pub fn take(&mut self, write: Entry) -> Result<(), Refusal>
-        ensures ok { OnOk result (self.new ≡ self.old ++ write ∷ []) }
+        ensures ok { OnOk result (self.new ≡ put write self.old) }
         ensures free { OnOk result (IsFree self.old write) }
         ensures busy { IsErrOf result Refusal.Busy ↔ (IsFree self.old write → ⊥) }
         ensures err { IfErr result (λ e. (e ≡ Refusal.Busy) ⊎ (e ≡ Refusal.NoMemory)) }
@@ -113,20 +114,29 @@ impl Holds {
     pub fn len(&self) -> usize
         ensures len { result ≡ length self.now }
         ensures apart { AreApart self.now }
+        ensures ascending { AreAscendingIds (ids self.now) }
     {
         self.writes.len()
+    }
+
+    /// The writes, ascending by id.
+    pub fn iter(&self) -> Values<'_, WriteId, Entry>
+        ensures rest { result ≡ self.now }
+        ensures ascending { AreAscendingIds (ids self.now) }
+    {
+        self.writes.iter()
     }
 
     /// The ids of the writes, ascending.
     pub fn in_doubt(&self, alloc: Global) -> Result<Vec<WriteId>, AllocError>
         ensures ascending { IfOk result (λ v. AreAscendingIds v.items) }
-        ensures exact { IfOk result (λ v. (id : _) → Contains v.items id ↔ Contains (ids self.now) id) }
+        ensures exact { IfOk result (λ v. v.items ≡ ids self.now) }
     {
         self.writes.ids(alloc)
     }
 }
 
-fn is_free(writes: &Numbered, held: &BTreeSet<Tuple>, write: &Entry) -> bool
+fn is_free(writes: &ById, held: &BTreeSet<Tuple>, write: &Entry) -> bool
     requires { IsHolding writes.now held.now.keys }
     ensures { IsTrue result ↔ IsFree writes.now write.now }
 {
@@ -140,10 +150,10 @@ fn is_free(writes: &Numbered, held: &BTreeSet<Tuple>, write: &Entry) -> bool
 }
 
 // Holds the tuples of a write that is free, or none of them.
-fn hold_free(writes: &Numbered, held: &mut BTreeSet<Tuple>, write: &Entry) -> Result<(), Refusal>
+fn hold_free(writes: &ById, held: &mut BTreeSet<Tuple>, write: &Entry) -> Result<(), Refusal>
     requires holding { IsHolding writes.now held.old.keys }
     requires free { IsFree writes.now write.now }
-    ensures ok { OnOk result ((t : AnyTuple) → is_in held.new.keys t ≡ is_held t (writes.now ++ write.now ∷ [])) }
+    ensures ok { OnOk result ((t : AnyTuple) → is_in held.new.keys t ≡ is_held t (put write.now writes.now)) }
     ensures err { IfErr result (λ e. e ≡ Refusal.NoMemory) }
     ensures same { OnErr result ((t : AnyTuple) → is_in held.new.keys t ≡ is_held t writes.now) }
 {

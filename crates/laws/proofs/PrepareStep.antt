@@ -1,6 +1,6 @@
 -- A prepare is staged at a shard, or dropped, of a write that the log does not list.
 use Rattle.std.proofs.Common.{◌≡◌, ℕ, List, sym, ◌∙◌}
-use Rattle.laws.proofs.Words.{Dropped, Entry, IsUnlisted, Prepare, ShardMeans, ShardState, WriteId, find_push}
+use Rattle.laws.proofs.Words.{Dropped, Entry, IsUnlisted, Prepare, ShardMeans, ShardState, WriteId, find_put}
 use Rattle.records.specs.Replays.{shard_step}
 use Rattle.replay.proofs.Doubts.{find_without_other}
 
@@ -13,8 +13,8 @@ module _ (shards s : ℕ) (log : List Entry) (hc h : ℕ) (state : ShardState) (
     rows = m.rows;
     settled = m.settled;
     in_doubt = record {
-      above = λ j w is le. find_push w.id state.in_doubt p (λ same. unlisted j w is (sym is_id ∙ same)) ∙ m.in_doubt.above j w is le;
-      below = λ j w is lt. find_push w.id state.in_doubt p (λ same. unlisted j w is (sym is_id ∙ same)) ∙ m.in_doubt.below j w is lt;
+      above = λ j w is le. find_put w.id state.in_doubt p (λ same. unlisted j w is (sym is_id ∙ same)) ∙ m.in_doubt.above j w is le;
+      below = λ j w is lt. find_put w.id state.in_doubt p (λ same. unlisted j w is (sym is_id ∙ same)) ∙ m.in_doubt.below j w is lt;
     };
   }
 

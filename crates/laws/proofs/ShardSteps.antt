@@ -8,7 +8,7 @@ use Rattle.records.specs.declared.record.Record.{Record}
 use Rattle.records.specs.declared.record.Record.TheVariants.{Prepare, Learned, Dropped, Epoch, Horizon}
 use Rattle.records.specs.Coordinators.{CoordinatorState, coordinator_state}
 use Rattle.records.specs.Replays.{IsShardImage, MayCollect, MayDrop, ShardState, find_in_doubt, shard_state, shard_step, Identity}
-use Rattle.replay.proofs.Doubts.{cases_id, find_push, none_stays, none_without}
+use Rattle.replay.proofs.Doubts.{cases_id, find_put, none_stays, none_without}
 use Rattle.replay.proofs.States.{image_last, shard_push}
 use Rattle.shard.specs.Shards.{learning, placed_ids_from}
 use Rattle.laws.specs.LogLaws.{IsUnlisted}
@@ -83,7 +83,7 @@ prepares_rest coordinator old new store shards log kept h s records w step unlis
     given : (c : List Record) → coordinator c → AreGivenInDoubt (coordinator_state c).epoch (shard_state records) → AreGivenInDoubt (coordinator_state c).epoch (shard_step (shard_state records) (Prepare w))
     given c is was id v found = ⊎_elim
         (λ (same : w.id ≡ id). subst (λ (i : WriteId). i.epoch ≤ (coordinator_state c).epoch) same (epoch c is))
-        (λ ne. was id v (sym (find_push id (shard_state records).in_doubt w ne) ∙ found))
+        (λ ne. was id v (sym (find_put id (shard_state records).in_doubt w ne) ∙ found))
         (cases_id w.id id)
 
 -- a write that is in doubt, and not listed above a horizon that the shard has learned, is not listed at all

@@ -7,7 +7,7 @@ pub use Rattle.records.specs.Coordinators.{CoordinatorState, IsCoordinatorImage,
 pub use Rattle.records.specs.Replays.{IsShardImage, ShardState, find_in_doubt, is_held, learned_rows, named, shard_state}
 pub use Rattle.records.specs.declared.record.Record.{Record}
 pub use Rattle.records.specs.declared.record.Record.TheVariants.{Decision, Dropped, Epoch, Horizon, Learned, Prepare}
-pub use Rattle.replay.proofs.Doubts.{find_push, none_stays}
+pub use Rattle.replay.proofs.Doubts.{find_put, none_stays}
 pub use Rattle.shard.specs.Shards.{placed_ids_from}
 pub use Rattle.tuples.proofs.Same.{tuple_same}
 pub use Rattle.tuples.specs.Changes.{IsWrite, changed, conditioned, has_tuple, tuple_of}

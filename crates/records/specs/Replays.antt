@@ -1,5 +1,7 @@
 -- What the records of a shard stand for, and which lists of records a shard can have.
 use Rattle.std.specs.Prelude.{◌≡◌, ◌≤◌, ◌<◌, ◌+◌, ℕ, Bool, true, false, List, [], ◌∷◌, ◌++◌, Option, Some, None, if◌then◌else◌, All}
+use Rattle.std.specs.Ordering.{match_ordering, nat_cmp, ordering_then}
+use Rattle.std.specs.declared.cmp.Ordering.{Ordering}
 use Rattle.tuples.specs.declared.tuple.Tuple.{Tuple}
 use Rattle.tuples.specs.declared.change.Condition.{Condition}
 use Rattle.tuples.specs.declared.change.Want.{Want}
@@ -12,12 +14,13 @@ use Rattle.tuples.specs.Limits.{max_number}
 use Rattle.tuples.specs.Log.{same_id}
 use Rattle.tuples.specs.Parts.{shard_of}
 use Rattle.tuples.specs.Versions.{placed, collected}
+use Rattle.records.specs.Format.{AreRisingTo}
 pub use Rattle.records.specs.Identity.{Identity}
 use Rattle.records.specs.declared.record.PlacedId.{PlacedId}
 use Rattle.records.specs.declared.record.Record.{Record}
 use Rattle.records.specs.declared.record.Record.TheVariants.{Prepare, Learned, Dropped, Epoch, Decision, Horizon}
 
--- what a shard knows: the writes in doubt, in the order of their prepares; the place up to which decisions are applied;
+-- what a shard knows: the writes in doubt, ascending by id; the place up to which decisions are applied;
 -- the horizon; its versions, in the order of the log; and how often it was opened
 pub record ShardState : Type 0 where
   pub in_doubt : List Entry
@@ -25,6 +28,15 @@ pub record ShardState : Type 0 where
   pub horizon : ℕ
   pub rows : List Version
   pub epoch : ℕ
+
+-- the order of ids
+abbrev pub id_cmp : WriteId → WriteId → Ordering
+id_cmp a b = ordering_then (nat_cmp a.epoch b.epoch) (nat_cmp a.number b.number)
+
+-- a write in its place among writes that ascend by id; one that has its id goes out
+abbrev pub put : Entry → List Entry → List Entry
+put w [] = w ∷ []
+put w (v ∷ ws) = match_ordering (id_cmp w.id v.id) (w ∷ v ∷ ws) (w ∷ ws) (v ∷ put w ws)
 
 abbrev pub find_in_doubt : WriteId → List Entry → Option Entry
 find_in_doubt id [] = None
@@ -49,7 +61,7 @@ learned_rows (p ∷ placed_ids) ws = changes_at p.place (find_in_doubt p.id ws) 
 
 -- what one more record makes of it
 unfoldable pub shard_step : ShardState → Record → ShardState
-shard_step s (Prepare w) = record s { in_doubt = s.in_doubt ++ w ∷ [] }
+shard_step s (Prepare w) = record s { in_doubt = put w s.in_doubt }
 shard_step s (Learned to placed_ids) = record s { learned = to; rows = s.rows ++ learned_rows placed_ids s.in_doubt; in_doubt = without_placed_ids placed_ids s.in_doubt }
 shard_step s (Dropped id) = record s { in_doubt = without id s.in_doubt }
 shard_step s (Epoch epoch store shards node) = record s { epoch = epoch }
@@ -106,12 +118,13 @@ abbrev pub ArePrepared : List PlacedId → List Entry → Type 0
 ArePrepared [] ws = Unit {0}
 ArePrepared (p ∷ placed_ids) ws = ((w : Entry) × (find_in_doubt p.id ws ≡ Some w)) × ArePrepared placed_ids (without p.id ws)
 
--- decisions up to a place may be applied: that place is no lower than before, and each part lies above the place before
+-- decisions up to a place may be applied: that place is no lower than before, and the parts lie above the place before, at rising places up to it
 pub record MayLearn (s : ShardState) (to : ℕ) (placed_ids : List PlacedId) : Type 0 where
   pub opened : 1 ≤ s.epoch
   pub on : s.learned ≤ to
   pub place : to ≤ greatest_number
   pub above : All (λ (p : PlacedId). s.learned < p.place) placed_ids
+  pub places : AreRisingTo to placed_ids
   pub prepared : ArePrepared placed_ids s.in_doubt
 
 -- the shard may be opened once more

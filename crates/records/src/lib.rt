@@ -32,5 +32,5 @@ pub use format::{MAX_PLACED_IDS, MAX_RECORDS, VERSION};
 pub use identity::{COORDINATOR, Identity};
 pub use laws::no_record_begins_another;
 pub use measure::{decision_len, prepare_len};
-pub use places::ask_of_log;
+pub use places::{ask_of_log, places_rise};
 pub use record::{PlacedId, PlacedIds, Record};

@@ -4,7 +4,7 @@ use Rattle.tuples.specs.declared.entry.Entry.{Entry}
 use Rattle.tuples.specs.declared.version.Version.{Version}
 use Rattle.records.specs.declared.record.Record.{Record}
 use Rattle.records.specs.declared.record.Record.TheVariants.{Prepare, Learned, Dropped, Epoch, Decision, Horizon}
-use Rattle.records.specs.Replays.{Identity, MayCome, ShardState, learned_rows, shard_step, without, without_placed_ids}
+use Rattle.records.specs.Replays.{Identity, MayCome, ShardState, learned_rows, put, shard_step, without, without_placed_ids}
 use Rattle.versions.proofs.Alike.{append_alike, collected_alike, alike_refl as rows_refl, alike_same as rows_same, alike_sym as rows_sym, alike_trans as rows_trans}
 use Rattle.replay.specs.Alike.{IsAlike}
 
@@ -28,7 +28,7 @@ alike_trans h k = record {
 
 pub alike_step : {a b : ShardState} → IsAlike a b → (r : Record) → IsAlike (shard_step a r) (shard_step b r)
 unfolding shard_step
-alike_step h (Prepare w) = record { in_doubt = ap (λ (ws : List Entry). ws ++ w ∷ []) h.in_doubt; learned = h.learned; horizon = h.horizon; epoch = h.epoch; rows = h.rows }
+alike_step h (Prepare w) = record { in_doubt = ap (put w) h.in_doubt; learned = h.learned; horizon = h.horizon; epoch = h.epoch; rows = h.rows }
 alike_step h (Learned to placed_ids) = record {
   in_doubt = ap (without_placed_ids placed_ids) h.in_doubt;
   learned = refl;
@@ -54,7 +54,7 @@ may_come_rows me s rows (Prepare w) may = record {
   number = may.number;
   places = may.places;
 }
-may_come_rows me s rows (Learned to placed_ids) may = record { opened = may.opened; on = may.on; place = may.place; above = may.above; prepared = may.prepared }
+may_come_rows me s rows (Learned to placed_ids) may = record { opened = may.opened; on = may.on; place = may.place; above = may.above; places = may.places; prepared = may.prepared }
 may_come_rows me s rows (Dropped id) may = record { opened = may.opened; prepared = may.prepared }
 may_come_rows me s rows (Epoch epoch store shards node) may = record { next = may.next; greatest = may.greatest; same_store = may.same_store; same_shards = may.same_shards; same_node = may.same_node }
 may_come_rows me s rows (Decision place w) may = may

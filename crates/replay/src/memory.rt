@@ -1,5 +1,5 @@
 // What a shard knows, as the replay of its records.
-ghost use Rattle.std.specs.Prelude.{◌≡◌, ◌⊎◌, ◌↔◌, Contains, OnOk, OnErr, IfOk, IfErr, IsErrOf, IsTrue, Some, None, MatchOption};
+ghost use Rattle.std.specs.Prelude.{◌≡◌, ◌⊎◌, ◌↔◌, OnOk, OnErr, IfOk, IfErr, IsErrOf, IsTrue, Some, None, MatchOption};
 ghost use Rattle.holds.specs.Holds.{AreAscendingIds, IsFree, ids};
 ghost use Rattle.records.specs.declared.record.Record.TheVariants.{Dropped as dropped_record, Epoch as epoch_record, Horizon as horizon_record, Learned as learned_record, Prepare as prepare_record};
 ghost use Rattle.records.specs.Replays.{MayCollect, MayCome, MayDrop, MayLearn, MayOpen, MayPrepare, empty_shard, find_in_doubt, is_held, shard_step};
@@ -289,7 +289,7 @@ impl Memory {
     /// The ids of the writes in doubt, ascending.
     pub fn ids_in_doubt(&self, alloc: Global) -> Result<Vec<WriteId>, AllocError>
         ensures ascending { IfOk result (λ v. AreAscendingIds v.items) }
-        ensures exact { IfOk result (λ v. (id : _) → Contains v.items id ↔ Contains (ids self.now.in_doubt) id) }
+        ensures exact { IfOk result (λ v. v.items ≡ ids self.now.in_doubt) }
     {
         self.in_doubt.in_doubt(alloc)
     }

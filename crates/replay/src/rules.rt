@@ -8,7 +8,7 @@ ghost use Rattle.replay.specs.Rules.{are_prepared as are_placed_ids_prepared, ha
 
 use crate::Memory;
 use holds::{Holds, is_same};
-use records::{Identity, PlacedId, ask_of_log};
+use records::{Identity, PlacedId, ask_of_log, places_rise};
 use tuples::{Change, Condition, Entry, MAX_NUMBER, Tuple, WriteId, shard_of};
 
 /// Its id is not in doubt, its tuples are this shard's and free, and its conditions ask about places of a log.
@@ -28,7 +28,7 @@ pub fn may_prepare(me: Identity, memory: &Memory, entry: &Entry) -> bool
     are_tuples_own(me, entry)
 }
 
-/// Places only rise, and each placed id is of another write in doubt.
+/// Places only rise, up to the one learned to, and each placed id is of another write in doubt.
 pub fn may_learn(memory: &Memory, to: u64, placed_ids: &[PlacedId]) -> bool
     ensures { IsTrue result ↔ MayLearn memory.now to placed_ids.now }
 {
@@ -38,7 +38,7 @@ pub fn may_learn(memory: &Memory, to: u64, placed_ids: &[PlacedId]) -> bool
     if to < memory.learned() || to > MAX_NUMBER {
         return false;
     }
-    if !are_above(memory.learned(), placed_ids) {
+    if !are_above(memory.learned(), placed_ids) || !places_rise(to, placed_ids) {
         return false;
     }
     are_prepared(placed_ids, memory.held())

@@ -9,7 +9,7 @@ use Rattle.records.specs.declared.record.PlacedId.{PlacedId}
 use Rattle.records.specs.declared.record.Record.{Record}
 use Rattle.records.specs.declared.record.Record.TheVariants.{Prepare, Learned, Dropped, Epoch, Decision, Horizon}
 use Rattle.records.specs.Replays.{ArePrepared, Identity, IsShardImage, MayCome, ShardState, find_in_doubt, shard_state, shard_step, without}
-use Rattle.replay.proofs.Doubts.{cases_id, find_push}
+use Rattle.replay.proofs.Doubts.{cases_id, find_put}
 use Rattle.replay.proofs.States.{shard_push}
 use Rattle.shard.proofs.Waiting.{still_placed_ids, still_without}
 
@@ -31,7 +31,7 @@ given_step me s (Prepare w) given may id p is = ⊎_elim
       number = may.some_number;
       number_fits = omega (arith, may.number);
     } in subst IsWriteId same own)
-    (λ ne. given id p (sym (find_push id s.in_doubt w ne) ∙ is))
+    (λ ne. given id p (sym (find_put id s.in_doubt w ne) ∙ is))
     (cases_id w.id id)
 given_step me s (Learned to placed_ids) given may id p is = given id p (still_placed_ids id placed_ids s.in_doubt p is)
 given_step me s (Dropped other) given may id p is = given id p (still_without id other s.in_doubt p is)

@@ -4,7 +4,7 @@ use Rattle.std.specs.BTreeMap.{is_at}
 use Rattle.std.specs.List.{list_any}
 use Rattle.tuples.specs.declared.entry.WriteId.{WriteId}
 use Rattle.tuples.specs.Log.{same_id}
-use Rattle.holds.specs.Holds.{id_cmp}
+use Rattle.records.specs.Replays.{id_cmp}
 use Rattle.holds.proofs.Ids.{id_equivalence, id_ties}
 use Rattle.shard.specs.Keeping.{has_id}
 

@@ -173,12 +173,15 @@ module _ (shards s : ℕ) where
 -- learning the writes of a batch that are not learned yet
 module _ (shards s : ℕ) (m : ShardState) (from : ℕ) (writes : List Entry) (le : from ≤ m.learned) (lt : m.learned < from + length writes) (greatest : from + length writes ≤ greatest_number)
     (placed_ids : List PlacedId) (is : placed_ids ≡ placed_ids_from shards s (m.learned + 1) (unlearned m from writes)) (prepared : ArePrepared placed_ids m.in_doubt) where
+  places_rise : AreRisingTo (from + length writes) placed_ids
+  places_rise = subst (AreRisingTo (from + length writes)) (sym is) (rising shards s (from + length writes) (m.learned + 1) (unlearned m from writes) (omega (arith, length-drop (m.learned - from) writes)))
+
   pub learned_spelled : length writes ≤ max_placed_ids → AllGiven m.in_doubt → IsLearned (from + length writes) placed_ids
   learned_spelled few given = record {
     to_fits = omega (arith, greatest);
     few = let most = few_placed_ids shards s (m.learned + 1) (unlearned m from writes) in omega (arith, ap length is, most, length-drop (m.learned - from) writes);
     ids = given_placed_ids placed_ids m.in_doubt given prepared;
-    places = subst (AreRisingTo (from + length writes)) (sym is) (rising shards s (from + length writes) (m.learned + 1) (unlearned m from writes) (omega (arith, length-drop (m.learned - from) writes)));
+    places = places_rise;
   }
 
   pub may_learn : 1 ≤ m.epoch → MayLearn m (from + length writes) placed_ids
@@ -187,5 +190,6 @@ module _ (shards s : ℕ) (m : ShardState) (from : ℕ) (writes : List Entry) (l
     on = omega (arith, lt);
     place = greatest;
     above = subst (All (λ (p : PlacedId). m.learned < p.place)) (sym is) (all_above shards s m.learned (m.learned + 1) (unlearned m from writes) (omega arith));
+    places = places_rise;
     prepared = prepared;
   }

@@ -10,7 +10,7 @@ use Rattle.records.specs.declared.record.Record.TheVariants.{Prepare}
 use Rattle.records.specs.Replays.{Identity, ShardState, find_in_doubt, shard_state, shard_step}
 use Rattle.replay.specs.Alike.{IsAlike}
 use Rattle.replay.proofs.Alike.{alike_same}
-use Rattle.replay.proofs.Doubts.{find_push_same}
+use Rattle.replay.proofs.Doubts.{find_put_same}
 use Rattle.device.specs.Device.{State}
 use Rattle.journal.specs.Records.{View}
 use Rattle.decisions.specs.Values.{IsIntent}
@@ -25,7 +25,7 @@ or_false false = refl
 
 held_now : (m : ShardState) (p : Entry) → AreFree m p → find_in_doubt p.id (shard_step m (Prepare p)).in_doubt ≡ Some p
 unfolding shard_step
-held_now m p free = find_push_same m.in_doubt p free.new
+held_now m p free = find_put_same m.in_doubt p
 
 module _ {D : Type 0} (state : D → State) (honest : D → Type 0) (j k : View D) (me : Identity) (m n : ShardState) (ids more : List WriteId) (settled : ℕ) (w : Entry)
     (kept : IsKept state honest j me m ids settled) (whole : IsIntent w) (able : IsPreparable m (part me.shards me.node w))

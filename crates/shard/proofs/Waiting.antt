@@ -10,7 +10,7 @@ use Rattle.records.specs.declared.record.PlacedId.{PlacedId}
 use Rattle.records.specs.declared.record.Record.{Record}
 use Rattle.records.specs.declared.record.Record.TheVariants.{Prepare, Learned, Dropped, Epoch, Decision, Horizon}
 use Rattle.records.specs.Replays.{ShardState, empty_shard, find_in_doubt, shard_from, shard_state, shard_step, without, without_placed_ids}
-use Rattle.replay.proofs.Doubts.{cases_id, find_push, find_without_other, find_without_same, same_id_refl, same_id_true}
+use Rattle.replay.proofs.Doubts.{cases_id, find_put, find_without_other, find_without_same, same_id_refl, same_id_true}
 use Rattle.replay.proofs.States.{shard_from-append}
 use Rattle.device.specs.Device.{State, left}
 use Rattle.journal.specs.Records.{Finds, HasRecords}
@@ -35,7 +35,7 @@ still s id [] p none is = is
 still s id (Prepare w ∷ rs) p none is =
     let parts = or_parts (same_id w.id id) (has_id id (prepared_ids rs)) none in
     let ne : w.id ≡ id → ⊥ = λ same. both_ways (same_id w.id id) parts.0 (ap (λ (i : WriteId). same_id w.id i) (sym same) ∙ same_id_refl w.id) in
-    sym (find_push id s.in_doubt w ne) ∙ still (shard_step s (Prepare w)) id rs p parts.1 is
+    sym (find_put id s.in_doubt w ne) ∙ still (shard_step s (Prepare w)) id rs p parts.1 is
 still s id (Learned to placed_ids ∷ rs) p none is = still_placed_ids id placed_ids s.in_doubt p (still (shard_step s (Learned to placed_ids)) id rs p none is)
 still s id (Dropped other ∷ rs) p none is = still_without id other s.in_doubt p (still (shard_step s (Dropped other)) id rs p none is)
 still s id (Epoch epoch store shards node ∷ rs) p none is = still (shard_step s (Epoch epoch store shards node)) id rs p none is

@@ -2,7 +2,7 @@
 use Rattle.std.proofs.Common.{◌≡◌, ◌⊎◌, inl, inr, ⊎_elim, ℕ, ◌≤◌, ◌<◌, true, List, [], ◌∷◌, ◌++◌, length, Option, Some, None, Contains, All, refl, sym, ◌∙◌, ap, subst, arith}
 use Rattle.std.specs.Option.{is_some}
 use Rattle.std.proofs.lemmas.List.Elements.{All-append, All-cons, All-contains, All-nil, Contains-append_left, Contains-append_right}
-use Rattle.turns.proofs.Words.{AskBelow, Asked, Entry, HasItsCause, HasNoRoom, HeldTicket, HeldVote, Holds, HoldsLess, HoldsOf, Identity, IntentValue, IsCause, IsCutOff, IsPreparing, IsRight, IsRightTicket, IsRightVote, IsRightWrite, IsUp, Moment, NodeName, Nodes, Prepare, Record, Refusal, Running, ShardIsSeen, ShardKnows, ShardState, ShardView, Stages, Stands, StandsAndTurns, State, TakesMemory, WriteHolds, WriteId, behind_shard, device_left, find_in_doubt, find_push_same, going_on, id_of, leaves, memory, onward, outward, own_part, own_write, part, shard, shard_state, takes_part, with_call, with_nodes, writing}
+use Rattle.turns.proofs.Words.{AskBelow, Asked, Entry, HasItsCause, HasNoRoom, HeldTicket, HeldVote, Holds, HoldsLess, HoldsOf, Identity, IntentValue, IsCause, IsCutOff, IsPreparing, IsRight, IsRightTicket, IsRightVote, IsRightWrite, IsUp, Moment, NodeName, Nodes, Prepare, Record, Refusal, Running, ShardIsSeen, ShardKnows, ShardState, ShardView, Stages, Stands, StandsAndTurns, State, TakesMemory, WriteHolds, WriteId, behind_shard, device_left, find_in_doubt, find_put_same, going_on, id_of, leaves, memory, onward, outward, own_part, own_write, part, shard, shard_state, takes_part, with_call, with_nodes, writing}
 use Rattle.refusal.specs.declared.refusal.Refusal.TheVariants.{Aborted}
 use Rattle.records.specs.Replays.{shard_step}
 use Rattle.device.specs.Device.{reach}
@@ -106,7 +106,7 @@ module _ (store shards : ℕ) (left : NodeName → List Record → Type 0) {D : 
       in_doubt_now : (m : ShardState) → ShardKnows next s m → find_in_doubt (part shards s w).id m.in_doubt ≡ Some (part shards s w)
       unfolding shard_step
       in_doubt_now m k = ap (λ (x : ShardState). find_in_doubt (part shards s w).id x.in_doubt) (memory_after store shards left now old s seen new (Prepare (part shards s w)) stages m k)
-          ∙ find_push_same (memory old).in_doubt (part shards s w) may.free.new
+          ∙ find_put_same (memory old).in_doubt (part shards s w)
 
       ticket : IsRightTicket shards left (with_nodes now next) w (held_ticket s t)
       ticket = record {

@@ -1,12 +1,12 @@
 -- Each record that a shard stages leaves the store standing for the same machine.
 use Rattle.std.proofs.Common.{◌≡◌, ◌≢◌, inl, inr, ⊎_elim, ℕ, ◌+◌, ◌-◌, ◌≤◌, true, List, [], ◌∷◌, ◌++◌, length, take, drop, Some, None, Contains, sym, ◌∙◌, ap, subst, arith, slice_get, refl, false}
 use Rattle.std.proofs.lemmas.List.{take_all}
-use Rattle.std.proofs.lemmas.List.Elements.{Contains-push_cases}
 use Rattle.std.proofs.lemmas.Option.{same_Some}
-use Rattle.turns.proofs.Words.{Asked, BatchValue, Dropped, Entry, Epoch, HeldTicket, HoldAfter, Holds, Horizon, IsOpen, IsRight, IsRightBatch, IsRightOwn, IsRightTicket, IsRightVerdict, IsRightWrite, IsStaging, IsUndecided, IsUnlisted, Learned, Moment, NodeName, Nodes, PlacedId, Prepare, Record, Rests, Running, ShardMeans, ShardState, Stands, WasGiven, WriteHolds, WriteId, at_shards, find_in_doubt, find_push_same, id_of, image_last, leaves, of_without, own_write, placed_ids_from, replaced, shard_node, shard_push, shard_state, slice_get_drop, slice_get_taken, takes_part, to_write, with_nodes, without, writing}
+use Rattle.turns.proofs.Words.{Asked, BatchValue, Dropped, Entry, Epoch, HeldTicket, HoldAfter, Holds, Horizon, IsOpen, IsRight, IsRightBatch, IsRightOwn, IsRightTicket, IsRightVerdict, IsRightWrite, IsStaging, IsUndecided, IsUnlisted, Learned, Moment, NodeName, Nodes, PlacedId, Prepare, Record, Rests, Running, ShardMeans, ShardState, Stands, WasGiven, WriteHolds, WriteId, at_shards, find_in_doubt, find_put_same, id_of, image_last, leaves, of_without, own_write, placed_ids_from, replaced, shard_node, shard_push, shard_state, slice_get_drop, slice_get_taken, takes_part, to_write, with_nodes, without, writing}
 use Rattle.tuples.specs.Parts.{part}
-use Rattle.records.specs.Replays.{MayPrepare, shard_step, without_placed_ids}
-use Rattle.replay.proofs.Doubts.{HasPlacedId, cases_id, find_not_learned, find_push, find_without_other, find_without_same}
+use Rattle.records.specs.Replays.{MayPrepare, put, shard_step, without_placed_ids}
+use Rattle.holds.proofs.Put.{put_or_there}
+use Rattle.replay.proofs.Doubts.{HasPlacedId, cases_id, find_not_learned, find_put, find_without_other, find_without_same}
 use Rattle.shard.specs.Shards.{learning}
 use Rattle.shard.proofs.Waiting.{still_placed_ids}
 use Rattle.laws.specs.ShardLaws.{IsShardStep}
@@ -85,8 +85,8 @@ module _ (store shards : ℕ) (left : NodeName → List Record → Type 0) (now 
       → StagesDoubts store shards left now next s (Prepare (part shards s w)) st false v
   unfolding shard_step part
   of_others w st v ne = record {
-    found = λ p has. inl (sym (find_push v.id (shard_state was).in_doubt (part shards s w) ne) ∙ ap (λ (m : ShardState). find_in_doubt v.id m.in_doubt) (sym after) ∙ has);
-    promised = λ here has. ap (λ (m : ShardState). find_in_doubt v.id m.in_doubt) after ∙ find_push v.id (shard_state was).in_doubt (part shards s w) ne ∙ has;
+    found = λ p has. inl (sym (find_put v.id (shard_state was).in_doubt (part shards s w) ne) ∙ ap (λ (m : ShardState). find_in_doubt v.id m.in_doubt) (sym after) ∙ has);
+    promised = λ here has. ap (λ (m : ShardState). find_in_doubt v.id m.in_doubt) after ∙ find_put v.id (shard_state was).in_doubt (part shards s w) ne ∙ has;
     epoch = ap (λ (m : ShardState). m.epoch) after;
   }
     where
@@ -102,7 +102,7 @@ module _ (store shards : ℕ) (left : NodeName → List Record → Type 0) (now 
   unfolding shard_step part
   of_own w st takes hold = record {
     found = λ p has.
-        let part_is : Some (part shards s w) ≡ Some p = sym (find_push_same (shard_state was).in_doubt (part shards s w) may.new) ∙ ap (λ (m : ShardState). find_in_doubt w.id m.in_doubt) (sym after) ∙ has in
+        let part_is : Some (part shards s w) ≡ Some p = sym (find_put_same (shard_state was).in_doubt (part shards s w)) ∙ ap (λ (m : ShardState). find_in_doubt w.id m.in_doubt) (sym after) ∙ has in
         let is : part shards s w ≡ p = cc in
         inr (refl, takes, sym is, λ here. subst (λ (q : Entry). HoldAfter now.machine.log q.conditions) is (hold here));
     promised = λ here has. let gone : None ≡ Some (part shards s w) = sym may.new ∙ has in absurd cc;
@@ -127,10 +127,12 @@ module _ (store shards : ℕ) (left : NodeName → List Record → Type 0) (now 
     rests = λ stops kept le of_coordinator rests. prepares_rest stops (at_shards (leaves left now.nodes)) (at_shards (leaves left next)) store shards now.machine.log kept now.machine.horizon s was (part shards s w)
         (step_of (Prepare (part shards s w)) st stops kept rests) own.unlisted
         (λ c is. epoch_given store shards left now next s (Prepare (part shards s w)) st w.id own.given c (of_coordinator c is));
-    given = λ x has. ⊎_elim
-        (λ old. inl old)
-        (λ new. inr (subst (λ (y : Entry). WasGiven shards left now.nodes y.id) new own.given))
-        (Contains-push_cases (shard_state was).in_doubt (part shards s w) x (subst (λ (m : ShardState). Contains m.in_doubt x) after has));
+    given = λ x has.
+        let at = contained_at (put (part shards s w) (shard_state was).in_doubt) x (subst (λ (m : ShardState). Contains m.in_doubt x) after has) in
+        ⊎_elim
+        (λ new. inr (subst (λ (y : Entry). WasGiven shards left now.nodes y.id) (sym new) own.given))
+        (λ old. inl (contained_from (shard_state was).in_doubt old.0 x old.1))
+        (put_or_there (part shards s w) (shard_state was).in_doubt at.0 x at.1);
     means = λ m. subst (ShardMeans shards s now.machine.log now.machine.horizon now.machine.horizon) (sym after)
         (prepared_means shards s now.machine.log now.machine.horizon now.machine.horizon (shard_state was) w.id own.unlisted m (part shards s w) refl);
   }) (replaced later now.running) (flows_turn store shards left left now (with_nodes now next) r later st.stands.flows flow.there refl (inl (sym (ap id_of holds))) (omega arith) (omega arith)

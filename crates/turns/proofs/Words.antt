@@ -28,7 +28,7 @@ pub use Rattle.records.specs.declared.record.Record.{Record}
 pub use Rattle.records.specs.declared.record.Record.TheVariants.{Decision, Dropped, Epoch, Horizon, Learned, Prepare}
 pub use Rattle.refusal.specs.declared.refusal.Refusal.{Refusal}
 pub use Rattle.refusal.specs.declared.refusal.Refusal.TheVariants.{Collected, Down, Full, NoMemory, Unsure}
-pub use Rattle.replay.proofs.Doubts.{find_push_same}
+pub use Rattle.replay.proofs.Doubts.{find_put_same}
 pub use Rattle.replay.proofs.States.{image_last, shard_from-append, shard_push}
 pub use Rattle.shard.specs.Shards.{AskBelow, IsUp, ShardView, Stages, memory, opening, own_part, placed_ids_from}
 pub use Rattle.tuples.proofs.Examples.{numbered, three, viewed}

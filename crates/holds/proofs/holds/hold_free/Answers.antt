@@ -3,7 +3,7 @@ use Rattle.tuples.specs.Changes.{has_tuple}
 use Rattle.records.specs.Replays.{is_held, named}
 use Rattle.holds.specs.Holds.{is_in}
 use Rattle.holds.proofs.Apart.{free_one}
-use Rattle.holds.proofs.Named.{from_ok, held_push, let_go_again}
+use Rattle.holds.proofs.Named.{from_ok, held_put, let_go_again}
 use Rattle.holds.proofs.holds.hold_free.Goals as goal
 
 pub returns-then-is_err-clause-same : goal.returns-then-is_err-clause-same
@@ -18,4 +18,4 @@ returns-clause-ok c t =
     let ws = c.args.writes.now in
     let w = c.args.write.now in
     let held : is_in c.hold.new.held.keys t ≡ (has_tuple t (named w) || is_in c.args.held.now.keys t) = from_ok c.hold.result (sym c.is_err.ensures.value ∙ c.if-is_err.false) c.hold.ensures.ok t in
-    held ∙ ap (λ (b : Bool). has_tuple t (named w) || b) (c.requires.holding.exact t) ∙ sym (held_push t ws w)
+    held ∙ ap (λ (b : Bool). has_tuple t (named w) || b) (c.requires.holding.exact t) ∙ sym (held_put t ws w c.requires.free.new)

@@ -16,6 +16,7 @@ returns c =
         on = omega arith;
         place = omega arith;
         above = subst (λ (n : ℕ). All (λ (p : PlacedId). n < p.place) c.args.placed_ids.now) c.learned-2.ensures (c.are_above.ensures.0 c.if-not-are_above.false);
+        places = c.places_rise.ensures.0 c.if-not-places_rise.false;
         prepared = tests.0 (sym same ∙ is);
       },
       λ may. same ∙ tests.1 may.prepared,
