@@ -1,10 +1,10 @@
 -- What is known of a store behind a call of one of its nodes.
-use Rattle.std.proofs.Common.{◌≡◌, ◌≢◌, ◌⊎◌, inl, inr, ⊎_elim, ◌==◌, ℕ, true≢false, List, [], map, Result, Ok, Err, Some, Contains, refl, sym, ◌∙◌, ap, subst, arith}
+use Rattle.std.proofs.Common.{◌≡◌, ◌≢◌, ◌⊎◌, inl, inr, ⊎_elim, ◌==◌, ℕ, ◌≤◌, true≢false, List, [], map, Result, Ok, Err, Some, Contains, refl, sym, ◌∙◌, ap, subst, arith}
 use Rattle.std.proofs.Math.Path.{fun_ext}
 use Rattle.std.proofs.lemmas.Bool.{cases_Bool, eq-eqb, eqb-true}
 use Rattle.std.proofs.lemmas.Option.{same_Some}
 use Rattle.tuples.specs.declared.entry.Entry.{Entry}
-use Rattle.call_turns.proofs.Words.{AreSound, Calls, CoordinatorState, HasDeviceCause, HasItsCause, IsCalled, IsHorizonIn, IsMade, IsQuietCall, Machine, Moment, NamesHorizon, NodeName, NodeState, NodeView, Nodes, Record, Refusal, Running, ShowsNodes, StandsOver, State, Store, Unsure, WriteId, coordinator, coordinator_state, down, found, leaves, left, refused, shard, shown, staged_of, stops, up}
+use Rattle.call_turns.proofs.Words.{AreSound, Calls, CoordinatorState, HasDeviceCause, HasItsCause, IsCalled, IsHorizonIn, IsMade, IsQuietCall, Machine, Moment, NamesHorizon, NodeName, NodeState, NodeView, Nodes, Record, Refusal, Running, ShowsNodes, StandFor, StandsOver, State, Store, Unsure, WriteId, coordinator, coordinator_state, down, found, leaves, left, refused, shard, shown, staged_of, stops, up}
 use Rattle.decisions.specs.Standing.{IsGivenOut}
 use Rattle.records.specs.declared.record.Record.TheVariants.{Epoch}
 use Rattle.calls.specs.Views as views
@@ -16,7 +16,7 @@ use Rattle.turns.specs.Stands.{at_shards}
 use Rattle.turns.proofs.Answers.{replays}
 use Rattle.turns.proofs.DecisionNodes.{epoch_stays}
 use Rattle.turns.proofs.QuietTurns.{nothing_changes, of_node}
-use Rattle.turns.proofs.StopInside.{stops_within_steps}
+use Rattle.turns.proofs.Places.{alike_place, each_in_place, forgotten_means, stand_for_itself}
 use Rattle.call_turns.specs.StoreCalls.{KeepsMemory, ShowsMemory}
 
 -- two nodes are one, or not
@@ -74,48 +74,59 @@ module _ {D : Type 0} (state : D → State) (honest : D → Type 0) (moment : D 
         ∙ epoch_stays (coordinator_state was) (staged_of (now.nodes.at coordinator)) (no_epoch (now.nodes.at coordinator) refl),
   )
 
-  -- where a stop inside the call leaves of each node what it could leave before, with what is staged or without, all is well inside
+  -- what a stop could leave of a node before the call, with what is staged or without; or records that stand for the same
+  abbrev pub WasOrSame : NodeName → List Record → Type 0
+  WasOrSame k rs = (was : List Record) × leaves before now.nodes k was × StandFor k was rs
+
+  pub was_itself : (k : NodeName) (rs : List Record) → leaves before now.nodes k rs → WasOrSame k rs
+  was_itself k rs is = (rs, is, stand_for_itself k rs)
+
+  -- where a stop inside the call leaves such records of each node, all is well inside
   abbrev pub IsWithin : Type 0
   IsWithin = (k : NodeName) (a b : List ℕ) → IsThere shards k → left_since (new.devices k).0 (moment (old.devices k).0) a → left_since (new.devices k).1 (moment (old.devices k).1) b
-      → (rs : List Record) × (found a b ≡ Some rs) × leaves before now.nodes k rs
+      → (rs : List Record) × (found a b ≡ Some rs) × WasOrSame k rs
 
   -- a node that is there, and what a stop inside the call may leave of it
   abbrev there_since : NodeName → List Record → Type 0
   there_since k rs = since k rs × IsThere shards k
 
-  at_node : IsWithin → (k : NodeName) (rs : List Record) → there_since k rs → leaves before now.nodes k rs
+  at_node : IsWithin → (k : NodeName) (rs : List Record) → there_since k rs → WasOrSame k rs
   at_node all k rs ((a, b, in_a, in_b, is), there) =
       let x = all k a b there in_a in_b in
-      subst (leaves before now.nodes k) (same_Some x.0 rs (sym x.1 ∙ is)) x.2
+      subst (WasOrSame k) (same_Some x.0 rs (sym x.1 ∙ is)) x.2
 
-  wider : (log : List Entry) (rs : List Record) → MeansOne store shards log now.machine.kept now.machine.horizon rs (at_shards there_since)
-      → MeansOne store shards log now.machine.kept now.machine.horizon rs (at_shards since)
-  wider log rs one = record {
-    n = one.n;
-    holds = one.holds;
-    within = one.within;
-    means = record { image = one.means.image; decided = one.means.decided; each_shard = λ s c lt is. one.means.each_shard s c lt (is, lt) };
-  }
+  -- so it means a beginning of the log
+  means_one : IsWithin → (rs : List Record) → since coordinator rs → MeansOne store shards now.machine.log now.machine.kept now.machine.horizon rs (at_shards since)
+  means_one all rs is =
+      let was = at_node all coordinator rs (is, tt) in
+      let one = each_in_place store shards before now.nodes (λ s. there_since (shard s))
+      (λ s c w. let x = at_node all (shard s) c w in (x.0, x.1, alike_place store shards s x.0 c x.2)) now.machine.log now.machine.kept now.machine.horizon standing.stands.rests rs
+      (was.0, was.1, λ log h m. forgotten_means store shards log h was.0 rs (at_shards (leaves before now.nodes)) was.2 m) in
+      record {
+        n = one.0;
+        holds = one.1;
+        within = one.2;
+        means = record { image = one.3.image; decided = one.3.decided; each_shard = λ s c lt w. one.3.each_shard s c lt (w, lt) };
+      }
+
+  -- the coordinator is of no lower epoch
+  given_in : (id : WriteId) (rs : List Record) → WasOrSame coordinator rs → IsGivenOut (before coordinator) id → id.epoch ≤ (coordinator_state rs).epoch
+  given_in id rs was given =
+      let e = same_epoch was.0 was.1 in
+      let low = given e.0 e.1 in
+      let same = was.2.0.epoch in
+      omega (arith, low, e.2, same)
 
   pub inside_by : IsWithin → (m : Machine) → StopsBetween state honest moment left_since store shards old.devices new.devices now.machine m
   inside_by all m = record {
-    rests = λ rs is. ⊎_elim
-        (λ one. inl (wider now.machine.log rs one))
-        (λ one. inr (wider m.log rs one))
-        (stops_within_steps store shards before there_since now m standing.stands (λ c w. inl (at_node all coordinator c w)) (λ s c w. inl (at_node all (shard s) c w)) rs (is, tt));
+    rests = λ rs is. inl (means_one all rs is);
     readable = λ k a b there in_a in_b. let x = all k a b there in_a in_b in (x.0, x.1);
-    given = λ id given rs is.
-        let e = same_epoch rs (at_node all coordinator rs (is, tt)) in
-        let low = given e.0 e.1 in
-        omega (arith, low, e.2);
+    given = λ id given rs is. given_in id rs (at_node all coordinator rs (is, tt)) given;
   }
 
-  -- where a stop behind the call leaves of the coordinator what it could leave before, with what is staged or without, each id that was given out stays so
-  pub given_by : ((rs : List Record) → after coordinator rs → leaves before now.nodes coordinator rs) → (id : WriteId) → IsGivenOut (before coordinator) id → IsGivenOut (after coordinator) id
-  given_by all id given rs is =
-      let e = same_epoch rs (all rs is) in
-      let low = given e.0 e.1 in
-      omega (arith, low, e.2)
+  -- where a stop behind the call leaves such records of the coordinator, each id that was given out stays so
+  pub given_by : ((rs : List Record) → after coordinator rs → WasOrSame coordinator rs) → (id : WriteId) → IsGivenOut (before coordinator) id → IsGivenOut (after coordinator) id
+  given_by all id given rs is = given_in id rs (all rs is) given
 
   -- and so where no device has changed
   pub still_given : new.devices ≡ old.devices → (id : WriteId) → IsGivenOut (before coordinator) id → IsGivenOut (after coordinator) id
@@ -123,18 +134,18 @@ module _ {D : Type 0} (state : D → State) (honest : D → Type 0) (moment : D 
 
   -- of a node whose devices have not changed a stop inside the call leaves what it could leave before
   pub still_at : ((d : D) (c : List ℕ) → honest d → left_since d (moment d) c → left (state d) c) → (k : NodeName) → new.devices k ≡ old.devices k → (a b : List ℕ) → IsThere shards k
-      → left_since (new.devices k).0 (moment (old.devices k).0) a → left_since (new.devices k).1 (moment (old.devices k).1) b → (rs : List Record) × (found a b ≡ Some rs) × leaves before now.nodes k rs
+      → left_since (new.devices k).0 (moment (old.devices k).0) a → left_since (new.devices k).1 (moment (old.devices k).1) b → (rs : List Record) × (found a b ≡ Some rs) × WasOrSame k rs
   still_at only_now k same a b there in_a in_b =
       let d = old.devices k in
       let in_a_then = only_now d.0 a (standing.sound.honest_a k there) (subst (λ (p : D × D). left_since p.0 (moment d.0) a) same in_a) in
       let in_b_then = only_now d.1 b (standing.sound.honest_b k there) (subst (λ (p : D × D). left_since p.1 (moment d.1) b) same in_b) in
       let rs = standing.sound.readable k a b there in_a_then in_b_then in
-      (rs.0, rs.1, (rs.0, (a, b, in_a_then, in_b_then, rs.1), inl refl))
+      (rs.0, rs.1, was_itself k rs.0 (rs.0, (a, b, in_a_then, in_b_then, rs.1), inl refl))
 
-  -- where a stop may leave no more of the coordinator, with what is staged or without, each horizon was named before
-  pub named_less : (next : Nodes) → ((rs : List Record) → leaves after next coordinator rs → leaves before now.nodes coordinator rs) → (x : ℕ) → IsHorizonIn store shards after next x
+  -- and each horizon was named before
+  pub named_less : (next : Nodes) → ((rs : List Record) → leaves after next coordinator rs → WasOrSame coordinator rs) → (x : ℕ) → IsHorizonIn store shards after next x
       → Contains now.named x ⊎ NamesHorizon state honest store shards old now x
-  named_less next less x (some, (rs, there, high)) = inr (some, (rs, less rs there, high))
+  named_less next less x (some, (rs, there, high)) = let was = less rs there in inr (some, (was.0, was.1, sym was.2.0.horizon ∙ high))
 
   -- no device has changed
   module _ (only_now : (d : D) (c : List ℕ) → honest d → left_since d (moment d) c → left (state d) c) (same : new.devices ≡ old.devices) where

@@ -17,7 +17,7 @@ pub use Rattle.decisions.specs.Values.{BatchValue, HeadsValue, SettledValue, Ver
 pub use Rattle.device.specs.Device.{State, left}
 pub use Rattle.journal.specs.Records.{HasNoRoom, found}
 pub use Rattle.laws.specs.Machines.{Machine}
-pub use Rattle.laws.specs.Nodes.{NodeName, NodeState, Nodes, coordinator, down, leaves, refused, shard, staged_of, up}
+pub use Rattle.laws.specs.Nodes.{NodeName, NodeState, Nodes, StandFor, coordinator, down, leaves, refused, shard, staged_of, up}
 pub use Rattle.laws.specs.Worlds.{shard_node}
 pub use Rattle.records.specs.Coordinators.{CoordinatorState, coordinator_state, end_of}
 pub use Rattle.records.specs.Identity.{Identity}

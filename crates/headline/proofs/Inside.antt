@@ -6,7 +6,8 @@ use Rattle.records.specs.Coordinators.{MayOpenAgain, coordinator_step}
 use Rattle.laws.proofs.CoordinatorStates.{coordinator_last}
 use Rattle.turns.specs.Promises.{StopsBetween}
 use Rattle.turns.specs.RestartLaws.{IsReopenedCoordinator, IsReopenedShard}
-use Rattle.turns.proofs.StopInside.{each_within}
+use Rattle.turns.proofs.Places.{each_in_place}
+use Rattle.turns.proofs.StopInside.{left_or_opened, means_or_opened}
 use Rattle.headline.proofs.Reopening.{AreOver, image_of, opening_of}
 use Rattle.headline.proofs.Within.{IsLonger, WasOrIsLonger, opened_now, opened_since}
 
@@ -126,7 +127,8 @@ module _ {D : Type 0} (state : D → State) (honest : D → Type 0) (moment : D 
         → StopsBetween state honest moment left_since store shards old new m later
     inside nodes m later rests = record {
       rests = λ rs is.
-          let one = each_within store shards before nodes (λ s. there_since (shard s)) (of_shard nodes) m.log m.kept m.horizon rests rs (of_coordinator nodes rs is) in
+          let one = each_in_place store shards before nodes (λ s. there_since (shard s)) (λ s c left_there. left_or_opened store shards before nodes s c (of_shard nodes s c left_there)) m.log m.kept m.horizon rests rs
+          (means_or_opened store shards before nodes rs (of_coordinator nodes rs is)) in
           inl (record { n = one.0; holds = one.1; within = one.2; means = record { image = one.3.image; decided = one.3.decided; each_shard = λ s c lt left_there. one.3.each_shard s c lt (left_there, lt) } });
       readable = λ n c d there in_c in_d. let x = (all n there).since_then c d in_c in_d in (x.0, x.1);
       given = λ id given rs is. given_still id rs given (at_node coordinator rs is tt);

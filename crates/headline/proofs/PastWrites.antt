@@ -75,7 +75,7 @@ abbrev StaysUp : NodeState → NodeState → Type 0
 StaysUp old new = (durable staged : List Record) → new ≡ up durable staged
     → (d : List Record) × (g : List Record) × (old ≡ up d g) × ((coordinator_state (durable ++ staged)).epoch ≡ (coordinator_state (d ++ g)).epoch)
 
-stays_up : (old new : NodeState) → NodeTurns old new → StaysUp old new
+stays_up : (old new : NodeState) → NodeTurns coordinator old new → StaysUp old new
 stays_up old new (inl same) durable staged is = (durable, staged, sym same ∙ is, refl)
 stays_up old new (inr (inl more)) durable staged is = (more.durable, more.staged, more.was, same_epoch)
   where
@@ -94,12 +94,12 @@ stays_up old new (inr (inr (inl all))) durable staged is = (
   all.durable,
   all.staged,
   all.was,
-  ap (λ (l : List Record). (coordinator_state l).epoch) (ap records_of (sym is ∙ all.now) ∙ append-nil (all.durable ++ all.staged)),
+  ap (λ (l : List Record). (coordinator_state l).epoch) (ap records_of (sym is ∙ all.now) ∙ append-nil all.records) ∙ all.stand_for.0.epoch,
 )
 stays_up old new (inr (inr (inr gone))) durable staged is = let bad : down ≡ up durable staged = sym gone.now ∙ is in absurd cc
 
 -- so of any call of one node
-pub coordinator_stays : (n : NodeName) (old new : Nodes) → SameBut n old new → NodeTurns (old.at n) (new.at n) → StaysUp (old.at coordinator) (new.at coordinator)
+pub coordinator_stays : (n : NodeName) (old new : Nodes) → SameBut n old new → NodeTurns n (old.at n) (new.at n) → StaysUp (old.at coordinator) (new.at coordinator)
 coordinator_stays coordinator old new others turns = stays_up (old.at coordinator) (new.at coordinator) turns
 coordinator_stays (shard s) old new others turns = stays_up (old.at coordinator) (new.at coordinator) (inl (others.others coordinator (λ is. cc)))
 

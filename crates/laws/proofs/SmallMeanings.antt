@@ -1,5 +1,5 @@
 -- Small records, computed: what a shard's and a coordinator's mean, and some that mean nothing.
-use Rattle.std.proofs.Common.{◌≡◌, ◌≤◌, inl, ℕ, zero, suc, true≢false, List, [], ◌∷◌, ◌++◌, Some, None, refl, sym, ◌∙◌, subst, arith, slice_get}
+use Rattle.std.proofs.Common.{◌≡◌, ◌≤◌, inl, inr, ⊎_elim, ℕ, zero, suc, true≢false, List, [], ◌∷◌, ◌++◌, Some, None, refl, sym, ◌∙◌, subst, arith, slice_get}
 use Rattle.std.proofs.lemmas.List.Elements.{All-head, All-nil}
 use Rattle.laws.proofs.Words.{Absent, Decision, Entry, Epoch, IsCoordinatorImage, Record, ShardMeans, ShardState, Touch, alike_refl, alike_same, alike_trans, coordinator_node, find_in_doubt, last_alike, of_shard}
 use Rattle.tuples.specs.Log.{is_at}
@@ -7,7 +7,8 @@ use Rattle.tuples.specs.Order.{tuple_eq}
 use Rattle.tuples.specs.Parts.{expected, part, shard_of, takes_part}
 use Rattle.tuples.specs.Versions.{collected, versions}
 use Rattle.tuples.proofs.Examples.{numbered, viewed}
-use Rattle.records.specs.Coordinators.{HoldsKnown, MayDecide, coordinator_state, coordinator_step}
+use Rattle.laws.specs.Nodes.{StandsForSame}
+use Rattle.records.specs.Coordinators.{CoordinatorState, HoldsKnown, MayDecide, coordinator_state, coordinator_step}
 use Rattle.laws.proofs.CoordinatorStates.{coordinator_empty, coordinator_image_push}
 use Rattle.tuples.specs.Versions.{last_version}
 
@@ -113,3 +114,17 @@ broken image =
     let may : MayDecide _ 2 if_absent = image before [] (Decision 2 if_absent) refl in
     let holds : HoldsKnown (coordinator_state before) (record { tuple = viewed 97; want = Absent }) = All-head (HoldsKnown (coordinator_state before)) (record { tuple = viewed 97; want = Absent }) [] may.conditions in
     true≢false (sym (holds (inl refl)))
+
+-- a coordinator that has forgotten the decision at its horizon stands for the same, and so does not one that has forgotten a decision above it, or has lost
+-- the last
+abbrev knowing : ℕ → ℕ → List Entry → CoordinatorState
+knowing base horizon log = record { base = base; log = log; horizon = horizon; epoch = 1 }
+
+forgets_at_its_horizon : StandsForSame (knowing 0 1 one_write) (knowing 1 1 [])
+forgets_at_its_horizon = record { horizon = refl; epoch = refl; above = omega arith; within = inr (omega arith); log = refl; end = refl }
+
+forgets_above_it : StandsForSame (knowing 0 0 one_write) (knowing 1 0 []) → ⊥
+forgets_above_it same = ⊎_elim (λ le. omega (arith, le)) (λ le. omega (arith, le)) same.within
+
+loses_the_last : StandsForSame (knowing 0 1 one_write) (knowing 0 1 []) → ⊥
+loses_the_last same = let e : 0 ≡ 1 = same.end in omega (arith, e)

@@ -1,13 +1,14 @@
 -- The nodes of a store at a moment, seen as lists of records.
-use Rattle.std.specs.Prelude.{◌≡◌, ◌≢◌, ◌⊎◌, ◌≤◌, ◌<◌, ℕ, List, [], ◌∷◌, ◌++◌}
+use Rattle.std.specs.Prelude.{◌≡◌, ◌≢◌, ◌⊎◌, ◌≤◌, ◌<◌, ◌-◌, ℕ, List, [], ◌∷◌, ◌++◌, drop}
 use Rattle.tuples.specs.declared.entry.Entry.{Entry}
 use Rattle.tuples.specs.declared.entry.WriteId.{WriteId}
 use Rattle.refusal.specs.declared.refusal.Refusal.{Refusal}
 use Rattle.refusal.specs.declared.refusal.Refusal.TheVariants.{Down, NoMemory, Full}
 use Rattle.records.specs.declared.record.Record.{Record}
 use Rattle.records.specs.declared.record.Record.TheVariants.{Epoch}
-use Rattle.records.specs.Coordinators.{CoordinatorState, coordinator_state}
-use Rattle.records.specs.Replays.{ShardState, shard_state}
+use Rattle.records.specs.Coordinators.{CoordinatorState, IsCoordinatorImage, coordinator_state, end_of}
+use Rattle.records.specs.Replays.{Identity, IsShardImage, ShardState, shard_state}
+use Rattle.replay.specs.Alike.{IsAlike}
 use Rattle.laws.specs.Worlds.{WithStaged}
 
 -- which node
@@ -39,12 +40,28 @@ pub record StagesMore (old new : NodeState) : Type 0 where
   pub now : new ≡ up durable (staged ++ next ∷ [])
   pub no_opening : (epoch store shards node : ℕ) → next ≡ Epoch epoch store shards node → ⊥
 
--- what a node had staged is durable
-pub record FlushesAll (old new : NodeState) : Type 0 where
+-- A coordinator knows the same, but for decisions at or below its horizon, of which it may have forgotten the first.
+pub record StandsForSame (old new : CoordinatorState) : Type 0 where
+  pub horizon : new.horizon ≡ old.horizon
+  pub epoch : new.epoch ≡ old.epoch
+  pub above : old.base ≤ new.base
+  pub within : (new.base ≤ old.base) ⊎ (new.base ≤ old.horizon)
+  pub log : new.log ≡ drop (new.base - old.base) old.log
+  pub end : end_of new ≡ end_of old
+
+-- Records of a node stand for the same as others: whoever can have the others can have them.
+abbrev pub StandFor : NodeName → List Record → List Record → Type 0
+StandFor coordinator old new = StandsForSame (coordinator_state old) (coordinator_state new) × ((me : Identity) → IsCoordinatorImage me old → IsCoordinatorImage me new)
+StandFor (shard s) old new = IsAlike (shard_state old) (shard_state new) × ((me : Identity) → IsShardImage me old → IsShardImage me new)
+
+-- what a node had staged is durable, by the same records or by others that stand for the same
+pub record FlushesAll (n : NodeName) (old new : NodeState) : Type 0 where
   pub durable : List Record
   pub staged : List Record
+  pub records : List Record
   pub was : old ≡ up durable staged
-  pub now : new ≡ up (durable ++ staged) []
+  pub now : new ≡ up records []
+  pub stand_for : StandFor n (durable ++ staged) records
 
 -- a node that was up goes down
 pub record GoesDown (old new : NodeState) : Type 0 where
@@ -54,8 +71,8 @@ pub record GoesDown (old new : NodeState) : Type 0 where
   pub now : new ≡ down
 
 -- What a call may do to the node that it calls: nothing, one record more, a flush, or it goes down. No call but an opening opens it.
-abbrev pub NodeTurns : NodeState → NodeState → Type 0
-NodeTurns old new = (new ≡ old) ⊎ (StagesMore old new ⊎ (FlushesAll old new ⊎ GoesDown old new))
+abbrev pub NodeTurns : NodeName → NodeState → NodeState → Type 0
+NodeTurns n old new = (new ≡ old) ⊎ (StagesMore old new ⊎ (FlushesAll n old new ⊎ GoesDown old new))
 
 -- the record of the opening of this node of the store, and how often the node was opened by its records
 abbrev pub opening_record : ℕ → ℕ → NodeName → ℕ → Record

@@ -12,7 +12,8 @@ use Rattle.laws.proofs.CoordinatorSteps.{restarts_rest}
 use Rattle.turns.proofs.FailedFlush.{CoordinatorStands, nodes_stand, nothing_known}
 use Rattle.turns.proofs.CoordinatorOpeningFlows.{Renews, ids_kept, kept_flow, left_before, locks_kept, verdict_kept}
 use Rattle.turns.proofs.ShardStages.{durable_in}
-use Rattle.turns.proofs.StopInside.{rests_within}
+use Rattle.turns.proofs.Places.{rests_in_place, still_in_place}
+use Rattle.turns.proofs.StopInside.{means_or_opened}
 
 -- the horizon that records stand for is none, or a record names it
 -- a flow that is marked ran before
@@ -115,8 +116,9 @@ module _ (store shards : ℕ) (left after : NodeName → List Record → Type 0)
       (refuses_it.here is.0 is.1)
 
   rests : Rests store shards now.machine.log now.machine.kept now.machine.horizon (leaves after next coordinator) (at_shards (leaves after next))
-  rests = rests_within store shards left now.nodes (at_shards (leaves after next)) (λ t rs is. inl (left_before store shards left after now next now.machine (length now.machine.log) renews now.running t rs is))
-      now.machine.log now.machine.kept now.machine.horizon (leaves after next coordinator) stands.rests at_coordinator
+  rests = rests_in_place store shards left now.nodes (at_shards (leaves after next))
+      (λ t rs is. still_in_place store shards left now.nodes t rs (left_before store shards left after now next now.machine (length now.machine.log) renews now.running t rs is))
+      now.machine.log now.machine.kept now.machine.horizon (leaves after next coordinator) stands.rests (λ rs is. means_or_opened store shards left now.nodes rs (at_coordinator rs is))
 
   refused_stands : Stands store shards after (with_restart now next now.machine)
   refused_stands =

@@ -5,6 +5,7 @@ use Rattle.std.proofs.lemmas.Option.{same_Some}
 use Rattle.turns.proofs.Words.{AreRevived, ComesUp, CoordinatorView, Finds, HasFailed, IsCoordinatorImage, IsReopenedCoordinator, IsSeen, Leaves, Moment, NodeName, Nodes, OpensCoordinator, Record, Refusal, RefusesCoordinator, Revived, State, behind, coordinator, coordinator_node, coordinator_state, device_left, found, leaves_nothing_else, shard, stops, up}
 use Rattle.decisions.specs.Coordinators.{IsOpenedCoordinator, WasLeftOrReopened, coordinator_opening}
 use Rattle.turns.specs.CoordinatorOpeningLaws.{CoordinatorOpeningsStep, FailedOpeningsHaveCause, FailsOverDevices, FlushesOverDevices, FullCoordinatorsWereOpened, IsFresh, IsOverDevices, NoCoordinatorIsDamaged, OpensOverDevices, RefusedOpeningsStep, behind_refusal}
+use Rattle.turns.specs.FlushLaws.{IsOldOrSame}
 use Rattle.turns.proofs.CoordinatorOpening.{coordinator_openings_stand, refused_coordinators_stand}
 use Rattle.turns.proofs.ShardPrepareSeam.{last_sync}
 
@@ -161,25 +162,27 @@ module _ {D : Type 0} (state : D → State) (honest : D → Type 0) (moment : D 
       damaged reads.0 reads.1 (rests.each reads.0 (was_left state honest moment left_since counts_now store shards old old a b revived reads.0 reads.1)).3.image
 
   pub flushes_over_devices : FlushesOverDevices state honest moment left_since store shards
-  flushes_over_devices old new now was v seen running flushes keeps over = (
+  flushes_over_devices old new now was v seen running same none keeps over = (
     record { at = refl; open_writes = seen.open_writes ∙ sym keeps.open_ids; given = refl },
     record {
       durable = was.durable;
       staged = was.staged;
+      records = v.durable;
       was = seen.at;
-      now = ap (λ (l : List Record). up l v.staged) flushes.durable ∙ ap (up (was.durable ++ was.staged)) flushes.staged;
+      now = ap (up v.durable) none;
+      stand_for = same;
       shards = λ s. refl;
       open_writes = refl;
       given = keeps.given ∙ sym seen.given;
       same = elsewhere state honest moment left_since store shards old new v.a v.b over;
       here = λ rs. (
-        λ finds. let at = to_node state honest moment left_since store shards old new v.a v.b over rs finds in same_Some rs (was.durable ++ was.staged) (sym at.4 ∙ running.rest at.0 at.1 at.2 at.3 ∙ ap Some flushes.durable),
+        λ finds. let at = to_node state honest moment left_since store shards old new v.a v.b over rs finds in same_Some rs v.durable (sym at.4 ∙ running.rest at.0 at.1 at.2 at.3),
         λ is. from_node state honest moment left_since store shards old new v.a v.b over rs (
           (state v.a).durable,
           (state v.b).durable,
           last_sync (state v.a),
           last_sync (state v.b),
-          running.rest (state v.a).durable (state v.b).durable (last_sync (state v.a)) (last_sync (state v.b)) ∙ ap Some (flushes.durable ∙ sym is),
+          running.rest (state v.a).durable (state v.b).durable (last_sync (state v.a)) (last_sync (state v.b)) ∙ ap Some (sym is),
         ),
       );
     },
@@ -197,8 +200,6 @@ module _ {D : Type 0} (state : D → State) (honest : D → Type 0) (moment : D 
     same = elsewhere state honest moment left_since store shards old new v.a v.b fails.over;
     here = λ rs finds.
         let at = to_node state honest moment left_since store shards old new v.a v.b fails.over rs finds in
-        ⊎_elim
-        (λ older. inl (same_Some rs was.durable (sym at.4 ∙ older)))
-        (λ newer. inr (same_Some rs (was.durable ++ was.staged) (sym at.4 ∙ newer)))
-        (fails.any_moment.each at.0 at.1 (counts_now v.a (moment was.a) at.0 fails.honest_a fails.any_moment.later_a at.2) (counts_now v.b (moment was.b) at.1 fails.honest_b fails.any_moment.later_b at.3));
+        let one = fails.any_moment.each at.0 at.1 (counts_now v.a (moment was.a) at.0 fails.honest_a fails.any_moment.later_a at.2) (counts_now v.b (moment was.b) at.1 fails.honest_b fails.any_moment.later_b at.3) in
+        subst (IsOldOrSame coordinator was.durable was.staged) (same_Some one.0 rs (sym one.1 ∙ at.4)) one.2;
   }

@@ -1,10 +1,11 @@
 -- The coordinator of a store that stands fails in a flush.
 use Rattle.std.proofs.Common.{◌≡◌, inl, inr, ⊎_elim, ◌↔◌, ℕ, ◌≤◌, List, ◌++◌, Contains, refl, sym, ◌∙◌, ap, subst, append-nil}
-use Rattle.turns.proofs.Words.{CoordinatorKnows, CoordinatorState, Epoch, FailsFlush, HeadsStand, IsGivenOut, IsOfRefusedOpening, Machine, Moment, NodeName, NodeState, Nodes, NodesStand, Record, Refusal, Stands, WriteId, coordinator, down, leaves, refused, shard, staged_of, up}
+use Rattle.turns.proofs.Words.{CoordinatorKnows, CoordinatorState, Epoch, FailsFlush, HeadsStand, IsGivenOut, IsOfRefusedOpening, Machine, Moment, NodeName, NodeState, Nodes, NodesStand, Record, Refusal, StandFor, Stands, WriteId, at_shards, coordinator, down, leaves, refused, shard, staged_of, up}
 use Rattle.records.specs.Coordinators.{coordinator_state}
 use Rattle.turns.specs.FlushLaws.{FailedFlushesStand}
 use Rattle.turns.proofs.DecisionNodes.{staged_epoch}
-use Rattle.turns.proofs.LessLeftFlows.{GoesOn, both_less, stands_on}
+use Rattle.turns.proofs.LessLeftFlows.{GoesOn, stands_on}
+use Rattle.turns.proofs.Places.{IsInPlace, MeansAsBefore, forgotten_means, means_in_place, rests_in_place, still_in_place, still_means}
 
 -- what is asked of the coordinator that is known of it alone
 pub record CoordinatorStands (store shards : ℕ) (after : NodeName → List Record → Type 0) (next : Nodes) : Type 0 where
@@ -72,28 +73,33 @@ module _ (store shards : ℕ) (left after : NodeName → List Record → Type 0)
       let low : id.epoch ≤ (coordinator_state fails.durable).epoch = old fails.durable durable_left in
       ⊎_elim
       (λ plain. subst (λ (l : List Record). id.epoch ≤ (coordinator_state l).epoch) (sym plain) low)
-      (λ more. subst (λ (l : List Record). id.epoch ≤ (coordinator_state l).epoch) (sym more) (subst (λ (k : ℕ). id.epoch ≤ k) (sym same_epoch) low))
+      (λ (for_it : StandFor coordinator (fails.durable ++ fails.staged) found). subst (λ (k : ℕ). id.epoch ≤ k) (sym (for_it.0.epoch ∙ same_epoch)) low)
       (fails.here found is)
 
-  less : (found : List Record) → leaves after next coordinator found → leaves left now.nodes coordinator found
-  less found is =
-      let same : found ≡ is.0 = ⊎_elim (λ plain. plain) (λ more. more ∙ ap (λ (l : List Record). is.0 ++ l) (ap staged_of fails.now) ∙ append-nil is.0) is.2 in (
-        fails.durable,
-        durable_left,
-        ⊎_elim
-            (λ plain. inl (same ∙ plain))
-            (λ more. inr (same ∙ more ∙ ap (λ (l : List Record). fails.durable ++ l) (sym (ap staged_of fails.was))))
-            (fails.here is.0 is.1),
-      )
+  -- what a stop leaves of the coordinator means what something means that it could leave
+  means_as_before : (found : List Record) → leaves after next coordinator found → MeansAsBefore store shards left now.nodes found
+  means_as_before found is =
+      let same : found ≡ is.0 = ⊎_elim (λ plain. plain) (λ more. more ∙ ap (λ (l : List Record). is.0 ++ l) (ap staged_of fails.now) ∙ append-nil is.0) is.2 in
+      subst (MeansAsBefore store shards left now.nodes) (sym same) (⊎_elim
+      (λ plain. still_means store shards left now.nodes is.0 (fails.durable, durable_left, inl plain))
+      (λ (for_it : StandFor coordinator (fails.durable ++ fails.staged) is.0). (
+        fails.durable ++ fails.staged,
+        (fails.durable, durable_left, inr (ap (λ (n : NodeState). fails.durable ++ staged_of n) (sym fails.was))),
+        λ log h m. forgotten_means store shards log h (fails.durable ++ fails.staged) is.0 (at_shards (leaves left now.nodes)) for_it m,
+      ))
+      (fails.here is.0 is.1))
 
   shard_less : (t : ℕ) (rs : List Record) → leaves after next (shard t) rs → leaves left now.nodes (shard t) rs
   shard_less t rs is = (is.0, (fails.same t is.0).0 is.1, ⊎_elim (λ plain. inl plain) (λ more. inr (more ∙ ap (λ (x : NodeState). is.0 ++ staged_of x) (fails.unchanged t))) is.2)
 
+  shard_still : (t : ℕ) (rs : List Record) → leaves after next (shard t) rs → IsInPlace store shards left now.nodes t rs
+  shard_still t rs is = still_in_place store shards left now.nodes t rs (shard_less t rs is)
+
   on : GoesOn store shards left after now next
   on = record {
     stands = stands;
-    rests = (both_less store shards left after now next less shard_less).0 stands.rests;
-    whole = λ c is. (both_less store shards left after now next less shard_less).1 c;
+    rests = rests_in_place store shards left now.nodes (at_shards (leaves after next)) shard_still now.machine.log now.machine.kept now.machine.horizon (leaves after next coordinator) stands.rests means_as_before;
+    whole = λ c is. means_in_place store shards left now.nodes (at_shards (leaves after next)) shard_still now.machine.log now.machine.horizon c;
     in_doubt = λ t found is. (found, shard_less t found is, refl);
     listed = λ t found lt is. stands.listed t found lt (shard_less t found is);
     shard_knew = λ t m k. inl (m, record { durable = k.durable; staged = k.staged; is_up = sym (fails.unchanged t) ∙ k.is_up; replayed = k.replayed }, refl, refl);

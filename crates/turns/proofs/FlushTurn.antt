@@ -63,7 +63,7 @@ module _ (store shards : ℕ) (left after : NodeName → List Record → Type 0)
     quiet = moved.2;
     node = coordinator;
     others = same_but;
-    called = inr (inr (inl (record { durable = flush.durable; staged = flush.staged; was = flush.was; now = flush.now })));
+    called = inr (inr (inl (record { durable = flush.durable; staged = flush.staged; records = flush.records; was = flush.was; now = flush.now; stand_for = flush.stand_for })));
     open_writes = record { open_writes = flush.open_writes; given = flush.given };
   }
 
@@ -78,7 +78,7 @@ module _ (store shards : ℕ) (left after : NodeName → List Record → Type 0)
       machine = moved.1;
       node = coordinator;
       others = same_but;
-      called = inr (inr (inl (record { durable = flush.durable; staged = flush.staged; was = flush.was; now = flush.now })));
+      called = inr (inr (inl (record { durable = flush.durable; staged = flush.staged; records = flush.records; was = flush.was; now = flush.now; stand_for = flush.stand_for })));
       later = with_flush r m;
       open_writes = inl (record { open_writes = flush.open_writes; given = flush.given }, refl);
       turned = record {

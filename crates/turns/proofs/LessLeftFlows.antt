@@ -1,16 +1,8 @@
--- A stop leaves less, and nodes know what they knew: what a store stands for stays.
+-- Nodes go on to rest, and know what they knew: what a store stands for stays.
 use Rattle.std.proofs.Common.{◌≡◌, inl, inr, ⊎_elim, ℕ, ◌++◌, arith, List, sym, ◌∙◌, ap, ◌<◌, refl, ◌⊎◌, false}
-use Rattle.turns.proofs.Words.{CoordinatorKnows, CoordinatorState, IsGivenOut, IsSettled, IsShardEpoch, ListedStand, Means, Moment, NodeName, NodeState, Nodes, NodesStand, Record, Rests, ShardKnows, ShardState, Stands, WriteId, at_shards, coordinator, down, leaves, less_rests, shard, shard_state, staged_of, up, with_nodes}
+use Rattle.turns.proofs.Words.{CoordinatorKnows, CoordinatorState, IsGivenOut, IsSettled, IsShardEpoch, ListedStand, Means, Moment, NodeName, NodeState, Nodes, NodesStand, Record, Rests, ShardKnows, ShardState, Stands, WriteId, at_shards, coordinator, down, leaves, shard, shard_state, staged_of, up, with_nodes}
 use Rattle.turns.proofs.Frames.{same_taken}
 use Rattle.turns.proofs.SameWrites.{SameWrites, still_stands}
-
--- a stop leaves no more of any node: all nodes go on to rest
-pub both_less : (store shards : ℕ) (left after : NodeName → List Record → Type 0) (now : Moment) (next : Nodes) → ((rs : List Record) → leaves after next coordinator rs → leaves left now.nodes coordinator rs)
-    → ((t : ℕ) (rs : List Record) → leaves after next (shard t) rs → leaves left now.nodes (shard t) rs)
-    → (Rests store shards now.machine.log now.machine.kept now.machine.horizon (leaves left now.nodes coordinator) (at_shards (leaves left now.nodes)) → Rests store shards now.machine.log now.machine.kept now.machine.horizon (leaves after next coordinator) (at_shards (leaves after next)))
-    × ((c : List Record) → Means store shards now.machine.log now.machine.horizon c (at_shards (leaves left now.nodes)) → Means store shards now.machine.log now.machine.horizon c (at_shards (leaves after next)))
-both_less store shards left after now next less shard_less =
-    less_rests (leaves left now.nodes coordinator) (leaves after next coordinator) (at_shards (leaves left now.nodes)) (at_shards (leaves after next)) store shards now.machine.log now.machine.kept now.machine.horizon less shard_less
 
 -- All nodes go on to rest; what a stop leaves of a shard has in doubt what it could leave before; a shard has in doubt what it had, or is of a later
 -- epoch; the coordinator is as it was, or down; and what a stop leaves of a node has no lower epoch, and of a shard has learned no less.

@@ -8,6 +8,7 @@ pub mod ShardFlush
 pub mod CoordinatorFlush
 pub mod ShardOpening
 pub mod CoordinatorOpeningFlows
+pub mod Places
 pub mod StopInside
 pub mod FailedFlush
 pub mod CoordinatorOpening
@@ -54,7 +55,6 @@ pub mod CoordinatorOpeningSeam
 pub mod FlushTurn
 pub mod FailedFlushTurn
 pub mod ShardFlushTurn
-pub mod AlikeRecords
 pub mod OnceEach
 pub mod CheckWalk
 pub mod AnswerTurns
@@ -69,5 +69,5 @@ pub mod ShardCheckSeam
 pub mod ShardFailedSeam
 pub mod ShardLearnAnswer
 mod SmallTurns
-pub mod ShardReplaced
+pub mod ShardChanges
 pub mod Rooms

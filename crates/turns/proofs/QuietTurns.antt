@@ -77,11 +77,11 @@ is_same_node (shard s) coordinator = inr (λ is. cc)
 is_same_node (shard s) (shard t) = ⊎_elim (λ same. inl (ap shard (eqb-true s t same))) (λ other. inr (λ is. let same : s ≡ t = cc in let both : true ≡ false = sym (eq-eqb s t same) ∙ other in cc)) (cases_Bool (s == t))
 
 -- no call opens a node whose opening was refused
-still_refused : (old new : NodeState) (e : Refusal) → NodeTurns old new → old ≡ refused e → new ≡ refused e
-still_refused old new e (inl same) is = same ∙ is
-still_refused old new e (inr (inl more)) is = let both : up more.durable more.staged ≡ refused e = sym more.was ∙ is in absurd cc
-still_refused old new e (inr (inr (inl all))) is = let both : up all.durable all.staged ≡ refused e = sym all.was ∙ is in absurd cc
-still_refused old new e (inr (inr (inr down))) is = let both : up down.durable down.staged ≡ refused e = sym down.was ∙ is in absurd cc
+still_refused : (n : NodeName) (old new : NodeState) (e : Refusal) → NodeTurns n old new → old ≡ refused e → new ≡ refused e
+still_refused n old new e (inl same) is = same ∙ is
+still_refused n old new e (inr (inl more)) is = let both : up more.durable more.staged ≡ refused e = sym more.was ∙ is in absurd cc
+still_refused n old new e (inr (inr (inl all))) is = let both : up all.durable all.staged ≡ refused e = sym all.was ∙ is in absurd cc
+still_refused n old new e (inr (inr (inr down))) is = let both : up down.durable down.staged ≡ refused e = sym down.was ∙ is in absurd cc
 
 -- nor is any refused for Unsure
 not_unsure : (e : Refusal) → IsOfRefusedOpening e → e ≢ Unsure
@@ -96,7 +96,7 @@ record IsQuietChange (store shards : ℕ) (left : NodeName → List Record → T
   quiet : All (IsQuiet (MayRise shards (IsHorizonIn store shards left now.nodes) now)) moves
   node : NodeName
   others : SameBut node now.nodes next
-  called : NodeTurns (now.nodes.at node) (next.at node)
+  called : NodeTurns node (now.nodes.at node) (next.at node)
   open_writes : KeepsOpen now.nodes next
 
 module _ (store shards : ℕ) (left : NodeName → List Record → Type 0) (now : Moment) (next : Nodes) (m : Machine) (call : IsQuietChange store shards left now next m) where
@@ -168,9 +168,9 @@ module _ (store shards : ℕ) (left after : NodeName → List Record → Type 0)
   change = change_of store shards left after now next m call
 
   -- each node turned as a call may turn it
-  turns_at : (n : NodeName) → NodeTurns (now.nodes.at n) (next.at n)
+  turns_at : (n : NodeName) → NodeTurns n (now.nodes.at n) (next.at n)
   turns_at n = ⊎_elim
-      (λ same. subst (λ (k : NodeName). NodeTurns (now.nodes.at k) (next.at k)) (sym same) call.called)
+      (λ same. subst (λ (k : NodeName). NodeTurns k (now.nodes.at k) (next.at k)) (sym same) call.called)
       (λ other. inl (call.others.others n other))
       (is_same_node n call.node)
 
@@ -241,7 +241,7 @@ module _ (store shards : ℕ) (left after : NodeName → List Record → Type 0)
     sure_of : (n : NodeName) (ran : Moment) (e : Refusal) → r.decided ≡ None → HasItsCause shards n now ran r e → e ≢ Unsure
     sure_of n ran e none cause is = ⊎_elim
         (λ own. let d = subst (IsCause shards n now ran r) is own in let both : None ≡ Some d.0 = sym none ∙ d.1 in cc)
-        (λ away. not_unsure e (call.stands.nodes.sound n e (still_refused (now.nodes.at n) (next.at n) e (turns_at n) away.1)) is)
+        (λ away. not_unsure e (call.stands.nodes.sound n e (still_refused n (now.nodes.at n) (next.at n) e (turns_at n) away.1)) is)
         cause
 
     pub go_out : (h k : WriteHolds) (changes : List Change) (conditions : List Condition) (e : Refusal) → r.asked ≡ to_write changes conditions → r.holds ≡ writing h → HoldsLess h k → k.way ≡ outward (Some e)

@@ -1,9 +1,12 @@
 -- What a shard's own contracts of an opening that is refused and of a flush that fails say makes steps of a run.
-use Rattle.std.proofs.Common.{◌≡◌, ◌⊎◌, inl, inr, ⊎_elim, ℕ, ◌≤◌, ◌+◌, ◌++◌, List, [], ◌∷◌, Some, refl, sym, ◌∙◌, ap, subst}
+use Rattle.std.proofs.Common.{◌≡◌, ◌⊎◌, inl, inr, ℕ, ◌≤◌, ◌+◌, ◌++◌, List, [], ◌∷◌, Some, refl, sym, ◌∙◌, ap, subst}
 use Rattle.std.proofs.lemmas.List.Elements.{All-nil}
 use Rattle.turns.proofs.Words.{Finds, FlushesShard, Identity, IsHorizonIn, IsQuiet, IsReopenedShard, IsShardImage, Leaves, MayRise, Record, Revived, State, device_left, down, found, leaves_nothing_else, opening, refused, shard, shard_node, shard_state, stops}
 use Rattle.shard.specs.Shards.{WasLeftOrOpened}
 use Rattle.turns.specs.ShardOpeningLaws.{FailedShardFlushesAreQuiet, RefusedOpeningsStep, put_at}
+use Rattle.turns.specs.FlushLaws.{IsOldOrSame}
+use Rattle.std.proofs.lemmas.Option.{same_Some}
+use Rattle.turns.proofs.Places.{stand_for_itself}
 use Rattle.turns.proofs.RefusedOpening.{refused_shards_stand}
 use Rattle.turns.proofs.ShardFlush.{shard_flushes_stand}
 use Rattle.turns.proofs.ShardOpeningSeam.{left_elsewhere, to_shard, was_left}
@@ -31,17 +34,18 @@ module _ {D : Type 0} (state : D → State) (honest : D → Type 0) (moment : D 
     open_writes = record { open_writes = refl; given = refl };
   }
     where
-      left_then : (rs : List Record) → Finds (device_left (state v.a)) (device_left (state v.b)) rs → (rs ≡ was.durable) ⊎ (rs ≡ was.durable ++ was.staged)
-      left_then rs finds = ⊎_elim
-          (λ old_is. let both : Some rs ≡ Some was.durable = sym finds.4 ∙ old_is in inl cc)
-          (λ new_is. let both : Some rs ≡ Some (was.durable ++ was.staged) = sym finds.4 ∙ new_is in inr cc)
-          (moments.each finds.0 finds.1 (counts_now v.a (moment was.a) finds.0 honest_a moments.later_a finds.2) (counts_now v.b (moment was.b) finds.1 honest_b moments.later_b finds.3))
+      left_then : (rs : List Record) → Finds (device_left (state v.a)) (device_left (state v.b)) rs → IsOldOrSame (shard s) was.durable was.staged rs
+      left_then rs finds =
+          let one = moments.each finds.0 finds.1 (counts_now v.a (moment was.a) finds.0 honest_a moments.later_a finds.2) (counts_now v.b (moment was.b) finds.1 honest_b moments.later_b finds.3) in
+          subst (IsOldOrSame (shard s) was.durable was.staged) (same_Some one.0 rs (sym one.1 ∙ finds.4)) one.2
 
       flush : FlushesShard s (stops state honest store shards old) (stops state honest store shards new) now.nodes (put_at s down now.nodes)
       flush = record {
         durable = was.durable;
         staged = was.staged;
+        records = was.durable ++ was.staged;
         was = seen.at;
+        stand_for = stand_for_itself (shard s) (was.durable ++ was.staged);
         others = record { others = put_elsewhere s down now.nodes.at; open_writes = λ ne. refl; given = λ ne. refl };
         same = λ n rs ne. left_elsewhere state honest moment left_since store shards old new s v.a v.b over n rs ne;
         here = λ rs is. left_then rs (to_shard state honest moment left_since store shards old new s v.a v.b over rs is);

@@ -28,13 +28,13 @@ module _ (store shards : ℕ) (left after : NodeName → List Record → Type 0)
     reopened_is = refl;
   }
 
-  done_turn : next.at (shard s) ≡ up (flush.durable ++ flush.staged) [] → Turns shards (IsHorizonIn store shards left now.nodes) now r (answered done ∷ []) flushed
+  done_turn : next.at (shard s) ≡ up flush.records [] → Turns shards (IsHorizonIn store shards left now.nodes) now r (answered done ∷ []) flushed
   done_turn is_up = record {
     moves = [];
     machine = refl;
     node = shard s;
     others = flush.others;
-    called = inr (inr (inl (record { durable = flush.durable; staged = flush.staged; was = flush.was; now = is_up })));
+    called = inr (inr (inl (record { durable = flush.durable; staged = flush.staged; records = flush.records; was = flush.was; now = is_up; stand_for = flush.stand_for })));
     later = record r { seen = r.seen ++ now.machine ∷ [] };
     open_writes = inl (record { open_writes = flush.others.open_writes nor_here; given = flush.others.given nor_here }, refl);
     turned = turned r.met (inl refl);

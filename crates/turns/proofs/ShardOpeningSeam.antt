@@ -2,7 +2,7 @@
 use Rattle.std.proofs.Common.{◌≡◌, ◌≢◌, inl, inr, ⊎_elim, ℕ, ◌≤◌, ◌+◌, ◌++◌, ◌↔◌, List, [], ◌∷◌, Some, refl, sym, ◌∙◌, ap, subst, arith}
 use Rattle.std.proofs.lemmas.List.{append-nil}
 use Rattle.std.proofs.lemmas.List.Elements.{All-nil}
-use Rattle.turns.proofs.Words.{AreRevived, Epoch, Finds, FlushesShard, HasFailed, Identity, IsHorizonIn, IsQuiet, IsShardImage, IsUp, MayRise, Moment, NodeName, Nodes, OpensShard, Record, ShardView, Stands, State, behind_shard, device_left, found, opening, shard, shard_node, shard_state, stops, up}
+use Rattle.turns.proofs.Words.{AreRevived, Epoch, Finds, FlushesShard, HasFailed, Identity, IsHorizonIn, IsQuiet, IsShardImage, IsUp, MayRise, Moment, NodeName, Nodes, OpensShard, Record, ShardView, StandFor, Stands, State, behind_shard, device_left, found, opening, shard, shard_node, shard_state, stops, up}
 use Rattle.shard.specs.Shards.{IsOpenedShard}
 use Rattle.turns.specs.ShardOpeningLaws.{FailedShardsHaveCause, FullShardsWereOpened, IsOver, NoShardIsDamaged, ShardFlushesAreQuiet, ShardOpeningsStep}
 use Rattle.turns.proofs.RefusedOpening.{shard_openings_restart}
@@ -108,7 +108,7 @@ no_shard_is_damaged state honest moment left_since store shards old s a b log ke
     damaged reads.0 reads.1 (means.each_shard s reads.0 lt (was_left state honest moment left_since store shards old s a b revived reads.0 reads.1)).image
 
 pub shard_flushes_are_quiet : {D : Type 0} (state : D → State) (honest : D → Type 0) (moment : D → ℕ) (left_since : D → ℕ → List ℕ → Type 0) (store shards : ℕ) → ShardFlushesAreQuiet state honest moment left_since store shards
-shard_flushes_are_quiet {D} state honest moment left_since store shards old new now s was v st seen is_up flushed me over = (
+shard_flushes_are_quiet {D} state honest moment left_since store shards old new now s was v st seen is_up up_then same none me over = (
   record { there = seen.there; me = me ∙ seen.me; at = here s now.nodes v },
   record {
     stands = shard_flushes_stand store shards (stops state honest store shards old) (stops state honest store shards new) now (behind_shard s now.nodes v) s st flush image;
@@ -117,27 +117,26 @@ shard_flushes_are_quiet {D} state honest moment left_since store shards old new 
     quiet = All-nil (IsQuiet (MayRise shards (IsHorizonIn store shards (stops state honest store shards old) now.nodes) now));
     node = shard s;
     others = flush.others;
-    called = inr (inr (inl (record { durable = was.durable; staged = was.staged; was = seen.at; now = is_flushed })));
+    called = inr (inr (inl (record { durable = was.durable; staged = was.staged; records = v.durable; was = seen.at; now = is_flushed; stand_for = same })));
     open_writes = record { open_writes = refl; given = refl };
   },
 )
   where
-    is_flushed : (behind_shard s now.nodes v).at (shard s) ≡ up (was.durable ++ was.staged) []
-    is_flushed = here s now.nodes v ∙ ap (λ (l : List Record). up l v.staged) flushed.durable ∙ ap (λ (l : List Record). up (was.durable ++ was.staged) l) flushed.staged
+    is_flushed : (behind_shard s now.nodes v).at (shard s) ≡ up v.durable []
+    is_flushed = here s now.nodes v ∙ ap (λ (l : List Record). up v.durable l) none
 
     flush : FlushesShard s (stops state honest store shards old) (stops state honest store shards new) now.nodes (behind_shard s now.nodes v)
     flush = record {
       durable = was.durable;
       staged = was.staged;
+      records = v.durable;
       was = seen.at;
+      stand_for = same;
       others = record { others = elsewhere s now.nodes v; open_writes = λ ne. refl; given = λ ne. refl };
       same = λ n rs ne. left_elsewhere state honest moment left_since store shards old new s v.a v.b over n rs ne;
-      here = λ rs is. inr ((left_durable state honest moment left_since store shards old new s v flushed.up over rs).0 is ∙ flushed.durable);
-      ended = inr (is_flushed, λ rs. ends rs);
+      here = λ rs is. inr (subst (StandFor (shard s) (was.durable ++ was.staged)) (sym ((left_durable state honest moment left_since store shards old new s v up_then over rs).0 is)) same);
+      ended = inr (is_flushed, left_durable state honest moment left_since store shards old new s v up_then over);
     }
-      where
-        ends : (rs : List Record) → stops state honest store shards new (shard s) rs ↔ (rs ≡ was.durable ++ was.staged)
-        ends rs = let is = left_durable state honest moment left_since store shards old new s v flushed.up over rs in (λ finds. is.0 finds ∙ flushed.durable, λ same. is.1 (same ∙ sym flushed.durable))
 
     image : IsShardImage (shard_node store shards s) (was.durable ++ was.staged)
     image = subst (λ (i : Identity). IsShardImage i (was.durable ++ was.staged)) seen.me is_up.image

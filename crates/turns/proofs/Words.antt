@@ -16,7 +16,7 @@ pub use Rattle.laws.proofs.ShardSteps.{opened_shard_means}
 pub use Rattle.laws.specs.CoordinatorLaws.{IsLearnedInAll, IsPreparedInAll}
 pub use Rattle.laws.specs.LogLaws.{IsUnlisted}
 pub use Rattle.laws.specs.Machines.{Machine, Makes, Move, Moves, append, cut, keep, raise}
-pub use Rattle.laws.specs.Nodes.{CoordinatorKnows, IsGivenBy, IsOfRefusedOpening, IsThere, NodeName, NodeState, NodeTurns, Nodes, SameBut, ShardKnows, coordinator, down, leaves, refused, shard, staged_of, up}
+pub use Rattle.laws.specs.Nodes.{CoordinatorKnows, IsGivenBy, IsOfRefusedOpening, IsThere, NodeName, NodeState, NodeTurns, Nodes, SameBut, ShardKnows, StandFor, coordinator, down, leaves, refused, shard, staged_of, up}
 pub use Rattle.laws.specs.ShardLaws.{AreOfLog, IsUnlistedAbove}
 pub use Rattle.laws.specs.Shards.{ShardMeans}
 pub use Rattle.laws.specs.Worlds.{IsMeaning, Means, Rests, coordinator_node, shard_node}

@@ -88,17 +88,18 @@ no_longer (y ∷ xs) x is = cc
 up_is_not_down : {a b : List Record} → up a b ≡ down → ⊥
 up_is_not_down is = cc
 
-opened_by_a_turn : NodeTurns (up once []) (up twice []) → ⊥
-unfolding durable_part staged_part
+opened_by_a_turn : NodeTurns (shard 0) (up once []) (up twice []) → ⊥
+unfolding durable_part staged_part shard_state shard_step
 opened_by_a_turn turns = ⊎_elim
     (λ same. two_is_one (ap (λ n. length (durable_part n)) same))
     (λ rest. ⊎_elim
     (λ more. no_longer more.staged more.next (ap staged_part more.now))
     (λ others. ⊎_elim
     (λ flushed.
-    let was = ap (λ n. length (durable_part n ++ staged_part n)) flushed.was in
-    let now = ap (λ n. length (durable_part n)) flushed.now in
-    two_is_one (now ∙ sym was))
+    let was : once ≡ flushed.durable ++ flushed.staged = ap (λ n. durable_part n ++ staged_part n) flushed.was in
+    let now : twice ≡ flushed.records = ap durable_part flushed.now in
+    let e : 1 ≡ 2 = ap (λ (l : List Record). (shard_state l).epoch) was ∙ flushed.stand_for.0.epoch ∙ ap (λ (l : List Record). (shard_state l).epoch) (sym now) in
+    omega (arith, e))
     (λ falls. up_is_not_down falls.now)
     others)
     rest)
@@ -108,17 +109,18 @@ opened_by_a_turn turns = ⊎_elim
 abbrev doubtful : NodeState
 doubtful = up [] (Prepare phantom ∷ [])
 
-prepare_taken_back : NodeTurns doubtful (up [] []) → ⊥
-unfolding durable_part staged_part
+prepare_taken_back : NodeTurns (shard 0) doubtful (up [] []) → ⊥
+unfolding durable_part staged_part shard_state shard_step
 prepare_taken_back turns = ⊎_elim
     (λ same. none_is_one (length (staged_part (up [] []))) refl (ap (λ n. length (staged_part n)) same))
     (λ rest. ⊎_elim
     (λ more. no_longer more.staged more.next (ap staged_part more.now))
     (λ others. ⊎_elim
     (λ flushed.
-    let was = ap (λ n. length (durable_part n ++ staged_part n)) flushed.was in
-    let now = ap (λ n. length (durable_part n)) flushed.now in
-    none_is_one (length (durable_part (up [] []))) refl (now ∙ sym was))
+    let was : Prepare phantom ∷ [] ≡ flushed.durable ++ flushed.staged = ap (λ n. durable_part n ++ staged_part n) flushed.was in
+    let now : [] ≡ flushed.records = ap durable_part flushed.now in
+    let e : 1 ≡ 0 = ap (λ (l : List Record). length (shard_state l).in_doubt) was ∙ ap (λ (l : List Entry). length l) flushed.stand_for.0.in_doubt ∙ ap (λ (l : List Record). length (shard_state l).in_doubt) (sym now) in
+    omega (arith, e))
     (λ falls. up_is_not_down falls.now)
     others)
     rest)

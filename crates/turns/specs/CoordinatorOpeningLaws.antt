@@ -1,18 +1,18 @@
 -- The seams between the contracts of the coordinator's opening and of its flush, over the devices of a store, and steps of a run. Of the premises, the
 -- records of a call's contract and its clauses at every moment are the coordinator's; that both devices were revived is the device's contract; and that
 -- the store stands, the store's.
-use Rattle.std.specs.Prelude.{◌≡◌, ◌≢◌, ◌⊎◌, ℕ, List, [], ◌∷◌, Some}
+use Rattle.std.specs.Prelude.{◌≡◌, ◌≢◌, ◌⊎◌, ℕ, List, [], ◌∷◌, ◌++◌, Some}
 use Rattle.refusal.specs.declared.refusal.Refusal.{Refusal}
 use Rattle.tuples.specs.declared.entry.Entry.{Entry}
 use Rattle.records.specs.declared.record.Record.{Record}
 use Rattle.records.specs.Coordinators.{IsCoordinatorImage, coordinator_state}
 use Rattle.records.specs.Replays.{greatest_number}
 use Rattle.device.specs.Device.{HasFailed, State, left}
-use Rattle.journal.specs.Records.{HasOldOrNew, LeavesBoth, found}
-use Rattle.decisions.specs.Coordinators.{CoordinatorView, FlushesAll, IsOpenedCoordinator, IsRunning, KeepsOpen, WasLeftOrReopened}
-use Rattle.laws.specs.Nodes.{IsOfRefusedOpening, NodeName, Nodes, coordinator, down, epoch_of, refused}
+use Rattle.journal.specs.Records.{LeavesBoth, found}
+use Rattle.decisions.specs.Coordinators.{CoordinatorView, IsOpenedCoordinator, IsRunning, KeepsOpen, WasLeftOrReopened}
+use Rattle.laws.specs.Nodes.{IsOfRefusedOpening, NodeName, Nodes, StandFor, coordinator, down, epoch_of, refused}
 use Rattle.laws.specs.Worlds.{Rests, coordinator_node}
-use Rattle.turns.specs.FlushLaws.{FailsFlush, FlushesCoordinator}
+use Rattle.turns.specs.FlushLaws.{FailsFlush, FlushesCoordinator, HasOldOrSame}
 use Rattle.turns.specs.Moments.{Moment}
 use Rattle.turns.specs.Promises.{ComesUp, HasDeviceCause}
 use Rattle.turns.specs.RestartLaws.{cut_to, with_restart}
@@ -52,9 +52,10 @@ module _ {D : Type 0} (state : D → State) (honest : D → Type 0) (moment : D 
   abbrev pub OpensOverDevices : (NodeName → D × D) → D → D → D → D → (NodeName → D × D) → Type 0
   OpensOverDevices old a b new_a new_b new = AreLeft old a b new_a new_b new (WasLeftOrReopened (coordinator_node store shards) (state a) (state b))
 
-  -- a flush that answers Ok is one of a coordinator of the store
+  -- a flush that answers Ok is one of a coordinator of the store, with what stands for the same as what was durable and staged
   abbrev pub FlushesOverDevices : Type 0
-  FlushesOverDevices = (old new : NodeName → D × D) (now : Moment) (was v : CoordinatorView D) → IsSeen now.nodes was → IsRunning state honest v → FlushesAll was v → KeepsOpen was v
+  FlushesOverDevices = (old new : NodeName → D × D) (now : Moment) (was v : CoordinatorView D) → IsSeen now.nodes was → IsRunning state honest v
+      → StandFor coordinator (was.durable ++ was.staged) v.durable → v.staged ≡ [] → KeepsOpen was v
       → IsOverDevices old v.a v.b new
       → let next = behind now.nodes v now.nodes.open_writes in
       IsSeen next v × FlushesCoordinator (stops state honest store shards old) (stops state honest store shards new) now.nodes next
@@ -62,7 +63,7 @@ module _ {D : Type 0} (state : D → State) (honest : D → Type 0) (moment : D 
   -- and so is one that fails, and takes the coordinator down
   abbrev pub FailsOverDevices : Type 0
   FailsOverDevices = (old new : NodeName → D × D) (now : Moment) (was v : CoordinatorView D) → IsSeen now.nodes was
-      → AreLeft old was.a was.b v.a v.b new (HasOldOrNew was.durable was.staged)
+      → AreLeft old was.a was.b v.a v.b new (HasOldOrSame coordinator was.durable was.staged)
       → FailsFlush (stops state honest store shards old) (stops state honest store shards new) now.nodes (record now.nodes { at = at_coordinator down now.nodes.at })
 
   -- an opening that answers Ok is a step of a run: the coordinator comes up, and the machine is cut to what was found

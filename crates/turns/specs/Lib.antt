@@ -14,7 +14,6 @@ pub mod PrepareLaws
 pub mod SeamLaws
 pub mod CoordinatorSeamLaws
 pub mod CoordinatorOpeningLaws
-pub mod AlikeLaws
 pub mod DecidingLaws
 pub mod FlowLaws
 pub mod NewStores

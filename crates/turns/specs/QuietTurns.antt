@@ -89,7 +89,7 @@ module _ (store shards : ℕ) (left after : NodeName → List Record → Type 0)
     pub quiet : All (IsQuiet (MayRise shards (IsHorizonIn store shards left now.nodes) now)) moves
     pub node : NodeName
     pub others : SameBut node now.nodes next
-    pub called : NodeTurns (now.nodes.at node) (next.at node)
+    pub called : NodeTurns node (now.nodes.at node) (next.at node)
     pub open_writes : KeepsOpen now.nodes next
 
   -- the call was quiet, and the flow that made it holds what is right, under the id that it had

@@ -163,7 +163,7 @@ module _ (shards : ℕ) (found_before : ℕ → Type 0) where
     pub machine : Moves before.machine moves after.machine
     pub node : NodeName
     pub others : SameBut node before.nodes after.nodes
-    pub called : NodeTurns (before.nodes.at node) (after.nodes.at node)
+    pub called : NodeTurns node (before.nodes.at node) (after.nodes.at node)
     pub later : Running
     pub open_writes : OpenTurns before.nodes after.nodes r later
     pub turned : IsTurned node before r moves after later

@@ -1,15 +1,15 @@
 -- The seams between the contracts of a shard's opening and of its flush, over the devices of a store, and steps of a run.
-use Rattle.std.specs.Prelude.{◌≡◌, ◌≢◌, ◌⊎◌, ◌≤◌, ◌<◌, ℕ, List, [], ◌∷◌, Some}
+use Rattle.std.specs.Prelude.{◌≡◌, ◌≢◌, ◌⊎◌, ◌≤◌, ◌<◌, ℕ, List, [], ◌∷◌, ◌++◌, Some}
 use Rattle.tuples.specs.declared.entry.Entry.{Entry}
 use Rattle.refusal.specs.declared.refusal.Refusal.{Refusal}
 use Rattle.records.specs.declared.record.Record.{Record}
 use Rattle.records.specs.Replays.{IsShardImage, greatest_number, shard_state}
 use Rattle.device.specs.Device.{HasFailed, Revived, State, left}
-use Rattle.journal.specs.Records.{HasOldOrNew, LeavesBoth, found}
-use Rattle.shard.specs.Calls.{FlushesAt}
+use Rattle.journal.specs.Records.{LeavesBoth, found}
 use Rattle.shard.specs.Shards.{IsOpenedShard, IsUp, ShardView, WasLeftOrOpened}
-use Rattle.laws.specs.Nodes.{IsOfRefusedOpening, NodeName, NodeState, Nodes, coordinator, down, epoch_of, refused, shard}
+use Rattle.laws.specs.Nodes.{IsOfRefusedOpening, NodeName, NodeState, Nodes, StandFor, coordinator, down, epoch_of, refused, shard}
 use Rattle.laws.specs.Worlds.{Rests, shard_node}
+use Rattle.turns.specs.FlushLaws.{HasOldOrSame}
 use Rattle.turns.specs.Moments.{Moment}
 use Rattle.turns.specs.Promises.{ComesUp, HasDeviceCause}
 use Rattle.turns.specs.QuietTurns.{IsQuietCall}
@@ -48,19 +48,22 @@ module _ {D : Type 0} (state : D → State) (honest : D → Type 0) (moment : D 
       × Restarts shards (IsHorizonIn store shards (stops state honest store shards old) now.nodes) now (shard s) (came_up ∷ []) (with_nodes now next)
       × ComesUp state honest moment left_since store shards old (shard s) (next.at (shard s))
 
-  -- A flush that answers Ok is quiet, whatever flow makes it; a stop leaves of the other nodes what it could leave before.
+  -- A flush that answers Ok, with what stands for the same as what was durable and staged, is quiet, whatever flow makes it; a stop leaves of the other
+  -- nodes what it could leave before.
   abbrev pub ShardFlushesAreQuiet : Type 0
   ShardFlushesAreQuiet = (old new : NodeName → D × D) (now : Moment) (s : ℕ) (was v : ShardView D) → Stands store shards (stops state honest store shards old) now
-      → ShardIsSeen store shards s now.nodes was → IsUp state honest was → FlushesAt state honest was v → v.me ≡ was.me → IsOver old s v.a v.b new
+      → ShardIsSeen store shards s now.nodes was → IsUp state honest was → IsUp state honest v → StandFor (shard s) (was.durable ++ was.staged) v.durable → v.staged ≡ []
+      → v.me ≡ was.me → IsOver old s v.a v.b new
       → let next = behind_shard s now.nodes v in
       ShardIsSeen store shards s next v
       × IsQuietCall store shards (stops state honest store shards old) (stops state honest store shards new) now next now.machine
 
-  -- One that fails takes the shard down, and is quiet: at every moment of it a stop leaves what was durable, with what was staged or without.
+  -- One that fails takes the shard down, and is quiet: at every moment of it a stop leaves what was durable, or what stands for the same as this with what
+  -- was staged.
   abbrev pub FailedShardFlushesAreQuiet : Type 0
   FailedShardFlushesAreQuiet = (old new : NodeName → D × D) (now : Moment) (s : ℕ) (was v : ShardView D) → Stands store shards (stops state honest store shards old) now
       → ShardIsSeen store shards s now.nodes was → IsUp state honest was → honest v.a → honest v.b
-      → LeavesBoth moment left_since was.a was.b v.a v.b (HasOldOrNew was.durable was.staged) → IsOver old s v.a v.b new
+      → LeavesBoth moment left_since was.a was.b v.a v.b (HasOldOrSame (shard s) was.durable was.staged) → IsOver old s v.a v.b new
       → IsQuietCall store shards (stops state honest store shards old) (stops state honest store shards new) now (put_at s down now.nodes) now.machine
 
   -- An opening that is refused is a step of a run: at every moment of it a stop leaves what it could leave before, or what was found with the opening's

@@ -1,11 +1,10 @@
 // Laws of a flush, each the clause of a function with an empty body.
 ghost use Rattle.std.specs.Prelude.{ℕ};
-ghost use Rattle.turns.specs.AlikeLaws.{AlikeRecordsStand};
 ghost use Rattle.turns.specs.FlushLaws.{CoordinatorFlushesStand, FailedFlushesAnswer, FailedFlushesStand, FlushesAnswer, ShardFlushesAnswer, ShardFlushesStand};
 
 use laws::Leavings;
 
-/// A flush of a shard leaves what the store stands for, whatever it answered.
+/// A flush of a shard, by the same records or by others that stand for the same, leaves what the store stands for, whatever it answered.
 pub fn flushes_of_shards_leave_the_store_standing<W: Leavings>()
     ensures { (store shards : ℕ) → ShardFlushesStand store shards W.left W.left_after }
 {}
@@ -23,11 +22,6 @@ pub fn failed_flushes_leave_the_store_standing<W: Leavings>()
 /// A flush of the coordinator is a turn of a run, in which the flow that asked for it answers that it is done.
 pub fn flushes_answer<W: Leavings>()
     ensures { (store shards : ℕ) → FlushesAnswer store shards W.left W.left_after }
-{}
-
-/// A shard whose records are replaced by others of alike state leaves what the store stands for.
-pub fn alike_records_leave_the_store_standing<W: Leavings>()
-    ensures { (store shards : ℕ) → AlikeRecordsStand store shards W.left W.left_after }
 {}
 
 /// And one that fails is a turn in which that flow ends with `Down`, which has its cause.

@@ -52,8 +52,7 @@ pub use flow_laws::{
     writes_that_begin_leave_the_store_standing,
 };
 pub use flush_laws::{
-    alike_records_leave_the_store_standing, failed_flushes_answer,
-    failed_flushes_leave_the_store_standing, flushes_answer,
+    failed_flushes_answer, failed_flushes_leave_the_store_standing, flushes_answer,
     flushes_of_shards_leave_the_store_standing,
     flushes_of_the_coordinator_leave_the_store_standing, shard_flushes_answer,
 };
