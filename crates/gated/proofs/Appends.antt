@@ -3,12 +3,12 @@ use Rattle.std.proofs.Common.{◌≡◌, inl, ℕ, ◌+◌, ◌≤◌, ◌-◌, 
 use Rattle.std.specs.Int.{w32, to_be_bytes}
 use Rattle.device.specs.Device.{State, Leaves, Wrote, Tore, Synced, Keeps, Elapses, LeavesOnly, patched, left}
 use Rattle.std.proofs.lemmas.List.{length-take-le, length-drop, drop_more, drop_all, take-append-drop, set_at}
-use Rattle.gated.specs.Gated.{body_of, gated, max_body, open_gate, record_head, spelled, Fits, IsOldOrNew, IsReady, HasList}
+use Rattle.gated.specs.Gated.{body_of, gated, max_body, open_gate, record_head, spelled, Fits, IsOldOrNew, IsReady, HasList, WasPut}
 use Rattle.std.specs.Result.{OnOk, OnErr}
 use Rattle.gated.proofs.Spelled.{gated_spelled, spelled-split, spelled-push, fit-push}
 use Rattle.gated.proofs.Crash.{behind_gate, written_behind, at_gate, written_gate, gated_opened}
 use Rattle.device.proofs.Moments.{leaves_itself, leaves_nothing_else, leaves_then}
-use Rattle.gated.proofs.Calls.{WasPut, after_write, tore_of, write_moments, sync_moments}
+use Rattle.gated.proofs.Calls.{after_write, tore_of, write_moments, sync_moments}
 
 pub length-body : (buf : List ℕ) → record_head + 1 ≤ length buf → length (body_of buf) ≡ length buf - record_head
 length-body buf some = length-take-le (length buf - record_head) (drop 4 buf) (omega (arith, length-drop 4 buf))
@@ -16,16 +16,16 @@ length-body buf some = length-take-le (length buf - record_head) (drop 4 buf) (o
 pub body_fits : (buf : List ℕ) → record_head + 1 ≤ length buf → length buf ≤ max_body + record_head → Fits (body_of buf)
 body_fits buf some fits = let len = length-body buf some in (omega (arith, len), omega (arith, len))
 
--- a buffer with a length in front and a closed gate behind
-pub framed : (buf size : List ℕ) → length size ≡ 4 → record_head + 1 ≤ length buf → set (size ++ drop 4 buf) (4 + (length buf - record_head)) 0 ≡ size ++ body_of buf ++ 0 ∷ []
-framed buf size four some =
+-- a buffer with a length in front and a gate behind
+pub framed : (gate : ℕ) (buf size : List ℕ) → length size ≡ 4 → record_head + 1 ≤ length buf → set (size ++ drop 4 buf) (4 + (length buf - record_head)) gate ≡ size ++ body_of buf ++ gate ∷ []
+framed gate buf size four some =
     let n = length buf - record_head in
     let len = length-drop 4 buf in
     let tail : drop n (drop 4 buf) ≡ get_or (drop 4 buf) n 0 ∷ [] = drop_more (drop 4 buf) n 0 (omega (arith, len)) ∙ ap (λ (l : List ℕ). get_or (drop 4 buf) n 0 ∷ l) (drop_all (n + 1) (drop 4 buf) (omega (arith, len))) in
     let whole : size ++ drop 4 buf ≡ (size ++ body_of buf) ++ get_or (drop 4 buf) n 0 ∷ [] =
     ap (λ (l : List ℕ). size ++ l) (sym (take-append-drop n (drop 4 buf)) ∙ ap (λ (l : List ℕ). take n (drop 4 buf) ++ l) tail) ∙ sym (append_assoc size (body_of buf) (get_or (drop 4 buf) n 0 ∷ [])) in
-    ap (λ (l : List ℕ). set l (4 + n) 0) whole
-    ∙ set_at (size ++ body_of buf) (get_or (drop 4 buf) n 0) [] 0 (4 + n) (omega (arith, four, length-body buf some, length-append size (body_of buf)))
+    ap (λ (l : List ℕ). set l (4 + n) gate) whole
+    ∙ set_at (size ++ body_of buf) (get_or (drop 4 buf) n 0) [] gate (4 + n) (omega (arith, four, length-body buf some, length-append size (body_of buf)))
 
 some_is : {X : Type 0} (x y : X) → Some x ≡ Some y → x ≡ y
 some_is x y is = cc

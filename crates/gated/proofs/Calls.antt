@@ -1,8 +1,9 @@
 -- What a write and a sync leave, one call at a time.
 use Rattle.std.proofs.Common.{◌≡◌, inl, inr, ⊎_elim, ℕ, ◌+◌, ◌≤◌, List, [], ◌∷◌, ◌++◌, length, Result, Ok, Err, sym, ◌∙◌, ap, subst, arith}
 use Rattle.std.specs.Result.{OnOk, OnErr}
-use Rattle.device.specs.Device.{State, Leaves, Wrote, Tore, Synced, Keeps, Elapses, LeavesOnly, patched, reach, left}
+use Rattle.device.specs.Device.{State, Leaves, Wrote, Tore, Synced, Keeps, Elapses, LeavesOnly, reach, left}
 use Rattle.device.proofs.Moments.{leaves_nothing_else}
+use Rattle.gated.specs.Gated.{WasPut}
 use Rattle.device.proofs.History.{reach_push_most}
 
 -- A call leaves what has P, where what could be left before it has P, and what may be left now has it.
@@ -65,14 +66,9 @@ module _ (s : State) (at : ℕ) where
 pub tore_of : (s : State) (at : ℕ) (bytes : List ℕ) (m : State) → Wrote s at bytes m → Tore s at (length bytes) m
 tore_of s at bytes m wrote = record { durable = wrote.durable; written = inr wrote.written }
 
--- these bytes were written, and synced
-pub record WasPut (s : State) (at : ℕ) (bytes : List ℕ) (new : State) : Type 0 where
-  pub seen : new.seen ≡ patched s.seen at bytes
-  pub durable : new.durable ≡ new.seen
-  pub written : new.written ≡ []
-
+-- a write, and a sync
 pub put : (s : State) (at : ℕ) (bytes : List ℕ) (mid new : State) → Wrote s at bytes mid → Synced mid new → WasPut s at bytes new
-put s at bytes mid new wrote synced = record { seen = synced.seen ∙ wrote.seen; durable = synced.durable ∙ sym synced.seen; written = synced.written }
+put s at bytes mid new wrote synced = record { seen = synced.seen ∙ wrote.seen; durable = synced.durable ∙ sym synced.seen; written = synced.written; stopped = synced.stopped }
 
 module _ {D : Type 0} (moment : D → ℕ) (left_since : D → ℕ → List ℕ → Type 0) (state : D → State) (old new : D) (P : List ℕ → Type 0)
     (only : (c : List ℕ) → left_since old (moment old) c → left (state old) c) (time : Elapses (moment old) (moment new) (left_since old) (left_since new) (left (state new))) where

@@ -1,5 +1,5 @@
 -- What the two writes of an append leave, whole or in part.
-use Rattle.std.proofs.Common.{◌≡◌, ◌≢◌, inl, inr, ⊎_elim, ℕ, ◌+◌, ◌<◌, ◌≤◌, List, [], ◌∷◌, ◌++◌, length, take, drop, get_or, Some, sym, ◌∙◌, ap, arith, append_assoc, length-append}
+use Rattle.std.proofs.Common.{◌≡◌, ◌≢◌, ◌⊎◌, inl, inr, ⊎_elim, ℕ, ◌-◌, ◌+◌, ◌<◌, ◌≤◌, List, [], ◌∷◌, ◌++◌, length, take, drop, get_or, Some, refl, sym, ◌∙◌, ap, arith, append_assoc, length-append}
 use Rattle.std.proofs.lemmas.Bool.{cases_eq}
 use Rattle.std.proofs.lemmas.List.{take_at, drop_at, take-append-drop, get_or-take, get_or-drop, length-take-le, length-drop, drop-drop, ext_get_or, drop_more}
 use Rattle.std.specs.Int.{w32, to_be_bytes}
@@ -15,12 +15,20 @@ front_same d at n k c leaves below within =
     let small : i < k = omega (arith, len_c) in
     get_or-take k c i 0 small ∙ leaves.same i (omega arith) (inl (omega arith), tt) ∙ sym (get_or-take k d i 0 small))
 
-back_same : (d : List ℕ) (at n : ℕ) (c : List ℕ) → Leaves d ((at, n) ∷ []) c → length c ≡ length d → drop (at + n) c ≡ drop (at + n) d
+pub back_same : (d : List ℕ) (at n : ℕ) (c : List ℕ) → Leaves d ((at, n) ∷ []) c → length c ≡ length d → drop (at + n) c ≡ drop (at + n) d
 back_same d at n c leaves len =
     let len_c = length-drop (at + n) c in
     let len_d = length-drop (at + n) d in
     ext_get_or 0 (drop (at + n) c) (drop (at + n) d) (omega (arith, len_c, len_d, len)) (λ i lt.
     get_or-drop (at + n) c i 0 ∙ leaves.same (at + n + i) (omega (arith, len_c, len)) (inr (omega arith), tt) ∙ sym (get_or-drop (at + n) d i 0))
+
+pub spelled-more : (bodies more : List (List ℕ)) (rest : List ℕ) → spelled (bodies ++ more) rest ≡ spelled bodies (spelled more rest)
+spelled-more [] more rest = refl
+spelled-more (b ∷ bodies) more rest = ap (λ (l : List ℕ). 165 ∷ to_be_bytes w32 (length b) ++ b ++ l) (spelled-more bodies more rest)
+
+pub fit-more : (bodies more : List (List ℕ)) → AllFit bodies → AllFit more → AllFit (bodies ++ more)
+fit-more [] more fit fits = fits
+fit-more (b ∷ bodies) more fit fits = (fit.0, fit-more bodies more fit.1 fits)
 
 module _ (bodies : List (List ℕ)) (gate : ℕ) (rest : List ℕ) (fit : AllFit bodies) (closed : gate ≢ 165) (end : ℕ) (end_is : end ≡ length (spelled bodies [])) where
   abbrev records : List ℕ
@@ -60,6 +68,43 @@ module _ (bodies : List (List ℕ)) (gate : ℕ) (rest : List ℕ) (fit : AllFit
       ∙ ap (λ (l : List ℕ). (records ++ gate ∷ []) ++ frame ++ l) tail
       ∙ simp append_assoc (sym (split (gate ∷ frame ++ drop (length frame) rest)))
 
+  -- and so does one anywhere behind it
+  pub behind_any : (at n : ℕ) (c : List ℕ) → end < at → Leaves (spelled bodies (gate ∷ rest)) ((at, n) ∷ []) c → gated c ≡ Some bodies
+  behind_any at n c lt leaves = behind_gate (at + n - (end + 1)) c (record {
+    no_shorter = leaves.no_shorter;
+    no_longer = omega (arith, leaves.no_longer, lt);
+    same = λ i within un. leaves.same i within (⊎_elim (λ low. inl (omega (arith, low, lt))) (λ high. inr (omega (arith, high, lt))) un.0, tt);
+  })
+
+  -- a write of the gate leaves the list, or whatever longer one stands behind it
+  pub at_any_gate : (more : List ℕ) (longer : List (List ℕ)) → gated (spelled bodies (165 ∷ more)) ≡ Some longer → (c : List ℕ) → Leaves (spelled bodies (gate ∷ more)) ((end, 1) ∷ []) c
+      → (gated c ≡ Some bodies) ⊎ (gated c ≡ Some longer)
+  at_any_gate more longer longer_is c leaves =
+      let whole_is = spelled bodies (gate ∷ more) in
+      let long = length-whole gate more in
+      let len : length c ≡ length whole_is = omega (arith, leaves.no_shorter, leaves.no_longer, long) in
+      let start = front_same whole_is end 1 end c leaves (omega arith) (omega (arith, long)) ∙ records_front (gate ∷ more) in
+      let tail = back_same whole_is end 1 c leaves len ∙ back gate more in
+      let x = get_or c end 0 in
+      let rest_is : drop end c ≡ x ∷ more = drop_more c end 0 (omega (arith, len, long)) ∙ ap (λ (l : List ℕ). x ∷ l) tail in
+      let whole : c ≡ spelled bodies (x ∷ more) = sym (take-append-drop end c) ∙ ap (λ (l : List ℕ). l ++ drop end c) start ∙ ap (λ (l : List ℕ). records ++ l) rest_is ∙ sym (split (x ∷ more)) in
+      ⊎_elim
+      (λ is. inr (ap gated (whole ∙ ap (λ g. spelled bodies (g ∷ more)) is) ∙ longer_is))
+      (λ ne. inl (ap gated whole ∙ gated_spelled bodies x more fit ne))
+      (cases_eq x 165)
+
+  -- the gate is opened
+  pub opened_at : (more : List ℕ) → patched (spelled bodies (gate ∷ more)) end (165 ∷ []) ≡ spelled bodies (165 ∷ more)
+  opened_at more =
+      ap (λ (l : List ℕ). l ++ (165 ∷ []) ++ drop (end + 1) (spelled bodies (gate ∷ more))) (records_front (gate ∷ more))
+      ∙ ap (λ (l : List ℕ). records ++ (165 ∷ []) ++ l) (back gate more)
+      ∙ append_assoc records (165 ∷ []) more
+      ∙ sym (split (165 ∷ more))
+
+  -- bodies that stand ahead, behind a gate that is open: they are the end of the list
+  pub ahead_is : (b : List ℕ) (ahead : List (List ℕ)) (after : List ℕ) → spelled bodies (165 ∷ drop 1 (spelled (b ∷ ahead) (0 ∷ after))) ≡ spelled (bodies ++ b ∷ ahead) (0 ∷ after)
+  ahead_is b ahead after = sym (spelled-more bodies (b ∷ ahead) (0 ∷ after))
+
   module _ (body after : List ℕ) (fits : Fits body) where
     abbrev staged : List ℕ
     staged = spelled bodies (gate ∷ to_be_bytes w32 (length body) ++ body ++ 0 ∷ after)
@@ -75,25 +120,7 @@ module _ (bodies : List (List ℕ)) (gate : ℕ) (rest : List ℕ) (fit : AllFit
 
     -- a write of the gate leaves the list, or the longer one
     pub at_gate : (c : List ℕ) → Leaves staged ((end, 1) ∷ []) c → IsOldOrNew bodies body c
-    at_gate c leaves =
-        let more = to_be_bytes w32 (length body) ++ body ++ 0 ∷ after in
-        let long = length-whole gate more in
-        let len : length c ≡ length staged = omega (arith, leaves.no_shorter, leaves.no_longer, long) in
-        let start = front_same staged end 1 end c leaves (omega arith) (omega (arith, long)) ∙ records_front (gate ∷ more) in
-        let tail = back_same staged end 1 c leaves len ∙ back gate more in
-        let x = get_or c end 0 in
-        let rest_is : drop end c ≡ x ∷ more = drop_more c end 0 (omega (arith, len, long)) ∙ ap (λ (l : List ℕ). x ∷ l) tail in
-        let whole : c ≡ spelled bodies (x ∷ more) = sym (take-append-drop end c) ∙ ap (λ (l : List ℕ). l ++ drop end c) start ∙ ap (λ (l : List ℕ). records ++ l) rest_is ∙ sym (split (x ∷ more)) in
-        ⊎_elim
-        (λ is. inr (ap gated (whole ∙ ap (λ g. spelled bodies (g ∷ more)) is ∙ sym opened_is) ∙ gated_opened))
-        (λ ne. inl (ap gated whole ∙ gated_spelled bodies x more fit ne))
-        (cases_eq x 165)
+    at_gate c leaves = at_any_gate (to_be_bytes w32 (length body) ++ body ++ 0 ∷ after) (bodies ++ body ∷ []) (ap gated (sym opened_is) ∙ gated_opened) c leaves
 
     pub written_gate : patched staged end (165 ∷ []) ≡ opened
-    written_gate =
-        let more = to_be_bytes w32 (length body) ++ body ++ 0 ∷ after in
-        ap (λ (l : List ℕ). l ++ (165 ∷ []) ++ drop (end + 1) staged) (records_front (gate ∷ more))
-        ∙ ap (λ (l : List ℕ). records ++ (165 ∷ []) ++ l) (back gate more)
-        ∙ append_assoc records (165 ∷ []) more
-        ∙ sym (split (165 ∷ more))
-        ∙ sym opened_is
+    written_gate = opened_at (to_be_bytes w32 (length body) ++ body ++ 0 ∷ after) ∙ sym opened_is

@@ -4,3 +4,6 @@ pub mod Appends
 pub mod Splitting
 pub mod Opens
 mod Calls
+pub mod WrittenAhead
+mod Cleared
+mod SmallAhead

@@ -3,8 +3,8 @@ use Rattle.std.proofs.Common.{◌≡◌, ◌⊎◌, inl, inr, ℕ, ◌≤◌, Li
 use Rattle.std.proofs.lemmas.List.{drop_all}
 use Rattle.device.specs.Device.{State, Leaves, Synced, Keeps, Elapses, LeavesOnly, left}
 use Rattle.device.proofs.Moments.{leaves_map, leaves_then, leaves_nothing_else}
-use Rattle.gated.specs.Gated.{closed_gate, gated, HasList, IsReady, IsSpelled, IsFoundList}
-use Rattle.gated.proofs.Calls.{WasPut, one_call, still}
+use Rattle.gated.specs.Gated.{closed_gate, gated, HasList, IsReady, IsSpelled, IsFoundList, WasPut}
+use Rattle.gated.proofs.Calls.{one_call, still}
 use Rattle.gated.proofs.Splitting.{short_list, spelled_list}
 
 -- all that a stop may leave is what reads

@@ -1,7 +1,7 @@
 -- The list of records that a content has.
 use Rattle.std.specs.Prelude.{◌≡◌, ◌⊎◌, ◌≤◌, ◌+◌, ◌-◌, ◌^◌, ◌≢◌, ℕ, zero, suc, Bool, false, not, ◌&&◌, ◌==◌, nat_le, nat_lt, List, [], ◌∷◌, ◌++◌, length, take, drop, get_or, Option, Some, None, if◌then◌else◌}
 use Rattle.std.specs.Int.{w32, to_be_bytes, from_be_bytes}
-use Rattle.device.specs.Device.{State, left}
+use Rattle.device.specs.Device.{State, left, patched}
 
 -- a gate with this byte is open
 abbrev pub open_gate : ℕ
@@ -57,10 +57,12 @@ gated content = gated_within (length content) content
 abbrev pub HasList : State → List (List ℕ) → Type 0
 HasList s bodies = (c : List ℕ) → left s c → gated c ≡ Some bodies
 
--- a log as its callers see it: its device, and the place of the gate that ends the list
+-- a log as its callers see it: its device, the place of the gate that ends the list, and where the bodies end that are ahead of it
 pub record LogView (D : Type 0) : Type 0 where
   pub device : D
   pub end : ℕ
+  -- the same place, where none is ahead
+  pub at : ℕ
 
 -- the list, or the longer one
 abbrev pub IsOldOrNew : List (List ℕ) → List ℕ → List ℕ → Type 0
@@ -109,3 +111,38 @@ pub record IsFoundList (old : State) (bodies : List (List ℕ)) (new : State) : 
   pub has : HasList new bodies
   pub up : new.stopped ≡ false
   pub reads : (new.seen ≡ old.seen) ⊎ (length new.seen ≤ 1)
+
+-- These bodies stand ahead of the list: behind its closed gate at `end`, where nothing of them counts. Behind the last of them, at `at`, stands an open
+-- gate; where there are none, `at` is the place of the closed one. All of it is durable.
+pub record IsAhead (s : State) (end at : ℕ) (ahead : List (List ℕ)) : Type 0 where
+  pub bodies : List (List ℕ)
+  pub gate : ℕ
+  pub rest : List ℕ
+  pub fit : AllFit bodies
+  pub fit_ahead : AllFit ahead
+  pub closed : gate ≢ open_gate
+  pub seen : s.seen ≡ spelled bodies (gate ∷ drop 1 (spelled ahead (open_gate ∷ rest)))
+  pub end_is : end ≡ length (spelled bodies [])
+  pub at_is : at ≡ end + length (spelled ahead [])
+  pub durable : s.durable ≡ s.seen
+  pub written : s.written ≡ []
+
+-- some bodies stand ahead of the list, or none
+pub record HasAhead (s : State) (end at : ℕ) : Type 0 where
+  pub ahead : List (List ℕ)
+  pub is : IsAhead s end at ahead
+
+-- the list, or the one with these bodies behind it
+abbrev pub IsOldOrLonger : List (List ℕ) → List (List ℕ) → List ℕ → Type 0
+IsOldOrLonger bodies ahead content = (gated content ≡ Some bodies) ⊎ (gated content ≡ Some (bodies ++ ahead))
+
+-- the list, or the empty one
+abbrev pub IsOldOrNone : List (List ℕ) → List ℕ → Type 0
+IsOldOrNone bodies content = (gated content ≡ Some bodies) ⊎ (gated content ≡ Some [])
+
+-- these bytes were written at this place, and are durable with all the others
+pub record WasPut (old : State) (at : ℕ) (bytes : List ℕ) (new : State) : Type 0 where
+  pub seen : new.seen ≡ patched old.seen at bytes
+  pub durable : new.durable ≡ new.seen
+  pub written : new.written ≡ []
+  pub stopped : new.stopped ≡ false

@@ -1,22 +1,22 @@
 // The four device calls that append a record, and what a stop leaves at each.
 ghost use Rattle.std.specs.Prelude.{◌≡◌, ◌≤◌, ◌<◌, ◌+◌, ◌↔◌, [], ◌∷◌, ◌++◌, true, false, length, OnOk, OnErr, IsErr, List, ℕ};
 ghost use Rattle.std.specs.Int.{w32, to_be_bytes};
-ghost use Rattle.gated.specs.Gated.{body_of, closed_gate, max_body, max_device, record_head, IsReady, HasList, IsOldOrNew};
+ghost use Rattle.gated.specs.Gated.{body_of, max_body, max_device, record_head, IsReady, HasList, IsOldOrNew};
 ghost use Rattle.device.specs.Device.{LeavesOnly, Failed, Keeps};
 
 use crate::format::{CLOSED, HEAD, OPEN, SIZE};
 use device::{Device, Stopped};
 
-/// Puts the length before the body, and a closed gate behind it.
-fn frame(buf: &mut [u8])
+/// Puts the length before the body, and this gate behind it.
+pub(crate) fn frame(buf: &mut [u8], gate: u8)
     requires some { record_head + 1 ≤ length buf.old }
     requires fits { length buf.old ≤ max_body + record_head }
-    ensures { buf.new ≡ to_be_bytes w32 (length (body_of buf.old)) ++ body_of buf.old ++ closed_gate ∷ [] }
+    ensures { buf.new ≡ to_be_bytes w32 (length (body_of buf.old)) ++ body_of buf.old ++ gate ∷ [] }
 {
     let n = buf.len() - HEAD;
     let size = (n as u32).to_be_bytes();
     buf[..SIZE].copy_from_slice(&size);
-    buf[SIZE + n] = CLOSED;
+    buf[SIZE + n] = gate;
 }
 
 /// Appends the body that the buffer has, behind the closed gate at `end`.
@@ -39,7 +39,7 @@ pub(crate) fn append_at<D: Device>(
     ensures stopped { (D.state device.old).stopped ≡ true → IsErr result × (D.honest device.old → Keeps (D.state device.old) (D.state device.new)) }
     ensures any_moment { (bodies : List (List ℕ)) → D.honest device.old → HasList (D.state device.old) bodies → LeavesOnly D.moment D.left_since device.old device.new (IsOldOrNew bodies (body_of buf.old)) }
 {
-    frame(buf);
+    frame(buf, CLOSED);
     // The record goes behind the closed gate, where nothing counts: a stop leaves any part of it, and the old list.
     device.write_at(end + 1, buf)?;
     // It has to be durable before its gate is opened, since an open gate says that all behind it is there.

@@ -4,9 +4,13 @@
 //! Never: reads a length behind a closed gate, looks into a body, or keeps bodies in memory.
 //! Callers rely on: the list gains the body on `Ok`; after `Full` nothing has changed, after `Down` open again.
 //!
+//! Many bodies may be written ahead of a list, behind its closed gate, and become its end by one byte (`write_ahead`, `publish`); `clear`
+//! empties a list by one byte. No crate above calls these three yet.
+//!
 //! Start at `specs/Gated.antt`, what bytes stand for which list, and then `append`, its four calls.
 #![tactic(auto)]
 
+mod ahead;
 mod append;
 mod format;
 mod log;

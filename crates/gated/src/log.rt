@@ -1,8 +1,9 @@
 // A log of bodies behind gates: a body counts once its gate is open.
 ghost use Rattle.std.specs.Prelude.{◌≡◌, ◌≤◌, ◌<◌, ◌+◌, ◌^◌, ◌↔◌, ◌⊎◌, ◌∷◌, [], ◌++◌, None, false, true, length, map, List, ℕ, OnOk, IsErr, IfOk, IfErr, MatchResult, IsErrOf};
 ghost use Rattle.device.specs.Device.{LeavesOnly, Failed, HasFailed, Keeps, Elapses, left};
-ghost use Rattle.gated.specs.Gated.{HasList, IsOldOrNew, body_of, gated, max_body, max_device, record_head, IsFoundList};
+ghost use Rattle.gated.specs.Gated.{HasList, IsAhead, IsOldOrLonger, IsOldOrNew, IsOldOrNone, body_of, gated, max_body, max_device, record_head, IsFoundList};
 
+use crate::ahead::{close_first, open_ahead, put_ahead};
 use crate::append::append_at;
 use crate::format::MAX_DEVICE;
 use crate::opening::find_list;
@@ -11,23 +12,26 @@ use refusal::Refusal;
 use std::alloc::Global;
 use std::marker::Model;
 
-/// A log over one device, which contracts see as that device and the place of the gate that ends the list.
+/// A log over one device, which contracts see as that device, the place of the gate that ends the list, and where the bodies end
+/// that are ahead of it.
 #[derive(Drop)]
 pub struct GatedLog<D: Device> {
     device: D,
     // where the closed gate stands that ends the list
     end: usize,
+    // where the open gate stands behind the bodies that are ahead; where none is, the same place
+    at: usize,
 }
 
 impl<D: Device> Model for GatedLog<D> {
-    ghost use Rattle.std.specs.Prelude.{◌≡◌, false};
-    ghost use Rattle.gated.specs.Gated.{IsReady, LogView};
+    ghost use Rattle.std.specs.Prelude.{◌≡◌, ◌≤◌, false};
+    ghost use Rattle.gated.specs.Gated.{HasAhead, LogView};
 
     ghost Value = { LogView D };
 
-    ghost view = { λ l. record { device = l.device; end = l.end } };
+    ghost view = { λ l. record { device = l.device; end = l.end; at = l.at } };
 
-    ghost invariant = { λ l. D.honest l.device → (D.state l.device).stopped ≡ false → IsReady (D.state l.device) l.end };
+    ghost invariant = { λ l. (l.end ≤ l.at) × (D.honest l.device → (D.state l.device).stopped ≡ false → HasAhead (D.state l.device) l.end l.at) };
 }
 
 impl<D: Device> GatedLog<D> {
@@ -50,18 +54,30 @@ impl<D: Device> GatedLog<D> {
             (λ e. (e.0 ≡ Refusal.Down) ⊎ ((D.state e.1).failures ≡ (D.state device).failures)) }
         ensures end { D.honest device → IfOk result (λ r. r.0.end < length (D.state r.0.device).seen) }
 
+        // Nothing is ahead of it.
+        ensures at { IfOk result (λ r. r.0.at ≡ r.0.end) }
+        ensures ahead { D.honest device → IfOk result (λ r. IsAhead (D.state r.0.device) r.0.end r.0.at []) }
+
         // At every moment of the call a stop leaves what it could leave before, or a content with the list that the device had.
         ensures any_moment { D.honest device → MatchResult result
             (λ r. LeavesOnly D.moment D.left_since device r.0.device (λ c. left (D.state device) c ⊎ (gated c ≡ gated (D.state device).seen)))
             (λ e. LeavesOnly D.moment D.left_since device e.1 (λ c. left (D.state device) c ⊎ (gated c ≡ gated (D.state device).seen))) }
     {
         match find_list(alloc, &mut device) {
-            Ok((bodies, end)) => Ok((GatedLog { device, end }, bodies)),
+            Ok((bodies, end)) => Ok((
+                GatedLog {
+                    device,
+                    end,
+                    at: end,
+                },
+                bodies,
+            )),
             Err(refusal) => Err((refusal, device)),
         }
     }
 
     /// Appends the body that stands in the buffer between four bytes and one, which it fills itself; exactly four device calls.
+    /// It takes the place of what was ahead.
     ///
     /// `Full` where the list would end past 2^40 bytes: nothing has changed. `Down`: the list is the old one or the new one, and
     /// the log has to be opened again, after the device was revived.
@@ -83,6 +99,8 @@ impl<D: Device> GatedLog<D> {
         ensures counts { (D.state self.old.device).failures ≤ (D.state self.new.device).failures }
         ensures none { OnOk result ((D.state self.new.device).failures ≡ (D.state self.old.device).failures) }
         ensures end { OnOk result ((self.new.end ≡ self.old.end + length buf.old) × (self.new.end < max_device)) }
+        ensures ahead { D.honest self.old.device → OnOk result (IsAhead (D.state self.new.device) self.new.end self.new.at []) }
+        ensures at { OnOk result (self.new.at ≡ self.new.end) }
         ensures stopped { (D.state self.old.device).stopped ≡ true → IsErr result × (D.honest self.old.device → Keeps (D.state self.old.device) (D.state self.new.device)) }
     {
         if self.end >= MAX_DEVICE - buf.len() {
@@ -91,6 +109,115 @@ impl<D: Device> GatedLog<D> {
         match append_at(&mut self.device, self.end, buf) {
             Ok(()) => {
                 self.end += buf.len();
+                self.at = self.end;
+                Ok(())
+            }
+            Err(Stopped) => Err(Refusal::Down),
+        }
+    }
+
+    /// Writes the body that stands in the buffer, as `append` takes it, ahead of the list: behind those that are ahead already. Until
+    /// `publish` none of them counts. Two device calls.
+    ///
+    /// `Full` where it would end past 2^40 bytes: nothing has changed. `Down`: the list is as it was, and the log has to be opened
+    /// again, after the device was revived; nothing is ahead then.
+    pub fn write_ahead(&mut self, buf: &mut [u8]) -> Result<(), Refusal>
+        requires some { record_head + 1 ≤ length buf.old }
+        requires fits { length buf.old ≤ max_body + record_head }
+        ensures honest { D.honest self.old.device ↔ D.honest self.new.device }
+
+        // At every moment of the call, and from then on, a stop leaves the list.
+        ensures any_moment { (bodies : List (List ℕ)) → D.honest self.old.device → HasList (D.state self.old.device) bodies → LeavesOnly D.moment D.left_since self.old.device self.new.device (λ c. gated c ≡ Some bodies) }
+        ensures list { (bodies : List (List ℕ)) → D.honest self.old.device → HasList (D.state self.old.device) bodies → HasList (D.state self.new.device) bodies }
+
+        // One body more is ahead of it.
+        ensures ok { (ahead : List (List ℕ)) → D.honest self.old.device → IsAhead (D.state self.old.device) self.old.end self.old.at ahead
+            → OnOk result (IsAhead (D.state self.new.device) self.new.end self.new.at (ahead ++ body_of buf.old ∷ [])) }
+        ensures up { D.honest self.old.device → OnOk result ((D.state self.new.device).stopped ≡ false) }
+        ensures failed { IsErrOf result Refusal.Down → Failed (D.state self.old.device) (D.state self.new.device) }
+        ensures full { IsErrOf result Refusal.Full → (self.new ≡ self.old) × (max_device ≤ self.old.at + length buf.old)
+            × (D.honest self.old.device → (D.state self.old.device).stopped ≡ false → self.old.at < length (D.state self.old.device).seen) }
+        ensures err { IfErr result (λ e. (e ≡ Refusal.Down) ⊎ (e ≡ Refusal.Full)) }
+        ensures counts { (D.state self.old.device).failures ≤ (D.state self.new.device).failures }
+        ensures none { OnOk result ((D.state self.new.device).failures ≡ (D.state self.old.device).failures) }
+        ensures end { self.new.end ≡ self.old.end }
+        ensures at { OnOk result ((self.new.at ≡ self.old.at + length buf.old) × (self.new.end < self.new.at) × (self.new.at < max_device)) }
+        ensures stopped { (D.state self.old.device).stopped ≡ true → IsErr result × (D.honest self.old.device → Keeps (D.state self.old.device) (D.state self.new.device)) }
+    {
+        if self.at >= MAX_DEVICE - buf.len() {
+            return Err(Refusal::Full);
+        }
+        match put_ahead(&mut self.device, self.end, self.at, buf) {
+            Ok(()) => {
+                self.at += buf.len();
+                Ok(())
+            }
+            Err(Stopped) => Err(Refusal::Down),
+        }
+    }
+
+    /// Makes all bodies that are ahead the end of the list, by one byte; exactly four device calls.
+    ///
+    /// `Down`: the list is the old one or has all of them, and the log has to be opened again, after the device was revived.
+    pub fn publish(&mut self) -> Result<(), Refusal>
+        requires { self.old.end < self.old.at }
+        ensures honest { D.honest self.old.device ↔ D.honest self.new.device }
+
+        // At every moment of the call a stop leaves the old list, or the one with all of them.
+        ensures any_moment { (ahead bodies : List (List ℕ)) → D.honest self.old.device → IsAhead (D.state self.old.device) self.old.end self.old.at ahead → HasList (D.state self.old.device) bodies
+            → LeavesOnly D.moment D.left_since self.old.device self.new.device (IsOldOrLonger bodies ahead) }
+
+        // From then on each stop leaves the longer one, and nothing is ahead of it.
+        ensures ok { (ahead bodies : List (List ℕ)) → D.honest self.old.device → IsAhead (D.state self.old.device) self.old.end self.old.at ahead → HasList (D.state self.old.device) bodies
+            → OnOk result (HasList (D.state self.new.device) (bodies ++ ahead)) }
+        ensures ahead { D.honest self.old.device → OnOk result (IsAhead (D.state self.new.device) self.new.end self.new.at []) }
+        ensures up { D.honest self.old.device → OnOk result ((D.state self.new.device).stopped ≡ false) }
+        ensures failed { IsErrOf result Refusal.Down → Failed (D.state self.old.device) (D.state self.new.device) }
+        ensures err { IfErr result (λ e. e ≡ Refusal.Down) }
+        ensures counts { (D.state self.old.device).failures ≤ (D.state self.new.device).failures }
+        ensures none { OnOk result ((D.state self.new.device).failures ≡ (D.state self.old.device).failures) }
+        ensures end { OnOk result ((self.new.end ≡ self.old.at) × (self.new.at ≡ self.old.at)) }
+        ensures stopped { (D.state self.old.device).stopped ≡ true → IsErr result × (D.honest self.old.device → Keeps (D.state self.old.device) (D.state self.new.device)) }
+    {
+        match open_ahead(&mut self.device, self.end, self.at) {
+            Ok(()) => {
+                self.end = self.at;
+                Ok(())
+            }
+            Err(Stopped) => Err(Refusal::Down),
+        }
+    }
+
+    /// Makes the list the empty one, by one byte, and forgets what is ahead. Two device calls; none where the list is empty, since
+    /// a write over a gate that is closed might be left as one that is open.
+    ///
+    /// `Down`: the list is the old one or the empty one, and the log has to be opened again, after the device was revived.
+    pub fn clear(&mut self) -> Result<(), Refusal>
+        ensures honest { D.honest self.old.device ↔ D.honest self.new.device }
+
+        // At every moment of the call a stop leaves the old list, or the empty one.
+        ensures any_moment { (bodies : List (List ℕ)) → D.honest self.old.device → HasList (D.state self.old.device) bodies → LeavesOnly D.moment D.left_since self.old.device self.new.device (IsOldOrNone bodies) }
+
+        // From then on each stop leaves the empty one, and nothing is ahead of it.
+        ensures ok { D.honest self.old.device → (D.state self.old.device).stopped ≡ false → OnOk result (HasList (D.state self.new.device) []) }
+        ensures ahead { D.honest self.old.device → (D.state self.old.device).stopped ≡ false → OnOk result (IsAhead (D.state self.new.device) 0 0 []) }
+        ensures up { D.honest self.old.device → (D.state self.old.device).stopped ≡ false → OnOk result ((D.state self.new.device).stopped ≡ false) }
+        ensures failed { IsErrOf result Refusal.Down → Failed (D.state self.old.device) (D.state self.new.device) }
+        ensures err { IfErr result (λ e. e ≡ Refusal.Down) }
+        ensures counts { (D.state self.old.device).failures ≤ (D.state self.new.device).failures }
+        ensures none { OnOk result ((D.state self.new.device).failures ≡ (D.state self.old.device).failures) }
+        ensures end { OnOk result ((self.new.end ≡ 0) × (self.new.at ≡ 0)) }
+        ensures closed { self.old.end ≡ 0 → (result ≡ Ok tt) × (self.new.device ≡ self.old.device) }
+        ensures stopped { (D.state self.old.device).stopped ≡ true → 0 < self.old.end → IsErr result × (D.honest self.old.device → Keeps (D.state self.old.device) (D.state self.new.device)) }
+    {
+        if self.end == 0 {
+            self.at = 0;
+            return Ok(());
+        }
+        match close_first(&mut self.device, self.end) {
+            Ok(()) => {
+                self.end = 0;
+                self.at = 0;
                 Ok(())
             }
             Err(Stopped) => Err(Refusal::Down),
@@ -100,7 +227,7 @@ impl<D: Device> GatedLog<D> {
     /// Sets the script of the device, and changes nothing else.
     pub fn fail(&mut self, n: u64, tear: Tear)
         ensures set { D.set_to_fail self.new.device n tear }
-        ensures end { self.new.end ≡ self.old.end }
+        ensures end { (self.new.end ≡ self.old.end) × (self.new.at ≡ self.old.at) }
         ensures honest { D.honest self.old.device ↔ D.honest self.new.device }
         ensures keeps { D.honest self.old.device → Keeps (D.state self.old.device) (D.state self.new.device) }
         ensures same { ((D.state self.new.device).failures ≡ (D.state self.old.device).failures) × ((D.state self.new.device).stopped ≡ (D.state self.old.device).stopped) }
@@ -120,7 +247,11 @@ impl<D: Device> GatedLog<D> {
     pub fn into_device(self) -> D
         ensures { result ≡ self.device }
     {
-        let GatedLog { device, end: _ } = self;
+        let GatedLog {
+            device,
+            end: _,
+            at: _,
+        } = self;
         device
     }
 }

@@ -1,0 +1,13 @@
+use Rattle.std.proofs.Common.{◌≡◌, ℕ, [], false, subst}
+use Rattle.gated.specs.Gated.{HasList, IsReady, LogView}
+use Rattle.gated.proofs.Cleared.{none_listed}
+use Rattle.gated.proofs.WrittenAhead.{ready_of}
+use Rattle.gated.proofs.log.GatedLog.clear.Goals as goal
+
+pub returns-then-self-eq0-clause-ok : goal.returns-then-self-eq0-clause-ok
+returns-then-self-eq0-clause-ok g c =
+    let s = g.D.Device.state c.self.inside.device in
+    let P : LogView g.row.D.Denot → Type 0 = λ v. g.D.Device.honest v.device → (g.D.Device.state v.device).stopped ≡ false → HasList s [] in
+    subst P c.self.view_is (λ hon up.
+    let has = c.self.invariant.1 hon up in
+    none_listed s (subst (λ (n : ℕ). IsReady s n) c.if-self-eq0.true (ready_of s c.self.inside.end c.self.inside.at has.ahead has.is)))

@@ -1,0 +1,95 @@
+// Bodies that are written ahead of a list: behind its closed gate, where nothing of them counts until it is opened.
+ghost use Rattle.std.specs.Prelude.{◌≡◌, ◌≤◌, ◌<◌, ◌+◌, ◌↔◌, Some, [], ◌∷◌, ◌++◌, true, false, length, OnOk, OnErr, IsErr, List, ℕ};
+ghost use Rattle.gated.specs.Gated.{body_of, gated, max_body, max_device, record_head, HasAhead, HasList, IsAhead, IsOldOrLonger, IsOldOrNone, IsReady, WasPut};
+ghost use Rattle.device.specs.Device.{Failed, Keeps, Leaves, LeavesOnly, left};
+
+use crate::append::frame;
+use crate::format::{CLOSED, OPEN};
+use device::{Device, Stopped};
+
+/// Writes bytes, and makes them durable before anything else is written.
+fn put<D: Device>(device: &mut D, at: usize, bytes: &[u8]) -> Result<(), Stopped>
+    requires { D.honest device.old → (D.state device.old).stopped ≡ false → at ≤ length (D.state device.old).seen }
+    ensures honest { D.honest device.old ↔ D.honest device.new }
+    ensures ok { D.honest device.old → OnOk result (WasPut (D.state device.old) at bytes.now (D.state device.new)) }
+    ensures any_moment { D.honest device.old → (D.state device.old).written ≡ []
+        → LeavesOnly D.moment D.left_since device.old device.new (Leaves (D.state device.old).durable ((at, length bytes.now) ∷ [])) }
+    ensures stopped { (D.state device.old).stopped ≡ true → IsErr result × (D.honest device.old → Keeps (D.state device.old) (D.state device.new)) }
+    ensures still { (D.state device.old).stopped ≡ true → D.honest device.old → LeavesOnly D.moment D.left_since device.old device.new (left (D.state device.old)) }
+    ensures counts { (D.state device.old).failures ≤ (D.state device.new).failures }
+    ensures none { OnOk result ((D.state device.new).failures ≡ (D.state device.old).failures) }
+    ensures err { OnErr result (Failed (D.state device.old) (D.state device.new)) }
+{
+    device.write_at(at, bytes)?;
+    device.sync()
+}
+
+/// Writes the body that the buffer has behind those that are ahead, which end at `at`.
+pub(crate) fn put_ahead<D: Device>(
+    device: &mut D,
+    end: usize,
+    at: usize,
+    buf: &mut [u8],
+) -> Result<(), Stopped>
+    requires some { record_head + 1 ≤ length buf.old }
+    requires fits { length buf.old ≤ max_body + record_head }
+    requires room { at + length buf.old < max_device }
+    requires ready { D.honest device.old → (D.state device.old).stopped ≡ false → HasAhead (D.state device.old) end at }
+    ensures honest { D.honest device.old ↔ D.honest device.new }
+    ensures ready { D.honest device.old → OnOk result (HasAhead (D.state device.new) end (at + length buf.old)) }
+    ensures ok { (ahead : List (List ℕ)) → D.honest device.old → IsAhead (D.state device.old) end at ahead
+        → OnOk result (IsAhead (D.state device.new) end (at + length buf.old) (ahead ++ body_of buf.old ∷ [])) }
+    ensures any_moment { (bodies : List (List ℕ)) → D.honest device.old → HasList (D.state device.old) bodies
+        → LeavesOnly D.moment D.left_since device.old device.new (λ c. gated c ≡ Some bodies) }
+    ensures up { D.honest device.old → OnOk result ((D.state device.new).stopped ≡ false) }
+    ensures counts { (D.state device.old).failures ≤ (D.state device.new).failures }
+    ensures none { OnOk result ((D.state device.new).failures ≡ (D.state device.old).failures) }
+    ensures err { OnErr result (Failed (D.state device.old) (D.state device.new)) }
+    ensures stopped { (D.state device.old).stopped ≡ true → IsErr result × (D.honest device.old → Keeps (D.state device.old) (D.state device.new)) }
+{
+    // The gate behind it is open already: only the last one is closed, once no body comes any more.
+    frame(buf, OPEN);
+    // Behind the list's closed gate nothing counts, whatever a stop leaves of it.
+    put(device, at + 1, buf)
+}
+
+/// Makes all that is ahead the end of the list, whose closed gate stands at `end`.
+pub(crate) fn open_ahead<D: Device>(device: &mut D, end: usize, at: usize) -> Result<(), Stopped>
+    requires some { end < at }
+    requires ready { D.honest device.old → (D.state device.old).stopped ≡ false → HasAhead (D.state device.old) end at }
+    ensures honest { D.honest device.old ↔ D.honest device.new }
+    ensures ready { D.honest device.old → OnOk result (IsReady (D.state device.new) at) }
+    ensures ok { (ahead bodies : List (List ℕ)) → D.honest device.old → IsAhead (D.state device.old) end at ahead → HasList (D.state device.old) bodies
+        → OnOk result (HasList (D.state device.new) (bodies ++ ahead)) }
+    ensures any_moment { (ahead bodies : List (List ℕ)) → D.honest device.old → IsAhead (D.state device.old) end at ahead → HasList (D.state device.old) bodies
+        → LeavesOnly D.moment D.left_since device.old device.new (IsOldOrLonger bodies ahead) }
+    ensures up { D.honest device.old → OnOk result ((D.state device.new).stopped ≡ false) }
+    ensures counts { (D.state device.old).failures ≤ (D.state device.new).failures }
+    ensures none { OnOk result ((D.state device.new).failures ≡ (D.state device.old).failures) }
+    ensures err { OnErr result (Failed (D.state device.old) (D.state device.new)) }
+    ensures stopped { (D.state device.old).stopped ≡ true → IsErr result × (D.honest device.old → Keeps (D.state device.old) (D.state device.new)) }
+{
+    // The gate behind the last of them ends the list from then on. Behind the closed gate of today it counts for nothing yet.
+    put(device, at, &[CLOSED])?;
+    // One byte: a stop leaves it open, and with it all that is ahead, or closed and the old list.
+    put(device, end, &[OPEN])
+}
+
+/// Closes the first gate, which is open: the list is the empty one.
+pub(crate) fn close_first<D: Device>(device: &mut D, end: usize) -> Result<(), Stopped>
+    requires some { 0 < end }
+    requires ready { D.honest device.old → (D.state device.old).stopped ≡ false → IsReady (D.state device.old) end }
+    ensures honest { D.honest device.old ↔ D.honest device.new }
+    ensures ready { D.honest device.old → OnOk result (IsReady (D.state device.new) 0) }
+    ensures ok { D.honest device.old → OnOk result (HasList (D.state device.new) []) }
+    ensures any_moment { (bodies : List (List ℕ)) → D.honest device.old → HasList (D.state device.old) bodies
+        → LeavesOnly D.moment D.left_since device.old device.new (IsOldOrNone bodies) }
+    ensures up { D.honest device.old → OnOk result ((D.state device.new).stopped ≡ false) }
+    ensures counts { (D.state device.old).failures ≤ (D.state device.new).failures }
+    ensures none { OnOk result ((D.state device.new).failures ≡ (D.state device.old).failures) }
+    ensures err { OnErr result (Failed (D.state device.old) (D.state device.new)) }
+    ensures stopped { (D.state device.old).stopped ≡ true → IsErr result × (D.honest device.old → Keeps (D.state device.old) (D.state device.new)) }
+{
+    // A stop leaves this byte open, and the old list, or any other, and the empty one.
+    put(device, 0, &[CLOSED])
+}
