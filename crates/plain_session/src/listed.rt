@@ -56,24 +56,24 @@ impl Listed {
         }
     }
 
-    // Those of the object; none for a tupleset of another kind.
-    fn of_object(&self, set: &Tupleset) -> Result<Vec<Tuple>, AllocError> {
-        let mut found = Vec::new(self.alloc);
-        for touch in &self.touches {
-            if let Tupleset::OfObject(object, _) = set {
-                if *object == touch.tuple.object {
-                    found.push(touch.tuple.clone()?).map_err(|_| AllocError)?;
-                }
+    fn touch(&mut self, place: u64, tuple: &Tuple) -> Result<(), AllocError> {
+        self.touches.reserve(1)?;
+        let tuple = tuple.clone()?;
+        self.touches.push_reserved(Touch { place, tuple });
+        Ok(())
+    }
+
+    fn touch_all(&mut self, place: u64, changes: &[Change]) -> Result<(), AllocError> {
+        for change in changes {
+            if let Change::Touch(tuple) = change {
+                self.touch(place, tuple)?;
             }
         }
-        Ok(found)
+        Ok(())
     }
-}
 
-impl Answers for Listed {
-    ghost gives = { λ a request reply b. Unit {0} };
-
-    fn write(&mut self, write: Write) -> Result<Written, Refusal> {
+    // What is asked for is lent, since each way out of a function that owns it is proved.
+    fn write_lent(&mut self, write: &Write) -> Result<Written, Refusal> {
         for condition in write.conditions() {
             if !self.is_met(condition) {
                 return Err(Refusal::Precondition);
@@ -82,32 +82,77 @@ impl Answers for Listed {
         let place = self.place.saturating_add(1);
         // All its touches are there, or none is, where memory is refused.
         let old = self.touches.len();
-        for change in write.changes() {
-            if let Change::Touch(tuple) = change {
-                let touch = tuple.clone().map(|tuple| Touch { place, tuple });
-                let pushed = touch.and_then(|touch| self
-                    .touches
-                    .push(touch)
-                    .map_err(|_| AllocError));
-                if pushed.is_err() {
-                    self.touches.truncate(old);
-                    return Err(Refusal::NoMemory);
-                }
-            }
+        if self.touch_all(place, write.changes()).is_err() {
+            self.touches.truncate(old);
+            return Err(Refusal::NoMemory);
         }
         self.place = place;
         Ok(Written { place })
     }
 
+    // Adds those of the object; none for a tupleset of another kind.
+    fn find(&self, set: &Tupleset, found: &mut Vec<Tuple>) -> Result<(), AllocError> {
+        let Tupleset::OfObject(object, _) = set else {
+            return Ok(());
+        };
+        for touch in &self.touches {
+            if *object == touch.tuple.object {
+                found.reserve(1)?;
+                found.push_reserved(touch.tuple.clone()?);
+            }
+        }
+        Ok(())
+    }
+
+    fn find_all(&self, sets: &[Tupleset], found: &mut Vec<Vec<Tuple>>) -> Result<(), AllocError> {
+        for set in sets {
+            found.reserve(1)?;
+            let mut of_object = Vec::new(self.alloc);
+            self.find(set, &mut of_object)?;
+            found.push_reserved(of_object);
+        }
+        Ok(())
+    }
+
+    // Adds the events behind a place, and gives the place of the last of them.
+    fn list(
+        &self,
+        from: u64,
+        limit: u16,
+        namespaces: &[Namespace],
+        events: &mut Vec<Version>,
+    ) -> Result<u64, AllocError> {
+        let mut heartbeat = from;
+        for touch in &self.touches {
+            let is_asked = touch.place > from && namespaces.contains(&touch.tuple.object.namespace);
+            if is_asked && events.len() < usize::from(limit) {
+                events.reserve(1)?;
+                let change = Change::Touch(touch.tuple.clone()?);
+                let place = touch.place;
+                events.push_reserved(Version { place, change });
+                heartbeat = place;
+            }
+        }
+        Ok(heartbeat)
+    }
+}
+
+impl Answers for Listed {
+    ghost gives = { λ a request reply b. Unit {0} };
+
+    fn write(&mut self, write: Write) -> Result<Written, Refusal> {
+        self.write_lent(&write)
+    }
+
     fn read(&mut self, freshness: Freshness, sets: Vec<Tupleset>) -> Result<Rows, Refusal> {
         let mut found = Vec::new(self.alloc);
-        for set in &sets {
-            found.push(self.of_object(set)?).map_err(|_| AllocError)?;
+        match self.find_all(&sets, &mut found) {
+            Ok(()) => Ok(Rows {
+                sets: found,
+                place: self.at(freshness),
+            }),
+            Err(error) => Err(error.into()),
         }
-        Ok(Rows {
-            sets: found,
-            place: self.at(freshness),
-        })
     }
 
     fn check(&mut self, freshness: Freshness, tuple: Tuple) -> Result<Membership, Refusal> {
@@ -127,18 +172,9 @@ impl Answers for Listed {
             return Err(Refusal::Future);
         }
         let mut events = Vec::new(self.alloc);
-        let mut heartbeat = from;
-        for touch in &self.touches {
-            let is_asked = touch.place > from && namespaces.contains(&touch.tuple.object.namespace);
-            if is_asked && events.len() < usize::from(limit) {
-                let change = Change::Touch(touch.tuple.clone()?);
-                let place = touch.place;
-                events
-                    .push(Version { place, change })
-                    .map_err(|_| AllocError)?;
-                heartbeat = place;
-            }
+        match self.list(from, limit, &namespaces, &mut events) {
+            Ok(heartbeat) => Ok(Events { events, heartbeat }),
+            Err(error) => Err(error.into()),
         }
-        Ok(Events { events, heartbeat })
     }
 }
