@@ -1,5 +1,6 @@
 -- The calls of a check, and what each reply makes of it.
 use Rattle.std.specs.Prelude.{◌≡◌, ◌≢◌, ◌⊎◌, ◌≤◌, ◌<◌, ◌++◌, ◌∷◌, ℕ, true, false, List, [], length, Some, None, Result, Ok, Err, Contains, slice_get}
+use Rattle.tuples.specs.Limits.{max_walked}
 use Rattle.refusal.specs.declared.refusal.Refusal.{Refusal}
 use Rattle.refusal.specs.declared.refusal.Refusal.TheVariants.{Full, NoMemory}
 use Rattle.tuples.specs.declared.object.Userset.{Userset}
@@ -7,7 +8,7 @@ use Rattle.tuples.specs.declared.tuple.Tuple.{Tuple}
 use Rattle.tuples.specs.declared.user.User.{User}
 use Rattle.tuples.specs.Checking.{holding}
 use Rattle.tuples.specs.Parts.{shard_of}
-use Rattle.decisions.specs.Flows.{CheckHolds, Freshness, most_walked}
+use Rattle.decisions.specs.Flows.{CheckHolds, Freshness}
 use Rattle.decisions.specs.Standing.{HeadsValue}
 use Rattle.decisions.specs.Walks.{Walks}
 use Rattle.shard.specs.declared.replies.ReadReply.{ReadReply}
@@ -68,8 +69,8 @@ LacksMemory after = after ≡ ended (refused NoMemory)
 -- It goes on to the first userset that waits. Where none waits the user is no member; and where one waits and as many were walked as may be, it is refused.
 pub record Continues (place : ℕ) (h : CheckHolds) (after : CheckView) : Type 0 where
   pub no : h.waiting ≡ [] → after ≡ ended (checked place false)
-  pub full : h.waiting ≢ [] → most_walked ≤ length h.walked → after ≡ ended (refused Full)
-  pub more : h.waiting ≢ [] → length h.walked < most_walked → after ≡ at_rest catch_up h
+  pub full : h.waiting ≢ [] → max_walked ≤ length h.walked → after ≡ ended (refused Full)
+  pub more : h.waiting ≢ [] → length h.walked < max_walked → after ≡ at_rest catch_up h
 
 -- the heads tell the place, or that it is not kept yet, or that it is refused
 abbrev pub HeadsGive : Freshness → CheckView → Result HeadsValue Refusal → CheckView → Type 0

@@ -4,16 +4,8 @@ use Rattle.refusal.specs.declared.refusal.Refusal.{Refusal}
 use Rattle.refusal.specs.declared.refusal.Refusal.TheVariants.{Collected, Future}
 use Rattle.decisions.specs.Flows.{Freshness, at_least, exact, latest}
 use Rattle.decisions.specs.Standing.{HeadsValue}
-use Rattle.answer_flow.specs.declared.freshness.Freshness as wanted
-use Rattle.answer_flow.specs.declared.freshness.Freshness.TheVariants.{Latest, AtLeast, Exact}
 use Rattle.answer_flow.specs.declared.finding.Found.{Found}
 use Rattle.answer_flow.specs.declared.finding.Found.TheVariants.{At, Later, Refused}
-
--- the freshness that is wanted
-abbrev pub fresh_of : wanted.Freshness → Freshness
-fresh_of Latest = latest
-fresh_of (AtLeast place) = at_least place
-fresh_of (Exact place) = exact place
 
 -- the place that heads give: the kept one; the kept one, where it is not below the one given; or the one given, where it is kept and not below the horizon
 abbrev pub FindsPlace : Freshness → HeadsValue → ℕ → Type 0

@@ -7,10 +7,9 @@ ghost use Rattle.answer_flow.specs.CheckViews.{at_rest, begins_at, catch_up};
 use crate::check_flow::CheckFlow;
 use crate::check_phase::AskedCheck;
 use crate::checking::go_on;
-use crate::freshness::Freshness;
 use crate::walk::Walk;
 use std::alloc::{AllocError, Global};
-use tuples::{User, Userset};
+use tuples::{Freshness, User, Userset};
 
 impl CheckFlow {
     /// To ask whether the user is in the userset at a place that is known to be kept. It asks the coordinator for nothing: the userset's shard is brought

@@ -3,20 +3,18 @@ ghost use Rattle.std.specs.Prelude.{◌≡◌, ◌≢◌, ◌≤◌, Some, None,
 ghost use Rattle.calls.specs.Names.{name_of as name_of_call};
 ghost use Rattle.names.specs.declared.call_name.CallName.TheVariants as names;
 ghost use Rattle.records.specs.Identity.{max_shards};
-ghost use Rattle.answer_flow.specs.Finding.{fresh_of};
 ghost use Rattle.answer_flow.specs.Checking.{Asks, Fits, GivesTo};
 ghost use Rattle.answer_flow.specs.CheckViews.{at_rest, begins_at, ending_of, heads};
 
 use crate::check_phase::{AskedCheck, CheckEnd, Phase, Ready};
 use crate::check_turns::{give, next};
-use crate::freshness::Freshness;
 use crate::walk::Walk;
 use calls::{NodeCall, Reply};
 use names::CallName;
 use std::alloc::{AllocError, Global};
 use std::marker::Model;
 use std::mem;
-use tuples::{Refusal, User, Userset};
+use tuples::{Freshness, Refusal, User, Userset};
 
 /// A check on its way: `heads`, until it has its place; then breadth first from the asked userset, each userset once: its shard is brought up to the
 /// place, and read. It holds nothing that has to be spent, so who cancels it drops it.
@@ -28,14 +26,13 @@ pub struct CheckFlow {
 }
 
 impl Model for CheckFlow {
-    ghost use Rattle.answer_flow.specs.Finding.{fresh_of};
     ghost use Rattle.answer_flow.specs.CheckViews.{CheckFlowValue};
 
     ghost Value = { CheckFlowValue };
 
     ghost use Rattle.answer_flow.specs.CheckViews.{IsPhaseOf, name_of, view_of};
 
-    ghost view = { λ f. record { shards = f.asked.shards; fresh = fresh_of f.asked.freshness; user = f.asked.user; seen = view_of f.phase; next_name = name_of f.phase } };
+    ghost view = { λ f. record { shards = f.asked.shards; fresh = f.asked.freshness; user = f.asked.user; seen = view_of f.phase; next_name = name_of f.phase } };
 
     ghost invariant = { λ f. IsPhaseOf f.asked.shards f.asked.user f.phase };
 }
@@ -63,7 +60,7 @@ impl CheckFlow {
     ) -> Result<CheckFlow, AllocError>
         requires some { 1 ≤ shards }
         requires few { shards ≤ max_shards }
-        ensures { IfOk result (λ f. f ≡ record { shards = shards; fresh = fresh_of freshness; user = user; seen = at_rest heads (begins_at userset.now); next_name = Some names.Heads }) }
+        ensures { IfOk result (λ f. f ≡ record { shards = shards; fresh = freshness; user = user; seen = at_rest heads (begins_at userset.now); next_name = Some names.Heads }) }
     {
         let walk = Walk::new(alloc, userset)?;
         Ok(CheckFlow {

@@ -3,11 +3,10 @@ ghost use Rattle.std.specs.Prelude.{◌≡◌, ◌≤◌, option_map};
 ghost use Rattle.records.specs.Identity.{max_shards};
 ghost use Rattle.answer_flow.specs.CheckViews.{ending_of, name_ready, view_of};
 
-use crate::freshness::Freshness;
 use crate::walk::Walk;
 use catch_up::{CatchUp, CatchUpCall};
 use names::CallName;
-use tuples::{Refusal, User, Userset};
+use tuples::{Freshness, Refusal, User, Userset};
 
 /// About whom a check is asked, in a store of so many shards.
 #[derive(Drop)]

@@ -2,7 +2,6 @@
 ghost use Rattle.std.specs.Prelude.{◌≡◌};
 ghost use Rattle.calls.specs.Names.{name_of as name_of_call};
 ghost use Rattle.names.specs.declared.call_name.CallName.TheVariants as names;
-ghost use Rattle.answer_flow.specs.Finding.{fresh_of};
 ghost use Rattle.answer_flow.specs.Checking.{Asks, Fits, GivesTo};
 ghost use Rattle.answer_flow.specs.CheckViews.{IsOutOf, IsReadyOf, IsBehindOf, awaited_of, name_ready, view_of, view_out, view_ready};
 ghost use Rattle.answer_flow.specs.declared.check_phase.Out.TheVariants as out_of;
@@ -81,7 +80,7 @@ fn foreign(reply: Reply) -> Phase {
 pub(crate) fn give(asked: &AskedCheck, out: Out, reply: Reply) -> Phase
     requires kept { IsOutOf asked.now.shards out }
     requires fits { Fits (awaited_of out) reply }
-    ensures gives { GivesTo (fresh_of asked.now.freshness) asked.now.user (view_out out) (awaited_of out) reply (view_of result) }
+    ensures gives { GivesTo asked.now.freshness asked.now.user (view_out out) (awaited_of out) reply (view_of result) }
     ensures kept { IsBehindOf asked.now.shards asked.now.user result }
 {
     match out {

@@ -3,7 +3,6 @@ ghost use Rattle.std.specs.Prelude.{◌≡◌, ◌≢◌, ◌⊎◌, ◌≤◌, 
 ghost use Rattle.records.specs.Identity.{max_shards};
 ghost use Rattle.tuples.specs.Checking.{holding};
 ghost use Rattle.tuples.specs.Parts.{shard_of as shard_number};
-ghost use Rattle.answer_flow.specs.Finding.{fresh_of};
 ghost use Rattle.answer_flow.specs.Checking.{CatchUpGives, Continues, FlushGives, HeadsGive, LacksMemory, ReadGives, RowsGive};
 ghost use Rattle.answer_flow.specs.CheckViews.{IsFirst, IsOutOf, IsBehindOf, at_rest, catch_up as to_catch_up, checked, ended, holding_walk, read as to_read, view_of, view_out};
 ghost use Rattle.answer_flow.specs.declared.check_phase.Out.TheVariants as out_of;
@@ -17,10 +16,7 @@ use catch_up::{CatchUp, CatchUpCall, Progress};
 use decisions::Heads;
 use shard::ReadReply;
 use std::alloc::AllocError;
-use tuples::{Refusal, Tuple, User, Userset, shard_of};
-
-/// The most usersets that one check walks.
-const MOST_WALKED: usize = 4_096;
+use tuples::{MAX_WALKED, Refusal, Tuple, User, Userset, shard_of};
 
 fn refused(refusal: Refusal) -> Phase
     ensures { result ≡ Phase.Ended (CheckEnd.Refused refusal) }
@@ -64,7 +60,7 @@ pub(crate) fn go_on(asked: &AskedCheck, place: u64, walk: Walk) -> Phase
     ensures goes { Continues place (holding_walk walk (Some place) None) (view_of result) }
     ensures kept { IsBehindOf asked.now.shards asked.now.user result }
 {
-    if walk.waits() && MOST_WALKED <= walk.walked() {
+    if walk.waits() && MAX_WALKED <= walk.walked() {
         return refused(Refusal::Full);
     }
     bring_up(asked, place, walk)
@@ -72,7 +68,7 @@ pub(crate) fn go_on(asked: &AskedCheck, place: u64, walk: Walk) -> Phase
 
 /// The coordinator has told its heads.
 pub(crate) fn told(asked: &AskedCheck, walk: Walk, answer: Result<Heads, Refusal>) -> Phase
-    ensures gives { HeadsGive (fresh_of asked.now.freshness) (view_out (out_of.Heads walk)) answer (view_of result) }
+    ensures gives { HeadsGive asked.now.freshness (view_out (out_of.Heads walk)) answer (view_of result) }
     ensures kept { IsBehindOf asked.now.shards asked.now.user result }
 {
     match answer {

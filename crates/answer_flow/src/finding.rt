@@ -1,9 +1,8 @@
 // The place of an answer.
-ghost use Rattle.answer_flow.specs.Finding.{Finds, fresh_of};
+ghost use Rattle.answer_flow.specs.Finding.{Finds};
 
-use crate::freshness::Freshness;
 use decisions::Heads;
-use tuples::Refusal;
+use tuples::{Freshness, Refusal};
 
 /// What heads tell of the place that is wanted.
 #[derive(Clone, Copy)]
@@ -17,7 +16,7 @@ pub(crate) enum Found {
 
 /// What the heads tell. A place above the log is refused before one below the horizon.
 pub(crate) fn find(freshness: Freshness, heads: &Heads) -> Found
-    ensures { Finds (fresh_of freshness) heads.now result }
+    ensures { Finds freshness heads.now result }
 {
     match freshness {
         Freshness::Latest => Found::At(heads.kept()),
@@ -27,7 +26,7 @@ pub(crate) fn find(freshness: Freshness, heads: &Heads) -> Found
 }
 
 fn find_at_least(place: u64, heads: &Heads) -> Found
-    ensures { Finds (fresh_of (Freshness.AtLeast place)) heads.now result }
+    ensures { Finds (Freshness.AtLeast place) heads.now result }
 {
     if place > heads.length() {
         return Found::Refused(Refusal::Future);
@@ -40,7 +39,7 @@ fn find_at_least(place: u64, heads: &Heads) -> Found
 }
 
 fn find_exact(place: u64, heads: &Heads) -> Found
-    ensures { Finds (fresh_of (Freshness.Exact place)) heads.now result }
+    ensures { Finds (Freshness.Exact place) heads.now result }
 {
     if place > heads.length() {
         return Found::Refused(Refusal::Future);

@@ -15,7 +15,6 @@ mod check_turns;
 mod checking;
 mod events;
 mod finding;
-mod freshness;
 mod merging;
 mod read_at;
 mod read_flow;
@@ -30,7 +29,6 @@ mod watching;
 
 pub use check_flow::CheckFlow;
 pub use check_phase::CheckEnd;
-pub use freshness::Freshness;
 pub use read_flow::ReadFlow;
 pub use read_phase::ReadEnd;
 pub use watch_flow::WatchFlow;

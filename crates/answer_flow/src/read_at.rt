@@ -4,12 +4,11 @@ ghost use Rattle.records.specs.Identity.{max_shards};
 ghost use Rattle.decisions.specs.Flows.{exact, nothing_read};
 ghost use Rattle.answer_flow.specs.Reading.{Continues};
 
-use crate::freshness::Freshness;
 use crate::read_flow::ReadFlow;
 use crate::read_phase::AskedRead;
 use crate::reading::go_on;
 use std::alloc::Global;
-use tuples::Tupleset;
+use tuples::{Freshness, Tupleset};
 
 impl ReadFlow {
     /// To read these tuplesets at a place that is known to be kept. It asks the coordinator for nothing: the first shard that it needs is brought up to

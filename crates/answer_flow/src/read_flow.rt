@@ -4,11 +4,9 @@ ghost use Rattle.calls.specs.Names.{name_of as name_of_call};
 ghost use Rattle.names.specs.declared.call_name.CallName.TheVariants as names;
 ghost use Rattle.records.specs.Identity.{max_shards};
 ghost use Rattle.decisions.specs.Flows.{nothing_read};
-ghost use Rattle.answer_flow.specs.Finding.{fresh_of};
 ghost use Rattle.answer_flow.specs.Reading.{Asks, Fits, GivesTo};
 ghost use Rattle.answer_flow.specs.ReadViews.{at_rest, ending_of, heads};
 
-use crate::freshness::Freshness;
 use crate::read_phase::{AskedRead, Phase, ReadEnd, Ready};
 use crate::read_turns::{give, next};
 use calls::{NodeCall, Reply};
@@ -16,7 +14,7 @@ use names::CallName;
 use std::alloc::Global;
 use std::marker::Model;
 use std::mem;
-use tuples::Tupleset;
+use tuples::{Freshness, Tupleset};
 
 /// A read on its way: `heads`, until it has its place; then for each tupleset each shard that it needs is brought up to the place, and reads. It holds
 /// nothing that has to be spent, so who cancels it drops it.
@@ -28,14 +26,13 @@ pub struct ReadFlow {
 }
 
 impl Model for ReadFlow {
-    ghost use Rattle.answer_flow.specs.Finding.{fresh_of};
     ghost use Rattle.answer_flow.specs.ReadViews.{ReadFlowValue};
 
     ghost Value = { ReadFlowValue };
 
     ghost use Rattle.answer_flow.specs.ReadViews.{IsPhaseOf, name_of, view_of};
 
-    ghost view = { λ f. record { shards = f.asked.shards; fresh = fresh_of f.asked.freshness; sets = f.asked.sets.items; seen = view_of f.phase; next_name = name_of f.phase } };
+    ghost view = { λ f. record { shards = f.asked.shards; fresh = f.asked.freshness; sets = f.asked.sets.items; seen = view_of f.phase; next_name = name_of f.phase } };
 
     ghost invariant = { λ f. IsPhaseOf f.asked.shards f.asked.sets.items f.phase };
 }
@@ -52,7 +49,7 @@ impl ReadFlow {
     pub fn new(alloc: Global, shards: u8, freshness: Freshness, sets: Vec<Tupleset>) -> ReadFlow
         requires some { 1 ≤ shards }
         requires few { shards ≤ max_shards }
-        ensures { result ≡ record { shards = shards; fresh = fresh_of freshness; sets = sets.items; seen = at_rest heads nothing_read; next_name = Some names.Heads } }
+        ensures { result ≡ record { shards = shards; fresh = freshness; sets = sets.items; seen = at_rest heads nothing_read; next_name = Some names.Heads } }
     {
         ReadFlow {
             asked: AskedRead {

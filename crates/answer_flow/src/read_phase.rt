@@ -3,11 +3,10 @@ ghost use Rattle.std.specs.Prelude.{◌≡◌, ◌≤◌, option_map};
 ghost use Rattle.records.specs.Identity.{max_shards};
 ghost use Rattle.answer_flow.specs.ReadViews.{ending_of, name_ready, view_of};
 
-use crate::freshness::Freshness;
 use catch_up::{CatchUp, CatchUpCall};
 use names::CallName;
 use std::alloc::Global;
-use tuples::{Refusal, Tuple, Tupleset};
+use tuples::{Freshness, Refusal, Tuple, Tupleset};
 
 /// What a read is asked, in a store of so many shards.
 #[derive(Drop)]

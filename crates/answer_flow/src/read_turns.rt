@@ -2,7 +2,6 @@
 ghost use Rattle.std.specs.Prelude.{◌≡◌};
 ghost use Rattle.calls.specs.Names.{name_of as name_of_call};
 ghost use Rattle.names.specs.declared.call_name.CallName.TheVariants as names;
-ghost use Rattle.answer_flow.specs.Finding.{fresh_of};
 ghost use Rattle.answer_flow.specs.Reading.{Asks, Fits, GivesTo};
 ghost use Rattle.answer_flow.specs.ReadViews.{IsNext, IsOutOf, IsReadyOf, IsBehindOf, awaited_of, name_ready, view_of, view_out, view_ready};
 ghost use Rattle.answer_flow.specs.declared.read_phase.Out.TheVariants as out_of;
@@ -68,7 +67,7 @@ fn foreign(reply: Reply) -> Phase {
 pub(crate) fn give(asked: &AskedRead, out: Out, reply: Reply) -> Phase
     requires kept { IsOutOf asked.now.shards asked.now.sets.items out }
     requires fits { Fits asked.now.sets.items (view_out out) (awaited_of out) reply }
-    ensures gives { GivesTo asked.now.shards (fresh_of asked.now.freshness) asked.now.sets.items (view_out out) (awaited_of out) reply (view_of result) }
+    ensures gives { GivesTo asked.now.shards asked.now.freshness asked.now.sets.items (view_out out) (awaited_of out) reply (view_of result) }
     ensures kept { IsBehindOf asked.now.shards asked.now.sets.items result }
 {
     match out {

@@ -2,7 +2,6 @@
 ghost use Rattle.std.specs.Prelude.{◌≡◌, ◌⊎◌, ◌<◌, ◌≤◌, ◌+◌, IfOk, IsTrue, ◌↔◌, Some, None};
 ghost use Rattle.decisions.specs.Flows.{nothing_read};
 ghost use Rattle.records.specs.Identity.{max_shards};
-ghost use Rattle.answer_flow.specs.Finding.{fresh_of};
 ghost use Rattle.answer_flow.specs.Reading.{Continues, Finishes, FlushGives, HeadsGive, CatchUpGives, LacksMemory, Merges, ReadGives, RowsGive};
 ghost use Rattle.answer_flow.specs.ReadViews.{IsNext, IsOfUser, at_rest, catch_up as to_catch_up, IsOutOf, IsBehindOf, holding, rows_of, shard_for, view_of, view_out};
 ghost use Rattle.answer_flow.specs.declared.read_phase.Out.TheVariants as out_of;
@@ -82,7 +81,7 @@ pub(crate) fn go_on(asked: &AskedRead, place: u64, done: Vec<Vec<Tuple>>) -> Pha
 
 /// The coordinator has told its heads.
 pub(crate) fn told(asked: &AskedRead, answer: Result<Heads, Refusal>) -> Phase
-    ensures gives { HeadsGive (fresh_of asked.now.freshness) asked.now.sets.items answer (view_of result) }
+    ensures gives { HeadsGive asked.now.freshness asked.now.sets.items answer (view_of result) }
     ensures kept { IsBehindOf asked.now.shards asked.now.sets.items result }
 {
     match answer {

@@ -7,12 +7,11 @@ ghost use Rattle.answer_flow.specs.declared.watch_phase.Out.TheVariants as out_o
 
 use crate::events::events_of;
 use crate::finding::{Found, find};
-use crate::freshness::Freshness;
 use crate::watch_phase::{Out, Phase, Ready, WatchEnd};
 use calls::{CoordinatorCall, CoordinatorReply, NodeCall, Reply};
 use decisions::{Batch, Heads};
 use std::alloc::Global;
-use tuples::{Namespace, Refusal};
+use tuples::{Freshness, Namespace, Refusal};
 
 // The place up to which all is listed.
 fn heartbeat(cursor: u64, limit: u64, heads: &Heads) -> u64

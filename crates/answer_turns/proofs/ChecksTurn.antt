@@ -3,6 +3,7 @@ use Rattle.std.proofs.Common.{◌≡◌, ◌≢◌, ⊎_elim, inl, ◌≤◌, �
 use Rattle.std.proofs.lemmas.Bool.{cases_lt}
 use Rattle.std.proofs.lemmas.List.Elements.{All-nil}
 use Rattle.std.proofs.lemmas.Option.{same_Some}
+use Rattle.tuples.specs.Limits.{max_walked}
 use Rattle.answer_turns.proofs.Words.{Answered, AreRightHeads, Asked, BatchValue, Behind, Calls, CallsShard, CatchUpComes, FitsItsTypes, Freshness, HeadsValue, IfHeld, IsCalled, IsCatchingUp, IsQuietlyMade, IsRightBatch, LetsLearn, Machine, Moment, Next, NoMemory, NodeCall, NodeName, NodeView, Nodes, Progress, ReadReply, Record, Refusal, Reply, Rows, Running, SlotTurns, StandsOver, State, Store, There, Tuple, TurnRuns, Unsure, all_kept, batch_of, behind_call, called, calls_on, contained_from, coordinator, coordinator_flushed, ending, from_coordinator, from_shard, heads_told, is_refused, knows, left, memory, of_coordinator, of_shard, places_are_found, right_heads, shard, shown_answer, some_coordinator, still_of, stops, with_call}
 use Rattle.refusal.specs.declared.refusal.Refusal.TheVariants.{Full}
 use Rattle.tuples.specs.declared.object.Userset.{Userset}
@@ -11,7 +12,7 @@ use Rattle.tuples.specs.Checking.{holding}
 use Rattle.tuples.specs.Log.{is_at}
 use Rattle.tuples.specs.Parts.{shard_of}
 use Rattle.tuples.specs.Walking.{IsCheckSelection}
-use Rattle.decisions.specs.Flows.{CheckHolds, most_walked}
+use Rattle.decisions.specs.Flows.{CheckHolds}
 use Rattle.decisions.specs.Walks.{Walks}
 use Rattle.calls.specs.declared.call.CoordinatorCall.TheVariants as calls
 use Rattle.calls.specs.declared.call.ShardCall.TheVariants as shard_calls
@@ -28,7 +29,7 @@ use Rattle.turns.proofs.CheckWalk.{check_replies_select, checks_begin, checks_go
 use Rattle.turns.proofs.ShardCheckSeam.{refused_checks_have_cause}
 use Rattle.call_turns.proofs.ReadTold.{read_for_check_told}
 use Rattle.answer_turns.specs.CheckTurns.{ChecksTurn, check_in_slot, check_tells}
-use Rattle.answer_turns.proofs.TupleLists.{has_or_not}
+use Rattle.laws.proofs.TupleLists.{has_or_not}
 use Rattle.answer_turns.proofs.Leads.{ComesRight, IsFlow, Quietly, RefusedQuietly, answers_to, fails_to, goes_to, held_now, lacks_memory, refuses_to, wants_collected, wants_future}
 use Rattle.answer_turns.proofs.Places.{asks_above, asks_below, finds_place}
 use Rattle.answer_turns.proofs.Ways.{came, moved}
@@ -75,14 +76,14 @@ module _ {D : Type 0} (state : D → State) (honest : D → Type 0) (moment : D 
   re_batched : (left : NodeName → List Record → Type 0) (now : Moment) (r : Running) (batch : Option BatchValue) → IsRightCheck shards left now r fresh x u h → IfHeld batch (IsRightBatch now.machine)
       → IsRightCheck shards left now r fresh x u (record h { batch = batch })
   re_batched left now r batch k right =
-      record { heads = k.heads; place = k.place; nothing = k.nothing; asked = k.asked; once = k.once; reached = k.reached; none = k.none; further = k.further; batch = right }
+      record { heads = k.heads; place = k.place; nothing = k.nothing; walk = k.walk; batch = right }
 
   no_batch : (m : Machine) → IfHeld None (IsRightBatch m)
   no_batch m b none = absurd (let bad : None ≡ Some b = none in cc)
 
   -- as many were walked as may be, and one waits still
   abbrev FullHasCause : CheckHolds → Type 0
-  FullHasCause k = most_walked ≤ length k.walked → (y : Userset) → Contains k.waiting y → (now : Moment) (standing : StandsOver state honest store shards old now) (r : Running) → Is now r → (n : NodeName) (ran : Moment) → IsCause shards n now ran r Full
+  FullHasCause k = max_walked ≤ length k.walked → (y : Userset) → Contains k.waiting y → (now : Moment) (standing : StandsOver state honest store shards old now) (r : Running) → Is now r → (n : NodeName) (ran : Moment) → IsCause shards n now ran r Full
 
   -- it goes on to the first userset that waits, says no where none does, or is refused
   continues : (place : ℕ) (k : CheckHolds) (after : CheckView) → k.place ≡ Some place → Right k → FullHasCause k → Continues place k after → Leads after
@@ -98,11 +99,11 @@ module _ {D : Type 0} (state : D → State) (honest : D → Type 0) (moment : D 
             λ was_right. checks_say_no store shards (stops state honest store shards new.devices) (behind_call now it.0 it.1) (with_call r r.holds r.met it.1) fresh x u k place (it.3 r.holds was_right) at is,
           )))
       by_waiting (y ∷ rest) is = ⊎_elim
-          (λ (lt : length k.walked < most_walked). subst Leads (sym (gives.more some lt)) (goes k catch_up right))
-          (λ (le : most_walked ≤ length k.walked). subst Leads (sym (gives.full some le)) (refuses Full (λ now standing r flow.
+          (λ (lt : length k.walked < max_walked). subst Leads (sym (gives.more some lt)) (goes k catch_up right))
+          (λ (le : max_walked ≤ length k.walked). subst Leads (sym (gives.full some le)) (refuses Full (λ now standing r flow.
           let it = right now standing r flow in
           (it.0, it.1, it.2, (inl (full le y (subst (λ (l : List Userset). Contains l y) (sym is) (contained_from (y ∷ rest) zero y refl)) now standing r flow it.2.0.node (ending now it.0 it.1 r [])), not_unsure)))))
-          (cases_lt (length k.walked) most_walked)
+          (cases_lt (length k.walked) max_walked)
         where
           some : k.waiting ≢ []
           some none = let bad : y ∷ rest ≡ [] = sym is ∙ none in cc

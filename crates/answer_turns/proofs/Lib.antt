@@ -4,6 +4,5 @@ pub mod Leads
 pub mod Places
 pub mod Ways
 pub mod ReadsTurn
-pub mod TupleLists
 pub mod ChecksTurn
 pub mod SmallAnswers

@@ -21,7 +21,8 @@ use Rattle.turns.specs.Flows.{to_read}
 use Rattle.turns.specs.Held.{IsRightRead}
 use Rattle.turns.specs.ReadingLaws.{IsReading, there_of}
 use Rattle.turns.specs.Replies.{selected as selected_answer}
-use Rattle.turns.proofs.ReadAnswer.{all_replies_select, one_shard_is_enough, reads_answer, reads_ask_all_of, reads_begin, reads_finish, reads_go_on_all}
+use Rattle.laws.proofs.ReadRows.{one_shard_is_enough}
+use Rattle.turns.proofs.ReadAnswer.{all_replies_select, reads_answer, reads_ask_all_of, reads_begin, reads_finish, reads_go_on_all}
 use Rattle.turns.proofs.ShardReadSeam.{refused_reads_have_cause}
 use Rattle.call_turns.proofs.Belongs.{belongs_to}
 use Rattle.call_turns.proofs.ReadTold.{read_told}

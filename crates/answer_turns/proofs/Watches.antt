@@ -1,6 +1,7 @@
 -- A watch takes its turn.
 use Rattle.std.proofs.Common.{◌≡◌, ◌≢◌, ⊎_elim, inl, ◌≤◌, ◌+◌, ◌-◌, ℕ, List, [], ◌∷◌, length, Some, None, Result, Ok, Err, MatchOption, refl, sym, ◌∙◌, ap, subst, arith}
 use Rattle.std.proofs.lemmas.Option.{same_Some}
+use Rattle.tuples.specs.Limits.{max_watched}
 use Rattle.answer_turns.proofs.Words.{Answered, AreRightHeads, Asked, BatchValue, Calls, Collected, FailsQuietly, HasItsCause, HeadsValue, IsCalled, Moment, NoMemory, NodeCall, NodeView, Refusal, Reply, Running, SlotTurns, StandsOver, State, Store, TakesMemory, TurnRuns, Unsure, answered, called, calls_on, coordinator, coordinator_flushed, ending, from_coordinator, heads_told, left, of_coordinator, of_shard, right_heads, runs, shown_answer, stops, the_flow, with_call}
 use Rattle.tuples.specs.Watching.{events_from}
 use Rattle.decisions.specs.Flows.{HeadsHeld, no_heads}
@@ -10,7 +11,7 @@ use Rattle.calls.specs.declared.call.CoordinatorCall.TheVariants as calls
 use Rattle.calls.specs.declared.reply.CoordinatorReply.TheVariants as told
 use Rattle.answer_flow.specs.Watching.{AsksFor, BatchGives, FlushGives, GivesTo, HeadsGive, heartbeat}
 use Rattle.answer_flow.specs.WatchViews.{WatchCall, WatchView, at_rest, batch, ended, flush, heads, listed, refused, waiting, with_heads}
-use Rattle.turns.specs.Flows.{most_watched, to_watch, watching}
+use Rattle.turns.specs.Flows.{to_watch, watching}
 use Rattle.turns.specs.Held.{AreHeldHeads}
 use Rattle.turns.specs.Replies.{listed as listed_answer}
 use Rattle.turns.specs.Runs.{Turns}
@@ -25,7 +26,7 @@ use Rattle.answer_turns.specs.AnswerTurns.{WatchesTurn, watch_in_slot, watch_tel
 
 module _ {D : Type 0} (state : D → State) (honest : D → Type 0) (moment : D → ℕ) (left_since : D → ℕ → List ℕ → Type 0)
     (counts_now : (d : D) (t : ℕ) (c : List ℕ) → honest d → t ≤ moment d → left (state d) c → left_since d t c) (only_now : (d : D) (c : List ℕ) → honest d → left_since d (moment d) c → left (state d) c)
-    (store shards : ℕ) (old new : Store D) (slot cursor limit : ℕ) (names : List (List ℕ)) (few : limit ≤ most_watched) (h : HeadsHeld) where
+    (store shards : ℕ) (old new : Store D) (slot cursor limit : ℕ) (names : List (List ℕ)) (few : limit ≤ max_watched) (h : HeadsHeld) where
   abbrev asked : Asked
   asked = to_watch cursor limit names
 

@@ -1,6 +1,7 @@
 -- The steps of a run that call no node: a flow begins, and one that is no write is cancelled.
 use Rattle.std.specs.Prelude.{◌≡◌, ◌≢◌, ◌≤◌, ◌<◌, ℕ, eqb, false, List, [], ◌∷◌, length, Some, None, Contains}
 use Rattle.std.specs.List.{IsDistinct}
+use Rattle.tuples.specs.Limits.{max_flows}
 use Rattle.refusal.specs.declared.refusal.Refusal.TheVariants.{Full}
 use Rattle.device.specs.Device.{State}
 use Rattle.laws.specs.Nodes.{NodeName}
@@ -25,7 +26,7 @@ shown_flow asked holds = record { asked = Some asked; holds = holds; is_cancelle
 -- A flow that was asked this began in a slot that was free, where fewer than 1,024 slots were taken: no flow was in any other. It holds nothing yet.
 pub record IsBegunThere {D : Type 0} (old new : Store D) (slot : ℕ) (asked : Asked) : Type 0 where
   pub taken : List ℕ
-  pub few : length taken < 1024
+  pub few : length taken < max_flows
   pub all : (t : ℕ) → old.flows t ≢ None → Contains taken t
   pub free : old.flows slot ≡ None
   pub store_stays : IsUncalled old new
@@ -35,7 +36,7 @@ pub record IsBegunThere {D : Type 0} (old new : Store D) (slot : ℕ) (asked : A
 -- 1,024 slots or more were taken, each by a flow of its own, and the store stays as it was.
 pub record IsFullThere {D : Type 0} (old new : Store D) : Type 0 where
   pub taken : List ℕ
-  pub many : 1024 ≤ length taken
+  pub many : max_flows ≤ length taken
   pub once : IsDistinct eqb taken
   pub each : (t : ℕ) → Contains taken t → old.flows t ≢ None
   pub store_stays : IsUncalled old new

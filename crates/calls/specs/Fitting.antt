@@ -1,7 +1,8 @@
 -- The limits of what a call carries, which its types keep.
 use Rattle.std.specs.Prelude.{◌≤◌, ◌<◌, ◌+◌, ◌^◌, length}
+use Rattle.tuples.specs.Limits.{max_batch}
 use Rattle.records.specs.Replays.{greatest_number}
-use Rattle.decisions.specs.Values.{IsIntent, max_batch}
+use Rattle.decisions.specs.Values.{IsIntent}
 use Rattle.calls.specs.declared.call.NodeCall.{NodeCall}
 use Rattle.calls.specs.declared.call.NodeCall.TheVariants.{Coordinator, Shard}
 use Rattle.calls.specs.declared.call.CoordinatorCall.{CoordinatorCall}

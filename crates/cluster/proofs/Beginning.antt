@@ -8,8 +8,8 @@ use Rattle.names.specs.declared.care.Care.TheVariants as cares
 use Rattle.names.specs.declared.node_name.NodeName.TheVariants.{Coordinator, Shard}
 use Rattle.cluster.specs.declared.event.What.{What}
 use Rattle.cluster.specs.declared.flow.Flow.{Flow}
-use Rattle.cluster.specs.declared.request.Request.{Request}
-use Rattle.cluster.specs.declared.request.Request.TheVariants.{Write, Read, Check, Watch}
+use Rattle.tuples.specs.declared.request.Request.{Request}
+use Rattle.tuples.specs.declared.request.Request.TheVariants.{Write, Read, Check, Watch}
 use Rattle.cluster.specs.Begun.{MayCare, begun_for, caring_for}
 use Rattle.cluster.specs.Kept.{AreFlows, IsRunning}
 use Rattle.cluster.specs.Steps.{AddsFlow}
@@ -18,7 +18,7 @@ use Rattle.cluster.proofs.Slots.{keeps_flow}
 pub request_runs : (shards : ℕ) (request : Request) → IsRunning shards (begun_for shards request)
 request_runs shards (Write write) = record { of = refl; goes_on = refl }
 request_runs shards (Read fresh sets) = record { of = refl; goes_on = refl }
-request_runs shards (Check fresh userset user) = record { of = refl; goes_on = refl }
+request_runs shards (Check fresh tuple) = record { of = refl; goes_on = refl }
 request_runs shards (Watch cursor limit names) = record { of = tt; goes_on = refl }
 
 pub care_runs : (shards : ℕ) (care : Care) → MayCare shards care → IsRunning shards (caring_for shards care)

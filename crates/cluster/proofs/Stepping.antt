@@ -7,7 +7,7 @@ use Rattle.names.specs.declared.node_name.NodeName.{NodeName}
 use Rattle.cluster.specs.declared.event.What.{What}
 use Rattle.cluster.specs.declared.flow.Flow.{Flow}
 use Rattle.names.specs.declared.care.Care.{Care}
-use Rattle.cluster.specs.declared.request.Request.{Request}
+use Rattle.tuples.specs.declared.request.Request.{Request}
 use Rattle.cluster.specs.declared.step.Step.TheVariants.{Start, Turn, Cancel, Care as care_for, Restart}
 use Rattle.cluster.specs.Begun.{IsInLimits, MayCare, begun_for, caring_for}
 use Rattle.cluster.specs.Steps.{Begins, CancelsIn, IsIdle, RestartsIn, SlotCancels, SlotRestarts, SlotTurns, Takes, TurnsIn}

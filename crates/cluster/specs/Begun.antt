@@ -1,8 +1,8 @@
 -- What a flow begins with, and which requests begin one.
 use Rattle.std.specs.Prelude.{◌≤◌, ◌<◌, ℕ, false, length, Some, None}
-use Rattle.tuples.specs.Limits.{max_number}
-use Rattle.decisions.specs.Flows.{Freshness, at_least, exact, latest, most_namespaces, most_sets, most_watched, no_heads, nothing_begun, nothing_read}
-use Rattle.answer_flow.specs.Finding.{fresh_of}
+use Rattle.tuples.specs.Checking.{userset_of}
+use Rattle.tuples.specs.Limits.{max_asked, max_number, max_watched}
+use Rattle.decisions.specs.Flows.{Freshness, at_least, exact, latest, no_heads, nothing_begun, nothing_read}
 use Rattle.answer_flow.specs.ReadViews as read_views
 use Rattle.answer_flow.specs.CheckViews as check_views
 use Rattle.answer_flow.specs.WatchViews as watch_views
@@ -14,8 +14,8 @@ use Rattle.names.specs.declared.call_name.CallName.TheVariants as names
 use Rattle.names.specs.declared.node_name.NodeName.TheVariants.{Coordinator, Shard}
 use Rattle.cluster.specs.declared.flow.Flow.{Flow}
 use Rattle.cluster.specs.declared.flow.Flow.TheVariants.{Write, Read, Check, Watch, Care as a_care}
-use Rattle.cluster.specs.declared.request.Request.{Request}
-use Rattle.cluster.specs.declared.request.Request.TheVariants as requests
+use Rattle.tuples.specs.declared.request.Request.{Request}
+use Rattle.tuples.specs.declared.request.Request.TheVariants as requests
 
 -- a place that is asked for is a number that places have
 abbrev pub IsFresh : Freshness → Type 0
@@ -26,9 +26,9 @@ IsFresh (exact place) = place ≤ max_number
 -- what is asked lies within its limits
 abbrev pub IsInLimits : Request → Type 0
 IsInLimits (requests.Write write) = Unit {0}
-IsInLimits (requests.Read fresh sets) = IsFresh (fresh_of fresh) × (1 ≤ length sets.items) × (length sets.items ≤ most_sets)
-IsInLimits (requests.Check fresh userset user) = IsFresh (fresh_of fresh)
-IsInLimits (requests.Watch cursor limit names) = (cursor ≤ max_number) × (1 ≤ limit) × (limit ≤ most_watched) × (1 ≤ length names.items) × (length names.items ≤ most_namespaces)
+IsInLimits (requests.Read fresh sets) = IsFresh fresh × (1 ≤ length sets.items) × (length sets.items ≤ max_asked)
+IsInLimits (requests.Check fresh tuple) = IsFresh fresh
+IsInLimits (requests.Watch cursor limit names) = (cursor ≤ max_number) × (1 ≤ limit) × (limit ≤ max_watched) × (1 ≤ length names.items) × (length names.items ≤ max_asked)
 
 -- the node of this name is there in a store of so many shards
 abbrev pub IsNodeThere : ℕ → NodeName → Type 0
@@ -49,9 +49,9 @@ begun_for shards (requests.Write write) = Write (record {
   flow = record { shards = shards; seen = record { write = Some write; holds = nothing_begun; caught = None; flushed = false; awaited = None; ended = None }; next_name = Some names.Begin };
   is_cancelled = false;
 })
-begun_for shards (requests.Read fresh sets) = Read (record { shards = shards; fresh = fresh_of fresh; sets = sets.items; seen = read_views.at_rest read_views.heads nothing_read; next_name = Some names.Heads })
-begun_for shards (requests.Check fresh userset user) =
-    Check (record { shards = shards; fresh = fresh_of fresh; user = user; seen = check_views.at_rest check_views.heads (check_views.begins_at userset); next_name = Some names.Heads })
+begun_for shards (requests.Read fresh sets) = Read (record { shards = shards; fresh = fresh; sets = sets.items; seen = read_views.at_rest read_views.heads nothing_read; next_name = Some names.Heads })
+begun_for shards (requests.Check fresh tuple) =
+    Check (record { shards = shards; fresh = fresh; user = tuple.user; seen = check_views.at_rest check_views.heads (check_views.begins_at (userset_of tuple)); next_name = Some names.Heads })
 begun_for shards (requests.Watch cursor limit names) =
     Watch (record { cursor = cursor; limit = limit; namespaces = names.items; seen = watch_views.at_rest watch_views.heads no_heads })
 

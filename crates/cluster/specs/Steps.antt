@@ -1,5 +1,6 @@
 -- What one step does to a store, and what it tells.
 use Rattle.std.specs.Prelude.{◌≡◌, ◌≤◌, ◌<◌, ℕ, Bool, true, false, List, [], ◌∷◌, Option, Some, None, MatchOption, slice_set}
+use Rattle.tuples.specs.Limits.{max_flows}
 use Rattle.refusal.specs.declared.refusal.Refusal.{Refusal}
 use Rattle.refusal.specs.declared.refusal.Refusal.TheVariants.{Full}
 use Rattle.device.specs.Device.{State}
@@ -20,10 +21,6 @@ use Rattle.cluster.specs.Cancels.{Cancels}
 use Rattle.cluster.specs.Nodes.{Reopened}
 use Rattle.cluster.specs.Turns.{Turns}
 use Rattle.cluster.specs.Worlds.{Puts, WorldView, flow_at, flow_count, index_of, node_at}
-
--- the most flows that run at a time
-abbrev pub most_flows : ℕ
-most_flows = 1024
 
 -- nothing of a flow that was cancelled is told
 abbrev pub unless : Bool → Option What → Option What
@@ -51,8 +48,8 @@ pub record AddsFlow (old : List (Option Flow)) (flow : Flow) (told : Option What
 -- A flow begins in a free slot; where as many run as may, it is refused. A flow that may not be asked for begins nowhere.
 pub record Begins (old : List (Option Flow)) (may : Type 0) (flow : Flow) (told : Option What) (new : List (Option Flow)) : Type 0 where
   pub nowhere : (may → ⊥) → (told ≡ None) × (new ≡ old)
-  pub full : may → most_flows ≤ flow_count old → (told ≡ Some (Refused Full)) × (new ≡ old)
-  pub begins : may → flow_count old < most_flows → AddsFlow old flow told new
+  pub full : may → max_flows ≤ flow_count old → (told ≡ Some (Refused Full)) × (new ≡ old)
+  pub begins : may → flow_count old < max_flows → AddsFlow old flow told new
 
 -- A flow goes on in its slot, and its next call is told.
 pub record GoesOn (old : List (Option Flow)) (slot : ℕ) (later : Flow) (name : CallName) (told : Option What) (new : List (Option Flow)) : Type 0 where

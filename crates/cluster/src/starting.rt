@@ -1,34 +1,25 @@
 // A flow begins.
 ghost use Rattle.std.specs.Prelude.{◌≡◌, ◌≤◌, ◌↔◌, IsTrue, IfOk, OnErr, OnOk};
 ghost use Rattle.records.specs.Identity.{max_shards};
-ghost use Rattle.answer_flow.specs.Finding.{fresh_of};
 ghost use Rattle.cluster.specs.Begun.{IsFresh, IsInLimits, IsNodeThere, MayCare, begun_for, caring_for};
 ghost use Rattle.slab.specs.Slab.{HasRoomFor};
 ghost use Rattle.cluster.specs.Kept.{AreFlows};
 ghost use Rattle.cluster.specs.Steps.{AddsFlow, Begins};
 
-use crate::copying::copy_write;
-use crate::{Flow, Request, What, Writing};
-use answer_flow::{CheckFlow, Freshness, ReadFlow, WatchFlow};
+use crate::{Flow, What, Writing};
+use answer_flow::{CheckFlow, ReadFlow, WatchFlow};
 use care_flow::CareFlow;
 use commit_flow::WriteFlow;
 use names::{Care, NodeName};
 use slab::Slab;
 use std::alloc::{AllocError, Global};
-use tuples::{MAX_NUMBER, Refusal, Write};
-
-/// The most flows that run at a time.
-pub const MAX_FLOWS: usize = 1024;
-
-// The most tuplesets of a read, the most places of a watch, and the most namespaces of one.
-const MAX_SETS: usize = 16;
-
-const MAX_WATCHED: u64 = 256;
-
-const MAX_NAMESPACES: usize = 16;
+use tuples::{
+    Freshness, MAX_ASKED, MAX_FLOWS, MAX_NUMBER, MAX_WATCHED, Refusal, Request, Tuple, Userset,
+    Write,
+};
 
 fn is_place(freshness: Freshness) -> bool
-    ensures { IsTrue result ↔ IsFresh (fresh_of freshness) }
+    ensures { IsTrue result ↔ IsFresh freshness }
 {
     match freshness {
         Freshness::Latest => true,
@@ -42,16 +33,20 @@ fn is_in_limits(request: &Request) -> bool
 {
     match request {
         Request::Write(_) => true,
-        Request::Read(freshness, sets) => {
-            is_place(*freshness) && !sets.is_empty() && sets.len() <= MAX_SETS
+        Request::Read { freshness, sets } => {
+            is_place(*freshness) && !sets.is_empty() && sets.len() <= MAX_ASKED
         }
-        Request::Check(freshness, _, _) => is_place(*freshness),
-        Request::Watch(cursor, limit, namespaces) => {
-            *cursor <= MAX_NUMBER
+        Request::Check { freshness, .. } => is_place(*freshness),
+        Request::Watch {
+            from,
+            limit,
+            namespaces,
+        } => {
+            *from <= MAX_NUMBER
                 && 1 <= *limit
-                && *limit <= MAX_WATCHED
+                && u64::from(*limit) <= MAX_WATCHED
                 && !namespaces.is_empty()
-                && namespaces.len() <= MAX_NAMESPACES
+                && namespaces.len() <= MAX_ASKED
         }
     }
 }
@@ -61,7 +56,7 @@ fn begin_write(alloc: Global, shards: u8, write: &Write) -> Result<Flow, AllocEr
     requires few { shards ≤ max_shards }
     ensures { IfOk result (λ flow. flow ≡ begun_for shards (Request.Write write.now)) }
 {
-    let write = copy_write(alloc, write)?;
+    let write = write.clone()?;
     match WriteFlow::new(alloc, shards, write) {
         Ok(flow) => Ok(Flow::Write(Writing {
             flow,
@@ -71,6 +66,27 @@ fn begin_write(alloc: Global, shards: u8, write: &Write) -> Result<Flow, AllocEr
     }
 }
 
+// It asks for the user of the tuple, in the userset of its object and relation.
+fn begin_check(
+    alloc: Global,
+    shards: u8,
+    freshness: Freshness,
+    tuple: &Tuple,
+) -> Result<Flow, AllocError>
+    requires some { 1 ≤ shards }
+    requires few { shards ≤ max_shards }
+    ensures { IfOk result (λ flow. flow ≡ begun_for shards (Request.Check freshness tuple.now)) }
+{
+    let Tuple {
+        object,
+        relation,
+        user,
+    } = tuple.clone()?;
+    let userset = Userset { object, relation };
+    let flow = CheckFlow::new(alloc, shards, freshness, &userset, user)?;
+    Ok(Flow::Check(flow))
+}
+
 fn begin(alloc: Global, shards: u8, request: &Request) -> Result<Flow, AllocError>
     requires some { 1 ≤ shards }
     requires few { shards ≤ max_shards }
@@ -78,18 +94,18 @@ fn begin(alloc: Global, shards: u8, request: &Request) -> Result<Flow, AllocErro
 {
     match request {
         Request::Write(write) => begin_write(alloc, shards, write),
-        Request::Read(freshness, sets) => {
+        Request::Read { freshness, sets } => {
             let sets = sets.clone()?;
             Ok(Flow::Read(ReadFlow::new(alloc, shards, *freshness, sets)))
         }
-        Request::Check(freshness, userset, user) => {
-            let user = user.clone()?;
-            let flow = CheckFlow::new(alloc, shards, *freshness, userset, user)?;
-            Ok(Flow::Check(flow))
-        }
-        Request::Watch(cursor, limit, namespaces) => {
+        Request::Check { freshness, tuple } => begin_check(alloc, shards, *freshness, tuple),
+        Request::Watch {
+            from,
+            limit,
+            namespaces,
+        } => {
             let namespaces = namespaces.clone()?;
-            Ok(Flow::Watch(WatchFlow::new(alloc, *cursor, *limit, namespaces)))
+            Ok(Flow::Watch(WatchFlow::new(alloc, *from, u64::from(*limit), namespaces)))
         }
     }
 }

@@ -1,6 +1,6 @@
 // The steps of a store.
-use crate::Request;
 use names::{Care, NodeName};
+use tuples::Request;
 
 /// One step of a store. A step that names a slot without a flow, or a node that is not there, changes nothing and tells nothing.
 #[derive(Drop)]

@@ -6,10 +6,11 @@ use crate::cancelling::cancel;
 use crate::restarting::restart;
 use crate::starting::{care_for, start};
 use crate::turning::turn;
-use crate::{Request, Step, What, World};
+use crate::{Step, What, World};
 use device::Device;
 use names::{Care, NodeName};
 use std::alloc::AllocError;
+use tuples::Request;
 
 impl<D: Device> World<D> {
     // A flow for the request begins.

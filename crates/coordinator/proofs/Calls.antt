@@ -1,5 +1,6 @@
 -- What the calls do, seen from outside.
 use Rattle.std.proofs.Common.{◌≡◌, ◌⊎◌, inl, inr, ⊎_elim, ◌≤◌, ◌<◌, ◌+◌, ◌++◌, ℕ, List, [], ◌∷◌, Option, None, Some, All, Contains, length, length-append, refl, sym, ap, ◌∙◌, subst, arith, false}
+use Rattle.tuples.specs.Limits.{max_open}
 use Rattle.tuples.specs.declared.change.Condition.{Condition}
 use Rattle.tuples.specs.declared.change.Want.{Want}
 use Rattle.tuples.specs.declared.change.Want.TheVariants.{NotAfter, Exists, Absent}
@@ -12,7 +13,7 @@ use Rattle.records.specs.Replays.{Identity, greatest_number}
 use Rattle.device.specs.Device.{State}
 use Rattle.journal.specs.Records.{View}
 use Rattle.ledger.specs.Ledgers.{LedgerValue}
-use Rattle.decisions.specs.Coordinators.{CoordinatorView, FirstIs, HasNoId, IsInRange, IsRising, IsRunning, NamesCollected, NamesFuture, RaisesAt, kept_of, memory_of, most_open, next_id, without_id}
+use Rattle.decisions.specs.Coordinators.{CoordinatorView, FirstIs, HasNoId, IsInRange, IsRising, IsRunning, NamesCollected, NamesFuture, RaisesAt, kept_of, memory_of, next_id, without_id}
 use Rattle.coordinator.specs.Keeping.{IsGreatest, Remembers, newest_first}
 use Rattle.coordinator.specs.Ranges.{FirstOut, IsAbove, IsBelow, IsBetween}
 use Rattle.coordinator.proofs.Facts.{view_of}
@@ -41,13 +42,13 @@ module _ {D : Type 0} (state : D → State) (honest : D → Type 0) (j k : View 
   pub given_is : v.given ≡ given
   given_is = ap (λ (x : CoordinatorView D). x.given) (sym is)
 
-  pub has_no_id : (begun : ℕ) → begun ≡ length numbers → (most_open ≤ begun) ⊎ (greatest_number ≤ given) → HasNoId v
+  pub has_no_id : (begun : ℕ) → begun ≡ length numbers → (max_open ≤ begun) ⊎ (greatest_number ≤ given) → HasNoId v
   has_no_id begun same none = ⊎_elim
       (λ many. inl (let l = open_length in omega (arith, many, same, l)))
       (λ last. inr (let n = given_is in omega (arith, last, n)))
       none
 
-  pub has_an_id : (begun : ℕ) → begun ≡ length numbers → begun < most_open → given < greatest_number → HasNoId v → ⊥
+  pub has_an_id : (begun : ℕ) → begun ≡ length numbers → begun < max_open → given < greatest_number → HasNoId v → ⊥
   has_an_id begun same few less none = ⊎_elim
       (λ many. let l = open_length in omega (arith, many, same, l, few))
       (λ last. let n = given_is in omega (arith, last, n, less))

@@ -1,17 +1,15 @@
 // Beginning a write.
 ghost use Rattle.std.specs.Prelude.{◌≡◌, ◌⊎◌, ◌↔◌, ◌≤◌, ◌<◌, true, false, All, OnOk, IfOk, IfErr, IsErrOf, IsTrue};
+ghost use Rattle.tuples.specs.Limits.{max_open};
 ghost use Rattle.tuples.specs.declared.change.Condition.{Condition as AnyCondition};
-ghost use Rattle.decisions.specs.Coordinators.{BeginsAt, FirstIs, HasNoId, IsInRange, IsRunning, NamesCollected, NamesFuture, most_open};
+ghost use Rattle.decisions.specs.Coordinators.{BeginsAt, FirstIs, HasNoId, IsInRange, IsRunning, NamesCollected, NamesFuture};
 ghost use Rattle.records.specs.Replays.{greatest_number};
 ghost use Rattle.coordinator.specs.Ranges.{FirstOut, IsAbove, IsBelow, IsBetween};
 
 use crate::Coordinator;
 use decisions::Intent;
 use device::Device;
-use tuples::{Condition, MAX_NUMBER, Refusal, Want, Write, WriteId};
-
-/// The most writes that are open at a time.
-pub const MAX_OPEN: usize = 1_024;
+use tuples::{Condition, MAX_NUMBER, MAX_OPEN, Refusal, Want, Write, WriteId};
 
 fn is_above(condition: &Condition, end: u64) -> bool
     ensures { IsTrue result ↔ IsAbove end condition.now.want }
@@ -49,8 +47,8 @@ fn test(conditions: &[Condition], horizon: u64, end: u64) -> Result<(), Refusal>
 
 // Whether one write more may be open, and a number is left to give.
 fn has_id(begun: usize, given: u64) -> bool
-    ensures yes { result ≡ true → (begun < most_open) × (given < greatest_number) }
-    ensures no { result ≡ false → (most_open ≤ begun) ⊎ (greatest_number ≤ given) }
+    ensures yes { result ≡ true → (begun < max_open) × (given < greatest_number) }
+    ensures no { result ≡ false → (max_open ≤ begun) ⊎ (greatest_number ≤ given) }
 {
     begun < MAX_OPEN && given < MAX_NUMBER
 }

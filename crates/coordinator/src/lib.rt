@@ -20,7 +20,6 @@ mod staging;
 mod telling;
 mod votes;
 
-pub use beginning::MAX_OPEN;
 pub use coordinator::Coordinator;
 pub use decided::{Decided, NotDecided};
 pub use raising::{NotRaised, settles};

@@ -8,10 +8,10 @@ ghost use Rattle.coordinator.specs.declared.telling.Outcome.TheVariants.{Kept, L
 use crate::Coordinator;
 use crate::decided::Decided;
 use crate::open_writes::is_open;
-use decisions::{Batch, Heads, MAX_BATCH, Verdict};
+use decisions::{Batch, Heads, Verdict};
 use device::Device;
 use std::alloc::Global;
-use tuples::{Refusal, WriteId};
+use tuples::{MAX_BATCH, Refusal, WriteId};
 
 /// What became of a decision that was staged.
 #[must_use]

@@ -1,6 +1,7 @@
 -- A coordinator as its callers see it, and what each of its calls does, over lists of records alone: what stops leave, locks and logs are the
 -- matter of whoever calls.
 use Rattle.std.specs.Prelude.{◌≡◌, ◌≢◌, ◌⊎◌, ◌≤◌, ◌<◌, ◌+◌, ◌-◌, ℕ, min, Bool, false, true, List, [], ◌∷◌, ◌++◌, length, take, drop, All, AllPairs, Some, Contains, if◌then◌else◌, slice_get}
+use Rattle.tuples.specs.Limits.{max_batch, max_open}
 use Rattle.tuples.specs.declared.change.Change.{Change}
 use Rattle.tuples.specs.declared.change.Condition.{Condition}
 use Rattle.tuples.specs.declared.change.Want.TheVariants.{NotAfter}
@@ -17,7 +18,7 @@ use Rattle.records.specs.Replays.{Identity, greatest_number}
 use Rattle.device.specs.Device.{State}
 use Rattle.journal.specs.Records.{HasNoRoom, HasRecords, View, WasLeftOrFound, found}
 use Rattle.decisions.specs.Standing.{DecidedValue}
-use Rattle.decisions.specs.Values.{BatchValue, HeadsValue, IntentValue, IsIntent, SettledValue, VoteValue, max_batch}
+use Rattle.decisions.specs.Values.{BatchValue, HeadsValue, IntentValue, IsIntent, SettledValue, VoteValue}
 
 -- A coordinator over two devices: where the list of bank a ends, what is durable, what is staged, whether a device failed since the opening, which node of which store it is;
 -- and what lies in its memory alone: the ids of the writes that are open, the last of them first, and the last number that it gave.
@@ -61,10 +62,6 @@ abbrev pub without_id : WriteId → List WriteId → List WriteId
 without_id id [] = []
 without_id id (x ∷ xs) = if same_id x id then without_id id xs else x ∷ without_id id xs
 
--- the most writes that are open at a time
-abbrev pub most_open : ℕ
-most_open = 1024
-
 -- the id of the next write that is begun
 abbrev pub next_id : {D : Type 0} → CoordinatorView D → WriteId
 next_id v = record { epoch = (memory_of v).epoch; number = v.given + 1 }
@@ -92,7 +89,7 @@ pub record FirstIs {D : Type 0} (v : CoordinatorView D) (conditions : List Condi
 
 -- no more writes may be open, or no number is left to give
 abbrev pub HasNoId : {D : Type 0} → CoordinatorView D → Type 0
-HasNoId v = (most_open ≤ length v.open_ids) ⊎ (greatest_number ≤ v.given)
+HasNoId v = (max_open ≤ length v.open_ids) ⊎ (greatest_number ≤ v.given)
 
 -- A write is begun: it has the next id and is open, and it knows how far the durable decisions reach.
 pub record BeginsAt {D : Type 0} (old : CoordinatorView D) (changes : List Change) (conditions : List Condition) (i : IntentValue) (new : CoordinatorView D) : Type 0 where

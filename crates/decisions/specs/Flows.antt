@@ -6,26 +6,9 @@ use Rattle.tuples.specs.declared.tuple.Tuple.{Tuple}
 use Rattle.refusal.specs.declared.refusal.Refusal.{Refusal}
 use Rattle.decisions.specs.Values.{BatchValue, IntentValue, VoteValue}
 use Rattle.decisions.specs.Standing.{DecidedValue, HeadsValue, SettledValue}
-
 -- at which place an answer is wanted: the kept one, one not below this place, or this place
-pub data Freshness : Type 0 where
-  latest : Freshness
-  at_least : ℕ → Freshness
-  exact : ℕ → Freshness
-
--- the most tuplesets and namespaces of one request, and the most places that a watch asks for
-abbrev pub most_sets : ℕ
-most_sets = 16
-
-abbrev pub most_namespaces : ℕ
-most_namespaces = 16
-
-abbrev pub most_watched : ℕ
-most_watched = 256
-
--- the most usersets that one check walks
-abbrev pub most_walked : ℕ
-most_walked = 4096
+pub use Rattle.tuples.specs.declared.freshness.Freshness.{Freshness}
+pub use Rattle.tuples.specs.declared.freshness.Freshness.TheVariants.{Latest as latest, AtLeast as at_least, Exact as exact}
 
 -- a ticket of a shard, for a write, of an epoch of the shard
 pub record HeldTicket : Type 0 where

@@ -41,10 +41,6 @@ pub record IsKeptEnd {D : Type 0} (state : D → State) (j : View D) (kept : ℕ
 abbrev pub IsBegunBy : {D : Type 0} → (D → State) → (D → Type 0) → View D → ℕ → WriteId → ℕ → Type 0
 IsBegunBy state honest j given id kept = honest j.a → honest j.b → IsNextId j.durable given id × IsKeptEnd state j kept
 
--- the most decisions of one batch
-abbrev pub max_batch : ℕ
-max_batch = 256
-
 -- decisions behind a place, in the order of their places
 pub record BatchValue : Type 0 where
   pub from : ℕ

@@ -1,15 +1,13 @@
 // Decisions on their way to a shard.
 ghost use Rattle.std.specs.Prelude.{◌≡◌, ◌≤◌, ◌+◌, length};
+ghost use Rattle.tuples.specs.Limits.{max_batch};
 ghost use Rattle.records.specs.Replays.{greatest_number};
-ghost use Rattle.decisions.specs.Values.{AreDecidedBy, max_batch};
+ghost use Rattle.decisions.specs.Values.{AreDecidedBy};
 
 use device::Device;
 use journal::Journal;
 use std::marker::Model;
 use tuples::Entry;
-
-/// The most decisions of one batch.
-pub const MAX_BATCH: usize = 256;
 
 /// The decisions behind a place, in the order of their places.
 #[derive(Drop)]
@@ -20,8 +18,9 @@ pub struct Batch {
 
 impl Model for Batch {
     ghost use Rattle.std.specs.Prelude.{◌≤◌, ◌+◌, length};
+    ghost use Rattle.tuples.specs.Limits.{max_batch};
     ghost use Rattle.records.specs.Replays.{greatest_number};
-    ghost use Rattle.decisions.specs.Values.{BatchValue, max_batch};
+    ghost use Rattle.decisions.specs.Values.{BatchValue};
 
     ghost Value = { BatchValue };
 

@@ -17,7 +17,7 @@ mod ticket;
 mod verdict;
 mod vote;
 
-pub use batch::{Batch, MAX_BATCH};
+pub use batch::Batch;
 pub use heads::Heads;
 pub use held::Held;
 pub use intent::Intent;

@@ -4,14 +4,12 @@ ghost use Rattle.std.specs.Prelude.{◌≡◌};
 use crate::call_names::Named;
 use crate::logging::{log_check, log_read, log_watch};
 use crate::stores::{SHARDS, Store};
-use crate::texts::freshness_of;
 use crate::turning::turn;
 use answer_flow::{CheckFlow, ReadFlow, WatchFlow};
 use calls::Told;
 use device::Device;
-use requests::Request;
 use std::alloc::Global;
-use tuples::{Refusal, Tuple, Userset};
+use tuples::{Freshness, Refusal, Request, Tuple, Userset};
 
 /// A read of a store of two shards.
 #[derive(Drop)]
@@ -34,18 +32,14 @@ pub(crate) struct Checking {
 }
 
 impl Checking {
-    fn new(
-        alloc: Global,
-        freshness: requests::Freshness,
-        tuple: Tuple,
-    ) -> Result<Checking, Refusal> {
+    fn new(alloc: Global, freshness: Freshness, tuple: Tuple) -> Result<Checking, Refusal> {
         let Tuple {
             object,
             relation,
             user,
         } = tuple;
         let userset = Userset { object, relation };
-        let flow = CheckFlow::new(alloc, SHARDS, freshness_of(freshness), &userset, user)?;
+        let flow = CheckFlow::new(alloc, SHARDS, freshness, &userset, user)?;
         Ok(Checking { flow })
     }
 
@@ -68,7 +62,7 @@ impl Asking {
         match request {
             Request::Write(_) => Err(Refusal::BadRequest),
             Request::Read { freshness, sets } => {
-                let flow = ReadFlow::new(alloc, SHARDS, freshness_of(freshness), sets);
+                let flow = ReadFlow::new(alloc, SHARDS, freshness, sets);
                 Ok(Asking::Read(Reading { flow }))
             }
             Request::Check { freshness, tuple } => {

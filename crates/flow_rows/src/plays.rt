@@ -11,9 +11,8 @@ use commit_flow::WriteEnd;
 use device::{Device, Tear};
 use lines::Command;
 use names::{Care, NodeName};
-use requests::Request;
 use std::alloc::Global;
-use tuples::{Refusal, Write};
+use tuples::{Refusal, Request, Write};
 
 /// A store, its flows, and what they did.
 pub(crate) struct Playing<D: Device> {

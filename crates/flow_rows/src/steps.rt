@@ -4,9 +4,8 @@ use crate::plays::Playing;
 use crate::texts::{care, command, number, refusal, two_numbers};
 use device::Device;
 use lines::Command;
-use requests::Request;
 use std::alloc::Global;
-use tuples::Refusal;
+use tuples::{Refusal, Request};
 
 /// More turns than any flow of a row makes, so that one that is not at its end behind them has none.
 pub(crate) const MOST_TURNS: usize = 20_000;

@@ -1,6 +1,5 @@
 // The words of a step.
 use crate::stores::{SHARDS, STORE};
-use answer_flow::Freshness;
 use lines::Command;
 use names::Care;
 use std::alloc::Global;
@@ -14,14 +13,6 @@ pub(crate) fn number(text: &str) -> Result<usize, Refusal> {
 pub(crate) fn two_numbers(text: &str) -> Result<(usize, usize), Refusal> {
     let (first, second) = text.split_once(' ').ok_or(Refusal::BadRequest)?;
     Ok((number(first)?, number(second)?))
-}
-
-pub(crate) fn freshness_of(freshness: requests::Freshness) -> Freshness {
-    match freshness {
-        requests::Freshness::Latest => Freshness::Latest,
-        requests::Freshness::AtLeast(place) => Freshness::AtLeast(place),
-        requests::Freshness::Exact(place) => Freshness::Exact(place),
-    }
 }
 
 /// The line of a script, in which no flow has a name.

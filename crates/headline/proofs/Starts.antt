@@ -2,24 +2,24 @@
 use Rattle.std.proofs.Common.{◌≡◌, ◌⊎◌, ⊎_elim, inl, inr, ◌<◌, ◌≤◌, ℕ, List, [], length, Option, Some, refl, sym, ◌∙◌, ap, subst, arith}
 use Rattle.std.proofs.lemmas.Bool.{cases_eq, cases_lt}
 use Rattle.headline.proofs.Words.{AddsFlow, Asked, Began, Flow, FlowView, Freshness, Full, IsAsked, IsShownFlow, IsShownSlot, IsThere, IsWholeStep, Keeps, NamesHorizon, NodeName, RunsOne, Shows, Start, State, Step, StepKeeps, Store, What, WorldView, all_told, care_for, events_of, flow_at, flow_count, left, nothing_held, shown_flow, step_of}
-use Rattle.tuples.specs.Limits.{max_number}
-use Rattle.decisions.specs.Flows.{at_least, exact, latest, most_namespaces, most_sets, most_watched}
+use Rattle.tuples.specs.Limits.{max_asked, max_flows, max_number, max_watched}
+use Rattle.decisions.specs.Flows.{at_least, exact, latest}
 use Rattle.names.specs.declared.node_name.NodeName as names
 use Rattle.names.specs.declared.node_name.NodeName.TheVariants as called_names
-use Rattle.answer_flow.specs.Finding.{fresh_of}
 use Rattle.care_flow.specs.Flushing as flushes
 use Rattle.names.specs.declared.care.Care.{Care}
 use Rattle.names.specs.declared.care.Care.TheVariants as any_care
+use Rattle.tuples.specs.Checking.{userset_of}
 use Rattle.turns.specs.Flows.{IsFreshness}
 use Rattle.turns.specs.Runs as runs
 use Rattle.call_turns.specs.StoreCalls.{name_of}
 use Rattle.call_turns.proofs.FullStores.{full_stores_refuse}
 use Rattle.call_turns.proofs.Starts.{flows_start}
 use Rattle.cluster.specs.Begun.{IsFresh, IsInLimits, IsNodeThere, MayCare, begun_for, caring_for}
-use Rattle.cluster.specs.Steps.{Begins, most_flows}
+use Rattle.cluster.specs.Steps.{Begins}
 use Rattle.cluster.specs.declared.event.What.TheVariants.{Refused}
-use Rattle.cluster.specs.declared.request.Request.{Request}
-use Rattle.cluster.specs.declared.request.Request.TheVariants as requests
+use Rattle.tuples.specs.declared.request.Request.{Request}
+use Rattle.tuples.specs.declared.request.Request.TheVariants as requests
 use Rattle.headline.specs.Told.{asked_by, asked_for}
 use Rattle.headline.proofs.Behind.{at_slot, off_slot, with_slot}
 use Rattle.headline.proofs.Slots.{all_taken, as_many, each_taken, none_shown, once, taken_slots}
@@ -60,7 +60,7 @@ module _ {D : Type 0} (state : D → State) (honest : D → Type 0) (moment : D 
           (subst (λ (o : Option What). RunsOne state honest moment left_since old.store old.shards s number (runs.start asked) (events_of number (all_told o)) later) (sym tells) (law number));
     }
 
-    full : may → most_flows ≤ flow_count old.flows → Keeps state honest moment left_since old s step told new
+    full : may → max_flows ≤ flow_count old.flows → Keeps state honest moment left_since old s step told new
     full is many =
         let told_so = begins.full is many in
         keeps (Refused Full) s told_so.0 (subst (λ (w : WorldView D). Shows w s) (sym (ap (λ (fs : List (Option Flow)). record old { flows = fs }) told_so.1)) shows)
@@ -73,7 +73,7 @@ module _ {D : Type 0} (state : D → State) (honest : D → Type 0) (moment : D 
           same = λ t. refl;
         }) number)
 
-    module _ (is : may) (few : flow_count old.flows < most_flows) (adds : AddsFlow old.flows flow told new.flows) where
+    module _ (is : may) (few : flow_count old.flows < max_flows) (adds : AddsFlow old.flows flow told new.flows) where
       abbrev view : FlowView
       view = shown_flow asked (nothing_held asked)
 
@@ -103,7 +103,7 @@ module _ {D : Type 0} (state : D → State) (honest : D → Type 0) (moment : D 
 
     pub keeps_start : Keeps state honest moment left_since old s step told new
     keeps_start = ⊎_elim
-        (λ is. ⊎_elim (λ (few : flow_count old.flows < most_flows). begun is few (begins.begins is few)) (λ (many : most_flows ≤ flow_count old.flows). full is many) (cases_lt (flow_count old.flows) most_flows))
+        (λ is. ⊎_elim (λ (few : flow_count old.flows < max_flows). begun is few (begins.begins is few)) (λ (many : max_flows ≤ flow_count old.flows). full is many) (cases_lt (flow_count old.flows) max_flows))
         not_asked
         able.decided
 
@@ -137,32 +137,32 @@ from_laws latest is = tt
 from_laws (at_least place) is = is
 from_laws (exact place) is = is
 
-watch_in_range : (c limit names : ℕ) → ((c ≤ max_number) × (1 ≤ limit) × (limit ≤ most_watched) × (1 ≤ names) × (names ≤ most_namespaces)) ⊎ (((c ≤ max_number) × (1 ≤ limit) × (limit ≤ most_watched) × (1 ≤ names) × (names ≤ most_namespaces)) → ⊥)
+watch_in_range : (c limit names : ℕ) → ((c ≤ max_number) × (1 ≤ limit) × (limit ≤ max_watched) × (1 ≤ names) × (names ≤ max_asked)) ⊎ (((c ≤ max_number) × (1 ≤ limit) × (limit ≤ max_watched) × (1 ≤ names) × (names ≤ max_asked)) → ⊥)
 watch_in_range c limit names = ⊎_elim
     (λ p. inl (p.0, p.1.0, p.1.1, p.2.0, p.2.1))
     (λ not. inr (λ p. not (p.0, (p.1, p.2), (p.3, p.4))))
     all_of
   where
-    all_of : ((c ≤ max_number) × ((1 ≤ limit) × (limit ≤ most_watched)) × ((1 ≤ names) × (names ≤ most_namespaces))) ⊎ (((c ≤ max_number) × ((1 ≤ limit) × (limit ≤ most_watched)) × ((1 ≤ names) × (names ≤ most_namespaces))) → ⊥)
+    all_of : ((c ≤ max_number) × ((1 ≤ limit) × (limit ≤ max_watched)) × ((1 ≤ names) × (names ≤ max_asked))) ⊎ (((c ≤ max_number) × ((1 ≤ limit) × (limit ≤ max_watched)) × ((1 ≤ names) × (names ≤ max_asked))) → ⊥)
     all_of = ⊎_elim (λ p. inl (p.0, p.1.0, p.1.1)) (λ not. inr (λ p. not (p.0, (p.1, p.2))))
-        (both (c ≤ max_number) (((1 ≤ limit) × (limit ≤ most_watched)) × ((1 ≤ names) × (names ≤ most_namespaces))) (at_most c max_number)
-        (both ((1 ≤ limit) × (limit ≤ most_watched)) ((1 ≤ names) × (names ≤ most_namespaces)) (both (1 ≤ limit) (limit ≤ most_watched) (at_most 1 limit) (at_most limit most_watched))
-        (both (1 ≤ names) (names ≤ most_namespaces) (at_most 1 names) (at_most names most_namespaces))))
+        (both (c ≤ max_number) (((1 ≤ limit) × (limit ≤ max_watched)) × ((1 ≤ names) × (names ≤ max_asked))) (at_most c max_number)
+        (both ((1 ≤ limit) × (limit ≤ max_watched)) ((1 ≤ names) × (names ≤ max_asked)) (both (1 ≤ limit) (limit ≤ max_watched) (at_most 1 limit) (at_most limit max_watched))
+        (both (1 ≤ names) (names ≤ max_asked) (at_most 1 names) (at_most names max_asked))))
 
 -- each request
 request_able : (shards : ℕ) (request : Request) → IsWholeStep (Start request) → IsAskable shards (IsInLimits request) (asked_by request) (begun_for shards request)
 request_able shards (requests.Write write) whole = record { decided = inl tt; whole = λ is. whole; wanted = λ is. tt; shown = λ is. (refl, refl, refl, refl) }
 request_able shards (requests.Read fresh sets) whole = record {
-  decided = in_range (IsFresh (fresh_of fresh)) 1 (length sets.items) most_sets (fresh_or_not (fresh_of fresh));
-  whole = λ is. (to_laws (fresh_of fresh) is.0, is.1, is.2);
-  wanted = λ is. (from_laws (fresh_of fresh) is.0, is.1, is.2);
-  shown = λ is. (refl, refl, (to_laws (fresh_of fresh) is.0, is.1, is.2));
+  decided = in_range (IsFresh fresh) 1 (length sets.items) max_asked (fresh_or_not fresh);
+  whole = λ is. (to_laws fresh is.0, is.1, is.2);
+  wanted = λ is. (from_laws fresh is.0, is.1, is.2);
+  shown = λ is. (refl, refl, (to_laws fresh is.0, is.1, is.2));
 }
-request_able shards (requests.Check fresh userset user) whole = record {
-  decided = fresh_or_not (fresh_of fresh);
-  whole = to_laws (fresh_of fresh);
-  wanted = from_laws (fresh_of fresh);
-  shown = λ is. (userset, refl, refl, to_laws (fresh_of fresh) is);
+request_able shards (requests.Check fresh tuple) whole = record {
+  decided = fresh_or_not fresh;
+  whole = to_laws fresh;
+  wanted = from_laws fresh;
+  shown = λ is. (userset_of tuple, refl, refl, to_laws fresh is);
 }
 request_able shards (requests.Watch cursor limit names) whole =
     record { decided = watch_in_range cursor limit (length names.items); whole = λ is. is; wanted = λ is. is; shown = λ is. (refl, is) }

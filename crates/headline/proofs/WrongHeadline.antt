@@ -4,7 +4,7 @@ use Rattle.headline.proofs.Words.{AreOpened, Bank, Down, Event, Flow, FlowView, 
 use Rattle.calls.specs.Views.{refused}
 use Rattle.names.specs.declared.node_name.NodeName as names
 use Rattle.cluster.specs.Steps.{events_of}
-use Rattle.cluster.specs.declared.request.Request.TheVariants as requests
+use Rattle.tuples.specs.declared.request.Request.TheVariants as requests
 use Rattle.turns.specs.Promises.{IsNearlyFull}
 use Rattle.headline.specs.DeviceScripts.{SetsScript}
 

@@ -1,7 +1,7 @@
 -- The steps of a world and what they tell, as the laws of runs say them.
 use Rattle.std.specs.Prelude.{List, [], ◌∷◌, map, Option, Some, None}
 use Rattle.tuples.specs.Changes.{IsWrite}
-use Rattle.answer_flow.specs.Finding.{fresh_of}
+use Rattle.tuples.specs.Checking.{userset_of}
 use Rattle.answer_flow.specs.ReadViews.{rows_of}
 use Rattle.care_flow.specs.Ends.{resolved_value}
 use Rattle.names.specs.declared.care.Care.{Care}
@@ -16,16 +16,16 @@ use Rattle.cluster.specs.declared.event.Answer.TheVariants.{Checked, Done, Liste
 use Rattle.cluster.specs.declared.event.Event.{Event}
 use Rattle.cluster.specs.declared.event.What.{What}
 use Rattle.cluster.specs.declared.event.What.TheVariants.{Began, Ended, Next, Refused, Up}
-use Rattle.cluster.specs.declared.request.Request.{Request}
-use Rattle.cluster.specs.declared.request.Request.TheVariants as requests
+use Rattle.tuples.specs.declared.request.Request.{Request}
+use Rattle.tuples.specs.declared.request.Request.TheVariants as requests
 use Rattle.cluster.specs.declared.step.Step.{Step}
 use Rattle.cluster.specs.declared.step.Step.TheVariants.{Cancel, Care as care_for, Restart, Start, Turn}
 
 -- what a request asks
 abbrev pub asked_by : Request → Asked
 asked_by (requests.Write write) = to_write write.changes write.conditions
-asked_by (requests.Read fresh sets) = to_read (fresh_of fresh) sets.items
-asked_by (requests.Check fresh userset user) = to_check (fresh_of fresh) userset user
+asked_by (requests.Read fresh sets) = to_read fresh sets.items
+asked_by (requests.Check fresh tuple) = to_check fresh (userset_of tuple) tuple.user
 asked_by (requests.Watch cursor limit names) = to_watch cursor limit names.items
 
 -- and what a care asks

@@ -1,7 +1,7 @@
 // The steps of a world that call one node or none: laws, each the clause of a function with an empty body.
 ghost use Rattle.std.specs.Prelude.{ℕ};
 ghost use Rattle.names.specs.declared.care.Care.{Care};
-ghost use Rattle.cluster.specs.declared.request.Request.{Request};
+ghost use Rattle.tuples.specs.declared.request.Request.{Request};
 ghost use Rattle.cluster.specs.declared.step.Step.TheVariants.{Cancel, Care as care_for, Start, Turn};
 ghost use Rattle.headline.specs.DeviceScripts.{ScriptsKeep};
 ghost use Rattle.headline.specs.Promised.{StepKeeps};

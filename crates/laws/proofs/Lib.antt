@@ -19,6 +19,10 @@ pub mod BrokenConditions
 pub mod WatchesJoin
 pub mod MachineMoves
 pub mod Selections
+pub mod ReadRows
+pub mod OnceEach
+pub mod Walk
+pub mod TupleLists
 pub mod KeptVersions
 pub mod ShardRows
 mod SmallImages

@@ -1,4 +1,5 @@
 pub mod Shards
+pub mod Walks
 pub mod Coordinators
 pub mod Worlds
 pub mod LogLaws

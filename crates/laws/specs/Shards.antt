@@ -1,5 +1,5 @@
 -- What the records of a shard mean beside the log of the whole store.
-use Rattle.std.specs.Prelude.{◌≡◌, ◌≤◌, ◌<◌, ◌&&◌, ◌==◌, ℕ, Bool, List, length, Some, None, slice_get}
+use Rattle.std.specs.Prelude.{◌≡◌, ◌≤◌, ◌<◌, ◌&&◌, ◌==◌, ℕ, Bool, nat_lt, List, length, Some, None, slice_get}
 use Rattle.tuples.specs.declared.entry.Entry.{Entry}
 use Rattle.tuples.specs.declared.tuple.Tuple.{Tuple}
 use Rattle.tuples.specs.Log.{is_at}
@@ -25,3 +25,7 @@ pub record ShardMeans (shards s : ℕ) (log : List Entry) (coordinator_horizon h
 -- a tuple that was there at a place, of one shard
 abbrev pub there_of : ℕ → ℕ → List Entry → ℕ → Tuple → Bool
 there_of shards s log place t = is_at log place t && (shard_of shards t.object == s)
+
+-- and of the shards below a number
+abbrev pub there_below : ℕ → ℕ → List Entry → ℕ → Tuple → Bool
+there_below shards below log s t = is_at log s t && nat_lt (shard_of shards t.object) below

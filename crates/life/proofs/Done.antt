@@ -17,7 +17,6 @@ use Rattle.refusal.specs.declared.refusal.Refusal.{Refusal}
 use Rattle.tuples.specs.declared.version.Version.{Version}
 use Rattle.headline.specs.Told.{IsWholeStep}
 use Rattle.scripts.specs.Answering.{Tries}
-use Rattle.scripts.specs.Asking.{request_of}
 use Rattle.scripts.specs.Going.{Turns}
 use Rattle.scripts.specs.Refusing.{CancelsInPart, CarriesOutNot, EndsNot, GivesUp, HandlesNot, LeavesFlow, ServesNot, StartsNot, resolved_room}
 use Rattle.scripts.specs.Runs.{Prints, RepliesTo}
@@ -103,7 +102,7 @@ module _ {S : Type 0} (takes : S → Step → Option What → S → Type 0) (set
       carrying_did : (id : ℕ) (c : Command) (old : RunningView S) (text : List ℕ) (new : RunningView S) → IsWholeCommand c → (p : CarriesOut takes nexts shows sets id c old text new)
           → Did old.store (carrying_done takes nexts shows sets id c old text new p) new.store
       carrying_did id Pass old text new whole p = ap (λ (r : RunningView S). r.store) p.1
-      carrying_did id (Ask request) old text new whole p = serving_did id (step.Start (request_of request)) old.store text new.store whole p.0
+      carrying_did id (Ask request) old text new whole p = serving_did id (step.Start request) old.store text new.store whole p.0
       carrying_did id (Care care) old text new whole p = serving_did id (step.Care care) old.store text new.store tt p.0
       carrying_did id (Start name request) old text new whole p = (new.store, p.1, whole, refl)
       carrying_did id (Handle flow h) old text new whole p = handling_did id flow h old text new p
@@ -114,9 +113,9 @@ module _ {S : Type 0} (takes : S → Step → Option What → S → Type 0) (set
       not_carrying_did : (id : ℕ) (c : Command) (old new : RunningView S) → IsWholeCommand c → (p : CarriesOutNot takes nexts shows id c old new)
           → Did old.store (not_carrying_done takes nexts shows sets id c old new p) new.store
       not_carrying_did id Pass old new whole p = absurd p
-      not_carrying_did id (Ask request) old new whole p = not_serving_did id 0 (step.Start (request_of request)) old.store new.store whole p.0
+      not_carrying_did id (Ask request) old new whole p = not_serving_did id 0 (step.Start request) old.store new.store whole p.0
       not_carrying_did id (Care care) old new whole p = not_serving_did id resolved_room (step.Care care) old.store new.store tt p.0
-      not_carrying_did id (Start name request) old new whole p = not_starting_did id name (step.Start (request_of request)) old new whole p
+      not_carrying_did id (Start name request) old new whole p = not_starting_did id name (step.Start request) old new whole p
       not_carrying_did id (Handle flow h) old new whole p = not_handling_did id flow h old new p
       not_carrying_did id (Rows shard) old new whole p = ap (λ (r : RunningView S). r.store) p.3
       not_carrying_did id (Restart node) old new whole p = (new.store, p.1, tt, refl)

@@ -1,13 +1,14 @@
 -- A line that asks for a write, and prints that memory was refused, has made none that was told.
 use Rattle.std.proofs.Common.{◌≡◌, ◌≤◌, ◌<◌, ◌⊎◌, ⊎_elim, inl, inr, ℕ, Bool, true, false, List, [], ◌∷◌, length, Option, Some, None, MatchOption, refl, sym, ◌∙◌, ap, subst, arith}
 use Rattle.std.proofs.lemmas.Bool.{cases_lt}
+use Rattle.tuples.specs.Limits.{max_flows}
 use Rattle.names.specs.declared.call_name.CallName.{CallName}
 use Rattle.commit_flow.specs.declared.end.WriteEnd.{WriteEnd}
 use Rattle.commit_flow.specs.declared.end.WriteEnd.TheVariants as write_end
 use Rattle.cluster.specs.Begun.{begun_for}
 use Rattle.cluster.specs.Ends.{EndsWith, IfEnded, TellsWrite}
 use Rattle.cluster.specs.Flows.{is_cancelled, next_name_of}
-use Rattle.cluster.specs.Steps.{GoesOn, HasGone, IsIdle, Leaves, Takes, TurnsIn, most_flows, unless}
+use Rattle.cluster.specs.Steps.{GoesOn, HasGone, IsIdle, Leaves, Takes, TurnsIn, unless}
 use Rattle.cluster.specs.Turns.{Turns}
 use Rattle.cluster.specs.Worlds.{WorldView, flow_at, flow_count}
 use Rattle.cluster.specs.declared.event.Answer.TheVariants.{Wrote, Selected, Checked, Listed, Resolved, Done}
@@ -15,7 +16,7 @@ use Rattle.cluster.specs.declared.event.What.{What}
 use Rattle.cluster.specs.declared.event.What.TheVariants.{Began, Next, Ended, Up, Refused}
 use Rattle.cluster.specs.declared.flow.Flow.{Flow}
 use Rattle.cluster.specs.declared.flow.Flow.TheVariants as flow
-use Rattle.cluster.specs.declared.request.Request.TheVariants as request
+use Rattle.tuples.specs.declared.request.Request.TheVariants as request
 use Rattle.cluster.specs.declared.step.Step.{Step}
 use Rattle.cluster.specs.declared.step.Step.TheVariants as step
 use Rattle.device.specs.Device.{State}
@@ -141,13 +142,13 @@ module _ {D : Type 0} (set : D → ℕ → Tear → Type 0) (state : D → State
 
   begun : (w : Write) (old new : WorldView D) (told : Option What) → Takes state honest moment left_since old (step.Start (request.Write w)) told new → IsBegun old told new
   begun w old new told (begins, is) = ⊎_elim
-      (λ (few : flow_count old.flows < most_flows).
+      (λ (few : flow_count old.flows < max_flows).
       let adds = begins.begins tt few in
       inr (adds.slot, adds.tells, λ f at. subst IsWriteFlow (same_flow (begun_for old.shards (request.Write w)) f (sym adds.puts.at ∙ at)) tt))
-      (λ (many : most_flows ≤ flow_count old.flows).
+      (λ (many : max_flows ≤ flow_count old.flows).
       let full = begins.full tt many in
       inl (full.0, is ∙ ap (λ (fs : List (Option Flow)). record old { flows = fs }) full.1))
-      (cases_lt (flow_count old.flows) most_flows)
+      (cases_lt (flow_count old.flows) max_flows)
 
   module _ (id : ℕ) (w : Write) (old new : WorldView D) where
     abbrev takes : WorldView D → Step → Option What → WorldView D → Type 0

@@ -9,7 +9,7 @@ use Rattle.cluster.specs.declared.step.Step.{Step}
 use Rattle.cluster.specs.declared.step.Step.TheVariants.{Start, Turn, Cancel, Care, Restart}
 use Rattle.refusal.specs.declared.refusal.Refusal.TheVariants.{NoMemory}
 use Rattle.tuples.specs.declared.write.Write.{Write}
-use Rattle.cluster.specs.declared.request.Request.TheVariants as request
+use Rattle.tuples.specs.declared.request.Request.TheVariants as request
 use Rattle.scripts.specs.Going.{Turns, last_told, most_calls}
 use Rattle.life.specs.RefusedWrites.{EndsRefused, IsRefusedMemory}
 

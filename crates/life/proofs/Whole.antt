@@ -5,17 +5,16 @@ use Rattle.headline.specs.Told.{IsWholeStep}
 use Rattle.lines.specs.declared.command.Command.{Command}
 use Rattle.lines.specs.declared.command.Command.TheVariants.{Pass, Ask, Start, Handle, Care, Rows, Restart, Fail}
 use Rattle.lines.specs.Lines.{IsRequest, Spells}
-use Rattle.requests.specs.declared.request.Request.{Request}
-use Rattle.requests.specs.declared.request.Request.TheVariants.{Write, Read, Check, Watch}
-use Rattle.scripts.specs.Asking.{request_of}
+use Rattle.tuples.specs.declared.request.Request.{Request}
+use Rattle.tuples.specs.declared.request.Request.TheVariants.{Write, Read, Check, Watch}
 
 -- the step that begins its flow is
 abbrev pub IsWholeCommand : Command → Type 0
-IsWholeCommand (Ask r) = IsWholeStep (step.Start (request_of r))
-IsWholeCommand (Start name r) = IsWholeStep (step.Start (request_of r))
+IsWholeCommand (Ask r) = IsWholeStep (step.Start r)
+IsWholeCommand (Start name r) = IsWholeStep (step.Start r)
 IsWholeCommand c = Unit {0}
 
-whole_request : (r : Request) → IsRequest r → IsWholeStep (step.Start (request_of r))
+whole_request : (r : Request) → IsRequest r → IsWholeStep (step.Start r)
 whole_request (Write w) is = is.0
 whole_request (Read freshness sets) is = tt
 whole_request (Check freshness t) is = tt

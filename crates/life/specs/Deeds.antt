@@ -18,7 +18,6 @@ use Rattle.refusal.specs.declared.refusal.Refusal.{Refusal}
 use Rattle.tuples.specs.declared.version.Version.{Version}
 use Rattle.headline.specs.Acts.{Act, sets_script, takes_step}
 use Rattle.scripts.specs.Answering.{Tries}
-use Rattle.scripts.specs.Asking.{request_of}
 use Rattle.scripts.specs.Refusing.{CancelsInPart, CarriesOutNot, EndsNot, GivesUp, HandlesNot, LeavesFlow, ServesNot, StartsNot, resolved_room}
 use Rattle.scripts.specs.Runs.{Prints, RepliesTo}
 use Rattle.scripts.specs.Scripts.{Cancels, CarriesOut, Ends, Handles, RunningView, ScriptView, Serves}
@@ -102,9 +101,9 @@ module _ {S : Type 0} (takes : S → Step → Option What → S → Type 0) (nex
   -- for a command
   abbrev pub carrying_done : (id : ℕ) (c : Command) (old : RunningView S) (text : List ℕ) (new : RunningView S) → CarriesOut takes nexts shows sets id c old text new → List Deed
   carrying_done id Pass old text new p = []
-  carrying_done id (Ask request) old text new p = serving_done takes nexts id (step.Start (request_of request)) old.store text new.store p.0
+  carrying_done id (Ask request) old text new p = serving_done takes nexts id (step.Start request) old.store text new.store p.0
   carrying_done id (Care care) old text new p = serving_done takes nexts id (step.Care care) old.store text new.store p.0
-  carrying_done id (Start name request) old text new p = took (step.Start (request_of request)) p.0 ∷ []
+  carrying_done id (Start name request) old text new p = took (step.Start request) p.0 ∷ []
   carrying_done id (Handle flow h) old text new p = handling_done takes nexts id flow h old text new p
   carrying_done id (Rows shard) old text new p = []
   carrying_done id (Restart node) old text new p = took (step.Restart node) p.0 ∷ []
@@ -113,9 +112,9 @@ module _ {S : Type 0} (takes : S → Step → Option What → S → Type 0) (nex
   -- for one to which memory was refused
   abbrev pub not_carrying_done : (id : ℕ) (c : Command) (old new : RunningView S) → CarriesOutNot takes nexts shows id c old new → List Deed
   not_carrying_done id Pass old new p = []
-  not_carrying_done id (Ask request) old new p = not_serving_done takes nexts id 0 (step.Start (request_of request)) old.store new.store p.0
+  not_carrying_done id (Ask request) old new p = not_serving_done takes nexts id 0 (step.Start request) old.store new.store p.0
   not_carrying_done id (Care care) old new p = not_serving_done takes nexts id resolved_room (step.Care care) old.store new.store p.0
-  not_carrying_done id (Start name request) old new p = not_starting_done takes nexts id name (step.Start (request_of request)) old new p
+  not_carrying_done id (Start name request) old new p = not_starting_done takes nexts id name (step.Start request) old new p
   not_carrying_done id (Handle flow h) old new p = not_handling_done takes nexts id flow h old new p
   not_carrying_done id (Rows shard) old new p = []
   not_carrying_done id (Restart node) old new p = took (step.Restart node) p.0 ∷ []

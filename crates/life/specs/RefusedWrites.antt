@@ -5,7 +5,7 @@ use Rattle.cluster.specs.Steps.{Takes}
 use Rattle.cluster.specs.Worlds.{WorldView}
 use Rattle.cluster.specs.declared.event.What.{What}
 use Rattle.cluster.specs.declared.event.What.TheVariants.{Began, Refused}
-use Rattle.cluster.specs.declared.request.Request.TheVariants as request
+use Rattle.tuples.specs.declared.request.Request.TheVariants as request
 use Rattle.cluster.specs.declared.step.Step.{Step}
 use Rattle.cluster.specs.declared.step.Step.TheVariants as step
 use Rattle.device.specs.Device.{State}
@@ -13,7 +13,6 @@ use Rattle.device.specs.declared.tear.Tear.{Tear}
 use Rattle.lines.specs.declared.command.Command.TheVariants.{Ask}
 use Rattle.printed.specs.Texts.{refusal_line}
 use Rattle.refusal.specs.declared.refusal.Refusal.TheVariants.{NoMemory}
-use Rattle.requests.specs.declared.request.Request.TheVariants as asked
 use Rattle.scripts.specs.Answering.{Tries}
 use Rattle.scripts.specs.Going.{Goes, most_calls}
 use Rattle.scripts.specs.Refusing.{GivesUp}
@@ -39,5 +38,5 @@ module _ {D : Type 0} (set : D → ℕ → Tear → Type 0) (state : D → State
   -- counted. There is no other way.
   abbrev pub WritesRefusedMemory : Type 0
   WritesRefusedMemory = (id : ℕ) (w : Write) (old new : RunningView (WorldView D))
-      → Tries (Takes state honest moment left_since) IsNext (ShowsRows state honest) (SetsScript set state honest moment left_since) id (Ask (asked.Write w)) old (refusal_line NoMemory) new
+      → Tries (Takes state honest moment left_since) IsNext (ShowsRows state honest) (SetsScript set state honest moment left_since) id (Ask (request.Write w)) old (refusal_line NoMemory) new
       → IsRefusedMemory (Takes state honest moment left_since) IsNext (step.Start (request.Write w)) old.store new.store × KeepsFlows old new

@@ -1,11 +1,10 @@
 // Sessions that break off; the lines and their answers are those of the rules of the lines.
 use answers::{Events, Membership, Rows, Written};
-use requests::Freshness;
 use sessions::{Answers, serve_stream};
 use std::alloc::Global;
 use std::io::{self, ErrorKind, Read};
 use std::test::Fail;
-use tuples::{Namespace, Refusal, Tuple, Tupleset, Write};
+use tuples::{Freshness, Namespace, Refusal, Tuple, Tupleset, Write};
 
 // A store that counts its writes, of which every user is a member of everything.
 #[derive(Drop)]

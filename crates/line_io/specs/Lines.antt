@@ -1,12 +1,9 @@
 -- A line while it is read.
 use Rattle.std.specs.Prelude.{◌≡◌, ◌≢◌, ◌≤◌, ◌<◌, ◌-◌, ◌^◌, ◌⊎◌, ℕ, false, min, List, [], ◌∷◌, length, All, Option, Some, None, nat_lt, if◌then◌else◌}
+use Rattle.tuples.specs.Limits.{max_line}
 use Rattle.refusal.specs.declared.refusal.Refusal.{Refusal}
 use Rattle.refusal.specs.declared.refusal.Refusal.TheVariants.{BadRequest, TooLarge, NoMemory}
 use Rattle.line_io.specs.declared.line.Line.{Line}
-
--- the most bytes of a line, its line feed left out
-abbrev pub max_line : ℕ
-max_line = 262144
 
 abbrev pub HasNoFeed : List ℕ → Type 0
 HasNoFeed = All (λ b. b ≢ 10)

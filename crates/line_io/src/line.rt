@@ -4,9 +4,7 @@ ghost use Rattle.line_io.specs.Lines.{Holds, IsUnheld, IsWhole, unended_refusal}
 
 use refusal::Refusal;
 use std::alloc::Global;
-
-/// The most bytes of a line, its line feed left out.
-const MAX_LINE: usize = 262_144;
+use tuples::MAX_LINE;
 
 /// The bytes of a line, for as long as it is within the limit and there is memory for it.
 #[derive(Drop)]

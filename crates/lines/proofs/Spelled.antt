@@ -13,10 +13,10 @@ use Rattle.tuples.specs.Names.{IsName}
 use Rattle.tuples.specs.Texts.{object_text, relation_text, tuple_text, tupleset_text, user_text}
 use Rattle.zookie.specs.Zookies.{zookie_bytes, zookie_text}
 use Rattle.zookie.proofs.Encodings.{length_text}
-use Rattle.requests.specs.declared.request.Freshness.{Freshness}
-use Rattle.requests.specs.declared.request.Freshness.TheVariants.{Latest, AtLeast, Exact}
-use Rattle.requests.specs.declared.request.Request.{Request}
-use Rattle.requests.specs.declared.request.Request.TheVariants.{Write, Read, Check, Watch}
+use Rattle.tuples.specs.declared.freshness.Freshness.{Freshness}
+use Rattle.tuples.specs.declared.freshness.Freshness.TheVariants.{Latest, AtLeast, Exact}
+use Rattle.tuples.specs.declared.request.Request.{Request}
+use Rattle.tuples.specs.declared.request.Request.TheVariants.{Write, Read, Check, Watch}
 use Rattle.lines.specs.Lines.{SpellsRequest}
 use Rattle.lines.specs.Shapes.{Fresh, HasShape, Shape, at_least, check, exact, fresh_word, latest, read, watch, write}
 use Rattle.lines.specs.Texts.{IsWanted, change_text, condition_text, fresh_text}

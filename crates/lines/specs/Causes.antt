@@ -7,6 +7,7 @@ use Rattle.tuples.specs.declared.tupleset.Tupleset.{Tupleset}
 use Rattle.tuples.specs.Changes.{AreDistinct, changed, conditioned}
 use Rattle.tuples.specs.Names.{IsName}
 use Rattle.tuples.specs.Texts.{IsTuple, tuple_text}
+use Rattle.tuples.specs.Limits.{max_changes, max_conditions, max_line}
 use Rattle.refusal.specs.declared.refusal.Refusal.{Refusal}
 use Rattle.refusal.specs.declared.refusal.Refusal.TheVariants.{BadRequest, BadTuple, TooLarge, Repeated, NoMemory}
 use Rattle.requests.specs.Causes.{AreSets, ListCause}
@@ -18,7 +19,7 @@ use Rattle.lines.specs.Words.{AreChanges, AreConditions, words_of}
 -- ---- the parts of a write
 
 abbrev pub AreFew : List (List ℕ) → List (List ℕ) → Type 0
-AreFew changes conditions = (length changes ≤ 64) × (length conditions ≤ 16)
+AreFew changes conditions = (length changes ≤ max_changes) × (length conditions ≤ max_conditions)
 
 -- a text of a write is no tuple's
 abbrev pub AreMisspelled : List (List ℕ) → List (List ℕ) → Type 0
@@ -72,5 +73,5 @@ WordsCause store shards running words NoMemory = Unit {0}
 WordsCause store shards running words e = HaveCause store running words e
 
 abbrev pub Cause : ℕ → ℕ → List (List ℕ) → List ℕ → Refusal → Type 0
-Cause store shards running line TooLarge = (262144 < length line) ⊎ HaveCause store running (words_of line) TooLarge
+Cause store shards running line TooLarge = (max_line < length line) ⊎ HaveCause store running (words_of line) TooLarge
 Cause store shards running line e = WordsCause store shards running (words_of line) e

@@ -5,8 +5,9 @@ use Rattle.tuples.specs.Changes.{IsWrite}
 use Rattle.tuples.specs.Names.{IsName}
 use Rattle.tuples.specs.Texts.{IsTuple, IsTupleset, tuple_text, tupleset_text}
 use Rattle.zookie.specs.Zookies.{zookie_text}
-use Rattle.requests.specs.declared.request.Request.{Request}
-use Rattle.requests.specs.declared.request.Request.TheVariants.{Write, Read, Check, Watch}
+use Rattle.tuples.specs.declared.request.Request.{Request}
+use Rattle.tuples.specs.declared.request.Request.TheVariants.{Write, Read, Check, Watch}
+use Rattle.tuples.specs.Limits.{max_asked}
 use Rattle.names.specs.declared.care.Care.{Care}
 use Rattle.names.specs.declared.care.Care.TheVariants as care
 use Rattle.lines.specs.declared.command.Command.{Command}
@@ -28,7 +29,7 @@ request_words store (Watch from limit namespaces) = codes "watch" ∷ zookie_tex
 
 -- one at least, and as many as a request may have
 abbrev pub AreSome : {A : Type 0} → List A → Type 0
-AreSome xs = (1 ≤ length xs) × (length xs ≤ 16)
+AreSome xs = (1 ≤ length xs) × (length xs ≤ max_asked)
 
 -- its parts are in their grammar and within their limits
 abbrev pub IsRequest : Request → Type 0

@@ -1,5 +1,6 @@
 // The commands of a script.
 ghost use Rattle.std.specs.Prelude.{◌≤◌, ◌<◌, ◌↔◌, ◌∷◌, ℕ, IfOk, IfErr, IsErrOf, IsTrue, MatchOption, codes, length};
+ghost use Rattle.tuples.specs.Limits.{max_line};
 ghost use Rattle.lines.specs.Causes.{Cause, WordsCause};
 ghost use Rattle.lines.specs.Lines.{IsPassed, SpellNoOrder, Spells, SpellsWords};
 ghost use Rattle.lines.specs.Words.{texts};
@@ -13,12 +14,8 @@ use crate::request::request_of;
 use crate::shapes::shape_of;
 use crate::words::{behind, split_words};
 use names::{Care, NodeName};
-use requests::Request;
 use std::alloc::Global;
-use tuples::Refusal;
-
-/// The most bytes of a line, without its line feed.
-pub const MAX_LINE: usize = 262_144;
+use tuples::{MAX_LINE, Refusal, Request};
 
 /// What one line of a script asks for.
 #[derive(Drop)]
@@ -56,8 +53,8 @@ impl Command {
         shards: u8,
         running: &[Name],
     ) -> Result<Command, Refusal>
-        ensures long { 262144 < length line.now → IsErrOf result Refusal.TooLarge }
-        ensures passed { IsPassed line.now → length line.now ≤ 262144 → IfErr result (λ e. ⊥) }
+        ensures long { max_line < length line.now → IsErrOf result Refusal.TooLarge }
+        ensures passed { IsPassed line.now → length line.now ≤ max_line → IfErr result (λ e. ⊥) }
         ensures ok { IfOk result (Spells store shards running.now line.now) }
         ensures err { IfErr result (Cause store shards running.now line.now) }
     {

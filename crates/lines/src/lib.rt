@@ -22,7 +22,7 @@ mod shapes;
 mod texts;
 mod words;
 
-pub use command::{Command, MAX_LINE};
+pub use command::Command;
 pub use fail::Failure;
 pub use flow::Handling;
 pub use name::Name;

@@ -7,8 +7,7 @@ ghost use Rattle.lines.specs.Shapes.{fresh_view, fresh_word};
 ghost use Rattle.lines.specs.Texts.{IsFreshness, fresh_text};
 
 use crate::shape::FreshShape;
-use requests::Freshness;
-use tuples::Refusal;
+use tuples::{Freshness, Refusal};
 use zookie::Zookie;
 
 /// The place of this store that the token names.

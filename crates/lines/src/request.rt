@@ -16,12 +16,8 @@ use crate::conditions::parse_conditions;
 use crate::places::{decode_freshness, decode_place};
 use crate::shape::{FreshShape, Shape};
 use crate::texts::{parse_changes, parse_namespaces, parse_sets};
-use requests::Request;
 use std::alloc::Global;
-use tuples::{MAX_CHANGES, MAX_CONDITIONS, Refusal, Tuple, Write};
-
-// The most tuplesets of one read, and the most namespaces of one watch.
-const MAX_TEXTS: usize = 16;
+use tuples::{MAX_ASKED, MAX_CHANGES, MAX_CONDITIONS, Refusal, Request, Tuple, Write};
 
 /// The request of a shape, at the store with this id.
 pub(crate) fn request_of(alloc: Global, shape: Shape<'_>, store: u64) -> Result<Request, Refusal>
@@ -68,7 +64,7 @@ fn read_of(
     ensures ok { IfOk result (SpellsRequest store (shape_words (read (fresh_view freshness.entry) (texts sets.now)))) }
     ensures err { IfErr result (ListCause store (length (texts sets.now)) ((qs : List AnySet) × AreSets (texts sets.now) qs) (λ IsBad. IsFresh IsBad (fresh_view freshness.entry))) }
 {
-    if sets.len() > MAX_TEXTS {
+    if sets.len() > MAX_ASKED {
         return Err(Refusal::TooLarge);
     }
     let sets = parse_sets(alloc, sets)?;
@@ -102,7 +98,7 @@ fn watch_of(
     ensures ok { IfOk result (SpellsRequest store (shape_words (watch from.now limit (texts namespaces.now)))) }
     ensures err { IfErr result (ListCause store (length (texts namespaces.now)) (All IsName (texts namespaces.now)) (λ IsBad. IsBad from.now)) }
 {
-    if namespaces.len() > MAX_TEXTS {
+    if namespaces.len() > MAX_ASKED {
         return Err(Refusal::TooLarge);
     }
     let namespaces = parse_namespaces(alloc, namespaces)?;

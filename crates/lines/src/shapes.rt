@@ -10,9 +10,7 @@ use crate::conditions::are_asked;
 use crate::numbers::parse_count;
 use crate::shape::{FreshShape, Shape};
 use crate::words::behind;
-
-// The most places that a watch may tell of.
-const MAX_LIMIT: u64 = 256;
+use tuples::MAX_WATCHED;
 
 /// The request of these words, whatever its texts are.
 pub(crate) fn shape_of<'a>(words: &'a [&'a [u8]]) -> Option<Shape<'a>>
@@ -139,7 +137,7 @@ fn parse_limit(text: &[u8]) -> Option<u16>
     ensures { ReadsText IsLimit decimal text.now result }
 {
     let limit = parse_count(text)?;
-    if limit > MAX_LIMIT {
+    if limit > MAX_WATCHED {
         return None;
     }
     Some(limit as u16)

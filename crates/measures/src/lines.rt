@@ -1,12 +1,11 @@
 // How many request lines a session answers, over memory, where what it asks costs nothing.
 use crate::timing::{Done, print_since};
 use answers::{Events, Membership, Rows, Written};
-use requests::Freshness;
 use sessions::{Answers, serve_stream};
 use std::alloc::{AllocError, Global};
 use std::rt::Clock;
 use std::time::Instant;
-use tuples::{Namespace, Refusal, Tuple, Tupleset, Write};
+use tuples::{Freshness, Namespace, Refusal, Tuple, Tupleset, Write};
 
 const PLACE: u64 = 1;
 

@@ -1,9 +1,10 @@
 // The touches of the writes so far, each at its write's place.
 use answers::{Events, Membership, Rows, Written};
-use requests::Freshness;
 use sessions::Answers;
 use std::alloc::{AllocError, Global};
-use tuples::{Change, Condition, Namespace, Refusal, Tuple, Tupleset, Version, Want, Write};
+use tuples::{
+    Change, Condition, Freshness, Namespace, Refusal, Tuple, Tupleset, Version, Want, Write,
+};
 
 #[derive(Drop)]
 pub(crate) struct Listed {

@@ -14,10 +14,10 @@ use Rattle.tuples.specs.Changes.{IsWrite, changed, conditioned, tuple_of}
 use Rattle.tuples.specs.Names.{IsName}
 use Rattle.tuples.specs.Texts.{tuple_text, tupleset_text}
 use Rattle.zookie.specs.Zookies.{zookie_text}
-use Rattle.requests.specs.declared.request.Freshness.{Freshness}
-use Rattle.requests.specs.declared.request.Freshness.TheVariants as freshness
-use Rattle.requests.specs.declared.request.Request.{Request}
-use Rattle.requests.specs.declared.request.Request.TheVariants.{Write, Read, Check, Watch}
+use Rattle.tuples.specs.declared.freshness.Freshness.{Freshness}
+use Rattle.tuples.specs.declared.freshness.Freshness.TheVariants as freshness
+use Rattle.tuples.specs.declared.request.Request.{Request}
+use Rattle.tuples.specs.declared.request.Request.TheVariants.{Write, Read, Check, Watch}
 use Rattle.requests.specs.declared.shape.ChangeShape.{ChangeShape}
 use Rattle.requests.specs.declared.shape.ChangeShape.TheVariants.{Touch, Delete}
 use Rattle.requests.specs.declared.shape.ConditionShape.{ConditionShape}

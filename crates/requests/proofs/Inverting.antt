@@ -5,6 +5,7 @@ use Rattle.std.proofs.lemmas.Bool.{false≢true}
 use Rattle.std.proofs.lemmas.Bool.Decides.{Decides-eqb, nat_tests}
 use Rattle.std.proofs.lemmas.Slice.Eq.{slice_eq-Decides}
 use Rattle.std.proofs.lemmas.List.{length-map}
+use Rattle.tuples.specs.Limits.{max_watched}
 use Rattle.serde_json.specs.Data.{Data, string}
 use Rattle.refusal.specs.declared.refusal.Refusal.{Refusal}
 use Rattle.requests.proofs.Values.{lists_once}
@@ -58,7 +59,7 @@ pub record AreOfWatch (from : Data) (rest : List Field) : Type 0 where
   pub limit : ℕ
   pub list : List (List ℕ)
   pub low : 1 ≤ limit
-  pub high : limit ≤ 256
+  pub high : limit ≤ max_watched
   pub some : 1 ≤ length list
   pub from_is : from ≡ string zookie
   pub behind : rest ≡ watch_rest limit (texts_json list)
@@ -130,7 +131,7 @@ write_empty d rest cs is none s h =
 pub write_unended : (d : Data) (rest : List Field) → (rest ≡ (codes "op", string (codes "write")) ∷ [] → ⊥) → ((x : Data) (more : List Field) → rest ≡ (codes "conditions", x) ∷ more → ⊥) → (s : Form) → HasForm ((codes "changes", d) ∷ rest) s → ⊥
 write_unended d rest no_op no_conditions s h = elim (write_parts d rest s h).behind [ inl e ↦ no_op e | inr e ↦ no_conditions _ _ e.1 ]
 
-pub watch_nothing : (d : Data) (rest : List Field) → ((z : List ℕ) (n : ℕ) (x : Data) → 1 ≤ n → n ≤ 256 → d ≡ string z → rest ≡ watch_rest n x → ⊥) → (s : Form) → HasForm ((codes "from", d) ∷ rest) s → ⊥
+pub watch_nothing : (d : Data) (rest : List Field) → ((z : List ℕ) (n : ℕ) (x : Data) → 1 ≤ n → n ≤ max_watched → d ≡ string z → rest ≡ watch_rest n x → ⊥) → (s : Form) → HasForm ((codes "from", d) ∷ rest) s → ⊥
 watch_nothing d rest none s h = let p = watch_parts d rest s h in none p.zookie p.limit (texts_json p.list) p.low p.high p.from_is p.behind
 
 -- the namespaces of a watch

@@ -5,6 +5,7 @@ use Rattle.tuples.specs.declared.tupleset.Tupleset.{Tupleset}
 use Rattle.tuples.specs.Changes.{AreDistinct}
 use Rattle.tuples.specs.Names.{IsName}
 use Rattle.tuples.specs.Texts.{IsTuple, IsTupleset, tuple_text, tupleset_text}
+use Rattle.tuples.specs.Limits.{max_changes, max_conditions}
 use Rattle.zookie.specs.Zookies.{IsNoZookie, IsOfAnotherStore, zookie_text}
 use Rattle.refusal.specs.declared.refusal.Refusal.{Refusal}
 use Rattle.refusal.specs.declared.refusal.Refusal.TheVariants.{BadRequest, BadTuple, TooLarge, Repeated, BadZookie, WrongStore, NoMemory}
@@ -81,7 +82,7 @@ abbrev pub AreRepeated : List ChangeShape → List ConditionShape → Type 0
 AreRepeated changes conditions = (ts : List Tuple) × (us : List Tuple) × AreTuples (map changed_text changes) ts × AreTuples (map conditioned_text conditions) us × (AreDistinct ts → AreDistinct us → ⊥)
 
 abbrev pub AreFew : List ChangeShape → List ConditionShape → Type 0
-AreFew changes conditions = (length changes ≤ 64) × (length conditions ≤ 16)
+AreFew changes conditions = (length changes ≤ max_changes) × (length conditions ≤ max_conditions)
 
 abbrev pub WriteCause : ℕ → List ChangeShape → List ConditionShape → Refusal → Type 0
 WriteCause store changes conditions TooLarge = (64 < length changes) ⊎ (16 < length conditions)

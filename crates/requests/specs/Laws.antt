@@ -8,10 +8,10 @@ use Rattle.tuples.specs.declared.change.Want.TheVariants.{NotAfter, Exists, Abse
 use Rattle.tuples.specs.Changes.{IsWrite}
 use Rattle.tuples.specs.Names.{IsName}
 use Rattle.tuples.specs.Texts.{IsTuple, IsTupleset}
-use Rattle.requests.specs.declared.request.Freshness.{Freshness}
-use Rattle.requests.specs.declared.request.Freshness.TheVariants as freshness
-use Rattle.requests.specs.declared.request.Request.{Request}
-use Rattle.requests.specs.declared.request.Request.TheVariants.{Write, Read, Check, Watch}
+use Rattle.tuples.specs.declared.freshness.Freshness.{Freshness}
+use Rattle.tuples.specs.declared.freshness.Freshness.TheVariants as freshness
+use Rattle.tuples.specs.declared.request.Request.{Request}
+use Rattle.tuples.specs.declared.request.Request.TheVariants.{Write, Read, Check, Watch}
 use Rattle.requests.specs.Causes.{Cause}
 use Rattle.requests.specs.Lines.{IsObject, Spells}
 use Rattle.requests.specs.Shapes.{Field}

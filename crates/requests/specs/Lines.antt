@@ -9,10 +9,11 @@ use Rattle.tuples.specs.declared.change.Want.{Want}
 use Rattle.tuples.specs.declared.change.Want.TheVariants as want
 use Rattle.tuples.specs.Texts.{tuple_text, tupleset_text}
 use Rattle.zookie.specs.Zookies.{zookie_text}
-use Rattle.requests.specs.declared.request.Freshness.{Freshness}
-use Rattle.requests.specs.declared.request.Freshness.TheVariants.{Latest, AtLeast, Exact}
-use Rattle.requests.specs.declared.request.Request.{Request}
-use Rattle.requests.specs.declared.request.Request.TheVariants.{Write, Read, Check, Watch}
+use Rattle.tuples.specs.declared.freshness.Freshness.{Freshness}
+use Rattle.tuples.specs.declared.freshness.Freshness.TheVariants.{Latest, AtLeast, Exact}
+use Rattle.tuples.specs.declared.request.Request.{Request}
+use Rattle.tuples.specs.declared.request.Request.TheVariants.{Write, Read, Check, Watch}
+use Rattle.tuples.specs.Limits.{max_asked, max_watched}
 use Rattle.requests.specs.Shapes.{Field, asks_sets, asks_tuple, change_with, object_with, question_with, since_with, texts_json, want_with, watch_with, write_with}
 
 -- the line is the JSON of an object with these members
@@ -46,6 +47,6 @@ SpellsWrite store fields changes conditions =
 -- the members are those of the request at this store
 abbrev pub Spells : ℕ → List Field → Request → Type 0
 Spells store fields (Write w) = SpellsWrite store fields w.changes w.conditions
-Spells store fields (Read freshness sets) = (fields ≡ question_with (written_freshness store freshness) (codes "read") (asks_sets (map tupleset_text sets.items))) × (1 ≤ length sets.items) × (length sets.items ≤ 16)
+Spells store fields (Read freshness sets) = (fields ≡ question_with (written_freshness store freshness) (codes "read") (asks_sets (map tupleset_text sets.items))) × (1 ≤ length sets.items) × (length sets.items ≤ max_asked)
 Spells store fields (Check freshness tuple) = fields ≡ question_with (written_freshness store freshness) (codes "check") (asks_tuple (tuple_text tuple))
-Spells store fields (Watch from limit namespaces) = (fields ≡ watch_with (zookie_text store from) limit (texts_json namespaces.items)) × (1 ≤ limit) × (limit ≤ 256) × (1 ≤ length namespaces.items) × (length namespaces.items ≤ 16)
+Spells store fields (Watch from limit namespaces) = (fields ≡ watch_with (zookie_text store from) limit (texts_json namespaces.items)) × (1 ≤ limit) × (limit ≤ max_watched) × (1 ≤ length namespaces.items) × (length namespaces.items ≤ max_asked)

@@ -1,6 +1,7 @@
 -- The JSON of each request, whose texts may be those of no tuple and of no token. The members of an object come in the order of their keys.
 use Rattle.std.specs.Prelude.{◌≡◌, ◌≤◌, ◌⊎◌, ℕ, List, [], ◌∷◌, ◌++◌, length, map, codes, Option, Some, None, option_map, Result, Ok, Err, String, string_bytes}
 use Rattle.std.specs.Borrow.{Bor}
+use Rattle.tuples.specs.Limits.{max_watched}
 use Rattle.serde_json.specs.Data.{Data, unsigned, number, string, array, object, Members, no_members, member}
 use Rattle.std.specs.declared.alloc.Global.{Global}
 use Rattle.serde_json.specs.View.{items_of, view}
@@ -121,7 +122,7 @@ abbrev pub IsFormed : Form → Type 0
 IsFormed (Writes changes conditions) = 1 ≤ length changes
 IsFormed (Reads freshness sets) = 1 ≤ length sets
 IsFormed (Checks freshness tuple) = Unit {0}
-IsFormed (Watches from limit namespaces) = (1 ≤ limit) × (limit ≤ 256) × (1 ≤ length namespaces)
+IsFormed (Watches from limit namespaces) = (1 ≤ limit) × (limit ≤ max_watched) × (1 ≤ length namespaces)
 
 -- the members as a map has them
 abbrev pub entry_fields : List (String Global × Value) → List Field

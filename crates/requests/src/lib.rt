@@ -13,9 +13,8 @@ mod member;
 mod parse;
 mod places;
 mod reading;
-mod request;
 mod shape;
 mod texts;
 
 pub use laws::{a_line_has_one_cause, no_line_is_spelled_and_refused};
-pub use request::{Freshness, Request};
+pub use parse::parse_request;

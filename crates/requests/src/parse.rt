@@ -6,11 +6,11 @@ ghost use Rattle.tuples.specs.declared.tuple.Tuple.{Tuple as AnyTuple};
 ghost use Rattle.tuples.specs.declared.tupleset.Tupleset.{Tupleset as AnySet};
 ghost use Rattle.tuples.specs.Names.{IsName};
 ghost use Rattle.tuples.specs.Texts.{IsTuple, tuple_text};
+ghost use Rattle.tuples.specs.Limits.{max_watched};
 ghost use Rattle.requests.specs.Causes.{AreSets, Cause, FormCause, IsFresh, ListCause, WriteCause};
 ghost use Rattle.requests.specs.Lines.{IsObject, Spells, written_change, written_condition};
 ghost use Rattle.requests.specs.Shapes.{Field, IsFormed, asks_sets, asks_tuple, change_json, condition_json, form_fields, form_of, freshness_fields, question_with, texts_json, watch_with};
 
-use crate::Request;
 use crate::member::members_of;
 use crate::places::{decode_conditions, decode_freshness, decode_place};
 use crate::reading::shape_of;
@@ -18,25 +18,20 @@ use crate::shape::{ChangeShape, ConditionShape, FreshnessShape, Shape};
 use crate::texts::{parse_changes, parse_conditioned, parse_namespaces, parse_sets, parse_tuple};
 use serde_json::Value;
 use std::alloc::Global;
-use tuples::{MAX_CHANGES, MAX_CONDITIONS, Refusal, Write};
+use tuples::{MAX_ASKED, MAX_CHANGES, MAX_CONDITIONS, Refusal, Request, Write};
 
-/// The most tuplesets of one read, and the most namespaces of one watch.
-const MAX_TEXTS: usize = 16;
-
-impl Request {
-    /// The request that the line spells, at a store with this id; the line comes without its line feed. A refusal is that of the first
-    /// thing wrong, in this order: `BadRequest` where the line is the JSON of no request's shape, `TooLarge` for more changes, conditions,
-    /// tuplesets or namespaces than the limits, `BadTuple` where a text is none, `BadZookie` or `WrongStore` for the first zookie that is
-    /// none of this store, `Repeated` where two changes or two conditions name one tuple. `NoMemory` may come over any line.
-    pub fn parse(alloc: Global, line: &[u8], store: u64) -> Result<Request, Refusal>
-        ensures ok { IfOk result (λ r. (fields : List Field) × IsObject line.now fields × Spells store fields r) }
-        ensures err { IfErr result (Cause store line.now) }
-    {
-        let value = value_of(alloc, line)?;
-        let members = members_of(alloc, &value)?;
-        let shape = shape_of(alloc, &members)?;
-        request_of(alloc, shape, store)
-    }
+/// The request that the line spells, at a store with this id; the line comes without its line feed. A refusal is that of the first
+/// thing wrong, in this order: `BadRequest` where the line is the JSON of no request's shape, `TooLarge` for more changes, conditions,
+/// tuplesets or namespaces than the limits, `BadTuple` where a text is none, `BadZookie` or `WrongStore` for the first zookie that is
+/// none of this store, `Repeated` where two changes or two conditions name one tuple. `NoMemory` may come over any line.
+pub fn parse_request(alloc: Global, line: &[u8], store: u64) -> Result<Request, Refusal>
+    ensures ok { IfOk result (λ r. (fields : List Field) × IsObject line.now fields × Spells store fields r) }
+    ensures err { IfErr result (Cause store line.now) }
+{
+    let value = value_of(alloc, line)?;
+    let members = members_of(alloc, &value)?;
+    let shape = shape_of(alloc, &members)?;
+    request_of(alloc, shape, store)
 }
 
 // What `serde_json` reads the line as.
@@ -106,7 +101,7 @@ fn read_of(
     ensures ok { IfOk result (Spells store (question_with (freshness_fields freshness.entry) (codes "read") (asks_sets (map (λ t. t.now) sets.now)))) }
     ensures err { IfErr result (ListCause store (length sets.now) ((qs : List AnySet) × AreSets (map (λ t. t.now) sets.now) qs) (λ IsBad. IsFresh IsBad freshness.entry)) }
 {
-    if sets.len() > MAX_TEXTS {
+    if sets.len() > MAX_ASKED {
         return Err(Refusal::TooLarge);
     }
     let sets = parse_sets(alloc, sets)?;
@@ -137,11 +132,11 @@ fn watch_of(
 ) -> Result<Request, Refusal>
     requires some { 1 ≤ length namespaces.now }
     requires low { 1 ≤ limit }
-    requires high { limit ≤ 256 }
+    requires high { limit ≤ max_watched }
     ensures ok { IfOk result (Spells store (watch_with from.now limit (texts_json (map (λ t. t.now) namespaces.now)))) }
     ensures err { IfErr result (ListCause store (length namespaces.now) (All IsName (map (λ t. t.now) namespaces.now)) (λ IsBad. IsBad from.now)) }
 {
-    if namespaces.len() > MAX_TEXTS {
+    if namespaces.len() > MAX_ASKED {
         return Err(Refusal::TooLarge);
     }
     let namespaces = parse_namespaces(alloc, namespaces)?;

@@ -7,10 +7,9 @@ ghost use Rattle.requests.specs.Lines.{written_condition, written_freshness};
 ghost use Rattle.requests.specs.Shapes.{condition_json, freshness_fields};
 ghost use Rattle.requests.specs.Spelling.{IsUnplaced, IsUnread, ReadsWant};
 
-use crate::Freshness;
 use crate::shape::{ConditionShape, FreshnessShape, WantShape};
 use std::alloc::Global;
-use tuples::{Condition, Refusal, Tuple, Want};
+use tuples::{Condition, Freshness, Refusal, Tuple, Want};
 use zookie::Zookie;
 
 /// The place of this store that the zookie names.

@@ -1,5 +1,6 @@
 // Which request the members of an object are.
 ghost use Rattle.std.specs.Prelude.{◌≡◌, ◌≤◌, ◌∷◌, ◌↔◌, [], List, ℕ, IsTrue, MatchOption, MatchResult, codes, length, map};
+ghost use Rattle.tuples.specs.Limits.{max_watched};
 ghost use Rattle.serde_json.specs.Data.{Data, number, string, unsigned};
 ghost use Rattle.serde_json.specs.View.{view};
 ghost use Rattle.requests.specs.declared.shape.FreshnessShape.{FreshnessShape as AnyFreshness};
@@ -10,9 +11,7 @@ use crate::member::{Member, take, text_of};
 use crate::shape::{FreshnessShape, Shape};
 use serde_json::Value;
 use std::alloc::Global;
-use tuples::Refusal;
-
-const MAX_LIMIT: u64 = 256;
+use tuples::{MAX_WATCHED, Refusal};
 
 /// The request that has these members.
 pub(crate) fn shape_of<'a>(alloc: Global, members: &[Member<'a>]) -> Result<Shape<'a>, Refusal>
@@ -77,7 +76,7 @@ fn watch_of<'a>(alloc: Global, from: &'a Value, rest: &[Member<'a>]) -> Result<S
 
 // The cursor, the limit and the value of the namespaces.
 fn watch_parts<'a>(from: &'a Value, rest: &[Member<'a>]) -> Option<(&'a str, u16, &'a Value)>
-    ensures { MatchOption result ((z : List ℕ) (n : ℕ) (d : Data) → 1 ≤ n → n ≤ 256 → view from.now ≡ string z → fields_of rest.now ≡ watch_rest n d → ⊥) (λ p. (view from.now ≡ string p.0.now) × (1 ≤ p.1) × (p.1 ≤ 256) × (fields_of rest.now ≡ watch_rest p.1 (view p.2.now))) }
+    ensures { MatchOption result ((z : List ℕ) (n : ℕ) (d : Data) → 1 ≤ n → n ≤ max_watched → view from.now ≡ string z → fields_of rest.now ≡ watch_rest n d → ⊥) (λ p. (view from.now ≡ string p.0.now) × (1 ≤ p.1) × (p.1 ≤ max_watched) × (fields_of rest.now ≡ watch_rest p.1 (view p.2.now))) }
 {
     let from = text_of(from)?;
     let (limit, rest) = take(rest, "limit")?;
@@ -100,10 +99,10 @@ fn watched<'a>(rest: &[Member<'a>]) -> Option<&'a Value>
 }
 
 fn limit_of(value: &Value) -> Option<u16>
-    ensures { MatchOption result ((n : ℕ) → 1 ≤ n → n ≤ 256 → view value.now ≡ number (unsigned n) → ⊥) (λ n. (1 ≤ n) × (n ≤ 256) × (view value.now ≡ number (unsigned n))) }
+    ensures { MatchOption result ((n : ℕ) → 1 ≤ n → n ≤ max_watched → view value.now ≡ number (unsigned n) → ⊥) (λ n. (1 ≤ n) × (n ≤ max_watched) × (view value.now ≡ number (unsigned n))) }
 {
     let limit = value.as_u64()?;
-    if limit < 1 || limit > MAX_LIMIT {
+    if limit < 1 || limit > MAX_WATCHED {
         return None;
     }
     Some(limit as u16)

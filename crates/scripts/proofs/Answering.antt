@@ -3,13 +3,13 @@ use Rattle.std.proofs.Common.{◌≡◌, ◌≤◌, ℕ, List, [], ◌∷◌, �
 use Rattle.std.specs.Global.{Vec}
 use Rattle.std.specs.Io.KnownBytes.{Appends}
 use Rattle.std.specs.Prelude.{Result}
+use Rattle.tuples.specs.Limits.{max_line}
 use Rattle.names.specs.declared.node_name.NodeName.{NodeName}
 use Rattle.names.specs.declared.call_name.CallName.{CallName}
 use Rattle.cluster.specs.declared.event.What.{What}
 use Rattle.cluster.specs.declared.step.Step.{Step}
 use Rattle.device.specs.declared.tear.Tear.{Tear}
 use Rattle.journal.specs.declared.refused.Bank.{Bank}
-use Rattle.line_io.specs.Lines.{max_line}
 use Rattle.line_io.specs.Outputs.{HasBegun}
 use Rattle.refusal.specs.declared.refusal.Refusal.{Refusal}
 use Rattle.scripts.specs.Answering.{Answers}

@@ -1,4 +1,3 @@
-pub mod Asking
 pub mod Telling
 pub mod Going
 pub mod Scripts

@@ -11,7 +11,6 @@ use Rattle.lines.specs.declared.flow.Handling.{Handling}
 use Rattle.lines.specs.declared.flow.Handling.TheVariants as handling
 use Rattle.refusal.specs.declared.refusal.Refusal.{Refusal}
 use Rattle.tuples.specs.declared.version.Version.{Version}
-use Rattle.scripts.specs.Asking.{request_of}
 use Rattle.scripts.specs.Going.{LeavesOff}
 use Rattle.scripts.specs.Scripts.{Cancels, Ends, Handles, KeepsFlows, RunningView, Shows, Starts, slot_of}
 use Rattle.scripts.specs.Telling.{told_text}
@@ -63,9 +62,9 @@ module _ {S : Type 0} (takes : S → Step → Option What → S → Type 0) (nex
   -- behind more calls than any makes; and none that has a name is told so.
   abbrev pub CarriesOutNot : ℕ → Command → RunningView S → RunningView S → Type 0
   CarriesOutNot id Pass old new = ⊥
-  CarriesOutNot id (Ask request) old new = ServesNot takes nexts id 0 (step.Start (request_of request)) old.store new.store × KeepsFlows old new
+  CarriesOutNot id (Ask request) old new = ServesNot takes nexts id 0 (step.Start request) old.store new.store × KeepsFlows old new
   CarriesOutNot id (Care care) old new = ServesNot takes nexts id resolved_room (step.Care care) old.store new.store × KeepsFlows old new
-  CarriesOutNot id (Start name request) old new = StartsNot takes nexts id name (step.Start (request_of request)) old new
+  CarriesOutNot id (Start name request) old new = StartsNot takes nexts id name (step.Start request) old new
   CarriesOutNot id (Handle flow h) old new = HandlesNot takes nexts id flow h old new
   CarriesOutNot id (Rows shard) old new = (text : List ℕ) × Shows shows shard old.store text × IsLong text × (new ≡ old)
   CarriesOutNot id (Restart node) old new = (told : Option What) × takes old.store (step.Restart node) told new.store × IsLong (told_text id told) × KeepsFlows old new

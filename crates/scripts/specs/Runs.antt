@@ -2,13 +2,14 @@
 use Rattle.std.specs.Prelude.{◌≡◌, ◌≤◌, ◌<◌, ◌⊎◌, ℕ, List, [], ◌∷◌, ◌++◌, length, flat_map, All, Option, Result}
 use Rattle.std.specs.Global.{Vec}
 use Rattle.std.specs.Io.KnownBytes.{Appends, Consumes, IsAtEnd}
+use Rattle.tuples.specs.Limits.{max_line}
 use Rattle.names.specs.declared.node_name.NodeName.{NodeName}
 use Rattle.names.specs.declared.call_name.CallName.{CallName}
 use Rattle.cluster.specs.declared.event.What.{What}
 use Rattle.cluster.specs.declared.step.Step.{Step}
 use Rattle.device.specs.declared.tear.Tear.{Tear}
 use Rattle.journal.specs.declared.refused.Bank.{Bank}
-use Rattle.line_io.specs.Lines.{HasNoFeed, max_line}
+use Rattle.line_io.specs.Lines.{HasNoFeed}
 use Rattle.line_io.specs.Outputs.{HasBegun}
 use Rattle.printed.specs.Texts.{refusal_line}
 use Rattle.refusal.specs.declared.refusal.Refusal.{Refusal}

@@ -18,7 +18,6 @@ use Rattle.printed.specs.Texts.{named_line, refusal_line, version_line}
 use Rattle.refusal.specs.declared.refusal.Refusal.{Refusal}
 use Rattle.refusal.specs.declared.refusal.Refusal.TheVariants.{Future}
 use Rattle.tuples.specs.declared.version.Version.{Version}
-use Rattle.scripts.specs.Asking.{request_of}
 use Rattle.scripts.specs.Going.{Goes}
 use Rattle.scripts.specs.Telling.{next_line, set_line, told_text}
 
@@ -109,9 +108,9 @@ module _ {S : Type 0} (takes : S → Step → Option What → S → Type 0) (nex
   -- A command is carried out at the store with this id, and prints this.
   abbrev pub CarriesOut : ℕ → Command → RunningView S → List ℕ → RunningView S → Type 0
   CarriesOut id Pass old text new = (text ≡ []) × (new ≡ old)
-  CarriesOut id (Ask request) old text new = Serves takes nexts id (step.Start (request_of request)) old.store text new.store × KeepsFlows old new
+  CarriesOut id (Ask request) old text new = Serves takes nexts id (step.Start request) old.store text new.store × KeepsFlows old new
   CarriesOut id (Care care) old text new = Serves takes nexts id (step.Care care) old.store text new.store × KeepsFlows old new
-  CarriesOut id (Start name request) old text new = Starts takes nexts id name (step.Start (request_of request)) old text new
+  CarriesOut id (Start name request) old text new = Starts takes nexts id name (step.Start request) old text new
   CarriesOut id (Handle flow h) old text new = Handles takes nexts id flow h old text new
   CarriesOut id (Rows shard) old text new = Shows shows shard old.store text × (new ≡ old)
   CarriesOut id (Restart node) old text new = (told : Option What) × takes old.store (step.Restart node) told new.store × (text ≡ told_text id told) × KeepsFlows old new

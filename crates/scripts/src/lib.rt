@@ -11,7 +11,6 @@
 //! `over_disks.rt` for one over a store of its own. What owns a store is here, where how it is let go is proved.
 #![tactic(auto)]
 
-mod asking;
 mod going;
 mod over_disks;
 mod printing;

@@ -5,13 +5,11 @@ ghost use Rattle.cluster.specs.declared.event.What.{What as AnyWhat};
 ghost use Rattle.cluster.specs.declared.step.Step.TheVariants as any_step;
 ghost use Rattle.lines.specs.Causes.{Cause};
 ghost use Rattle.lines.specs.Lines.{Spells};
-ghost use Rattle.scripts.specs.Asking as spec;
 ghost use Rattle.scripts.specs.Refusing.{CarriesOutNot, HandlesNot, IsLong, StartsNot};
 ghost use Rattle.scripts.specs.Scripts.{CarriesOut, Handles, IsAmong, KeepsFlows, Shows, Starts, Tells, TellsCancel};
 ghost use Rattle.scripts.specs.Telling.{set_line, told_text};
 
 use crate::Store;
-use crate::asking::request_of;
 use crate::going::{cancel, go};
 use crate::printing::print_told;
 use crate::serving::{print_unbegun, serve};
@@ -240,7 +238,7 @@ impl<S: Store> Running<S> {
         match command {
             Command::Pass => Ok(()),
             Command::Ask(request) => {
-                let step = Step::Start(request_of(request));
+                let step = Step::Start(request);
                 serve(&mut self.store, id, step, 0, out)
             }
             Command::Care(care) => {
@@ -248,7 +246,7 @@ impl<S: Store> Running<S> {
                 serve(&mut self.store, id, step, RESOLVED, out)
             }
             Command::Start(name, request) => {
-                let step = Step::Start(request_of(request));
+                let step = Step::Start(request);
                 self.start(id, name, step, out)
             }
             Command::Handle(flow, handling) => self.handle(id, flow, handling, out),

@@ -1,6 +1,7 @@
 // One line and its answer.
 ghost use Rattle.std.specs.Prelude.{◌≤◌, List, ℕ, OnErr, OnOk, length};
-ghost use Rattle.line_io.specs.Lines.{Holds, max_line};
+ghost use Rattle.tuples.specs.Limits.{max_line};
+ghost use Rattle.line_io.specs.Lines.{Holds};
 ghost use Rattle.scripts.specs.Runs.{Tells, TellsPart};
 
 use crate::refusals::Refusals;

@@ -1,15 +1,16 @@
 -- What a session writes for what it reads.
 use Rattle.std.specs.Prelude.{◌≡◌, ◌≤◌, ◌<◌, ◌⊎◌, ℕ, List, [], ◌∷◌, ◌++◌, length, flat_map, All, Option, Some, None, Result, Ok, Err}
 use Rattle.std.specs.Io.KnownBytes.{Appends, Consumes, IsAtEnd}
+use Rattle.tuples.specs.Limits.{max_line}
 use Rattle.refusal.specs.declared.refusal.Refusal.{Refusal}
 use Rattle.refusal.specs.declared.refusal.Refusal.TheVariants.{TooLarge}
-use Rattle.requests.specs.declared.request.Request.{Request}
+use Rattle.tuples.specs.declared.request.Request.{Request}
 use Rattle.requests.specs.Causes.{Cause}
 use Rattle.requests.specs.Lines.{IsObject, Spells}
 use Rattle.requests.specs.Shapes.{Field}
 use Rattle.answers.specs.declared.answer.Answer.{Answer}
 use Rattle.answers.specs.Texts.{answer_line, refusal_line}
-use Rattle.line_io.specs.Lines.{HasNoFeed, max_line, unended_refusal}
+use Rattle.line_io.specs.Lines.{HasNoFeed, unended_refusal}
 use Rattle.line_io.specs.Outputs.{HasBegun}
 
 -- an answer of one op, as an answer

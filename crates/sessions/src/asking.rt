@@ -2,12 +2,11 @@
 ghost use Rattle.std.specs.Prelude.{Result};
 ghost use Rattle.answers.specs.declared.answer.Answer.{Answer as AnyAnswer};
 ghost use Rattle.refusal.specs.declared.refusal.Refusal.{Refusal as AnyRefusal};
-ghost use Rattle.requests.specs.declared.request.Request.{Request as AnyRequest};
+ghost use Rattle.tuples.specs.declared.request.Request.{Request as AnyRequest};
 ghost use Rattle.sessions.specs.Sessions.{told};
 
 use answers::{Answer, Events, Membership, Rows, Written};
-use requests::{Freshness, Request};
-use tuples::{Namespace, Refusal, Tuple, Tupleset, Write};
+use tuples::{Freshness, Namespace, Refusal, Request, Tuple, Tupleset, Write};
 
 /// What answers requests, one call for each op.
 pub trait Answers {

@@ -6,7 +6,7 @@ ghost use Rattle.sessions.specs.Sessions.{RepliesTo, reply_line};
 use crate::asking::{Answers, ask};
 use answers::{Answer, write_refusal};
 use line_io::Line;
-use requests::Request;
+use requests::parse_request;
 use std::alloc::{AllocError, Global};
 use tuples::Refusal;
 
@@ -22,7 +22,7 @@ pub(crate) fn reply_to<A: Answers>(
     if let Some(refusal) = line.refusal() {
         return Err(refusal);
     }
-    let request = Request::parse(alloc, line.as_bytes(), store)?;
+    let request = parse_request(alloc, line.as_bytes(), store)?;
     ask(answers, request)
 }
 

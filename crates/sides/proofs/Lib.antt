@@ -1,4 +1,8 @@
 pub mod ShardCalls
 pub mod ShardReads
+pub mod Revived
 pub mod Openings
-pub mod CoordinatorSides
+pub mod LogOpenings
+pub mod CoordinatorCalls
+pub mod CoordinatorTelling
+pub mod LogJoins

@@ -1,50 +1,28 @@
 -- A shard that is opened again is tied to what the pass beside it knows.
-use Rattle.std.proofs.Common.{◌≡◌, ◌⊎◌, ⊎_elim, ℕ, ◌≤◌, true, List, Option, Some, None, is_some, refl, sym, ◌∙◌, subst}
+use Rattle.std.proofs.Common.{◌≡◌, ⊎_elim, ℕ, ◌≤◌, true, List, Option, Some, None, is_some, refl, sym, subst}
 use Rattle.refusal.specs.declared.refusal.Refusal.{Refusal}
 use Rattle.tuples.specs.declared.entry.Entry.{Entry}
-use Rattle.device.specs.Device.{Keeps, Leaves, Revived, State, left}
-use Rattle.device.proofs.Moments.{leaves_itself, leaves_nothing_else}
+use Rattle.device.specs.Device.{State, left}
 use Rattle.calls.specs.Opening.{ShardOpens}
 use Rattle.calls.specs.Views.{NodeView, coordinator, devices_of, shard, refused}
 use Rattle.published.specs.Known.{Known}
 use Rattle.laws.specs.Worlds.{shard_node}
 use Rattle.ties.specs.ShardTies.{IsShardTied, RowsAnywhere}
 use Rattle.ties.proofs.ShardOpening.{refused_shard_openings_stay_tied, shard_openings_stay_tied, shard_tied_up_is_tied}
-use Rattle.sides.specs.Reopening.{FailsAgain, IsFound, OpenedIn, Reopens, RestartedIn}
+use Rattle.sides.specs.Reopening.{OpenedIn, RestartedIn, ShardReopens}
 use Rattle.sides.specs.Sides.{IsTiedIn}
-
--- what is left of a device that was revived is what reads, which could be left before
-found_left : (old new : State) → Revived old new → (c : List ℕ) → left new c → left old c
-found_left old new r c leaves =
-    let is : c ≡ new.seen = leaves_nothing_else new.durable c (subst (λ (w : List (ℕ × ℕ)). Leaves new.durable w c) r.written leaves) ∙ r.durable in
-    subst (left old) (sym is) r.found
-
-reads_itself : (old new : State) → Revived old new → left new new.seen
-reads_itself old new r =
-    subst (λ (d : List ℕ). Leaves d new.written new.seen) (sym r.durable) (subst (λ (w : List (ℕ × ℕ)). Leaves new.seen w new.seen) (sym r.written) (leaves_itself new.seen))
-
-kept_left : (old new : State) → Keeps old new → (c : List ℕ) → left new c → left old c
-kept_left old new k c leaves = subst (λ (d : List ℕ). Leaves d old.written c) k.durable (subst (λ (w : List (ℕ × ℕ)). Leaves new.durable w c) k.written leaves)
+use Rattle.sides.proofs.Revived.{left_before, reads_itself, still}
 
 module _ {D : Type 0} (state : D → State) (honest : D → Type 0) (moment : D → ℕ) (left_since : D → ℕ → List ℕ → Type 0) (counts_now : (d : D) (t : ℕ) (c : List ℕ) → honest d → t ≤ moment d → left (state d) c → left_since d t c)
     (store shards s : ℕ) where
-  abbrev IsRevived : D → D → Type 0
-  IsRevived old new = IsFound state honest old new ⊎ FailsAgain state honest old new
-
-  left_before : (old new : D) → honest old → IsRevived old new → (c : List ℕ) → left (state new) c → left (state old) c
-  left_before old new hon revived c leaves = ⊎_elim (λ f. found_left (state old) (state new) (f.found hon) c leaves) (λ f. kept_left (state old) (state new) (f.keeps hon) c leaves) revived
-
-  still : (old new : D) → honest old → IsRevived old new → honest new
-  still old new hon revived = ⊎_elim (λ f. f.still_honest.0 hon) (λ f. f.still_honest.0 hon) revived
-
   -- Given the devices of before, of which a stop leaves rows of the list, and the shard that was opened over them
   module _ (old_a old_b : D) (is : NodeView D) (seen : List Entry) (low : ℕ) (was : RowsAnywhere state honest shards s old_a old_b seen low)
-      (r : Reopens state honest moment left_since (shard_node store shards s) old_a old_b is) where
+      (r : ShardReopens state honest moment left_since (shard_node store shards s) old_a old_b is) where
     rows : RowsAnywhere state honest shards s r.a r.b seen low
     rows = record {
-      honest_a = still old_a r.a was.honest_a r.revived_a;
-      honest_b = still old_b r.b was.honest_b r.revived_b;
-      each = λ rs finds. was.each rs (finds.0, finds.1, left_before old_a r.a was.honest_a r.revived_a finds.0 finds.2, left_before old_b r.b was.honest_b r.revived_b finds.1 finds.3, finds.4);
+      honest_a = still state honest old_a r.a was.honest_a r.revived_a;
+      honest_b = still state honest old_b r.b was.honest_b r.revived_b;
+      each = λ rs finds. was.each rs (finds.0, finds.1, left_before state honest old_a r.a was.honest_a r.revived_a finds.0 finds.2, left_before state honest old_b r.b was.honest_b r.revived_b finds.1 finds.3, finds.4);
     }
 
     opened : (node : NodeView D) → left (state r.a) (state r.a).seen → left (state r.b) (state r.b).seen → ShardOpens state honest moment left_since r.a r.b (shard_node store shards s) node

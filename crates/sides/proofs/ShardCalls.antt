@@ -29,7 +29,7 @@ pub is_up : (b : Bool) → (b ≡ true → ⊥) → b ≡ false
 is_up false down = refl
 is_up true down = absurd (down refl)
 
-up_or_down : (b : Bool) → (b ≡ false) ⊎ (b ≡ true)
+pub up_or_down : (b : Bool) → (b ≡ false) ⊎ (b ≡ true)
 up_or_down false = inl refl
 up_or_down true = inr refl
 

@@ -1,17 +1,102 @@
--- What lies under the coordinator's lock, as its callers see it.
-use Rattle.std.specs.Prelude.{ℕ, List, []}
+-- The coordinator under its lock, as its callers see it, and what each of its calls leaves of it and tells.
+use Rattle.std.specs.Prelude.{◌≡◌, ◌≤◌, ◌<◌, ◌-◌, ℕ, min, List, [], ◌∷◌, length, Option, Some, None, Ok}
+use mathlib.Core.List.{IsPrefix}
 use Rattle.tuples.specs.declared.entry.Entry.{Entry}
-use Rattle.calls.specs.Views.{NodeView, coordinator, refused}
-use Rattle.sides.specs.declared.coordinator_side.Place.{Place}
-use Rattle.sides.specs.declared.coordinator_side.Place.TheVariants as places
+use Rattle.tuples.specs.declared.entry.WriteId.{WriteId}
+use Rattle.tuples.specs.Limits.{max_batch}
+use Rattle.tuples.specs.Writes.{WriteValue}
+use Rattle.device.specs.Device.{State}
+use Rattle.published.specs.Known.{Known}
+use Rattle.decisions.specs.Standing.{DecidedValue}
+use Rattle.coordinator.specs.declared.telling.Inquiry.TheVariants.{Commit}
+use Rattle.coordinator.specs.declared.telling.Outcome.TheVariants.{Kept}
+use Rattle.calls.specs.declared.call.NodeCall.TheVariants.{Coordinator}
+use Rattle.calls.specs.declared.call.CoordinatorCall.{CoordinatorCall}
+use Rattle.calls.specs.declared.reply.Reply.{Reply}
+use Rattle.calls.specs.declared.reply.Reply.TheVariants.{Coordinator as from_coordinator}
+use Rattle.calls.specs.declared.reply.CoordinatorReply.TheVariants as told
+use Rattle.calls.specs.Asking.{Answered, MayAsk}
+use Rattle.calls.specs.Belonging.{IsReplyTo}
+use Rattle.calls.specs.Views.{NodeView}
+use Rattle.ties.specs.DecidingLaws.{StandsAt, attempt}
+use Rattle.ties.specs.TellingLaws.{IsBatchOf}
+use Rattle.ties.specs.Ties.{Attempt, IsTied}
+use Rattle.sides.specs.Sides.{IsLater}
 
--- a node, with the list that the pass beside it has seen, and the horizon
-pub record SideValue (D : Type 0) : Type 0 where
-  pub node : NodeView D
+-- The node, the whole list of writes, and the horizon. The node is always there; only while it is opened again it is away.
+pub record LogSide (D : Type 0) : Type 0 where
+  pub node : Option (NodeView D)
   pub seen : List Entry
   pub low : ℕ
 
--- the coordinator's node
-abbrev pub node_of : {D : Type 0} → Place D → NodeView D
-node_of (places.Opened v) = coordinator v
-node_of (places.Refused r) = refused r.refusal r.a r.b
+-- the list is as it was
+pub record HasSameList {D : Type 0} (old new : LogSide D) : Type 0 where
+  pub seen : new.seen ≡ old.seen
+  pub low : new.low ≡ old.low
+
+-- the list is no shorter, and the horizon no lower
+pub record HasLaterList {D : Type 0} (old new : LogSide D) : Type 0 where
+  pub seen : IsPrefix old.seen new.seen
+  pub low : old.low ≤ new.low
+
+-- a caller's pass knows all that there is, and what it knew
+pub record KnowsAll {D : Type 0} (old : Known Entry) (side : LogSide D) (new : Known Entry) : Type 0 where
+  pub later : IsLater old new
+  pub seen : new.seen ≡ side.seen
+  pub horizon : new.horizon ≡ side.low
+  pub within : new.horizon ≤ length new.seen
+
+-- the node is there, and may be asked this
+abbrev pub MayAskThere : {D : Type 0} → Option (NodeView D) → CoordinatorCall → Type 0
+MayAskThere (Some node) call = MayAsk node (Coordinator call)
+MayAskThere None call = ⊥
+
+module _ {D : Type 0} (state : D → State) (honest : D → Type 0) (moment : D → ℕ) (left_since : D → ℕ → List ℕ → Type 0) where
+  -- the node was there, and has answered the call
+  abbrev pub AnsweredThere : Option (NodeView D) → CoordinatorCall → Reply → Option (NodeView D) → Type 0
+  AnsweredThere (Some old) call reply (Some new) = Answered state honest moment left_since old (Coordinator call) reply new
+  AnsweredThere old call reply new = ⊥
+
+  pub record CoordinatorSideAnswers (old : LogSide D) (call : CoordinatorCall) (reply : Reply) (new : LogSide D) : Type 0 where
+    pub answered : AnsweredThere old.node call reply new.node
+    pub belongs : IsReplyTo (Coordinator call) reply
+
+-- a write that is begun is the one that was handed in, and knows how long the list is
+abbrev pub TellsBegun : WriteValue → List Entry → Reply → Type 0
+TellsBegun write seen (from_coordinator (told.Begin (Ok intent))) = (intent.kept ≡ length seen) × (intent.write.changes ≡ write.changes) × (intent.write.conditions ≡ write.conditions)
+TellsBegun write seen reply = Unit {0}
+
+-- Heads that are told are those of the list, and of the horizon. What is decided is no less.
+abbrev pub TellsHeads : List Entry → ℕ → Reply → Type 0
+TellsHeads seen low (from_coordinator (told.Heads (Ok heads))) = (heads.kept ≡ length seen) × (heads.horizon ≡ low) × (length seen ≤ heads.length)
+TellsHeads seen low reply = Unit {0}
+
+-- a batch that is told is of the list, from the place that was asked for, with as many writes as were asked for or as a batch may have
+abbrev pub TellsBatch : List Entry → ℕ → ℕ → Reply → Type 0
+TellsBatch seen from to (from_coordinator (told.Batch (Ok batch))) = IsBatchOf seen batch × (batch.from ≡ from) × (length batch.writes ≡ min (to - from) max_batch)
+TellsBatch seen from to reply = Unit {0}
+
+-- a write that is found by its id stands at its place in the list, its id once
+abbrev pub TellsFound : List Entry → WriteId → Reply → Type 0
+TellsFound seen id (from_coordinator (told.Inquire (Ok (Commit place)))) = (w : Entry) × (w.id ≡ id) × StandsAt place w seen
+TellsFound seen id reply = Unit {0}
+
+module _ {D : Type 0} (state : D → State) (honest : D → Type 0) (store shards : ℕ) where
+  -- the node is there, and tied to the list and to decisions that were once staged
+  abbrev pub IsTiedThere : Option (NodeView D) → List Entry → ℕ → List Attempt → Type 0
+  IsTiedThere (Some node) seen low tried = IsTied state honest store shards node seen low tried
+  IsTiedThere None seen low tried = ⊥
+
+  -- of these decisions, once staged, it is known what becomes of them
+  abbrev pub HasTried : LogSide D → List Attempt → Type 0
+  HasTried side tried = IsTiedThere side.node side.seen side.low tried
+
+  -- a decision that is staged is of this write, at a place above all that there is
+  abbrev pub TellsDecided : LogSide D → Entry → Reply → Type 0
+  TellsDecided side w (from_coordinator (told.Decide (Ok decided))) = (length side.seen < decided.place) × HasTried side (attempt decided w ∷ [])
+  TellsDecided side w reply = Unit {0}
+
+  -- A decision that is kept has its place. Where it was one of this write, that stands there in the list, its id once.
+  abbrev pub TellsKept : LogSide D → DecidedValue → Reply → Type 0
+  TellsKept side decided (from_coordinator (told.Outcome (Kept place))) = (place ≡ decided.place) × ((w : Entry) → HasTried side (attempt decided w ∷ []) → StandsAt place w side.seen)
+  TellsKept side decided reply = Unit {0}

@@ -1,3 +1,4 @@
 pub mod Sides
 pub mod Reopening
 pub mod CoordinatorSides
+pub mod Joining

@@ -1,113 +1,91 @@
 // What lies under the coordinator's lock.
-ghost use Rattle.std.specs.Prelude.{◌≡◌, ◌<◌, [], length};
-ghost use mathlib.Core.List.{IsPrefix};
-ghost use Rattle.calls.specs.Views.{coordinator as opened, refused as not_opened_node};
-ghost use Rattle.decisions.specs.Coordinators.{HaveVoted};
-ghost use Rattle.ties.specs.DecidingLaws.{StandsAt};
-ghost use Rattle.ties.specs.Ties.{Anywhere, IsOpenedTied};
+ghost use Rattle.std.specs.Prelude.{◌≡◌, [], Some};
+ghost use Rattle.calls.specs.Belonging.{IsReplyTo};
+ghost use Rattle.calls.specs.Refusing.{Notes};
+ghost use Rattle.calls.specs.declared.call.NodeCall.TheVariants.{Coordinator as of_coordinator};
+ghost use Rattle.laws.specs.Worlds.{coordinator_node};
+ghost use Rattle.sides.specs.CoordinatorSides.{AnsweredThere, HasTried, MayAskThere};
+ghost use Rattle.ties.specs.Ties.{IsTied};
 
-use crate::decision::Decision;
-use crate::keeping::decide;
-use crate::room::Room;
-use coordinator::{Coordinator, NotDecided};
-use decisions::{Intent, Vote};
+use crate::Room;
+use calls::{CoordinatorCall, Node, NodeCall, Reply, Told, ask};
 use device::Device;
-use journal::Refused;
 use published::{LogPass, Published, SessionPass};
+use records::Identity;
 use std::marker::{Model, PhantomData};
-use tuples::{Entry, Refusal};
+use tuples::Entry;
 
-/// The coordinator as its last opening left it.
-#[derive(Drop)]
-pub(crate) enum Place<D: Device> {
-    Opened(Coordinator<D>),
-    Refused(Refused<D>),
-}
-
-/// The coordinator beside the pass that alone moves the list: it is tied to what that has seen.
+/// The coordinator, and the pass that alone moves its store's list.
+///
+/// Each call of the node is a call here, and leaves it tied to the list. One that tells of the list, or of a place in it, takes the caller's pass,
+/// which then knows all that there is.
 #[derive(Drop)]
 pub struct CoordinatorSide<D: Device, B: Room> {
-    place: Place<D>,
-    log: LogPass<Entry>,
-    room: PhantomData<B>,
+    // away only while it is opened again
+    pub(crate) node: Option<Node<D>>,
+    pub(crate) me: Identity,
+    pub(crate) log: LogPass<Entry>,
+    pub(crate) room: PhantomData<B>,
 }
 
 impl<D: Device, B: Room> Model for CoordinatorSide<D, B> {
     ghost use Rattle.std.specs.Prelude.{◌≡◌, []};
-    ghost use Rattle.sides.specs.CoordinatorSides.{SideValue, node_of};
-    ghost use Rattle.ties.specs.Ties.{IsTied};
+    ghost use Rattle.laws.specs.Worlds.{coordinator_node};
+    ghost use Rattle.sides.specs.CoordinatorSides.{IsTiedThere, LogSide};
 
-    ghost Value = { SideValue D };
+    ghost Value = { LogSide D };
 
-    ghost view = { λ s. record { node = node_of s.place; seen = s.log.seen; low = s.log.horizon } };
+    ghost view = { λ s. record { node = s.node; seen = s.log.seen; low = s.log.horizon } };
 
-    ghost invariant = { λ s. (s.log.table ≡ B.log) × IsTied D.state D.honest B.store B.shards (node_of s.place) s.log.seen s.log.horizon [] };
+    ghost invariant = { λ s. (s.log.table ≡ B.log) × (s.me ≡ coordinator_node B.store B.shards) × IsTiedThere D.state D.honest B.store B.shards s.node s.log.seen s.log.horizon [] };
 }
 
-// The refusal of the opening is that of the write.
-fn not_opened(refusal: Refusal, intent: Intent, votes: Vec<Vote>) -> Decision
-    ensures { (place : _) → result ≡ Decision.Kept place → ⊥ }
+// Makes the one call, of the node, which is there.
+pub(crate) fn ask_coordinator<D: Device>(
+    node: &mut Option<Node<D>>,
+    call: CoordinatorCall,
+    told: &mut Told,
+) -> Reply
+    requires { MayAskThere node.old call }
+    ensures answered { AnsweredThere D.state D.honest D.moment D.left_since node.old call result node.new }
+    ensures belongs { IsReplyTo (of_coordinator call) result }
+    ensures told { Notes told.old result told.new }
 {
-    intent.leave();
-    Decision::NotDecided(NotDecided {
-        refusal,
-        intent: None,
-        votes,
-    })
+    match node {
+        Some(node) => ask(node, NodeCall::Coordinator(call), told),
+        None => unreachable!(),
+    }
 }
 
 impl<D: Device, B: Room> CoordinatorSide<D, B> {
-    /// A coordinator that was opened, with a list that it is tied to.
-    pub fn new(coordinator: Coordinator<D>, log: LogPass<Entry>) -> CoordinatorSide<D, B>
+    /// The coordinator as its opening left it, with a list that it is tied to.
+    pub fn new(node: Node<D>, me: Identity, log: LogPass<Entry>) -> CoordinatorSide<D, B>
         requires own { log.table ≡ B.log }
-        requires tied { IsOpenedTied D.state D.honest B.store B.shards coordinator log.seen log.horizon [] }
-        ensures { result ≡ record { node = opened coordinator; seen = log.seen; low = log.horizon } }
+        requires me { me ≡ coordinator_node B.store B.shards }
+        requires tied { IsTied D.state D.honest B.store B.shards node log.seen log.horizon [] }
+        ensures { result ≡ record { node = Some node; seen = log.seen; low = log.horizon } }
     {
         CoordinatorSide {
-            place: Place::Opened(coordinator),
+            node: Some(node),
+            me,
             log,
             room: PhantomData,
         }
     }
 
-    /// A coordinator whose opening was refused, with a list that its devices are tied to.
-    pub fn refused(devices: Refused<D>, log: LogPass<Entry>) -> CoordinatorSide<D, B>
-        requires own { log.table ≡ B.log }
-        requires tied { Anywhere D.state D.honest devices.a devices.b log.seen log.horizon [] }
-        ensures { result ≡ record { node = not_opened_node devices.refusal devices.a devices.b; seen = log.seen; low = log.horizon } }
+    /// What it keeps whatever is called: the coordinator is tied to the list.
+    pub fn keeps(&self)
+        ensures tied { HasTried D.state D.honest B.store B.shards self.now [] }
     {
-        CoordinatorSide {
-            place: Place::Refused(devices),
-            log,
-            room: PhantomData,
-        }
+        let _me = self.me.node();
     }
 
-    /// Decides an open write by the votes of all its participants, and makes the decision durable: both under one hold. The caller's pass has then seen
-    /// all that there is.
-    pub fn decide_and_keep(
-        &mut self,
-        words: &Published<Entry>,
-        caller: &mut SessionPass<Entry>,
-        intent: Intent,
-        votes: Vec<Vote>,
-    ) -> Decision
-        requires own { (words.now ≡ B.log) × (caller.old.table ≡ B.log) }
-        requires voted { HaveVoted B.shards intent.write votes.items }
-        ensures same { caller.new.table ≡ B.log }
-        ensures later { IsPrefix self.old.seen self.new.seen }
-        ensures seen { IsPrefix caller.old.seen caller.new.seen }
-        ensures all { caller.new.seen ≡ self.new.seen }
-        ensures kept { (place : _) → result ≡ Decision.Kept place → (length caller.old.seen < place) × StandsAt place intent.write caller.new.seen }
+    /// A new pass for a caller, which knows all that there is.
+    pub fn session(&mut self, words: &Published<Entry>) -> SessionPass<Entry>
+        requires own { words.now ≡ B.log }
+        ensures same { self.new ≡ self.old }
+        ensures pass { result ≡ record { table = B.log; seen = self.new.seen; horizon = self.new.low } }
     {
-        words.meet(&mut self.log, caller);
-        match &mut self.place {
-            Place::Opened(node) => {
-                let decision = decide::<D, B>(words, &mut self.log, node, intent, votes);
-                words.meet(&mut self.log, caller);
-                decision
-            }
-            Place::Refused(refused) => not_opened(refused.refusal, intent, votes),
-        }
+        words.session(&mut self.log)
     }
 }

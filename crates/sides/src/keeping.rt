@@ -1,58 +1,49 @@
-// A write is decided, and the decision made durable, under one hold.
-ghost use Rattle.std.specs.Prelude.{◌≡◌, ◌<◌, List, [], length};
-ghost use mathlib.Core.List.{IsPrefix};
-ghost use Rattle.decisions.specs.Coordinators.{HaveVoted, IsKeptBy, IsRunning};
-ghost use Rattle.ties.specs.DecidingLaws.{StandsAt};
-ghost use Rattle.ties.specs.Ties.{IsOpenedTied};
+// What the coordinator makes durable, and only then adds to the list.
+ghost use Rattle.std.specs.Prelude.{◌≡◌, List};
+ghost use Rattle.calls.specs.Refusing.{Notes};
+ghost use Rattle.calls.specs.declared.call.CoordinatorCall.TheVariants.{Flush as flush_call, Raise as raise_call};
+ghost use Rattle.decisions.specs.Coordinators.{HaveSettled};
+ghost use Rattle.sides.specs.CoordinatorSides.{CoordinatorSideAnswers, HasLaterList, HasSameList, HasTried, KnowsAll};
+ghost use Rattle.ties.specs.Ties.{Attempt};
 
-use crate::decision::Decision;
-use crate::joining::flush;
-use crate::room::Room;
-use coordinator::{Coordinator, Decided, Outcome};
-use decisions::{Intent, Vote};
+use crate::coordinator_side::ask_coordinator;
+use crate::joining::join;
+use crate::{CoordinatorSide, Room};
+use calls::{CoordinatorCall, Reply, Told};
+use decisions::Settled;
 use device::Device;
-use published::{LogPass, Published};
+use published::{Published, SessionPass};
 use tuples::Entry;
 
-// What became of a decision that was staged, behind its flush.
-fn outcome_of<D: Device>(node: &Coordinator<D>, decided: Decided) -> Decision
-    ensures kept { (place : _) → IsRunning D.state D.honest node.now → result ≡ Decision.Kept place → (place ≡ decided.place) × IsKeptBy node.now decided }
-{
-    match node.outcome(decided) {
-        Outcome::Kept(place) => Decision::Kept(place),
-        other => {
-            other.leave();
-            Decision::Unsure
-        }
+impl<D: Device, B: Room> CoordinatorSide<D, B> {
+    /// Stages a horizon that all shards have settled. It is that of the list once it is flushed.
+    pub fn raise(&mut self, told: &mut Told, place: u64, settled: Vec<Settled>) -> Reply
+        requires settled { HaveSettled B.shards place settled.items }
+        ensures answers { CoordinatorSideAnswers D.state D.honest D.moment D.left_since self.old (raise_call place settled) result self.new }
+        ensures list { HasSameList self.old self.new }
+        ensures told { Notes told.old result told.new }
+    {
+        let call = CoordinatorCall::Raise(place, settled);
+        ask_coordinator(&mut self.node, call, told)
     }
-}
 
-/// Decides an open write, makes the decision durable, and only then adds it to the list. Nobody is let in between: so what is staged at the end of
-/// a call is nobody's.
-pub(crate) fn decide<D: Device, B: Room>(
-    words: &Published<Entry>,
-    log: &mut LogPass<Entry>,
-    node: &mut Coordinator<D>,
-    intent: Intent,
-    votes: Vec<Vote>,
-) -> Decision
-    requires own { log.old.table ≡ words.now }
-    requires voted { HaveVoted node.old.me.shards intent.write votes.items }
-    requires tied { IsOpenedTied D.state D.honest B.store B.shards node.old log.old.seen log.old.horizon [] }
-    ensures same { log.new.table ≡ log.old.table }
-    ensures later { IsPrefix log.old.seen log.new.seen }
-    ensures tied { IsOpenedTied D.state D.honest B.store B.shards node.new log.new.seen log.new.horizon [] }
-    ensures kept { (place : _) → result ≡ Decision.Kept place → (length log.old.seen < place) × StandsAt place intent.write log.new.seen }
-{
-    let decided = match node.decide(intent, votes) {
-        Ok(decided) => decided,
-        Err(refused) => return Decision::NotDecided(refused),
-    };
-    match flush::<D, B>(words, log, node) {
-        Ok(()) => outcome_of(node, decided),
-        Err(_) => {
-            decided.leave();
-            Decision::Unsure
-        }
+    /// Makes durable what is staged, which then joins the list. Where a device fails the list stays as it is, until the node is opened again.
+    pub fn flush(
+        &mut self,
+        words: &Published<Entry>,
+        pass: &mut SessionPass<Entry>,
+        told: &mut Told,
+    ) -> Reply
+        requires own { (words.now ≡ B.log) × (pass.old.table ≡ B.log) }
+        ensures answers { CoordinatorSideAnswers D.state D.honest D.moment D.left_since self.old flush_call result self.new }
+        ensures list { HasLaterList self.old self.new }
+        ensures caller { KnowsAll pass.old self.new pass.new }
+        ensures tried { (tried : List Attempt) → HasTried D.state D.honest B.store B.shards self.old tried → HasTried D.state D.honest B.store B.shards self.new tried }
+        ensures told { Notes told.old result told.new }
+    {
+        let reply = ask_coordinator(&mut self.node, CoordinatorCall::Flush, told);
+        join::<D, B>(words, &mut self.log, &mut self.node);
+        words.meet(&mut self.log, pass);
+        reply
     }
 }

@@ -2,8 +2,8 @@
 //!
 //! Keeps: the node is tied to the list of writes that the pass beside it has seen, whatever was called.
 //! Never: takes a lock, waits, or tells of a write that the caller's pass has not seen.
-//! Callers rely on: what a pass had seen it sees behind each call, rows that are told are of the list that it has seen then, and a write that is
-//! answered with its place stands in the list there, above all that the caller had seen.
+//! Callers rely on: what a pass had seen it sees behind each call, what is told of the list is of what it has seen then, and a decision that is told as
+//! kept stands in the list there, above all that the caller had seen when it was made.
 //!
 //! No program uses this yet. Start at `specs/Sides.antt`, and then `ShardSide`; at `specs/CoordinatorSides.antt`, and then `CoordinatorSide`.
 #![tactic(auto)]
@@ -11,17 +11,19 @@
 mod checking;
 mod collecting;
 mod coordinator_side;
-mod decision;
 mod joining;
 mod keeping;
 mod learning;
+mod listing;
 mod preparing;
 mod reading;
 mod reopening;
+mod returning;
 mod room;
 mod shard_side;
+mod telling;
+mod writing;
 
 pub use coordinator_side::CoordinatorSide;
-pub use decision::Decision;
 pub use room::Room;
 pub use shard_side::ShardSide;

@@ -2,7 +2,7 @@
 ghost use Rattle.std.specs.Prelude.{◌≡◌, ◌<◌, true, false, IsTrue, is_some};
 ghost use Rattle.calls.specs.Opening.{ShardOpens};
 ghost use Rattle.laws.specs.Worlds.{shard_node};
-ghost use Rattle.sides.specs.Reopening.{FailsAgain, IsFound, OpenedIn, Reopens, RestartedIn};
+ghost use Rattle.sides.specs.Reopening.{FailsAgain, IsFound, OpenedIn, RestartedIn, ShardReopens};
 ghost use Rattle.ties.specs.ShardTies.{RowsAnywhere};
 
 use crate::{Room, ShardSide};
@@ -14,8 +14,8 @@ use std::alloc::Global;
 use std::marker::PhantomData;
 use tuples::{Entry, Refusal};
 
-// Whether what a stop may have left of it was found. A device that fails even now answers only errors.
-fn revive<D: Device>(device: &mut D) -> bool
+/// Whether what a stop may have left of it was found. A device that fails even now answers only errors.
+pub(crate) fn revive<D: Device>(device: &mut D) -> bool
     ensures found { IsTrue result → IsFound D.state D.honest device.old device.new }
     ensures failed { result ≡ false → FailsAgain D.state D.honest device.old device.new }
 {
@@ -24,7 +24,7 @@ fn revive<D: Device>(device: &mut D) -> bool
 
 fn reopen<D: Device>(alloc: Global, mut a: D, mut b: D, me: Identity) -> Node<D>
     requires { me.node < me.shards }
-    ensures { Reopens D.state D.honest D.moment D.left_since me a b result }
+    ensures { ShardReopens D.state D.honest D.moment D.left_since me a b result }
 {
     let is_found_a = revive(&mut a);
     let is_found_b = revive(&mut b);

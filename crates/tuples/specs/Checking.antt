@@ -5,6 +5,10 @@ use Rattle.tuples.specs.declared.tuple.Tuple.{Tuple}
 use Rattle.tuples.specs.declared.user.User.{User}
 use Rattle.tuples.specs.declared.user.User.TheVariants.{Set}
 
+-- the userset of a tuple's object and relation
+abbrev pub userset_of : Tuple → Userset
+userset_of t = record { object = t.object; relation = t.relation }
+
 -- the tuple by which a userset holds a user
 abbrev pub holding : Userset → User → Tuple
 holding x u = record { object = x.object; relation = x.relation; user = u }

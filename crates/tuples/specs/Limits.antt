@@ -21,6 +21,34 @@ max_conditions = 16
 abbrev pub max_shards : ℕ
 max_shards = 64
 
+-- tuplesets of a read, and namespaces of a watch
+abbrev pub max_asked : ℕ
+max_asked = 16
+
+-- places whose changes a watch asks for
+abbrev pub max_watched : ℕ
+max_watched = 256
+
+-- usersets that one check walks
+abbrev pub max_walked : ℕ
+max_walked = 4096
+
+-- bytes of a line
+abbrev pub max_line : ℕ
+max_line = 262144
+
+-- flows that run at a time in one store
+abbrev pub max_flows : ℕ
+max_flows = 1024
+
+-- writes that are begun and not decided in one store
+abbrev pub max_open : ℕ
+max_open = 1024
+
+-- decisions that a coordinator tells at once
+abbrev pub max_batch : ℕ
+max_batch = 256
+
 -- the greatest place, epoch, number of a write and generation
 abbrev pub max_number : ℕ
 max_number = 9223372036854775807

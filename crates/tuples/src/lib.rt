@@ -9,6 +9,7 @@
 
 mod change;
 mod entry;
+mod freshness;
 mod grammar;
 mod id;
 mod laws;
@@ -19,6 +20,7 @@ mod object;
 mod part;
 mod participants;
 mod relation;
+mod request;
 mod sharding;
 mod spell;
 mod split;
@@ -30,14 +32,19 @@ mod write;
 
 pub use change::{Change, Changes, Condition, Conditions, Want};
 pub use entry::{Entry, WriteId};
+pub use freshness::Freshness;
 pub use id::Id;
 pub use laws::{a_text_is_of_one_tuple, a_text_is_of_one_tupleset, a_tuple_has_one_text};
-pub use limits::{MAX_CHANGES, MAX_CONDITIONS, MAX_NUMBER, MAX_SHARDS};
+pub use limits::{
+    MAX_ASKED, MAX_BATCH, MAX_CHANGES, MAX_CONDITIONS, MAX_FLOWS, MAX_LINE, MAX_NUMBER, MAX_OPEN,
+    MAX_SHARDS, MAX_WALKED, MAX_WATCHED,
+};
 pub use namespace::Namespace;
 pub use object::{Object, Userset};
 pub use part::{PartChanges, PartConditions, ShardPart};
 pub use refusal::Refusal;
 pub use relation::Relation;
+pub use request::Request;
 pub use sharding::shard_of;
 pub use tuple::Tuple;
 pub use tupleset::Tupleset;

@@ -5,6 +5,7 @@ ghost use Rattle.tuples.specs.Limits.{max_changes, max_conditions};
 ghost use Rattle.tuples.specs.Texts.{IsTuple};
 
 use crate::{Change, Changes, Condition, Conditions, MAX_CHANGES, MAX_CONDITIONS, Refusal, Tuple};
+use std::alloc::AllocError;
 use std::marker::Model;
 
 /// A write: 1 to 64 changes and up to 16 conditions, no tuple twice among the changes or among the conditions.
@@ -23,6 +24,17 @@ impl Model for Write {
     ghost view = { λ w. record { changes = w.changes; conditions = w.conditions } };
 
     ghost invariant = { λ w. IsWrite w.changes w.conditions };
+}
+
+impl Clone for Write {
+    ghost is_clone = { λ old new. new ≡ old };
+
+    fn clone(&self) -> Result<Write, AllocError> {
+        Ok(Write {
+            changes: self.changes.clone()?,
+            conditions: self.conditions.clone()?,
+        })
+    }
 }
 
 impl Write {

@@ -40,11 +40,7 @@ module _ (shards : ℕ) (left : NodeName → List Record → Type 0) (now : Mome
     heads = if_some v (AreRightHeads r now.machine) right;
     place = k.place;
     nothing = k.nothing;
-    asked = k.asked;
-    once = k.once;
-    reached = k.reached;
-    none = k.none;
-    further = k.further;
+    walk = k.walk;
     batch = k.batch;
   }
   heads_held (to_watch c limit names) (watching h) k = held_heads h k

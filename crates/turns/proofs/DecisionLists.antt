@@ -1,14 +1,10 @@
 -- The coordinator of a store that stands stages a decision: what is known of the nodes then.
-use Rattle.std.proofs.Common.{◌≡◌, ◌≢◌, ⊎_elim, ℕ, zero, suc, ◌≤◌, false, List, [], ◌∷◌, ◌++◌, length, Some, Contains, refl, sym, ◌∙◌, ap, arith, slice_get}
+use Rattle.std.proofs.Common.{◌≡◌, ◌≢◌, ⊎_elim, ℕ, zero, suc, ◌≤◌, false, List, [], ◌∷◌, length, Some, Contains, refl, sym, ◌∙◌, ap, arith, slice_get}
 use Rattle.std.proofs.lemmas.Bool.{cases_Bool, both_ways}
 use Rattle.turns.proofs.Words.{AreNew, Entry, WriteId, of_without, same_id, without}
 use Rattle.replay.proofs.Doubts.{same_id_refl, same_id_true}
 use Rattle.turns.proofs.ShardStagesStands.{contained_at, contained_from}
-
-pub slice_get_longer : {X : Type 0} (xs ys : List X) (i : ℕ) (x : X) → slice_get xs i ≡ Some x → slice_get (xs ++ ys) i ≡ Some x
-slice_get_longer [] ys i x is = absurd cc
-slice_get_longer (y ∷ xs) ys zero x is = is
-slice_get_longer (y ∷ xs) ys (suc i) x is = slice_get_longer xs ys i x is
+pub use Rattle.laws.proofs.Lists.{slice_get_longer}
 
 -- a write that stays among those without one
 pub stays_without : (id : WriteId) (ws : List Entry) (v : Entry) → v.id ≢ id → Contains ws v → Contains (without id ws) v

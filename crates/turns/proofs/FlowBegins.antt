@@ -1,12 +1,13 @@
 -- A flow begins: what the others hold stays right, and it holds nothing that is wrong.
-use Rattle.std.proofs.Common.{◌≡◌, ◌⊎◌, inl, inr, ⊎_elim, ◌==◌, ℕ, zero, suc, Bool, true, false, true≢false, List, [], ◌∷◌, ◌++◌, Option, Some, None, slice_get, slice_index_or, Contains, refl, sym, ◌∙◌, ap, subst, arith, if◌then◌else◌}
+use Rattle.std.proofs.Common.{◌≡◌, inl, ⊎_elim, ◌==◌, ℕ, zero, suc, Bool, true, false, true≢false, List, [], ◌∷◌, ◌++◌, Option, Some, None, slice_get, slice_index_or, Contains, refl, sym, ◌∙◌, ap, subst, arith, if◌then◌else◌}
 use Rattle.std.proofs.lemmas.Bool.{eq-eqb}
-use Rattle.std.proofs.lemmas.List.Elements.{All-nil, Contains-append_cases, Contains-append_right}
+use Rattle.std.proofs.lemmas.List.Elements.{All-nil, Contains-append_right}
 use Rattle.std.proofs.lemmas.Option.{none-some, same_Some}
-use Rattle.turns.proofs.Words.{AreHeldHeads, Asked, Entry, HasSeenBelow, IsQuietFlow, IsRight, IsRightResolved, IsRightSettled, IsRightVerdict, Moment, NodeName, Record, Refusal, Running, Userset, WriteId, begun, flow_at, id_of, named_by, onward, outward, to_check, to_collect, to_flush, to_learn, to_raise, to_read, to_resolve, to_watch, to_write, with_flow}
+use Rattle.turns.proofs.Words.{AreHeldHeads, Asked, Entry, HasSeenBelow, IsQuietFlow, IsRight, IsRightResolved, IsRightSettled, IsRightVerdict, Moment, NodeName, Record, Refusal, Running, WriteId, begun, flow_at, id_of, named_by, onward, outward, to_check, to_collect, to_flush, to_learn, to_raise, to_read, to_resolve, to_watch, to_write, with_flow}
 use Rattle.turns.specs.Flows.{nothing_held}
 use Rattle.turns.specs.FlowLaws.{FlowsBegin}
 use Rattle.turns.proofs.Frames.{KeepsStore, KeepsWrite, frame, same_doubts, same_knew}
+pub use Rattle.laws.proofs.Lists.{among}
 
 module _ (shards : ℕ) (left : NodeName → List Record → Type 0) (now : Moment) (running : List Running) (told : List WriteId) (named : List ℕ) where
   -- the moment with other flows
@@ -72,14 +73,6 @@ no_id (to_collect s) = refl
 pub alone : {X : Type 0} (x : X) (xs : List X) → Contains (x ∷ xs) x
 alone x xs = (0, omega arith, refl)
 
--- one of a list that begins with another is the first, or one of the rest
-pub among : {X : Type 0} (x y : X) (xs : List X) → Contains (x ∷ xs) y → (x ≡ y) ⊎ Contains xs y
-among x y xs has = ⊎_elim (λ first. inl (only first)) (λ rest. inr rest) (Contains-append_cases (x ∷ []) xs y has)
-  where
-    only : Contains (x ∷ []) y → x ≡ y
-    only (zero, lt, is) = is
-    only (suc k, lt, is) = absurd (omega (arith, lt))
-
 module _ (store shards : ℕ) (left : NodeName → List Record → Type 0) (now : Moment) (slot : ℕ) where
   no_heads_right : (asked : Asked) → AreHeldHeads shards left (with_flow now slot asked) (begun slot asked) (record { heads = None; batch = None })
   no_heads_right asked = record { heads = λ h is. absurd (none-some _ is); batch = λ b is. absurd (none-some _ is) }
@@ -111,20 +104,9 @@ module _ (store shards : ℕ) (left : NodeName → List Record → Type 0) (now 
     heads = λ h is. absurd (none-some _ is);
     place = λ s is. absurd (none-some _ is);
     nothing = λ none. (refl, refl);
-    asked = alone x [];
-    once = only_one;
-    reached = λ s y is has. absurd (none-some _ is);
-    none = λ s y is has. absurd (none-some _ is);
-    further = λ s y z is has holds. absurd (none-some _ is);
+    walk = λ s is. absurd (none-some _ is);
     batch = λ b is. absurd (none-some _ is);
   }
-    where
-      only_one : (i j : ℕ) (y : Userset) → slice_get (x ∷ []) i ≡ Some y → slice_get (x ∷ []) j ≡ Some y → i ≡ j
-      only_one zero zero y is_i is_j = refl
-      only_one zero (suc zero) y is_i is_j = absurd (none-some _ is_j)
-      only_one zero (suc (suc j)) y is_i is_j = absurd (none-some _ is_j)
-      only_one (suc zero) j y is_i is_j = absurd (none-some _ is_i)
-      only_one (suc (suc i)) j y is_i is_j = absurd (none-some _ is_i)
   begun_right (to_watch c limit names) = no_heads_right (to_watch c limit names)
   begun_right (to_flush n) = tt
   begun_right (to_learn s) = no_heads_right (to_learn s)

@@ -3,8 +3,9 @@ use Rattle.std.proofs.Common.{◌≡◌, ◌⊎◌, inl, inr, ⊎_elim, ℕ, zer
 use Rattle.std.proofs.Math.Path.{fun_ext}
 use Rattle.std.proofs.lemmas.List.{drop-take, take-take}
 use Rattle.std.specs.List.{flat_map}
-use Rattle.turns.proofs.Words.{AreHeldHeads, AreRightHeads, Asked, BatchValue, CoordinatorKnows, CoordinatorState, DecidedValue, Entry, Freshness, HeadsHeld, HeadsValue, HeldTicket, HeldVote, HoldAfter, Holds, IntentValue, IsAsWanted, IsGivenOut, IsOpen, IsPlaceOf, IsReached, IsRight, IsRightBatch, IsRightDecision, IsRightIntent, IsRightOwn, IsRightResolved, IsRightTicket, IsRightVerdict, IsRightVote, IsSelection, IsSettled, IsShardEpoch, IsStaged, IsUndecided, IsUnlisted, Moment, NodeName, NodeState, Record, Resolved, Running, Set, ShardKnows, ShardState, Tuple, WasGiven, WriteHolds, WriteId, aborted, at_least, checking, collecting, committed, coordinator, down, exact, find_in_doubt, flushing, holding, id_of, latest, learning, leaves, own_write, part, raising, reading, resolving, shard, shard_of, shard_state, slice_get_taken, staged_of, takes_part, there_after, there_below, to_check, to_collect, to_flush, to_learn, to_raise, to_read, to_resolve, to_watch, to_write, undecided, watching, writing}
+use Rattle.turns.proofs.Words.{AreHeldHeads, AreRightHeads, Asked, BatchValue, CoordinatorKnows, CoordinatorState, DecidedValue, Entry, Freshness, HeadsHeld, HeadsValue, HeldTicket, HeldVote, HoldAfter, Holds, IntentValue, IsAsWanted, IsGivenOut, IsOpen, IsPlaceOf, IsRight, IsRightBatch, IsRightDecision, IsRightIntent, IsRightOwn, IsRightResolved, IsRightTicket, IsRightVerdict, IsRightVote, IsSelection, IsSettled, IsShardEpoch, IsStaged, IsUndecided, IsUnlisted, Moment, NodeName, NodeState, Record, Resolved, Running, ShardKnows, ShardState, Tuple, WasGiven, WriteHolds, WriteId, aborted, at_least, checking, collecting, committed, coordinator, down, exact, find_in_doubt, flushing, id_of, latest, learning, leaves, own_write, part, raising, reading, resolving, shard, shard_of, shard_state, slice_get_taken, staged_of, takes_part, there_after, there_below, to_check, to_collect, to_flush, to_learn, to_raise, to_read, to_resolve, to_watch, to_write, undecided, watching, writing}
 use Rattle.tuples.specs.Log.{is_at}
+use Rattle.laws.specs.Walks.{IsWalk}
 use Rattle.decisions.specs.Standing.{IsPromised}
 
 -- one of the first of a list
@@ -276,7 +277,7 @@ module _ (shards : ℕ) (left after : NodeName → List Record → Type 0) (now 
         done = λ s i q rows is at row. subst (λ (there : Tuple → Bool). IsSelection there q rows) (same_at s (k.place s is).kept) (k.done s i q rows is at row);
         few = k.few;
         rows = λ s q is at.
-            let same : there_below shards left h.below now.machine.log s ≡ there_below shards after h.below later.machine.log s =
+            let same : there_below shards h.below now.machine.log s ≡ there_below shards h.below later.machine.log s =
             fun_ext (λ t. ap (λ (there : Tuple → Bool). there t && nat_lt (shard_of shards t.object) h.below) (same_at s (k.place s is).kept)) in
             subst (λ (there : Tuple → Bool). IsSelection there q h.rows) same (k.rows s q is at);
         nothing = k.nothing;
@@ -286,11 +287,7 @@ module _ (shards : ℕ) (left after : NodeName → List Record → Type 0) (now 
         heads = λ y is. heads_on y (k.heads y is);
         place = λ s is. place_on fresh s (k.place s is);
         nothing = k.nothing;
-        asked = k.asked;
-        once = k.once;
-        reached = λ s y is has. subst (λ (there : Tuple → Bool). IsReached there x y) (same_at s (k.place s is).kept) (k.reached s y is has);
-        none = λ s y is has. subst (λ (there : Tuple → Bool). there (holding y u) ≡ false) (same_at s (k.place s is).kept) (k.none s y is has);
-        further = λ s y z is has here. k.further s y z is has (subst (λ (there : Tuple → Bool). there (holding y (Set z)) ≡ true) (sym (same_at s (k.place s is).kept)) here);
+        walk = λ s is. subst (λ (there : Tuple → Bool). IsWalk there x u h.walked h.waiting) (same_at s (k.place s is).kept) (k.walk s is);
         batch = λ b is. batch_on b (k.batch b is);
       }
       frame (to_watch c limit names) (watching h) own k = held_on h k

@@ -55,7 +55,6 @@ pub mod CoordinatorOpeningSeam
 pub mod FlushTurn
 pub mod FailedFlushTurn
 pub mod ShardFlushTurn
-pub mod OnceEach
 pub mod CheckWalk
 pub mod AnswerTurns
 pub mod SeesOn

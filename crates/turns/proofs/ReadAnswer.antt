@@ -1,69 +1,33 @@
 -- What shards answer, one after another, is what a tupleset selects of the whole store.
-use Rattle.std.proofs.Common.{◌≡◌, ◌⊎◌, inl, inr, ⊎_elim, ◌==◌, ◌&&◌, ℕ, Bool, true, false, ◌≤◌, ◌<◌, ◌+◌, nat_lt, List, [], ◌∷◌, ◌++◌, length, take, Some, None, slice_get, refl, sym, ◌∙◌, ap, subst, arith}
+use Rattle.std.proofs.Common.{◌≡◌, inl, inr, ⊎_elim, ◌==◌, ◌&&◌, ℕ, Bool, ◌≤◌, ◌<◌, ◌+◌, List, [], ◌∷◌, ◌++◌, length, take, Some, None, slice_get, refl, sym, ◌∙◌, ap, subst, arith}
 use Rattle.std.proofs.Math.Path.{fun_ext}
-use Rattle.std.proofs.lemmas.Bool.{and_from, and_parts, both_ways, cases_Bool, cases_lt, eq-eqb, eqb-true, lt-ltb, ltb-true}
-use Rattle.std.proofs.lemmas.List.{length_push, take-take}
+use Rattle.std.proofs.lemmas.List.{length_push}
 use Rattle.std.proofs.lemmas.Option.{same_Some, slice_get_within}
-use Rattle.std.specs.List.{flat_map}
-use Rattle.tuples.specs.declared.entry.Entry.{Entry}
 use Rattle.tuples.specs.declared.tuple.Tuple.{Tuple}
 use Rattle.tuples.specs.declared.tupleset.Tupleset.{Tupleset}
-use Rattle.tuples.specs.declared.tupleset.Tupleset.TheVariants.{Key, OfObject, OfUser}
-use Rattle.tuples.specs.Log.{is_at, there_after}
-use Rattle.tuples.specs.Order.{object_cmp}
+use Rattle.tuples.specs.Log.{is_at}
 use Rattle.tuples.specs.Parts.{shard_of}
-use Rattle.tuples.specs.Reads.{IsSelection, has_relation, meets}
+use Rattle.tuples.specs.Reads.{IsSelection}
 use Rattle.tuples.specs.Versions.{there_at}
-use Rattle.tuples.proofs.Named.{shard_below}
-use Rattle.tuples.proofs.Same.{object_same, tuple_same}
-use Rattle.std.specs.Ordering.{is_eq}
 use Rattle.records.specs.declared.record.Record.{Record}
 use Rattle.records.specs.Coordinators.{coordinator_state}
 use Rattle.records.specs.Replays.{ShardState}
 use Rattle.turns.specs.Flows.{Freshness, ReadHolds}
-use Rattle.turns.specs.Held.{IsRightRead, there_below}
+use Rattle.turns.specs.Held.{IsRightRead}
 use Rattle.turns.specs.Moments.{Moment, Running}
 use Rattle.laws.specs.Nodes.{NodeName, NodeState, ShardKnows, coordinator, leaves, shard, staged_of}
-use Rattle.turns.specs.ReadingLaws.{IsMerged, IsReading, IsShardReply, NeedsOnly, OneShardIsEnough, ReadsAgree, ReadsAskAll, ReadsBegin, ReadsFinishOne, ReadsGoOn, RepliesSelect, ShardRowsShowSnapshots, there_of}
+use Rattle.turns.specs.ReadingLaws.{IsMerged, IsReading, IsShardReply, ReadsAgree, ReadsAskAll, ReadsBegin, ReadsFinishOne, ReadsGoOn, RepliesSelect, ShardRowsShowSnapshots, there_of}
 use Rattle.turns.specs.Replies.{IsPlaceOf, IsReadAnswer}
-use Rattle.laws.specs.Shards.{ShardMeans}
+use Rattle.laws.specs.Shards.{ShardMeans, there_below}
 use Rattle.turns.specs.Stands.{Stands}
 use Rattle.laws.proofs.Lists.{slice_get_push, slice_get_taken}
 use Rattle.laws.proofs.Logs.{log_taken}
+use Rattle.laws.proofs.ReadRows.{first_writes, none_below, rows_go_on, rows_of_all}
 use Rattle.laws.proofs.ShardRows.{rows_show_parts}
 
 pub shard_rows_show_snapshots : ShardRowsShowSnapshots
 shard_rows_show_snapshots shards s log hc h state place t is_log m above within =
     rows_show_parts shards s log state.rows state.learned state.horizon place t (λ j w at. is_log.whole j w (slice_get_taken state.learned log j w at)) m.rows above within
-
--- what meets a tupleset of one object has that object's shard
-meets_there : (shards s : ℕ) (q : Tupleset) (t : Tuple) → NeedsOnly shards q s → meets q t ≡ true → shard_of shards t.object ≡ s
-meets_there shards s (Key k) t needs is = ap (λ (u : Tuple). shard_of shards u.object) (tuple_same t k is) ∙ sym needs
-meets_there shards s (OfObject o relation) t needs is = ap (shard_of shards) (object_same t.object o (and_parts (is_eq (object_cmp t.object o)) (has_relation relation t) is).0) ∙ sym needs
-meets_there shards s (OfUser n u relation) t needs is = absurd needs
-
-pub one_shard_is_enough : OneShardIsEnough
-one_shard_is_enough shards s log place q rows needs selects = record {
-  ascending = selects.ascending;
-  exact = λ t. (
-    λ has. let is = (selects.exact t).0 has in ((and_parts (is_at log place t) (shard_of shards t.object == s) is.0).0, is.1),
-    λ is. (selects.exact t).1 (and_from (is_at log place t) (shard_of shards t.object == s) is.0 (eq-eqb (shard_of shards t.object) s (meets_there shards s q t needs is.1)), is.1),
-  );
-}
-
-first_writes : (log : List Entry) (n place : ℕ) → place ≤ n → (t : Tuple) → is_at (take n log) place t ≡ is_at log place t
-unfolding is_at
-first_writes log n place le t = ap (λ (l : List Entry). there_after t false (flat_map (λ (v : Entry). v.changes) l)) (take-take place n log le)
-
--- of the shards below the first nothing is selected
-none_below : (shards : ℕ) (left : NodeName → List Record → Type 0) (log : List Entry) (s : ℕ) (q : Tupleset) → IsSelection (there_below shards left 0 log s) q []
-none_below shards left log s q = record {
-  ascending = tt;
-  exact = λ t. (
-    λ has. absurd (omega (arith, has.1)),
-    λ is. let lt : shard_of shards t.object < 0 = ltb-true _ _ (and_parts (is_at log s t) (nat_lt (shard_of shards t.object) 0) is.0).1 in absurd (omega (arith, lt)),
-  );
-}
 
 pub reads_begin : (store shards : ℕ) (left : NodeName → List Record → Type 0) → ReadsBegin store shards left
 reads_begin store shards left now r fresh sets h place right none found =
@@ -73,8 +37,8 @@ reads_begin store shards left now r fresh sets h place right none found =
       place = λ s is. subst (IsPlaceOf fresh r now.machine) (same_Some place s is) found;
       done = λ s i q rows is at_set at_row. let within = slice_get_within h.done i rows at_row in absurd (omega (arith, within, ap length empty.0));
       few = right.few;
-      rows = λ s q is at. subst (λ (rows : List Tuple). IsSelection (there_below shards left h.below now.machine.log s) q rows) (sym empty.2)
-          (subst (λ (n : ℕ). IsSelection (there_below shards left n now.machine.log s) q []) (sym empty.1) (none_below shards left now.machine.log s q));
+      rows = λ s q is at. subst (λ (rows : List Tuple). IsSelection (there_below shards h.below now.machine.log s) q rows) (sym empty.2)
+          (subst (λ (n : ℕ). IsSelection (there_below shards n now.machine.log s) q []) (sym empty.1) (none_below shards now.machine.log s q));
       nothing = λ is. absurd cc;
       batch = right.batch;
     }
@@ -111,72 +75,17 @@ module _ (store shards : ℕ) (left : NodeName → List Record → Type 0) (now 
       few = right.few;
       rows = λ s p is at.
           let same : q ≡ p = same_Some q p (sym reading.next ∙ at) in
-          subst (λ (x : Tupleset). IsSelection (there_below shards left (h.below + 1) now.machine.log s) x merged) same
-          (subst (λ (x : ℕ). IsSelection (there_below shards left (h.below + 1) now.machine.log x) q merged) (same_place s reading.at_place is) selected);
+          subst (λ (x : Tupleset). IsSelection (there_below shards (h.below + 1) now.machine.log s) x merged) same
+          (subst (λ (x : ℕ). IsSelection (there_below shards (h.below + 1) now.machine.log x) q merged) (same_place s reading.at_place is) selected);
       nothing = λ none. let both : None ≡ Some place = sym none ∙ reading.at_place in absurd cc;
       batch = right.batch;
     }
       where
-        old : IsSelection (there_below shards left h.below now.machine.log place) q h.rows
-        old = right.rows place q reading.at_place reading.next
-
-        wider : (t : Tuple) → there_below shards left h.below now.machine.log place t ≡ true → there_below shards left (h.below + 1) now.machine.log place t ≡ true
-        wider t is =
-            let parts = and_parts (is_at now.machine.log place t) (nat_lt (shard_of shards t.object) h.below) is in
-            let lt : shard_of shards t.object < h.below = ltb-true _ _ parts.1 in
-            and_from (is_at now.machine.log place t) (nat_lt (shard_of shards t.object) (h.below + 1)) parts.0 (lt-ltb _ _ (omega (arith, lt)))
-
-        this : (t : Tuple) → there_of shards h.below now.machine.log place t ≡ true → there_below shards left (h.below + 1) now.machine.log place t ≡ true
-        this t is =
-            let parts = and_parts (is_at now.machine.log place t) (shard_of shards t.object == h.below) is in
-            let same : shard_of shards t.object ≡ h.below = eqb-true _ _ parts.1 in
-            and_from (is_at now.machine.log place t) (nat_lt (shard_of shards t.object) (h.below + 1)) parts.0 (lt-ltb _ _ (omega (arith, same)))
-
-        -- a tuple of the shards below the next number is of one below this, or of this shard
-        one_of : (t : Tuple) → there_below shards left (h.below + 1) now.machine.log place t ≡ true
-            → (there_below shards left h.below now.machine.log place t ≡ true) ⊎ (there_of shards h.below now.machine.log place t ≡ true)
-        one_of t is =
-            let parts = and_parts (is_at now.machine.log place t) (nat_lt (shard_of shards t.object) (h.below + 1)) is in
-            let lt : shard_of shards t.object < h.below + 1 = ltb-true _ _ parts.1 in
-            ⊎_elim
-            (λ its. inr (and_from (is_at now.machine.log place t) (shard_of shards t.object == h.below) parts.0 its))
-            (λ other. inl (and_from (is_at now.machine.log place t) (nat_lt (shard_of shards t.object) h.below) parts.0 (lt-ltb _ _ (less t lt other))))
-            (cases_Bool (shard_of shards t.object == h.below))
-          where
-            less : (u : Tuple) → shard_of shards u.object < h.below + 1 → (shard_of shards u.object == h.below) ≡ false → shard_of shards u.object < h.below
-            less u lt other = ⊎_elim
-                (λ (low : shard_of shards u.object < h.below). low)
-                (λ (high : h.below ≤ shard_of shards u.object). absurd (both_ways _ other (eq-eqb (shard_of shards u.object) h.below (omega (arith, lt, high)))))
-                (cases_lt (shard_of shards u.object) h.below)
-
-        selected : IsSelection (there_below shards left (h.below + 1) now.machine.log place) q merged
-        selected = record {
-          ascending = merges.ascending;
-          exact = λ t. (
-            λ has. ⊎_elim
-                (λ before. let is = (old.exact t).0 before in (wider t is.0, is.1))
-                (λ new. let is = (selects.exact t).0 new in (this t is.0, is.1))
-                ((merges.has t).0 has),
-            λ is. (merges.has t).1 (⊎_elim
-                (λ before. inl ((old.exact t).1 (before, is.1)))
-                (λ new. inr ((selects.exact t).1 (new, is.1)))
-                (one_of t is.0)),
-          );
-        }
+        selected : IsSelection (there_below shards (h.below + 1) now.machine.log place) q merged
+        selected = rows_go_on shards now.machine.log place q h.below h.rows more merged (right.rows place q reading.at_place reading.next) selects merges
 
     pub reads_ask_all : (q : Tupleset) → 1 ≤ shards → IsReading sets h place q → h.below ≡ shards → IsSelection (is_at now.machine.log place) q h.rows
-    reads_ask_all q some reading all =
-        let old : IsSelection (there_below shards left h.below now.machine.log place) q h.rows = right.rows place q reading.at_place reading.next in
-        record {
-          ascending = old.ascending;
-          exact = λ t. (
-            λ has. let is = (old.exact t).0 has in ((and_parts (is_at now.machine.log place t) (nat_lt (shard_of shards t.object) h.below) is.0).0, is.1),
-            λ is. (old.exact t).1 (
-              and_from (is_at now.machine.log place t) (nat_lt (shard_of shards t.object) h.below) is.0 (lt-ltb _ _ (let lt = shard_below shards t.object some in omega (arith, lt, all))),
-              is.1,
-            ),
-          );
-        }
+    reads_ask_all q some reading all = rows_of_all shards now.machine.log place q h.rows h.below some all (right.rows place q reading.at_place reading.next)
 
     pub reads_finish_one : (q : Tupleset) (rows : List Tuple) → IsReading sets h place q → IsSelection (is_at now.machine.log place) q rows
         → IsRightRead shards left now r fresh sets (record h { done = h.done ++ rows ∷ []; below = 0; rows = [] })
@@ -192,7 +101,7 @@ module _ (store shards : ℕ) (left : NodeName → List Record → Type 0) (now 
           (subst (λ (x : List Tuple). IsSelection (is_at now.machine.log place) q x) new.1 selects)))
           (slice_get_push h.done rows row i at_row);
       few = let lt : length h.done < length sets = slice_get_within sets (length h.done) q reading.next in omega (arith, lt, length_push h.done rows);
-      rows = λ s p is at. none_below shards left now.machine.log s p;
+      rows = λ s p is at. none_below shards now.machine.log s p;
       nothing = λ none. let both : None ≡ Some place = sym none ∙ reading.at_place in absurd cc;
       batch = right.batch;
     }

@@ -97,11 +97,7 @@ module _ (r : Running) (holds : Holds) (m : Machine) where
       heads = λ heads is. heads_on now.machine heads (k.heads heads is);
       place = λ s is. place_on fresh now.machine s (k.place s is);
       nothing = k.nothing;
-      asked = k.asked;
-      once = k.once;
-      reached = k.reached;
-      none = k.none;
-      further = k.further;
+      walk = k.walk;
       batch = right;
     }
     right_on (to_watch c limit names) (watching h) k = held_on h k

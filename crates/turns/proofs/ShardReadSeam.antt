@@ -8,7 +8,8 @@ use Rattle.turns.specs.ShardSeamLaws.{ReadOneTurns, ReadTurns, RefusedReadsHaveC
 use Rattle.turns.proofs.Batches.{known_means, shards_settle}
 use Rattle.turns.proofs.FlowBegins.{alone}
 use Rattle.turns.proofs.QuietTurns.{nothing_changes, quiet_calls_turn}
-use Rattle.turns.proofs.ReadAnswer.{all_replies_select, one_shard_is_enough, reads_finish, reads_go_on_all}
+use Rattle.turns.proofs.ReadAnswer.{all_replies_select, reads_finish, reads_go_on_all}
+use Rattle.laws.proofs.ReadRows.{one_shard_is_enough}
 use Rattle.turns.proofs.SeesOn.{sees_on}
 use Rattle.turns.proofs.ShardSeam.{known_left, knows}
 

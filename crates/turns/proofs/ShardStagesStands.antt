@@ -1,16 +1,10 @@
 -- A shard of a store that stands stages one record more, and the store stands as before.
-use Rattle.std.proofs.Common.{◌≡◌, ◌⊎◌, inl, inr, ⊎_elim, ℕ, ◌≤◌, List, [], ◌∷◌, ◌++◌, length, Some, Contains, refl, sym, ◌∙◌, ap, subst, arith, slice_get, false}
+use Rattle.std.proofs.Common.{◌≡◌, ◌⊎◌, inl, inr, ⊎_elim, ℕ, ◌≤◌, List, [], ◌∷◌, ◌++◌, length, Some, Contains, refl, sym, ◌∙◌, ap, subst, arith, false}
 use Rattle.std.proofs.lemmas.List.Elements.{Contains-push_cases}
-use Rattle.std.proofs.lemmas.Option.{get_or_from_slice_get, slice_get-get_or, slice_get_within}
 use Rattle.turns.proofs.Words.{AreApart, AreNew, Entry, Epoch, FlowsStand, HeadsStand, IdsStand, IsOfRefusedOpening, IsStaging, ListedStand, LocksStand, Means, Moment, NodeName, NodeState, Nodes, NodesStand, Record, Refusal, Rests, Running, ShardMeans, Stands, WasGiven, at_shards, coordinator, doubts_apart, id_of, leaves, less_rests, refused, same_or_not, shard, shard_node, shard_state, staged_of, up, whole_rests, with_nodes}
 use Rattle.turns.proofs.ShardStages.{coordinator_knew, coordinator_left, durable_in, given_kept, left_now, longer, memory, memory_left, was_open, same_coordinator, same_given, same_open, shard_number, verdict_kept}
 use Rattle.turns.proofs.ShardStagesFlows.{StagesDoubts, kept_flow}
-
-pub contained_at : {X : Type 0} (xs : List X) (x : X) → Contains xs x → (i : ℕ) × (slice_get xs i ≡ Some x)
-contained_at xs x is = (is.0, slice_get-get_or xs is.0 x is.1 ∙ ap Some is.2)
-
-pub contained_from : {X : Type 0} (xs : List X) (i : ℕ) (x : X) → slice_get xs i ≡ Some x → Contains xs x
-contained_from xs i x is = (i, slice_get_within xs i x is, get_or_from_slice_get xs i x x is)
+pub use Rattle.laws.proofs.Lists.{contained_at, contained_from}
 
 module _ (store shards : ℕ) (left : NodeName → List Record → Type 0) (now : Moment) (next : Nodes) (s : ℕ) (r : Record) (st : IsStaging store shards left now next s r) where
   -- The record is no opening, leaves all nodes at rest, and prepares only what was given out.

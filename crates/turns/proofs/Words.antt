@@ -18,7 +18,7 @@ pub use Rattle.laws.specs.LogLaws.{IsUnlisted}
 pub use Rattle.laws.specs.Machines.{Machine, Makes, Move, Moves, append, cut, keep, raise}
 pub use Rattle.laws.specs.Nodes.{CoordinatorKnows, IsGivenBy, IsOfRefusedOpening, IsThere, NodeName, NodeState, NodeTurns, Nodes, SameBut, ShardKnows, StandFor, coordinator, down, leaves, refused, shard, staged_of, up}
 pub use Rattle.laws.specs.ShardLaws.{AreOfLog, IsUnlistedAbove}
-pub use Rattle.laws.specs.Shards.{ShardMeans}
+pub use Rattle.laws.specs.Shards.{ShardMeans, there_below}
 pub use Rattle.laws.specs.Worlds.{IsMeaning, Means, Rests, coordinator_node, shard_node}
 pub use Rattle.records.specs.Coordinators.{CoordinatorState, IsCoordinatorImage, MayDecide, MayRaise, coordinator_from, coordinator_state, empty_coordinator, end_of}
 pub use Rattle.records.specs.Format.{IsRecord}
@@ -58,7 +58,7 @@ pub use Rattle.turns.specs.DecidingLaws.{IsDecider, IsDeciding, StandsButFor, wi
 pub use Rattle.turns.specs.FlowLaws.{IsBegin, with_flow, with_intent, with_open}
 pub use Rattle.turns.specs.Flows.{Asked, CheckHolds, Freshness, HeadsHeld, HeldTicket, HeldVote, Holds, RaiseHolds, ReadHolds, Resolved, WriteHolds, aborted, at_least, checking, collecting, committed, exact, flushing, id_of, latest, learning, learning as learns, onward, outward, place_of, raising, reading, resolving, to_check, to_collect, to_flush, to_learn, to_raise, to_read, to_resolve, to_watch, to_write, undecided, watching, writing}
 pub use Rattle.turns.specs.FlushLaws.{FailsFlush, FlushesCoordinator, FlushesShard, all_kept}
-pub use Rattle.turns.specs.Held.{AreHeldHeads, AreRightHeads, HoldsOf, IfHeld, IsOpen, IsRight, IsRightBatch, IsRightCheck, IsRightDecision, IsRightIntent, IsRightOwn, IsRightRaise, IsRightRead, IsRightResolve, IsRightResolved, IsRightSettled, IsRightTicket, IsRightVerdict, IsRightVote, IsRightWrite, IsStaged, IsUndecided, WasGiven, own_write, there_below}
+pub use Rattle.turns.specs.Held.{AreHeldHeads, AreRightHeads, HoldsOf, IfHeld, IsOpen, IsRight, IsRightBatch, IsRightCheck, IsRightDecision, IsRightIntent, IsRightOwn, IsRightRaise, IsRightRead, IsRightResolve, IsRightResolved, IsRightSettled, IsRightTicket, IsRightVerdict, IsRightVote, IsRightWrite, IsStaged, IsUndecided, WasGiven, own_write}
 pub use Rattle.turns.specs.Moments.{Moment, Running, WasKept, begun, ended, flow_at, is_write, replaced}
 pub use Rattle.turns.specs.NewStores.{only_opened, opened, opened_nodes, opening_of}
 pub use Rattle.turns.specs.OpeningLaws.{OpensShard}

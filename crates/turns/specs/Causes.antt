@@ -1,5 +1,6 @@
 -- The cause of each refusal of a flow, true at the call that gave it.
 use Rattle.std.specs.Prelude.{◌≡◌, ◌≢◌, ◌⊎◌, ◌≤◌, ◌<◌, ◌+◌, ◌-◌, ℕ, true, false, List, [], ◌∷◌, ◌++◌, length, drop, take, Option, None, Some, Contains, slice_get}
+use Rattle.tuples.specs.Limits.{max_open, max_walked}
 use Rattle.tuples.specs.declared.change.Condition.{Condition}
 use Rattle.tuples.specs.declared.change.Want.TheVariants.{NotAfter}
 use Rattle.tuples.specs.declared.change.Change.{Change}
@@ -26,7 +27,7 @@ use Rattle.decisions.specs.Standing.{DecidedValue}
 use Rattle.shard.specs.Shards.{placed_ids_from}
 use Rattle.laws.specs.Machines.{Machine}
 use Rattle.laws.specs.Nodes.{NodeName, coordinator, shard, up, down, refused, Nodes, ShardKnows, CoordinatorKnows}
-use Rattle.turns.specs.Flows.{id_of, place_of, Freshness, latest, at_least, exact, Asked, to_write, to_read, to_check, to_watch, to_flush, to_learn, to_resolve, to_raise, to_collect, HeldTicket, Holds, checking, most_walked, reading, writing}
+use Rattle.turns.specs.Flows.{id_of, place_of, Freshness, latest, at_least, exact, Asked, to_write, to_read, to_check, to_watch, to_flush, to_learn, to_resolve, to_raise, to_collect, HeldTicket, Holds, checking, reading, writing}
 use Rattle.turns.specs.Moments.{Moment, Running, WasKept}
 use Rattle.turns.specs.Replies.{IsPlaceOf}
 
@@ -204,13 +205,13 @@ pub record HasFullBatch (shards : ℕ) (n : NodeName) (now : Moment) (r : Runnin
 
 -- a write meets a limit of the coordinator: of open writes, of numbers or of places
 abbrev pub HasNoNumber : Moment → Type 0
-HasNoNumber now = (1024 ≤ length now.nodes.open_writes) ⊎ ((greatest_number ≤ now.nodes.given) ⊎ (greatest_number ≤ length now.machine.log))
+HasNoNumber now = (max_open ≤ length now.nodes.open_writes) ⊎ ((greatest_number ≤ now.nodes.given) ⊎ (greatest_number ≤ length now.machine.log))
 
 -- Full: a limit is met: of the node that is called, or of the usersets that a check walks at its place
 abbrev pub IsFull : ℕ → NodeName → Moment → Running → Asked → Type 0
 IsFull shards n now r (to_write changes conditions) = HasFullBatch shards n now r ⊎ ((n ≡ coordinator) × HasNoNumber now)
 IsFull shards n now r (to_check fresh x u) = HasFullBatch shards n now r
-    ⊎ ((s : ℕ) × (place_of r.holds ≡ Some s) × IsPlaceOf fresh r now.machine s × ReachesMoreThan most_walked (is_at now.machine.log s) x)
+    ⊎ ((s : ℕ) × (place_of r.holds ≡ Some s) × IsPlaceOf fresh r now.machine s × ReachesMoreThan max_walked (is_at now.machine.log s) x)
 IsFull shards n now r asked = HasFullBatch shards n now r
 
 -- The cause of a refusal by this node, which the turn calls, and which is open, seen before the call and, of what fails in it, behind it. Requests were

@@ -1,5 +1,6 @@
 -- Laws of checks: what a shard answers of one userset, what a check holds behind it, and what it answers.
 use Rattle.std.specs.Prelude.{◌≡◌, ◌≤◌, ◌<◌, ℕ, true, false, List, [], length, Some, None, Contains}
+use Rattle.tuples.specs.Limits.{max_walked}
 use Rattle.refusal.specs.declared.refusal.Refusal.TheVariants.{Full}
 use Rattle.tuples.specs.declared.object.Userset.{Userset}
 use Rattle.tuples.specs.declared.tuple.Tuple.{Tuple}
@@ -14,7 +15,7 @@ use Rattle.records.specs.Replays.{ShardState}
 use Rattle.laws.specs.Nodes.{NodeName, ShardKnows, coordinator}
 pub use Rattle.decisions.specs.Walks.{IsOneMore, Walks}
 use Rattle.turns.specs.Causes.{IsCause}
-use Rattle.turns.specs.Flows.{CheckHolds, Freshness, most_walked, place_of, to_check}
+use Rattle.turns.specs.Flows.{CheckHolds, Freshness, place_of, to_check}
 use Rattle.turns.specs.Held.{IsRightCheck}
 use Rattle.turns.specs.Moments.{Moment, Running}
 use Rattle.turns.specs.Replies.{IsCheckAnswer, IsPlaceOf}
@@ -63,4 +64,4 @@ module _ (store shards : ℕ) (left : NodeName → List Record → Type 0) where
   -- where as many were walked as may be, and one waits still, Full has its cause, whichever node was called
   abbrev pub FullChecksHaveCause : Type 0
   FullChecksHaveCause = (n : NodeName) (now after : Moment) (r : Running) (fresh : Freshness) (x : Userset) (u : User) (h : CheckHolds) (place : ℕ) (y : Userset) → r.asked ≡ to_check fresh x u
-      → place_of r.holds ≡ Some place → IsRightCheck shards left now r fresh x u h → h.place ≡ Some place → most_walked ≤ length h.walked → Contains h.waiting y → IsCause shards n now after r Full
+      → place_of r.holds ≡ Some place → IsRightCheck shards left now r fresh x u h → h.place ≡ Some place → max_walked ≤ length h.walked → Contains h.waiting y → IsCause shards n now after r Full

@@ -8,6 +8,7 @@ use Rattle.tuples.specs.declared.change.Change.{Change}
 use Rattle.tuples.specs.declared.change.Condition.{Condition}
 use Rattle.tuples.specs.declared.entry.Entry.{Entry}
 use Rattle.tuples.specs.declared.entry.WriteId.{WriteId}
+use Rattle.tuples.specs.Limits.{max_batch}
 use Rattle.journal.specs.Records.{HasNoRoom}
 use Rattle.records.specs.declared.record.Record.{Record}
 use Rattle.records.specs.declared.record.Record.TheVariants.{Decision, Horizon}
@@ -145,7 +146,7 @@ module _ (store shards : ℕ) (left : NodeName → List Record → Type 0) where
     -- the decisions behind a place are those of the log, and so many
     abbrev pub BatchAnswers : Type 0
     BatchAnswers = (now : Moment) (v : CoordinatorView D) (from to : ℕ) (b : BatchValue) → Stands store shards left now → IsSeen now.nodes v → from ≤ to → BatchesAt v from to b
-        → IsRightBatch now.machine b × (length b.writes ≡ min (to - from) 256)
+        → IsRightBatch now.machine b × (length b.writes ≡ min (to - from) max_batch)
 
     -- the flow holds them, in a turn
     abbrev pub BatchTurns : Type 0

@@ -1,6 +1,7 @@
 -- Laws of flows that begin, of writes that begin, and of flows that end: the store goes on to stand for the same machine.
 use Rattle.std.specs.Prelude.{◌≡◌, ◌<◌, ◌+◌, ℕ, List, [], ◌∷◌, ◌++◌, length, Some, None, Contains}
 use Rattle.tuples.specs.declared.entry.Entry.{Entry}
+use Rattle.tuples.specs.Limits.{max_flows, max_open}
 use Rattle.records.specs.declared.record.Record.{Record}
 use Rattle.records.specs.Coordinators.{CoordinatorState}
 use Rattle.laws.specs.Nodes.{NodeName, Nodes, CoordinatorKnows}
@@ -22,7 +23,7 @@ without_flow now slot = record now { running = ended slot now.running }
 module _ (store shards : ℕ) (left : NodeName → List Record → Type 0) where
   -- a flow begins in a free slot, where fewer than 1,024 run
   abbrev pub FlowsBegin : Type 0
-  FlowsBegin = (now : Moment) (slot : ℕ) (asked : Asked) → flow_at slot now.running ≡ None → length now.running < 1024
+  FlowsBegin = (now : Moment) (slot : ℕ) (asked : Asked) → flow_at slot now.running ≡ None → length now.running < max_flows
       → Stands store shards left now → Stands store shards left (with_flow now slot asked)
 
   -- a flow ends
@@ -38,7 +39,7 @@ module _ (store shards : ℕ) (left : NodeName → List Record → Type 0) where
     pub kept : CoordinatorState
     pub memory : CoordinatorState
     pub knows : CoordinatorKnows now.nodes kept memory
-    pub room : length now.nodes.open_writes < 1024
+    pub room : length now.nodes.open_writes < max_open
     pub epoch : w.id.epoch ≡ memory.epoch
     pub number : w.id.number ≡ now.nodes.given + 1
     pub running : Contains now.running r

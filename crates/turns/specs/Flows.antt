@@ -8,7 +8,8 @@ use Rattle.tuples.specs.declared.tupleset.Tupleset.{Tupleset}
 use Rattle.tuples.specs.declared.user.User.{User}
 use Rattle.tuples.specs.Changes.{IsWrite}
 use Rattle.records.specs.Replays.{greatest_number}
-pub use Rattle.decisions.specs.Flows.{Freshness, latest, at_least, exact, HeldTicket, HeldVote, Way, onward, outward, WriteHolds, ReadHolds, CheckHolds, HeadsHeld, Resolved, committed, aborted, undecided, ResolveHolds, RaiseHolds, nothing_begun, no_heads, nothing_read, nothing_raised, most_sets, most_namespaces, most_watched, most_walked}
+pub use Rattle.tuples.specs.Limits.{max_asked, max_walked, max_watched}
+pub use Rattle.decisions.specs.Flows.{Freshness, latest, at_least, exact, HeldTicket, HeldVote, Way, onward, outward, WriteHolds, ReadHolds, CheckHolds, HeadsHeld, Resolved, committed, aborted, undecided, ResolveHolds, RaiseHolds, nothing_begun, no_heads, nothing_read, nothing_raised}
 use Rattle.laws.specs.Nodes.{IsThere, NodeName}
 
 -- What a flow is asked: to write; to read, to check, to watch from a place on, so many places, in these namespaces; or to care for the
@@ -33,9 +34,9 @@ IsFreshness (exact place) = place ≤ greatest_number
 -- What is asked is whole and in range, as requests are once they were read, and of a node that is there.
 abbrev pub IsAsked : ℕ → Asked → Type 0
 IsAsked shards (to_write changes conditions) = IsWrite changes conditions
-IsAsked shards (to_read fresh sets) = IsFreshness fresh × (1 ≤ length sets) × (length sets ≤ most_sets)
+IsAsked shards (to_read fresh sets) = IsFreshness fresh × (1 ≤ length sets) × (length sets ≤ max_asked)
 IsAsked shards (to_check fresh x u) = IsFreshness fresh
-IsAsked shards (to_watch c limit names) = (c ≤ greatest_number) × (1 ≤ limit) × (limit ≤ most_watched) × (1 ≤ length names) × (length names ≤ most_namespaces)
+IsAsked shards (to_watch c limit names) = (c ≤ greatest_number) × (1 ≤ limit) × (limit ≤ max_watched) × (1 ≤ length names) × (length names ≤ max_asked)
 IsAsked shards (to_flush n) = IsThere shards n
 IsAsked shards (to_learn s) = s < shards
 IsAsked shards (to_resolve s) = s < shards

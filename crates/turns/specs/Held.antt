@@ -1,5 +1,5 @@
 -- What a running flow holds is right: one record for each kind of flow.
-use Rattle.std.specs.Prelude.{◌≡◌, ◌≢◌, ◌⊎◌, ◌≤◌, ◌<◌, ◌-◌, ℕ, Bool, true, false, ◌&&◌, nat_lt, List, [], ◌∷◌, ◌++◌, length, Option, Some, None, Contains, All, slice_get}
+use Rattle.std.specs.Prelude.{◌≡◌, ◌≢◌, ◌⊎◌, ◌≤◌, ◌<◌, ◌-◌, ℕ, true, false, List, [], ◌∷◌, ◌++◌, length, Option, Some, None, Contains, All, slice_get}
 use Rattle.tuples.specs.declared.change.Change.{Change}
 use Rattle.tuples.specs.declared.change.Condition.{Condition}
 use Rattle.tuples.specs.declared.entry.Entry.{Entry}
@@ -10,10 +10,8 @@ use Rattle.refusal.specs.declared.refusal.Refusal.TheVariants.{Unsure}
 use Rattle.tuples.specs.declared.tuple.Tuple.{Tuple}
 use Rattle.tuples.specs.declared.tupleset.Tupleset.{Tupleset}
 use Rattle.tuples.specs.declared.user.User.{User}
-use Rattle.tuples.specs.declared.user.User.TheVariants.{Set}
-use Rattle.tuples.specs.Checking.{AreOnce, IsReached, holding}
 use Rattle.tuples.specs.Log.{HoldAfter, is_at}
-use Rattle.tuples.specs.Parts.{part, shard_of, takes_part}
+use Rattle.tuples.specs.Parts.{part, takes_part}
 use Rattle.tuples.specs.Reads.{IsSelection}
 use Rattle.records.specs.declared.record.Record.{Record}
 use Rattle.records.specs.Coordinators.{CoordinatorState, coordinator_state}
@@ -22,6 +20,8 @@ use Rattle.decisions.specs.Values.{IntentValue, BatchValue}
 use Rattle.decisions.specs.Standing.{HeadsValue, DecidedValue, SettledValue, IsPromised, IsSettled, IsShardEpoch, IsGivenOut}
 use Rattle.laws.specs.LogLaws.{IsUnlisted}
 use Rattle.laws.specs.ShardLaws.{AreOfLog, IsUnlistedAbove}
+use Rattle.laws.specs.Shards.{there_below}
+use Rattle.laws.specs.Walks.{IsWalk}
 use Rattle.laws.specs.Machines.{Machine}
 use Rattle.laws.specs.Nodes.{NodeName, coordinator, shard, up, down, Nodes, leaves, ShardKnows, CoordinatorKnows, IsGivenBy}
 use Rattle.turns.specs.Flows.{Freshness, Asked, to_write, to_read, to_check, to_watch, to_flush, to_learn, to_resolve, to_raise, to_collect, HeldTicket, HeldVote, onward, outward, WriteHolds, ReadHolds, CheckHolds, HeadsHeld, ResolveHolds, RaiseHolds, Resolved, committed, aborted, undecided, Holds, writing, reading, checking, watching, flushing, learning, resolving, raising, collecting}
@@ -150,10 +150,6 @@ module _ (shards : ℕ) (left : NodeName → List Record → Type 0) where
     pub cancelled : r.is_cancelled ≡ true → r.decided ≡ None → (met : Option Refusal) × (h.way ≡ outward met)
     pub refused_or_cancelled : h.way ≡ outward None → r.is_cancelled ≡ true
 
-  -- a tuple that was there at a place, of a shard below a number
-  abbrev pub there_below : ℕ → List Entry → ℕ → Tuple → Bool
-  there_below below log s t = is_at log s t && nat_lt (shard_of shards t.object) below
-
   -- What a read holds: the rows of each tupleset that is done, and of the next one the rows of the shards that were asked, at its place.
   pub record IsRightRead (now : Moment) (r : Running) (fresh : Freshness) (sets : List Tupleset) (h : ReadHolds) : Type 0 where
     pub heads : IfHeld h.heads (AreRightHeads r now.machine)
@@ -161,22 +157,16 @@ module _ (shards : ℕ) (left : NodeName → List Record → Type 0) where
     pub done : (s i : ℕ) (q : Tupleset) (rows : List Tuple) → h.place ≡ Some s → slice_get sets i ≡ Some q → slice_get h.done i ≡ Some rows
         → IsSelection (is_at now.machine.log s) q rows
     pub few : length h.done ≤ length sets
-    pub rows : (s : ℕ) (q : Tupleset) → h.place ≡ Some s → slice_get sets (length h.done) ≡ Some q → IsSelection (there_below h.below now.machine.log s) q h.rows
+    pub rows : (s : ℕ) (q : Tupleset) → h.place ≡ Some s → slice_get sets (length h.done) ≡ Some q → IsSelection (there_below shards h.below now.machine.log s) q h.rows
     pub nothing : h.place ≡ None → (h.done ≡ []) × (h.below ≡ 0) × (h.rows ≡ [])
     pub batch : IfHeld h.batch (IsRightBatch now.machine)
 
-  -- What a check holds: usersets that can be reached at its place, each once, the asked one among them. None that was walked holds the
-  -- user, and what it holds was walked or waits.
+  -- What a check holds: the asked userset, and once it has its place what it has met on its walk from there.
   pub record IsRightCheck (now : Moment) (r : Running) (fresh : Freshness) (x : Userset) (u : User) (h : CheckHolds) : Type 0 where
     pub heads : IfHeld h.heads (AreRightHeads r now.machine)
     pub place : IfHeld h.place (IsPlaceOf fresh r now.machine)
     pub nothing : h.place ≡ None → (h.walked ≡ []) × (h.waiting ≡ x ∷ [])
-    pub asked : Contains (h.walked ++ h.waiting) x
-    pub once : AreOnce (h.walked ++ h.waiting)
-    pub reached : (s : ℕ) (y : Userset) → h.place ≡ Some s → Contains (h.walked ++ h.waiting) y → IsReached (is_at now.machine.log s) x y
-    pub none : (s : ℕ) (y : Userset) → h.place ≡ Some s → Contains h.walked y → is_at now.machine.log s (holding y u) ≡ false
-    pub further : (s : ℕ) (y z : Userset) → h.place ≡ Some s → Contains h.walked y → is_at now.machine.log s (holding y (Set z)) ≡ true
-        → Contains (h.walked ++ h.waiting) z
+    pub walk : IfHeld h.place (λ s. IsWalk (is_at now.machine.log s) x u h.walked h.waiting)
     pub batch : IfHeld h.batch (IsRightBatch now.machine)
 
   -- What a watch, a learning or a collection holds.

@@ -2,6 +2,7 @@
 use Rattle.std.specs.Prelude.{◌≡◌, ◌≢◌, ◌⊎◌, ◌≤◌, ◌<◌, ◌+◌, ℕ, true, false, List, [], ◌∷◌, ◌++◌, length, map, Option, Some, None, Contains, All}
 use Rattle.tuples.specs.declared.entry.Entry.{Entry}
 use Rattle.tuples.specs.declared.entry.WriteId.{WriteId}
+use Rattle.tuples.specs.Limits.{max_flows}
 use Rattle.refusal.specs.declared.refusal.Refusal.{Refusal}
 use Rattle.refusal.specs.declared.refusal.Refusal.TheVariants.{Unsure, Full}
 use Rattle.records.specs.declared.record.Record.{Record}
@@ -177,9 +178,9 @@ module _ (shards : ℕ) (found_before : ℕ → Type 0) where
 
   -- a flow begins in a free slot, unless there are 1,024
   abbrev pub Begins : Moment → Asked → List Told → Moment → Type 0
-  Begins before asked told after = ((slot : ℕ) × (flow_at slot before.running ≡ None) × (length before.running < 1024) × (told ≡ began slot ∷ [])
+  Begins before asked told after = ((slot : ℕ) × (flow_at slot before.running ≡ None) × (length before.running < max_flows) × (told ≡ began slot ∷ [])
       × (after ≡ record before { running = begun slot asked ∷ before.running; named = named_by asked ++ before.named }))
-      ⊎ ((1024 ≤ length before.running) × (told ≡ refuses Full ∷ []) × (after ≡ before))
+      ⊎ ((max_flows ≤ length before.running) × (told ≡ refuses Full ∷ []) × (after ≡ before))
 
   -- a flow is cancelled: a write goes out if it is not decided, and each other flow ends at once
   pub record IsCancelled (before : Moment) (r : Running) (told : List Told) (after : Moment) : Type 0 where

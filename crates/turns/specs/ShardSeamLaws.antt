@@ -14,6 +14,7 @@ use Rattle.records.specs.Replays.{find_in_doubt, greatest_number}
 use Rattle.device.specs.Device.{State}
 use Rattle.journal.specs.Records.{HasNoRoom}
 use Rattle.tuples.specs.Parts.{takes_part}
+use Rattle.tuples.specs.Limits.{max_batch}
 use Rattle.decisions.specs.Standing.{HeadsValue}
 use Rattle.decisions.specs.Values.{BatchValue, IntentValue, IsIntent, SettledValue, TicketValue, VoteValue}
 use Rattle.shard.specs.Calls.{CollectsAt, DoubtsAt, DropsAt, LearnRefused, LearnsAt, PrepareRefused, PreparesAt, ReadsAt, SettlesAt, VotesAt}
@@ -112,7 +113,7 @@ module _ (store shards : ℕ) (left : NodeName → List Record → Type 0) {D : 
   abbrev pub RefusedLearnsHaveCause : Type 0
   RefusedLearnsHaveCause = (now behind : Moment) (old : ShardView D) (s : ℕ) (b : BatchValue) (e : Refusal) (r : Running)
       → Stands store shards left now → ShardIsSeen store shards s now.nodes old → Contains now.running r → batch_of r.holds ≡ Some b
-      → IsUp state honest old → length b.writes ≤ 256 → b.from + length b.writes ≤ greatest_number → CallsShard shards r.asked r.holds s → LetsLearn r.asked
+      → IsUp state honest old → length b.writes ≤ max_batch → b.from + length b.writes ≤ greatest_number → CallsShard shards r.asked r.holds s → LetsLearn r.asked
       → LearnRefused old b e → (e ≡ NoMemory) ⊎ ((e ≡ Full) ⊎ (e ≡ Damaged))
       → HasItsCause shards (shard s) now behind r e × (e ≢ Unsure)
 

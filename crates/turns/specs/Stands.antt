@@ -4,6 +4,7 @@ use Rattle.tuples.specs.declared.entry.Entry.{Entry}
 use Rattle.tuples.specs.declared.entry.WriteId.{WriteId}
 use Rattle.refusal.specs.declared.refusal.Refusal.{Refusal}
 use Rattle.tuples.specs.Log.{AreNew}
+use Rattle.tuples.specs.Limits.{max_flows, max_open}
 use Rattle.records.specs.declared.record.Record.{Record}
 use Rattle.records.specs.declared.record.Record.TheVariants.{Epoch}
 use Rattle.records.specs.Coordinators.{CoordinatorState, end_of, coordinator_state}
@@ -58,7 +59,7 @@ module _ (store shards : ℕ) (left : NodeName → List Record → Type 0) where
   -- were given out.
   pub record IdsStand (nodes : Nodes) (m : Machine) : Type 0 where
     pub distinct : AreNew nodes.open_writes
-    pub few : length nodes.open_writes ≤ 1024
+    pub few : length nodes.open_writes ≤ max_open
     pub unlisted : (w : Entry) → Contains nodes.open_writes w → IsUnlisted w.id m.log
     pub of_now : (w : Entry) → Contains nodes.open_writes w → (kept memory : CoordinatorState) → CoordinatorKnows nodes kept memory
         → (w.id.epoch ≡ memory.epoch) × (w.id.number ≤ nodes.given)
@@ -69,7 +70,7 @@ module _ (store shards : ℕ) (left : NodeName → List Record → Type 0) where
   -- Flows: each has a slot of its own, a write of its own, and holds what is right. What a flow has seen lies at or below what is there now; and
   -- one that is no write has decided nothing and is not cancelled.
   pub record FlowsStand (now : Moment) : Type 0 where
-    pub few : length now.running ≤ 1024
+    pub few : length now.running ≤ max_flows
     pub slots : (i j : ℕ) (q r : Running) → slice_get now.running i ≡ Some q → slice_get now.running j ≡ Some r → q.slot ≡ r.slot → i ≡ j
     pub ids : (i j : ℕ) (q r : Running) (id : WriteId) → slice_get now.running i ≡ Some q → slice_get now.running j ≡ Some r
         → id_of q.holds ≡ Some id → id_of r.holds ≡ Some id → i ≡ j

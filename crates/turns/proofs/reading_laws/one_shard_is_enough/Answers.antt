@@ -1,4 +1,4 @@
-use Rattle.turns.proofs.ReadAnswer.{one_shard_is_enough}
+use Rattle.laws.proofs.ReadRows.{one_shard_is_enough}
 use Rattle.turns.proofs.reading_laws.one_shard_is_enough.Goals as goal
 
 pub returns : goal.returns

@@ -1,12 +1,12 @@
 use Rattle.std.proofs.Common.{Some, subst}
 use Rattle.records.specs.Replays.{Identity}
-use Rattle.sides.specs.Reopening.{Reopens}
+use Rattle.sides.specs.Reopening.{ShardReopens}
 use Rattle.sides.proofs.Openings.{opens_tied}
 use Rattle.sides.proofs.shard_side.ShardSide.open.Goals as goal
 
 pub invariant_of-result : goal.invariant_of-result
 invariant_of-result g c =
-    let over = subst (λ (me : Identity). Reopens g.D.Device.state g.D.Device.honest g.D.Device.moment g.D.Device.left_since me c.args.a c.args.b c.reopen.result) c.requires.me c.reopen.ensures in (
+    let over = subst (λ (me : Identity). ShardReopens g.D.Device.state g.D.Device.honest g.D.Device.moment g.D.Device.left_since me c.args.a c.args.b c.reopen.result) c.requires.me c.reopen.ensures in (
       c.requires.own,
       c.requires.me,
       c.requires.shard,

@@ -1,0 +1,11 @@
+pub mod CatchUps
+pub mod Places
+pub mod SeenReads
+pub mod SeenChecks
+pub mod SeenWrites
+pub mod SeenWatches
+pub mod SeenCares
+pub mod ToldCatchUps
+pub mod ToldWrites
+mod SmallAnswers
+mod SmallWrites

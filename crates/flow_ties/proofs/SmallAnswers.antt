@@ -1,0 +1,53 @@
+-- Small answers: over a list of no writes, what is one, and what is none.
+use Rattle.std.proofs.Common.{◌≡◌, ℕ, zero, suc, true, false, true≢false, List, [], ◌∷◌, Some, slice_get, refl, sym, ◌∙◌, subst, arith}
+use Rattle.std.proofs.lemmas.Option.{same_Some}
+use Rattle.tuples.specs.declared.object.Userset.{Userset}
+use Rattle.tuples.specs.declared.tuple.Tuple.{Tuple}
+use Rattle.tuples.specs.declared.tupleset.Tupleset.{Tupleset}
+use Rattle.tuples.specs.declared.tupleset.Tupleset.TheVariants.{Key}
+use Rattle.tuples.specs.declared.user.User.{User}
+use Rattle.tuples.specs.Log.{is_at}
+use Rattle.tuples.specs.Reads.{IsSelection}
+use Rattle.decisions.specs.Flows.{exact, latest}
+use Rattle.flow_ties.specs.Reads.{AreRowsAt}
+use Rattle.flow_ties.specs.Checks.{IsMembershipAt}
+
+-- no tuple is there
+none_there : (t : Tuple) → is_at [] 0 t ≡ false
+unfolding is_at
+none_there t = refl
+
+module _ (t : Tuple) where
+  nothing_selected : IsSelection (is_at [] 0) (Key t) []
+  nothing_selected = record {
+    ascending = tt;
+    exact = λ u. (λ has. absurd (omega (arith, has.1)), λ is. absurd (true≢false (sym is.0 ∙ none_there u)));
+  }
+
+  -- no row is the answer
+  no_row : AreRowsAt [] latest (Key t ∷ []) 0 ([] ∷ [])
+  no_row = record { there = omega arith; wanted = tt; all = refl; each = each }
+    where
+      each : (i : ℕ) (q : Tupleset) (rows : List Tuple) → slice_get (Key t ∷ []) i ≡ Some q → slice_get ([] ∷ []) i ≡ Some rows → IsSelection (is_at [] 0) q rows
+      each zero q rows at_set at_row = subst (λ (x : Tupleset). IsSelection (is_at [] 0) x rows) (same_Some (Key t) q at_set)
+          (subst (λ (x : List Tuple). IsSelection (is_at [] 0) (Key t) x) (same_Some [] rows at_row) nothing_selected)
+      each (suc i) q rows at_set at_row = absurd (cc at_set)
+
+  -- a row that was never written is none
+  never_written : AreRowsAt [] latest (Key t ∷ []) 0 ((t ∷ []) ∷ []) → ⊥
+  never_written answer = let selects = answer.each 0 (Key t) (t ∷ []) refl refl in true≢false (sym ((selects.exact t).0 (0, omega arith, refl)).0 ∙ none_there t)
+
+  -- an answer to another number of questions is none
+  one_too_few : AreRowsAt [] latest (Key t ∷ []) 0 [] → ⊥
+  one_too_few answer = let all = answer.all in omega (arith, all)
+
+  -- nor is one at a place that the list does not have, or at another than was asked for
+  no_such_place : AreRowsAt [] latest (Key t ∷ []) 1 ([] ∷ []) → ⊥
+  no_such_place answer = let there = answer.there in omega (arith, there)
+
+  another_place : AreRowsAt [] (exact 3) (Key t ∷ []) 0 ([] ∷ []) → ⊥
+  another_place answer = let wanted = answer.wanted in omega (arith, wanted)
+
+-- nobody is a member
+nobody : (x : Userset) (u : User) → IsMembershipAt [] latest x u 0 true → ⊥
+nobody x u answer = let member = answer.member.0 refl in true≢false (sym member.last ∙ none_there _)

@@ -1,0 +1,6 @@
+pub mod Telling
+pub mod Reads
+pub mod Checks
+pub mod Writes
+pub mod Watches
+pub mod Cares

@@ -1,0 +1,27 @@
+// Laws of a check, each the clause of a function with an empty body.
+ghost use Rattle.flow_ties.specs.Checks.{ChecksAnswerWhatIsSeen, ChecksBegin, ChecksBeginAtPlaces, ChecksHandOverWhatIsSeen, ChecksStaySeen};
+
+/// A check that has no place yet has met the asked userset alone.
+pub fn checks_begin()
+    ensures { ChecksBegin }
+{}
+
+/// A check that begins at a place of the list has met the asked userset alone.
+pub fn checks_begin_at_places()
+    ensures { ChecksBeginAtPlaces }
+{}
+
+/// What a check holds is of each longer list.
+pub fn checks_stay_seen()
+    ensures { ChecksStaySeen }
+{}
+
+/// A batch that a check hands to a shard is a part of the list.
+pub fn checks_hand_over_what_is_seen()
+    ensures { ChecksHandOverWhatIsSeen }
+{}
+
+/// Where the reply to its call tells what is of the list, a check goes on to hold what is of the list; and it answers whether the user is a member there.
+pub fn checks_answer_what_is_seen()
+    ensures { ChecksAnswerWhatIsSeen }
+{}

@@ -1,0 +1,28 @@
+//! What a flow holds of the list of writes that its caller's pass has seen: words and laws.
+//!
+//! Keeps: nothing at run time; each law is the contract of a function with an empty body.
+//! Callers rely on: where each reply tells what is of the list, what a flow answers is of the list.
+//!
+//! No program uses these words yet. Start at `specs/Telling.antt`, what a reply tells of the list, and `specs/Reads.antt`.
+#![tactic(auto)]
+
+mod care_laws;
+mod check_laws;
+mod read_laws;
+mod watch_laws;
+mod write_laws;
+
+pub use care_laws::{cares_begin, cares_go_on, cares_hand_over_what_is_seen, cares_stay_seen};
+pub use check_laws::{
+    checks_answer_what_is_seen, checks_begin, checks_begin_at_places,
+    checks_hand_over_what_is_seen, checks_stay_seen,
+};
+pub use read_laws::{
+    reads_answer_what_is_seen, reads_begin, reads_begin_at_places, reads_hand_over_what_is_seen,
+    reads_stay_seen,
+};
+pub use watch_laws::{watches_begin, watches_list_what_is_seen, watches_stay_seen};
+pub use write_laws::{
+    Links, writes_are_relinked, writes_begin, writes_hand_over_what_is_seen, writes_refuse_as_told,
+    writes_stay_seen, writes_tell_what_stands,
+};

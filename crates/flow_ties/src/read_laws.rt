@@ -1,0 +1,27 @@
+// Laws of a read, each the clause of a function with an empty body.
+ghost use Rattle.flow_ties.specs.Reads.{ReadsAnswerWhatIsSeen, ReadsBegin, ReadsBeginAtPlaces, ReadsHandOverWhatIsSeen, ReadsStaySeen};
+
+/// A read that has no place yet holds nothing.
+pub fn reads_begin()
+    ensures { ReadsBegin }
+{}
+
+/// A read that begins at a place of the list holds nothing of it yet.
+pub fn reads_begin_at_places()
+    ensures { ReadsBeginAtPlaces }
+{}
+
+/// What a read holds is of each longer list.
+pub fn reads_stay_seen()
+    ensures { ReadsStaySeen }
+{}
+
+/// A batch that a read hands to a shard is a part of the list.
+pub fn reads_hand_over_what_is_seen()
+    ensures { ReadsHandOverWhatIsSeen }
+{}
+
+/// Where the reply to its call tells what is of the list, a read goes on to hold what is of the list; and what it answers is what its tuplesets select there.
+pub fn reads_answer_what_is_seen()
+    ensures { ReadsAnswerWhatIsSeen }
+{}

@@ -1,0 +1,18 @@
+// Laws of a watch, each the clause of a function with an empty body.
+ghost use Rattle.flow_ties.specs.Watches.{WatchesBegin, WatchesListWhatIsSeen, WatchesStaySeen};
+
+/// A watch that begins holds nothing.
+pub fn watches_begin()
+    ensures { WatchesBegin }
+{}
+
+/// What a watch holds is of each longer list.
+pub fn watches_stay_seen()
+    ensures { WatchesStaySeen }
+{}
+
+/// Where the reply to its call tells what is of the list, a watch goes on to hold what is of the list; and what it lists is all that there is between its
+/// cursor and the place that it tells.
+pub fn watches_list_what_is_seen()
+    ensures { WatchesListWhatIsSeen }
+{}

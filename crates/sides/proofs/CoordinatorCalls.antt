@@ -1,0 +1,204 @@
+-- The calls of the coordinator under its lock leave it tied.
+use Rattle.std.proofs.Common.{◌≡◌, ◌≤◌, ◌<◌, ⊎_elim, ℕ, true≢false, List, [], ◌∷◌, ◌++◌, length, Result, Option, Some, None, Ok, Err, refl, sym, ◌∙◌, subst, ap}
+use Rattle.refusal.specs.declared.refusal.Refusal.{Refusal}
+use Rattle.tuples.specs.declared.entry.Entry.{Entry}
+use Rattle.tuples.specs.Writes.{WriteValue}
+use Rattle.device.specs.Device.{State, left}
+use Rattle.decisions.specs.Coordinators.{CoordinatorView}
+use Rattle.decisions.specs.Standing.{DecidedValue}
+use Rattle.decisions.specs.Values.{IntentValue, SettledValue, VerdictValue, VoteValue}
+use Rattle.coordinator.specs.declared.decided.NotDecided.{NotDecided}
+use Rattle.coordinator.specs.declared.raising.NotRaised.{NotRaised}
+use Rattle.calls.specs.declared.call.NodeCall.TheVariants.{Coordinator}
+use Rattle.calls.specs.declared.call.CoordinatorCall.{CoordinatorCall}
+use Rattle.calls.specs.declared.call.CoordinatorCall.TheVariants.{Begin, Heads, Batch, Decide, Outcome, Abort, Inquire, Raise, Flush}
+use Rattle.calls.specs.declared.reply.Reply.{Reply}
+use Rattle.calls.specs.declared.reply.Reply.TheVariants.{Coordinator as from_coordinator}
+use Rattle.calls.specs.declared.reply.CoordinatorReply.{CoordinatorReply}
+use Rattle.calls.specs.declared.reply.CoordinatorReply.TheVariants as told
+use Rattle.calls.specs.Asking.{Answered, CoordinatorAnswers, MayAsk, MayAskCoordinator}
+use Rattle.calls.specs.CoordinatorAnswers.{AbortAnswers, BeginAnswers, DecideAnswers, FlushAnswers, RaiseAnswers}
+use Rattle.calls.specs.Views.{NodeView, coordinator, shard, refused}
+use Rattle.ties.specs.DecidingLaws.{attempt}
+use Rattle.ties.specs.Ties.{Attempt, IsOpenedTied, IsTied, IsTiedUp}
+use Rattle.ties.proofs.Deciding.{aborts_stay_tied, beginnings_stay_tied, decisions_stay_tied, raises_stay_tied}
+use Rattle.ties.proofs.Landing.{flushes_stay_tied}
+use Rattle.ties.proofs.Opening.{failed_flushes_stay_tied, tied_up_is_tied, untried}
+use Rattle.sides.specs.CoordinatorSides.{AnsweredThere, IsTiedThere, MayAskThere}
+use Rattle.sides.specs.Joining.{CoordinatorMayJoin, MayJoin}
+use Rattle.sides.proofs.ShardCalls.{is_up, up_or_down}
+
+module _ {D : Type 0} (state : D → State) (honest : D → Type 0) (store shards : ℕ) where
+  may_ask_node : (node : NodeView D) (seen : List Entry) (low : ℕ) (tried : List Attempt) (call : CoordinatorCall) → IsTied state honest store shards node seen low tried → MayAskCoordinator shards call → MayAsk node (Coordinator call)
+  may_ask_node (coordinator v) seen low tried call tied may = subst (λ (n : ℕ). MayAskCoordinator n call) (sym (ap (λ me. me.shards) tied.me)) may
+  may_ask_node (refused e a b) seen low tried call tied may = tt
+  may_ask_node (shard v) seen low tried call tied may = absurd tied
+
+  -- it may be asked what its coordinator may be asked
+  pub may_ask_there : (node : Option (NodeView D)) (seen : List Entry) (low : ℕ) (tried : List Attempt) (call : CoordinatorCall) → IsTiedThere state honest store shards node seen low tried → MayAskCoordinator shards call → MayAskThere node call
+  may_ask_there (Some node) seen low tried call tied may = may_ask_node node seen low tried call tied may
+  may_ask_there None seen low tried call tied may = absurd tied
+
+  -- Given a coordinator before and after a call
+  module _ (old new : CoordinatorView D) (seen : List Entry) (low : ℕ) (tried : List Attempt) (tied : IsOpenedTied state honest store shards old seen low tried) where
+    unchanged : new ≡ old → IsOpenedTied state honest store shards new seen low tried
+    unchanged same = subst (λ (v : CoordinatorView D). IsOpenedTied state honest store shards v seen low tried) (sym same) tied
+
+    begun : (write : WriteValue) (r : Result IntentValue Refusal) → BeginAnswers state honest old write r new → IsOpenedTied state honest store shards new seen low tried
+    begun write (Ok i) a =
+        let up = tied.up (is_up old.is_down (λ down. cc (a.down.1 down))) in
+        let begins = (a.ok up.running).0 in
+        tied_up_is_tied state honest store shards new seen low tried (beginnings_stay_tied state honest old new write.changes write.conditions i seen low tried up begins).0
+        (ap (λ (v : CoordinatorView D). v.me) begins.new_is ∙ tied.me)
+    begun write (Err e) a = unchanged a.err.0
+
+    aborted : (intent : IntentValue) (r : Result VerdictValue Refusal) → AbortAnswers state honest old intent r new → IsOpenedTied state honest store shards new seen low tried
+    aborted intent (Ok v) a =
+        let up = tied.up (is_up old.is_down (λ down. cc (a.down.1 down))) in
+        let aborts = (a.ok up.running).1 in
+        tied_up_is_tied state honest store shards new seen low tried (aborts_stay_tied state honest old new intent.write.id seen low tried up aborts)
+        (ap (λ (v : CoordinatorView D). v.me) aborts.new_is ∙ tied.me)
+    aborted intent (Err e) a = unchanged a.err.0
+
+    raised : (place : ℕ) (settled : List SettledValue) (r : Result (Unit {0}) NotRaised) → RaiseAnswers state honest old place settled r new → IsOpenedTied state honest store shards new seen low tried
+    raised place settled (Ok done) a =
+        let up = tied.up (is_up old.is_down (λ down. cc (a.was_up down))) in
+        let raises = (a.ok up.running).0 in
+        tied_up_is_tied state honest store shards new seen low tried (raises_stay_tied state honest old new place seen low tried up raises (a.ok up.running).1)
+        (⊎_elim (λ one. ap (λ (v : CoordinatorView D). v.me) one.1) (λ none. ap (λ (v : CoordinatorView D). v.me) none.1) raises.new_is ∙ tied.me)
+    raised place settled (Err e) a = unchanged a.err.0
+
+    decided_up : (intent : IntentValue) (votes : List VoteValue) (d : DecidedValue) → DecideAnswers state honest old intent votes (Ok d) new
+        → IsTiedUp state honest new seen low (tried ++ attempt d intent.write ∷ []) × (length seen < d.place)
+    decided_up intent votes d a =
+        let up = tied.up (is_up old.is_down (λ down. cc (a.was_up down))) in
+        decisions_stay_tied state honest old new intent.write d seen low tried up (a.ok up.running).0
+
+    -- a decision that is staged is one more that is known
+    pub decided : (intent : IntentValue) (votes : List VoteValue) (d : DecidedValue) → DecideAnswers state honest old intent votes (Ok d) new
+        → IsOpenedTied state honest store shards new seen low (tried ++ attempt d intent.write ∷ []) × (length seen < d.place)
+    decided intent votes d a =
+        let up = tied.up (is_up old.is_down (λ down. cc (a.was_up down))) in
+        let next = decided_up intent votes d a in (
+          tied_up_is_tied state honest store shards new seen low (tried ++ attempt d intent.write ∷ []) next.0 (ap (λ (v : CoordinatorView D). v.me) (a.ok up.running).0.new_is ∙ tied.me),
+          next.1,
+        )
+
+    -- what was flushed may join the list
+    pub flushed : (moment : D → ℕ) (left_since : D → ℕ → List ℕ → Type 0) → ((d : D) (t : ℕ) (c : List ℕ) → honest d → t ≤ moment d → left (state d) c → left_since d t c)
+        → (r : Result (Unit {0}) Refusal) → FlushAnswers state honest moment left_since old r new → CoordinatorMayJoin state honest store shards new seen low tried
+    flushed moment left_since counts_now (Ok done) a =
+        let up = tied.up a.up.0 in
+        let ok = a.ok up.running in
+        record {
+          up = λ is_up. flushes_stay_tied state honest old new seen low tried up ok.1 a.keeps ok.0;
+          down = λ down. absurd (true≢false (sym down ∙ a.up.1));
+          me = a.keeps.me ∙ tied.me;
+        }
+    flushed moment left_since counts_now (Err e) a = record {
+      up = λ up. absurd (true≢false (sym a.err.1 ∙ up));
+      down = λ down. ⊎_elim
+          (λ was_up.
+          let up = tied.up was_up in
+          (failed_flushes_stay_tied state honest moment left_since counts_now store shards old new seen low tried up tied.me a.keeps (a.still_honest.0.0 up.running.honest_a) (a.still_honest.1.0 up.running.honest_b) a.err.1 (a.any_moment up.running)).anywhere)
+          (λ was_down. (unchanged (a.down was_down).1).anywhere)
+          (up_or_down old.is_down);
+      me = a.keeps.me ∙ tied.me;
+    }
+
+  forgotten : (old new : CoordinatorView D) (seen : List Entry) (low : ℕ) (intent : IntentValue) (votes : List VoteValue) (r : Result DecidedValue NotDecided)
+      → IsOpenedTied state honest store shards old seen low [] → DecideAnswers state honest old intent votes r new → IsOpenedTied state honest store shards new seen low []
+  forgotten old new seen low intent votes (Ok d) tied a = untried state honest store shards new seen low (attempt d intent.write ∷ []) (decided old new seen low [] tied intent votes d a).0
+  forgotten old new seen low intent votes (Err e) tied a = unchanged old new seen low [] tied a.same
+
+-- a call that changes nothing
+abbrev pub IsQuietThere : CoordinatorCall → Type 0
+IsQuietThere Heads = Unit {0}
+IsQuietThere (Batch from to) = Unit {0}
+IsQuietThere (Outcome d) = Unit {0}
+IsQuietThere (Inquire id) = Unit {0}
+IsQuietThere call = ⊥
+
+-- Given also what a device tells of the moments of a call
+module _ {D : Type 0} (state : D → State) (honest : D → Type 0) (moment : D → ℕ) (left_since : D → ℕ → List ℕ → Type 0) (store shards : ℕ) where
+  abbrev KeepsTied : CoordinatorCall → List Entry → ℕ → List Attempt → Type 0
+  KeepsTied call seen low tried = (old new : CoordinatorView D) (reply : CoordinatorReply) → IsOpenedTied state honest store shards old seen low tried → CoordinatorAnswers state honest moment left_since old call reply new
+      → IsOpenedTied state honest store shards new seen low tried
+
+  node_stays : (call : CoordinatorCall) (seen : List Entry) (low : ℕ) (tried : List Attempt) → KeepsTied call seen low tried → (old : NodeView D) (reply : Reply) (new : NodeView D)
+      → IsTied state honest store shards old seen low tried → Answered state honest moment left_since old (Coordinator call) reply new → IsTied state honest store shards new seen low tried
+  node_stays call seen low tried keeps (coordinator old) (from_coordinator reply) (coordinator new) tied a = keeps old new reply tied a
+  node_stays call seen low tried keeps (refused e x y) reply new tied a = subst (λ (n : NodeView D). IsTied state honest store shards n seen low tried) (sym a.0) tied
+  node_stays call seen low tried keeps old reply new tied a = absurd a
+
+  -- what leaves the coordinator tied leaves what lies under the lock tied
+  abbrev StaysThere : CoordinatorCall → List Entry → ℕ → List Attempt → Type 0
+  StaysThere call seen low tried = (old new : Option (NodeView D)) (reply : Reply) → IsTiedThere state honest store shards old seen low tried → AnsweredThere state honest moment left_since old call reply new
+      → IsTiedThere state honest store shards new seen low tried
+
+  stays : (call : CoordinatorCall) (seen : List Entry) (low : ℕ) (tried : List Attempt) → KeepsTied call seen low tried → StaysThere call seen low tried
+  stays call seen low tried keeps (Some old) (Some new) reply tied a = node_stays call seen low tried keeps old reply new tied a
+  stays call seen low tried keeps old new reply tied a = absurd a
+
+  same_coordinator : (old new : CoordinatorView D) (call : CoordinatorCall) (reply : CoordinatorReply) → IsQuietThere call → CoordinatorAnswers state honest moment left_since old call reply new → new ≡ old
+  same_coordinator old new Heads (told.Heads r) quiet a = a.0
+  same_coordinator old new (Batch from to) (told.Batch r) quiet a = a.0
+  same_coordinator old new (Outcome d) (told.Outcome r) quiet a = a.0
+  same_coordinator old new (Inquire id) (told.Inquire r) quiet a = a.0
+  same_coordinator old new (Begin write) reply quiet a = absurd quiet
+  same_coordinator old new (Decide intent votes) reply quiet a = absurd quiet
+  same_coordinator old new (Abort intent) reply quiet a = absurd quiet
+  same_coordinator old new (Raise place settled) reply quiet a = absurd quiet
+  same_coordinator old new Flush reply quiet a = absurd quiet
+  same_coordinator old new call reply quiet a = absurd a
+
+  pub quiet_stays_there : (call : CoordinatorCall) (seen : List Entry) (low : ℕ) (tried : List Attempt) → IsQuietThere call → StaysThere call seen low tried
+  quiet_stays_there call seen low tried quiet =
+      stays call seen low tried (λ old new reply tied a. subst (λ (v : CoordinatorView D). IsOpenedTied state honest store shards v seen low tried) (sym (same_coordinator old new call reply quiet a)) tied)
+
+  keeps_begin : (write : WriteValue) (seen : List Entry) (low : ℕ) (tried : List Attempt) → KeepsTied (Begin write) seen low tried
+  keeps_begin write seen low tried old new (told.Begin r) tied a = begun state honest store shards old new seen low tried tied write r a
+  keeps_begin write seen low tried old new reply tied a = absurd a
+
+  pub begin_stays : (write : WriteValue) (seen : List Entry) (low : ℕ) (tried : List Attempt) → StaysThere (Begin write) seen low tried
+  begin_stays write seen low tried = stays (Begin write) seen low tried (keeps_begin write seen low tried)
+
+  keeps_abort : (intent : IntentValue) (seen : List Entry) (low : ℕ) (tried : List Attempt) → KeepsTied (Abort intent) seen low tried
+  keeps_abort intent seen low tried old new (told.Abort r) tied a = aborted state honest store shards old new seen low tried tied intent r a
+  keeps_abort intent seen low tried old new reply tied a = absurd a
+
+  pub abort_stays : (intent : IntentValue) (seen : List Entry) (low : ℕ) (tried : List Attempt) → StaysThere (Abort intent) seen low tried
+  abort_stays intent seen low tried = stays (Abort intent) seen low tried (keeps_abort intent seen low tried)
+
+  keeps_raise : (place : ℕ) (settled : _) (seen : List Entry) (low : ℕ) (tried : List Attempt) → KeepsTied (Raise place settled) seen low tried
+  keeps_raise place settled seen low tried old new (told.Raise r) tied a = raised state honest store shards old new seen low tried tied place settled.items r a
+  keeps_raise place settled seen low tried old new reply tied a = absurd a
+
+  pub raise_stays : (place : ℕ) (settled : _) (seen : List Entry) (low : ℕ) (tried : List Attempt) → StaysThere (Raise place settled) seen low tried
+  raise_stays place settled seen low tried = stays (Raise place settled) seen low tried (keeps_raise place settled seen low tried)
+
+  keeps_decide : (intent : IntentValue) (votes : _) (seen : List Entry) (low : ℕ) → KeepsTied (Decide intent votes) seen low []
+  keeps_decide intent votes seen low old new (told.Decide r) tied a = forgotten state honest store shards old new seen low intent votes.items r tied a
+  keeps_decide intent votes seen low old new reply tied a = absurd a
+
+  pub decide_stays : (intent : IntentValue) (votes : _) (seen : List Entry) (low : ℕ) → StaysThere (Decide intent votes) seen low []
+  decide_stays intent votes seen low = stays (Decide intent votes) seen low [] (keeps_decide intent votes seen low)
+
+  -- Given that what a stop may leave now is among what it may leave since an earlier moment
+  module _ (counts_now : (d : D) (t : ℕ) (c : List ℕ) → honest d → t ≤ moment d → left (state d) c → left_since d t c) where
+    coordinator_flushed : (old new : CoordinatorView D) (reply : CoordinatorReply) (seen : List Entry) (low : ℕ) (tried : List Attempt) → IsOpenedTied state honest store shards old seen low tried
+        → CoordinatorAnswers state honest moment left_since old Flush reply new → CoordinatorMayJoin state honest store shards new seen low tried
+    coordinator_flushed old new (told.Flush r) seen low tried tied a = flushed state honest store shards old new seen low tried tied moment left_since counts_now r a
+    coordinator_flushed old new reply seen low tried tied a = absurd a
+
+    node_flushed : (old : NodeView D) (reply : Reply) (new : NodeView D) (seen : List Entry) (low : ℕ) (tried : List Attempt) → IsTied state honest store shards old seen low tried
+        → Answered state honest moment left_since old (Coordinator Flush) reply new → MayJoin state honest store shards (Some new) seen low tried
+    node_flushed (coordinator old) (from_coordinator reply) (coordinator new) seen low tried tied a = coordinator_flushed old new reply seen low tried tied a
+    node_flushed (refused e x y) reply new seen low tried tied a = subst (λ (n : NodeView D). MayJoin state honest store shards (Some n) seen low tried) (sym a.0) tied
+    node_flushed old reply new seen low tried tied a = absurd a
+
+    -- what was flushed may join the list
+    pub flush_may_join : (old new : Option (NodeView D)) (reply : Reply) (seen : List Entry) (low : ℕ) (tried : List Attempt) → IsTiedThere state honest store shards old seen low tried
+        → AnsweredThere state honest moment left_since old Flush reply new → MayJoin state honest store shards new seen low tried
+    flush_may_join (Some old) (Some new) reply seen low tried tied a = node_flushed old reply new seen low tried tied a
+    flush_may_join old new reply seen low tried tied a = absurd a

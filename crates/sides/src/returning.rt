@@ -1,0 +1,92 @@
+// The coordinator is opened under its lock, or opened again, and what it found joins the list.
+ghost use Rattle.std.specs.Prelude.{◌≡◌, ◌≤◌, [], true, is_some};
+ghost use mathlib.Core.List.{IsPrefix};
+ghost use Rattle.laws.specs.Worlds.{coordinator_node};
+ghost use Rattle.records.specs.Identity.{coordinator_number};
+ghost use Rattle.sides.specs.CoordinatorSides.{HasLaterList};
+ghost use Rattle.sides.specs.Reopening.{LogOpenedIn, LogReopens, LogRestartedIn};
+ghost use Rattle.ties.specs.Ties.{Anywhere};
+
+use crate::joining::join;
+use crate::reopening::revive;
+use crate::{CoordinatorSide, Room};
+use calls::Node;
+use device::Device;
+use published::{LogPass, Published};
+use records::Identity;
+use std::alloc::Global;
+use std::marker::PhantomData;
+use tuples::{Entry, Refusal};
+
+fn reopen<D: Device>(alloc: Global, mut a: D, mut b: D, me: Identity) -> Node<D>
+    requires { me.node ≡ coordinator_number }
+    ensures { LogReopens D.state D.honest D.moment D.left_since me a b result }
+{
+    let is_found_a = revive(&mut a);
+    let is_found_b = revive(&mut b);
+    if is_found_a && is_found_b {
+        return Node::open_coordinator(alloc, a, b, me);
+    }
+    Node::stay_down(alloc, a, b, me)
+}
+
+// Opens the node again, which is there.
+fn restart_coordinator<D: Device>(
+    node: &mut Option<Node<D>>,
+    alloc: Global,
+    me: Identity,
+) -> Option<Refusal>
+    requires coordinator { me.node ≡ coordinator_number }
+    requires there { is_some node.old ≡ true }
+    ensures { LogRestartedIn D.state D.honest D.moment D.left_since me node.old result node.new }
+{
+    let Some(was) = node.take() else {
+        unreachable!();
+    };
+    let (a, b) = was.into_devices();
+    let opened = reopen(alloc, a, b, me);
+    let refusal = opened.refusal();
+    node.insert(opened);
+    refusal
+}
+
+impl<D: Device, B: Room> CoordinatorSide<D, B> {
+    /// Opens the coordinator over two devices, of which a stop leaves the list and perhaps more. Both are revived first, and it is up, with what was found
+    /// behind the list, or holds the refusal of its opening.
+    pub fn open(
+        words: &Published<Entry>,
+        alloc: Global,
+        a: D,
+        b: D,
+        me: Identity,
+        log: LogPass<Entry>,
+    ) -> CoordinatorSide<D, B>
+        requires own { (words.now ≡ B.log) × (log.table ≡ B.log) }
+        requires me { me ≡ coordinator_node B.store B.shards }
+        requires anywhere { Anywhere D.state D.honest a b log.seen log.horizon [] }
+        ensures opened { LogOpenedIn D.state D.honest D.moment D.left_since me a b result.node }
+        ensures list { IsPrefix log.seen result.seen × (log.horizon ≤ result.low) }
+    {
+        let mut log = log;
+        let mut node = Some(reopen(alloc, a, b, me));
+        join::<D, B>(words, &mut log, &mut node);
+        CoordinatorSide {
+            node,
+            me,
+            log,
+            room: PhantomData,
+        }
+    }
+
+    /// The node's memory is thrown away, its devices are revived, and it is opened again: what was found behind the list joins it. The refusal of its
+    /// opening, where that was refused.
+    pub fn restart(&mut self, words: &Published<Entry>, alloc: Global) -> Option<Refusal>
+        requires own { words.now ≡ B.log }
+        ensures restarted { LogRestartedIn D.state D.honest D.moment D.left_since (coordinator_node B.store B.shards) self.old.node result self.new.node }
+        ensures list { HasLaterList self.old self.new }
+    {
+        let refusal = restart_coordinator(&mut self.node, alloc, self.me);
+        join::<D, B>(words, &mut self.log, &mut self.node);
+        refusal
+    }
+}

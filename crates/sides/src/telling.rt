@@ -1,0 +1,32 @@
+// How far the coordinator is.
+ghost use Rattle.std.specs.Prelude.{◌≡◌};
+ghost use Rattle.calls.specs.Refusing.{Notes};
+ghost use Rattle.calls.specs.declared.call.CoordinatorCall.TheVariants.{Heads as heads_call};
+ghost use Rattle.sides.specs.CoordinatorSides.{CoordinatorSideAnswers, HasSameList, KnowsAll, TellsHeads};
+
+use crate::coordinator_side::ask_coordinator;
+use crate::{CoordinatorSide, Room};
+use calls::{CoordinatorCall, Reply, Told};
+use device::Device;
+use published::{Published, SessionPass};
+use tuples::Entry;
+
+impl<D: Device, B: Room> CoordinatorSide<D, B> {
+    /// How far the list is, and the horizon.
+    pub fn heads(
+        &mut self,
+        words: &Published<Entry>,
+        pass: &mut SessionPass<Entry>,
+        told: &mut Told,
+    ) -> Reply
+        requires own { (words.now ≡ B.log) × (pass.old.table ≡ B.log) }
+        ensures answers { CoordinatorSideAnswers D.state D.honest D.moment D.left_since self.old heads_call result self.new }
+        ensures list { HasSameList self.old self.new }
+        ensures caller { KnowsAll pass.old self.new pass.new }
+        ensures heads { TellsHeads pass.new.seen pass.new.horizon result }
+        ensures told { Notes told.old result told.new }
+    {
+        words.meet(&mut self.log, pass);
+        ask_coordinator(&mut self.node, CoordinatorCall::Heads, told)
+    }
+}
