@@ -15,7 +15,7 @@ use Rattle.ties.specs.Ties.{Anywhere, Attempt, behind}
 -- what is kept behind the list
 abbrev pub behind_in : {D : Type 0} → List Entry → Option (NodeView D) → List Entry
 behind_in seen (Some (coordinator v)) = behind seen (kept_of v)
-behind_in seen node = []
+behind_in seen _ = []
 
 -- the heads that a reply tells
 abbrev pub heads_in : Reply → Option HeadsValue
