@@ -1,0 +1,29 @@
+-- A care of a shared store goes on to hold what is of the list and of the horizon, turn by turn.
+use Rattle.std.proofs.Common.{ℕ, List, Bool}
+use Rattle.tuples.specs.declared.entry.Entry.{Entry}
+use Rattle.published.specs.Known.{Known}
+use Rattle.care_flow.specs.declared.care.CareFlow.{CareFlow}
+use Rattle.care_flow.specs.Cares.{AsksCare, GivesCare}
+use Rattle.flow_ties.specs.Cares.{CareTurns, IsCareOf}
+use Rattle.flow_ties.proofs.SeenCares.{cares_go_on, cares_hand_over_what_is_seen}
+use Rattle.locked.specs.Turning.{HandsWhatIsSeen, Turns}
+
+-- what it hands to a shard is of the list, or of the horizon
+pub cares_hand_over : (pass : Known Entry) (v : CareFlow) → IsCareOf pass.seen pass.horizon v → HandsWhatIsSeen AsksCare pass v
+cares_hand_over pass v is call out asks = cares_hand_over_what_is_seen pass.seen pass.horizon v out call is asks
+
+-- what it holds behind a turn is of them
+pub care_goes_on : (shards : ℕ) (old new : Known Entry) (marks later : List Bool) (v after : CareFlow) → IsCareOf old.seen old.horizon v → Turns AsksCare GivesCare shards old new marks later v after
+    → IsCareOf new.seen new.horizon after
+care_goes_on shards old new marks later v after is t =
+    let turn : CareTurns shards new.seen new.horizon v after = record {
+      call = t.call;
+      out = t.out;
+      reply = t.reply;
+      asks = t.asked;
+      belongs = t.serves.belongs;
+      told = t.serves.told;
+      tells = t.serves.care;
+      gives = t.given;
+    } in
+    cares_go_on shards old.seen new.seen old.horizon new.horizon v after t.serves.later.seen t.serves.later.horizon is turn

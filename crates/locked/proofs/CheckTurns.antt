@@ -1,0 +1,114 @@
+-- A check of a shared store goes on to hold what is of the list, turn by turn.
+use Rattle.std.proofs.Common.{◌≡◌, ◌≤◌, ℕ, List, length, Bool, true, false, is_some, Option, Some, None, Result, Ok, Err, IfOk, MatchOption, refl, sym, ◌∙◌, ap, subst}
+use Rattle.tuples.specs.declared.object.Userset.{Userset}
+use Rattle.tuples.specs.declared.user.User.{User}
+use Rattle.tuples.specs.declared.entry.Entry.{Entry}
+use Rattle.published.specs.Known.{Known}
+use Rattle.decisions.specs.Flows.{Freshness, exact}
+use Rattle.names.specs.declared.call_name.CallName.{CallName}
+use Rattle.calls.specs.declared.call.NodeCall.TheVariants.{Shard}
+use Rattle.calls.specs.declared.call.ShardCall.TheVariants as shard_calls
+use Rattle.calls.specs.declared.reply.Reply.{Reply}
+use Rattle.answer_flow.specs.Checking.{Asks, AsksFor, GivesTo}
+use Rattle.answer_flow.specs.CheckViews.{CheckAwaited, CheckEnding, CheckFlowValue, CheckStep, CheckView, at_rest, begins_at, heads, flush, catch_up, read}
+use Rattle.answer_flow.specs.Running.{AsksCheck, GivesCheck}
+use Rattle.flow_ties.specs.Checks.{CheckTurns, IsCheckOf, IsMembershipAt}
+use Rattle.flow_ties.specs.Telling.{IsAsAsked}
+use Rattle.flow_ties.proofs.SeenChecks.{checks_answer_what_is_seen, checks_begin, checks_begin_at_places, checks_hand_over_what_is_seen}
+use Rattle.locked.specs.Answering.{CheckEnds, CheckRuns, IsBeyond, IsFresh}
+use Rattle.locked.specs.Turning.{HandsWhatIsSeen, Turns}
+use Rattle.locked.proofs.FreshPlaces.{beyond_is_fresh, fresh_is_as_asked}
+
+-- what has a next call has not ended
+pub not_ended : (ended : Option CheckEnding) (name : Option CallName) → ((end : CheckEnding) → ended ≡ Some end → name ≡ None) → is_some name ≡ true → ended ≡ None
+not_ended None name without some = refl
+not_ended (Some end) None without some = absurd (let bad : false ≡ true = some in cc)
+not_ended (Some end) (Some name) without some = absurd (let bad : Some name ≡ None = without end refl in cc)
+
+-- a check calls no shard to collect
+no_collect : (shards : ℕ) (u : User) (step : CheckStep) (v out : CheckView) (s : ℕ) (h : _) → AsksFor step shards u v (Shard s (shard_calls.Collect h)) out → ⊥
+no_collect shards u heads v out s h asks = cc asks.1
+no_collect shards u flush v out s h asks = cc asks.1
+no_collect shards u catch_up v out s h asks = asks.asks.1
+no_collect shards u read v out s h asks = cc asks.call_is
+
+-- what it hands to a shard is a part of the list
+pub checks_hand_over : (shards : ℕ) (pass : Known Entry) (x : Userset) (v : CheckFlowValue) → v.shards ≡ shards → IsCheckOf pass.seen v.fresh x v.user v.seen → HandsWhatIsSeen AsksCheck pass v
+checks_hand_over shards pass x v of is (Shard s (shard_calls.Learn b)) out asks =
+    checks_hand_over_what_is_seen shards s pass.seen v.fresh x v.user v.seen out.seen b is (subst (λ (n : ℕ). Asks n v.user v.seen (Shard s (shard_calls.Learn b)) out.seen) of asks.2)
+checks_hand_over shards pass x v of is (Shard s (shard_calls.Collect h)) out asks = absurd (no_collect v.shards v.user v.seen.next v.seen out.seen s h asks.2.asks)
+checks_hand_over shards pass x v of is call out asks = tt
+
+-- what the reply makes of it, in its own words
+gives_to : (v out : CheckFlowValue) (awaited : CheckAwaited) (reply : Reply) (after : CheckView) → out ≡ record v { seen = out.seen; next_name = None } → out.seen.awaited ≡ Some awaited
+    → MatchOption out.seen.awaited ⊥ (λ awaited. GivesTo out.fresh out.user out.seen awaited reply after) → GivesTo v.fresh v.user out.seen awaited reply after
+gives_to v out awaited reply after same is gives =
+    let here : GivesTo out.fresh out.user out.seen awaited reply after = subst (λ (o : Option CheckAwaited). MatchOption o ⊥ (λ awaited. GivesTo out.fresh out.user out.seen awaited reply after)) is gives in
+    let fresh = subst (λ (f : Freshness). GivesTo f out.user out.seen awaited reply after) (ap (λ (f : CheckFlowValue). f.fresh) same) here in
+    subst (λ (u : User). GivesTo v.fresh u out.seen awaited reply after) (ap (λ (f : CheckFlowValue). f.user) same) fresh
+
+-- what it holds behind a turn is of the list
+pub check_goes_on : (shards : ℕ) (old new : Known Entry) (marks later : List Bool) (x : Userset) (v after : CheckFlowValue) → v.shards ≡ shards → v.seen.ended ≡ None → IsCheckOf old.seen v.fresh x v.user v.seen
+    → Turns AsksCheck GivesCheck shards old new marks later v after → IsCheckOf new.seen v.fresh x v.user after.seen
+check_goes_on shards old new marks later x v after of running is t =
+    let turn : CheckTurns shards new.seen v.user v.fresh v.seen after.seen = record {
+      running = running;
+      call = t.call;
+      out = t.out.seen;
+      reply = t.reply;
+      asks = subst (λ (n : ℕ). Asks n v.user v.seen t.call t.out.seen) of t.asked.2;
+      belongs = t.serves.belongs;
+      told = t.serves.told;
+      gives = λ awaited awaits. gives_to v t.out awaited t.reply after.seen t.asked.1 awaits t.given.1;
+    } in
+    checks_answer_what_is_seen shards old.seen new.seen v.fresh x v.user v.seen after.seen t.serves.later.seen is turn
+
+-- a turn leaves what it is asked
+pub same_asked : (shards : ℕ) (old new : Known Entry) (marks later : List Bool) (v after : CheckFlowValue) → Turns AsksCheck GivesCheck shards old new marks later v after → (after.fresh ≡ v.fresh) × (after.user ≡ v.user)
+same_asked shards old new marks later v after t = (
+  ap (λ (f : CheckFlowValue). f.fresh) t.given.0 ∙ ap (λ (f : CheckFlowValue). f.fresh) t.asked.1,
+  ap (λ (f : CheckFlowValue). f.user) t.given.0 ∙ ap (λ (f : CheckFlowValue). f.user) t.asked.1,
+)
+
+-- a check that begins at a place of the list
+pub check_at : (shards : ℕ) (seen : List Entry) (asked : Freshness) (before place : ℕ) (x : Userset) (u : User) (flow : CheckFlowValue) → flow.shards ≡ shards → flow.fresh ≡ exact place → flow.user ≡ u → place ≤ length seen
+    → IsFresh asked before place → flow.seen ≡ at_rest catch_up (record (begins_at x) { place = Some place }) → CheckRuns shards seen asked before x u flow
+check_at shards seen asked before place x u flow of fresh same there is_fresh begins = record {
+  of = of;
+  user = same;
+  narrows = λ other as_asked. subst (IsFresh asked before) (sym (subst (λ (f : Freshness). IsAsAsked f other) fresh as_asked)) is_fresh;
+  held = subst (λ (f : Freshness). IsCheckOf seen f x u flow.seen) (sym fresh) (checks_begin_at_places seen (exact place) x u place flow.seen there refl begins);
+}
+
+-- a check at a place that lies above what was published asks for heads first
+pub check_beyond : (shards : ℕ) (seen : List Entry) (asked : Freshness) (before : ℕ) (x : Userset) (u : User) (flow : CheckFlowValue) → flow.shards ≡ shards → flow.fresh ≡ asked → flow.user ≡ u → IsBeyond asked (length seen)
+    → flow.seen ≡ at_rest heads (begins_at x) → CheckRuns shards seen asked before x u flow
+check_beyond shards seen asked before x u flow of fresh same beyond begins = record {
+  of = of;
+  user = same;
+  narrows = λ other as_asked. beyond_is_fresh asked before (length seen) other beyond (subst (λ (f : Freshness). IsAsAsked f other) fresh as_asked);
+  held = subst (λ (v : CheckView). IsCheckOf seen flow.fresh x u v) (sym begins) (checks_begin seen flow.fresh x u);
+}
+
+-- what a check ends with is so of the list, at a place as fresh as asked
+pub check_ends : (shards : ℕ) (seen longer : List Entry) (asked : Freshness) (before : ℕ) (x : Userset) (u : User) (flow : CheckFlowValue) (after : CheckView) (end : CheckEnding) → CheckRuns shards seen asked before x u flow
+    → IsCheckOf longer flow.fresh x flow.user after → Some end ≡ after.ended → CheckEnds longer asked before x u end
+check_ends shards seen longer asked before x u flow after end runs held ended place answer is =
+    let member : IsMembershipAt longer flow.fresh x flow.user place answer = held.answers place answer (sym ended ∙ ap (λ (e : CheckEnding). Some e) is) in
+    let wanted : IsFresh asked before place = runs.narrows place member.wanted in
+    let of_user : IsMembershipAt longer flow.fresh x u place answer = subst (λ (u : User). IsMembershipAt longer flow.fresh x u place answer) runs.user member in
+    (wanted, record { there = of_user.there; wanted = fresh_is_as_asked asked before place wanted; member = of_user.member })
+
+-- and so where it is made, if there was memory for it
+pub made_at : {E : Type 0} (shards count : ℕ) (seen : List Entry) (asked : Freshness) (before place : ℕ) (x : Userset) (u : User) (made : Result CheckFlowValue E) → count ≡ shards
+    → IfOk made (λ f. f ≡ record { shards = count; fresh = exact place; user = u; seen = f.seen; next_name = f.next_name }) → IfOk made (λ f. f.seen ≡ at_rest catch_up (record (begins_at x) { place = Some place }))
+    → place ≤ length seen → IsFresh asked before place → IfOk made (λ f. CheckRuns shards seen asked before x u f)
+made_at shards count seen asked before place x u (Ok f) of same begins there is_fresh =
+    check_at shards seen asked before place x u f (ap (λ (f : CheckFlowValue). f.shards) same ∙ of) (ap (λ (f : CheckFlowValue). f.fresh) same) (ap (λ (f : CheckFlowValue). f.user) same) there is_fresh begins
+made_at shards count seen asked before place x u (Err e) of same begins there is_fresh = tt
+
+pub made_beyond : {E : Type 0} (shards count : ℕ) (seen : List Entry) (asked : Freshness) (before : ℕ) (x : Userset) (u : User) (name : Option CallName) (made : Result CheckFlowValue E) → count ≡ shards
+    → IfOk made (λ f. f ≡ record { shards = count; fresh = asked; user = u; seen = at_rest heads (begins_at x); next_name = name }) → IsBeyond asked (length seen) → IfOk made (λ f. CheckRuns shards seen asked before x u f)
+made_beyond shards count seen asked before x u name (Ok f) of same beyond =
+    check_beyond shards seen asked before x u f (ap (λ (f : CheckFlowValue). f.shards) same ∙ of) (ap (λ (f : CheckFlowValue). f.fresh) same) (ap (λ (f : CheckFlowValue). f.user) same) beyond (ap (λ (f : CheckFlowValue). f.seen) same)
+made_beyond shards count seen asked before x u name (Err e) of same beyond = tt

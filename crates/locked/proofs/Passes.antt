@@ -1,0 +1,13 @@
+-- What a pass knows later.
+use Rattle.std.proofs.Common.{◌∙◌, arith}
+use Rattle.tuples.specs.declared.entry.Entry.{Entry}
+use Rattle.published.specs.Known.{Known}
+use Rattle.published.proofs.Prefixes.{prefix_trans}
+use Rattle.sides.specs.Sides.{IsLater}
+
+pub later_on : (one two three : Known Entry) → IsLater one two → IsLater two three → IsLater one three
+later_on one two three first then = record {
+  table = then.table ∙ first.table;
+  seen = prefix_trans one.seen two.seen three.seen first.seen then.seen;
+  horizon = omega (arith, first.horizon, then.horizon);
+}

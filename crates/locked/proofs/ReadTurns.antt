@@ -1,0 +1,99 @@
+-- A read of a shared store goes on to hold what is of the list, turn by turn.
+use Rattle.std.proofs.Common.{◌≡◌, ◌≤◌, ℕ, List, Bool, length, Option, Some, None, MatchOption, refl, sym, ◌∙◌, ap, subst}
+use Rattle.tuples.specs.declared.tupleset.Tupleset.{Tupleset}
+use Rattle.tuples.specs.declared.entry.Entry.{Entry}
+use Rattle.published.specs.Known.{Known}
+use Rattle.decisions.specs.Flows.{Freshness, exact, nothing_read}
+use Rattle.calls.specs.declared.call.NodeCall.TheVariants.{Shard}
+use Rattle.calls.specs.declared.call.ShardCall.TheVariants as shard_calls
+use Rattle.calls.specs.declared.reply.Reply.{Reply}
+use Rattle.answer_flow.specs.Reading.{Asks, AsksFor, Continues, GivesTo}
+use Rattle.answer_flow.specs.ReadViews.{ReadAwaited, ReadEnding, ReadFlowValue, ReadStep, ReadView, at_rest, heads, flush, catch_up, read}
+use Rattle.answer_flow.specs.Running.{AsksRead, GivesRead}
+use Rattle.flow_ties.specs.Reads.{AreRowsAt, IsReadOf, ReadTurns}
+use Rattle.flow_ties.specs.Telling.{IsAsAsked}
+use Rattle.flow_ties.proofs.SeenReads.{reads_answer_what_is_seen, reads_begin, reads_begin_at_places, reads_hand_over_what_is_seen}
+use Rattle.locked.specs.Answering.{IsBeyond, IsFresh, ReadEnds, ReadRuns}
+use Rattle.locked.specs.Turning.{HandsWhatIsSeen, Turns}
+use Rattle.locked.proofs.FreshPlaces.{beyond_is_fresh, fresh_is_as_asked}
+
+-- a read calls no shard to collect
+no_collect : (shards : ℕ) (sets : List Tupleset) (step : ReadStep) (v out : ReadView) (s : ℕ) (h : _) → AsksFor step shards sets v (Shard s (shard_calls.Collect h)) out → ⊥
+no_collect shards sets heads v out s h asks = cc asks.0
+no_collect shards sets flush v out s h asks = cc asks.0
+no_collect shards sets catch_up v out s h asks = asks.asks.1
+no_collect shards sets read v out s h asks = cc asks.call_is
+
+-- what it hands to a shard is a part of the list
+pub reads_hand_over : (shards : ℕ) (pass : Known Entry) (v : ReadFlowValue) → v.shards ≡ shards → IsReadOf shards pass.seen v.fresh v.sets v.seen → HandsWhatIsSeen AsksRead pass v
+reads_hand_over shards pass v of is (Shard s (shard_calls.Learn b)) out asks =
+    reads_hand_over_what_is_seen shards s pass.seen v.fresh v.sets v.seen out.seen b is (subst (λ (n : ℕ). Asks n v.sets v.seen (Shard s (shard_calls.Learn b)) out.seen) of asks.2)
+reads_hand_over shards pass v of is (Shard s (shard_calls.Collect h)) out asks = absurd (no_collect v.shards v.sets v.seen.next v.seen out.seen s h asks.2.asks)
+reads_hand_over shards pass v of is call out asks = tt
+
+-- what the reply makes of it, in its own words
+gives_to : (shards : ℕ) (v out : ReadFlowValue) (awaited : ReadAwaited) (reply : Reply) (after : ReadView) → v.shards ≡ shards → out ≡ record v { seen = out.seen; next_name = None } → out.seen.awaited ≡ Some awaited
+    → MatchOption out.seen.awaited ⊥ (λ awaited. GivesTo out.shards out.fresh out.sets out.seen awaited reply after) → GivesTo shards v.fresh v.sets out.seen awaited reply after
+gives_to shards v out awaited reply after of same is gives =
+    let here : GivesTo out.shards out.fresh out.sets out.seen awaited reply after = subst (λ (o : Option ReadAwaited). MatchOption o ⊥ (λ awaited. GivesTo out.shards out.fresh out.sets out.seen awaited reply after)) is gives in
+    let counted = subst (λ (n : ℕ). GivesTo n out.fresh out.sets out.seen awaited reply after) (ap (λ (f : ReadFlowValue). f.shards) same ∙ of) here in
+    let fresh = subst (λ (f : Freshness). GivesTo shards f out.sets out.seen awaited reply after) (ap (λ (f : ReadFlowValue). f.fresh) same) counted in
+    subst (λ (sets : List Tupleset). GivesTo shards v.fresh sets out.seen awaited reply after) (ap (λ (f : ReadFlowValue). f.sets) same) fresh
+
+-- a turn leaves what it is asked, and what it holds is of the list
+pub record ReadGoesOn (shards : ℕ) (new : Known Entry) (v after : ReadFlowValue) : Type 0 where
+  pub fresh : after.fresh ≡ v.fresh
+  pub sets : after.sets ≡ v.sets
+  pub rests : after.seen.awaited ≡ None
+  pub held : IsReadOf shards new.seen after.fresh after.sets after.seen
+
+pub read_goes_on : (shards : ℕ) (old new : Known Entry) (marks later : List Bool) (v after : ReadFlowValue) → v.shards ≡ shards → IsReadOf shards old.seen v.fresh v.sets v.seen
+    → Turns AsksRead GivesRead shards old new marks later v after → ReadGoesOn shards new v after
+read_goes_on shards old new marks later v after of is t =
+    let fresh : after.fresh ≡ v.fresh = ap (λ (f : ReadFlowValue). f.fresh) t.given.0 ∙ ap (λ (f : ReadFlowValue). f.fresh) t.asked.1 in
+    let sets : after.sets ≡ v.sets = ap (λ (f : ReadFlowValue). f.sets) t.given.0 ∙ ap (λ (f : ReadFlowValue). f.sets) t.asked.1 in
+    let turn : ReadTurns shards new.seen v.sets v.fresh v.seen after.seen = record {
+      call = t.call;
+      out = t.out.seen;
+      reply = t.reply;
+      asks = subst (λ (n : ℕ). Asks n v.sets v.seen t.call t.out.seen) of t.asked.2;
+      belongs = t.serves.belongs;
+      told = t.serves.told;
+      gives = λ awaited awaits. gives_to shards v t.out awaited t.reply after.seen of t.asked.1 awaits t.given.1;
+    } in
+    let held : IsReadOf shards new.seen v.fresh v.sets after.seen = reads_answer_what_is_seen shards old.seen new.seen v.fresh v.sets v.seen after.seen t.serves.later.seen is turn in
+    record {
+      fresh = fresh;
+      sets = sets;
+      rests = t.given.2;
+      held = subst (λ (f : Freshness). IsReadOf shards new.seen f after.sets after.seen) (sym fresh) (subst (λ (sets : List Tupleset). IsReadOf shards new.seen v.fresh sets after.seen) (sym sets) held);
+    }
+
+-- a read that begins at a place of the list
+pub read_at : (shards : ℕ) (seen : List Entry) (asked : Freshness) (before place : ℕ) (sets : List Tupleset) (flow : ReadFlowValue) → flow.shards ≡ shards → flow.fresh ≡ exact place → flow.sets ≡ sets → place ≤ length seen
+    → IsFresh asked before place → Continues sets place (record nothing_read { place = Some place }) flow.seen → ReadRuns shards seen asked before sets flow
+read_at shards seen asked before place sets flow of fresh same there is_fresh begins = record {
+  of = of;
+  asked_sets = same;
+  narrows = λ other as_asked. subst (IsFresh asked before) (sym (subst (λ (f : Freshness). IsAsAsked f other) fresh as_asked)) is_fresh;
+  held = subst (λ (f : Freshness). IsReadOf shards seen f sets flow.seen) (sym fresh) (reads_begin_at_places shards seen (exact place) sets place flow.seen there refl begins);
+}
+
+-- a read of a place that lies above what was published asks for heads first
+pub read_beyond : (shards : ℕ) (seen : List Entry) (asked : Freshness) (before : ℕ) (sets : List Tupleset) (flow : ReadFlowValue) → flow.shards ≡ shards → flow.fresh ≡ asked → flow.sets ≡ sets → IsBeyond asked (length seen)
+    → flow.seen ≡ at_rest heads nothing_read → ReadRuns shards seen asked before sets flow
+read_beyond shards seen asked before sets flow of fresh same beyond begins = record {
+  of = of;
+  asked_sets = same;
+  narrows = λ other as_asked. beyond_is_fresh asked before (length seen) other beyond (subst (λ (f : Freshness). IsAsAsked f other) fresh as_asked);
+  held = subst (λ (v : ReadView). IsReadOf shards seen flow.fresh sets v) (sym begins) (reads_begin shards seen flow.fresh sets);
+}
+
+-- rows that a read ends with are those of the list, at a place as fresh as asked
+pub read_ends : (shards : ℕ) (seen longer : List Entry) (asked : Freshness) (before : ℕ) (sets : List Tupleset) (flow after : ReadFlowValue) (end : ReadEnding) → ReadRuns shards seen asked before sets flow → after.fresh ≡ flow.fresh
+    → after.sets ≡ flow.sets → IsReadOf shards longer after.fresh after.sets after.seen → Some end ≡ after.seen.ended → ReadEnds longer asked before sets end
+read_ends shards seen longer asked before sets flow after end runs fresh same held ended place done is =
+    let rows : AreRowsAt longer after.fresh after.sets place done = held.answers place done (sym ended ∙ ap (λ (e : ReadEnding). Some e) is) in
+    let wanted : IsFresh asked before place = runs.narrows place (subst (λ (f : Freshness). IsAsAsked f place) fresh rows.wanted) in
+    let of_sets : AreRowsAt longer after.fresh sets place done = subst (λ (sets : List Tupleset). AreRowsAt longer after.fresh sets place done) (same ∙ runs.asked_sets) rows in
+    (wanted, record { there = of_sets.there; wanted = fresh_is_as_asked asked before place wanted; all = of_sets.all; each = of_sets.each })

@@ -1,0 +1,10 @@
+use Rattle.std.proofs.Common.{length}
+use Rattle.answer_flow.specs.CheckViews.{ending_of}
+use Rattle.locked.proofs.CheckTurns.{check_ends}
+use Rattle.locked.proofs.store.Store.check.Goals as goal
+
+pub returns-in-Ok-clause-answer : goal.returns-in-Ok-clause-answer
+returns-in-Ok-clause-answer g c =
+    let run = c.run_check-flow.ensures in
+    check_ends g.B.Room.shards c.begin_check.new.caller.seen c.run_check-flow.new.caller.seen c.args.freshness (length c.args.caller.now.seen) c.args.userset.now c.args.user c.in-Ok.flow c.run_check-flow.result.seen
+    (ending_of c.ended.result) c.in-Ok.ensures.runs run.held c.ended.ensures

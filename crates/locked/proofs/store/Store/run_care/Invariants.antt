@@ -1,0 +1,14 @@
+use Rattle.care_flow.specs.Cares.{IsThere, end_of, has_next}
+use Rattle.care_flow.specs.Views.{GoesOrEnds}
+use Rattle.flow_ties.specs.Cares.{IsCareOf}
+use Rattle.sides.specs.Sides.{IsLater}
+use Rattle.locked.proofs.store.Store.run_care.Given as goal
+
+abbrev pub invariant-loop : goal.invariant-loop
+invariant-loop g l = record {
+  runs : (goal.iterator-loop g).can_next l.iterator' × (goal.iterator-loop g).is_finite l.iterator';
+  of : IsThere g.B.Room.shards l.flow;
+  goes : GoesOrEnds (has_next l.flow) (end_of l.flow);
+  later : IsLater l.initial.caller l.caller;
+  held : IsCareOf l.caller.seen l.caller.horizon l.flow;
+}

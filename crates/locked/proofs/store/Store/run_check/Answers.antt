@@ -1,0 +1,24 @@
+use Rattle.std.proofs.Common.{◌∙◌, sym, subst}
+use Rattle.tuples.specs.declared.user.User.{User}
+use Rattle.decisions.specs.Flows.{Freshness}
+use Rattle.flow_ties.specs.Checks.{IsCheckOf}
+use Rattle.locked.proofs.Passes.{later_on}
+use Rattle.locked.proofs.CheckTurns.{check_goes_on, not_ended, same_asked}
+use Rattle.locked.proofs.store.Store.run_check.Goals as goal
+
+pub loop-preserved : goal.loop-preserved
+loop-preserved g c =
+    let was = c.loop.invariant in
+    let turns = c.turn.ensures.turns in
+    let same = same_asked g.B.Room.shards c.loop.caller c.turn.new.caller c.loop.told c.turn.new.told c.loop.flow c.turn.new.flow turns in
+    let held = check_goes_on g.B.Room.shards c.loop.caller c.turn.new.caller c.loop.told c.turn.new.told c.args.userset.now c.loop.flow c.turn.new.flow was.of (not_ended c.loop.flow.seen.ended c.next_name.result c.next_name.ensures.ended c.if-is_none.ensures) was.held turns in
+    let fresh = subst (λ (f : Freshness). IsCheckOf c.turn.new.caller.seen f c.args.userset.now c.loop.flow.user c.turn.new.flow.seen) (sym same.0) held in
+    record {
+      runs = (tt, tt);
+      of = c.turn.ensures.of;
+      fresh = same.0 ∙ was.fresh;
+      user = same.1 ∙ was.user;
+      rests = turns.given.2;
+      later = later_on c.args.caller.now c.loop.caller c.turn.new.caller was.later turns.serves.later;
+      held = subst (λ (u : User). IsCheckOf c.turn.new.caller.seen c.turn.new.flow.fresh c.args.userset.now u c.turn.new.flow.seen) (sym same.1) fresh;
+    }

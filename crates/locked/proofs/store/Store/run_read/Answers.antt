@@ -1,0 +1,19 @@
+use Rattle.std.proofs.Common.{◌∙◌}
+use Rattle.locked.proofs.Passes.{later_on}
+use Rattle.locked.proofs.ReadTurns.{read_goes_on}
+use Rattle.locked.proofs.store.Store.run_read.Goals as goal
+
+pub loop-preserved : goal.loop-preserved
+loop-preserved g c =
+    let was = c.loop.invariant in
+    let turns = c.turn.ensures.turns in
+    let on = read_goes_on g.B.Room.shards c.loop.caller c.turn.new.caller c.loop.told c.turn.new.told c.loop.flow c.turn.new.flow was.of was.held turns in
+    record {
+      runs = (tt, tt);
+      of = c.turn.ensures.of;
+      fresh = on.fresh ∙ was.fresh;
+      sets = on.sets ∙ was.sets;
+      rests = on.rests;
+      later = later_on c.args.caller.now c.loop.caller c.turn.new.caller was.later turns.serves.later;
+      held = on.held;
+    }

@@ -1,0 +1,15 @@
+use Rattle.std.proofs.Common.{◌≡◌, length, None}
+use Rattle.flow_ties.specs.Watches.{IsWatchOf}
+use Rattle.sides.specs.Sides.{IsLater}
+use Rattle.locked.proofs.store.Store.run_watch.Given as goal
+
+abbrev pub invariant-loop : goal.invariant-loop
+invariant-loop g l = record {
+  runs : (goal.iterator-loop g).can_next l.iterator' × (goal.iterator-loop g).is_finite l.iterator';
+  cursor : l.flow.cursor ≡ l.initial.flow.cursor;
+  limit : l.flow.limit ≡ l.initial.flow.limit;
+  names : l.flow.namespaces ≡ l.initial.flow.namespaces;
+  rests : l.flow.seen.awaited ≡ None;
+  later : IsLater l.initial.caller l.caller;
+  held : IsWatchOf l.flow.cursor l.flow.limit l.flow.namespaces (length l.initial.caller.seen) l.caller.seen l.flow.seen;
+}

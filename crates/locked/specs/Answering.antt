@@ -1,0 +1,60 @@
+-- How an answer ends over a shared store, and at which place.
+use Rattle.std.specs.Prelude.{◌≡◌, ◌≤◌, ◌<◌, ℕ, Bool, List}
+use Rattle.tuples.specs.declared.entry.Entry.{Entry}
+use Rattle.tuples.specs.declared.object.Userset.{Userset}
+use Rattle.tuples.specs.declared.tuple.Tuple.{Tuple}
+use Rattle.tuples.specs.declared.tupleset.Tupleset.{Tupleset}
+use Rattle.tuples.specs.declared.user.User.{User}
+use Rattle.tuples.specs.Watching.{Placed}
+use Rattle.decisions.specs.Flows.{Freshness, at_least, exact, latest}
+use Rattle.answer_flow.specs.CheckViews.{CheckEnding, CheckFlowValue, checked}
+use Rattle.answer_flow.specs.ReadViews.{ReadEnding, ReadFlowValue, selected}
+use Rattle.answer_flow.specs.WatchViews.{WatchEnding, listed}
+use Rattle.flow_ties.specs.Checks.{IsCheckOf, IsMembershipAt}
+use Rattle.flow_ties.specs.Reads.{AreRowsAt, IsReadOf}
+use Rattle.flow_ties.specs.Telling.{IsAsAsked}
+use Rattle.flow_ties.specs.Watches.{AreEventsTo}
+
+-- The place is one that was asked for. The latest one is no less than what had been seen.
+abbrev pub IsFresh : Freshness → ℕ → ℕ → Type 0
+IsFresh latest before place = before ≤ place
+IsFresh (at_least z) before place = z ≤ place
+IsFresh (exact z) before place = place ≡ z
+
+-- what is asked for lies above a place
+abbrev pub IsBeyond : Freshness → ℕ → Type 0
+IsBeyond latest place = ⊥
+IsBeyond (at_least z) place = place < z
+IsBeyond (exact z) place = place < z
+
+-- a place that is as the one was asked for is as fresh as the other
+abbrev pub Narrows : Freshness → Freshness → ℕ → Type 0
+Narrows narrow asked before = (place : ℕ) → IsAsAsked narrow place → IsFresh asked before place
+
+-- so much of the list had been seen before it
+module _ (shards : ℕ) (seen : List Entry) (asked : Freshness) (before : ℕ) where
+  -- a read of these tuplesets on its way, of the list, at a place as fresh as asked
+  pub record ReadRuns (sets : List Tupleset) (flow : ReadFlowValue) : Type 0 where
+    pub of : flow.shards ≡ shards
+    pub asked_sets : flow.sets ≡ sets
+    pub narrows : Narrows flow.fresh asked before
+    pub held : IsReadOf shards seen flow.fresh sets flow.seen
+
+  -- a check of this userset, about this user
+  pub record CheckRuns (x : Userset) (u : User) (flow : CheckFlowValue) : Type 0 where
+    pub of : flow.shards ≡ shards
+    pub user : flow.user ≡ u
+    pub narrows : Narrows flow.fresh asked before
+    pub held : IsCheckOf seen flow.fresh x u flow.seen
+
+-- Rows of each tupleset, if it ends with any, are those that it selects of the list at the place that is told, which is as fresh as asked.
+abbrev pub ReadEnds : List Entry → Freshness → ℕ → List Tupleset → ReadEnding → Type 0
+ReadEnds seen asked before sets end = (place : ℕ) (done : List (List Tuple)) → end ≡ selected place done → IsFresh asked before place × AreRowsAt seen asked sets place done
+
+-- whether the user is a member, if it ends with that, is so over the tuples of the list at the place that is told, which is as fresh as asked
+abbrev pub CheckEnds : List Entry → Freshness → ℕ → Userset → User → CheckEnding → Type 0
+CheckEnds seen asked before x u end = (place : ℕ) (answer : Bool) → end ≡ checked place answer → IsFresh asked before place × IsMembershipAt seen asked x u place answer
+
+-- the changes, if it lists any, are all that there are behind its cursor up to the place that is told
+abbrev pub WatchEnds : ℕ → ℕ → List (List ℕ) → ℕ → List Entry → WatchEnding → Type 0
+WatchEnds cursor limit names before seen end = (place : ℕ) (changes : List Placed) → end ≡ listed place changes → AreEventsTo cursor limit names before seen place changes

@@ -1,0 +1,32 @@
+// One turn of what runs over the nodes: its next call, at the node that the call names, and the reply.
+ghost use Rattle.std.specs.Prelude.{◌≡◌, true, is_some};
+ghost use Rattle.locked.specs.Turning.{HandsWhatIsSeen, Turns};
+
+use crate::{Caller, Store};
+use calls::{Running, Told};
+use device::Device;
+use sides::Room;
+use std::sync::Wait;
+
+impl<D: Device, B: Room> Store<D, B> {
+    /// Makes the next call of what runs, and gives it the reply. Others may call between two turns.
+    pub(crate) fn turn<F: Running, R: Wait>(
+        &self,
+        rt: &R,
+        caller: &mut Caller<B>,
+        told: &mut Told,
+        flow: &mut F,
+    )
+        requires of { F.is_of B.shards flow.old }
+        requires goes_on { is_some (F.next_named flow.old) ≡ true }
+        requires hands { HandsWhatIsSeen F.asks caller.old flow.old }
+        ensures turns { Turns F.asks F.gives B.shards caller.old caller.new told.old told.new flow.old flow.new }
+        ensures of { F.is_of B.shards flow.new }
+    {
+        let Some(call) = flow.next_call() else {
+            return;
+        };
+        let reply = self.make(rt, caller, told, call);
+        flow.give(reply);
+    }
+}

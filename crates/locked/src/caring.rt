@@ -1,0 +1,61 @@
+// Cares of a shared store's nodes.
+ghost use Rattle.std.specs.Prelude.{◌≡◌, true, is_some};
+ghost use Rattle.care_flow.specs.Cares.{IsThere, begun, end_of, has_next};
+ghost use Rattle.care_flow.specs.Views.{GoesOrEnds};
+ghost use Rattle.flow_ties.specs.Cares.{IsCareOf};
+ghost use Rattle.sides.specs.Sides.{IsLater};
+
+use crate::{Caller, Store};
+use calls::Told;
+use care_flow::{CareEnd, CareFlow};
+use device::Device;
+use names::Care;
+use sides::Room;
+use std::alloc::Global;
+use std::sync::Wait;
+
+impl<D: Device, B: Room> Store<D, B> {
+    // Makes its calls, one a turn, until it ends.
+    fn run_care<R: Wait>(
+        &self,
+        rt: &R,
+        caller: &mut Caller<B>,
+        told: &mut Told,
+        mut flow: CareFlow,
+    ) -> CareFlow
+        requires of { IsThere B.shards flow }
+        requires held { IsCareOf caller.old.seen caller.old.horizon flow }
+        requires goes { GoesOrEnds (has_next flow) (end_of flow) }
+        ensures caller { IsLater caller.old caller.new }
+        ensures ended { is_some (end_of result) ≡ true }
+    {
+        for _ in rt.forever() {
+            if flow.next_name().is_none() {
+                return flow;
+            }
+            self.turn(rt, caller, told, &mut flow);
+        }
+        unreachable!()
+    }
+
+    /// Cares for a node: what it has staged becomes durable, a shard learns or collects, writes in doubt are resolved, or the horizon is raised. How it
+    /// ended; where a node refuses, by that refusal.
+    pub fn care<R: Wait>(
+        &self,
+        rt: &R,
+        alloc: Global,
+        caller: &mut Caller<B>,
+        told: &mut Told,
+        care: Care,
+    ) -> CareEnd
+        requires there { IsThere B.shards (begun B.shards care) }
+        ensures caller { IsLater caller.old caller.new }
+    {
+        let flow = CareFlow::new(alloc, self.count, care);
+        let flow = self.run_care(rt, caller, told, flow);
+        match flow.finish() {
+            Some(end) => end,
+            None => unreachable!(),
+        }
+    }
+}

@@ -1,0 +1,101 @@
+// Checks of a shared store.
+ghost use Rattle.std.specs.Prelude.{◌≡◌, length, None, Some, IfOk};
+ghost use Rattle.answer_flow.specs.CheckViews.{ending_of};
+ghost use Rattle.flow_ties.specs.Checks.{IsCheckOf};
+ghost use Rattle.sides.specs.Sides.{IsLater};
+ghost use Rattle.locked.specs.Answering.{CheckEnds, CheckRuns};
+
+use crate::{Caller, Store};
+use answer_flow::{CheckEnd, CheckFlow};
+use calls::Told;
+use device::Device;
+use sides::Room;
+use std::alloc::{AllocError, Global};
+use std::sync::Wait;
+use tuples::{Freshness, Refusal, User, Userset};
+
+// What it ended with; it has ended.
+fn ended(flow: CheckFlow) -> CheckEnd
+    requires named { flow.next_name ≡ None }
+    requires rests { flow.seen.awaited ≡ None }
+    ensures { Some (ending_of result) ≡ flow.seen.ended }
+{
+    let _name = flow.next_name();
+    match flow.finish() {
+        Some(end) => end,
+        None => unreachable!(),
+    }
+}
+
+impl<D: Device, B: Room> Store<D, B> {
+    // The check before its first call, at a place that is known where it can be.
+    fn begin_check(
+        &self,
+        alloc: Global,
+        caller: &mut Caller<B>,
+        freshness: Freshness,
+        userset: &Userset,
+        user: User,
+    ) -> Result<CheckFlow, AllocError>
+        ensures caller { IsLater caller.old caller.new }
+        ensures runs { IfOk result (λ flow. CheckRuns B.shards caller.new.seen freshness (length caller.old.seen) userset.now user flow) }
+        ensures rests { IfOk result (λ flow. flow.seen.awaited ≡ None) }
+    {
+        let count = self.shards();
+        match self.known_place(caller, freshness) {
+            Some(place) => CheckFlow::at(alloc, count, place, userset, user),
+            None => CheckFlow::new(alloc, count, freshness, userset, user),
+        }
+    }
+
+    // Makes its calls, one a turn, until it ends.
+    fn run_check<R: Wait>(
+        &self,
+        rt: &R,
+        caller: &mut Caller<B>,
+        told: &mut Told,
+        userset: &Userset,
+        mut flow: CheckFlow,
+    ) -> CheckFlow
+        requires of { flow.shards ≡ B.shards }
+        requires held { IsCheckOf caller.old.seen flow.fresh userset.now flow.user flow.seen }
+        requires rests { flow.seen.awaited ≡ None }
+        ensures caller { IsLater caller.old caller.new }
+        ensures held { IsCheckOf caller.new.seen flow.fresh userset.now flow.user result.seen }
+        ensures named { result.next_name ≡ None }
+        ensures rests { result.seen.awaited ≡ None }
+    {
+        let _asked = userset;
+        for _ in rt.forever() {
+            if flow.next_name().is_none() {
+                return flow;
+            }
+            self.turn(rt, caller, told, &mut flow);
+        }
+        unreachable!()
+    }
+
+    /// Whether the user is in the userset at one place, which it tells. The place is known from the published word where that is far enough. Where memory
+    /// is refused it ends with `NoMemory`; where more usersets would be walked than may be, with `Full`; where a node refuses, with that refusal.
+    pub fn check<R: Wait>(
+        &self,
+        rt: &R,
+        alloc: Global,
+        caller: &mut Caller<B>,
+        told: &mut Told,
+        freshness: Freshness,
+        userset: &Userset,
+        user: User,
+    ) -> CheckEnd
+        ensures caller { IsLater caller.old caller.new }
+        ensures answer { CheckEnds caller.new.seen freshness (length caller.old.seen) userset.now user (ending_of result) }
+    {
+        match self.begin_check(alloc, caller, freshness, userset, user) {
+            Ok(flow) => {
+                let flow = self.run_check(rt, caller, told, userset, flow);
+                ended(flow)
+            }
+            Err(_) => CheckEnd::Refused(Refusal::NoMemory),
+        }
+    }
+}

@@ -1,0 +1,21 @@
+//! A store that callers share: each of its nodes under a lock of its own, and one call of a node under one hold.
+//!
+//! Keeps: what a caller has seen of the list it sees behind each call, and so do all whom it tells.
+//! Never: holds two locks at once, or a lock between two calls of a node.
+//! Callers rely on: a read, a check and a watch answer what is so of the list that the caller has then seen, at a place as fresh as asked.
+//!
+//! No program uses this yet. Start at `specs/Serving.antt`, what a call leaves a caller with, and then `Store`.
+#![tactic(auto)]
+
+mod caller;
+mod calling;
+mod caring;
+mod checking;
+mod making;
+mod placing;
+mod reading;
+mod store;
+mod watching;
+
+pub use caller::Caller;
+pub use store::Store;

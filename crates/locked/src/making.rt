@@ -1,0 +1,132 @@
+// One call of one node, under one hold of its lock.
+ghost use Rattle.std.specs.Prelude.{◌≡◌};
+ghost use Rattle.calls.specs.Asking.{MayAskCoordinator, MayAskShard};
+ghost use Rattle.calls.specs.Belonging.{IsOwed};
+ghost use Rattle.calls.specs.Refusing.{Notes};
+ghost use Rattle.calls.specs.declared.call.NodeCall.TheVariants.{Coordinator as of_coordinator, Shard as of_shard};
+ghost use Rattle.flow_ties.specs.Cares.{HandsOver};
+ghost use Rattle.flow_ties.specs.Writes.{Notices};
+ghost use Rattle.locked.specs.Serving.{Serves};
+
+use crate::{Caller, Store};
+use calls::{CoordinatorCall, NodeCall, Reply, ShardCall, Told, refuse};
+use device::Device;
+use published::{Published, SessionPass};
+use sides::{CoordinatorSide, Room, ShardSide};
+use std::sync::Wait;
+use tuples::{Entry, Refusal};
+
+// Makes the call of the coordinator, under its lock.
+fn serve_coordinator<D: Device, B: Room>(
+    words: &Published<Entry>,
+    side: &mut CoordinatorSide<D, B>,
+    pass: &mut SessionPass<Entry>,
+    told: &mut Told,
+    call: CoordinatorCall,
+) -> Reply
+    requires own { (words.now ≡ B.log) × (pass.old.table ≡ B.log) }
+    requires owed { MayAskCoordinator B.shards call }
+    ensures serves { Serves B.shards pass.old pass.new (of_coordinator call) result }
+    ensures told { Notes told.old result told.new }
+{
+    match call {
+        CoordinatorCall::Begin(write) => side.begin(told, write),
+        CoordinatorCall::Heads => side.heads(words, pass, told),
+        CoordinatorCall::Batch(from, to) => side.batch(words, pass, told, from, to),
+        CoordinatorCall::Decide(intent, votes) => side.decide(words, pass, told, intent, votes),
+        CoordinatorCall::Outcome(decided) => side.outcome(words, pass, told, decided),
+        CoordinatorCall::Abort(intent) => side.abort(told, intent),
+        CoordinatorCall::Inquire(id) => side.inquire(words, pass, told, id),
+        CoordinatorCall::Raise(place, settled) => side.raise(told, place, settled),
+        CoordinatorCall::Flush => side.flush(words, pass, told),
+    }
+}
+
+// Makes the call of the shard, under its lock.
+fn serve_shard<D: Device, B: Room>(
+    words: &Published<Entry>,
+    side: &mut ShardSide<D, B>,
+    pass: &mut SessionPass<Entry>,
+    told: &mut Told,
+    call: ShardCall,
+) -> Reply
+    requires own { (words.now ≡ B.log) × (pass.old.table ≡ B.log) }
+    requires owed { MayAskShard B.shards side.old.number call }
+    requires hands { HandsOver pass.old.seen pass.old.horizon (of_shard side.old.number call) }
+    ensures serves { Serves B.shards pass.old pass.new (of_shard side.old.number call) result }
+    ensures told { Notes told.old result told.new }
+{
+    match call {
+        ShardCall::Learned => side.learned(told),
+        ShardCall::Learn(batch) => side.learn(words, pass, told, batch),
+        ShardCall::StagePrepare(intent) => side.stage_prepare(told, intent),
+        ShardCall::Vote(ticket) => side.vote(told, ticket),
+        ShardCall::DropWrite(verdict, held) => side.drop_write(told, verdict, held),
+        ShardCall::InDoubt => side.in_doubt(told),
+        ShardCall::Read(place, set) => side.read(words, pass, told, place, set),
+        ShardCall::ReadForCheck(place, userset, user) => {
+            side.read_for_check(words, pass, told, place, userset, user)
+        }
+        ShardCall::Settle => side.settle(told),
+        ShardCall::Collect(heads) => side.collect(words, pass, told, heads),
+        ShardCall::Flush => side.flush(told),
+    }
+}
+
+impl<D: Device, B: Room> Store<D, B> {
+    // Makes the call of the coordinator.
+    fn make_there<R: Wait>(
+        &self,
+        rt: &R,
+        caller: &mut Caller<B>,
+        told: &mut Told,
+        call: CoordinatorCall,
+    ) -> Reply
+        requires owed { MayAskCoordinator B.shards call }
+        ensures serves { Serves B.shards caller.old caller.new (of_coordinator call) result }
+        ensures told { Notices told.old result told.new }
+    {
+        let mut side = self.coordinator.lock(rt);
+        serve_coordinator(&self.words, &mut side, &mut caller.pass, told, call)
+    }
+
+    // Makes the call of this shard. One that is not there answers that the caller is damaged.
+    fn make_at<R: Wait>(
+        &self,
+        rt: &R,
+        caller: &mut Caller<B>,
+        told: &mut Told,
+        shard: u8,
+        call: ShardCall,
+    ) -> Reply
+        requires owed { MayAskShard B.shards shard call }
+        requires hands { HandsOver caller.old.seen caller.old.horizon (of_shard shard call) }
+        ensures serves { Serves B.shards caller.old caller.new (of_shard shard call) result }
+        ensures told { Notices told.old result told.new }
+    {
+        if shard >= self.count {
+            return refuse(Refusal::Damaged, NodeCall::Shard(shard, call));
+        }
+        let mut side = self.side(rt, shard);
+        serve_shard(&self.words, &mut side, &mut caller.pass, told, call)
+    }
+
+    /// Makes the call, of the node that it names.
+    pub(crate) fn make<R: Wait>(
+        &self,
+        rt: &R,
+        caller: &mut Caller<B>,
+        told: &mut Told,
+        call: NodeCall,
+    ) -> Reply
+        requires owed { IsOwed B.shards call }
+        requires hands { HandsOver caller.old.seen caller.old.horizon call }
+        ensures serves { Serves B.shards caller.old caller.new call result }
+        ensures told { Notices told.old result told.new }
+    {
+        match call {
+            NodeCall::Coordinator(call) => self.make_there(rt, caller, told, call),
+            NodeCall::Shard(shard, call) => self.make_at(rt, caller, told, shard, call),
+        }
+    }
+}

@@ -1,0 +1,94 @@
+// Reads of a shared store.
+ghost use Rattle.std.specs.Prelude.{◌≡◌, length, None, Some};
+ghost use Rattle.answer_flow.specs.ReadViews.{ending_of};
+ghost use Rattle.flow_ties.specs.Reads.{IsReadOf};
+ghost use Rattle.sides.specs.Sides.{IsLater};
+ghost use Rattle.locked.specs.Answering.{ReadEnds, ReadRuns};
+
+use crate::{Caller, Store};
+use answer_flow::{ReadEnd, ReadFlow};
+use calls::Told;
+use device::Device;
+use sides::Room;
+use std::alloc::Global;
+use std::sync::Wait;
+use tuples::{Freshness, Tupleset};
+
+// What it ended with; it has ended.
+fn ended(flow: ReadFlow) -> ReadEnd
+    requires named { flow.next_name ≡ None }
+    requires rests { flow.seen.awaited ≡ None }
+    ensures { Some (ending_of result) ≡ flow.seen.ended }
+{
+    let _name = flow.next_name();
+    match flow.finish() {
+        Some(end) => end,
+        None => unreachable!(),
+    }
+}
+
+impl<D: Device, B: Room> Store<D, B> {
+    // The read before its first call, at a place that is known where it can be.
+    fn begin_read(
+        &self,
+        alloc: Global,
+        caller: &mut Caller<B>,
+        freshness: Freshness,
+        sets: Vec<Tupleset>,
+    ) -> ReadFlow
+        ensures caller { IsLater caller.old caller.new }
+        ensures runs { ReadRuns B.shards caller.new.seen freshness (length caller.old.seen) sets.items result }
+        ensures rests { result.seen.awaited ≡ None }
+    {
+        let count = self.shards();
+        match self.known_place(caller, freshness) {
+            Some(place) => ReadFlow::at(alloc, count, place, sets),
+            None => ReadFlow::new(alloc, count, freshness, sets),
+        }
+    }
+
+    // Makes its calls, one a turn, until it ends.
+    fn run_read<R: Wait>(
+        &self,
+        rt: &R,
+        caller: &mut Caller<B>,
+        told: &mut Told,
+        mut flow: ReadFlow,
+    ) -> ReadFlow
+        requires of { flow.shards ≡ B.shards }
+        requires held { IsReadOf B.shards caller.old.seen flow.fresh flow.sets flow.seen }
+        requires rests { flow.seen.awaited ≡ None }
+        ensures caller { IsLater caller.old caller.new }
+        ensures held { IsReadOf B.shards caller.new.seen result.fresh result.sets result.seen }
+        ensures same { (result.fresh ≡ flow.fresh) × (result.sets ≡ flow.sets) }
+        ensures named { result.next_name ≡ None }
+        ensures rests { result.seen.awaited ≡ None }
+    {
+        for _ in rt.forever() {
+            if flow.next_name().is_none() {
+                return flow;
+            }
+            self.turn(rt, caller, told, &mut flow);
+        }
+        unreachable!()
+    }
+
+    /// The tuples of each tupleset at one place, which it tells. The place is known from the published word where that is far enough, so that no shard
+    /// waits for the coordinator. Where memory is refused it ends with `NoMemory`; where a node refuses, with that refusal.
+    pub fn read<R: Wait>(
+        &self,
+        rt: &R,
+        alloc: Global,
+        caller: &mut Caller<B>,
+        told: &mut Told,
+        freshness: Freshness,
+        sets: Vec<Tupleset>,
+    ) -> ReadEnd
+        ensures caller { IsLater caller.old caller.new }
+        ensures answer { ReadEnds caller.new.seen freshness (length caller.old.seen) sets.items (ending_of result) }
+    {
+        let flow = self.begin_read(alloc, caller, freshness, sets);
+        let flow = self.run_read(rt, caller, told, flow);
+        ended(flow)
+    }
+}

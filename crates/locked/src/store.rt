@@ -1,0 +1,121 @@
+// The store: its words, and each node under a lock of its own.
+ghost use Rattle.std.specs.Prelude.{◌≡◌, ◌≤◌, ◌<◌, length, vec_len};
+ghost use Rattle.std.specs.Sync.Mutex.{mutex_guard_value};
+ghost use mathlib.Core.List.{IsPrefix};
+ghost use Rattle.records.specs.Identity.{max_shards};
+ghost use Rattle.sides.specs.Sides.{IsLater};
+ghost use Rattle.locked.specs.Serving.{KnowsOf};
+
+use crate::Caller;
+use device::Device;
+use published::Published;
+use sides::{CoordinatorSide, Room, ShardSide};
+use std::alloc::Global;
+use std::sync::{Mutex, MutexGuard, Wait};
+use tuples::{Entry, Refusal};
+
+/// A store that callers share.
+#[derive(Drop)]
+pub struct Store<D: Device, B: Room> {
+    pub(crate) words: Published<Entry>,
+    pub(crate) coordinator: Mutex<CoordinatorSide<D, B>>,
+    // the shard of each number, in their order
+    pub(crate) shards: Vec<Mutex<ShardSide<D, B>>>,
+    pub(crate) count: u8,
+    ghost own: { words ≡ B.log },
+    ghost of: { count ≡ B.shards },
+    ghost all: { vec_len shards ≡ count },
+    ghost some: { 1 ≤ count },
+    ghost few: { count ≤ max_shards },
+}
+
+impl<D: Device, B: Room> Store<D, B> {
+    /// A store of these nodes, the shards in the order of their numbers.
+    pub fn new(
+        words: Published<Entry>,
+        coordinator: CoordinatorSide<D, B>,
+        shards: Vec<Mutex<ShardSide<D, B>>>,
+        count: u8,
+    ) -> Store<D, B>
+        requires own { words ≡ B.log }
+        requires of { count ≡ B.shards }
+        requires all { vec_len shards ≡ count }
+        requires some { 1 ≤ count }
+        requires few { count ≤ max_shards }
+    {
+        Store {
+            words,
+            coordinator: Mutex::new(coordinator),
+            shards,
+            count,
+        }
+    }
+
+    /// How many shards it has.
+    pub fn shards(&self) -> u8
+        ensures of { result ≡ B.shards }
+        ensures some { 1 ≤ result }
+        ensures few { result ≤ max_shards }
+    {
+        self.count
+    }
+
+    /// A new caller, which has seen all that there is.
+    pub fn session<R: Wait>(&self, rt: &R) -> Caller<B> {
+        let mut side = self.coordinator.lock(rt);
+        Caller::new(side.session(&self.words))
+    }
+
+    /// The place of the last write, by one load. The caller has then seen as many writes. It takes no lock.
+    pub fn latest(&self, caller: &mut Caller<B>) -> u64
+        ensures caller { IsLater caller.old caller.new }
+        ensures length { length caller.new.seen ≡ result }
+        ensures rises { length caller.old.seen ≤ result }
+    {
+        self.words.look(&mut caller.pass)
+    }
+
+    /// The horizon, by one load. The caller has then seen at least that many writes. It takes no lock.
+    pub fn horizon(&self, caller: &mut Caller<B>) -> u64
+        ensures caller { IsLater caller.old caller.new }
+        ensures below { result ≤ length caller.new.seen }
+        ensures rises { caller.old.horizon ≤ result }
+        ensures known { caller.new.horizon ≡ result }
+    {
+        self.words.look_low(&mut caller.pass)
+    }
+
+    /// Each caller learns what the other has seen. It takes no lock.
+    pub fn tell(&self, one: &mut Caller<B>, other: &mut Caller<B>)
+        ensures one { KnowsOf one.old other.old one.new }
+        ensures other { KnowsOf one.old other.old other.new }
+    {
+        self.words.share(&mut one.pass, &mut other.pass);
+    }
+
+    // The shard of this number, locked.
+    pub(crate) fn side<'a, R: Wait>(&'a self, rt: &R, shard: u8) -> MutexGuard<'a, ShardSide<D, B>>
+        requires { shard < self.now.count }
+        ensures { (mutex_guard_value result).number ≡ shard }
+    {
+        for _ in rt.forever() {
+            let side = self.shards[shard as usize].lock(rt);
+            if side.number() == shard {
+                return side;
+            }
+        }
+        unreachable!()
+    }
+
+    /// Opens the coordinator again, with what its devices hold; what was kept joins the list. The refusal of its opening, where that was refused.
+    pub fn restart_coordinator<R: Wait>(&self, rt: &R, alloc: Global) -> Option<Refusal> {
+        self.coordinator.lock(rt).restart(&self.words, alloc)
+    }
+
+    /// Opens the shard of this number again, with what its devices hold. The refusal of its opening, where that was refused.
+    pub fn restart_shard<R: Wait>(&self, rt: &R, alloc: Global, shard: u8) -> Option<Refusal>
+        requires { shard < B.shards }
+    {
+        self.side(rt, shard).restart(alloc)
+    }
+}

@@ -1,0 +1,76 @@
+// Watches of a shared store.
+ghost use Rattle.std.specs.Prelude.{◌≡◌, ◌≤◌, length, None, Some};
+ghost use Rattle.answer_flow.specs.WatchViews.{ending_of, next_name_of};
+ghost use Rattle.flow_ties.specs.Watches.{IsWatchOf};
+ghost use Rattle.sides.specs.Sides.{IsLater};
+ghost use Rattle.tuples.specs.Limits.{max_watched};
+ghost use Rattle.locked.specs.Answering.{WatchEnds};
+
+use crate::{Caller, Store};
+use answer_flow::{WatchEnd, WatchFlow};
+use calls::Told;
+use device::Device;
+use sides::Room;
+use std::alloc::Global;
+use std::sync::Wait;
+use tuples::Namespace;
+
+// What it ended with; it has ended.
+fn ended(flow: WatchFlow) -> WatchEnd
+    requires named { next_name_of flow.seen ≡ None }
+    requires rests { flow.seen.awaited ≡ None }
+    ensures { Some (ending_of result) ≡ flow.seen.ended }
+{
+    match flow.finish() {
+        Some(end) => end,
+        None => unreachable!(),
+    }
+}
+
+impl<D: Device, B: Room> Store<D, B> {
+    // Makes its calls, one a turn, until it ends.
+    fn run_watch<R: Wait>(
+        &self,
+        rt: &R,
+        caller: &mut Caller<B>,
+        told: &mut Told,
+        mut flow: WatchFlow,
+    ) -> WatchFlow
+        requires few { flow.limit ≤ max_watched }
+        requires held { IsWatchOf flow.cursor flow.limit flow.namespaces (length caller.old.seen) caller.old.seen flow.seen }
+        requires rests { flow.seen.awaited ≡ None }
+        ensures caller { IsLater caller.old caller.new }
+        ensures held { IsWatchOf flow.cursor flow.limit flow.namespaces (length caller.old.seen) caller.new.seen result.seen }
+        ensures named { next_name_of result.seen ≡ None }
+        ensures rests { result.seen.awaited ≡ None }
+    {
+        for _ in rt.forever() {
+            if flow.next_name().is_none() {
+                return flow;
+            }
+            self.turn(rt, caller, told, &mut flow);
+        }
+        unreachable!()
+    }
+
+    /// The changes in these namespaces behind a place, of so many places at most, and the place up to which these are all. That is as far as was asked
+    /// for, or as far as the caller had seen. Where memory is refused it ends with `NoMemory`; where a node refuses, with that refusal.
+    pub fn watch<R: Wait>(
+        &self,
+        rt: &R,
+        alloc: Global,
+        caller: &mut Caller<B>,
+        told: &mut Told,
+        cursor: u64,
+        limit: u64,
+        namespaces: Vec<Namespace>,
+    ) -> WatchEnd
+        requires few { limit ≤ max_watched }
+        ensures caller { IsLater caller.old caller.new }
+        ensures lists { WatchEnds cursor limit namespaces.items (length caller.old.seen) caller.new.seen (ending_of result) }
+    {
+        let flow = WatchFlow::new(alloc, cursor, limit, namespaces);
+        let flow = self.run_watch(rt, caller, told, flow);
+        ended(flow)
+    }
+}
