@@ -5,3 +5,5 @@ mod ReadTurns
 mod CheckTurns
 mod WatchTurns
 mod CareTurns
+mod RefusedCalls
+mod WriteTurns

@@ -1,8 +1,8 @@
 -- What a pass knows later.
-use Rattle.std.proofs.Common.{◌∙◌, arith}
+use Rattle.std.proofs.Common.{◌∙◌, arith, refl}
 use Rattle.tuples.specs.declared.entry.Entry.{Entry}
 use Rattle.published.specs.Known.{Known}
-use Rattle.published.proofs.Prefixes.{prefix_trans}
+use Rattle.published.proofs.Prefixes.{prefix_self, prefix_trans}
 use Rattle.sides.specs.Sides.{IsLater}
 
 pub later_on : (one two three : Known Entry) → IsLater one two → IsLater two three → IsLater one three
@@ -11,3 +11,6 @@ later_on one two three first then = record {
   seen = prefix_trans one.seen two.seen three.seen first.seen then.seen;
   horizon = omega (arith, first.horizon, then.horizon);
 }
+
+pub later_self : (one : Known Entry) → IsLater one one
+later_self one = record { table = refl; seen = prefix_self one.seen; horizon = omega (arith) }

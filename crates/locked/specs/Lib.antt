@@ -1,3 +1,4 @@
 pub mod Serving
 pub mod Turning
 pub mod Answering
+pub mod Holding

@@ -2,7 +2,8 @@
 //!
 //! Keeps: what a caller has seen of the list it sees behind each call, and so do all whom it tells.
 //! Never: holds two locks at once, or a lock between two calls of a node.
-//! Callers rely on: a read, a check and a watch answer what is so of the list that the caller has then seen, at a place as fresh as asked.
+//! Callers rely on: a read, a check and a watch answer what is so of the list that the caller has then seen, at a place as fresh as asked; and a write that
+//! is told a place stands there in that list, above all that the caller had seen.
 //!
 //! No program uses this yet. Start at `specs/Serving.antt`, what a call leaves a caller with, and then `Store`.
 #![tactic(auto)]
@@ -11,11 +12,13 @@ mod caller;
 mod calling;
 mod caring;
 mod checking;
+mod holding;
 mod making;
 mod placing;
 mod reading;
 mod store;
 mod watching;
+mod writing;
 
 pub use caller::Caller;
 pub use store::Store;

@@ -1,11 +1,13 @@
 // One call of one node, under one hold of its lock.
-ghost use Rattle.std.specs.Prelude.{◌≡◌};
+ghost use Rattle.std.specs.Prelude.{◌≡◌, ◌≤◌, ℕ, length};
 ghost use Rattle.calls.specs.Asking.{MayAskCoordinator, MayAskShard};
 ghost use Rattle.calls.specs.Belonging.{IsOwed};
 ghost use Rattle.calls.specs.Refusing.{Notes};
 ghost use Rattle.calls.specs.declared.call.NodeCall.TheVariants.{Coordinator as of_coordinator, Shard as of_shard};
 ghost use Rattle.flow_ties.specs.Cares.{HandsOver};
 ghost use Rattle.flow_ties.specs.Writes.{Notices};
+ghost use Rattle.tuples.specs.Writes.{WriteValue};
+ghost use Rattle.locked.specs.Holding.{KeepsTried, TellsInHold};
 ghost use Rattle.locked.specs.Serving.{Serves};
 
 use crate::{Caller, Store};
@@ -16,8 +18,8 @@ use sides::{CoordinatorSide, Room, ShardSide};
 use std::sync::Wait;
 use tuples::{Entry, Refusal};
 
-// Makes the call of the coordinator, under its lock.
-fn serve_coordinator<D: Device, B: Room>(
+/// Makes the call of the coordinator, under its lock.
+pub(crate) fn serve_coordinator<D: Device, B: Room>(
     words: &Published<Entry>,
     side: &mut CoordinatorSide<D, B>,
     pass: &mut SessionPass<Entry>,
@@ -27,6 +29,8 @@ fn serve_coordinator<D: Device, B: Room>(
     requires own { (words.now ≡ B.log) × (pass.old.table ≡ B.log) }
     requires owed { MayAskCoordinator B.shards call }
     ensures serves { Serves B.shards pass.old pass.new (of_coordinator call) result }
+    ensures tells { (asked : WriteValue) (above : ℕ) → above ≤ length pass.old.seen → TellsInHold D.state D.honest B.store B.shards asked above side.old side.new pass.new.seen (of_coordinator call) result }
+    ensures kept { KeepsTried D.state D.honest B.store B.shards side.old side.new (of_coordinator call) }
     ensures told { Notes told.old result told.new }
 {
     match call {

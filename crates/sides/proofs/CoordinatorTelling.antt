@@ -212,7 +212,9 @@ module _ {D : Type 0} (state : D → State) (honest : D → Type 0) (moment : D 
     outcome_by : (v : CoordinatorView D) (r : outcomes.Outcome) → IsOpenedTied state honest store shards v seen low [] → OutcomeAnswers state honest v d r
         → TellsKept state honest store shards (side_of (Some (coordinator v))) d (from_coordinator (told.Outcome r))
     outcome_by v (Kept place) tied a = kept_by v place tied a
-    outcome_by v (Later back) tied a = tt
+    outcome_by v (Later back) tied a =
+        let was_up = is_up v.is_down (λ down. cc (a.down down)) in
+        (a.later back (tied.up was_up).running refl).0
     outcome_by v Unsure tied a = tt
 
     outcome_by_coordinator : (old new : CoordinatorView D) (reply : CoordinatorReply) → IsOpenedTied state honest store shards old seen low [] → CoordinatorAnswers state honest moment left_since old (Outcome d) reply new
@@ -222,7 +224,7 @@ module _ {D : Type 0} (state : D → State) (honest : D → Type 0) (moment : D 
 
     outcome_of_refused : (e : Refusal) (old : Option (NodeView D)) (reply : Reply) → Refuses e (Coordinator (Outcome d)) reply → TellsKept state honest store shards (side_of old) d reply
     outcome_of_refused e old (from_coordinator (told.Outcome (Kept place))) r = absurd (cc r)
-    outcome_of_refused e old (from_coordinator (told.Outcome (Later back))) r = tt
+    outcome_of_refused e old (from_coordinator (told.Outcome (Later back))) r = absurd (cc r)
     outcome_of_refused e old (from_coordinator (told.Outcome Unsure)) r = tt
     outcome_of_refused e old reply r = absurd r
 

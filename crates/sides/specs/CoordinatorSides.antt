@@ -9,7 +9,7 @@ use Rattle.device.specs.Device.{State}
 use Rattle.published.specs.Known.{Known}
 use Rattle.decisions.specs.Standing.{DecidedValue}
 use Rattle.coordinator.specs.declared.telling.Inquiry.TheVariants.{Commit}
-use Rattle.coordinator.specs.declared.telling.Outcome.TheVariants.{Kept}
+use Rattle.coordinator.specs.declared.telling.Outcome.TheVariants.{Kept, Later}
 use Rattle.calls.specs.declared.call.NodeCall.TheVariants.{Coordinator}
 use Rattle.calls.specs.declared.call.CoordinatorCall.{CoordinatorCall}
 use Rattle.calls.specs.declared.reply.Reply.{Reply}
@@ -96,7 +96,8 @@ module _ {D : Type 0} (state : D → State) (honest : D → Type 0) (store shard
   TellsDecided side w (from_coordinator (told.Decide (Ok decided))) = (length side.seen < decided.place) × HasTried side (attempt decided w ∷ [])
   TellsDecided side w reply = Unit {0}
 
-  -- A decision that is kept has its place. Where it was one of this write, that stands there in the list, its id once.
+  -- A decision that is kept has its place. Where it was one of this write, that stands there in the list, its id once. One that is not kept yet comes back.
   abbrev pub TellsKept : LogSide D → DecidedValue → Reply → Type 0
   TellsKept side decided (from_coordinator (told.Outcome (Kept place))) = (place ≡ decided.place) × ((w : Entry) → HasTried side (attempt decided w ∷ []) → StandsAt place w side.seen)
+  TellsKept side decided (from_coordinator (told.Outcome (Later back))) = back ≡ decided
   TellsKept side decided reply = Unit {0}

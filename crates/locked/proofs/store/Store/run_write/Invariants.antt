@@ -1,0 +1,15 @@
+use Rattle.std.proofs.Common.{◌≡◌, ◌≤◌, ℕ, length, None}
+use Rattle.tuples.specs.Writes.{WriteValue}
+use Rattle.flow_ties.specs.Writes.{IsWriteOf}
+use Rattle.sides.specs.Sides.{IsLater}
+use Rattle.locked.specs.Holding.{of_none}
+use Rattle.locked.proofs.store.Store.run_write.Given as goal
+
+abbrev pub invariant-loop : goal.invariant-loop
+invariant-loop g l = record {
+  runs : (goal.iterator-loop g).can_next l.iterator' × (goal.iterator-loop g).is_finite l.iterator';
+  of : l.flow.shards ≡ g.B.Room.shards;
+  rests : l.flow.seen.awaited ≡ None;
+  later : IsLater l.initial.caller l.caller;
+  held : (asked : WriteValue) (above : ℕ) → above ≤ length l.initial.caller.seen → IsWriteOf of_none asked above l.initial.caller.seen l.initial.flow.seen → IsWriteOf of_none asked above l.caller.seen l.flow.seen;
+}
