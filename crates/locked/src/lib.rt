@@ -1,7 +1,8 @@
-//! A store that callers share: each of its nodes under a lock of its own, and one call of a node under one hold.
+//! A store that callers share: each of its nodes under a lock of its own, and one call of a node under one hold, but for a writer's from its decision to the
+//! outcome.
 //!
 //! Keeps: what a caller has seen of the list it sees behind each call, and so do all whom it tells.
-//! Never: holds two locks at once, or a lock between two calls of a node.
+//! Never: holds two locks at once, or a lock between two calls of a node, but the coordinator's from a decision to its outcome.
 //! Callers rely on: a read, a check and a watch answer what is so of the list that the caller has then seen, at a place as fresh as asked; and a write that
 //! is told a place stands there in that list, above all that the caller had seen.
 //!
