@@ -19,12 +19,6 @@ use Rattle.locked.specs.Answering.{CheckEnds, CheckRuns, IsBeyond, IsFresh}
 use Rattle.locked.specs.Turning.{HandsWhatIsSeen, Turns}
 use Rattle.locked.proofs.FreshPlaces.{beyond_is_fresh, fresh_is_as_asked}
 
--- what has a next call has not ended
-pub not_ended : (ended : Option CheckEnding) (name : Option CallName) → ((end : CheckEnding) → ended ≡ Some end → name ≡ None) → is_some name ≡ true → ended ≡ None
-not_ended None name without some = refl
-not_ended (Some end) None without some = absurd (let bad : false ≡ true = some in cc)
-not_ended (Some end) (Some name) without some = absurd (let bad : Some name ≡ None = without end refl in cc)
-
 -- a check calls no shard to collect
 no_collect : (shards : ℕ) (u : User) (step : CheckStep) (v out : CheckView) (s : ℕ) (h : _) → AsksFor step shards u v (Shard s (shard_calls.Collect h)) out → ⊥
 no_collect shards u heads v out s h asks = cc asks.1

@@ -1,5 +1,6 @@
 mod Served
 mod Passes
+mod NextCalls
 mod FreshPlaces
 mod ReadTurns
 mod CheckTurns

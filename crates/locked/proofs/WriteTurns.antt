@@ -88,12 +88,6 @@ undecided links asked above shards seen v out (Shard s shard_calls.Flush) is ask
 unlinked : (links other : Linking) (asked : WriteValue) (above : ℕ) (seen : List Entry) (v : WriteView) → v.holds.decided ≡ None → IsWriteOf links asked above seen v → IsWriteOf other asked above seen v
 unlinked links other asked above seen v none is = writes_are_relinked links other asked above seen v (λ d w at linked. absurd (let bad : None ≡ Some d = sym none ∙ at in cc)) is
 
--- what has a next call has not ended
-pub not_ended : (ended : Option WriteEnd) (name : Option CallName) → ((end : WriteEnd) → ended ≡ Some end → name ≡ None) → is_some name ≡ true → ended ≡ None
-not_ended None name without some = refl
-not_ended (Some end) None without some = absurd (let bad : false ≡ true = some in cc)
-not_ended (Some end) (Some name) without some = absurd (let bad : Some name ≡ None = without end refl in cc)
-
 -- what has no next call, and awaits no reply, has ended
 pub ends_so_far : (links : Linking) (asked : WriteValue) (above : ℕ) (seen : List Entry) (v : WriteView) (name : Option CallName) → (v.ended ≡ None → v.awaited ≡ None → name ≢ None) → v.awaited ≡ None → is_some name ≡ false
     → IsWriteOf links asked above seen v → IsWriteSoFar asked above seen v

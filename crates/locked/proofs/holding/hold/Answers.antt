@@ -1,8 +1,9 @@
 use Rattle.std.proofs.Common.{◌≡◌, ◌∙◌, true, false, arith}
 use Rattle.flow_ties.proofs.CatchUps.{prefix_length}
 use Rattle.locked.specs.Holding.{is_of_hold, links_by}
+use Rattle.locked.proofs.NextCalls.{not_ended}
 use Rattle.locked.proofs.Passes.{later_on, later_self}
-use Rattle.locked.proofs.WriteTurns.{ends_so_far, hold_begins, hold_goes_on, is_pending, not_ended}
+use Rattle.locked.proofs.WriteTurns.{ends_so_far, hold_begins, hold_goes_on, is_pending}
 use Rattle.locked.proofs.holding.hold.Goals as goal
 
 pub loop-init : goal.loop-init

@@ -3,7 +3,8 @@ use Rattle.tuples.specs.declared.user.User.{User}
 use Rattle.decisions.specs.Flows.{Freshness}
 use Rattle.flow_ties.specs.Checks.{IsCheckOf}
 use Rattle.locked.proofs.Passes.{later_on}
-use Rattle.locked.proofs.CheckTurns.{check_goes_on, not_ended, same_asked}
+use Rattle.locked.proofs.CheckTurns.{check_goes_on, same_asked}
+use Rattle.locked.proofs.NextCalls.{not_ended}
 use Rattle.locked.proofs.store.Store.run_check.Goals as goal
 
 pub loop-preserved : goal.loop-preserved
