@@ -23,7 +23,6 @@ use Rattle.calls.specs.declared.reply.CoordinatorReply.TheVariants as told
 use Rattle.commit_flow.specs.Answering.{GivesTo}
 use Rattle.commit_flow.specs.Flows.{WriteFlowValue}
 use Rattle.commit_flow.specs.Running.{AsksWrite, GivesWrite}
-use Rattle.commit_flow.specs.declared.end.WriteEnd.{WriteEnd}
 use Rattle.commit_flow.specs.Views.{WriteView}
 use Rattle.commit_flow.specs.WriteHolds.{Way, WriteAwaited, onward, outward}
 use Rattle.commit_flow.specs.Writing.{Asks}
