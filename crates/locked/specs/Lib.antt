@@ -2,3 +2,4 @@ pub mod Serving
 pub mod Turning
 pub mod Answering
 pub mod Holding
+pub mod Opening

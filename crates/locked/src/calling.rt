@@ -2,13 +2,13 @@
 ghost use Rattle.std.specs.Prelude.{◌≡◌, true, is_some};
 ghost use Rattle.locked.specs.Turning.{HandsWhatIsSeen, Turns};
 
-use crate::{Caller, Store};
+use crate::{Caller, Gate, Store};
 use calls::{Running, Told};
 use device::Device;
 use sides::Room;
 use std::sync::Wait;
 
-impl<D: Device, B: Room> Store<D, B> {
+impl<D: Device, B: Room, G: Gate> Store<D, B, G> {
     /// Makes the next call of what runs, and gives it the reply. Others may call between two turns.
     pub(crate) fn turn<F: Running, R: Wait>(
         &self,

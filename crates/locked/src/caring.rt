@@ -5,7 +5,7 @@ ghost use Rattle.care_flow.specs.Views.{GoesOrEnds};
 ghost use Rattle.flow_ties.specs.Cares.{IsCareOf};
 ghost use Rattle.sides.specs.Sides.{IsLater};
 
-use crate::{Caller, Store};
+use crate::{Caller, Gate, Store};
 use calls::Told;
 use care_flow::{CareEnd, CareFlow};
 use device::Device;
@@ -14,7 +14,7 @@ use sides::Room;
 use std::alloc::Global;
 use std::sync::Wait;
 
-impl<D: Device, B: Room> Store<D, B> {
+impl<D: Device, B: Room, G: Gate> Store<D, B, G> {
     // Makes its calls, one a turn, until it ends.
     fn run_care<R: Wait>(
         &self,

@@ -5,7 +5,7 @@ ghost use Rattle.flow_ties.specs.Checks.{IsCheckOf};
 ghost use Rattle.sides.specs.Sides.{IsLater};
 ghost use Rattle.locked.specs.Answering.{CheckEnds, CheckRuns};
 
-use crate::{Caller, Store};
+use crate::{Caller, Gate, Store};
 use answer_flow::{CheckEnd, CheckFlow};
 use calls::Told;
 use device::Device;
@@ -27,7 +27,7 @@ fn ended(flow: CheckFlow) -> CheckEnd
     }
 }
 
-impl<D: Device, B: Room> Store<D, B> {
+impl<D: Device, B: Room, G: Gate> Store<D, B, G> {
     // The check before its first call, at a place that is known where it can be.
     fn begin_check(
         &self,

@@ -13,13 +13,17 @@ mod caller;
 mod calling;
 mod caring;
 mod checking;
+mod gate;
 mod holding;
 mod making;
+mod opening;
 mod placing;
 mod reading;
 mod store;
+mod tending;
 mod watching;
 mod writing;
 
 pub use caller::Caller;
+pub use gate::{Gate, Open};
 pub use store::Store;

@@ -10,7 +10,7 @@ ghost use Rattle.tuples.specs.Writes.{WriteValue};
 ghost use Rattle.locked.specs.Holding.{KeepsTried, TellsInHold};
 ghost use Rattle.locked.specs.Serving.{Serves};
 
-use crate::{Caller, Store};
+use crate::{Caller, Gate, Store};
 use calls::{CoordinatorCall, NodeCall, Reply, ShardCall, Told, refuse};
 use device::Device;
 use published::{Published, SessionPass};
@@ -77,7 +77,7 @@ fn serve_shard<D: Device, B: Room>(
     }
 }
 
-impl<D: Device, B: Room> Store<D, B> {
+impl<D: Device, B: Room, G: Gate> Store<D, B, G> {
     // Makes the call of the coordinator.
     fn make_there<R: Wait>(
         &self,
@@ -115,8 +115,8 @@ impl<D: Device, B: Room> Store<D, B> {
         serve_shard(&self.words, &mut side, &mut caller.pass, told, call)
     }
 
-    /// Makes the call, of the node that it names.
-    pub(crate) fn make<R: Wait>(
+    // Makes the call, of the node that it names.
+    fn make_of_node<R: Wait>(
         &self,
         rt: &R,
         caller: &mut Caller<B>,
@@ -132,5 +132,25 @@ impl<D: Device, B: Room> Store<D, B> {
             NodeCall::Coordinator(call) => self.make_there(rt, caller, told, call),
             NodeCall::Shard(shard, call) => self.make_at(rt, caller, told, shard, call),
         }
+    }
+
+    /// Makes the call, of the node that it names, and tells the gate of it.
+    pub(crate) fn make<R: Wait>(
+        &self,
+        rt: &R,
+        caller: &mut Caller<B>,
+        told: &mut Told,
+        call: NodeCall,
+    ) -> Reply
+        requires owed { IsOwed B.shards call }
+        requires hands { HandsOver caller.old.seen caller.old.horizon call }
+        ensures serves { Serves B.shards caller.old caller.new call result }
+        ensures told { Notices told.old result told.new }
+    {
+        let (node, name) = (call.node(), call.name());
+        self.gate.before(node, name);
+        let reply = self.make_of_node(rt, caller, told, call);
+        self.gate.after(node, name);
+        reply
     }
 }

@@ -3,12 +3,12 @@ ghost use Rattle.std.specs.Prelude.{◌≡◌, ◌≤◌, ◌<◌, length, IfSom
 ghost use Rattle.sides.specs.Sides.{IsLater};
 ghost use Rattle.locked.specs.Answering.{IsBeyond, IsFresh};
 
-use crate::{Caller, Store};
+use crate::{Caller, Gate, Store};
 use device::Device;
 use sides::Room;
 use tuples::Freshness;
 
-impl<D: Device, B: Room> Store<D, B> {
+impl<D: Device, B: Room, G: Gate> Store<D, B, G> {
     /// The place of an answer that is as fresh as asked, by the published word. None where what is asked for lies above that.
     pub(crate) fn known_place(&self, caller: &mut Caller<B>, freshness: Freshness) -> Option<u64>
         ensures caller { IsLater caller.old caller.new }

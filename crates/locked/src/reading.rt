@@ -5,7 +5,7 @@ ghost use Rattle.flow_ties.specs.Reads.{IsReadOf};
 ghost use Rattle.sides.specs.Sides.{IsLater};
 ghost use Rattle.locked.specs.Answering.{ReadEnds, ReadRuns};
 
-use crate::{Caller, Store};
+use crate::{Caller, Gate, Store};
 use answer_flow::{ReadEnd, ReadFlow};
 use calls::Told;
 use device::Device;
@@ -27,7 +27,7 @@ fn ended(flow: ReadFlow) -> ReadEnd
     }
 }
 
-impl<D: Device, B: Room> Store<D, B> {
+impl<D: Device, B: Room, G: Gate> Store<D, B, G> {
     // The read before its first call, at a place that is known where it can be.
     fn begin_read(
         &self,

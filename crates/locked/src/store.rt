@@ -6,17 +6,23 @@ ghost use Rattle.records.specs.Identity.{max_shards};
 ghost use Rattle.sides.specs.Sides.{IsLater};
 ghost use Rattle.locked.specs.Serving.{KnowsOf};
 
-use crate::Caller;
+use crate::{Caller, Gate};
+use crossbeam_utils::sync::Unparker;
 use device::Device;
 use published::Published;
 use sides::{CoordinatorSide, Room, ShardSide};
 use std::alloc::Global;
+use std::sync::atomic::AtomicBool;
 use std::sync::{Mutex, MutexGuard, Wait};
 use tuples::{Entry, Refusal};
 
 /// A store that callers share.
 #[derive(Drop)]
-pub struct Store<D: Device, B: Room> {
+pub struct Store<D: Device, B: Room, G: Gate> {
+    pub(crate) gate: G,
+    // wakes whoever tends it
+    pub(crate) bell: Unparker,
+    pub(crate) closed: AtomicBool,
     pub(crate) words: Published<Entry>,
     pub(crate) coordinator: Mutex<CoordinatorSide<D, B>>,
     // the shard of each number, in their order
@@ -29,14 +35,16 @@ pub struct Store<D: Device, B: Room> {
     ghost few: { count ≤ max_shards },
 }
 
-impl<D: Device, B: Room> Store<D, B> {
+impl<D: Device, B: Room, G: Gate> Store<D, B, G> {
     /// A store of these nodes, the shards in the order of their numbers.
     pub fn new(
+        gate: G,
+        bell: Unparker,
         words: Published<Entry>,
         coordinator: CoordinatorSide<D, B>,
         shards: Vec<Mutex<ShardSide<D, B>>>,
         count: u8,
-    ) -> Store<D, B>
+    ) -> Store<D, B, G>
         requires own { words ≡ B.log }
         requires of { count ≡ B.shards }
         requires all { vec_len shards ≡ count }
@@ -44,6 +52,9 @@ impl<D: Device, B: Room> Store<D, B> {
         requires few { count ≤ max_shards }
     {
         Store {
+            gate,
+            bell,
+            closed: AtomicBool::new(false),
             words,
             coordinator: Mutex::new(coordinator),
             shards,
@@ -109,13 +120,17 @@ impl<D: Device, B: Room> Store<D, B> {
 
     /// Opens the coordinator again, with what its devices hold; what was kept joins the list. The refusal of its opening, where that was refused.
     pub fn restart_coordinator<R: Wait>(&self, rt: &R, alloc: Global) -> Option<Refusal> {
-        self.coordinator.lock(rt).restart(&self.words, alloc)
+        let refusal = self.coordinator.lock(rt).restart(&self.words, alloc);
+        self.ring();
+        refusal
     }
 
     /// Opens the shard of this number again, with what its devices hold. The refusal of its opening, where that was refused.
     pub fn restart_shard<R: Wait>(&self, rt: &R, alloc: Global, shard: u8) -> Option<Refusal>
         requires { shard < B.shards }
     {
-        self.side(rt, shard).restart(alloc)
+        let refusal = self.side(rt, shard).restart(alloc);
+        self.ring();
+        refusal
     }
 }

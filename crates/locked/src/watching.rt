@@ -6,7 +6,7 @@ ghost use Rattle.sides.specs.Sides.{IsLater};
 ghost use Rattle.tuples.specs.Limits.{max_watched};
 ghost use Rattle.locked.specs.Answering.{WatchEnds};
 
-use crate::{Caller, Store};
+use crate::{Caller, Gate, Store};
 use answer_flow::{WatchEnd, WatchFlow};
 use calls::Told;
 use device::Device;
@@ -27,7 +27,7 @@ fn ended(flow: WatchFlow) -> WatchEnd
     }
 }
 
-impl<D: Device, B: Room> Store<D, B> {
+impl<D: Device, B: Room, G: Gate> Store<D, B, G> {
     // Makes its calls, one a turn, until it ends.
     fn run_watch<R: Wait>(
         &self,

@@ -9,15 +9,18 @@ ghost use Rattle.tuples.specs.Writes.{WriteValue};
 ghost use Rattle.locked.specs.Holding.{IsPending, IsWriteSoFar, WriteEnds, is_of_hold, may_be_of_hold as may_be_of_hold_of, of_none};
 
 use crate::holding::hold;
-use crate::{Caller, Store};
+use crate::{Caller, Gate, Store};
 use calls::{NodeCall, Running, Told};
 use commit_flow::{WriteEnd, WriteFlow};
 use device::Device;
-use names::CallName;
+use names::{CallName, NodeName};
 use sides::Room;
 use std::alloc::Global;
 use std::sync::Wait;
-use tuples::Write;
+use tuples::{Refusal, Write};
+
+// How many places lie between two rounds of whoever tends the store, where nothing else calls for one.
+const PLACES_A_ROUND: u64 = 1_024;
 
 // Whether a call of this name may be one that is made under the hold.
 fn may_be_of_hold(name: CallName) -> bool
@@ -29,7 +32,36 @@ fn may_be_of_hold(name: CallName) -> bool
     }
 }
 
-impl<D: Device, B: Room> Store<D, B> {
+impl<D: Device, B: Room, G: Gate> Store<D, B, G> {
+    // The gate is told of a decision before the hold.
+    fn before_hold(&self, name: CallName) {
+        if name == CallName::Decide {
+            self.gate.before(NodeName::Coordinator, CallName::Decide);
+        }
+    }
+
+    // Whoever tends the store is woken where a write may have left something behind at a node, and at every so many places.
+    fn ring_behind(&self, end: &WriteEnd) {
+        let is_left = match end {
+            WriteEnd::Wrote(place) => *place % PLACES_A_ROUND == 0,
+            WriteEnd::Refused(refusal) => match refusal {
+                Refusal::Down | Refusal::Unsure => true,
+                _ => false,
+            },
+            WriteEnd::Cancelled => true,
+        };
+        if is_left {
+            self.ring();
+        }
+    }
+
+    // And of its outcome behind it.
+    fn behind_hold(&self, name: CallName) {
+        if name == CallName::Decide {
+            self.gate.after(NodeName::Coordinator, CallName::Outcome);
+        }
+    }
+
     // The writer's next call that is made outside of a hold, behind those that are made under one. None where the write has ended.
     fn next_outside<R: Wait>(
         &self,
@@ -50,11 +82,16 @@ impl<D: Device, B: Room> Store<D, B> {
             → MatchOption result (IsWriteSoFar asked above caller.new.seen flow.new.seen) (λ call. IsPending asked above caller.new.seen B.shards call flow.new) }
     {
         let name = flow.next_name()?;
-        if may_be_of_hold(name) {
-            let mut side = self.coordinator.lock(rt);
-            return hold(rt, &self.words, &mut side, &mut caller.pass, told, flow);
+        if !may_be_of_hold(name) {
+            return Running::next_call(flow);
         }
-        Running::next_call(flow)
+        self.before_hold(name);
+        let call = {
+            let mut side = self.coordinator.lock(rt);
+            hold(rt, &self.words, &mut side, &mut caller.pass, told, flow)
+        };
+        self.behind_hold(name);
+        call
     }
 
     // Makes its calls, one a turn but for those from its decision to the outcome, until it ends.
@@ -102,7 +139,10 @@ impl<D: Device, B: Room> Store<D, B> {
         };
         let flow = self.run_write(rt, caller, told, flow);
         match flow.finish() {
-            Some(end) => end,
+            Some(end) => {
+                self.ring_behind(&end);
+                end
+            }
             None => unreachable!(),
         }
     }

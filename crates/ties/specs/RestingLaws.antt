@@ -1,4 +1,4 @@
--- A store whose nodes are all at rest, before its first opening: both ties hold of a beginning of its log.
+-- A store whose nodes are all at rest, before it is opened: both ties hold of a beginning of its log; and of the empty list, where nobody has written yet.
 use Rattle.std.specs.Prelude.{◌≡◌, ◌⊎◌, ◌≤◌, ◌<◌, ℕ, List, [], take}
 use Rattle.tuples.specs.declared.entry.Entry.{Entry}
 use Rattle.records.specs.declared.record.Record.{Record}
@@ -38,3 +38,13 @@ module _ {D : Type 0} (state : D → State) (honest : D → Type 0) (a b : D) (d
   abbrev pub RestingNodesAreTied : Type 0
   RestingNodesAreTied = (store shards : ℕ) (log : List Entry) (kept h place : ℕ) → IsResting store shards log kept h → IsReached shards kept shard_stops place
       → Anywhere state honest a b (take place log) h [] × ((s : ℕ) → s < shards → RowsAnywhere state honest shards s (devices s).0 (devices s).1 (take place log) h)
+
+-- a device that nobody has written yet
+pub record IsUnmade (s : State) : Type 0 where
+  pub durable : s.durable ≡ []
+  pub written : s.written ≡ []
+
+-- Two devices that nobody has written yet are tied to the empty list, as a coordinator's and as those of any shard.
+abbrev pub UnmadeNodesAreTied : {D : Type 0} → (D → State) → (D → Type 0) → Type 0
+UnmadeNodesAreTied {D} state honest = (a b : D) → honest a → honest b → IsUnmade (state a) → IsUnmade (state b)
+    → Anywhere state honest a b [] 0 [] × ((shards s : ℕ) → RowsAnywhere state honest shards s a b [] 0)

@@ -20,7 +20,7 @@ pub use joining_laws::{
     failed_flushes_stay_tied, flushes_stay_tied, landings_stay_tied, openings_stay_tied,
     refused_openings_stay_tied, tied_up_is_tied,
 };
-pub use resting_laws::resting_nodes_are_tied;
+pub use resting_laws::{resting_nodes_are_tied, unmade_nodes_are_tied};
 pub use shard_tie_laws::{
     check_reads_are_seen, collections_stay_tied, drops_stay_tied, failed_shard_flushes_stay_tied,
     learnings_stay_tied, longer_lists_stay_tied, prepares_stay_tied, reads_are_seen,

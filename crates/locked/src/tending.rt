@@ -1,0 +1,112 @@
+// A store is tended beside its callers: what waits at its nodes is carried on.
+ghost use Rattle.std.specs.Prelude.{◌≡◌};
+ghost use Rattle.care_flow.specs.Cares.{IsThere, begun};
+ghost use Rattle.sides.specs.Sides.{IsLater};
+
+use crate::{Caller, Gate, Store};
+use calls::Told;
+use crossbeam_utils::sync::Parker;
+use device::Device;
+use names::{Care, NodeName};
+use sides::Room;
+use std::alloc::Global;
+use std::sync::Wait;
+use std::sync::atomic::Ordering;
+
+impl<D: Device, B: Room, G: Gate> Store<D, B, G> {
+    // Cares for a node. A care that is refused is tried again in the next round.
+    fn try_care<R: Wait>(&self, rt: &R, alloc: Global, caller: &mut Caller<B>, care: Care)
+        requires there { IsThere B.shards (begun B.shards care) }
+        ensures caller { IsLater caller.old caller.new }
+    {
+        let _ = self.care(rt, alloc, caller, &mut Told::new(), care);
+    }
+
+    // At each shard writes in doubt are resolved, and what is kept is learned.
+    fn settle_all<R: Wait>(&self, rt: &R, alloc: Global, caller: &mut Caller<B>)
+        ensures caller { IsLater caller.old caller.new }
+    {
+        for shard in 0..self.count {
+            self.try_care(rt, alloc, caller, Care::Resolve(shard));
+            self.try_care(rt, alloc, caller, Care::Learn(shard));
+        }
+    }
+
+    // At each shard what no read from the horizon on needs is forgotten.
+    fn collect_all<R: Wait>(&self, rt: &R, alloc: Global, caller: &mut Caller<B>)
+        ensures caller { IsLater caller.old caller.new }
+    {
+        for shard in 0..self.count {
+            self.try_care(rt, alloc, caller, Care::Collect(shard));
+        }
+    }
+
+    // The horizon follows the latest place, so many places behind it. It is raised only where it has fallen an eighth more behind, since each raise is
+    // a flush of every node.
+    fn follow<R: Wait>(&self, rt: &R, alloc: Global, caller: &mut Caller<B>, window: u64)
+        ensures caller { IsLater caller.old caller.new }
+    {
+        let latest = self.latest(caller);
+        let horizon = self.horizon(caller);
+        let behind = latest.saturating_sub(horizon);
+        if behind > window.saturating_add(window / 8) {
+            self.try_care(rt, alloc, caller, Care::Raise(latest - window));
+            self.collect_all(rt, alloc, caller);
+        }
+    }
+
+    // What is staged becomes durable, at each node.
+    fn flush_all<R: Wait>(&self, rt: &R, alloc: Global, caller: &mut Caller<B>)
+        ensures caller { IsLater caller.old caller.new }
+    {
+        self.try_care(rt, alloc, caller, Care::Flush(NodeName::Coordinator));
+        for shard in 0..self.count {
+            self.try_care(rt, alloc, caller, Care::Flush(NodeName::Shard(shard)));
+        }
+    }
+
+    /// One round: at each shard writes in doubt are resolved and what is kept is learned; the horizon follows the latest place, so many places behind it,
+    /// and shards forget what lies below; and what is staged becomes durable. What is refused waits for another round.
+    pub fn tend<R: Wait>(&self, rt: &R, alloc: Global, caller: &mut Caller<B>, window: u64)
+        ensures caller { IsLater caller.old caller.new }
+    {
+        self.settle_all(rt, alloc, caller);
+        self.follow(rt, alloc, caller, window);
+        self.flush_all(rt, alloc, caller);
+    }
+
+    /// Tends the store until it is closed: a round whenever the bell rings, and a last one once it is closed. It rings where a write left something behind,
+    /// where a node was opened again, and at every 1,024th place.
+    pub fn keep<R: Wait>(
+        &self,
+        rt: &R,
+        alloc: Global,
+        caller: &mut Caller<B>,
+        window: u64,
+        parker: &Parker,
+    )
+        ensures caller { IsLater caller.old caller.new }
+    {
+        for _ in rt.forever() {
+            // Before the round, so that what was done before the close is tended once more.
+            let is_closed = self.closed.load(Ordering::SeqCst);
+            self.tend(rt, alloc, caller, window);
+            if is_closed {
+                return;
+            }
+            parker.park(rt);
+        }
+        unreachable!()
+    }
+
+    /// Whoever tends the store ends behind one more round. It takes no lock, and calls go on as before.
+    pub fn close(&self) {
+        self.closed.store(true, Ordering::SeqCst);
+        self.bell.unpark();
+    }
+
+    // Wakes whoever tends the store.
+    pub(crate) fn ring(&self) {
+        self.bell.unpark();
+    }
+}

@@ -1,0 +1,69 @@
+-- Devices that nobody has written yet are tied to the empty list.
+use Rattle.std.proofs.Common.{◌≡◌, ◌≤◌, ℕ, List, [], ◌++◌, take, drop, Some, refl, sym, ◌∙◌, ap, subst, arith}
+use Rattle.std.proofs.lemmas.Option.{same_Some}
+use Rattle.tuples.specs.Versions.{collected, changes_from, of_shard, versions}
+use Rattle.device.specs.Device.{Leaves, State, left}
+use Rattle.device.proofs.Moments.{leaves_nothing_else}
+use Rattle.gated.specs.Gated.{gated}
+use Rattle.records.specs.declared.record.Record.{Record}
+use Rattle.records.specs.Coordinators.{coordinator_state}
+use Rattle.records.specs.Replays.{shard_state}
+use Rattle.journal.specs.Records.{Finds, found}
+use Rattle.versions.specs.Alike.{AreAlike}
+use Rattle.ties.specs.RestingLaws.{IsUnmade, UnmadeNodesAreTied}
+use Rattle.ties.specs.ShardTies.{AreRowsOf}
+use Rattle.ties.specs.Ties.{IsLonger}
+
+found_nothing : (y : List ℕ) → found [] y ≡ Some []
+unfolding found gated
+found_nothing y = refl
+
+-- a stop leaves nothing of it
+left_nothing : (s : State) (x : List ℕ) → IsUnmade s → left s x → x ≡ []
+left_nothing s x un is =
+    let nothing : Leaves s.durable [] x = subst (λ (w : List (ℕ × ℕ)). Leaves s.durable w x) un.written is in
+    leaves_nothing_else s.durable x nothing ∙ un.durable
+
+finds_nothing : (a b : State) (rs : List Record) → IsUnmade a → Finds (left a) (left b) rs → rs ≡ []
+finds_nothing a b rs un (x, y, in_x, in_y, is) =
+    let none : Some [] ≡ Some rs = sym (ap (λ (c : List ℕ). found c y) (left_nothing a x un in_x) ∙ found_nothing y) ∙ is in
+    sym (same_Some [] rs none)
+
+empty_longer : IsLonger [] 0 [] (coordinator_state [])
+unfolding coordinator_state
+empty_longer = record {
+  more = [];
+  are = record { decisions = refl; base = omega arith; within = omega arith };
+  listed = record { whole = λ j w none. absurd cc; new = λ i j v w none. absurd cc; given = λ j w none. absurd cc };
+  raised = omega arith;
+  within = omega arith;
+  past = λ j x none. absurd cc;
+}
+
+no_rows : (shards s : ℕ) → of_shard shards s (versions [] 0 0) ≡ []
+unfolding versions collected
+no_rows shards s = refl
+
+empty_rows : (shards s : ℕ) → AreRowsOf shards s [] 0 (shard_state [])
+unfolding shard_state
+empty_rows shards s = record {
+  learned = omega arith;
+  horizon = omega arith;
+  within = omega arith;
+  whole = λ j w none. absurd cc;
+  rows = subst (AreAlike (shard_state []).rows) (sym (no_rows shards s)) (record { each = λ t. refl });
+}
+
+pub unmade_nodes_are_tied : {D : Type 0} (state : D → State) (honest : D → Type 0) → UnmadeNodesAreTied state honest
+unmade_nodes_are_tied state honest a b honest_a honest_b un_a un_b = (
+  record {
+    honest_a = honest_a;
+    honest_b = honest_b;
+    each = λ rs finds. subst (λ (l : List Record). IsLonger [] 0 [] (coordinator_state l)) (sym (finds_nothing (state a) (state b) rs un_a finds)) empty_longer;
+  },
+  λ shards s. record {
+    honest_a = honest_a;
+    honest_b = honest_b;
+    each = λ rs finds. subst (λ (l : List Record). AreRowsOf shards s [] 0 (shard_state l)) (sym (finds_nothing (state a) (state b) rs un_a finds)) (empty_rows shards s);
+  },
+)
