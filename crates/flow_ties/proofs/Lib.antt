@@ -5,7 +5,9 @@ pub mod SeenChecks
 pub mod SeenWrites
 pub mod SeenWatches
 pub mod SeenCares
+pub mod RefusedPlaces
 pub mod ToldCatchUps
 pub mod ToldWrites
+pub mod ToldReads
 mod SmallAnswers
 mod SmallWrites

@@ -18,7 +18,8 @@ pub use check_laws::{
     checks_hand_over_what_is_seen, checks_stay_seen,
 };
 pub use read_laws::{
-    reads_answer_what_is_seen, reads_begin, reads_begin_at_places, reads_hand_over_what_is_seen,
+    reads_answer_what_is_seen, reads_at_rest_have_reason, reads_begin, reads_begin_at_places,
+    reads_begin_for_a_reason, reads_hand_over_what_is_seen, reads_refuse_for_a_reason,
     reads_stay_seen,
 };
 pub use watch_laws::{watches_begin, watches_list_what_is_seen, watches_stay_seen};
