@@ -9,5 +9,7 @@ pub mod RefusedPlaces
 pub mod ToldCatchUps
 pub mod ToldWrites
 pub mod ToldReads
+pub mod ToldChecks
+pub mod ToldWatches
 mod SmallAnswers
 mod SmallWrites

@@ -1,4 +1,4 @@
--- What a check holds of the list that was seen, and what it answers.
+-- What a check holds of the list that was seen, what it answers, and why it is refused.
 use Rattle.std.specs.Prelude.{◌≡◌, ◌⊎◌, ◌≤◌, ◌↔◌, ℕ, Bool, List, [], ◌∷◌, length, Option, Some, None, IsTrue}
 use mathlib.Core.List.{IsPrefix}
 use Rattle.refusal.specs.declared.refusal.Refusal.{Refusal}
@@ -93,8 +93,8 @@ CheckHasReason marks fresh seen low x v = (e : Refusal) → v.ended ≡ Some (re
 abbrev pub ChecksAtRestHaveReason : Type 0
 ChecksAtRestHaveReason = (fresh : Freshness) (x : Userset) (marks : List Bool) (seen : List Entry) (low : ℕ) (step : CheckStep) (h : CheckHolds) → CheckHasReason marks fresh seen low x (at_rest step h)
 
--- Where heads tell no less than what is seen, and no horizon above the one that is, what a reply makes of a check has a reason. That it holds a walk over
--- the list says why it stops at the most that it may walk.
+-- Where heads tell no less than what is seen, and no horizon above the one that is, a reply ends a check with a refusal only for a reason. What it holds is a walk over
+-- the list: so, where it stops at the most that it may walk, more can be reached there.
 abbrev pub ChecksRefuseForAReason : Type 0
 ChecksRefuseForAReason = (shards : ℕ) (fresh : Freshness) (x : Userset) (u : User) (old new : List Bool) (seen : List Entry) (low : ℕ) (v out after : CheckView) (call : NodeCall) (reply : Reply)
     → v.ended ≡ None → IsCheckOf seen fresh x u v → Asks shards u v call out → IsReplyTo call reply → IsTold shards seen call reply

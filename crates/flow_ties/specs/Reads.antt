@@ -1,4 +1,4 @@
--- What a read holds of the list that was seen, and what it answers.
+-- What a read holds of the list that was seen, what it answers, and why it is refused.
 use Rattle.std.specs.Prelude.{◌≡◌, ◌≤◌, ℕ, Bool, List, length, Option, Some, None, slice_get}
 use mathlib.Core.List.{IsPrefix}
 use Rattle.refusal.specs.declared.refusal.Refusal.{Refusal}
@@ -93,7 +93,7 @@ abbrev pub ReadsBeginForAReason : Type 0
 ReadsBeginForAReason = (sets : List Tupleset) (place : ℕ) (v : ReadView) → Continues sets place (record nothing_read { place = Some place }) v
     → (e : Refusal) → v.ended ≡ Some (refused e) → e ≡ NoMemory
 
--- Where heads tell no less than what is seen, and no horizon above the one that is, what a reply makes of a read has a reason.
+-- Where heads tell no less than what is seen, and no horizon above the one that is, a reply ends a read with a refusal only for a reason.
 abbrev pub ReadsRefuseForAReason : Type 0
 ReadsRefuseForAReason = (shards : ℕ) (fresh : Freshness) (sets : List Tupleset) (old new : List Bool) (seen : List Entry) (low : ℕ) (v out after : ReadView) (call : NodeCall) (reply : Reply)
     → Asks shards sets v call out → IsReplyTo call reply → ((awaited : ReadAwaited) → out.awaited ≡ Some awaited → GivesTo shards fresh sets out awaited reply after)

@@ -1,4 +1,4 @@
--- What a watch holds of the list that was seen, and what it lists.
+-- What a watch holds of the list that was seen, what it lists, and why it is refused.
 use Rattle.std.specs.Prelude.{◌≡◌, ◌⊎◌, ◌≤◌, ◌+◌, ◌-◌, ℕ, Bool, List, length, Some, None, Ok}
 use mathlib.Core.List.{IsPrefix}
 use Rattle.refusal.specs.declared.refusal.Refusal.{Refusal}
@@ -80,7 +80,7 @@ WatchHasReason marks cursor seen low v = (e : Refusal) → v.ended ≡ Some (ref
 abbrev pub WatchesAtRestHaveReason : Type 0
 WatchesAtRestHaveReason = (cursor : ℕ) (marks : List Bool) (seen : List Entry) (low : ℕ) (step : WatchCall) (h : HeadsHeld) → WatchHasReason marks cursor seen low (at_rest step h)
 
--- Where heads tell no less than what is seen, and no horizon above the one that is, what a reply makes of a watch has a reason.
+-- Where heads tell no less than what is seen, and no horizon above the one that is, a reply ends a watch with a refusal only for a reason.
 abbrev pub WatchesRefuseForAReason : Type 0
 WatchesRefuseForAReason = (cursor limit : ℕ) (names : List (List ℕ)) (old new : List Bool) (seen : List Entry) (low : ℕ) (v out after : WatchView) (call : NodeCall) (reply : Reply)
     → Asks cursor limit v call out → IsReplyTo call reply → ((awaited : WatchCall) → out.awaited ≡ Some awaited → GivesTo cursor limit names out awaited reply after)
