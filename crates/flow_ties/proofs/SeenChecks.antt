@@ -131,7 +131,7 @@ module _ (seen : List Entry) (fresh : Freshness) (x : Userset) (u : User) where
           some none = let bad : y ∷ rest ≡ [] = sym is ∙ none in cc
 
   -- what it holds where it has just found its place
-  begins_with : (place : ℕ) (h : CheckHolds) → place ≤ length seen → IsAsAsked fresh place → (h.walked ≡ []) × (h.waiting ≡ x ∷ []) → HoldsWalk seen fresh x u place (record h { place = Some place })
+  pub begins_with : (place : ℕ) (h : CheckHolds) → place ≤ length seen → IsAsAsked fresh place → (h.walked ≡ []) × (h.waiting ≡ x ∷ []) → HoldsWalk seen fresh x u place (record h { place = Some place })
   begins_with place h le wanted empty = record {
     there = le;
     wanted = wanted;

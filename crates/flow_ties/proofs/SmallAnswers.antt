@@ -1,6 +1,7 @@
--- Small answers: over a list of no writes, what is one, and what is none.
-use Rattle.std.proofs.Common.{◌≡◌, ℕ, zero, suc, true, false, true≢false, List, [], ◌∷◌, Some, slice_get, refl, sym, ◌∙◌, subst, arith}
+-- Small answers: over a list of no writes, what is one, and what is none; and what is a reason to give none.
+use Rattle.std.proofs.Common.{◌≡◌, inl, inr, ⊎_elim, ℕ, zero, suc, true, false, true≢false, List, [], ◌∷◌, Some, slice_get, refl, sym, ◌∙◌, subst, arith}
 use Rattle.std.proofs.lemmas.Option.{same_Some}
+use Rattle.refusal.specs.declared.refusal.Refusal.TheVariants.{Future}
 use Rattle.tuples.specs.declared.object.Userset.{Userset}
 use Rattle.tuples.specs.declared.tuple.Tuple.{Tuple}
 use Rattle.tuples.specs.declared.tupleset.Tupleset.{Tupleset}
@@ -11,6 +12,7 @@ use Rattle.tuples.specs.Reads.{IsSelection}
 use Rattle.decisions.specs.Flows.{exact, latest}
 use Rattle.flow_ties.specs.Reads.{AreRowsAt}
 use Rattle.flow_ties.specs.Checks.{IsMembershipAt}
+use Rattle.flow_ties.specs.Refusing.{HasReason}
 
 -- no tuple is there
 none_there : (t : Tuple) → is_at [] 0 t ≡ false
@@ -51,3 +53,17 @@ module _ (t : Tuple) where
 -- nobody is a member
 nobody : (x : Userset) (u : User) → IsMembershipAt [] latest x u 0 true → ⊥
 nobody x u answer = let member = answer.member.0 refl in true≢false (sym member.last ∙ none_there _)
+
+-- a place that lies above all that there is has a reason to be refused
+above_all : HasReason [] (exact 3) [] 0 Future
+above_all = inr (inr (inl (refl, omega arith)))
+
+-- and one that is there has none, where no reply has told any
+is_there : HasReason [] (exact 0) [] 0 Future → ⊥
+is_there reason = ⊎_elim
+    (λ told. ⊎_elim (λ marked. absurd (cc marked)) (λ damaged. absurd (cc damaged)) told)
+    (λ rest. ⊎_elim
+    (λ memory. absurd (cc memory))
+    (λ place. ⊎_elim (λ above. omega (arith, above.1)) (λ below. omega (arith, below.1)) place)
+    rest)
+    reason

@@ -3,12 +3,18 @@ use Rattle.std.proofs.Common.{◌≡◌, inl, inr, ⊎_elim, ℕ, Bool, ◌≤�
 use Rattle.std.proofs.lemmas.Bool.{cases_Bool, cases_lt}
 use Rattle.refusal.specs.declared.refusal.Refusal.{Refusal as AnyRefusal}
 use Rattle.decisions.specs.Values.{BatchValue}
+use Rattle.calls.specs.Belonging.{IsReplyTo}
 use Rattle.calls.specs.Refusing.{refused_by}
+use Rattle.calls.specs.declared.call.NodeCall.{NodeCall}
+use Rattle.calls.specs.declared.call.NodeCall.TheVariants.{Coordinator, Shard}
+use Rattle.calls.specs.declared.call.CoordinatorCall.TheVariants as calls
+use Rattle.calls.specs.declared.call.ShardCall.TheVariants as shard_calls
+use Rattle.calls.specs.declared.reply.Reply.{Reply}
 use Rattle.calls.specs.declared.reply.Reply.TheVariants.{Coordinator as from_coordinator, Shard as from_shard}
 use Rattle.calls.specs.declared.reply.CoordinatorReply.TheVariants as told
 use Rattle.calls.specs.declared.reply.ShardReply.TheVariants as told_by
-use Rattle.catch_up.specs.CatchingUp.{Gives}
-use Rattle.catch_up.specs.Held.{CatchUpCallValue, learning}
+use Rattle.catch_up.specs.CatchingUp.{Asks, Gives}
+use Rattle.catch_up.specs.Held.{CatchUpCallValue, CatchUpValue, learning}
 use Rattle.catch_up.specs.declared.caught.Progress.{Progress}
 use Rattle.catch_up.specs.declared.caught.Progress.TheVariants.{Next, There, Refused}
 use Rattle.flow_ties.proofs.CatchUps.{is_collected, is_full}
@@ -50,3 +56,29 @@ module _ (call : CatchUpCallValue) (progress : Progress) (e : AnyRefusal) (is : 
   pub flush_carries : (r : Result (Unit {0}) AnyRefusal) → Gives call (from_shard (told_by.Flush r)) progress → refused_by (from_shard (told_by.Flush r)) ≡ Some e
   flush_carries (Ok done) gives = absurd (goes_on _ progress e gives is)
   flush_carries (Err f) gives = same_error f e progress gives is
+
+  -- whichever call it was
+  module _ (v : CatchUpValue) (then : CatchUpCallValue) (awaited_is : call.awaited ≡ then.awaited) where
+    batch_came : (from to : ℕ) (reply : Reply) → IsReplyTo (Coordinator (calls.Batch from to)) reply → Gives call reply progress → refused_by reply ≡ Some e
+    batch_came from to (from_coordinator (told.Batch r)) belongs gives = batch_carries r gives
+    batch_came from to reply belongs gives = absurd belongs
+
+    learned_told : (s : ℕ) (reply : Reply) → IsReplyTo (Shard s shard_calls.Learned) reply → Gives call reply progress → refused_by reply ≡ Some e
+    learned_told s (from_shard (told_by.Learned r)) belongs gives = learned_carries r gives
+    learned_told s reply belongs gives = absurd belongs
+
+    has_learned : (s : ℕ) (b : BatchValue) (reply : Reply) → Asks v (Shard s (shard_calls.Learn b)) then → IsReplyTo (Shard s (shard_calls.Learn b)) reply → Gives call reply progress → refused_by reply ≡ Some e
+    has_learned s b (from_shard (told_by.Learn back r)) asks belongs gives = learn_carries back r v.flushed (awaited_is ∙ ap (λ (c : CatchUpCallValue). c.awaited) asks.1.1) gives
+    has_learned s b reply asks belongs gives = absurd belongs
+
+    was_flushed : (s : ℕ) (reply : Reply) → IsReplyTo (Shard s shard_calls.Flush) reply → Gives call reply progress → refused_by reply ≡ Some e
+    was_flushed s (from_shard (told_by.Flush r)) belongs gives = flush_carries r gives
+    was_flushed s reply belongs gives = absurd belongs
+
+    pub call_carries : (asked : NodeCall) (reply : Reply) → Asks v asked then → IsReplyTo asked reply → Gives call reply progress → refused_by reply ≡ Some e
+    call_carries (Coordinator (calls.Batch from to)) reply asks belongs gives = batch_came from to reply belongs gives
+    call_carries (Coordinator asked) reply asks belongs gives = absurd asks
+    call_carries (Shard s shard_calls.Learned) reply asks belongs gives = learned_told s reply belongs gives
+    call_carries (Shard s (shard_calls.Learn b)) reply asks belongs gives = has_learned s b reply asks belongs gives
+    call_carries (Shard s shard_calls.Flush) reply asks belongs gives = was_flushed s reply belongs gives
+    call_carries (Shard s asked) reply asks belongs gives = absurd asks.1

@@ -1,10 +1,13 @@
--- What a check holds of the list that was seen, and what it answers.
-use Rattle.std.specs.Prelude.{◌≡◌, ◌≤◌, ◌↔◌, ℕ, Bool, List, [], ◌∷◌, length, Option, Some, None, IsTrue}
+-- What a check holds of the list that was seen, what it answers, and why it is refused.
+use Rattle.std.specs.Prelude.{◌≡◌, ◌⊎◌, ◌≤◌, ◌↔◌, ℕ, Bool, List, [], ◌∷◌, length, Option, Some, None, IsTrue}
 use mathlib.Core.List.{IsPrefix}
+use Rattle.refusal.specs.declared.refusal.Refusal.{Refusal}
+use Rattle.refusal.specs.declared.refusal.Refusal.TheVariants.{Full}
 use Rattle.tuples.specs.declared.entry.Entry.{Entry}
 use Rattle.tuples.specs.declared.object.Userset.{Userset}
 use Rattle.tuples.specs.declared.user.User.{User}
-use Rattle.tuples.specs.Checking.{IsMember}
+use Rattle.tuples.specs.Checking.{IsMember, ReachesMoreThan}
+use Rattle.tuples.specs.Limits.{max_walked}
 use Rattle.tuples.specs.Log.{is_at}
 use Rattle.decisions.specs.Flows.{CheckHolds, Freshness}
 use Rattle.decisions.specs.Values.{BatchValue}
@@ -14,10 +17,12 @@ use Rattle.calls.specs.declared.call.NodeCall.TheVariants.{Shard}
 use Rattle.calls.specs.declared.call.ShardCall.TheVariants.{Learn}
 use Rattle.calls.specs.declared.reply.Reply.{Reply}
 use Rattle.answer_flow.specs.Checking.{Asks, GivesTo}
-use Rattle.answer_flow.specs.CheckViews.{CheckAwaited, CheckEnding, CheckView, at_rest, begins_at, catch_up, checked, heads}
+use Rattle.answer_flow.specs.CheckViews.{CheckAwaited, CheckEnding, CheckStep, CheckView, at_rest, begins_at, catch_up, checked, heads, refused}
 use Rattle.laws.specs.Walks.{IsWalk}
 use Rattle.ties.specs.TellingLaws.{IsBatchOf}
 use Rattle.flow_ties.specs.Telling.{IsAsAsked, IsHeld, IsTold}
+use Rattle.flow_ties.specs.Refusing.{HasReason, Notices, TellsReach}
+use Rattle.flow_ties.specs.Cares.{TellsCare}
 
 -- at a place of the list, one that was asked for: what was met on a walk from the asked userset
 pub record HoldsWalk (seen : List Entry) (fresh : Freshness) (x : Userset) (u : User) (place : ℕ) (h : CheckHolds) : Type 0 where
@@ -73,3 +78,25 @@ pub record CheckTurns (shards : ℕ) (later : List Entry) (u : User) (fresh : Fr
 abbrev pub ChecksAnswerWhatIsSeen : Type 0
 ChecksAnswerWhatIsSeen = (shards : ℕ) (seen later : List Entry) (fresh : Freshness) (x : Userset) (u : User) (v after : CheckView) → IsPrefix seen later → IsCheckOf seen fresh x u v
     → CheckTurns shards later u fresh v after → IsCheckOf later fresh x u after
+
+-- more usersets than a check may walk can be reached at a place of the list
+pub record IsTooFar (seen : List Entry) (x : Userset) : Type 0 where
+  pub place : ℕ
+  pub there : place ≤ length seen
+  pub reaches : ReachesMoreThan max_walked (is_at seen place) x
+
+-- a check that has ended with a refusal has a reason for it, and there is one more than a read has
+abbrev pub CheckHasReason : List Bool → Freshness → List Entry → ℕ → Userset → CheckView → Type 0
+CheckHasReason marks fresh seen low x v = (e : Refusal) → v.ended ≡ Some (refused e) → HasReason marks fresh seen low e ⊎ ((e ≡ Full) × IsTooFar seen x)
+
+-- between two calls, and so where it begins, it has not ended
+abbrev pub ChecksAtRestHaveReason : Type 0
+ChecksAtRestHaveReason = (fresh : Freshness) (x : Userset) (marks : List Bool) (seen : List Entry) (low : ℕ) (step : CheckStep) (h : CheckHolds) → CheckHasReason marks fresh seen low x (at_rest step h)
+
+-- Where heads tell no less than what is seen, and no horizon above the one that is, a reply ends a check with a refusal only for a reason. What it holds is a walk over
+-- the list: so, where it stops at the most that it may walk, more can be reached there.
+abbrev pub ChecksRefuseForAReason : Type 0
+ChecksRefuseForAReason = (shards : ℕ) (fresh : Freshness) (x : Userset) (u : User) (old new : List Bool) (seen : List Entry) (low : ℕ) (v out after : CheckView) (call : NodeCall) (reply : Reply)
+    → v.ended ≡ None → IsCheckOf seen fresh x u v → Asks shards u v call out → IsReplyTo call reply → IsTold shards seen call reply
+    → ((awaited : CheckAwaited) → out.awaited ≡ Some awaited → GivesTo fresh u out awaited reply after)
+    → TellsReach seen call reply → TellsCare low call reply → Notices old reply new → CheckHasReason new fresh seen low x after

@@ -1,4 +1,5 @@
 pub mod Telling
+pub mod Refusing
 pub mod Reads
 pub mod Checks
 pub mod Writes

@@ -1,6 +1,8 @@
--- What a read holds of the list that was seen, and what it answers.
-use Rattle.std.specs.Prelude.{◌≡◌, ◌≤◌, ℕ, List, length, Option, Some, None, slice_get}
+-- What a read holds of the list that was seen, what it answers, and why it is refused.
+use Rattle.std.specs.Prelude.{◌≡◌, ◌≤◌, ℕ, Bool, List, length, Option, Some, None, slice_get}
 use mathlib.Core.List.{IsPrefix}
+use Rattle.refusal.specs.declared.refusal.Refusal.{Refusal}
+use Rattle.refusal.specs.declared.refusal.Refusal.TheVariants.{NoMemory}
 use Rattle.tuples.specs.declared.entry.Entry.{Entry}
 use Rattle.tuples.specs.declared.tuple.Tuple.{Tuple}
 use Rattle.tuples.specs.declared.tupleset.Tupleset.{Tupleset}
@@ -14,10 +16,12 @@ use Rattle.calls.specs.declared.call.NodeCall.TheVariants.{Shard}
 use Rattle.calls.specs.declared.call.ShardCall.TheVariants.{Learn}
 use Rattle.calls.specs.declared.reply.Reply.{Reply}
 use Rattle.answer_flow.specs.Reading.{Asks, Continues, GivesTo}
-use Rattle.answer_flow.specs.ReadViews.{ReadAwaited, ReadEnding, ReadView, at_rest, heads, selected}
+use Rattle.answer_flow.specs.ReadViews.{ReadAwaited, ReadEnding, ReadStep, ReadView, at_rest, heads, refused, selected}
 use Rattle.laws.specs.Shards.{there_below}
 use Rattle.ties.specs.TellingLaws.{IsBatchOf}
 use Rattle.flow_ties.specs.Telling.{IsAsAsked, IsHeld, IsTold}
+use Rattle.flow_ties.specs.Refusing.{HasReason, Notices, TellsReach}
+use Rattle.flow_ties.specs.Cares.{TellsCare}
 
 -- At a place of the list, one that was asked for: the rows of each tupleset that is done, and of the next one those of the shards below a number.
 pub record HoldsRows (shards : ℕ) (seen : List Entry) (fresh : Freshness) (sets : List Tupleset) (place : ℕ) (h : ReadHolds) : Type 0 where
@@ -75,3 +79,22 @@ pub record ReadTurns (shards : ℕ) (later : List Entry) (sets : List Tupleset) 
 abbrev pub ReadsAnswerWhatIsSeen : Type 0
 ReadsAnswerWhatIsSeen = (shards : ℕ) (seen later : List Entry) (fresh : Freshness) (sets : List Tupleset) (v after : ReadView) → IsPrefix seen later → IsReadOf shards seen fresh sets v
     → ReadTurns shards later sets fresh v after → IsReadOf shards later fresh sets after
+
+-- a read that has ended with a refusal has a reason for it
+abbrev pub ReadHasReason : List Bool → Freshness → List Entry → ℕ → ReadView → Type 0
+ReadHasReason marks fresh seen low v = (e : Refusal) → v.ended ≡ Some (refused e) → HasReason marks fresh seen low e
+
+-- between two calls it has not ended
+abbrev pub ReadsAtRestHaveReason : Type 0
+ReadsAtRestHaveReason = (fresh : Freshness) (marks : List Bool) (seen : List Entry) (low : ℕ) (step : ReadStep) (h : ReadHolds) → ReadHasReason marks fresh seen low (at_rest step h)
+
+-- where it begins at a place of the list, memory alone can be refused
+abbrev pub ReadsBeginForAReason : Type 0
+ReadsBeginForAReason = (sets : List Tupleset) (place : ℕ) (v : ReadView) → Continues sets place (record nothing_read { place = Some place }) v
+    → (e : Refusal) → v.ended ≡ Some (refused e) → e ≡ NoMemory
+
+-- Where heads tell no less than what is seen, and no horizon above the one that is, a reply ends a read with a refusal only for a reason.
+abbrev pub ReadsRefuseForAReason : Type 0
+ReadsRefuseForAReason = (shards : ℕ) (fresh : Freshness) (sets : List Tupleset) (old new : List Bool) (seen : List Entry) (low : ℕ) (v out after : ReadView) (call : NodeCall) (reply : Reply)
+    → Asks shards sets v call out → IsReplyTo call reply → ((awaited : ReadAwaited) → out.awaited ≡ Some awaited → GivesTo shards fresh sets out awaited reply after)
+    → TellsReach seen call reply → TellsCare low call reply → Notices old reply new → ReadHasReason new fresh seen low after

@@ -1,11 +1,13 @@
--- What a watch holds of the list that was seen, and what it lists.
-use Rattle.std.specs.Prelude.{◌≡◌, ◌⊎◌, ◌≤◌, ◌+◌, ◌-◌, ℕ, List, length, Some, None, Ok}
+-- What a watch holds of the list that was seen, what it lists, and why it is refused.
+use Rattle.std.specs.Prelude.{◌≡◌, ◌⊎◌, ◌≤◌, ◌+◌, ◌-◌, ℕ, Bool, List, length, Some, None, Ok}
 use mathlib.Core.List.{IsPrefix}
+use Rattle.refusal.specs.declared.refusal.Refusal.{Refusal}
 use Rattle.tuples.specs.declared.entry.Entry.{Entry}
 use Rattle.tuples.specs.Limits.{max_watched}
 use Rattle.tuples.specs.Watching.{Placed, events}
-use Rattle.decisions.specs.Flows.{no_heads}
+use Rattle.decisions.specs.Flows.{HeadsHeld, exact, no_heads}
 use Rattle.decisions.specs.Standing.{HeadsValue}
+use Rattle.calls.specs.Belonging.{IsReplyTo}
 use Rattle.calls.specs.declared.call.NodeCall.{NodeCall}
 use Rattle.calls.specs.declared.call.NodeCall.TheVariants.{Coordinator}
 use Rattle.calls.specs.declared.call.CoordinatorCall.TheVariants.{Batch, Heads}
@@ -13,8 +15,10 @@ use Rattle.calls.specs.declared.reply.Reply.{Reply}
 use Rattle.calls.specs.declared.reply.Reply.TheVariants.{Coordinator as from_coordinator}
 use Rattle.calls.specs.declared.reply.CoordinatorReply.TheVariants as told
 use Rattle.answer_flow.specs.Watching.{Asks, GivesTo}
-use Rattle.answer_flow.specs.WatchViews.{WatchCall, WatchView, at_rest, heads, listed}
+use Rattle.answer_flow.specs.WatchViews.{WatchCall, WatchView, at_rest, heads, listed, refused}
 use Rattle.flow_ties.specs.Telling.{IsTold}
+use Rattle.flow_ties.specs.Refusing.{HasReason, Notices, TellsReach}
+use Rattle.flow_ties.specs.Cares.{TellsCare}
 
 -- What a reply tells a watch beside what it tells each flow. Heads tell a kept place that is no less than what had been seen; and a batch has all that was
 -- asked for, where that is no more than a watch may ask for.
@@ -67,3 +71,17 @@ WatchesStaySeen = (cursor limit : ℕ) (names : List (List ℕ)) (before : ℕ) 
 abbrev pub WatchesListWhatIsSeen : Type 0
 WatchesListWhatIsSeen = (cursor limit : ℕ) (names : List (List ℕ)) (before shards : ℕ) (seen later : List Entry) (v after : WatchView) → limit ≤ max_watched → IsPrefix seen later
     → IsWatchOf cursor limit names before seen v → WatchTurns cursor limit names before shards later v after → IsWatchOf cursor limit names before later after
+
+-- a watch that has ended with a refusal has a reason for it: the place that it asks for is its cursor, and just that one
+abbrev pub WatchHasReason : List Bool → ℕ → List Entry → ℕ → WatchView → Type 0
+WatchHasReason marks cursor seen low v = (e : Refusal) → v.ended ≡ Some (refused e) → HasReason marks (exact cursor) seen low e
+
+-- between two calls, and so where it begins, it has not ended
+abbrev pub WatchesAtRestHaveReason : Type 0
+WatchesAtRestHaveReason = (cursor : ℕ) (marks : List Bool) (seen : List Entry) (low : ℕ) (step : WatchCall) (h : HeadsHeld) → WatchHasReason marks cursor seen low (at_rest step h)
+
+-- Where heads tell no less than what is seen, and no horizon above the one that is, a reply ends a watch with a refusal only for a reason.
+abbrev pub WatchesRefuseForAReason : Type 0
+WatchesRefuseForAReason = (cursor limit : ℕ) (names : List (List ℕ)) (old new : List Bool) (seen : List Entry) (low : ℕ) (v out after : WatchView) (call : NodeCall) (reply : Reply)
+    → Asks cursor limit v call out → IsReplyTo call reply → ((awaited : WatchCall) → out.awaited ≡ Some awaited → GivesTo cursor limit names out awaited reply after)
+    → TellsReach seen call reply → TellsCare low call reply → Notices old reply new → WatchHasReason new cursor seen low after

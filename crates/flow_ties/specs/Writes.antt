@@ -1,15 +1,13 @@
 -- What a write holds on its way to a place of the list, and what it tells at its end.
-use Rattle.std.specs.Prelude.{◌≡◌, ◌⊎◌, ◌<◌, ℕ, Bool, List, Some, None, Ok}
+use Rattle.std.specs.Prelude.{◌≡◌, ◌<◌, ℕ, Bool, List, Some, None, Ok}
 use mathlib.Core.List.{IsPrefix}
 use Rattle.refusal.specs.declared.refusal.Refusal.{Refusal}
-use Rattle.refusal.specs.declared.refusal.Refusal.TheVariants.{Damaged}
 use Rattle.tuples.specs.declared.entry.Entry.{Entry}
 use Rattle.tuples.specs.Writes.{WriteValue}
 use Rattle.decisions.specs.Standing.{DecidedValue}
 use Rattle.decisions.specs.Values.{BatchValue, IntentValue}
 use Rattle.coordinator.specs.declared.telling.Outcome.TheVariants.{Kept, Later}
 use Rattle.calls.specs.Belonging.{IsReplyTo}
-use Rattle.calls.specs.Refusing.{HasTold, refused_by}
 use Rattle.calls.specs.declared.call.NodeCall.{NodeCall}
 use Rattle.calls.specs.declared.call.NodeCall.TheVariants.{Coordinator, Shard}
 use Rattle.calls.specs.declared.call.CoordinatorCall.TheVariants.{Begin, Decide, Outcome}
@@ -25,6 +23,7 @@ use Rattle.commit_flow.specs.Writing.{Asks}
 use Rattle.ties.specs.DecidingLaws.{StandsAt}
 use Rattle.ties.specs.TellingLaws.{IsBatchOf}
 use Rattle.flow_ties.specs.Telling.{IsHeld, IsTold}
+pub use Rattle.flow_ties.specs.Refusing.{IsRefusalTold, Notices}
 
 -- the write that was asked for, under an id
 pub record IsOfRequest (asked : WriteValue) (w : Entry) : Type 0 where
@@ -106,15 +105,6 @@ WritesHandOverWhatIsSeen links = (asked : WriteValue) (above shards s : ℕ) (se
 abbrev pub WritesTellWhatStands : Linking → Type 0
 WritesTellWhatStands links = (asked : WriteValue) (above shards : ℕ) (seen later : List Entry) (v after : WriteView) → IsPrefix seen later
     → IsWriteOf links asked above seen v → WriteTurns links asked above shards later v after → IsWriteOf links asked above later after
-
--- A refusal was told by a reply, or it is Damaged: so the shard of a write is answered that is not there.
-abbrev pub IsRefusalTold : List Bool → Refusal → Type 0
-IsRefusalTold marks e = HasTold marks e ⊎ (e ≡ Damaged)
-
--- what a reply refuses is told then, beside all that was
-pub record Notices (old : List Bool) (reply : Reply) (new : List Bool) : Type 0 where
-  pub kept : (e : Refusal) → HasTold old e → HasTold new e
-  pub carried : (e : Refusal) → refused_by reply ≡ Some e → IsRefusalTold new e
 
 -- the refusal that it goes out with, and the one that it ends with, was told
 pub record RefusesAsTold (marks : List Bool) (v : WriteView) : Type 0 where

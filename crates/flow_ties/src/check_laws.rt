@@ -1,5 +1,5 @@
 // Laws of a check, each the clause of a function with an empty body.
-ghost use Rattle.flow_ties.specs.Checks.{ChecksAnswerWhatIsSeen, ChecksBegin, ChecksBeginAtPlaces, ChecksHandOverWhatIsSeen, ChecksStaySeen};
+ghost use Rattle.flow_ties.specs.Checks.{ChecksAnswerWhatIsSeen, ChecksAtRestHaveReason, ChecksBegin, ChecksBeginAtPlaces, ChecksHandOverWhatIsSeen, ChecksRefuseForAReason, ChecksStaySeen};
 
 /// A check that has no place yet has met the asked userset alone.
 pub fn checks_begin()
@@ -24,4 +24,15 @@ pub fn checks_hand_over_what_is_seen()
 /// Where the reply to its call tells what is of the list, a check goes on to hold what is of the list; and it answers whether the user is a member there.
 pub fn checks_answer_what_is_seen()
     ensures { ChecksAnswerWhatIsSeen }
+{}
+
+/// A check between two calls has not been refused.
+pub fn checks_at_rest_have_reason()
+    ensures { ChecksAtRestHaveReason }
+{}
+
+/// A check is refused only where a reply has told it, where memory is refused, where the place that was asked for is not there, or where more usersets can
+/// be reached than it may walk.
+pub fn checks_refuse_for_a_reason()
+    ensures { ChecksRefuseForAReason }
 {}

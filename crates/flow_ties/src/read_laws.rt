@@ -1,5 +1,5 @@
 // Laws of a read, each the clause of a function with an empty body.
-ghost use Rattle.flow_ties.specs.Reads.{ReadsAnswerWhatIsSeen, ReadsBegin, ReadsBeginAtPlaces, ReadsHandOverWhatIsSeen, ReadsStaySeen};
+ghost use Rattle.flow_ties.specs.Reads.{ReadsAnswerWhatIsSeen, ReadsAtRestHaveReason, ReadsBegin, ReadsBeginAtPlaces, ReadsBeginForAReason, ReadsHandOverWhatIsSeen, ReadsRefuseForAReason, ReadsStaySeen};
 
 /// A read that has no place yet holds nothing.
 pub fn reads_begin()
@@ -24,4 +24,19 @@ pub fn reads_hand_over_what_is_seen()
 /// Where the reply to its call tells what is of the list, a read goes on to hold what is of the list; and what it answers is what its tuplesets select there.
 pub fn reads_answer_what_is_seen()
     ensures { ReadsAnswerWhatIsSeen }
+{}
+
+/// A read between two calls has not been refused.
+pub fn reads_at_rest_have_reason()
+    ensures { ReadsAtRestHaveReason }
+{}
+
+/// A read that begins at a place of the list is refused for want of memory alone.
+pub fn reads_begin_for_a_reason()
+    ensures { ReadsBeginForAReason }
+{}
+
+/// A read is refused only where a reply has told it, where memory is refused, or where the place that was asked for is not there.
+pub fn reads_refuse_for_a_reason()
+    ensures { ReadsRefuseForAReason }
 {}

@@ -1,5 +1,5 @@
 // Laws of a watch, each the clause of a function with an empty body.
-ghost use Rattle.flow_ties.specs.Watches.{WatchesBegin, WatchesListWhatIsSeen, WatchesStaySeen};
+ghost use Rattle.flow_ties.specs.Watches.{WatchesAtRestHaveReason, WatchesBegin, WatchesListWhatIsSeen, WatchesRefuseForAReason, WatchesStaySeen};
 
 /// A watch that begins holds nothing.
 pub fn watches_begin()
@@ -15,4 +15,14 @@ pub fn watches_stay_seen()
 /// cursor and the place that it tells.
 pub fn watches_list_what_is_seen()
     ensures { WatchesListWhatIsSeen }
+{}
+
+/// A watch between two calls has not been refused.
+pub fn watches_at_rest_have_reason()
+    ensures { WatchesAtRestHaveReason }
+{}
+
+/// A watch is refused only where a reply has told it, where memory is refused, or where its cursor is not there.
+pub fn watches_refuse_for_a_reason()
+    ensures { WatchesRefuseForAReason }
 {}

@@ -1,0 +1,20 @@
+-- A place that heads refuse is not there, where they tell no less than what is seen, and no horizon above the one that is.
+use Rattle.std.proofs.Common.{inl, inr, ⊎_elim, ℕ, ◌≤◌, List, length, arith}
+use Rattle.refusal.specs.declared.refusal.Refusal.{Refusal}
+use Rattle.tuples.specs.declared.entry.Entry.{Entry}
+use Rattle.decisions.specs.Flows.{Freshness, at_least, exact, latest}
+use Rattle.decisions.specs.Standing.{HeadsValue}
+use Rattle.answer_flow.specs.Finding.{IsRefused}
+use Rattle.flow_ties.specs.Refusing.{IsPlaceRefused}
+
+module _ (seen : List Entry) (low : ℕ) (v : HeadsValue) (e : Refusal) (reach : length seen ≤ v.length) (horizon : v.horizon ≤ low) where
+  pub place_refused : (fresh : Freshness) → IsRefused fresh v e → IsPlaceRefused fresh seen low e
+  place_refused latest why = ⊎_elim (λ future. absurd (why.future future)) (λ collected. absurd (why.collected collected)) why.one
+  place_refused (at_least z) why = ⊎_elim
+      (λ future. (future, let above = why.future future in omega (arith, reach, above)))
+      (λ collected. absurd (why.collected collected))
+      why.one
+  place_refused (exact z) why = ⊎_elim
+      (λ future. inl (future, let above = why.future future in omega (arith, reach, above)))
+      (λ collected. inr (collected, let forgotten = (why.collected collected).1 in omega (arith, horizon, forgotten)))
+      why.one
