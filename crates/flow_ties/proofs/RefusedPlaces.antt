@@ -1,11 +1,15 @@
--- A place that heads refuse is not there, where they tell no less than what is seen, and no horizon above the one that is.
+-- A place that heads refuse is not there, where they tell no less than what is seen, and no horizon above the one that is. A call that may be made is one of a
+-- node that is there.
 use Rattle.std.proofs.Common.{inl, inr, ⊎_elim, ℕ, ◌≤◌, List, length, arith}
 use Rattle.refusal.specs.declared.refusal.Refusal.{Refusal}
 use Rattle.tuples.specs.declared.entry.Entry.{Entry}
 use Rattle.decisions.specs.Flows.{Freshness, at_least, exact, latest}
 use Rattle.decisions.specs.Standing.{HeadsValue}
 use Rattle.answer_flow.specs.Finding.{IsRefused}
-use Rattle.flow_ties.specs.Refusing.{IsPlaceRefused}
+use Rattle.calls.specs.Asking.{MayBeMade}
+use Rattle.calls.specs.declared.call.NodeCall.{NodeCall}
+use Rattle.calls.specs.declared.call.NodeCall.TheVariants.{Coordinator, Shard}
+use Rattle.flow_ties.specs.Refusing.{IsAtNode, IsPlaceRefused}
 
 module _ (seen : List Entry) (low : ℕ) (v : HeadsValue) (e : Refusal) (reach : length seen ≤ v.length) (horizon : v.horizon ≤ low) where
   pub place_refused : (fresh : Freshness) → IsRefused fresh v e → IsPlaceRefused fresh seen low e
@@ -18,3 +22,7 @@ module _ (seen : List Entry) (low : ℕ) (v : HeadsValue) (e : Refusal) (reach :
       (λ future. inl (future, let above = why.future future in omega (arith, reach, above)))
       (λ collected. inr (collected, let forgotten = (why.collected collected).1 in omega (arith, horizon, forgotten)))
       why.one
+
+pub is_at_node : (shards : ℕ) (call : NodeCall) → MayBeMade shards call → IsAtNode shards call
+is_at_node shards (Coordinator call) may = tt
+is_at_node shards (Shard s call) may = may.0

@@ -61,7 +61,7 @@ above_all = inr (inr (inl (refl, omega arith)))
 -- and one that is there has none, where no reply has told any
 is_there : HasReason [] (exact 0) [] 0 Future → ⊥
 is_there reason = ⊎_elim
-    (λ told. ⊎_elim (λ marked. absurd (cc marked)) (λ damaged. absurd (cc damaged)) told)
+    (λ told. absurd (cc told))
     (λ rest. ⊎_elim
     (λ memory. absurd (cc memory))
     (λ place. ⊎_elim (λ above. omega (arith, above.1)) (λ below. omega (arith, below.1)) place)

@@ -17,7 +17,7 @@ use Rattle.decisions.specs.Standing.{HeadsValue}
 use Rattle.shard.specs.declared.replies.ReadReply.{ReadReply}
 use Rattle.shard.specs.declared.replies.ReadReply.TheVariants.{Behind, Rows}
 use Rattle.calls.specs.Belonging.{IsReplyTo}
-use Rattle.calls.specs.Refusing.{error_of, refused_by}
+use Rattle.calls.specs.Refusing.{HasTold, error_of, refused_by}
 use Rattle.calls.specs.declared.call.NodeCall.{NodeCall}
 use Rattle.calls.specs.declared.call.NodeCall.TheVariants.{Coordinator, Shard}
 use Rattle.calls.specs.declared.call.CoordinatorCall.TheVariants as calls
@@ -34,10 +34,10 @@ use Rattle.laws.proofs.TupleLists.{has_or_not}
 use Rattle.laws.proofs.Walk.{all_reached, goes_on, many_reached, one_shard_is_asked}
 use Rattle.flow_ties.specs.Cares.{TellsCare}
 use Rattle.flow_ties.specs.Checks.{CheckHasReason, ChecksAtRestHaveReason, ChecksRefuseForAReason, HoldsWalk, IsCheckOf, IsTooFar}
-use Rattle.flow_ties.specs.Refusing.{HasReason, IsRefusalTold, TellsReach}
+use Rattle.flow_ties.specs.Refusing.{HasReason, TellsReach}
 use Rattle.flow_ties.specs.Telling.{IsTold}
 use Rattle.flow_ties.proofs.Places.{asked_place, kept_place}
-use Rattle.flow_ties.proofs.RefusedPlaces.{place_refused}
+use Rattle.flow_ties.proofs.RefusedPlaces.{is_at_node, place_refused}
 use Rattle.flow_ties.proofs.SeenChecks.{begins_with}
 use Rattle.flow_ties.proofs.ToldCatchUps.{call_carries}
 
@@ -60,7 +60,7 @@ module _ (fresh : Freshness) (x : Userset) (u : User) (marks : List Bool) (seen 
   is_refused : (e : AnyRefusal) → Reason e → Is (ended (refused e))
   is_refused e reason other is = subst Reason (same_refusal e other is) reason
 
-  ends_told : (e : AnyRefusal) (after : CheckView) → IsRefusalTold marks e → after ≡ ended (refused e) → Is after
+  ends_told : (e : AnyRefusal) (after : CheckView) → HasTold marks e → after ≡ ended (refused e) → Is after
   ends_told e after told_e gives = subst Is (sym gives) (is_refused e (inl (inl told_e)))
 
   lacks_memory : (after : CheckView) → LacksMemory after → Is after
@@ -97,16 +97,16 @@ module _ (fresh : Freshness) (x : Userset) (u : User) (marks : List Bool) (seen 
 
   -- what a reply carries was told
   abbrev AreTold : {T : Type 0} → Result T AnyRefusal → Type 0
-  AreTold r = (e : AnyRefusal) → error_of r ≡ Some e → IsRefusalTold marks e
+  AreTold r = (e : AnyRefusal) → error_of r ≡ Some e → HasTold marks e
 
   abbrev IsCarried : Reply → Type 0
-  IsCarried reply = (e : AnyRefusal) → refused_by reply ≡ Some e → IsRefusalTold marks e
+  IsCarried reply = (e : AnyRefusal) → refused_by reply ≡ Some e → HasTold marks e
 
   by_flush : (out : CheckView) (r : Result (Unit {0}) AnyRefusal) (after : CheckView) → AreTold r → FlushGives out r after → Is after
   by_flush out (Ok done) after are_told gives = subst Is (sym gives) (rests heads out.holds)
   by_flush out (Err e) after are_told gives = ends_told e after (are_told e refl) gives
 
-  by_progress : (out : CheckView) (progress : Progress) (after : CheckView) → ((e : AnyRefusal) → progress ≡ Refused e → IsRefusalTold marks e) → ProgressGives out progress after → Is after
+  by_progress : (out : CheckView) (progress : Progress) (after : CheckView) → ((e : AnyRefusal) → progress ≡ Refused e → HasTold marks e) → ProgressGives out progress after → Is after
   by_progress out (Next c) after are_told gives = subst Is (sym gives) (rests catch_up (record out.holds { batch = c.batch }))
   by_progress out There after are_told gives = ⊎_elim
       (λ reads. subst Is (sym reads) (rests read (record out.holds { batch = None })))
@@ -193,4 +193,4 @@ checks_at_rest_have_reason fresh x marks seen low step h e none = absurd (let ba
 
 pub checks_refuse_for_a_reason : ChecksRefuseForAReason
 checks_refuse_for_a_reason shards fresh x u old new seen low v out after call reply running is asks belongs is_told gives reach horizon notes =
-    by_step fresh x u new seen low shards v running is v.next call out reply after asks.asks belongs notes.carried is_told reach horizon gives
+    by_step fresh x u new seen low shards v running is v.next call out reply after asks.asks belongs (notes.carried (is_at_node shards call asks.owed)) is_told reach horizon gives

@@ -12,7 +12,7 @@ use Rattle.decisions.specs.Standing.{HeadsValue}
 use Rattle.shard.specs.declared.replies.ReadReply.{ReadReply}
 use Rattle.shard.specs.declared.replies.ReadReply.TheVariants.{Behind, Rows}
 use Rattle.calls.specs.Belonging.{IsReplyTo}
-use Rattle.calls.specs.Refusing.{error_of, refused_by}
+use Rattle.calls.specs.Refusing.{HasTold, error_of, refused_by}
 use Rattle.calls.specs.declared.call.NodeCall.{NodeCall}
 use Rattle.calls.specs.declared.call.NodeCall.TheVariants.{Coordinator}
 use Rattle.calls.specs.declared.call.CoordinatorCall.TheVariants as calls
@@ -25,9 +25,9 @@ use Rattle.catch_up.specs.declared.caught.Progress.TheVariants.{Next, There, Ref
 use Rattle.answer_flow.specs.Reading.{AsksFor, CatchUpGives, CatchesUp, Continues, Finishes, FlushGives, GivesTo, HeadsGive, LacksMemory, ProgressGives, ReadGives, RowsGive}
 use Rattle.answer_flow.specs.ReadViews.{ReadAwaited, ReadStep, ReadView, at_rest, catch_up, catch_up_call, ended, flush, flush_call, heads, heads_call, read, read_call, refused, selected}
 use Rattle.flow_ties.specs.Cares.{TellsCare}
-use Rattle.flow_ties.specs.Refusing.{HasReason, IsRefusalTold, TellsReach}
+use Rattle.flow_ties.specs.Refusing.{HasReason, TellsReach}
 use Rattle.flow_ties.specs.Reads.{ReadHasReason, ReadsAtRestHaveReason, ReadsBeginForAReason, ReadsRefuseForAReason}
-use Rattle.flow_ties.proofs.RefusedPlaces.{place_refused}
+use Rattle.flow_ties.proofs.RefusedPlaces.{is_at_node, place_refused}
 use Rattle.flow_ties.proofs.ToldCatchUps.{call_carries}
 
 same_refusal : (e x : AnyRefusal) → Some (refused e) ≡ Some (refused x) → e ≡ x
@@ -49,7 +49,7 @@ module _ (fresh : Freshness) (marks : List Bool) (seen : List Entry) (low : ℕ)
   is_refused : (e : AnyRefusal) → HasReason marks fresh seen low e → Is (ended (refused e))
   is_refused e reason x is = subst (HasReason marks fresh seen low) (same_refusal e x is) reason
 
-  ends_told : (e : AnyRefusal) (after : ReadView) → IsRefusalTold marks e → after ≡ ended (refused e) → Is after
+  ends_told : (e : AnyRefusal) (after : ReadView) → HasTold marks e → after ≡ ended (refused e) → Is after
   ends_told e after told_e gives = subst Is (sym gives) (is_refused e (inl told_e))
 
   lacks_memory : (after : ReadView) → LacksMemory after → Is after
@@ -66,7 +66,7 @@ module _ (fresh : Freshness) (marks : List Bool) (seen : List Entry) (low : ℕ)
 
   -- what a reply carries was told
   abbrev AreTold : {T : Type 0} → Result T AnyRefusal → Type 0
-  AreTold r = (e : AnyRefusal) → error_of r ≡ Some e → IsRefusalTold marks e
+  AreTold r = (e : AnyRefusal) → error_of r ≡ Some e → HasTold marks e
 
   by_heads : (sets : List Tupleset) (r : Result HeadsValue AnyRefusal) (after : ReadView) → AreTold r → TellsReach seen (Coordinator calls.Heads) (from_coordinator (told.Heads r)) → TellsCare low (Coordinator calls.Heads) (from_coordinator (told.Heads r))
       → HeadsGive fresh sets r after → Is after
@@ -83,7 +83,7 @@ module _ (fresh : Freshness) (marks : List Bool) (seen : List Entry) (low : ℕ)
   by_flush (Ok done) after are_told gives = subst Is (sym gives) (rests heads nothing_read)
   by_flush (Err e) after are_told gives = ends_told e after (are_told e refl) gives
 
-  by_progress : (out : ReadView) (progress : Progress) (after : ReadView) → ((e : AnyRefusal) → progress ≡ Refused e → IsRefusalTold marks e) → ProgressGives out progress after → Is after
+  by_progress : (out : ReadView) (progress : Progress) (after : ReadView) → ((e : AnyRefusal) → progress ≡ Refused e → HasTold marks e) → ProgressGives out progress after → Is after
   by_progress out (Next c) after are_told gives = subst Is (sym gives) (rests catch_up (record out.holds { batch = c.batch }))
   by_progress out There after are_told gives = subst Is (sym gives) (rests read (record out.holds { batch = None }))
   by_progress out (Refused e) after are_told gives = ends_told e after (are_told e refl) gives
@@ -112,7 +112,7 @@ module _ (fresh : Freshness) (marks : List Bool) (seen : List Entry) (low : ℕ)
     by_answer out place at q (Err e) after are_told gives = ends_told e after (are_told e refl) gives
 
     abbrev IsCarried : Reply → Type 0
-    IsCarried reply = (e : AnyRefusal) → refused_by reply ≡ Some e → IsRefusalTold marks e
+    IsCarried reply = (e : AnyRefusal) → refused_by reply ≡ Some e → HasTold marks e
 
     heads_replied : (out : ReadView) (reply : Reply) (after : ReadView) → IsCarried reply → TellsReach seen (Coordinator calls.Heads) reply → TellsCare low (Coordinator calls.Heads) reply → GivesTo shards fresh sets out heads_call reply after → Is after
     heads_replied out (from_coordinator (told.Heads r)) after carried reach horizon gives = by_heads sets r after carried reach horizon gives
@@ -158,4 +158,4 @@ reads_begin_for_a_reason sets place v gives e is = ⊎_elim
 
 pub reads_refuse_for_a_reason : ReadsRefuseForAReason
 reads_refuse_for_a_reason shards fresh sets old new seen low v out after call reply asks belongs gives reach horizon notes =
-    by_step fresh new seen low shards sets v.next v call out reply after asks.asks belongs notes.carried reach horizon gives
+    by_step fresh new seen low shards sets v.next v call out reply after asks.asks belongs (notes.carried (is_at_node shards call asks.owed)) reach horizon gives

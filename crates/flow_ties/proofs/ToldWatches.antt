@@ -7,7 +7,7 @@ use Rattle.tuples.specs.Watching.{Placed, events_from}
 use Rattle.decisions.specs.Flows.{HeadsHeld, exact, no_heads}
 use Rattle.decisions.specs.Standing.{HeadsValue}
 use Rattle.decisions.specs.Values.{BatchValue}
-use Rattle.calls.specs.Refusing.{error_of, refused_by}
+use Rattle.calls.specs.Refusing.{HasTold, error_of, refused_by}
 use Rattle.calls.specs.declared.call.NodeCall.{NodeCall}
 use Rattle.calls.specs.declared.call.NodeCall.TheVariants.{Coordinator, Shard}
 use Rattle.calls.specs.declared.call.CoordinatorCall.TheVariants as calls
@@ -17,9 +17,9 @@ use Rattle.calls.specs.declared.reply.CoordinatorReply.TheVariants as told
 use Rattle.answer_flow.specs.Watching.{AsksFor, BatchGives, FlushGives, GivesTo, HeadsGive, heartbeat}
 use Rattle.answer_flow.specs.WatchViews.{WatchCall, WatchView, at_rest, batch, ended, flush, heads, listed, refused, waiting, with_heads}
 use Rattle.flow_ties.specs.Cares.{TellsCare}
-use Rattle.flow_ties.specs.Refusing.{HasReason, IsRefusalTold, TellsReach}
+use Rattle.flow_ties.specs.Refusing.{HasReason, TellsReach}
 use Rattle.flow_ties.specs.Watches.{WatchHasReason, WatchesAtRestHaveReason, WatchesRefuseForAReason}
-use Rattle.flow_ties.proofs.RefusedPlaces.{place_refused}
+use Rattle.flow_ties.proofs.RefusedPlaces.{is_at_node, place_refused}
 
 same_refusal : (e x : Refusal) → Some (refused e) ≡ Some (refused x) → e ≡ x
 same_refusal e x is = cc is
@@ -37,12 +37,12 @@ module _ (cursor limit : ℕ) (names : List (List ℕ)) (marks : List Bool) (see
   is_refused : (e : Refusal) → HasReason marks (exact cursor) seen low e → Is (ended (refused e))
   is_refused e reason x is = subst (HasReason marks (exact cursor) seen low) (same_refusal e x is) reason
 
-  ends_told : (e : Refusal) (after : WatchView) → IsRefusalTold marks e → after ≡ ended (refused e) → Is after
+  ends_told : (e : Refusal) (after : WatchView) → HasTold marks e → after ≡ ended (refused e) → Is after
   ends_told e after told_e gives = subst Is (sym gives) (is_refused e (inl told_e))
 
   -- what a reply carries was told
   abbrev AreTold : {T : Type 0} → Result T Refusal → Type 0
-  AreTold r = (e : Refusal) → error_of r ≡ Some e → IsRefusalTold marks e
+  AreTold r = (e : Refusal) → error_of r ≡ Some e → HasTold marks e
 
   by_heads : (r : Result HeadsValue Refusal) (after : WatchView) → AreTold r → TellsReach seen (Coordinator calls.Heads) (from_coordinator (told.Heads r)) → TellsCare low (Coordinator calls.Heads) (from_coordinator (told.Heads r))
       → HeadsGive cursor r after → Is after
@@ -67,7 +67,7 @@ module _ (cursor limit : ℕ) (names : List (List ℕ)) (marks : List Bool) (see
   by_batch out h has (Err e) after are_told gives = ends_told e after (are_told e refl) gives
 
   abbrev IsCarried : Reply → Type 0
-  IsCarried reply = (e : Refusal) → refused_by reply ≡ Some e → IsRefusalTold marks e
+  IsCarried reply = (e : Refusal) → refused_by reply ≡ Some e → HasTold marks e
 
   heads_replied : (out : WatchView) (reply : Reply) (after : WatchView) → IsCarried reply → TellsReach seen (Coordinator calls.Heads) reply → TellsCare low (Coordinator calls.Heads) reply → GivesTo cursor limit names out heads reply after → Is after
   heads_replied out (from_coordinator (told.Heads r)) after carried reach horizon gives = by_heads r after carried reach horizon gives
@@ -95,5 +95,5 @@ pub watches_at_rest_have_reason : WatchesAtRestHaveReason
 watches_at_rest_have_reason cursor marks seen low step h = rests cursor 0 [] marks seen low step h
 
 pub watches_refuse_for_a_reason : WatchesRefuseForAReason
-watches_refuse_for_a_reason cursor limit names old new seen low v out after call reply asks belongs gives reach horizon notes =
-    by_call cursor limit names new seen low v out call reply after asks.asks asks.out notes.carried reach horizon gives
+watches_refuse_for_a_reason shards cursor limit names old new seen low v out after call reply asks belongs gives reach horizon notes =
+    by_call cursor limit names new seen low v out call reply after asks.asks asks.out (notes.carried (is_at_node shards call (asks.owed shards))) reach horizon gives

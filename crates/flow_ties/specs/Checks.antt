@@ -99,4 +99,4 @@ abbrev pub ChecksRefuseForAReason : Type 0
 ChecksRefuseForAReason = (shards : ℕ) (fresh : Freshness) (x : Userset) (u : User) (old new : List Bool) (seen : List Entry) (low : ℕ) (v out after : CheckView) (call : NodeCall) (reply : Reply)
     → v.ended ≡ None → IsCheckOf seen fresh x u v → Asks shards u v call out → IsReplyTo call reply → IsTold shards seen call reply
     → ((awaited : CheckAwaited) → out.awaited ≡ Some awaited → GivesTo fresh u out awaited reply after)
-    → TellsReach seen call reply → TellsCare low call reply → Notices old reply new → CheckHasReason new fresh seen low x after
+    → TellsReach seen call reply → TellsCare low call reply → Notices shards old call reply new → CheckHasReason new fresh seen low x after

@@ -97,4 +97,4 @@ ReadsBeginForAReason = (sets : List Tupleset) (place : ℕ) (v : ReadView) → C
 abbrev pub ReadsRefuseForAReason : Type 0
 ReadsRefuseForAReason = (shards : ℕ) (fresh : Freshness) (sets : List Tupleset) (old new : List Bool) (seen : List Entry) (low : ℕ) (v out after : ReadView) (call : NodeCall) (reply : Reply)
     → Asks shards sets v call out → IsReplyTo call reply → ((awaited : ReadAwaited) → out.awaited ≡ Some awaited → GivesTo shards fresh sets out awaited reply after)
-    → TellsReach seen call reply → TellsCare low call reply → Notices old reply new → ReadHasReason new fresh seen low after
+    → TellsReach seen call reply → TellsCare low call reply → Notices shards old call reply new → ReadHasReason new fresh seen low after

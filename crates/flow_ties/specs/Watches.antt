@@ -82,6 +82,6 @@ WatchesAtRestHaveReason = (cursor : ℕ) (marks : List Bool) (seen : List Entry)
 
 -- Where heads tell no less than what is seen, and no horizon above the one that is, a reply ends a watch with a refusal only for a reason.
 abbrev pub WatchesRefuseForAReason : Type 0
-WatchesRefuseForAReason = (cursor limit : ℕ) (names : List (List ℕ)) (old new : List Bool) (seen : List Entry) (low : ℕ) (v out after : WatchView) (call : NodeCall) (reply : Reply)
+WatchesRefuseForAReason = (shards cursor limit : ℕ) (names : List (List ℕ)) (old new : List Bool) (seen : List Entry) (low : ℕ) (v out after : WatchView) (call : NodeCall) (reply : Reply)
     → Asks cursor limit v call out → IsReplyTo call reply → ((awaited : WatchCall) → out.awaited ≡ Some awaited → GivesTo cursor limit names out awaited reply after)
-    → TellsReach seen call reply → TellsCare low call reply → Notices old reply new → WatchHasReason new cursor seen low after
+    → TellsReach seen call reply → TellsCare low call reply → Notices shards old call reply new → WatchHasReason new cursor seen low after

@@ -1,5 +1,5 @@
 -- What a write holds on its way to a place of the list, and what it tells at its end.
-use Rattle.std.specs.Prelude.{◌≡◌, ◌<◌, ℕ, Bool, List, Some, None, Ok}
+use Rattle.std.specs.Prelude.{◌≡◌, ◌<◌, ℕ, Bool, List, Some, None, Ok, All}
 use mathlib.Core.List.{IsPrefix}
 use Rattle.refusal.specs.declared.refusal.Refusal.{Refusal}
 use Rattle.tuples.specs.declared.entry.Entry.{Entry}
@@ -8,6 +8,7 @@ use Rattle.decisions.specs.Standing.{DecidedValue}
 use Rattle.decisions.specs.Values.{BatchValue, IntentValue}
 use Rattle.coordinator.specs.declared.telling.Outcome.TheVariants.{Kept, Later}
 use Rattle.calls.specs.Belonging.{IsReplyTo}
+use Rattle.calls.specs.Refusing.{HasTold}
 use Rattle.calls.specs.declared.call.NodeCall.{NodeCall}
 use Rattle.calls.specs.declared.call.NodeCall.TheVariants.{Coordinator, Shard}
 use Rattle.calls.specs.declared.call.CoordinatorCall.TheVariants.{Begin, Decide, Outcome}
@@ -17,13 +18,13 @@ use Rattle.calls.specs.declared.reply.Reply.TheVariants.{Coordinator as from_coo
 use Rattle.calls.specs.declared.reply.CoordinatorReply.TheVariants as told
 use Rattle.commit_flow.specs.declared.end.WriteEnd.TheVariants.{Refused, Wrote}
 use Rattle.commit_flow.specs.Answering.{GivesTo}
-use Rattle.commit_flow.specs.WriteHolds.{WriteAwaited, nothing_begun, onward, outward}
+use Rattle.commit_flow.specs.WriteHolds.{HeldTicket, WriteAwaited, nothing_begun, onward, outward}
 use Rattle.commit_flow.specs.Views.{WriteView, at_rest}
 use Rattle.commit_flow.specs.Writing.{Asks}
 use Rattle.ties.specs.DecidingLaws.{StandsAt}
 use Rattle.ties.specs.TellingLaws.{IsBatchOf}
 use Rattle.flow_ties.specs.Telling.{IsHeld, IsTold}
-pub use Rattle.flow_ties.specs.Refusing.{IsRefusalTold, Notices}
+use Rattle.flow_ties.specs.Refusing.{Notices}
 
 -- the write that was asked for, under an id
 pub record IsOfRequest (asked : WriteValue) (w : Entry) : Type 0 where
@@ -106,11 +107,21 @@ abbrev pub WritesTellWhatStands : Linking → Type 0
 WritesTellWhatStands links = (asked : WriteValue) (above shards : ℕ) (seen later : List Entry) (v after : WriteView) → IsPrefix seen later
     → IsWriteOf links asked above seen v → WriteTurns links asked above shards later v after → IsWriteOf links asked above later after
 
--- the refusal that it goes out with, and the one that it ends with, was told
-pub record RefusesAsTold (marks : List Bool) (v : WriteView) : Type 0 where
-  pub leaving : (e : Refusal) → v.holds.way ≡ outward (Some e) → IsRefusalTold marks e
-  pub ended : (e : Refusal) → v.ended ≡ Some (Refused e) → IsRefusalTold marks e
+-- each ticket is of a shard that is there
+abbrev pub AreThere : ℕ → List HeldTicket → Type 0
+AreThere shards = All (λ (t : HeldTicket). t.shard < shards)
+
+-- The refusal that it goes out with, and the one that it ends with, was told; and its tickets are of shards that are there, so none of these was made up for a
+-- shard that is not.
+pub record RefusesAsTold (shards : ℕ) (marks : List Bool) (v : WriteView) : Type 0 where
+  pub leaving : (e : Refusal) → v.holds.way ≡ outward (Some e) → HasTold marks e
+  pub ended : (e : Refusal) → v.ended ≡ Some (Refused e) → HasTold marks e
+  pub tickets : AreThere shards v.holds.tickets
+
+-- a write that is not begun is refused by nothing
+abbrev pub WritesBeginUntold : Type 0
+WritesBeginUntold = (shards : ℕ) (marks : List Bool) (write : WriteValue) → RefusesAsTold shards marks (unbegun write)
 
 abbrev pub WritesRefuseAsTold : Type 0
-WritesRefuseAsTold = (shards : ℕ) (old new : List Bool) (v out after : WriteView) (call : NodeCall) (reply : Reply) → RefusesAsTold old v → Asks shards v call out → IsReplyTo call reply
-    → ((awaited : WriteAwaited) → out.awaited ≡ Some awaited → GivesTo out awaited reply after) → Notices old reply new → RefusesAsTold new after
+WritesRefuseAsTold = (shards : ℕ) (old new : List Bool) (v out after : WriteView) (call : NodeCall) (reply : Reply) → RefusesAsTold shards old v → Asks shards v call out → IsReplyTo call reply
+    → ((awaited : WriteAwaited) → out.awaited ≡ Some awaited → GivesTo out awaited reply after) → Notices shards old call reply new → RefusesAsTold shards new after

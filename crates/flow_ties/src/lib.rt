@@ -27,6 +27,6 @@ pub use watch_laws::{
     watches_refuse_for_a_reason, watches_stay_seen,
 };
 pub use write_laws::{
-    Links, writes_are_relinked, writes_begin, writes_hand_over_what_is_seen, writes_refuse_as_told,
-    writes_stay_seen, writes_tell_what_stands,
+    Links, writes_are_relinked, writes_begin, writes_begin_untold, writes_hand_over_what_is_seen,
+    writes_refuse_as_told, writes_stay_seen, writes_tell_what_stands,
 };

@@ -1,5 +1,5 @@
 // Laws of a write, each the clause of a function with an empty body.
-ghost use Rattle.flow_ties.specs.Writes.{WritesAreRelinked, WritesBegin, WritesHandOverWhatIsSeen, WritesRefuseAsTold, WritesStaySeen, WritesTellWhatStands};
+ghost use Rattle.flow_ties.specs.Writes.{WritesAreRelinked, WritesBegin, WritesBeginUntold, WritesHandOverWhatIsSeen, WritesRefuseAsTold, WritesStaySeen, WritesTellWhatStands};
 
 /// Which decision is of which write, as the coordinator alone knows.
 pub trait Links {
@@ -32,6 +32,11 @@ pub fn writes_hand_over_what_is_seen<L: Links>()
 /// what had been seen, and has just that write, its id once in the list.
 pub fn writes_tell_what_stands<L: Links>()
     ensures { WritesTellWhatStands L.links }
+{}
+
+/// A write that is not begun is refused by nothing.
+pub fn writes_begin_untold()
+    ensures { WritesBeginUntold }
 {}
 
 /// The refusal of a write is one that a reply to one of its calls has carried.
