@@ -1,5 +1,5 @@
 -- A check of a shared store goes on to hold what is of the list, turn by turn.
-use Rattle.std.proofs.Common.{◌≡◌, ◌≤◌, ℕ, List, length, Bool, Option, Some, None, Result, Ok, Err, IfOk, MatchOption, refl, sym, ◌∙◌, ap, subst}
+use Rattle.std.proofs.Common.{◌≡◌, inl, inr, ⊎_elim, ◌≤◌, ℕ, List, length, Bool, Option, Some, None, Result, Ok, Err, IfOk, MatchOption, refl, sym, ◌∙◌, ap, subst}
 use Rattle.tuples.specs.declared.object.Userset.{Userset}
 use Rattle.tuples.specs.declared.user.User.{User}
 use Rattle.tuples.specs.declared.entry.Entry.{Entry}
@@ -12,12 +12,13 @@ use Rattle.calls.specs.declared.reply.Reply.{Reply}
 use Rattle.answer_flow.specs.Checking.{Asks, AsksFor, GivesTo}
 use Rattle.answer_flow.specs.CheckViews.{CheckAwaited, CheckEnding, CheckFlowValue, CheckStep, CheckView, at_rest, begins_at, heads, flush, catch_up, read}
 use Rattle.answer_flow.specs.Running.{AsksCheck, GivesCheck}
-use Rattle.flow_ties.specs.Checks.{CheckTurns, IsCheckOf, IsMembershipAt}
+use Rattle.flow_ties.specs.Checks.{CheckHasReason, CheckTurns, IsCheckOf, IsMembershipAt}
 use Rattle.flow_ties.specs.Telling.{IsAsAsked}
-use Rattle.flow_ties.proofs.SeenChecks.{checks_answer_what_is_seen, checks_begin, checks_begin_at_places, checks_hand_over_what_is_seen}
-use Rattle.locked.specs.Answering.{CheckEnds, CheckRuns, IsBeyond, IsFresh}
+use Rattle.flow_ties.proofs.SeenChecks.{checks_answer_what_is_seen, checks_begin, checks_begin_at_places, checks_hand_over_what_is_seen, checks_stay_seen}
+use Rattle.flow_ties.proofs.ToldChecks.{checks_at_rest_have_reason, checks_refuse_for_a_reason}
+use Rattle.locked.specs.Answering.{CheckEnds, CheckRefuses, CheckRuns, IsBeyond, IsFresh, LiesBeyond}
 use Rattle.locked.specs.Turning.{HandsWhatIsSeen, Turns}
-use Rattle.locked.proofs.FreshPlaces.{beyond_is_fresh, fresh_is_as_asked}
+use Rattle.locked.proofs.FreshPlaces.{beyond_is_fresh, fresh_is_as_asked, place_is_reached, reason_asked}
 
 -- a check calls no shard to collect
 no_collect : (shards : ℕ) (u : User) (step : CheckStep) (v out : CheckView) (s : ℕ) (h : _) → AsksFor step shards u v (Shard s (shard_calls.Collect h)) out → ⊥
@@ -71,6 +72,7 @@ check_at shards seen asked before place x u flow of fresh same there is_fresh be
   of = of;
   user = same;
   narrows = λ other as_asked. subst (IsFresh asked before) (sym (subst (λ (f : Freshness). IsAsAsked f other) fresh as_asked)) is_fresh;
+  beyond = subst (λ (f : Freshness). LiesBeyond f asked (length seen)) (sym fresh) (place_is_reached asked place (length seen) there);
   held = subst (λ (f : Freshness). IsCheckOf seen f x u flow.seen) (sym fresh) (checks_begin_at_places seen (exact place) x u place flow.seen there refl begins);
 }
 
@@ -81,6 +83,7 @@ check_beyond shards seen asked before x u flow of fresh same beyond begins = rec
   of = of;
   user = same;
   narrows = λ other as_asked. beyond_is_fresh asked before (length seen) other beyond (subst (λ (f : Freshness). IsAsAsked f other) fresh as_asked);
+  beyond = λ n longer above. subst (λ (f : Freshness). IsBeyond f n) fresh above;
   held = subst (λ (v : CheckView). IsCheckOf seen flow.fresh x u v) (sym begins) (checks_begin seen flow.fresh x u);
 }
 
@@ -106,3 +109,35 @@ pub made_beyond : {E : Type 0} (shards count : ℕ) (seen : List Entry) (asked :
 made_beyond shards count seen asked before x u name (Ok f) of same beyond =
     check_beyond shards seen asked before x u f (ap (λ (f : CheckFlowValue). f.shards) same ∙ of) (ap (λ (f : CheckFlowValue). f.fresh) same) (ap (λ (f : CheckFlowValue). f.user) same) beyond (ap (λ (f : CheckFlowValue). f.seen) same)
 made_beyond shards count seen asked before x u name (Err e) of same beyond = tt
+
+-- a check that rests has not ended, and so it is refused by nothing
+rests_for_a_reason : (fresh : Freshness) (x : Userset) (marks : List Bool) (seen : List Entry) (low : ℕ) (step : CheckStep) (h : _) (v : CheckView) → v ≡ at_rest step h → CheckHasReason marks fresh seen low x v
+rests_for_a_reason fresh x marks seen low step h v begins = subst (CheckHasReason marks fresh seen low x) (sym begins) (checks_at_rest_have_reason fresh x marks seen low step h)
+
+pub made_for_a_reason : {E : Type 0} (step : CheckStep) (h : _) (x : Userset) (marks : List Bool) (seen : List Entry) (low : ℕ) (made : Result CheckFlowValue E) → IfOk made (λ f. f.seen ≡ at_rest step h) → IfOk made (λ f. CheckHasReason marks f.fresh seen low x f.seen)
+made_for_a_reason step h x marks seen low (Ok f) begins = rests_for_a_reason f.fresh x marks seen low step h f.seen begins
+made_for_a_reason step h x marks seen low (Err e) begins = tt
+
+pub seen_of : {E : Type 0} (count : ℕ) (asked : Freshness) (x : Userset) (u : User) (name : Option CallName) (made : Result CheckFlowValue E)
+    → IfOk made (λ f. f ≡ record { shards = count; fresh = asked; user = u; seen = at_rest heads (begins_at x); next_name = name }) → IfOk made (λ f. f.seen ≡ at_rest heads (begins_at x))
+seen_of count asked x u name (Ok f) same = ap (λ (f : CheckFlowValue). f.seen) same
+seen_of count asked x u name (Err e) same = tt
+
+-- and behind a turn it has a reason in what was told then
+pub check_has_reason : (shards : ℕ) (old new : Known Entry) (marks later : List Bool) (x : Userset) (v after : CheckFlowValue) → v.shards ≡ shards → v.seen.ended ≡ None → IsCheckOf old.seen v.fresh x v.user v.seen
+    → Turns AsksCheck GivesCheck shards old new marks later v after → CheckHasReason later v.fresh new.seen new.horizon x after.seen
+check_has_reason shards old new marks later x v after of running is t =
+    checks_refuse_for_a_reason shards v.fresh x v.user marks later new.seen new.horizon v.seen t.out.seen after.seen t.call t.reply running
+    (checks_stay_seen old.seen new.seen v.fresh x v.user v.seen t.serves.later.seen is)
+    (subst (λ (n : ℕ). Asks n v.user v.seen t.call t.out.seen) of t.asked.2)
+    t.serves.belongs t.serves.told
+    (λ awaited awaits. gives_to v t.out awaited t.reply after.seen t.asked.1 awaits t.given.1)
+    t.serves.reach t.serves.care t.notices
+
+-- the refusal that a check ends with has a reason in the words of what was asked for
+pub check_refuses : (shards : ℕ) (seen longer : List Entry) (asked : Freshness) (before low : ℕ) (marks : List Bool) (x : Userset) (u : User) (flow : CheckFlowValue) (after : CheckView) (end : CheckEnding) → CheckRuns shards seen asked before x u flow
+    → length seen ≤ length longer → CheckHasReason marks flow.fresh longer low x after → Some end ≡ after.ended → CheckRefuses marks longer low asked before x end
+check_refuses shards seen longer asked before low marks x u flow after end runs le reason ended e is = ⊎_elim
+    (λ why. inl (reason_asked asked before (length seen) longer low e le marks flow.fresh runs.narrows runs.beyond why))
+    (λ far. inr far)
+    (reason e (sym ended ∙ ap (λ (e : CheckEnding). Some e) is))

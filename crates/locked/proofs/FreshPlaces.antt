@@ -1,8 +1,13 @@
 -- Places that are as fresh as asked.
-use Rattle.std.proofs.Common.{ℕ}
+use Rattle.std.proofs.Common.{ℕ, ◌≤◌, ◌⊎◌, ◌≡◌, inl, inr, ⊎_elim, List, Bool, length, refl, arith}
+use Rattle.refusal.specs.declared.refusal.Refusal.{Refusal}
+use Rattle.refusal.specs.declared.refusal.Refusal.TheVariants.{NoMemory}
+use Rattle.tuples.specs.declared.entry.Entry.{Entry}
+use Rattle.calls.specs.Refusing.{HasTold}
 use Rattle.decisions.specs.Flows.{Freshness, at_least, exact, latest}
+use Rattle.flow_ties.specs.Refusing.{HasReason, IsPlaceRefused}
 use Rattle.flow_ties.specs.Telling.{IsAsAsked}
-use Rattle.locked.specs.Answering.{IsBeyond, IsFresh}
+use Rattle.locked.specs.Answering.{IsBeyond, IsFresh, IsNotThere, LiesBeyond, Narrows}
 
 -- above what was published, a place that is as asked is as fresh as asked
 pub beyond_is_fresh : (asked : Freshness) (before published place : ℕ) → IsBeyond asked published → IsAsAsked asked place → IsFresh asked before place
@@ -14,3 +19,21 @@ pub fresh_is_as_asked : (asked : Freshness) (before place : ℕ) → IsFresh ask
 fresh_is_as_asked latest before place is = tt
 fresh_is_as_asked (at_least z) before place is = is
 fresh_is_as_asked (exact z) before place is = is
+
+-- a place of the list lies beyond nothing that is longer
+pub place_is_reached : (asked : Freshness) (place so_far : ℕ) → place ≤ so_far → LiesBeyond (exact place) asked so_far
+place_is_reached asked place so_far le n longer above = absurd (omega (arith, le, longer, above))
+
+module _ (asked : Freshness) (before so_far : ℕ) (seen : List Entry) (low : ℕ) (e : Refusal) (le : so_far ≤ length seen) where
+  -- a place that is not there, of which the one that was asked for is as fresh
+  not_there : (narrow : Freshness) → Narrows narrow asked before → LiesBeyond narrow asked so_far → IsPlaceRefused narrow seen low e → IsNotThere asked before seen low e
+  not_there latest narrows beyond why = absurd why
+  not_there (at_least z) narrows beyond why = inl (why.0, beyond (length seen) le why.1)
+  not_there (exact z) narrows beyond why = ⊎_elim (λ above. inl (above.0, beyond (length seen) le above.1)) (λ below. inr (below.0, (z, narrows z refl, below.1))) why
+
+  -- and so the reason of a refusal is one in the words of what was asked for
+  pub reason_asked : (marks : List Bool) (narrow : Freshness) → Narrows narrow asked before → LiesBeyond narrow asked so_far → HasReason marks narrow seen low e → HasTold marks e ⊎ ((e ≡ NoMemory) ⊎ IsNotThere asked before seen low e)
+  reason_asked marks narrow narrows beyond reason = ⊎_elim
+      (λ told. inl told)
+      (λ rest. inr (⊎_elim (λ memory. inl memory) (λ place. inr (not_there narrow narrows beyond place)) rest))
+      reason

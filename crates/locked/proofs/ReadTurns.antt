@@ -1,5 +1,5 @@
 -- A read of a shared store goes on to hold what is of the list, turn by turn.
-use Rattle.std.proofs.Common.{◌≡◌, ◌≤◌, ℕ, List, Bool, length, Option, Some, None, MatchOption, refl, sym, ◌∙◌, ap, subst}
+use Rattle.std.proofs.Common.{◌≡◌, inl, inr, ◌≤◌, ℕ, List, Bool, length, Option, Some, None, MatchOption, refl, sym, ◌∙◌, ap, subst}
 use Rattle.tuples.specs.declared.tupleset.Tupleset.{Tupleset}
 use Rattle.tuples.specs.declared.entry.Entry.{Entry}
 use Rattle.published.specs.Known.{Known}
@@ -10,12 +10,14 @@ use Rattle.calls.specs.declared.reply.Reply.{Reply}
 use Rattle.answer_flow.specs.Reading.{Asks, AsksFor, Continues, GivesTo}
 use Rattle.answer_flow.specs.ReadViews.{ReadAwaited, ReadEnding, ReadFlowValue, ReadStep, ReadView, at_rest, heads, flush, catch_up, read}
 use Rattle.answer_flow.specs.Running.{AsksRead, GivesRead}
-use Rattle.flow_ties.specs.Reads.{AreRowsAt, IsReadOf, ReadTurns}
+use Rattle.flow_ties.specs.Reads.{AreRowsAt, IsReadOf, ReadHasReason, ReadTurns}
+use Rattle.flow_ties.specs.Refusing.{HasReason}
 use Rattle.flow_ties.specs.Telling.{IsAsAsked}
+use Rattle.flow_ties.proofs.ToldReads.{reads_at_rest_have_reason, reads_begin_for_a_reason, reads_refuse_for_a_reason}
 use Rattle.flow_ties.proofs.SeenReads.{reads_answer_what_is_seen, reads_begin, reads_begin_at_places, reads_hand_over_what_is_seen}
-use Rattle.locked.specs.Answering.{IsBeyond, IsFresh, ReadEnds, ReadRuns}
+use Rattle.locked.specs.Answering.{IsBeyond, IsFresh, LiesBeyond, ReadEnds, ReadRefuses, ReadRuns}
 use Rattle.locked.specs.Turning.{HandsWhatIsSeen, Turns}
-use Rattle.locked.proofs.FreshPlaces.{beyond_is_fresh, fresh_is_as_asked}
+use Rattle.locked.proofs.FreshPlaces.{beyond_is_fresh, fresh_is_as_asked, place_is_reached, reason_asked}
 
 -- a read calls no shard to collect
 no_collect : (shards : ℕ) (sets : List Tupleset) (step : ReadStep) (v out : ReadView) (s : ℕ) (h : _) → AsksFor step shards sets v (Shard s (shard_calls.Collect h)) out → ⊥
@@ -76,6 +78,7 @@ read_at shards seen asked before place sets flow of fresh same there is_fresh be
   of = of;
   asked_sets = same;
   narrows = λ other as_asked. subst (IsFresh asked before) (sym (subst (λ (f : Freshness). IsAsAsked f other) fresh as_asked)) is_fresh;
+  beyond = subst (λ (f : Freshness). LiesBeyond f asked (length seen)) (sym fresh) (place_is_reached asked place (length seen) there);
   held = subst (λ (f : Freshness). IsReadOf shards seen f sets flow.seen) (sym fresh) (reads_begin_at_places shards seen (exact place) sets place flow.seen there refl begins);
 }
 
@@ -86,6 +89,7 @@ read_beyond shards seen asked before sets flow of fresh same beyond begins = rec
   of = of;
   asked_sets = same;
   narrows = λ other as_asked. beyond_is_fresh asked before (length seen) other beyond (subst (λ (f : Freshness). IsAsAsked f other) fresh as_asked);
+  beyond = λ n longer above. subst (λ (f : Freshness). IsBeyond f n) fresh above;
   held = subst (λ (v : ReadView). IsReadOf shards seen flow.fresh sets v) (sym begins) (reads_begin shards seen flow.fresh sets);
 }
 
@@ -97,3 +101,27 @@ read_ends shards seen longer asked before sets flow after end runs fresh same he
     let wanted : IsFresh asked before place = runs.narrows place (subst (λ (f : Freshness). IsAsAsked f place) fresh rows.wanted) in
     let of_sets : AreRowsAt longer after.fresh sets place done = subst (λ (sets : List Tupleset). AreRowsAt longer after.fresh sets place done) (same ∙ runs.asked_sets) rows in
     (wanted, record { there = of_sets.there; wanted = fresh_is_as_asked asked before place wanted; all = of_sets.all; each = of_sets.each })
+
+-- a read that begins is refused for want of memory alone
+pub begins_for_a_reason : (sets : List Tupleset) (place : ℕ) (fresh : Freshness) (marks : List Bool) (seen : List Entry) (low : ℕ) (v : ReadView) → Continues sets place (record nothing_read { place = Some place }) v → ReadHasReason marks fresh seen low v
+begins_for_a_reason sets place fresh marks seen low v begins e is = inr (inl (reads_begin_for_a_reason sets place v begins e is))
+
+pub rests_for_a_reason : (fresh : Freshness) (marks : List Bool) (seen : List Entry) (low : ℕ) (v : ReadView) → v ≡ at_rest heads nothing_read → ReadHasReason marks fresh seen low v
+rests_for_a_reason fresh marks seen low v begins = subst (ReadHasReason marks fresh seen low) (sym begins) (reads_at_rest_have_reason fresh marks seen low heads nothing_read)
+
+-- and behind a turn it has a reason in what was told then
+pub read_has_reason : (shards : ℕ) (old new : Known Entry) (marks later : List Bool) (v after : ReadFlowValue) → v.shards ≡ shards → Turns AsksRead GivesRead shards old new marks later v after
+    → ReadHasReason later after.fresh new.seen new.horizon after.seen
+read_has_reason shards old new marks later v after of t =
+    let fresh : after.fresh ≡ v.fresh = ap (λ (f : ReadFlowValue). f.fresh) t.given.0 ∙ ap (λ (f : ReadFlowValue). f.fresh) t.asked.1 in
+    subst (λ (f : Freshness). ReadHasReason later f new.seen new.horizon after.seen) (sym fresh)
+    (reads_refuse_for_a_reason shards v.fresh v.sets marks later new.seen new.horizon v.seen t.out.seen after.seen t.call t.reply (subst (λ (n : ℕ). Asks n v.sets v.seen t.call t.out.seen) of t.asked.2) t.serves.belongs
+    (λ awaited awaits. gives_to shards v t.out awaited t.reply after.seen of t.asked.1 awaits t.given.1)
+    t.serves.reach t.serves.care t.notices)
+
+-- the refusal that a read ends with has a reason in the words of what was asked for
+pub read_refuses : (shards : ℕ) (seen longer : List Entry) (asked : Freshness) (before low : ℕ) (marks : List Bool) (sets : List Tupleset) (flow after : ReadFlowValue) (end : ReadEnding) → ReadRuns shards seen asked before sets flow
+    → length seen ≤ length longer → after.fresh ≡ flow.fresh → ReadHasReason marks after.fresh longer low after.seen → Some end ≡ after.seen.ended → ReadRefuses marks longer low asked before end
+read_refuses shards seen longer asked before low marks sets flow after end runs le fresh reason ended e is =
+    let why = reason e (sym ended ∙ ap (λ (e : ReadEnding). Some e) is) in
+    reason_asked asked before (length seen) longer low e le marks flow.fresh runs.narrows runs.beyond (subst (λ (f : Freshness). HasReason marks f longer low e) fresh why)

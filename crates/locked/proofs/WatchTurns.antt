@@ -13,9 +13,12 @@ use Rattle.calls.specs.declared.reply.CoordinatorReply.TheVariants as told
 use Rattle.answer_flow.specs.Watching.{GivesTo}
 use Rattle.answer_flow.specs.WatchViews.{WatchCall, WatchEnding, WatchFlowValue, WatchView, name_unless}
 use Rattle.answer_flow.specs.Running.{AsksWatch, GivesWatch}
-use Rattle.flow_ties.specs.Watches.{AreEventsTo, IsWatchOf, TellsWatcher, WatchTurns}
+use Rattle.flow_ties.specs.Refusing.{HasReason}
+use Rattle.flow_ties.specs.Watches.{AreEventsTo, IsWatchOf, TellsWatcher, WatchHasReason, WatchTurns}
 use Rattle.flow_ties.proofs.SeenWatches.{watches_list_what_is_seen}
-use Rattle.locked.specs.Answering.{WatchEnds}
+use Rattle.flow_ties.proofs.ToldWatches.{watches_refuse_for_a_reason}
+use Rattle.decisions.specs.Flows.{exact}
+use Rattle.locked.specs.Answering.{WatchEnds, WatchRefuses}
 use Rattle.locked.specs.Turning.{HandsWhatIsSeen, Turns}
 
 -- what has a next call has not ended
@@ -77,3 +80,16 @@ watch_ends cursor limit names before seen flow after end of_cursor of_limit of_n
     let behind = subst (λ (n : ℕ). AreEventsTo n flow.limit flow.namespaces before seen place changes) of_cursor events in
     let within = subst (λ (n : ℕ). AreEventsTo cursor n flow.namespaces before seen place changes) of_limit behind in
     subst (λ (names : List (List ℕ)). AreEventsTo cursor limit names before seen place changes) of_names within
+
+-- behind a turn it has a reason in what was told then
+pub watch_has_reason : (shards : ℕ) (old new : Known Entry) (marks later : List Bool) (v after : WatchFlowValue) → Turns AsksWatch GivesWatch shards old new marks later v after → WatchHasReason later v.cursor new.seen new.horizon after.seen
+watch_has_reason shards old new marks later v after t =
+    watches_refuse_for_a_reason shards v.cursor v.limit v.namespaces marks later new.seen new.horizon v.seen t.out.seen after.seen t.call t.reply t.asked.2 t.serves.belongs
+    (λ awaited awaits. gives_to v t.out awaited t.reply after.seen t.asked.1 awaits t.given.1)
+    t.serves.reach t.serves.care t.notices
+
+-- so has the refusal that it ends with
+pub watch_refuses : (cursor : ℕ) (seen : List Entry) (low : ℕ) (marks : List Bool) (flow : WatchFlowValue) (after : WatchView) (end : WatchEnding) → flow.cursor ≡ cursor → WatchHasReason marks flow.cursor seen low after → Some end ≡ after.ended
+    → WatchRefuses marks seen low cursor end
+watch_refuses cursor seen low marks flow after end of_cursor reason ended e is =
+    subst (λ (n : ℕ). HasReason marks (exact n) seen low e) of_cursor (reason e (sym ended ∙ ap (λ (e : WatchEnding). Some e) is))

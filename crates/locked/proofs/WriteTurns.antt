@@ -1,5 +1,5 @@
 -- A write of a shared store goes on to hold what is of it, turn by turn, under a hold and outside of one.
-use Rattle.std.proofs.Common.{◌≡◌, ◌≢◌, ◌≤◌, ℕ, true, false, List, [], ◌∷◌, length, Option, Some, None, Ok, MatchOption, is_some, refl, sym, ◌∙◌, ap, subst, arith}
+use Rattle.std.proofs.Common.{◌≡◌, ◌≢◌, ◌≤◌, ℕ, Bool, true, false, List, [], ◌∷◌, length, Option, Some, None, Ok, MatchOption, is_some, refl, sym, ◌∙◌, ap, subst, arith}
 use mathlib.Core.List.{IsPrefix}
 use Rattle.tuples.specs.declared.entry.Entry.{Entry}
 use Rattle.tuples.specs.Writes.{WriteValue}
@@ -31,8 +31,10 @@ use Rattle.ties.specs.DecidingLaws.{StandsAt, attempt}
 use Rattle.sides.specs.CoordinatorSides.{HasTried, LogSide, TellsDecided, TellsKept}
 use Rattle.flow_ties.specs.Cares.{HandsOver}
 use Rattle.flow_ties.specs.Telling.{IsTold}
-use Rattle.flow_ties.specs.Writes.{IsDecisionOf, IsWriteOf, Linking, TellsWriter, WriteTurns}
+use Rattle.flow_ties.specs.Refusing.{Notices}
+use Rattle.flow_ties.specs.Writes.{IsDecisionOf, IsWriteOf, Linking, RefusesAsTold, TellsWriter, WriteTurns}
 use Rattle.flow_ties.proofs.SeenWrites.{writes_are_relinked, writes_hand_over_what_is_seen, writes_tell_what_stands}
+use Rattle.flow_ties.proofs.ToldWrites.{writes_refuse_as_told}
 use Rattle.locked.specs.Holding.{IsPending, IsWriteSoFar, KeepsTried, TellsInHold, is_of_hold, links_by, may_be_of_hold, of_none}
 use Rattle.locked.specs.Serving.{Serves}
 
@@ -118,6 +120,13 @@ pub pending_hands_over : (asked : WriteValue) (above shards : ℕ) (pass : Known
 pending_hands_over asked above shards pass (Shard s (shard_calls.Learn b)) out p = writes_hand_over_what_is_seen of_none asked above p.before.shards s pass.seen p.before.seen out.seen b p.held p.asks.2
 pending_hands_over asked above shards pass (Shard s (shard_calls.Collect h)) out p = absurd p.asks.2.1
 pending_hands_over asked above shards pass call out p = tt
+
+-- what it is refused by was told, behind a turn too
+pub told_goes_on : (shards : ℕ) (old new : List Bool) (v out later : WriteFlowValue) (call : NodeCall) (reply : Reply) → v.shards ≡ shards → AsksWrite v call out → IsReplyTo call reply → GivesWrite out reply later
+    → Notices shards old call reply new → RefusesAsTold shards old v.seen → RefusesAsTold shards new later.seen
+told_goes_on shards old new v out later call reply of asks belongs given notices was =
+    writes_refuse_as_told shards old new v.seen out.seen later.seen call reply was (subst (λ (n : ℕ). Asks n v.seen call out.seen) of asks.2) belongs
+    (λ awaited is. subst (λ (o : Option WriteAwaited). MatchOption o ⊥ (λ awaited. GivesTo out.seen awaited reply later.seen)) is given.1) notices
 
 -- under a hold
 module _ {D : Type 0} (state : D → State) (honest : D → Type 0) (store shards : ℕ) where

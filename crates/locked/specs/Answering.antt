@@ -1,5 +1,7 @@
 -- How an answer ends over a shared store, and at which place.
-use Rattle.std.specs.Prelude.{◌≡◌, ◌≤◌, ◌<◌, ℕ, Bool, List}
+use Rattle.std.specs.Prelude.{◌≡◌, ◌⊎◌, ◌≤◌, ◌<◌, ℕ, Bool, List, length}
+use Rattle.refusal.specs.declared.refusal.Refusal.{Refusal}
+use Rattle.refusal.specs.declared.refusal.Refusal.TheVariants.{Collected, Full, Future, NoMemory}
 use Rattle.tuples.specs.declared.entry.Entry.{Entry}
 use Rattle.tuples.specs.declared.object.Userset.{Userset}
 use Rattle.tuples.specs.declared.tuple.Tuple.{Tuple}
@@ -7,11 +9,13 @@ use Rattle.tuples.specs.declared.tupleset.Tupleset.{Tupleset}
 use Rattle.tuples.specs.declared.user.User.{User}
 use Rattle.tuples.specs.Watching.{Placed}
 use Rattle.decisions.specs.Flows.{Freshness, at_least, exact, latest}
-use Rattle.answer_flow.specs.CheckViews.{CheckEnding, CheckFlowValue, checked}
-use Rattle.answer_flow.specs.ReadViews.{ReadEnding, ReadFlowValue, selected}
-use Rattle.answer_flow.specs.WatchViews.{WatchEnding, listed}
-use Rattle.flow_ties.specs.Checks.{IsCheckOf, IsMembershipAt}
+use Rattle.answer_flow.specs.CheckViews.{CheckEnding, CheckFlowValue, checked, refused as check_refused}
+use Rattle.answer_flow.specs.ReadViews.{ReadEnding, ReadFlowValue, refused as read_refused, selected}
+use Rattle.answer_flow.specs.WatchViews.{WatchEnding, listed, refused as watch_refused}
+use Rattle.calls.specs.Refusing.{HasTold}
+use Rattle.flow_ties.specs.Checks.{IsCheckOf, IsMembershipAt, IsTooFar}
 use Rattle.flow_ties.specs.Reads.{AreRowsAt, IsReadOf}
+use Rattle.flow_ties.specs.Refusing.{HasReason}
 use Rattle.flow_ties.specs.Telling.{IsAsAsked}
 use Rattle.flow_ties.specs.Watches.{AreEventsTo}
 
@@ -31,6 +35,14 @@ IsBeyond (exact z) place = place < z
 abbrev pub Narrows : Freshness → Freshness → ℕ → Type 0
 Narrows narrow asked before = (place : ℕ) → IsAsAsked narrow place → IsFresh asked before place
 
+-- one that lies beyond so much of the list, and what is longer, is asked for by the other too
+abbrev pub LiesBeyond : Freshness → Freshness → ℕ → Type 0
+LiesBeyond narrow asked so_far = (n : ℕ) → so_far ≤ n → IsBeyond narrow n → IsBeyond asked n
+
+-- why the place that was asked for is not there: it lies above all that there is, or one that would have been as fresh as asked lies below the horizon
+abbrev pub IsNotThere : Freshness → ℕ → List Entry → ℕ → Refusal → Type 0
+IsNotThere asked before seen low e = ((e ≡ Future) × IsBeyond asked (length seen)) ⊎ ((e ≡ Collected) × ((place : ℕ) × IsFresh asked before place × (place < low)))
+
 -- so much of the list had been seen before it
 module _ (shards : ℕ) (seen : List Entry) (asked : Freshness) (before : ℕ) where
   -- a read of these tuplesets on its way, of the list, at a place as fresh as asked
@@ -38,6 +50,7 @@ module _ (shards : ℕ) (seen : List Entry) (asked : Freshness) (before : ℕ) w
     pub of : flow.shards ≡ shards
     pub asked_sets : flow.sets ≡ sets
     pub narrows : Narrows flow.fresh asked before
+    pub beyond : LiesBeyond flow.fresh asked (length seen)
     pub held : IsReadOf shards seen flow.fresh sets flow.seen
 
   -- a check of this userset, about this user
@@ -45,6 +58,7 @@ module _ (shards : ℕ) (seen : List Entry) (asked : Freshness) (before : ℕ) w
     pub of : flow.shards ≡ shards
     pub user : flow.user ≡ u
     pub narrows : Narrows flow.fresh asked before
+    pub beyond : LiesBeyond flow.fresh asked (length seen)
     pub held : IsCheckOf seen flow.fresh x u flow.seen
 
 -- Rows of each tupleset, if it ends with any, are those that it selects of the list at the place that is told, which is as fresh as asked.
@@ -58,3 +72,17 @@ CheckEnds seen asked before x u end = (place : ℕ) (answer : Bool) → end ≡ 
 -- the changes, if it lists any, are all that there are behind its cursor up to the place that is told
 abbrev pub WatchEnds : ℕ → ℕ → List (List ℕ) → ℕ → List Entry → WatchEnding → Type 0
 WatchEnds cursor limit names before seen end = (place : ℕ) (changes : List Placed) → end ≡ listed place changes → AreEventsTo cursor limit names before seen place changes
+
+-- Given which refusals were told, and the list and the horizon that its caller has then seen
+module _ (marks : List Bool) (seen : List Entry) (low : ℕ) where
+  -- the refusal, if it ends with one, was told by a node; or memory was refused, or the place is not there
+  abbrev pub ReadRefuses : Freshness → ℕ → ReadEnding → Type 0
+  ReadRefuses asked before end = (e : Refusal) → end ≡ read_refused e → HasTold marks e ⊎ ((e ≡ NoMemory) ⊎ IsNotThere asked before seen low e)
+
+  -- or more usersets can be reached at a place of the list than a check may walk
+  abbrev pub CheckRefuses : Freshness → ℕ → Userset → CheckEnding → Type 0
+  CheckRefuses asked before x end = (e : Refusal) → end ≡ check_refused e → (HasTold marks e ⊎ ((e ≡ NoMemory) ⊎ IsNotThere asked before seen low e)) ⊎ ((e ≡ Full) × IsTooFar seen x)
+
+  -- a watch's cursor is a place that is asked for
+  abbrev pub WatchRefuses : ℕ → WatchEnding → Type 0
+  WatchRefuses cursor end = (e : Refusal) → end ≡ watch_refused e → HasReason marks (exact cursor) seen low e

@@ -1,5 +1,5 @@
 -- What a writer does under one hold of the coordinator's lock, and what is so of its write on both sides of it.
-use Rattle.std.specs.Prelude.{◌≡◌, ℕ, Bool, true, false, List, [], ◌∷◌, None, Some}
+use Rattle.std.specs.Prelude.{◌≡◌, ◌⊎◌, ℕ, Bool, true, false, List, [], ◌∷◌, None, Some}
 use Rattle.tuples.specs.declared.entry.Entry.{Entry}
 use Rattle.tuples.specs.Writes.{WriteValue}
 use Rattle.device.specs.Device.{State}
@@ -14,11 +14,14 @@ use Rattle.commit_flow.specs.Flows.{WriteFlowValue}
 use Rattle.commit_flow.specs.Running.{AsksWrite}
 use Rattle.commit_flow.specs.Views.{WriteView}
 use Rattle.commit_flow.specs.declared.end.WriteEnd.{WriteEnd}
-use Rattle.commit_flow.specs.declared.end.WriteEnd.TheVariants.{Wrote}
+use Rattle.commit_flow.specs.declared.end.WriteEnd.TheVariants.{Refused, Wrote}
 use Rattle.ties.specs.DecidingLaws.{attempt}
 use Rattle.ties.specs.Ties.{Attempt}
 use Rattle.sides.specs.CoordinatorSides.{HasTried, LogSide}
-use Rattle.flow_ties.specs.Writes.{IsWriteOf, IsWrittenAt, TellsWriter}
+use Rattle.refusal.specs.declared.refusal.Refusal.{Refusal}
+use Rattle.refusal.specs.declared.refusal.Refusal.TheVariants.{NoMemory}
+use Rattle.calls.specs.Refusing.{HasTold}
+use Rattle.flow_ties.specs.Writes.{IsWriteOf, IsWrittenAt, RefusesAsTold, TellsWriter}
 
 -- the calls that are made under one hold: of the coordinator, from a decision to its outcome
 abbrev pub is_of_hold : NodeCall → Bool
@@ -69,6 +72,17 @@ module _ (asked : WriteValue) (above : ℕ) (seen : List Entry) where
     pub asks : AsksWrite before call out
     pub runs : before.seen.ended ≡ None
     pub held : IsWriteOf of_none asked above seen before.seen
+
+-- A call of a write is to be made outside of the hold; what it was refused by so far was told.
+pub record IsPendingTold (shards : ℕ) (marks : List Bool) (call : NodeCall) (out : WriteFlowValue) : Type 0 where
+  pub before : WriteFlowValue
+  pub of : before.shards ≡ shards
+  pub asks : AsksWrite before call out
+  pub told : RefusesAsTold shards marks before.seen
+
+-- The refusal, if it ends with one, was told by a node; or memory was refused before it began.
+abbrev pub WriteRefuses : List Bool → WriteEnd → Type 0
+WriteRefuses marks end = (e : Refusal) → end ≡ Refused e → HasTold marks e ⊎ (e ≡ NoMemory)
 
 -- The place, if it ends with one, is that of the write that was asked for: it stands there in the list, above all that had been seen, and its id nowhere else.
 abbrev pub WriteEnds : WriteValue → ℕ → List Entry → WriteEnd → Type 0

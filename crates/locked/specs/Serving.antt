@@ -14,6 +14,7 @@ use Rattle.sides.specs.Sides.{IsLater}
 use Rattle.flow_ties.specs.Telling.{IsTold}
 use Rattle.flow_ties.specs.Watches.{TellsWatcher}
 use Rattle.flow_ties.specs.Cares.{TellsCare}
+use Rattle.flow_ties.specs.Refusing.{TellsReach}
 use Rattle.flow_ties.specs.Writes.{IsOfRequest}
 
 -- a caller knows what either of two knew
@@ -33,6 +34,7 @@ pub record Serves (shards : ℕ) (old new : Known Entry) (call : NodeCall) (repl
   pub later : IsLater old new
   pub belongs : IsReplyTo call reply
   pub told : IsTold shards new.seen call reply
+  pub reach : TellsReach new.seen call reply
   pub watcher : TellsWatcher (length old.seen) call reply
   pub care : TellsCare new.horizon call reply
   pub intent : TellsIntent call reply

@@ -5,7 +5,7 @@ use Rattle.published.specs.Known.{Known}
 use Rattle.calls.specs.declared.call.NodeCall.{NodeCall}
 use Rattle.calls.specs.declared.reply.Reply.{Reply}
 use Rattle.flow_ties.specs.Cares.{HandsOver}
-use Rattle.flow_ties.specs.Writes.{Notices}
+use Rattle.flow_ties.specs.Refusing.{Notices}
 use Rattle.locked.specs.Serving.{Serves}
 
 module _ {F : Type 0} (asks : F → NodeCall → F → Type 0) where
@@ -21,4 +21,4 @@ module _ {F : Type 0} (asks : F → NodeCall → F → Type 0) where
     pub asked : asks v call out
     pub serves : Serves shards old new call reply
     pub given : gives out reply after
-    pub notices : Notices marks reply later_marks
+    pub notices : Notices shards marks call reply later_marks

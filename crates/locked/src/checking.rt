@@ -1,9 +1,9 @@
 // Checks of a shared store.
-ghost use Rattle.std.specs.Prelude.{◌≡◌, length, None, Some, IfOk};
+ghost use Rattle.std.specs.Prelude.{◌≡◌, Bool, List, length, None, Some, IfOk};
 ghost use Rattle.answer_flow.specs.CheckViews.{ending_of};
-ghost use Rattle.flow_ties.specs.Checks.{IsCheckOf};
+ghost use Rattle.flow_ties.specs.Checks.{CheckHasReason, IsCheckOf};
 ghost use Rattle.sides.specs.Sides.{IsLater};
-ghost use Rattle.locked.specs.Answering.{CheckEnds, CheckRuns};
+ghost use Rattle.locked.specs.Answering.{CheckEnds, CheckRefuses, CheckRuns};
 
 use crate::{Caller, Gate, Store};
 use answer_flow::{CheckEnd, CheckFlow};
@@ -40,6 +40,7 @@ impl<D: Device, B: Room, G: Gate> Store<D, B, G> {
         ensures caller { IsLater caller.old caller.new }
         ensures runs { IfOk result (λ flow. CheckRuns B.shards caller.new.seen freshness (length caller.old.seen) userset.now user flow) }
         ensures rests { IfOk result (λ flow. flow.seen.awaited ≡ None) }
+        ensures reason { (marks : List Bool) → IfOk result (λ flow. CheckHasReason marks flow.fresh caller.new.seen caller.new.horizon userset.now flow.seen) }
     {
         let count = self.shards();
         match self.known_place(caller, freshness) {
@@ -60,10 +61,12 @@ impl<D: Device, B: Room, G: Gate> Store<D, B, G> {
         requires of { flow.shards ≡ B.shards }
         requires held { IsCheckOf caller.old.seen flow.fresh userset.now flow.user flow.seen }
         requires rests { flow.seen.awaited ≡ None }
+        requires reason { CheckHasReason told.old flow.fresh caller.old.seen caller.old.horizon userset.now flow.seen }
         ensures caller { IsLater caller.old caller.new }
         ensures held { IsCheckOf caller.new.seen flow.fresh userset.now flow.user result.seen }
         ensures named { result.next_name ≡ None }
         ensures rests { result.seen.awaited ≡ None }
+        ensures reason { CheckHasReason told.new flow.fresh caller.new.seen caller.new.horizon userset.now result.seen }
     {
         let _asked = userset;
         for _ in rt.forever() {
@@ -76,7 +79,9 @@ impl<D: Device, B: Room, G: Gate> Store<D, B, G> {
     }
 
     /// Whether the user is in the userset at one place, which it tells. The place is known from the published word where that is far enough. Where memory
-    /// is refused it ends with `NoMemory`; where more usersets would be walked than may be, with `Full`; where a node refuses, with that refusal.
+    /// is refused it ends with `NoMemory`; where more usersets would be walked than may be, with `Full`; where the place that was asked for lies above the
+    /// list, with `Future`, and below the horizon, with `Collected`; where a node refuses, with that refusal, which has then been told: hand in a `Told`
+    /// that is empty.
     pub fn check<R: Wait>(
         &self,
         rt: &R,
@@ -89,6 +94,7 @@ impl<D: Device, B: Room, G: Gate> Store<D, B, G> {
     ) -> CheckEnd
         ensures caller { IsLater caller.old caller.new }
         ensures answer { CheckEnds caller.new.seen freshness (length caller.old.seen) userset.now user (ending_of result) }
+        ensures refused { CheckRefuses told.new caller.new.seen caller.new.horizon freshness (length caller.old.seen) userset.now (ending_of result) }
     {
         match self.begin_check(alloc, caller, freshness, userset, user) {
             Ok(flow) => {

@@ -5,10 +5,11 @@ ghost use Rattle.calls.specs.Belonging.{IsOwed, IsReplyTo};
 ghost use Rattle.calls.specs.declared.reply.Reply.{Reply as AnyReply};
 ghost use Rattle.commit_flow.specs.Answering.{MayGive};
 ghost use Rattle.flow_ties.specs.Telling.{IsTold};
-ghost use Rattle.flow_ties.specs.Writes.{IsWriteOf};
+ghost use Rattle.flow_ties.specs.Refusing.{Notices};
+ghost use Rattle.flow_ties.specs.Writes.{IsWriteOf, RefusesAsTold};
 ghost use Rattle.sides.specs.Sides.{IsLater};
 ghost use Rattle.tuples.specs.Writes.{WriteValue};
-ghost use Rattle.locked.specs.Holding.{IsPending, IsWriteSoFar, KeepsTried, TellsInHold, is_of_hold as is_of_hold_of, of_none};
+ghost use Rattle.locked.specs.Holding.{IsPending, IsPendingTold, IsWriteSoFar, KeepsTried, TellsInHold, is_of_hold as is_of_hold_of, of_none};
 
 use crate::making::serve_coordinator;
 use calls::{CoordinatorCall, NodeCall, Reply, Running, Told, refuse};
@@ -43,11 +44,13 @@ fn ask_holding<D: Device, B: Room>(
 ) -> Reply
     requires own { (words.now ≡ B.log) × (pass.old.table ≡ B.log) }
     requires owed { IsOwed B.shards call }
+    requires inside { is_of_hold_of call ≡ true }
     ensures later { IsLater pass.old pass.new }
     ensures belongs { IsReplyTo call result }
     ensures told { IsTold B.shards pass.new.seen call result }
     ensures tells { (asked : WriteValue) (above : ℕ) → above ≤ length pass.old.seen → TellsInHold D.state D.honest B.store B.shards asked above side.old side.new pass.new.seen call result }
     ensures kept { KeepsTried D.state D.honest B.store B.shards side.old side.new call }
+    ensures notices { Notices B.shards told.old call result told.new }
 {
     match call {
         NodeCall::Coordinator(call) => serve_coordinator(words, side, pass, told, call),
@@ -77,6 +80,7 @@ pub(crate) fn hold<D: Device, B: Room, R: Wait>(
     ensures outside { MatchOption result (Unit {0}) (λ call. is_of_hold_of call ≡ false) }
     ensures left { (asked : WriteValue) (above : ℕ) → above ≤ length pass.old.seen → IsWriteOf of_none asked above pass.old.seen flow.old.seen
         → MatchOption result (IsWriteSoFar asked above pass.new.seen flow.new.seen) (λ call. IsPending asked above pass.new.seen B.shards call flow.new) }
+    ensures told { RefusesAsTold B.shards told.old flow.old.seen → MatchOption result (RefusesAsTold B.shards told.new flow.new.seen) (λ call. IsPendingTold B.shards told.new call flow.new) }
 {
     for _ in rt.forever() {
         if flow.next_name().is_none() {

@@ -5,7 +5,7 @@ ghost use Rattle.calls.specs.Belonging.{IsOwed};
 ghost use Rattle.calls.specs.Refusing.{Notes};
 ghost use Rattle.calls.specs.declared.call.NodeCall.TheVariants.{Coordinator as of_coordinator, Shard as of_shard};
 ghost use Rattle.flow_ties.specs.Cares.{HandsOver};
-ghost use Rattle.flow_ties.specs.Writes.{Notices};
+ghost use Rattle.flow_ties.specs.Refusing.{Notices};
 ghost use Rattle.tuples.specs.Writes.{WriteValue};
 ghost use Rattle.locked.specs.Holding.{KeepsTried, TellsInHold};
 ghost use Rattle.locked.specs.Serving.{Serves};
@@ -88,7 +88,7 @@ impl<D: Device, B: Room, G: Gate> Store<D, B, G> {
     ) -> Reply
         requires owed { MayAskCoordinator B.shards call }
         ensures serves { Serves B.shards caller.old caller.new (of_coordinator call) result }
-        ensures told { Notices told.old result told.new }
+        ensures told { Notices B.shards told.old (of_coordinator call) result told.new }
     {
         let mut side = self.coordinator.lock(rt);
         serve_coordinator(&self.words, &mut side, &mut caller.pass, told, call)
@@ -106,7 +106,7 @@ impl<D: Device, B: Room, G: Gate> Store<D, B, G> {
         requires owed { MayAskShard B.shards shard call }
         requires hands { HandsOver caller.old.seen caller.old.horizon (of_shard shard call) }
         ensures serves { Serves B.shards caller.old caller.new (of_shard shard call) result }
-        ensures told { Notices told.old result told.new }
+        ensures told { Notices B.shards told.old (of_shard shard call) result told.new }
     {
         if shard >= self.count {
             return refuse(Refusal::Damaged, NodeCall::Shard(shard, call));
@@ -126,7 +126,7 @@ impl<D: Device, B: Room, G: Gate> Store<D, B, G> {
         requires owed { IsOwed B.shards call }
         requires hands { HandsOver caller.old.seen caller.old.horizon call }
         ensures serves { Serves B.shards caller.old caller.new call result }
-        ensures told { Notices told.old result told.new }
+        ensures told { Notices B.shards told.old call result told.new }
     {
         match call {
             NodeCall::Coordinator(call) => self.make_there(rt, caller, told, call),
@@ -145,7 +145,7 @@ impl<D: Device, B: Room, G: Gate> Store<D, B, G> {
         requires owed { IsOwed B.shards call }
         requires hands { HandsOver caller.old.seen caller.old.horizon call }
         ensures serves { Serves B.shards caller.old caller.new call result }
-        ensures told { Notices told.old result told.new }
+        ensures told { Notices B.shards told.old call result told.new }
     {
         let (node, name) = (call.node(), call.name());
         self.gate.before(node, name);

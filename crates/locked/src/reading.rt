@@ -1,9 +1,9 @@
 // Reads of a shared store.
-ghost use Rattle.std.specs.Prelude.{◌≡◌, length, None, Some};
+ghost use Rattle.std.specs.Prelude.{◌≡◌, Bool, List, length, None, Some};
 ghost use Rattle.answer_flow.specs.ReadViews.{ending_of};
-ghost use Rattle.flow_ties.specs.Reads.{IsReadOf};
+ghost use Rattle.flow_ties.specs.Reads.{IsReadOf, ReadHasReason};
 ghost use Rattle.sides.specs.Sides.{IsLater};
-ghost use Rattle.locked.specs.Answering.{ReadEnds, ReadRuns};
+ghost use Rattle.locked.specs.Answering.{ReadEnds, ReadRefuses, ReadRuns};
 
 use crate::{Caller, Gate, Store};
 use answer_flow::{ReadEnd, ReadFlow};
@@ -39,6 +39,7 @@ impl<D: Device, B: Room, G: Gate> Store<D, B, G> {
         ensures caller { IsLater caller.old caller.new }
         ensures runs { ReadRuns B.shards caller.new.seen freshness (length caller.old.seen) sets.items result }
         ensures rests { result.seen.awaited ≡ None }
+        ensures reason { (marks : List Bool) → ReadHasReason marks result.fresh caller.new.seen caller.new.horizon result.seen }
     {
         let count = self.shards();
         match self.known_place(caller, freshness) {
@@ -58,11 +59,13 @@ impl<D: Device, B: Room, G: Gate> Store<D, B, G> {
         requires of { flow.shards ≡ B.shards }
         requires held { IsReadOf B.shards caller.old.seen flow.fresh flow.sets flow.seen }
         requires rests { flow.seen.awaited ≡ None }
+        requires reason { ReadHasReason told.old flow.fresh caller.old.seen caller.old.horizon flow.seen }
         ensures caller { IsLater caller.old caller.new }
         ensures held { IsReadOf B.shards caller.new.seen result.fresh result.sets result.seen }
         ensures same { (result.fresh ≡ flow.fresh) × (result.sets ≡ flow.sets) }
         ensures named { result.next_name ≡ None }
         ensures rests { result.seen.awaited ≡ None }
+        ensures reason { ReadHasReason told.new result.fresh caller.new.seen caller.new.horizon result.seen }
     {
         for _ in rt.forever() {
             if flow.next_name().is_none() {
@@ -74,7 +77,8 @@ impl<D: Device, B: Room, G: Gate> Store<D, B, G> {
     }
 
     /// The tuples of each tupleset at one place, which it tells. The place is known from the published word where that is far enough, so that no shard
-    /// waits for the coordinator. Where memory is refused it ends with `NoMemory`; where a node refuses, with that refusal.
+    /// waits for the coordinator. Where memory is refused it ends with `NoMemory`; where the place that was asked for lies above the list, with `Future`, and
+    /// below the horizon, with `Collected`; where a node refuses, with that refusal, which has then been told: hand in a `Told` that is empty.
     pub fn read<R: Wait>(
         &self,
         rt: &R,
@@ -86,6 +90,7 @@ impl<D: Device, B: Room, G: Gate> Store<D, B, G> {
     ) -> ReadEnd
         ensures caller { IsLater caller.old caller.new }
         ensures answer { ReadEnds caller.new.seen freshness (length caller.old.seen) sets.items (ending_of result) }
+        ensures refused { ReadRefuses told.new caller.new.seen caller.new.horizon freshness (length caller.old.seen) (ending_of result) }
     {
         let flow = self.begin_read(alloc, caller, freshness, sets);
         let flow = self.run_read(rt, caller, told, flow);

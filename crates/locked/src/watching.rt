@@ -1,10 +1,10 @@
 // Watches of a shared store.
 ghost use Rattle.std.specs.Prelude.{◌≡◌, ◌≤◌, length, None, Some};
 ghost use Rattle.answer_flow.specs.WatchViews.{ending_of, next_name_of};
-ghost use Rattle.flow_ties.specs.Watches.{IsWatchOf};
+ghost use Rattle.flow_ties.specs.Watches.{IsWatchOf, WatchHasReason};
 ghost use Rattle.sides.specs.Sides.{IsLater};
 ghost use Rattle.tuples.specs.Limits.{max_watched};
-ghost use Rattle.locked.specs.Answering.{WatchEnds};
+ghost use Rattle.locked.specs.Answering.{WatchEnds, WatchRefuses};
 
 use crate::{Caller, Gate, Store};
 use answer_flow::{WatchEnd, WatchFlow};
@@ -39,10 +39,12 @@ impl<D: Device, B: Room, G: Gate> Store<D, B, G> {
         requires few { flow.limit ≤ max_watched }
         requires held { IsWatchOf flow.cursor flow.limit flow.namespaces (length caller.old.seen) caller.old.seen flow.seen }
         requires rests { flow.seen.awaited ≡ None }
+        requires reason { WatchHasReason told.old flow.cursor caller.old.seen caller.old.horizon flow.seen }
         ensures caller { IsLater caller.old caller.new }
         ensures held { IsWatchOf flow.cursor flow.limit flow.namespaces (length caller.old.seen) caller.new.seen result.seen }
         ensures named { next_name_of result.seen ≡ None }
         ensures rests { result.seen.awaited ≡ None }
+        ensures reason { WatchHasReason told.new flow.cursor caller.new.seen caller.new.horizon result.seen }
     {
         for _ in rt.forever() {
             if flow.next_name().is_none() {
@@ -54,7 +56,8 @@ impl<D: Device, B: Room, G: Gate> Store<D, B, G> {
     }
 
     /// The changes in these namespaces behind a place, of so many places at most, and the place up to which these are all. That is as far as was asked
-    /// for, or as far as the caller had seen. Where memory is refused it ends with `NoMemory`; where a node refuses, with that refusal.
+    /// for, or as far as the caller had seen. Where memory is refused it ends with `NoMemory`; where the cursor lies above the list, with `Future`, and below
+    /// the horizon, with `Collected`; where a node refuses, with that refusal, which has then been told: hand in a `Told` that is empty.
     pub fn watch<R: Wait>(
         &self,
         rt: &R,
@@ -68,6 +71,7 @@ impl<D: Device, B: Room, G: Gate> Store<D, B, G> {
         requires few { limit ≤ max_watched }
         ensures caller { IsLater caller.old caller.new }
         ensures lists { WatchEnds cursor limit namespaces.items (length caller.old.seen) caller.new.seen (ending_of result) }
+        ensures refused { WatchRefuses told.new caller.new.seen caller.new.horizon cursor (ending_of result) }
     {
         let flow = WatchFlow::new(alloc, cursor, limit, namespaces);
         let flow = self.run_watch(rt, caller, told, flow);

@@ -3,10 +3,10 @@ ghost use Rattle.std.specs.Prelude.{◌≡◌, ◌≤◌, ℕ, length, true, fal
 ghost use Rattle.calls.specs.Belonging.{IsOwed, IsReplyTo};
 ghost use Rattle.calls.specs.declared.reply.Reply.{Reply as AnyReply};
 ghost use Rattle.commit_flow.specs.Answering.{MayGive};
-ghost use Rattle.flow_ties.specs.Writes.{IsWriteOf};
+ghost use Rattle.flow_ties.specs.Writes.{IsWriteOf, RefusesAsTold};
 ghost use Rattle.sides.specs.Sides.{IsLater};
 ghost use Rattle.tuples.specs.Writes.{WriteValue};
-ghost use Rattle.locked.specs.Holding.{IsPending, IsWriteSoFar, WriteEnds, is_of_hold, may_be_of_hold as may_be_of_hold_of, of_none};
+ghost use Rattle.locked.specs.Holding.{IsPending, IsPendingTold, IsWriteSoFar, WriteEnds, WriteRefuses, is_of_hold, may_be_of_hold as may_be_of_hold_of, of_none};
 
 use crate::holding::hold;
 use crate::{Caller, Gate, Store};
@@ -80,6 +80,7 @@ impl<D: Device, B: Room, G: Gate> Store<D, B, G> {
         ensures outside { MatchOption result (Unit {0}) (λ call. is_of_hold call ≡ false) }
         ensures left { (asked : WriteValue) (above : ℕ) → above ≤ length caller.old.seen → IsWriteOf of_none asked above caller.old.seen flow.old.seen
             → MatchOption result (IsWriteSoFar asked above caller.new.seen flow.new.seen) (λ call. IsPending asked above caller.new.seen B.shards call flow.new) }
+        ensures told { RefusesAsTold B.shards told.old flow.old.seen → MatchOption result (RefusesAsTold B.shards told.new flow.new.seen) (λ call. IsPendingTold B.shards told.new call flow.new) }
     {
         let name = flow.next_name()?;
         if !may_be_of_hold(name) {
@@ -108,6 +109,7 @@ impl<D: Device, B: Room, G: Gate> Store<D, B, G> {
         ensures later { IsLater caller.old caller.new }
         ensures ended { is_some result.seen.ended ≡ true }
         ensures held { (asked : WriteValue) (above : ℕ) → above ≤ length caller.old.seen → IsWriteOf of_none asked above caller.old.seen flow.seen → IsWriteSoFar asked above caller.new.seen result.seen }
+        ensures told { RefusesAsTold B.shards told.old flow.seen → RefusesAsTold B.shards told.new result.seen }
     {
         for _ in rt.forever() {
             let Some(call) = self.next_outside(rt, caller, told, &mut flow) else {
@@ -120,7 +122,7 @@ impl<D: Device, B: Room, G: Gate> Store<D, B, G> {
     }
 
     /// Makes a write. At `Wrote` it stands at the place that is told, which is above all that the caller had seen, and its id nowhere else in the list. Where
-    /// memory is refused before it begins it ends with `NoMemory`; where a node refuses, with that refusal; with `Unsure` where a device failed over its
+    /// memory is refused before it begins it ends with `NoMemory`; where a node refuses, with that refusal, which has then been told: hand in a `Told` that is empty; with `Unsure` where a device failed over its
     /// decision, and only a new opening of the coordinator finds out what became of it.
     pub fn write<R: Wait>(
         &self,
@@ -132,6 +134,7 @@ impl<D: Device, B: Room, G: Gate> Store<D, B, G> {
     ) -> WriteEnd
         ensures caller { IsLater caller.old caller.new }
         ensures wrote { WriteEnds write (length caller.old.seen) caller.new.seen result }
+        ensures refused { WriteRefuses told.new result }
     {
         let flow = match WriteFlow::new(alloc, self.count, write) {
             Ok(flow) => flow,

@@ -1,9 +1,9 @@
 use Rattle.std.proofs.Common.{◌∙◌, sym, subst}
 use Rattle.tuples.specs.declared.user.User.{User}
 use Rattle.decisions.specs.Flows.{Freshness}
-use Rattle.flow_ties.specs.Checks.{IsCheckOf}
+use Rattle.flow_ties.specs.Checks.{CheckHasReason, IsCheckOf}
 use Rattle.locked.proofs.Passes.{later_on}
-use Rattle.locked.proofs.CheckTurns.{check_goes_on, same_asked}
+use Rattle.locked.proofs.CheckTurns.{check_goes_on, check_has_reason, same_asked}
 use Rattle.locked.proofs.NextCalls.{not_ended}
 use Rattle.locked.proofs.store.Store.run_check.Goals as goal
 
@@ -22,4 +22,6 @@ loop-preserved g c =
       rests = turns.given.2;
       later = later_on c.args.caller.now c.loop.caller c.turn.new.caller was.later turns.serves.later;
       held = subst (λ (u : User). IsCheckOf c.turn.new.caller.seen c.turn.new.flow.fresh c.args.userset.now u c.turn.new.flow.seen) (sym same.1) fresh;
+      reason = subst (λ (f : Freshness). CheckHasReason c.turn.new.told f c.turn.new.caller.seen c.turn.new.caller.horizon c.args.userset.now c.turn.new.flow.seen) (sym same.0)
+          (check_has_reason g.B.Room.shards c.loop.caller c.turn.new.caller c.loop.told c.turn.new.told c.args.userset.now c.loop.flow c.turn.new.flow was.of (not_ended c.loop.flow.seen.ended c.next_name.result c.next_name.ensures.ended c.if-is_none.ensures) was.held turns);
     }

@@ -1,5 +1,5 @@
 use Rattle.std.proofs.Common.{◌≡◌, None}
-use Rattle.flow_ties.specs.Checks.{IsCheckOf}
+use Rattle.flow_ties.specs.Checks.{CheckHasReason, IsCheckOf}
 use Rattle.sides.specs.Sides.{IsLater}
 use Rattle.locked.proofs.store.Store.run_check.Given as goal
 
@@ -12,4 +12,5 @@ invariant-loop g l = record {
   rests : l.flow.seen.awaited ≡ None;
   later : IsLater l.initial.caller l.caller;
   held : IsCheckOf l.caller.seen l.flow.fresh l.userset l.flow.user l.flow.seen;
+  reason : CheckHasReason l.told l.flow.fresh l.caller.seen l.caller.horizon l.userset l.flow.seen;
 }

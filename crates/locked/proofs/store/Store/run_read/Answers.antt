@@ -1,6 +1,6 @@
 use Rattle.std.proofs.Common.{◌∙◌}
 use Rattle.locked.proofs.Passes.{later_on}
-use Rattle.locked.proofs.ReadTurns.{read_goes_on}
+use Rattle.locked.proofs.ReadTurns.{read_goes_on, read_has_reason}
 use Rattle.locked.proofs.store.Store.run_read.Goals as goal
 
 pub loop-preserved : goal.loop-preserved
@@ -16,4 +16,5 @@ loop-preserved g c =
       rests = on.rests;
       later = later_on c.args.caller.now c.loop.caller c.turn.new.caller was.later turns.serves.later;
       held = on.held;
+      reason = read_has_reason g.B.Room.shards c.loop.caller c.turn.new.caller c.loop.told c.turn.new.told c.loop.flow c.turn.new.flow was.of turns;
     }

@@ -1,5 +1,5 @@
 use Rattle.std.proofs.Common.{◌≡◌, None}
-use Rattle.flow_ties.specs.Reads.{IsReadOf}
+use Rattle.flow_ties.specs.Reads.{IsReadOf, ReadHasReason}
 use Rattle.sides.specs.Sides.{IsLater}
 use Rattle.locked.proofs.store.Store.run_read.Given as goal
 
@@ -12,4 +12,5 @@ invariant-loop g l = record {
   rests : l.flow.seen.awaited ≡ None;
   later : IsLater l.initial.caller l.caller;
   held : IsReadOf g.B.Room.shards l.caller.seen l.flow.fresh l.flow.sets l.flow.seen;
+  reason : ReadHasReason l.told l.flow.fresh l.caller.seen l.caller.horizon l.flow.seen;
 }

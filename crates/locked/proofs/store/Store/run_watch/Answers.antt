@@ -1,10 +1,10 @@
 use Rattle.std.proofs.Common.{◌≡◌, ◌≤◌, ◌∙◌, ℕ, true, List, length, Option, is_some, sym, subst}
 use Rattle.tuples.specs.Limits.{max_watched}
 use Rattle.names.specs.declared.call_name.CallName.{CallName}
-use Rattle.flow_ties.specs.Watches.{IsWatchOf}
+use Rattle.flow_ties.specs.Watches.{IsWatchOf, WatchHasReason}
 use Rattle.flow_ties.proofs.CatchUps.{prefix_length}
 use Rattle.locked.proofs.Passes.{later_on}
-use Rattle.locked.proofs.WatchTurns.{not_ended, same_asked, watch_goes_on}
+use Rattle.locked.proofs.WatchTurns.{not_ended, same_asked, watch_goes_on, watch_has_reason}
 use Rattle.locked.proofs.store.Store.run_watch.Goals as goal
 
 pub loop-preserved : goal.loop-preserved
@@ -28,4 +28,6 @@ loop-preserved g c =
       rests = turns.given.2;
       later = later_on c.args.caller.now c.loop.caller c.turn.new.caller was.later turns.serves.later;
       held = subst (λ (names : List (List ℕ)). IsWatchOf after.cursor after.limit names before c.turn.new.caller.seen after.seen) (sym same.2) limit;
+      reason = subst (λ (n : ℕ). WatchHasReason c.turn.new.told n c.turn.new.caller.seen c.turn.new.caller.horizon after.seen) (sym same.0)
+          (watch_has_reason g.B.Room.shards c.loop.caller c.turn.new.caller c.loop.told c.turn.new.told c.loop.flow after turns);
     }

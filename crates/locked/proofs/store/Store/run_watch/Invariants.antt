@@ -1,5 +1,5 @@
 use Rattle.std.proofs.Common.{◌≡◌, length, None}
-use Rattle.flow_ties.specs.Watches.{IsWatchOf}
+use Rattle.flow_ties.specs.Watches.{IsWatchOf, WatchHasReason}
 use Rattle.sides.specs.Sides.{IsLater}
 use Rattle.locked.proofs.store.Store.run_watch.Given as goal
 
@@ -12,4 +12,5 @@ invariant-loop g l = record {
   rests : l.flow.seen.awaited ≡ None;
   later : IsLater l.initial.caller l.caller;
   held : IsWatchOf l.flow.cursor l.flow.limit l.flow.namespaces (length l.initial.caller.seen) l.caller.seen l.flow.seen;
+  reason : WatchHasReason l.told l.flow.cursor l.caller.seen l.caller.horizon l.flow.seen;
 }

@@ -1,7 +1,7 @@
 use Rattle.std.proofs.Common.{length, arith}
 use Rattle.flow_ties.proofs.CatchUps.{prefix_length}
 use Rattle.locked.proofs.Passes.{later_on}
-use Rattle.locked.proofs.WriteTurns.{outside_goes_on, pending_hands_over}
+use Rattle.locked.proofs.WriteTurns.{outside_goes_on, pending_hands_over, told_goes_on}
 use Rattle.locked.proofs.store.Store.run_write.Goals as goal
 
 pub returns-in_default-clause-held : goal.returns-in_default-clause-held
@@ -9,6 +9,9 @@ returns-in_default-clause-held g c asked above le is =
     let was = c.loop.invariant in
     let within = prefix_length c.args.caller.now.seen c.loop.caller.seen was.later.seen in
     c.in_default.ensures.left asked above (omega (arith, le, within)) (was.held asked above le is)
+
+pub returns-in_default-clause-told : goal.returns-in_default-clause-told
+returns-in_default-clause-told g c is = c.in_default.ensures.told (c.loop.invariant.told is)
 
 pub make-reply-requires-clause-hands : goal.make-reply-requires-clause-hands
 make-reply-requires-clause-hands g c =
@@ -34,4 +37,8 @@ loop-preserved g c =
       held = λ asked above le is.
           outside_goes_on asked above g.B.Room.shards c.next_outside.new.caller c.make-reply.new.caller c.in-Some-next_outside.call c.next_outside.new.flow c.give.new.self c.make-reply.result
           (outside.left asked above (omega (arith, le, within)) (was.held asked above le is)) outside.outside serves c.give.ensures.gives;
+      told = λ is.
+          let pending = outside.told (was.told is) in
+          told_goes_on g.B.Room.shards c.next_outside.new.told c.make-reply.new.told pending.before c.next_outside.new.flow c.give.new.self c.in-Some-next_outside.call c.make-reply.result pending.of pending.asks serves.belongs
+          c.give.ensures.gives c.make-reply.ensures.told pending.told;
     }

@@ -1,6 +1,6 @@
 use Rattle.std.proofs.Common.{◌≡◌, ◌≤◌, ℕ, length, None}
 use Rattle.tuples.specs.Writes.{WriteValue}
-use Rattle.flow_ties.specs.Writes.{IsWriteOf}
+use Rattle.flow_ties.specs.Writes.{IsWriteOf, RefusesAsTold}
 use Rattle.sides.specs.Sides.{IsLater}
 use Rattle.locked.specs.Holding.{of_none}
 use Rattle.locked.proofs.store.Store.run_write.Given as goal
@@ -12,4 +12,5 @@ invariant-loop g l = record {
   rests : l.flow.seen.awaited ≡ None;
   later : IsLater l.initial.caller l.caller;
   held : (asked : WriteValue) (above : ℕ) → above ≤ length l.initial.caller.seen → IsWriteOf of_none asked above l.initial.caller.seen l.initial.flow.seen → IsWriteOf of_none asked above l.caller.seen l.flow.seen;
+  told : RefusesAsTold g.B.Room.shards l.initial.told l.initial.flow.seen → RefusesAsTold g.B.Room.shards l.told l.flow.seen;
 }
