@@ -6,7 +6,33 @@ from stressing.history import History
 from stressing.listing import Listed, log_of
 from stressing.moments import Moments
 from stressing.reading import KINDS, read_run
-from stressing.refusing import Refusals
+from stressing.refusing import ABORTED, BUSY, DOWN, FUTURE, PRECONDITION, UNSURE, Refusals
+
+FORMS = ("each line is one of a run", "the form of a run", "the ticks of a run", "the last part of a run")
+RULES = (
+    *FORMS,
+    "each write differs",
+    "what stands was asked for",
+    "a write stands once",
+    "what was refused does not stand",
+    "what was told stands",
+    "a write stands above what was told",
+    "a write stands above those that had ended",
+    "conditions are met",
+    "an exact place",
+    "a place as fresh as asked",
+    "a place as fresh as what was told",
+    "a place of the list",
+    "a place of writes that had begun",
+    "the rows of a place",
+    "the membership of a place",
+    "a watch keeps to its limit",
+    "a watch goes as far as what was told",
+    "the events of the list",
+    "a refusal that may come",
+    "an opening that may be refused",
+    *(f"the cause of refusal {code}" for code in (FUTURE, PRECONDITION, BUSY, ABORTED, UNSURE, DOWN)),
+)
 
 
 def is_of_callers(run):
@@ -46,15 +72,16 @@ def is_ended(end):
 
 def judged(lines, seed=None):
     """The run, its list, and all faults, each a rule's name and a text. Where its form is wrong that is the only one, and there is no run."""
-    rule = "each line is one of a run"
+    rules = iter(FORMS)
     try:
+        rule = next(rules)
         run = read_run(lines)
-        rule = "the form of a run"
+        rule = next(rules)
         must(seed in (None, run.seed), f"tells of seed {run.seed}")
         is_of_callers(run)
-        rule = "the ticks of a run"
+        rule = next(rules)
         is_in_order(run)
-        rule = "the last part of a run"
+        rule = next(rules)
         is_ended(run.callers[-1])
         log = log_of(run.callers[-1])
     except Wrong as wrong:
