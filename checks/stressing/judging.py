@@ -66,8 +66,8 @@ def is_ended(end):
         must(not isinstance(call.asked, Write), f"in the last part {line_of(call)}")
     last = end.calls[-1].asked
     must(isinstance(last, (Read, Check)) and any(isinstance(call.asked, Watch) for call in end.calls), "the last part has no list with reads behind it")
-    is_latest = any(isinstance(call.asked, (Read, Check)) and call.asked.fresh[0] == "latest" for call in end.calls)
-    must(is_latest, "the last part has no answer of the latest place")
+    is_fresh = any(isinstance(call.asked, (Read, Check)) and call.asked.fresh[0] != "exact" for call in end.calls)
+    must(is_fresh, "the last part has no answer of the latest place")
 
 
 def judged(lines, seed=None):

@@ -1,7 +1,7 @@
 """Lines that are none of a run, ticks that no counter gives, and a last part that is not whole. A spoiled form is a run, its lines, or its bytes."""
 from judge.definitions import Change
 from stressing.calls import Check, Fail, Read, Restart, Watch, Write, lines_of
-from stressing.ground import Nothing, fitted
+from stressing.ground import fitted
 from stressing.spoiled_lists import STRANGER
 
 
@@ -21,8 +21,14 @@ def replaced(old, new):
 
 
 def without_last_word(line):
-    """Of a call whose last word is no row and no event, so that the line is none without it."""
-    return [line.rpartition(" ")[0]] if " : " not in line and " if " not in line and " write " not in line and " wrote " not in line else [line]
+    """Of a call that has to have as many words as it has."""
+    may_have_less = any(word in line for word in (" : ", " if ", " write ", " wrote ", " watch "))
+    return [line if may_have_less else line.rpartition(" ")[0]]
+
+
+def without_user(line):
+    """Not of a read: an object is a tupleset too."""
+    return [line if " read " in line or " rows " in line else line.replace("@u", "", 1)]
 
 
 def without_ticks(line):
@@ -159,7 +165,7 @@ KINDS = {
     "a refusal by another name": replaced(" Down", " Dowm"),
     "a refusal by another number": replaced(" 13 Down", " 12 Down"),
     "a change without its sign": replaced(" +", " "),
-    "a tuple without its user": other_line(lambda line: [line.replace("@u", "", 1)]),
+    "a tuple without its user": other_line(without_user),
     "a node that is not there": with_calls((Restart, Fail), no_such_node),
     "a call that ends before it begins": with_calls(object, end_before_begin),
     "a call that ends as it begins": with_calls(object, same_tick),
