@@ -1,6 +1,6 @@
 """The rules of writes that stand, and of answers: what is told is of the one list, at a place as fresh as asked. A fault is a rule's name and a text."""
 from judge.definitions import tuple_text
-from stressing.calls import Check, Read, Watch, Write, call_text, calls_of, condition_text
+from stressing.calls import Check, Read, Watch, call_text, calls_of, condition_text
 
 LONGEST = 300
 
@@ -33,14 +33,12 @@ def place_faults(call, fresh, listed, moments):
     told = moments.told_before(call.begin)
     if kind != "exact" and call.place < told:
         yield "a place as fresh as what was told", f"{line_of(call)}: {told} was told before it began"
-    yield from far_faults(call, listed, moments)
+    yield from far_faults(call, listed)
 
 
-def far_faults(call, listed, moments):
+def far_faults(call, listed):
     if call.place > len(listed.log):
         yield "a place of the list", f"{line_of(call)}: the list ends at {len(listed.log)}"
-    elif call.place > moments.most_at(call.end):
-        yield "a place of writes that had begun", f"{line_of(call)}: the writes behind {moments.most_at(call.end)} had not begun"
 
 
 def read_faults(call, listed, history, moments):
@@ -64,7 +62,7 @@ def watch_faults(call, listed, history, moments):
     told = min(start + limit, moments.told_before(call.begin))
     if call.place < told:
         yield "a watch goes as far as what was told", f"{line_of(call)}: may not end before {told}"
-    yield from far_faults(call, listed, moments)
+    yield from far_faults(call, listed)
     if call.place <= len(listed.log) and call.found != history.events(start, call.place, namespaces):
         yield "the events of the list", f"{line_of(call)}: the list has others"
 
@@ -75,6 +73,3 @@ def answer_faults(run, listed, history, moments):
         for call in calls_of(run, kind):
             if not call.code:
                 yield from rule(call, listed, history, moments)
-    for call in calls_of(run, Write):
-        if not call.code:
-            yield from far_faults(call, listed, moments)

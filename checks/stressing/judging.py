@@ -23,7 +23,6 @@ RULES = (
     "a place as fresh as asked",
     "a place as fresh as what was told",
     "a place of the list",
-    "a place of writes that had begun",
     "the rows of a place",
     "the membership of a place",
     "a watch keeps to its limit",

@@ -8,7 +8,7 @@ MAY_STAND = (12,)
 
 
 def spelled(changes):
-    return " ".join(map(change_text, changes))
+    return " ".join(map(change_text, changes)) or "nothing"
 
 
 def log_of(end):
@@ -25,8 +25,6 @@ def log_of(end):
             must(last <= place <= call.place and place > call.asked.start, f"the list has place {place} behind {last}, and ends at {call.place}")
             log[place - 1].append(change)
             last = place
-    for place, changes in enumerate(log, 1):
-        must(changes, f"nothing stands at place {place}")
     return [tuple(changes) for changes in log]
 
 

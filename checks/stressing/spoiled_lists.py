@@ -7,13 +7,15 @@ from stressing.listing import MAY_STAND
 STRANGER = read_tuple("doc:stranger#owner@u0")
 
 
-def changed(ground, place, changes):
-    """The list with these changes at the place."""
-    return ground.with_log([*ground.log[: place - 1], *changes, *ground.log[place:]])
+def changed(ground, place, *changes):
+    """The list with these changes at the place. If it is as long as it was, all answers are made to fit it."""
+    log = [*ground.log[: place - 1], *changes, *ground.log[place:]]
+    run = ground.with_log(log)
+    return ground.refitted(run, log) if changes else run
 
 
 def lost(ground):
-    return changed(ground, ground.told_place(), [])
+    return changed(ground, ground.told_place())
 
 
 def last_lost(ground):
@@ -29,18 +31,18 @@ def in_part(ground):
     place = long_place(ground)
     changes = list(ground.log[place - 1])
     changes.pop(ground.random.randrange(len(changes)))
-    return changed(ground, place, [tuple(changes)])
+    return changed(ground, place, tuple(changes))
 
 
 def turned_round(ground):
     place = long_place(ground)
-    return changed(ground, place, [ground.log[place - 1][::-1]])
+    return changed(ground, place, ground.log[place - 1][::-1])
 
 
 def other_kind(ground):
     place = ground.told_place()
     first, *others = ground.log[place - 1]
-    return changed(ground, place, [(first._replace(is_touch=not first.is_touch), *others)])
+    return changed(ground, place, (first._replace(is_touch=not first.is_touch), *others))
 
 
 def pair(ground):

@@ -1,6 +1,6 @@
 """Refusals that have no cause, and what may not be refused at all."""
 from judge.definitions import Condition
-from stressing.calls import Check, Fail, Read, Restart, Watch, Write
+from stressing.calls import Check, Fail, Read, Restart, Watch, Write, calls_of
 from stressing.ground import Nothing
 from stressing.refusing import OF_ANSWERS, OF_WRITES, asked_places
 from stressing.spoiled_lists import STRANGER
@@ -33,7 +33,9 @@ def names_what_was_told(ground, call):
 
 
 def is_quiet(ground, call):
-    return not ground.moments.is_restarted_within(call.begin, call.end)
+    """No node was opened between its ticks, though one was before."""
+    restarts = calls_of(ground.run, Restart)
+    return any(it.end < call.begin for it in restarts) and all(it.end < call.begin or call.end < it.begin for it in restarts)
 
 
 def refused_otherwise(code, change=lambda asked: asked, is_so=lambda ground, call: True):
@@ -60,6 +62,26 @@ def without_conditions(write):
 
 def with_met(write):
     return write._replace(conditions=(Condition(STRANGER, "absent"),))
+
+
+def states(log, asked):
+    """Whether the tuple is there, at each place from 0 on."""
+    found = [False]
+    for changes in log:
+        found.append(next((change.is_touch for change in changes if change.tuple == asked), found[-1]))
+    return found
+
+
+def met_meanwhile(ground):
+    """A write is not met whose condition was met at each place that it can have met, and at others was not."""
+    where, call = ground.unplaced(Write)
+    least, most = ground.moments.told_before(call.begin), ground.moments.most_at(call.end)
+    for asked in ground.random.sample(sorted(ground.history.places), min(40, len(ground.history.places))):
+        every = states(ground.log, asked)
+        if len({*every}) == 2 and len({*every[least : most + 1]}) == 1:
+            condition = Condition(asked, "exists" if every[least] else "absent")
+            return ground.with_calls(where, refused(call._replace(asked=call.asked._replace(conditions=(condition,))), 9))
+    raise Nothing
 
 
 def with_told(write):
@@ -108,6 +130,7 @@ KINDS = {
     "a write is refused as none is": never,
     "a write without conditions is not met": refused_otherwise(9, without_conditions),
     "a write whose condition is met is not met": refused_otherwise(9, with_met),
+    "a write is not met whose condition was not met before or behind it": met_meanwhile,
     "a write of a place that was told is in the future": refused_otherwise(7, with_told),
     "a write without conditions is in the future": refused_otherwise(7, without_conditions),
     "a write that shares no tuple is busy": refused_otherwise(10, alone),
