@@ -1,4 +1,4 @@
-"""A run as `threads_run` would print it, of a plain store whose callers' calls lie beside each other. It rests on none of the judge's own parts."""
+"""A run as `threads_run` would print it, of a plain store with calls that lie beside each other. The judge shares with it only how a call is spelled."""
 from random import Random
 
 from judge.lines import read_tuple
