@@ -1,0 +1,75 @@
+"""The rules of writes that stand, and of answers: what is told is of the one list, at a place as fresh as asked. A fault is a rule's name and a text."""
+from judge.definitions import tuple_text
+from stressing.calls import Check, Read, Watch, call_text, calls_of, condition_text
+
+LONGEST = 300
+
+
+def line_of(call):
+    text = call_text(call)
+    return text if len(text) <= LONGEST else text[:LONGEST] + ".."
+
+
+def write_faults(listed, history, moments):
+    for place, call in listed.calls.items():
+        told = moments.told_before(call.begin)
+        if place <= told:
+            yield "a write stands above what was told", f"{line_of(call)}: stands at place {place}, and {told} was told before it began"
+        written = moments.written_before(call.begin)
+        if place <= written:
+            yield "a write stands above those that had ended", f"{line_of(call)}: stands at place {place}, and one that had ended at {written}"
+        for condition in call.asked.conditions:
+            if not history.holds(condition, place - 1):
+                yield "conditions are met", f"{line_of(call)}: stands at place {place}, where {condition_text(condition)} is not met"
+
+
+def place_faults(call, fresh, listed, moments):
+    """The place of a read or a check is there, and as fresh as asked."""
+    kind, asked = fresh
+    if kind == "exact" and call.place != asked:
+        yield "an exact place", f"{line_of(call)}: asked for place {asked}"
+    if kind == "least" and call.place < asked:
+        yield "a place as fresh as asked", f"{line_of(call)}: asked for place {asked} or a later one"
+    told = moments.told_before(call.begin)
+    if kind != "exact" and call.place < told:
+        yield "a place as fresh as what was told", f"{line_of(call)}: {told} was told before it began"
+    yield from far_faults(call, listed)
+
+
+def far_faults(call, listed):
+    if call.place > len(listed.log):
+        yield "a place of the list", f"{line_of(call)}: the list ends at {len(listed.log)}"
+
+
+def read_faults(call, listed, history, moments):
+    yield from place_faults(call, call.asked.fresh, listed, moments)
+    if call.place <= len(listed.log):
+        rows = history.rows(call.asked.set, call.place)
+        if call.found != rows:
+            yield "the rows of a place", f"{line_of(call)}: there is {' '.join(map(tuple_text, rows))[:LONGEST]}"
+
+
+def check_faults(call, listed, history, moments):
+    yield from place_faults(call, call.asked.fresh, listed, moments)
+    if call.place <= len(listed.log) and call.found != history.is_member(call.asked.tuple, call.place):
+        yield "the membership of a place", f"{line_of(call)}: it is the other way round"
+
+
+def watch_faults(call, listed, history, moments):
+    start, limit, namespaces = call.asked
+    if not start <= call.place <= start + limit:
+        yield "a watch keeps to its limit", f"{line_of(call)}: may end from {start} to {start + limit}"
+    told = min(start + limit, moments.told_before(call.begin))
+    if call.place < told:
+        yield "a watch goes as far as what was told", f"{line_of(call)}: may not end before {told}"
+    yield from far_faults(call, listed)
+    if call.place <= len(listed.log) and call.found != history.events(start, call.place, namespaces):
+        yield "the events of the list", f"{line_of(call)}: the list has others"
+
+
+def answer_faults(run, listed, history, moments):
+    yield from write_faults(listed, history, moments)
+    for kind, rule in ((Read, read_faults), (Check, check_faults), (Watch, watch_faults)):
+        for call in calls_of(run, kind):
+            if not call.code:
+                yield from rule(call, listed, history, moments)

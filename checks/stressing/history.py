@@ -1,0 +1,69 @@
+"""The log by its tuples: what is there at each place, without a walk over the log. What is selected, and who is a member, is for `judge.definitions`."""
+from bisect import bisect_right
+from collections import defaultdict
+
+from judge.definitions import is_member, select
+from stressing.reading import set_of
+
+
+class History:
+    def __init__(self, log):
+        self.log = log
+        # Of each tuple the places that changed it, rising, and whether each is a touch; and the tuples of each object and of each user.
+        self.places, self.touches = defaultdict(list), defaultdict(list)
+        self.of_object, self.of_user = defaultdict(set), defaultdict(set)
+        for place, changes in enumerate(log, 1):
+            for is_touch, asked in changes:
+                self.places[asked].append(place)
+                self.touches[asked].append(is_touch)
+                self.of_object[asked.namespace, asked.id].add(asked)
+                self.of_user[asked.namespace, asked.user].add(asked)
+
+    def changes_up_to(self, asked, place):
+        return bisect_right(self.places[asked], place) if asked in self.places else 0
+
+    def is_there(self, asked, place):
+        count = self.changes_up_to(asked, place)
+        return count > 0 and self.touches[asked][count - 1]
+
+    def last_change(self, asked, place):
+        count = self.changes_up_to(asked, place)
+        return self.places[asked][count - 1] if count else 0
+
+    def holds(self, condition, place):
+        """Whether a write with this condition may come behind the place."""
+        if isinstance(condition.want, int):
+            return self.last_change(condition.tuple, place) <= condition.want
+        return self.is_there(condition.tuple, place) == (condition.want == "exists")
+
+    def may_break(self, condition, least, most):
+        """Whether there is a place from the least to the most at which the condition is not met."""
+        first, last = self.changes_up_to(condition.tuple, least), self.changes_up_to(condition.tuple, most)
+        changed = self.places[condition.tuple][first:last] if last else []
+        return any(not self.holds(condition, place) for place in [least, *changed])
+
+    def there(self, some, place):
+        return [asked for asked in some if self.is_there(asked, place)]
+
+    def rows(self, text, place):
+        kind, *parts = set_of(text)
+        if kind == "user":
+            some = self.of_user.get((parts[0], parts[1]), ())
+        else:
+            some = self.of_object.get((parts[0].namespace, parts[0].id) if kind == "key" else (parts[0], parts[1]), ())
+        return tuple(select(self.there(some, place), (kind, *parts)))
+
+    def is_member(self, asked, place):
+        """By the tuples of all objects to which usersets lead from that of the tuple."""
+        waiting, seen, found = [(asked.namespace, asked.id)], {(asked.namespace, asked.id)}, []
+        while waiting:
+            here = self.there(self.of_object.get(waiting.pop(), ()), place)
+            found += here
+            further = {(one.user[1], one.user[2]) for one in here if one.user[0] == 1} - seen
+            seen |= further
+            waiting.extend(further)
+        return is_member(found, asked)
+
+    def events(self, start, end, namespaces):
+        listed = enumerate(self.log[start:end], start + 1)
+        return tuple((place, change) for place, changes in listed for change in changes if change.tuple.namespace in namespaces)

@@ -1,0 +1,167 @@
+"""Reads, checks and watches that are answered otherwise, each by rows or events that are wrong, or by right ones at a place that is wrong."""
+from stressing.calls import Check, Read, Watch
+from stressing.ground import Nothing, fitted
+
+
+def other_found(kind, change, is_so):
+    """The answer with something changed of what was found."""
+
+    def spoil(ground):
+        where, call = ground.told(kind, is_so)
+        return ground.with_calls(where, call._replace(found=change(ground, call.found)))
+
+    return spoil
+
+
+def has(count):
+    return lambda call: len(call.found) >= count
+
+
+def less(ground, found):
+    at = ground.random.randrange(len(found))
+    return found[:at] + found[at + 1 :]
+
+
+def double(ground, found):
+    at = ground.random.randrange(len(found))
+    return found[: at + 1] + found[at:]
+
+
+def turned(ground, found):
+    at = ground.random.randrange(len(found) - 1)
+    return (*found[:at], found[at + 1], found[at], *found[at + 2 :])
+
+
+def other_user(ground, found):
+    at = ground.random.randrange(len(found))
+    return (*found[:at], found[at]._replace(user=(0, "stranger")), *found[at + 1 :])
+
+
+def other_event(change):
+    def spoiled(ground, found):
+        at = ground.random.randrange(len(found))
+        return (*found[:at], change(*found[at]), *found[at + 1 :])
+
+    return spoiled
+
+
+def at_other_place(kind, place_of, is_so=lambda call: True):
+    """The answer is that of another place, which is told."""
+
+    def spoil(ground):
+        where, call = ground.told(kind, lambda call: is_so(call) and place_of(ground, call) is not None)
+        return ground.with_calls(where, fitted(call, ground.history, place_of(ground, call)))
+
+    return spoil
+
+
+def is_not_exact(call):
+    return call.asked.fresh[0] != "exact"
+
+
+def is_latest(call):
+    return call.asked.fresh[0] == "latest"
+
+
+def old(ground, call):
+    told = ground.moments.told_before(call.begin)
+    return told - 1 if told else None
+
+
+def coming(ground, call):
+    """A place of a write that had not begun."""
+    most = ground.moments.most_at(call.end)
+    return most + 1 if most < len(ground.log) else None
+
+
+def too_early(ground, call):
+    told = min(call.asked.start + call.asked.limit, ground.moments.told_before(call.begin))
+    return told - 1 if told > call.asked.start else None
+
+
+def coming_of_watch(ground, call):
+    place = coming(ground, call)
+    return place if place and call.asked.start <= place <= call.asked.start + call.asked.limit else None
+
+
+def gone_back(kind):
+    """An answer of the latest place lies below what the caller was told itself."""
+
+    def spoil(ground):
+        where, call = ground.told(kind, lambda call: is_latest(call))
+        at, index = where
+        own = max((before.place or 0 for before in ground.run.callers[at].calls[:index]), default=0)
+        if not own:
+            raise Nothing
+        return ground.with_calls(where, fitted(call, ground.history, own - 1))
+
+    return spoil
+
+
+def above_list(kind):
+    def spoil(ground):
+        where, call = ground.told(kind, lambda call: kind is Watch or is_latest(call))
+        if kind is Watch:
+            call = call._replace(asked=call.asked._replace(start=len(ground.log), limit=256), found=())
+        return ground.with_calls(where, call._replace(place=len(ground.log) + 1))
+
+    return spoil
+
+
+def fresher(kind, fresh_of):
+    """The answer does not have what was asked for."""
+
+    def spoil(ground):
+        where, call = ground.told(kind, lambda call: call.place)
+        return ground.with_calls(where, call._replace(asked=call.asked._replace(fresh=fresh_of(call.place))))
+
+    return spoil
+
+
+def over_limit(ground):
+    where, call = ground.told(Watch, lambda call: call.place > call.asked.start + 1)
+    limit = ground.random.randrange(1, call.place - call.asked.start)
+    return ground.with_calls(where, call._replace(asked=call.asked._replace(limit=limit)))
+
+
+def of_other_namespace(ground):
+    """A namespace is shown of which nobody has asked."""
+    where, call = ground.told(Watch, has(1))
+    namespaces = {change.tuple.namespace for _, change in call.found}
+    left = tuple(name for name in call.asked.namespaces if name != ground.choose(sorted(namespaces))) or ("stranger",)
+    if set(left) >= namespaces:
+        raise Nothing
+    return ground.with_calls(where, call._replace(asked=call.asked._replace(namespaces=left)))
+
+
+def kinds_of(kind, name):
+    return {
+        f"{name} is older than what was told": at_other_place(kind, old, is_not_exact),
+        f"{name} is older than what the caller was told": gone_back(kind),
+        f"{name} shows a write that had not begun": at_other_place(kind, coming, is_not_exact),
+        f"{name} is at a place above the list": above_list(kind),
+        f"{name} is older than asked": fresher(kind, lambda place: ("least", place + 1)),
+        f"{name} is at a place below the one asked for": fresher(kind, lambda place: ("exact", place + 1)),
+        f"{name} is at a place above the one asked for": fresher(kind, lambda place: ("exact", place - 1)),
+    }
+
+
+KINDS = {
+    "a row is missing": other_found(Read, less, has(1)),
+    "a row twice": other_found(Read, double, has(1)),
+    "rows in another order": other_found(Read, turned, has(2)),
+    "a row of another user": other_found(Read, other_user, has(1)),
+    **kinds_of(Read, "a read"),
+    "the other membership": other_found(Check, lambda ground, found: not found, lambda call: True),
+    **kinds_of(Check, "a check"),
+    "an event is missing": other_found(Watch, less, has(1)),
+    "an event twice": other_found(Watch, double, has(1)),
+    "events in another order": other_found(Watch, turned, has(2)),
+    "an event of the other kind": other_found(Watch, other_event(lambda at, change: (at, change._replace(is_touch=not change.is_touch))), has(1)),
+    "an event at another place": other_found(Watch, other_event(lambda at, change: (at + 1, change)), has(1)),
+    "an event of another namespace": of_other_namespace,
+    "a watch ends before what was told": at_other_place(Watch, too_early),
+    "a watch shows a write that had not begun": at_other_place(Watch, coming_of_watch),
+    "a watch goes past its limit": over_limit,
+    "a watch goes past the list": above_list(Watch),
+}

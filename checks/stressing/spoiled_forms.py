@@ -1,0 +1,194 @@
+"""Lines that are none of a run, ticks that no counter gives, and a last part that is not whole. A spoiled form is a run, its lines, or its bytes."""
+from judge.definitions import Change
+from stressing.calls import Check, Fail, Read, Restart, Watch, Write, lines_of
+from stressing.ground import fitted
+from stressing.spoiled_lists import STRANGER
+
+
+def other_line(change):
+    """A line of a call is another one, or several, or none."""
+
+    def spoil(ground):
+        lines = lines_of(ground.run)
+        at = ground.choose(at for at, line in enumerate(lines) if line[0].isdigit() and change(line) != [line])
+        return [*lines[:at], *change(lines[at]), *lines[at + 1 :]]
+
+    return spoil
+
+
+def replaced(old, new):
+    return other_line(lambda line: [line.replace(old, new, 1)])
+
+
+def without_last_word(line):
+    """Of a call that has to have as many words as it has."""
+    may_have_less = any(word in line for word in (" : ", " if ", " write ", " wrote ", " watch "))
+    return [line if may_have_less else line.rpartition(" ")[0]]
+
+
+def without_user(line):
+    """Not of a read: an object is a tupleset too."""
+    return [line if " read " in line or " rows " in line else line.replace("@u", "", 1)]
+
+
+def without_ticks(line):
+    return [line.split(" ", 2)[2]]
+
+
+def with_calls(kind, change):
+    def spoil(ground):
+        where, call = ground.where(kind)
+        return ground.with_calls(where, change(ground, call))
+
+    return spoil
+
+
+def end_before_begin(ground, call):
+    return call._replace(begin=call.end, end=call.begin)
+
+
+def same_tick(ground, call):
+    return call._replace(end=call.begin)
+
+
+def tick_of_other(ground, call):
+    """The begin of the next tick that another caller was given, which is in order for this one."""
+    return call._replace(begin=ground.choose(tick for tick in ground_ticks(ground) if call.begin < tick < call.end))
+
+
+def ground_ticks(ground):
+    return [tick for where in ground.wheres for tick in (ground.call(where).begin, ground.call(where).end)]
+
+
+def no_such_node(ground, call):
+    return call._replace(asked=call.asked._replace(node=ground.run.shards))
+
+
+def swapped_calls(ground):
+    at, index = ground.choose((at, index) for at, index in ground.wheres if index)
+    calls = ground.run.callers[at].calls
+    run = ground.with_calls((at, index), calls[index - 1])
+    return ground.with_calls((at, index - 1), calls[index], run=run)
+
+
+def with_caller(change):
+    def spoil(ground):
+        callers = list(ground.run.callers)
+        at = ground.random.randrange(len(callers) - 1)
+        callers[at : at + 1] = change(ground, callers[at])
+        return ground.run._replace(callers=callers)
+
+    return spoil
+
+
+def same_number(ground, caller):
+    return [caller._replace(number=ground.run.callers[-1].number)]
+
+
+def with_end(change):
+    def spoil(ground):
+        return ground.with_end(change(ground, ground.end()))
+
+    return spoil
+
+
+def first_in(calls, kind):
+    return next(at for at, call in enumerate(calls) if isinstance(call.asked, kind))
+
+
+def without_first(kind):
+    def spoil(_, calls):
+        at = first_in(calls, kind)
+        return calls[:at] + calls[at + 1 :]
+
+    return spoil
+
+
+def without(kind):
+    return lambda _, calls: [call for call in calls if not isinstance(call.asked, kind)]
+
+
+def refused_read(_, calls):
+    at = first_in(calls, Read)
+    return [*calls[:at], calls[at]._replace(code=13, place=None, found=None), *calls[at + 1 :]]
+
+
+def written(ground, calls):
+    last = calls[-1]
+    write = last._replace(begin=last.end + 1, end=last.end + 2, asked=Write((Change(True, STRANGER),), ()), place=len(ground.log) + 1, found=None)
+    return [*calls, write]
+
+
+def older(ground, calls):
+    at = next(at for at, call in enumerate(calls) if isinstance(call.asked, (Read, Check)) and call.asked.fresh[0] == "latest")
+    return [*calls[:at], fitted(calls[at], ground.history, calls[at].place - 1), *calls[at + 1 :]]
+
+
+def too_soon(ground, calls):
+    """The first call of the last part begins before the last call of another caller has ended."""
+    last = max(call.end for caller in ground.run.callers[:-1] for call in caller.calls)
+    return [calls[0]._replace(begin=last - 1), *calls[1:]]
+
+
+def with_hole(ground, calls):
+    """A place of the list has nothing."""
+    place = ground.random.randint(1, len(ground.log))
+    return [call._replace(found=tuple(event for event in call.found if event[0] != place)) if isinstance(call.asked, Watch) else call for call in calls]
+
+
+def cut_off(ground):
+    lines = lines_of(ground.run)
+    return lines[: ground.random.randrange(1, len(lines) - len(ground.end()) - 1)]
+
+
+def as_bytes(change):
+    return lambda ground: change("".join(line + "\n" for line in lines_of(ground.run)).encode())
+
+
+def moved_end(ground):
+    return ground.run._replace(callers=[ground.run.callers[-1], *ground.run.callers[:-1]])
+
+
+def without_kind(ground):
+    kind = ground.choose(["writer", "reader", "watcher", "trouble", "end"])
+    return ground.run._replace(callers=[caller for caller in ground.run.callers if caller.kind != kind])
+
+
+KINDS = {
+    "a line of no kind": other_line(lambda line: [line, "1 2 told 3"]),
+    "an empty line": other_line(lambda line: [line, ""]),
+    "two spaces": replaced(" ", "  "),
+    "a space at the end": other_line(lambda line: [line + " "]),
+    "a leading zero": other_line(lambda line: ["0" + line]),
+    "a line without its last word": other_line(without_last_word),
+    "a line without its ticks": other_line(without_ticks),
+    "a refusal by another name": replaced(" Down", " Dowm"),
+    "a refusal by another number": replaced(" 13 Down", " 12 Down"),
+    "a change without its sign": replaced(" +", " "),
+    "a tuple without its user": other_line(without_user),
+    "a node that is not there": with_calls((Restart, Fail), no_such_node),
+    "a call that ends before it begins": with_calls(object, end_before_begin),
+    "a call that ends as it begins": with_calls(object, same_tick),
+    "a tick of another call": with_calls(object, tick_of_other),
+    "two calls of a caller the other way round": swapped_calls,
+    "two callers of one number": with_caller(same_number),
+    "a caller that was told nothing": with_caller(lambda _, caller: [caller._replace(calls=[])]),
+    "a caller of no kind": with_caller(lambda _, caller: [caller._replace(kind="other")]),
+    "no callers of a kind": without_kind,
+    "another seed": lambda ground: ground.run._replace(seed=ground.run.seed + 1),
+    "too many shards": lambda ground: ground.run._replace(shards=65),
+    "no first line": lambda ground: lines_of(ground.run)[1:],
+    "nothing at all": lambda ground: [],
+    "cut off": cut_off,
+    "the last line is not ended": as_bytes(lambda text: text[:-1]),
+    "a byte that is none of a line": as_bytes(lambda text: text.replace(b"doc", b"d\xc3\xb6c", 1)),
+    "the last part comes first": moved_end,
+    "the last part begins too soon": with_end(too_soon),
+    "the list does not begin": with_end(without_first(Watch)),
+    "no list": with_end(without(Watch)),
+    "a place of the list is empty": with_end(with_hole),
+    "no reads behind the list": with_end(without((Read, Check))),
+    "a refusal in the last part": with_end(refused_read),
+    "a write in the last part": with_end(written),
+    "a read of the last part is older": with_end(older),
+}

@@ -1,0 +1,142 @@
+"""Refusals that have no cause, and what may not be refused at all."""
+from judge.definitions import Condition
+from stressing.calls import Check, Fail, Read, Restart, Watch, Write, calls_of
+from stressing.ground import Nothing
+from stressing.refusing import OF_ANSWERS, OF_WRITES, asked_places
+from stressing.spoiled_lists import STRANGER
+
+ANSWERS = (Read, Check, Watch)
+ALL = set(range(1, 17))
+
+
+def refused(call, code):
+    return call._replace(code=code, place=None, found=None)
+
+
+def told_is_refused(kind, codes, is_so=lambda ground, call: True):
+    """What was told is refused with one of these."""
+
+    def spoil(ground):
+        where, call = ground.told(kind, lambda call: is_so(ground, call))
+        return ground.with_calls(where, refused(call, ground.choose(sorted(codes))))
+
+    return spoil
+
+
+def is_latest(_, call):
+    return call.asked.fresh[0] == "latest"
+
+
+def names_what_was_told(ground, call):
+    places = asked_places(call.asked)
+    return places and max(places) <= ground.moments.told_before(call.begin)
+
+
+def is_quiet(ground, call):
+    """No node was opened between its ticks, though one was before."""
+    restarts = calls_of(ground.run, Restart)
+    return any(it.end < call.begin for it in restarts) and all(it.end < call.begin or call.end < it.begin for it in restarts)
+
+
+def refused_otherwise(code, change=lambda asked: asked, is_so=lambda ground, call: True):
+    """A write that was refused and does not stand is refused with this, with other parts."""
+
+    def spoil(ground):
+        where, call = ground.unplaced(Write, lambda call: is_so(ground, call))
+        return ground.with_calls(where, refused(call._replace(asked=change(call.asked)), code))
+
+    return spoil
+
+
+def never(ground):
+    return refused_otherwise(ground.choose(sorted(ALL - OF_WRITES)))(ground)
+
+
+def alone(write):
+    return Write((write.changes[0]._replace(tuple=STRANGER),), ())
+
+
+def without_conditions(write):
+    return write._replace(conditions=())
+
+
+def with_met(write):
+    return write._replace(conditions=(Condition(STRANGER, "absent"),))
+
+
+def states(log, asked):
+    """Whether the tuple is there, at each place from 0 on."""
+    found = [False]
+    for changes in log:
+        found.append(next((change.is_touch for change in changes if change.tuple == asked), found[-1]))
+    return found
+
+
+def met_meanwhile(ground):
+    """A write is not met whose condition was met at each place that it can have met, and at others was not."""
+    where, call = ground.unplaced(Write)
+    least, most = ground.moments.told_before(call.begin), ground.moments.most_at(call.end)
+    for asked in ground.random.sample(sorted(ground.history.places), min(40, len(ground.history.places))):
+        every = states(ground.log, asked)
+        if len({*every}) == 2 and len({*every[least : most + 1]}) == 1:
+            condition = Condition(asked, "exists" if every[least] else "absent")
+            return ground.with_calls(where, refused(call._replace(asked=call.asked._replace(conditions=(condition,))), 9))
+    raise Nothing
+
+
+def with_told(write):
+    return write._replace(conditions=(Condition(STRANGER, 0),))
+
+
+def before_trouble(code):
+    """A call is refused although no node was in trouble before."""
+
+    def spoil(ground):
+        where, call = ground.where((Write, *ANSWERS), lambda call: call.code == code)
+        callers = []
+        for caller in ground.run.callers:
+            later = [it for it in caller.calls if not isinstance(it.asked, (Restart, Fail)) or it.begin > call.end]
+            callers.append(caller._replace(calls=later))
+        if not all(caller.calls for caller in callers):
+            raise Nothing
+        return ground.run._replace(callers=callers)
+
+    return spoil
+
+
+def opening(code):
+    def spoil(ground):
+        where, call = ground.where(Restart)
+        return ground.with_calls(where, call._replace(code=code))
+
+    return spoil
+
+
+KINDS = {
+    "a write that stands is not met": told_is_refused(Write, {9}),
+    "a write that stands is busy": told_is_refused(Write, {10}),
+    "a write that stands is aborted": told_is_refused(Write, {11}),
+    "a write that stands is down": told_is_refused(Write, {13}),
+    "a write that stands is refused as none is": told_is_refused(Write, ALL - OF_WRITES),
+    "a read of the latest place is in the future": told_is_refused(Read, {7}, is_latest),
+    "a check of the latest place is in the future": told_is_refused(Check, {7}, is_latest),
+    "a read of a place that was told is in the future": told_is_refused(Read, {7}, names_what_was_told),
+    "a check of a place that was told is in the future": told_is_refused(Check, {7}, names_what_was_told),
+    "a watch from a place that was told is in the future": told_is_refused(Watch, {7}, names_what_was_told),
+    "a read is refused as none is": told_is_refused(Read, ALL - OF_ANSWERS),
+    "a check is refused as none is": told_is_refused(Check, ALL - OF_ANSWERS),
+    "a watch is refused as none is": told_is_refused(Watch, ALL - OF_ANSWERS),
+    "a place is collected": told_is_refused(ANSWERS, {8}),
+    "a write is refused as none is": never,
+    "a write without conditions is not met": refused_otherwise(9, without_conditions),
+    "a write whose condition is met is not met": refused_otherwise(9, with_met),
+    "a write is not met whose condition was not met before or behind it": met_meanwhile,
+    "a write of a place that was told is in the future": refused_otherwise(7, with_told),
+    "a write without conditions is in the future": refused_otherwise(7, without_conditions),
+    "a write that shares no tuple is busy": refused_otherwise(10, alone),
+    "a write is aborted and no node was opened": refused_otherwise(11, is_so=is_quiet),
+    "a call is down before any trouble": before_trouble(13),
+    "a write is unsure before any trouble": before_trouble(12),
+    "what lies on the devices is damaged": opening(16),
+    "an opening is busy": opening(10),
+}
