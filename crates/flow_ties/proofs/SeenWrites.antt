@@ -33,7 +33,7 @@ use Rattle.catch_up.specs.declared.caught.Progress.TheVariants.{Next, There, Ref
 use Rattle.commit_flow.specs.declared.end.WriteEnd.{WriteEnd}
 use Rattle.commit_flow.specs.declared.end.WriteEnd.TheVariants.{Refused, Wrote}
 use Rattle.commit_flow.specs.Answering.{AbortGives, BeginGives, CatchUpGives, FlushGives, GivesTo, GoesToDrop, InquireGives, NotDecidedGives, OutcomeGives, PrepareGives, ProgressGives, VoteGives, end_of}
-use Rattle.commit_flow.specs.WriteHolds.{Way, WriteAwaited, WriteHolds, nothing_begun, onward, outward}
+use Rattle.commit_flow.specs.WriteHolds.{Way, WriteAwaited, WriteHolds, onward, outward}
 use Rattle.commit_flow.specs.WriteHolds as waits
 use Rattle.commit_flow.specs.Views.{WriteView, at_rest, view_ended}
 use Rattle.commit_flow.specs.Writing.{Asks, AsksCoordinator, AsksShard}

@@ -13,17 +13,17 @@ pub cares_hand_over : (pass : Known Entry) (v : CareFlow) → IsCareOf pass.seen
 cares_hand_over pass v is call out asks = cares_hand_over_what_is_seen pass.seen pass.horizon v out call is asks
 
 -- what it holds behind a turn is of them
-pub care_goes_on : (shards : ℕ) (old new : Known Entry) (marks later : List Bool) (v after : CareFlow) → IsCareOf old.seen old.horizon v → Turns AsksCare GivesCare shards old new marks later v after
-    → IsCareOf new.seen new.horizon after
-care_goes_on shards old new marks later v after is t =
+pub care_goes_on : (rests : Type 0) (shards : ℕ) (old new : Known Entry) (marks later : List Bool) (v after : CareFlow) → IsCareOf old.seen old.horizon v → Turns AsksCare rests GivesCare shards old new marks later v after
+    → rests → IsCareOf new.seen new.horizon after
+care_goes_on rests shards old new marks later v after is t h =
     let turn : CareTurns shards new.seen new.horizon v after = record {
       call = t.call;
       out = t.out;
       reply = t.reply;
       asks = t.asked;
       belongs = t.serves.belongs;
-      told = t.serves.told;
-      tells = t.serves.care;
+      told = t.serves.told h;
+      tells = t.serves.care h;
       gives = t.given;
     } in
     cares_go_on shards old.seen new.seen old.horizon new.horizon v after t.serves.later.seen t.serves.later.horizon is turn

@@ -8,4 +8,4 @@ mod WatchTurns
 mod CareTurns
 mod RefusedCalls
 mod WriteTurns
-mod NewDevices
+pub mod NewDevices

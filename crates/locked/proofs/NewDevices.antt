@@ -1,8 +1,7 @@
--- Of new devices, node by node.
-use Rattle.std.proofs.Common.{◌≡◌, ℕ, List, ◌∷◌, [], All, subst, arith}
-use Rattle.std.proofs.lemmas.List.Elements.{All-head, All-tail}
+-- Of the devices of a store, node by node.
+use Rattle.std.proofs.Common.{◌≡◌, ◌≤◌, ◌<◌, ◌+◌, ◌*◌, suc, ℕ, List, ◌∷◌, [], slice_index_or, subst, arith}
+use mathlib.Core.List.{IsPrefix}
 use Rattle.device.specs.Device.{State}
-use Rattle.published.proofs.Prefixes.{prefix_more}
 use Rattle.refusal.specs.declared.refusal.Refusal.TheVariants.{Damaged}
 use Rattle.tuples.specs.declared.entry.Entry.{Entry}
 use Rattle.calls.specs.Views.{refused}
@@ -10,27 +9,51 @@ use Rattle.ties.specs.ShardTies.{RowsAnywhere}
 use Rattle.ties.specs.Ties.{Anywhere}
 use Rattle.ties.proofs.ShardOpening.{longer_lists_stay_tied}
 use Rattle.ties.proofs.Unmade.{unmade_nodes_are_tied}
-use Rattle.locked.specs.Opening.{IsNew}
+use Rattle.locked.specs.Opening.{NewDevicesRest, RestAt, ShardsRest}
 
-module _ {D : Type 0} (state : D → State) (honest : D → Type 0) where
-  -- behind the first two devices the others are new
-  pub others_are_new : (all : List D) (a b : D) (rest : List D) → all ≡ a ∷ b ∷ rest → All (IsNew state honest) all → All (IsNew state honest) rest
-  others_are_new all a b rest is new = All-tail (IsNew state honest) b rest (All-tail (IsNew state honest) a (b ∷ rest) (subst (All (IsNew state honest)) is new))
+module _ {D : Type 0} (state : D → State) (honest : D → Type 0) (shards : ℕ) where
+  module _ (first : List Entry) (low : ℕ) (all : List D) (a b : D) (rest : List D) (is : all ≡ a ∷ b ∷ rest) where
+    -- the first two are the coordinator's
+    pub coordinator_rests : RestAt state honest shards first low all → Anywhere state honest a b first low []
+    coordinator_rests at = let here : RestAt state honest shards first low (a ∷ b ∷ rest) = subst (RestAt state honest shards first low) is at in here.coordinator a
 
-  first_two_are_new : (all : List D) (a b : D) (rest : List D) → all ≡ a ∷ b ∷ rest → All (IsNew state honest) all → IsNew state honest a × IsNew state honest b
-  first_two_are_new all a b rest is new =
-      let here : All (IsNew state honest) (a ∷ b ∷ rest) = subst (All (IsNew state honest)) is new in
-      (All-head (IsNew state honest) a (b ∷ rest) here, All-head (IsNew state honest) b rest (All-tail (IsNew state honest) a (b ∷ rest) here))
+    -- and behind them those of the shards
+    pub shards_rest : RestAt state honest shards first low all → ShardsRest state honest shards first low 0 rest
+    shards_rest at k any lt =
+        let here : RestAt state honest shards first low (a ∷ b ∷ rest) = subst (RestAt state honest shards first low) is at in
+        let one : 2 * k + 2 ≡ suc (suc (2 * k)) = omega arith in
+        let other : 2 * k + 3 ≡ suc (suc (2 * k + 1)) = omega arith in
+        let moved = subst (λ (i : ℕ). RowsAnywhere state honest shards k (slice_index_or (a ∷ b ∷ rest) i any) (slice_index_or (a ∷ b ∷ rest) (2 * k + 3) any) first low) one (here.each_shard k any (omega (arith, lt))) in
+        let both = subst (λ (i : ℕ). RowsAnywhere state honest shards k (slice_index_or rest (2 * k) any) (slice_index_or (a ∷ b ∷ rest) i any) first low) other moved in
+        subst (λ (t : ℕ). RowsAnywhere state honest shards t (slice_index_or rest (2 * k) any) (slice_index_or rest (2 * k + 1) any) first low) (let same : k ≡ 0 + k = omega arith in same) both
 
-  -- a coordinator over the first two is tied to the empty list
-  pub coordinator_is_new : (all : List D) (a b : D) (rest : List D) → all ≡ a ∷ b ∷ rest → All (IsNew state honest) all → Anywhere state honest a b [] 0 []
-  coordinator_is_new all a b rest is new =
-      let two = first_two_are_new all a b rest is new in
-      (unmade_nodes_are_tied state honest a b two.0.is_honest two.1.is_honest two.0.unmade two.1.unmade).0
+    -- the next two are those of the next shard, which rests at each longer list
+    pub next_shard_rests : (store s : ℕ) (seen : List Entry) (later : ℕ) → s < shards → ShardsRest state honest shards first low s all → IsPrefix first seen → low ≤ later → RowsAnywhere state honest shards s a b seen later
+    next_shard_rests store s seen later lt rests pre le =
+        let here : ShardsRest state honest shards first low s (a ∷ b ∷ rest) = subst (ShardsRest state honest shards first low s) is rests in
+        let rows : RowsAnywhere state honest shards s a b first low = subst (λ (t : ℕ). RowsAnywhere state honest shards t a b first low) (let same : s + 0 ≡ s = omega arith in same) (here 0 a (omega (arith, lt))) in
+        longer_lists_stay_tied state honest store shards s (refused Damaged a b) first seen low later rows pre le
 
-  -- and a shard to any
-  pub shard_is_new : (store shards s : ℕ) (all : List D) (a b : D) (rest : List D) (seen : List Entry) (low : ℕ) → all ≡ a ∷ b ∷ rest → All (IsNew state honest) all → RowsAnywhere state honest shards s a b seen low
-  shard_is_new store shards s all a b rest seen low is new =
-      let two = first_two_are_new all a b rest is new in
-      let empty = (unmade_nodes_are_tied state honest a b two.0.is_honest two.1.is_honest two.0.unmade two.1.unmade).1 shards s in
-      longer_lists_stay_tied state honest store shards s (refused Damaged a b) [] seen 0 low empty (prefix_more [] seen) (omega arith)
+    -- and behind them those of the others
+    pub others_rest : (s : ℕ) → ShardsRest state honest shards first low s all → ShardsRest state honest shards first low (s + 1) rest
+    others_rest s rests k any lt =
+        let here : ShardsRest state honest shards first low s (a ∷ b ∷ rest) = subst (ShardsRest state honest shards first low s) is rests in
+        let one : 2 * (k + 1) ≡ suc (suc (2 * k)) = omega arith in
+        let other : 2 * (k + 1) + 1 ≡ suc (suc (2 * k + 1)) = omega arith in
+        let number : s + (k + 1) ≡ s + 1 + k = omega arith in
+        let rows = here (k + 1) any (omega (arith, lt)) in
+        let moved = subst (λ (i : ℕ). RowsAnywhere state honest shards (s + (k + 1)) (slice_index_or (a ∷ b ∷ rest) i any) (slice_index_or (a ∷ b ∷ rest) (2 * (k + 1) + 1) any) first low) one rows in
+        let both = subst (λ (i : ℕ). RowsAnywhere state honest shards (s + (k + 1)) (slice_index_or rest (2 * k) any) (slice_index_or (a ∷ b ∷ rest) i any) first low) other moved in
+        subst (λ (t : ℕ). RowsAnywhere state honest shards t (slice_index_or rest (2 * k) any) (slice_index_or rest (2 * k + 1) any) first low) number both
+
+  pub new_devices_rest : NewDevicesRest state honest shards
+  new_devices_rest devices count new = record {
+    coordinator = λ any.
+        let a = new 0 any (omega (arith, count)) in
+        let b = new 1 any (omega (arith, count)) in
+        (unmade_nodes_are_tied state honest (slice_index_or devices 0 any) (slice_index_or devices 1 any) a.is_honest b.is_honest a.unmade b.unmade).0;
+    each_shard = λ k any lt.
+        let a = new (2 * k + 2) any (omega (arith, count, lt)) in
+        let b = new (2 * k + 3) any (omega (arith, count, lt)) in
+        (unmade_nodes_are_tied state honest (slice_index_or devices (2 * k + 2) any) (slice_index_or devices (2 * k + 3) any) a.is_honest b.is_honest a.unmade b.unmade).1 shards k;
+  }

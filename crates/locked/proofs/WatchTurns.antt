@@ -48,25 +48,25 @@ gives_to v out awaited reply after same is gives =
     subst (λ (names : List (List ℕ)). GivesTo v.cursor v.limit names out.seen awaited reply after) (ap (λ (f : WatchFlowValue). f.namespaces) same) limit
 
 -- What it holds behind a turn is of the list. So much of that had been seen before it began.
-pub watch_goes_on : (shards before : ℕ) (old new : Known Entry) (marks later : List Bool) (v after : WatchFlowValue) → v.limit ≤ max_watched → before ≤ length old.seen → v.seen.ended ≡ None
-    → IsWatchOf v.cursor v.limit v.namespaces before old.seen v.seen → Turns AsksWatch GivesWatch shards old new marks later v after → IsWatchOf v.cursor v.limit v.namespaces before new.seen after.seen
-watch_goes_on shards before old new marks later v after few within running is t =
+pub watch_goes_on : (rests : Type 0) (shards before : ℕ) (old new : Known Entry) (marks later : List Bool) (v after : WatchFlowValue) → v.limit ≤ max_watched → before ≤ length old.seen → v.seen.ended ≡ None
+    → IsWatchOf v.cursor v.limit v.namespaces before old.seen v.seen → Turns AsksWatch rests GivesWatch shards old new marks later v after → rests → IsWatchOf v.cursor v.limit v.namespaces before new.seen after.seen
+watch_goes_on rests shards before old new marks later v after few within running is t h =
     let turn : WatchTurns v.cursor v.limit v.namespaces before shards new.seen v.seen after.seen = record {
       running = running;
       call = t.call;
       out = t.out.seen;
       reply = t.reply;
       asks = t.asked.2;
-      told = t.serves.told;
-      tells = tells_before before (length old.seen) t.call t.reply within t.serves.watcher;
+      told = t.serves.told h;
+      tells = tells_before before (length old.seen) t.call t.reply within (t.serves.watcher h);
       gives = λ awaited awaits. gives_to v t.out awaited t.reply after.seen t.asked.1 awaits t.given.1;
     } in
     watches_list_what_is_seen v.cursor v.limit v.namespaces before shards old.seen new.seen v.seen after.seen few t.serves.later.seen is turn
 
 -- a turn leaves what it is asked
-pub same_asked : (shards : ℕ) (old new : Known Entry) (marks later : List Bool) (v after : WatchFlowValue) → Turns AsksWatch GivesWatch shards old new marks later v after
+pub same_asked : (rests : Type 0) (shards : ℕ) (old new : Known Entry) (marks later : List Bool) (v after : WatchFlowValue) → Turns AsksWatch rests GivesWatch shards old new marks later v after
     → (after.cursor ≡ v.cursor) × (after.limit ≡ v.limit) × (after.namespaces ≡ v.namespaces)
-same_asked shards old new marks later v after t = (
+same_asked rests shards old new marks later v after t = (
   ap (λ (f : WatchFlowValue). f.cursor) t.given.0 ∙ ap (λ (f : WatchFlowValue). f.cursor) t.asked.1,
   ap (λ (f : WatchFlowValue). f.limit) t.given.0 ∙ ap (λ (f : WatchFlowValue). f.limit) t.asked.1,
   ap (λ (f : WatchFlowValue). f.namespaces) t.given.0 ∙ ap (λ (f : WatchFlowValue). f.namespaces) t.asked.1,
@@ -82,11 +82,11 @@ watch_ends cursor limit names before seen flow after end of_cursor of_limit of_n
     subst (λ (names : List (List ℕ)). AreEventsTo cursor limit names before seen place changes) of_names within
 
 -- behind a turn it has a reason in what was told then
-pub watch_has_reason : (shards : ℕ) (old new : Known Entry) (marks later : List Bool) (v after : WatchFlowValue) → Turns AsksWatch GivesWatch shards old new marks later v after → WatchHasReason later v.cursor new.seen new.horizon after.seen
-watch_has_reason shards old new marks later v after t =
+pub watch_has_reason : (rests : Type 0) (shards : ℕ) (old new : Known Entry) (marks later : List Bool) (v after : WatchFlowValue) → Turns AsksWatch rests GivesWatch shards old new marks later v after → rests → WatchHasReason later v.cursor new.seen new.horizon after.seen
+watch_has_reason rests shards old new marks later v after t h =
     watches_refuse_for_a_reason shards v.cursor v.limit v.namespaces marks later new.seen new.horizon v.seen t.out.seen after.seen t.call t.reply t.asked.2 t.serves.belongs
     (λ awaited awaits. gives_to v t.out awaited t.reply after.seen t.asked.1 awaits t.given.1)
-    t.serves.reach t.serves.care t.notices
+    (t.serves.reach h) (t.serves.care h) t.notices
 
 -- so has the refusal that it ends with
 pub watch_refuses : (cursor : ℕ) (seen : List Entry) (low : ℕ) (marks : List Bool) (flow : WatchFlowValue) (after : WatchView) (end : WatchEnding) → flow.cursor ≡ cursor → WatchHasReason marks flow.cursor seen low after → Some end ≡ after.ended

@@ -102,17 +102,17 @@ is_pending links asked above shards seen v out call of running asks outside is =
     record { before = v; of = of; asks = asks; runs = running; held = unlinked links of_none asked above seen v.seen (undecided links asked above v.shards seen v.seen out.seen call is asks.2 outside) is }
 
 -- what a reply tells a writer outside of a hold
-tells_outside : (asked : WriteValue) (above shards : ℕ) (seen : List Entry) (call : NodeCall) (reply : Reply) (old new : Known Entry) → is_of_hold call ≡ false → Serves shards old new call reply → TellsWriter of_none asked above seen call reply
-tells_outside asked above shards seen (Coordinator (calls.Begin write)) (from_coordinator (told.Begin (Ok i))) old new outside serves = serves.intent
-tells_outside asked above shards seen (Coordinator (calls.Decide intent votes)) reply old new outside serves = absurd (let bad : true ≡ false = outside in cc)
-tells_outside asked above shards seen (Coordinator (calls.Outcome d)) reply old new outside serves = absurd (let bad : true ≡ false = outside in cc)
-tells_outside asked above shards seen call reply old new outside serves = tt
+tells_outside : (rests : Type 0) (asked : WriteValue) (above shards : ℕ) (seen : List Entry) (call : NodeCall) (reply : Reply) (old new : Known Entry) → is_of_hold call ≡ false → Serves rests shards old new call reply → rests → TellsWriter of_none asked above seen call reply
+tells_outside rests asked above shards seen (Coordinator (calls.Begin write)) (from_coordinator (told.Begin (Ok i))) old new outside serves h = serves.intent h
+tells_outside rests asked above shards seen (Coordinator (calls.Decide intent votes)) reply old new outside serves h = absurd (let bad : true ≡ false = outside in cc)
+tells_outside rests asked above shards seen (Coordinator (calls.Outcome d)) reply old new outside serves h = absurd (let bad : true ≡ false = outside in cc)
+tells_outside rests asked above shards seen call reply old new outside serves h = tt
 
 -- a turn outside of the hold
-pub outside_goes_on : (asked : WriteValue) (above shards : ℕ) (old new : Known Entry) (call : NodeCall) (out later : WriteFlowValue) (reply : Reply) (p : IsPending asked above old.seen shards call out) → is_of_hold call ≡ false
-    → Serves shards old new call reply → GivesWrite out reply later → IsWriteOf of_none asked above new.seen later.seen
-outside_goes_on asked above shards old new call out later reply p outside serves given =
-    let turn = turn_of of_none asked above shards new.seen p.before out later call reply p.of p.runs p.asks serves.belongs serves.told (tells_outside asked above shards new.seen call reply old new outside serves) given in
+pub outside_goes_on : (rests : Type 0) (asked : WriteValue) (above shards : ℕ) (old new : Known Entry) (call : NodeCall) (out later : WriteFlowValue) (reply : Reply) (p : IsPending asked above old.seen shards call out) → is_of_hold call ≡ false
+    → Serves rests shards old new call reply → GivesWrite out reply later → rests → IsWriteOf of_none asked above new.seen later.seen
+outside_goes_on rests asked above shards old new call out later reply p outside serves given h =
+    let turn = turn_of of_none asked above shards new.seen p.before out later call reply p.of p.runs p.asks serves.belongs (serves.told h) (tells_outside rests asked above shards new.seen call reply old new outside serves h) given in
     writes_tell_what_stands of_none asked above shards old.seen new.seen p.before.seen later.seen serves.later.seen p.held turn
 
 -- what is handed to a shard then is of the list

@@ -43,15 +43,15 @@ LiesBeyond narrow asked so_far = (n : ℕ) → so_far ≤ n → IsBeyond narrow 
 abbrev pub IsNotThere : Freshness → ℕ → List Entry → ℕ → Refusal → Type 0
 IsNotThere asked before seen low e = ((e ≡ Future) × IsBeyond asked (length seen)) ⊎ ((e ≡ Collected) × ((place : ℕ) × IsFresh asked before place × (place < low)))
 
--- so much of the list had been seen before it
-module _ (shards : ℕ) (seen : List Entry) (asked : Freshness) (before : ℕ) where
+-- so much of the list had been seen before it, and what it holds is so where the store rested when it was opened
+module _ (rests : Type 0) (shards : ℕ) (seen : List Entry) (asked : Freshness) (before : ℕ) where
   -- a read of these tuplesets on its way, of the list, at a place as fresh as asked
   pub record ReadRuns (sets : List Tupleset) (flow : ReadFlowValue) : Type 0 where
     pub of : flow.shards ≡ shards
     pub asked_sets : flow.sets ≡ sets
     pub narrows : Narrows flow.fresh asked before
     pub beyond : LiesBeyond flow.fresh asked (length seen)
-    pub held : IsReadOf shards seen flow.fresh sets flow.seen
+    pub held : rests → IsReadOf shards seen flow.fresh sets flow.seen
 
   -- a check of this userset, about this user
   pub record CheckRuns (x : Userset) (u : User) (flow : CheckFlowValue) : Type 0 where
@@ -59,7 +59,7 @@ module _ (shards : ℕ) (seen : List Entry) (asked : Freshness) (before : ℕ) w
     pub user : flow.user ≡ u
     pub narrows : Narrows flow.fresh asked before
     pub beyond : LiesBeyond flow.fresh asked (length seen)
-    pub held : IsCheckOf seen flow.fresh x u flow.seen
+    pub held : rests → IsCheckOf seen flow.fresh x u flow.seen
 
 -- Rows of each tupleset, if it ends with any, are those that it selects of the list at the place that is told, which is as fresh as asked.
 abbrev pub ReadEnds : List Entry → Freshness → ℕ → List Tupleset → ReadEnding → Type 0

@@ -14,11 +14,11 @@ module _ {F : Type 0} (asks : F → NodeCall → F → Type 0) where
   HandsWhatIsSeen pass v = (call : NodeCall) (out : F) → asks v call out → HandsOver pass.seen pass.horizon call
 
   -- A turn: its call, the reply, which tells what is of the list that the caller has then seen, and what it makes of that.
-  pub record Turns (gives : F → Reply → F → Type 0) (shards : ℕ) (old new : Known Entry) (marks later_marks : List Bool) (v after : F) : Type 0 where
+  pub record Turns (rests : Type 0) (gives : F → Reply → F → Type 0) (shards : ℕ) (old new : Known Entry) (marks later_marks : List Bool) (v after : F) : Type 0 where
     pub call : NodeCall
     pub out : F
     pub reply : Reply
     pub asked : asks v call out
-    pub serves : Serves shards old new call reply
+    pub serves : Serves rests shards old new call reply
     pub given : gives out reply after
     pub notices : Notices shards marks call reply later_marks

@@ -19,8 +19,8 @@ impl<D: Device, B: Room, G: Gate> Store<D, B, G> {
     )
         requires of { F.is_of B.shards flow.old }
         requires goes_on { is_some (F.next_named flow.old) ≡ true }
-        requires hands { HandsWhatIsSeen F.asks caller.old flow.old }
-        ensures turns { Turns F.asks F.gives B.shards caller.old caller.new told.old told.new flow.old flow.new }
+        requires hands { B.rests → HandsWhatIsSeen F.asks caller.old flow.old }
+        ensures turns { Turns F.asks B.rests F.gives B.shards caller.old caller.new told.old told.new flow.old flow.new }
         ensures of { F.is_of B.shards flow.new }
     {
         let Some(call) = flow.next_call() else {

@@ -24,7 +24,7 @@ impl<D: Device, B: Room, G: Gate> Store<D, B, G> {
         mut flow: CareFlow,
     ) -> CareFlow
         requires of { IsThere B.shards flow }
-        requires held { IsCareOf caller.old.seen caller.old.horizon flow }
+        requires held { B.rests → IsCareOf caller.old.seen caller.old.horizon flow }
         requires goes { GoesOrEnds (has_next flow) (end_of flow) }
         ensures caller { IsLater caller.old caller.new }
         ensures ended { is_some (end_of result) ≡ true }

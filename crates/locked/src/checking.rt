@@ -38,7 +38,7 @@ impl<D: Device, B: Room, G: Gate> Store<D, B, G> {
         user: User,
     ) -> Result<CheckFlow, AllocError>
         ensures caller { IsLater caller.old caller.new }
-        ensures runs { IfOk result (λ flow. CheckRuns B.shards caller.new.seen freshness (length caller.old.seen) userset.now user flow) }
+        ensures runs { IfOk result (λ flow. CheckRuns B.rests B.shards caller.new.seen freshness (length caller.old.seen) userset.now user flow) }
         ensures rests { IfOk result (λ flow. flow.seen.awaited ≡ None) }
         ensures reason { (marks : List Bool) → IfOk result (λ flow. CheckHasReason marks flow.fresh caller.new.seen caller.new.horizon userset.now flow.seen) }
     {
@@ -59,14 +59,14 @@ impl<D: Device, B: Room, G: Gate> Store<D, B, G> {
         mut flow: CheckFlow,
     ) -> CheckFlow
         requires of { flow.shards ≡ B.shards }
-        requires held { IsCheckOf caller.old.seen flow.fresh userset.now flow.user flow.seen }
+        requires held { B.rests → IsCheckOf caller.old.seen flow.fresh userset.now flow.user flow.seen }
         requires rests { flow.seen.awaited ≡ None }
-        requires reason { CheckHasReason told.old flow.fresh caller.old.seen caller.old.horizon userset.now flow.seen }
+        requires reason { B.rests → CheckHasReason told.old flow.fresh caller.old.seen caller.old.horizon userset.now flow.seen }
         ensures caller { IsLater caller.old caller.new }
-        ensures held { IsCheckOf caller.new.seen flow.fresh userset.now flow.user result.seen }
+        ensures held { B.rests → IsCheckOf caller.new.seen flow.fresh userset.now flow.user result.seen }
         ensures named { result.next_name ≡ None }
         ensures rests { result.seen.awaited ≡ None }
-        ensures reason { CheckHasReason told.new flow.fresh caller.new.seen caller.new.horizon userset.now result.seen }
+        ensures reason { B.rests → CheckHasReason told.new flow.fresh caller.new.seen caller.new.horizon userset.now result.seen }
     {
         let _asked = userset;
         for _ in rt.forever() {
@@ -93,8 +93,8 @@ impl<D: Device, B: Room, G: Gate> Store<D, B, G> {
         user: User,
     ) -> CheckEnd
         ensures caller { IsLater caller.old caller.new }
-        ensures answer { CheckEnds caller.new.seen freshness (length caller.old.seen) userset.now user (ending_of result) }
-        ensures refused { CheckRefuses told.new caller.new.seen caller.new.horizon freshness (length caller.old.seen) userset.now (ending_of result) }
+        ensures answer { B.rests → CheckEnds caller.new.seen freshness (length caller.old.seen) userset.now user (ending_of result) }
+        ensures refused { B.rests → CheckRefuses told.new caller.new.seen caller.new.horizon freshness (length caller.old.seen) userset.now (ending_of result) }
     {
         match self.begin_check(alloc, caller, freshness, userset, user) {
             Ok(flow) => {

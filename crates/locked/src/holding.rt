@@ -47,9 +47,9 @@ fn ask_holding<D: Device, B: Room>(
     requires inside { is_of_hold_of call ≡ true }
     ensures later { IsLater pass.old pass.new }
     ensures belongs { IsReplyTo call result }
-    ensures told { IsTold B.shards pass.new.seen call result }
-    ensures tells { (asked : WriteValue) (above : ℕ) → above ≤ length pass.old.seen → TellsInHold D.state D.honest B.store B.shards asked above side.old side.new pass.new.seen call result }
-    ensures kept { KeepsTried D.state D.honest B.store B.shards side.old side.new call }
+    ensures told { B.rests → IsTold B.shards pass.new.seen call result }
+    ensures tells { B.rests → (asked : WriteValue) (above : ℕ) → above ≤ length pass.old.seen → TellsInHold D.state D.honest B.store B.shards asked above side.old side.new pass.new.seen call result }
+    ensures kept { B.rests → KeepsTried D.state D.honest B.store B.shards side.old side.new call }
     ensures notices { Notices B.shards told.old call result told.new }
 {
     match call {
@@ -78,7 +78,7 @@ pub(crate) fn hold<D: Device, B: Room, R: Wait>(
     ensures owed { MatchOption result (Unit {0}) (λ call. IsOwed B.shards call) }
     ensures awaits { MatchOption result (Unit {0}) (λ call. (reply : AnyReply) → IsReplyTo call reply → MayGive flow.new.shards flow.new.seen reply) }
     ensures outside { MatchOption result (Unit {0}) (λ call. is_of_hold_of call ≡ false) }
-    ensures left { (asked : WriteValue) (above : ℕ) → above ≤ length pass.old.seen → IsWriteOf of_none asked above pass.old.seen flow.old.seen
+    ensures left { B.rests → (asked : WriteValue) (above : ℕ) → above ≤ length pass.old.seen → IsWriteOf of_none asked above pass.old.seen flow.old.seen
         → MatchOption result (IsWriteSoFar asked above pass.new.seen flow.new.seen) (λ call. IsPending asked above pass.new.seen B.shards call flow.new) }
     ensures told { RefusesAsTold B.shards told.old flow.old.seen → MatchOption result (RefusesAsTold B.shards told.new flow.new.seen) (λ call. IsPendingTold B.shards told.new call flow.new) }
 {

@@ -17,6 +17,7 @@ mod gate;
 mod holding;
 mod making;
 mod opening;
+mod opening_laws;
 mod placing;
 mod reading;
 mod store;
@@ -26,4 +27,5 @@ mod writing;
 
 pub use caller::Caller;
 pub use gate::{Gate, Open};
+pub use opening_laws::new_devices_rest;
 pub use store::Store;

@@ -28,9 +28,9 @@ pub(crate) fn serve_coordinator<D: Device, B: Room>(
 ) -> Reply
     requires own { (words.now ≡ B.log) × (pass.old.table ≡ B.log) }
     requires owed { MayAskCoordinator B.shards call }
-    ensures serves { Serves B.shards pass.old pass.new (of_coordinator call) result }
-    ensures tells { (asked : WriteValue) (above : ℕ) → above ≤ length pass.old.seen → TellsInHold D.state D.honest B.store B.shards asked above side.old side.new pass.new.seen (of_coordinator call) result }
-    ensures kept { KeepsTried D.state D.honest B.store B.shards side.old side.new (of_coordinator call) }
+    ensures serves { Serves B.rests B.shards pass.old pass.new (of_coordinator call) result }
+    ensures tells { B.rests → (asked : WriteValue) (above : ℕ) → above ≤ length pass.old.seen → TellsInHold D.state D.honest B.store B.shards asked above side.old side.new pass.new.seen (of_coordinator call) result }
+    ensures kept { B.rests → KeepsTried D.state D.honest B.store B.shards side.old side.new (of_coordinator call) }
     ensures told { Notes told.old result told.new }
 {
     match call {
@@ -56,8 +56,8 @@ fn serve_shard<D: Device, B: Room>(
 ) -> Reply
     requires own { (words.now ≡ B.log) × (pass.old.table ≡ B.log) }
     requires owed { MayAskShard B.shards side.old.number call }
-    requires hands { HandsOver pass.old.seen pass.old.horizon (of_shard side.old.number call) }
-    ensures serves { Serves B.shards pass.old pass.new (of_shard side.old.number call) result }
+    requires hands { B.rests → HandsOver pass.old.seen pass.old.horizon (of_shard side.old.number call) }
+    ensures serves { Serves B.rests B.shards pass.old pass.new (of_shard side.old.number call) result }
     ensures told { Notes told.old result told.new }
 {
     match call {
@@ -87,7 +87,7 @@ impl<D: Device, B: Room, G: Gate> Store<D, B, G> {
         call: CoordinatorCall,
     ) -> Reply
         requires owed { MayAskCoordinator B.shards call }
-        ensures serves { Serves B.shards caller.old caller.new (of_coordinator call) result }
+        ensures serves { Serves B.rests B.shards caller.old caller.new (of_coordinator call) result }
         ensures told { Notices B.shards told.old (of_coordinator call) result told.new }
     {
         let mut side = self.coordinator.lock(rt);
@@ -104,8 +104,8 @@ impl<D: Device, B: Room, G: Gate> Store<D, B, G> {
         call: ShardCall,
     ) -> Reply
         requires owed { MayAskShard B.shards shard call }
-        requires hands { HandsOver caller.old.seen caller.old.horizon (of_shard shard call) }
-        ensures serves { Serves B.shards caller.old caller.new (of_shard shard call) result }
+        requires hands { B.rests → HandsOver caller.old.seen caller.old.horizon (of_shard shard call) }
+        ensures serves { Serves B.rests B.shards caller.old caller.new (of_shard shard call) result }
         ensures told { Notices B.shards told.old (of_shard shard call) result told.new }
     {
         if shard >= self.count {
@@ -124,8 +124,8 @@ impl<D: Device, B: Room, G: Gate> Store<D, B, G> {
         call: NodeCall,
     ) -> Reply
         requires owed { IsOwed B.shards call }
-        requires hands { HandsOver caller.old.seen caller.old.horizon call }
-        ensures serves { Serves B.shards caller.old caller.new call result }
+        requires hands { B.rests → HandsOver caller.old.seen caller.old.horizon call }
+        ensures serves { Serves B.rests B.shards caller.old caller.new call result }
         ensures told { Notices B.shards told.old call result told.new }
     {
         match call {
@@ -143,8 +143,8 @@ impl<D: Device, B: Room, G: Gate> Store<D, B, G> {
         call: NodeCall,
     ) -> Reply
         requires owed { IsOwed B.shards call }
-        requires hands { HandsOver caller.old.seen caller.old.horizon call }
-        ensures serves { Serves B.shards caller.old caller.new call result }
+        requires hands { B.rests → HandsOver caller.old.seen caller.old.horizon call }
+        ensures serves { Serves B.rests B.shards caller.old caller.new call result }
         ensures told { Notices B.shards told.old call result told.new }
     {
         let (node, name) = (call.node(), call.name());

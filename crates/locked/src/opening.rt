@@ -1,8 +1,9 @@
-// A new store is opened.
-ghost use Rattle.std.specs.Prelude.{◌≡◌, ◌≤◌, ◌<◌, ◌+◌, ◌*◌, ◌∷◌, [], All, IfErr};
+// A store is opened.
+ghost use Rattle.std.specs.Prelude.{◌≡◌, ◌≤◌, ◌<◌, ◌+◌, ◌*◌, ◌∷◌, [], All, IfOk};
 ghost use Rattle.std.specs.Vec.{vec_capacity, vec_len};
 ghost use Rattle.records.specs.Identity.{max_shards};
-ghost use Rattle.locked.specs.Opening.{IsNew};
+ghost use mathlib.Core.List.{IsPrefix};
+ghost use Rattle.locked.specs.Opening.{RestAt, ShardsRest};
 
 use crate::{Gate, Store};
 use crossbeam_utils::sync::Unparker;
@@ -10,9 +11,9 @@ use device::Device;
 use published::{LogPass, Published};
 use records::Identity;
 use sides::{CoordinatorSide, Room, ShardSide};
-use std::alloc::{AllocError, Global};
+use std::alloc::Global;
 use std::sync::Mutex;
-use tuples::Entry;
+use tuples::{Entry, Refusal};
 
 // The two devices of the next node.
 fn take_two<D>(devices: &mut Vec<D>) -> (D, D)
@@ -33,16 +34,18 @@ fn open_coordinator<D: Device, B: Room>(
     store: u64,
     shards: u8,
     devices: &mut Vec<D>,
-) -> CoordinatorSide<D, B>
+) -> Result<CoordinatorSide<D, B>, Refusal>
     requires own { (words.now ≡ B.log) × (log.table ≡ B.log) }
     requires empty { (log.seen ≡ []) × (log.horizon ≡ 0) }
     requires of { (store ≡ B.store) × (shards ≡ B.shards) }
     requires some { 1 ≤ shards }
     requires few { shards ≤ max_shards }
     requires left { 2 ≤ vec_len devices.old }
-    requires new { All (IsNew D.state D.honest) devices.old.items }
+    requires honest { All D.honest devices.old.items }
+    requires rests { B.rests → RestAt D.state D.honest B.shards B.first B.low devices.old.items }
     ensures left { vec_len devices.new + 2 ≡ vec_len devices.old }
-    ensures new { All (IsNew D.state D.honest) devices.new.items }
+    ensures rests { B.rests → ShardsRest D.state D.honest B.shards B.first B.low 0 devices.new.items }
+    ensures list { IfOk result (λ side. B.rests → IsPrefix B.first side.seen × (B.low ≤ side.low)) }
 {
     let (a, b) = take_two(devices);
     CoordinatorSide::open(
@@ -70,9 +73,11 @@ fn open_shard<D: Device, B: Room>(
     requires few { shards ≤ max_shards }
     requires there { shard < shards }
     requires left { 2 ≤ vec_len devices.old }
-    requires new { All (IsNew D.state D.honest) devices.old.items }
+    requires rests { B.rests → ShardsRest D.state D.honest B.shards B.first B.low shard devices.old.items }
+    requires list { B.rests → IsPrefix B.first coordinator.old.seen × (B.low ≤ coordinator.old.low) }
     ensures left { vec_len devices.new + 2 ≡ vec_len devices.old }
-    ensures new { All (IsNew D.state D.honest) devices.new.items }
+    ensures rests { B.rests → ShardsRest D.state D.honest B.shards B.first B.low (shard + 1) devices.new.items }
+    ensures same { coordinator.new ≡ coordinator.old }
 {
     let (a, b) = take_two(devices);
     let pass = coordinator.session(words);
@@ -93,7 +98,8 @@ fn open_shards<D: Device, B: Room>(
     requires of { (store ≡ B.store) × (shards ≡ B.shards) }
     requires few { shards ≤ max_shards }
     requires left { 2 * shards ≤ vec_len devices.old }
-    requires new { All (IsNew D.state D.honest) devices.old.items }
+    requires rests { B.rests → ShardsRest D.state D.honest B.shards B.first B.low 0 devices.old.items }
+    requires list { B.rests → IsPrefix B.first coordinator.old.seen × (B.low ≤ coordinator.old.low) }
     requires none { vec_len sides.old ≡ 0 }
     requires room { shards ≤ vec_capacity sides.old }
     ensures all { vec_len sides.new ≡ shards }
@@ -105,9 +111,10 @@ fn open_shards<D: Device, B: Room>(
 }
 
 impl<D: Device, B: Room, G: Gate> Store<D, B, G> {
-    /// Opens a new store with this id and of 1 to 64 shards, over devices that nobody has written yet: those of the coordinator, and then those of each
-    /// shard, by rising number, bank a before bank b. A node whose devices fail even now holds the refusal of its opening, and can be restarted. Whoever
-    /// tends the store is woken by the bell. The devices come back where memory is refused.
+    /// Opens the store with this id and of 1 to 64 shards over its devices: those of the coordinator, and then those of each shard, by rising number, bank a
+    /// before bank b. Where they rest at a list, all that is said of the list is said of that one and of what joins it. A shard whose opening is refused
+    /// holds that refusal, and can be restarted; the coordinator's, or memory for the shards, refuses the store. Whoever tends the store is woken by the
+    /// bell.
     pub fn open(
         alloc: Global,
         gate: G,
@@ -117,20 +124,18 @@ impl<D: Device, B: Room, G: Gate> Store<D, B, G> {
         mut devices: Vec<D>,
         store: u64,
         shards: u8,
-    ) -> Result<Store<D, B, G>, Vec<D>>
+    ) -> Result<Store<D, B, G>, Refusal>
         requires own { (words ≡ B.log) × (log.table ≡ B.log) }
         requires empty { (log.seen ≡ []) × (log.horizon ≡ 0) }
         requires of { (store ≡ B.store) × (shards ≡ B.shards) }
         requires some { 1 ≤ shards }
         requires few { shards ≤ max_shards }
         requires count { vec_len devices ≡ 2 * (shards + 1) }
-        requires new { All (IsNew D.state D.honest) devices.items }
-        ensures back { IfErr result (λ back. back.items ≡ devices.items) }
+        requires honest { All D.honest devices.items }
+        requires rests { B.rests → RestAt D.state D.honest B.shards B.first B.low devices.items }
     {
-        let Ok(mut sides) = Vec::with_capacity(alloc, shards as usize) else {
-            return Err(devices);
-        };
-        let mut coordinator = open_coordinator(alloc, &words, log, store, shards, &mut devices);
+        let mut sides = Vec::with_capacity(alloc, shards as usize)?;
+        let mut coordinator = open_coordinator(alloc, &words, log, store, shards, &mut devices)?;
         open_shards(
             alloc,
             &words,

@@ -37,7 +37,7 @@ impl<D: Device, B: Room, G: Gate> Store<D, B, G> {
         sets: Vec<Tupleset>,
     ) -> ReadFlow
         ensures caller { IsLater caller.old caller.new }
-        ensures runs { ReadRuns B.shards caller.new.seen freshness (length caller.old.seen) sets.items result }
+        ensures runs { ReadRuns B.rests B.shards caller.new.seen freshness (length caller.old.seen) sets.items result }
         ensures rests { result.seen.awaited ≡ None }
         ensures reason { (marks : List Bool) → ReadHasReason marks result.fresh caller.new.seen caller.new.horizon result.seen }
     {
@@ -57,15 +57,15 @@ impl<D: Device, B: Room, G: Gate> Store<D, B, G> {
         mut flow: ReadFlow,
     ) -> ReadFlow
         requires of { flow.shards ≡ B.shards }
-        requires held { IsReadOf B.shards caller.old.seen flow.fresh flow.sets flow.seen }
+        requires held { B.rests → IsReadOf B.shards caller.old.seen flow.fresh flow.sets flow.seen }
         requires rests { flow.seen.awaited ≡ None }
-        requires reason { ReadHasReason told.old flow.fresh caller.old.seen caller.old.horizon flow.seen }
+        requires reason { B.rests → ReadHasReason told.old flow.fresh caller.old.seen caller.old.horizon flow.seen }
         ensures caller { IsLater caller.old caller.new }
-        ensures held { IsReadOf B.shards caller.new.seen result.fresh result.sets result.seen }
+        ensures held { B.rests → IsReadOf B.shards caller.new.seen result.fresh result.sets result.seen }
         ensures same { (result.fresh ≡ flow.fresh) × (result.sets ≡ flow.sets) }
         ensures named { result.next_name ≡ None }
         ensures rests { result.seen.awaited ≡ None }
-        ensures reason { ReadHasReason told.new result.fresh caller.new.seen caller.new.horizon result.seen }
+        ensures reason { B.rests → ReadHasReason told.new result.fresh caller.new.seen caller.new.horizon result.seen }
     {
         for _ in rt.forever() {
             if flow.next_name().is_none() {
@@ -89,8 +89,8 @@ impl<D: Device, B: Room, G: Gate> Store<D, B, G> {
         sets: Vec<Tupleset>,
     ) -> ReadEnd
         ensures caller { IsLater caller.old caller.new }
-        ensures answer { ReadEnds caller.new.seen freshness (length caller.old.seen) sets.items (ending_of result) }
-        ensures refused { ReadRefuses told.new caller.new.seen caller.new.horizon freshness (length caller.old.seen) (ending_of result) }
+        ensures answer { B.rests → ReadEnds caller.new.seen freshness (length caller.old.seen) sets.items (ending_of result) }
+        ensures refused { B.rests → ReadRefuses told.new caller.new.seen caller.new.horizon freshness (length caller.old.seen) (ending_of result) }
     {
         let flow = self.begin_read(alloc, caller, freshness, sets);
         let flow = self.run_read(rt, caller, told, flow);

@@ -37,14 +37,14 @@ impl<D: Device, B: Room, G: Gate> Store<D, B, G> {
         mut flow: WatchFlow,
     ) -> WatchFlow
         requires few { flow.limit ≤ max_watched }
-        requires held { IsWatchOf flow.cursor flow.limit flow.namespaces (length caller.old.seen) caller.old.seen flow.seen }
+        requires held { B.rests → IsWatchOf flow.cursor flow.limit flow.namespaces (length caller.old.seen) caller.old.seen flow.seen }
         requires rests { flow.seen.awaited ≡ None }
-        requires reason { WatchHasReason told.old flow.cursor caller.old.seen caller.old.horizon flow.seen }
+        requires reason { B.rests → WatchHasReason told.old flow.cursor caller.old.seen caller.old.horizon flow.seen }
         ensures caller { IsLater caller.old caller.new }
-        ensures held { IsWatchOf flow.cursor flow.limit flow.namespaces (length caller.old.seen) caller.new.seen result.seen }
+        ensures held { B.rests → IsWatchOf flow.cursor flow.limit flow.namespaces (length caller.old.seen) caller.new.seen result.seen }
         ensures named { next_name_of result.seen ≡ None }
         ensures rests { result.seen.awaited ≡ None }
-        ensures reason { WatchHasReason told.new flow.cursor caller.new.seen caller.new.horizon result.seen }
+        ensures reason { B.rests → WatchHasReason told.new flow.cursor caller.new.seen caller.new.horizon result.seen }
     {
         for _ in rt.forever() {
             if flow.next_name().is_none() {
@@ -70,8 +70,8 @@ impl<D: Device, B: Room, G: Gate> Store<D, B, G> {
     ) -> WatchEnd
         requires few { limit ≤ max_watched }
         ensures caller { IsLater caller.old caller.new }
-        ensures lists { WatchEnds cursor limit namespaces.items (length caller.old.seen) caller.new.seen (ending_of result) }
-        ensures refused { WatchRefuses told.new caller.new.seen caller.new.horizon cursor (ending_of result) }
+        ensures lists { B.rests → WatchEnds cursor limit namespaces.items (length caller.old.seen) caller.new.seen (ending_of result) }
+        ensures refused { B.rests → WatchRefuses told.new caller.new.seen caller.new.horizon cursor (ending_of result) }
     {
         let flow = WatchFlow::new(alloc, cursor, limit, namespaces);
         let flow = self.run_watch(rt, caller, told, flow);

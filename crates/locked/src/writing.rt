@@ -78,7 +78,7 @@ impl<D: Device, B: Room, G: Gate> Store<D, B, G> {
         ensures owed { MatchOption result (Unit {0}) (λ call. IsOwed B.shards call) }
         ensures awaits { MatchOption result (Unit {0}) (λ call. (reply : AnyReply) → IsReplyTo call reply → MayGive flow.new.shards flow.new.seen reply) }
         ensures outside { MatchOption result (Unit {0}) (λ call. is_of_hold call ≡ false) }
-        ensures left { (asked : WriteValue) (above : ℕ) → above ≤ length caller.old.seen → IsWriteOf of_none asked above caller.old.seen flow.old.seen
+        ensures left { B.rests → (asked : WriteValue) (above : ℕ) → above ≤ length caller.old.seen → IsWriteOf of_none asked above caller.old.seen flow.old.seen
             → MatchOption result (IsWriteSoFar asked above caller.new.seen flow.new.seen) (λ call. IsPending asked above caller.new.seen B.shards call flow.new) }
         ensures told { RefusesAsTold B.shards told.old flow.old.seen → MatchOption result (RefusesAsTold B.shards told.new flow.new.seen) (λ call. IsPendingTold B.shards told.new call flow.new) }
     {
@@ -108,7 +108,7 @@ impl<D: Device, B: Room, G: Gate> Store<D, B, G> {
         requires asked { (asked : WriteValue) × IsWriteOf of_none asked (length caller.old.seen) caller.old.seen flow.seen }
         ensures later { IsLater caller.old caller.new }
         ensures ended { is_some result.seen.ended ≡ true }
-        ensures held { (asked : WriteValue) (above : ℕ) → above ≤ length caller.old.seen → IsWriteOf of_none asked above caller.old.seen flow.seen → IsWriteSoFar asked above caller.new.seen result.seen }
+        ensures held { B.rests → (asked : WriteValue) (above : ℕ) → above ≤ length caller.old.seen → IsWriteOf of_none asked above caller.old.seen flow.seen → IsWriteSoFar asked above caller.new.seen result.seen }
         ensures told { RefusesAsTold B.shards told.old flow.seen → RefusesAsTold B.shards told.new result.seen }
     {
         for _ in rt.forever() {
@@ -133,7 +133,7 @@ impl<D: Device, B: Room, G: Gate> Store<D, B, G> {
         write: Write,
     ) -> WriteEnd
         ensures caller { IsLater caller.old caller.new }
-        ensures wrote { WriteEnds write (length caller.old.seen) caller.new.seen result }
+        ensures wrote { B.rests → WriteEnds write (length caller.old.seen) caller.new.seen result }
         ensures refused { WriteRefuses told.new result }
     {
         let flow = match WriteFlow::new(alloc, self.count, write) {

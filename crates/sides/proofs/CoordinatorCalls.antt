@@ -1,5 +1,5 @@
 -- The calls of the coordinator under its lock leave it tied.
-use Rattle.std.proofs.Common.{◌≡◌, ◌≤◌, ◌<◌, ⊎_elim, ℕ, true≢false, List, [], ◌∷◌, ◌++◌, length, Result, Option, Some, None, Ok, Err, refl, sym, ◌∙◌, subst, ap}
+use Rattle.std.proofs.Common.{◌≡◌, ◌≤◌, ◌<◌, ⊎_elim, ℕ, true≢false, List, [], ◌∷◌, ◌++◌, length, Result, Option, Some, Ok, Err, sym, ◌∙◌, subst, ap}
 use Rattle.refusal.specs.declared.refusal.Refusal.{Refusal}
 use Rattle.tuples.specs.declared.entry.Entry.{Entry}
 use Rattle.tuples.specs.Writes.{WriteValue}
@@ -16,29 +16,19 @@ use Rattle.calls.specs.declared.reply.Reply.{Reply}
 use Rattle.calls.specs.declared.reply.Reply.TheVariants.{Coordinator as from_coordinator}
 use Rattle.calls.specs.declared.reply.CoordinatorReply.{CoordinatorReply}
 use Rattle.calls.specs.declared.reply.CoordinatorReply.TheVariants as told
-use Rattle.calls.specs.Asking.{Answered, CoordinatorAnswers, MayAsk, MayAskCoordinator}
+use Rattle.calls.specs.Asking.{Answered, CoordinatorAnswers}
 use Rattle.calls.specs.CoordinatorAnswers.{AbortAnswers, BeginAnswers, DecideAnswers, FlushAnswers, RaiseAnswers}
-use Rattle.calls.specs.Views.{NodeView, coordinator, shard, refused}
+use Rattle.calls.specs.Views.{NodeView, coordinator, refused}
 use Rattle.ties.specs.DecidingLaws.{attempt}
 use Rattle.ties.specs.Ties.{Attempt, IsOpenedTied, IsTied, IsTiedUp}
 use Rattle.ties.proofs.Deciding.{aborts_stay_tied, beginnings_stay_tied, decisions_stay_tied, raises_stay_tied}
 use Rattle.ties.proofs.Landing.{flushes_stay_tied}
 use Rattle.ties.proofs.Opening.{failed_flushes_stay_tied, tied_up_is_tied, untried}
-use Rattle.sides.specs.CoordinatorSides.{AnsweredThere, IsTiedThere, MayAskThere}
+use Rattle.sides.specs.CoordinatorSides.{AnsweredThere, IsTiedThere}
 use Rattle.sides.specs.Joining.{CoordinatorMayJoin, MayJoin}
 use Rattle.sides.proofs.ShardCalls.{is_up, up_or_down}
 
 module _ {D : Type 0} (state : D → State) (honest : D → Type 0) (store shards : ℕ) where
-  may_ask_node : (node : NodeView D) (seen : List Entry) (low : ℕ) (tried : List Attempt) (call : CoordinatorCall) → IsTied state honest store shards node seen low tried → MayAskCoordinator shards call → MayAsk node (Coordinator call)
-  may_ask_node (coordinator v) seen low tried call tied may = subst (λ (n : ℕ). MayAskCoordinator n call) (sym (ap (λ me. me.shards) tied.me)) may
-  may_ask_node (refused e a b) seen low tried call tied may = tt
-  may_ask_node (shard v) seen low tried call tied may = absurd tied
-
-  -- it may be asked what its coordinator may be asked
-  pub may_ask_there : (node : Option (NodeView D)) (seen : List Entry) (low : ℕ) (tried : List Attempt) (call : CoordinatorCall) → IsTiedThere state honest store shards node seen low tried → MayAskCoordinator shards call → MayAskThere node call
-  may_ask_there (Some node) seen low tried call tied may = may_ask_node node seen low tried call tied may
-  may_ask_there None seen low tried call tied may = absurd tied
-
   -- Given a coordinator before and after a call
   module _ (old new : CoordinatorView D) (seen : List Entry) (low : ℕ) (tried : List Attempt) (tied : IsOpenedTied state honest store shards old seen low tried) where
     unchanged : new ≡ old → IsOpenedTied state honest store shards new seen low tried

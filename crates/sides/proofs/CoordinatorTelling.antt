@@ -1,5 +1,5 @@
 -- What the coordinator under its lock tells is of the list.
-use Rattle.std.proofs.Common.{◌≡◌, ◌≤◌, ◌<◌, ◌+◌, ◌-◌, ℕ, min, List, [], ◌∷◌, ◌++◌, length, drop, Result, Option, Some, None, Ok, Err, refl, sym, ◌∙◌, subst, ap, arith, length-append}
+use Rattle.std.proofs.Common.{◌≡◌, ◌≤◌, ◌+◌, ◌-◌, ℕ, min, List, [], ◌∷◌, ◌++◌, length, drop, Result, Option, Some, Ok, Err, refl, sym, ◌∙◌, subst, ap, arith, length-append}
 use Rattle.std.specs.Global.{Vec}
 use Rattle.std.proofs.lemmas.List.{length-drop, length-take}
 use Rattle.refusal.specs.declared.refusal.Refusal.{Refusal}
@@ -9,7 +9,7 @@ use Rattle.tuples.specs.Limits.{max_batch}
 use Rattle.tuples.specs.Writes.{WriteValue}
 use Rattle.records.specs.Coordinators.{end_of}
 use Rattle.device.specs.Device.{State}
-use Rattle.decisions.specs.Coordinators.{CoordinatorView, heads_of, kept_of, memory_of}
+use Rattle.decisions.specs.Coordinators.{CoordinatorView, kept_of, memory_of}
 use Rattle.decisions.specs.Standing.{DecidedValue}
 use Rattle.decisions.specs.Values.{BatchValue, HeadsValue, IntentValue, VoteValue}
 use Rattle.coordinator.specs.declared.decided.NotDecided.{NotDecided}

@@ -6,3 +6,5 @@ pub mod LogOpenings
 pub mod CoordinatorCalls
 pub mod CoordinatorTelling
 pub mod LogJoins
+pub mod Sound
+pub mod Lists

@@ -1,9 +1,9 @@
 -- What joins the list leaves the coordinator tied to it.
-use Rattle.std.proofs.Common.{◌≡◌, ◌≤◌, ⊎_elim, ℕ, true, false, true≢false, List, [], ◌++◌, length, Result, Option, Some, None, Ok, Err, refl, sym, ◌∙◌, subst, ap, arith}
+use Rattle.std.proofs.Common.{◌≡◌, ◌≤◌, ⊎_elim, ℕ, true, false, true≢false, List, ◌++◌, length, Result, Option, Some, None, Ok, Err, refl, sym, ◌∙◌, subst, ap, arith}
 use Rattle.refusal.specs.declared.refusal.Refusal.{Refusal}
 use Rattle.tuples.specs.declared.entry.Entry.{Entry}
 use Rattle.device.specs.Device.{State}
-use Rattle.decisions.specs.Coordinators.{CoordinatorView, IsRunning, heads_of, kept_of}
+use Rattle.decisions.specs.Coordinators.{CoordinatorView, heads_of, kept_of}
 use Rattle.decisions.specs.Values.{HeadsValue}
 use Rattle.calls.specs.declared.call.NodeCall.TheVariants.{Coordinator}
 use Rattle.calls.specs.declared.call.CoordinatorCall.TheVariants.{Heads}
@@ -16,7 +16,7 @@ use Rattle.calls.specs.CoordinatorAnswers.{HeadsAnswers}
 use Rattle.calls.specs.Views.{NodeView, coordinator, shard, refused}
 use Rattle.ties.specs.Ties.{Attempt}
 use Rattle.ties.proofs.Opening.{tied_up_is_tied}
-use Rattle.sides.specs.CoordinatorSides.{AnsweredThere, IsTiedThere, MayAskThere}
+use Rattle.sides.specs.CoordinatorSides.{AnsweredThere, IsTiedThere}
 use Rattle.sides.specs.Joining.{AreHeadsOf, CoordinatorMayJoin, MayJoin, behind_in, heads_in}
 use Rattle.sides.proofs.ShardCalls.{is_up, up_or_down}
 
@@ -48,13 +48,6 @@ module _ {D : Type 0} (state : D → State) (honest : D → Type 0) (moment : D 
   heads_are_told old new reply a = absurd a
 
 module _ {D : Type 0} (state : D → State) (honest : D → Type 0) (store shards : ℕ) where
-  -- what may join may be asked for its heads
-  pub joining_asks : (node : Option (NodeView D)) (seen : List Entry) (low : ℕ) (tried : List Attempt) → MayJoin state honest store shards node seen low tried → MayAskThere node Heads
-  joining_asks (Some (coordinator v)) seen low tried may = tt
-  joining_asks (Some (refused e a b)) seen low tried may = tt
-  joining_asks (Some (shard v)) seen low tried may = absurd may
-  joining_asks None seen low tried may = absurd may
-
   -- the list with what is kept behind it, of a node that told its heads
   pub record JoinsTo (node : Option (NodeView D)) (seen : List Entry) (low : ℕ) (tried : List Attempt) (heads : HeadsValue) : Type 0 where
     pub kept : heads.kept ≡ length (seen ++ behind_in seen node)

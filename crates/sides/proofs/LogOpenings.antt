@@ -1,5 +1,5 @@
 -- What a coordinator that is opened again found may join the list.
-use Rattle.std.proofs.Common.{◌≡◌, ⊎_elim, ℕ, ◌≤◌, true, true≢false, List, Option, Some, None, is_some, refl, sym, ◌∙◌, subst}
+use Rattle.std.proofs.Common.{⊎_elim, ℕ, ◌≤◌, true, true≢false, List, Option, Some, None, sym, ◌∙◌, subst}
 use Rattle.refusal.specs.declared.refusal.Refusal.{Refusal}
 use Rattle.tuples.specs.declared.entry.Entry.{Entry}
 use Rattle.device.specs.Device.{State, left}
@@ -57,9 +57,3 @@ module _ {D : Type 0} (state : D → State) (honest : D → Type 0) (moment : D 
       → LogRestartedIn state honest moment left_since (coordinator_node store shards) was told is → MayJoin state honest store shards is seen low tried
   restart_may_join (Some was) (Some is) told seen low tried tied r = reopened (devices_of was).0 (devices_of was).1 is seen low tried (anywhere_of was seen low tried tied) r.0
   restart_may_join was is told seen low tried tied r = absurd r
-
--- a coordinator that is tied is there
-pub log_is_there : {D : Type 0} (state : D → State) (honest : D → Type 0) (store shards : ℕ) (node : Option (NodeView D)) (seen : List Entry) (low : ℕ) (tried : List Attempt) → IsTiedThere state honest store shards node seen low tried
-    → is_some node ≡ true
-log_is_there state honest store shards (Some node) seen low tried tied = refl
-log_is_there state honest store shards None seen low tried tied = absurd tied

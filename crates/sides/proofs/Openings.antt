@@ -1,5 +1,5 @@
 -- A shard that is opened again is tied to what the pass beside it knows.
-use Rattle.std.proofs.Common.{◌≡◌, ⊎_elim, ℕ, ◌≤◌, true, List, Option, Some, None, is_some, refl, sym, subst}
+use Rattle.std.proofs.Common.{⊎_elim, ℕ, ◌≤◌, List, Option, Some, None, sym, subst}
 use Rattle.refusal.specs.declared.refusal.Refusal.{Refusal}
 use Rattle.tuples.specs.declared.entry.Entry.{Entry}
 use Rattle.device.specs.Device.{State, left}
@@ -54,8 +54,3 @@ module _ {D : Type 0} (state : D → State) (honest : D → Type 0) (moment : D 
       → RestartedIn state honest moment left_since (shard_node store shards s) was told is → IsTiedIn state honest store shards s is pass
   restart_stays (Some was) (Some is) told pass tied r = reopened (devices_of was).0 (devices_of was).1 is pass.seen pass.horizon (anywhere was pass.seen pass.horizon tied) r.0
   restart_stays was is told pass tied r = absurd r
-
--- what is tied is there
-pub is_there : {D : Type 0} (state : D → State) (honest : D → Type 0) (store shards s : ℕ) (node : Option (NodeView D)) (pass : Known Entry) → IsTiedIn state honest store shards s node pass → is_some node ≡ true
-is_there state honest store shards s (Some node) pass tied = refl
-is_there state honest store shards s None pass tied = absurd tied

@@ -15,15 +15,15 @@ use Rattle.calls.specs.declared.reply.Reply.{Reply}
 use Rattle.calls.specs.declared.reply.Reply.TheVariants.{Shard as from_shard}
 use Rattle.calls.specs.declared.reply.ShardReply.{ShardReply}
 use Rattle.calls.specs.declared.reply.ShardReply.TheVariants as told_by
-use Rattle.calls.specs.Asking.{Answered, MayAsk, MayAskShard, ShardAnswers}
+use Rattle.calls.specs.Asking.{Answered, ShardAnswers}
 use Rattle.calls.specs.ShardAnswers.{CollectAnswers, DropAnswers, FlushAnswers, LearnAnswers, PrepareAnswers}
-use Rattle.calls.specs.Views.{NodeView, coordinator, shard, refused}
+use Rattle.calls.specs.Views.{NodeView, shard, refused}
 use Rattle.laws.specs.ShardLaws.{AreOfLog}
 use Rattle.ties.specs.ShardTies.{IsOpenedShardTied, IsShardTied}
 use Rattle.ties.specs.TellingLaws.{IsBatchOf}
 use Rattle.ties.proofs.ShardCalls.{collections_stay_tied, drops_stay_tied, learnings_stay_tied, prepares_stay_tied, shard_flushes_stay_tied}
 use Rattle.ties.proofs.ShardOpening.{failed_shard_flushes_stay_tied, longer_lists_stay_tied, shard_tied_up_is_tied}
-use Rattle.sides.specs.Sides.{AnsweredIn, IsLater, IsTiedIn, MayAskIn}
+use Rattle.sides.specs.Sides.{AnsweredIn, IsLater, IsTiedIn}
 
 pub is_up : (b : Bool) → (b ≡ true → ⊥) → b ≡ false
 is_up false down = refl
@@ -49,16 +49,6 @@ module _ {D : Type 0} (state : D → State) (honest : D → Type 0) (store shard
   pub later_is_tied : (node : Option (NodeView D)) (old new : Known Entry) → IsTiedIn state honest store shards s node old → IsLater old new → IsTiedIn state honest store shards s node new
   later_is_tied (Some node) old new tied later = longer_lists_stay_tied state honest store shards s node old.seen new.seen old.horizon new.horizon tied later.seen later.horizon
   later_is_tied None old new tied later = absurd tied
-
-  may_ask_node : (node : NodeView D) (seen : List Entry) (low : ℕ) (call : ShardCall) → IsShardTied state honest store shards s node seen low → MayAskShard shards s call → MayAsk node (Shard s call)
-  may_ask_node (shard v) seen low call tied may = (ap (λ me. me.node) tied.me, subst (λ (n : ℕ). MayAskShard n s call) (sym (ap (λ me. me.shards) tied.me)) may)
-  may_ask_node (refused e a b) seen low call tied may = tt
-  may_ask_node (coordinator v) seen low call tied may = absurd tied
-
-  -- it may be asked what its shard may be asked
-  pub may_ask : (node : Option (NodeView D)) (pass : Known Entry) (call : ShardCall) → IsTiedIn state honest store shards s node pass → MayAskShard shards s call → MayAskIn s node call
-  may_ask (Some node) pass call tied may = may_ask_node node pass.seen pass.horizon call tied may
-  may_ask None pass call tied may = absurd tied
 
   -- Given a shard before and after a call
   module _ (old new : ShardView D) (seen : List Entry) (low : ℕ) (tied : IsOpenedShardTied state honest store shards s old seen low) where

@@ -1,5 +1,5 @@
 -- The coordinator under its lock, as its callers see it, and what each of its calls leaves of it and tells.
-use Rattle.std.specs.Prelude.{◌≡◌, ◌≤◌, ◌<◌, ◌-◌, ℕ, min, List, [], ◌∷◌, length, Option, Some, None, Ok}
+use Rattle.std.specs.Prelude.{◌≡◌, false, ◌≤◌, ◌<◌, ◌-◌, ℕ, min, List, [], ◌∷◌, length, Option, Some, None, Ok}
 use mathlib.Core.List.{IsPrefix}
 use Rattle.tuples.specs.declared.entry.Entry.{Entry}
 use Rattle.tuples.specs.declared.entry.WriteId.{WriteId}
@@ -7,7 +7,9 @@ use Rattle.tuples.specs.Limits.{max_batch}
 use Rattle.tuples.specs.Writes.{WriteValue}
 use Rattle.device.specs.Device.{State}
 use Rattle.published.specs.Known.{Known}
+use Rattle.decisions.specs.Coordinators.{CoordinatorView, IsRunning}
 use Rattle.decisions.specs.Standing.{DecidedValue}
+use Rattle.laws.specs.Worlds.{coordinator_node}
 use Rattle.coordinator.specs.declared.telling.Inquiry.TheVariants.{Commit}
 use Rattle.coordinator.specs.declared.telling.Outcome.TheVariants.{Kept, Later}
 use Rattle.calls.specs.declared.call.NodeCall.TheVariants.{Coordinator}
@@ -17,7 +19,7 @@ use Rattle.calls.specs.declared.reply.Reply.TheVariants.{Coordinator as from_coo
 use Rattle.calls.specs.declared.reply.CoordinatorReply.TheVariants as told
 use Rattle.calls.specs.Asking.{Answered, MayAsk}
 use Rattle.calls.specs.Belonging.{IsReplyTo}
-use Rattle.calls.specs.Views.{NodeView}
+use Rattle.calls.specs.Views.{NodeView, coordinator, refused, shard}
 use Rattle.ties.specs.DecidingLaws.{StandsAt, attempt}
 use Rattle.ties.specs.TellingLaws.{IsBatchOf}
 use Rattle.ties.specs.Ties.{Attempt, IsTied}
@@ -45,6 +47,19 @@ pub record KnowsAll {D : Type 0} (old : Known Entry) (side : LogSide D) (new : K
   pub seen : new.seen ≡ side.seen
   pub horizon : new.horizon ≡ side.low
   pub within : new.horizon ≤ length new.seen
+
+-- the node is there, and it is the coordinator's, or its opening was refused. While it is up its honest devices have its records, whatever list these stand for.
+pub record IsSound {D : Type 0} (state : D → State) (honest : D → Type 0) (store shards : ℕ) (v : CoordinatorView D) : Type 0 where
+  pub running : v.is_down ≡ false → IsRunning state honest v
+  pub honest_a : honest v.a
+  pub honest_b : honest v.b
+  pub me : v.me ≡ coordinator_node store shards
+
+abbrev pub IsSoundThere : {D : Type 0} → (D → State) → (D → Type 0) → ℕ → ℕ → Option (NodeView D) → Type 0
+IsSoundThere state honest store shards (Some (coordinator v)) = IsSound state honest store shards v
+IsSoundThere state honest store shards (Some (refused e a b)) = honest a × honest b
+IsSoundThere state honest store shards (Some (shard v)) = ⊥
+IsSoundThere state honest store shards None = ⊥
 
 -- the node is there, and may be asked this
 abbrev pub MayAskThere : {D : Type 0} → Option (NodeView D) → CoordinatorCall → Type 0

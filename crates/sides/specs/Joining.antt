@@ -1,5 +1,5 @@
 -- What may join the list: the durable records of a coordinator that was flushed or opened.
-use Rattle.std.specs.Prelude.{◌≡◌, ℕ, false, true, List, [], Option, Some, None, Ok}
+use Rattle.std.specs.Prelude.{◌≡◌, ◌≤◌, ◌++◌, ℕ, false, true, List, [], length, take, replicate, Option, Some, None, Ok}
 use Rattle.tuples.specs.declared.entry.Entry.{Entry}
 use Rattle.device.specs.Device.{State}
 use Rattle.decisions.specs.Coordinators.{CoordinatorView, IsRunning, heads_of, kept_of}
@@ -12,6 +12,18 @@ use Rattle.laws.specs.Worlds.{coordinator_node}
 use Rattle.ties.specs.JoiningLaws.{Joins}
 use Rattle.ties.specs.Ties.{Anywhere, Attempt, behind}
 
+-- a write that was never made
+abbrev pub nothing : Entry
+nothing = record { id = record { epoch = 0; number = 0 }; changes = []; conditions = [] }
+
+-- just so many writes: the first of these, and behind the last of them writes that were never made
+abbrev pub exactly : ℕ → List Entry → List Entry
+exactly n writes = take n (writes ++ replicate n nothing)
+
+-- Where the heads count these writes, and tell a horizon among them that is no lower than this one, the list is then these, and their horizon.
+abbrev pub FollowsHeads : List Entry → ℕ → HeadsValue → List Entry → ℕ → Type 0
+FollowsHeads writes low heads seen horizon = heads.kept ≡ length writes → heads.horizon ≤ heads.kept → low ≤ heads.horizon → (seen ≡ writes) × (horizon ≡ heads.horizon)
+
 -- what is kept behind the list
 abbrev pub behind_in : {D : Type 0} → List Entry → Option (NodeView D) → List Entry
 behind_in seen (Some (coordinator v)) = behind seen (kept_of v)
@@ -23,6 +35,13 @@ heads_in (from_coordinator (told.Heads (Ok heads))) = Some heads
 heads_in reply = None
 
 module _ {D : Type 0} (state : D → State) (honest : D → Type 0) where
+  -- the node is a coordinator that is up
+  abbrev pub RunsThere : Option (NodeView D) → Type 0
+  RunsThere (Some (coordinator v)) = IsRunning state honest v
+  RunsThere (Some (shard v)) = ⊥
+  RunsThere (Some (refused e a b)) = ⊥
+  RunsThere None = ⊥
+
   -- the heads of a coordinator that is up, and none of one that is not
   abbrev pub AreHeadsOf : Option (NodeView D) → Option HeadsValue → Type 0
   AreHeadsOf (Some (coordinator v)) heads = (IsRunning state honest v → heads ≡ Some (heads_of v)) × (v.is_down ≡ true → heads ≡ None)

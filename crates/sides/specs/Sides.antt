@@ -18,8 +18,9 @@ use Rattle.calls.specs.declared.reply.Reply.TheVariants.{Shard as from_shard}
 use Rattle.calls.specs.declared.reply.ShardReply.TheVariants as told_by
 use Rattle.calls.specs.Asking.{Answered, MayAsk}
 use Rattle.calls.specs.Belonging.{IsReplyTo}
-use Rattle.calls.specs.Views.{NodeView}
+use Rattle.calls.specs.Views.{NodeView, coordinator, refused, shard}
 use Rattle.laws.specs.Shards.{there_of}
+use Rattle.laws.specs.Worlds.{shard_node}
 use Rattle.ties.specs.ShardTies.{IsShardTied}
 
 -- the words of no store
@@ -47,6 +48,13 @@ pub record KnowsBoth (one other new : Known Entry) : Type 0 where
 abbrev pub IsTiedIn : {D : Type 0} → (D → State) → (D → Type 0) → ℕ → ℕ → ℕ → Option (NodeView D) → Known Entry → Type 0
 IsTiedIn state honest store shards s (Some node) pass = IsShardTied state honest store shards s node pass.seen pass.horizon
 IsTiedIn state honest store shards s None pass = ⊥
+
+-- the node is there, and it is that of shard s, or its opening was refused
+abbrev pub IsOfShard : {D : Type 0} → ℕ → ℕ → ℕ → Option (NodeView D) → Type 0
+IsOfShard store shards s (Some (shard v)) = v.me ≡ shard_node store shards s
+IsOfShard store shards s (Some (refused e a b)) = Unit {0}
+IsOfShard store shards s (Some (coordinator v)) = ⊥
+IsOfShard store shards s None = ⊥
 
 -- the node of shard s is there, and may be asked this
 abbrev pub MayAskIn : {D : Type 0} → ℕ → Option (NodeView D) → ShardCall → Type 0

@@ -26,7 +26,7 @@ impl<D: Device, B: Room> ShardSide<D, B> {
         ensures answers { SideAnswers D.state D.honest D.moment D.left_since self.old (check_call place userset user) result self.new }
         ensures own { KnowsBoth self.old.pass pass.old self.new.pass }
         ensures caller { KnowsBoth self.old.pass pass.old pass.new }
-        ensures rows { TellsCheckRows B.shards self.old.number pass.new.seen place userset user result }
+        ensures rows { B.rests → TellsCheckRows B.shards self.old.number pass.new.seen place userset user result }
         ensures told { Notes told.old result told.new }
     {
         self.share(words, pass);

@@ -22,7 +22,7 @@ impl<D: Device, B: Room> ShardSide<D, B> {
         heads: Heads,
     ) -> Reply
         requires own { (words.now ≡ B.log) × (pass.old.table ≡ B.log) }
-        requires horizon { heads.horizon ≤ pass.old.horizon }
+        requires horizon { B.rests → heads.horizon ≤ pass.old.horizon }
         ensures answers { SideAnswers D.state D.honest D.moment D.left_since self.old (collect_call heads) result self.new }
         ensures own { KnowsBoth self.old.pass pass.old self.new.pass }
         ensures caller { KnowsBoth self.old.pass pass.old pass.new }

@@ -1,11 +1,9 @@
 // What lies under the coordinator's lock.
-ghost use Rattle.std.specs.Prelude.{◌≡◌, [], Some};
+ghost use Rattle.std.specs.Prelude.{◌≡◌, []};
 ghost use Rattle.calls.specs.Belonging.{IsReplyTo};
 ghost use Rattle.calls.specs.Refusing.{Notes};
 ghost use Rattle.calls.specs.declared.call.NodeCall.TheVariants.{Coordinator as of_coordinator};
-ghost use Rattle.laws.specs.Worlds.{coordinator_node};
 ghost use Rattle.sides.specs.CoordinatorSides.{AnsweredThere, HasTried, MayAskThere};
-ghost use Rattle.ties.specs.Ties.{IsTied};
 
 use crate::Room;
 use calls::{CoordinatorCall, Node, NodeCall, Reply, Told, ask};
@@ -31,13 +29,13 @@ pub struct CoordinatorSide<D: Device, B: Room> {
 impl<D: Device, B: Room> Model for CoordinatorSide<D, B> {
     ghost use Rattle.std.specs.Prelude.{◌≡◌, []};
     ghost use Rattle.laws.specs.Worlds.{coordinator_node};
-    ghost use Rattle.sides.specs.CoordinatorSides.{IsTiedThere, LogSide};
+    ghost use Rattle.sides.specs.CoordinatorSides.{IsSoundThere, IsTiedThere, LogSide};
 
     ghost Value = { LogSide D };
 
     ghost view = { λ s. record { node = s.node; seen = s.log.seen; low = s.log.horizon } };
 
-    ghost invariant = { λ s. (s.log.table ≡ B.log) × (s.me ≡ coordinator_node B.store B.shards) × IsTiedThere D.state D.honest B.store B.shards s.node s.log.seen s.log.horizon [] };
+    ghost invariant = { λ s. (s.log.table ≡ B.log) × (s.me ≡ coordinator_node B.store B.shards) × IsSoundThere D.state D.honest B.store B.shards s.node × (B.rests → IsTiedThere D.state D.honest B.store B.shards s.node s.log.seen s.log.horizon []) };
 }
 
 // Makes the one call, of the node, which is there.
@@ -58,24 +56,9 @@ pub(crate) fn ask_coordinator<D: Device>(
 }
 
 impl<D: Device, B: Room> CoordinatorSide<D, B> {
-    /// The coordinator as its opening left it, with a list that it is tied to.
-    pub fn new(node: Node<D>, me: Identity, log: LogPass<Entry>) -> CoordinatorSide<D, B>
-        requires own { log.table ≡ B.log }
-        requires me { me ≡ coordinator_node B.store B.shards }
-        requires tied { IsTied D.state D.honest B.store B.shards node log.seen log.horizon [] }
-        ensures { result ≡ record { node = Some node; seen = log.seen; low = log.horizon } }
-    {
-        CoordinatorSide {
-            node: Some(node),
-            me,
-            log,
-            room: PhantomData,
-        }
-    }
-
     /// What it keeps whatever is called: the coordinator is tied to the list.
     pub fn keeps(&self)
-        ensures tied { HasTried D.state D.honest B.store B.shards self.now [] }
+        ensures tied { B.rests → HasTried D.state D.honest B.store B.shards self.now [] }
     {
         let _me = self.me.node();
     }

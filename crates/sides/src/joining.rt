@@ -1,9 +1,9 @@
 // What the coordinator has made durable joins the list.
-ghost use Rattle.std.specs.Prelude.{◌≡◌, ◌≤◌, ◌++◌, List, [], length};
+ghost use Rattle.std.specs.Prelude.{◌≡◌, ◌≤◌, ◌-◌, ◌++◌, List, [], length};
 ghost use mathlib.Core.List.{IsPrefix};
 ghost use Rattle.calls.specs.declared.call.CoordinatorCall.TheVariants.{Heads as heads_call};
-ghost use Rattle.sides.specs.CoordinatorSides.{IsTiedThere, MayAskThere};
-ghost use Rattle.sides.specs.Joining.{AreHeadsOf, MayJoin, behind_in, heads_in};
+ghost use Rattle.sides.specs.CoordinatorSides.{IsSoundThere, IsTiedThere, MayAskThere};
+ghost use Rattle.sides.specs.Joining.{AreHeadsOf, FollowsHeads, MayJoin, RunsThere, behind_in, exactly, heads_in};
 ghost use Rattle.ties.specs.Ties.{Attempt};
 
 use crate::Room;
@@ -15,7 +15,7 @@ use published::{Adds, LogPass, Published};
 use std::marker::Brand;
 use tuples::Entry;
 
-// The list is longer by what is kept behind it.
+// The list is as long as the place, by what is kept behind it.
 fn advance<D: Device, A: Adds<Entry>>(
     words: &Published<Entry>,
     log: &mut LogPass<Entry>,
@@ -23,10 +23,10 @@ fn advance<D: Device, A: Adds<Entry>>(
     place: u64,
 )
     requires own { log.old.table ≡ words.now }
-    requires place { place ≡ length (log.old.seen ++ behind_in log.old.seen node.now) }
-    requires added { A.added ≡ behind_in log.old.seen node.now }
+    requires longer { length log.old.seen ≤ place }
+    requires added { A.added ≡ exactly (place - length log.old.seen) (behind_in log.old.seen node.now) }
     ensures same { (log.new.table ≡ log.old.table) × (log.new.horizon ≡ log.old.horizon) }
-    ensures added { log.new.seen ≡ log.old.seen ++ behind_in log.old.seen node.now }
+    ensures added { log.new.seen ≡ log.old.seen ++ exactly (place - length log.old.seen) (behind_in log.old.seen node.now) }
 {
     let _node = node;
     words.advance::<A>(log, place);
@@ -39,11 +39,40 @@ fn advance_to<D: Device>(
     place: u64,
 )
     requires own { log.old.table ≡ words.now }
-    requires place { place ≡ length (log.old.seen ++ behind_in log.old.seen node.now) }
+    requires longer { length log.old.seen ≤ place }
     ensures same { (log.new.table ≡ log.old.table) × (log.new.horizon ≡ log.old.horizon) }
-    ensures added { log.new.seen ≡ log.old.seen ++ behind_in log.old.seen node.now }
+    ensures added { log.new.seen ≡ log.old.seen ++ exactly (place - length log.old.seen) (behind_in log.old.seen node.now) }
 {
     advance::<D, Brand>(words, log, node, place);
+}
+
+// The list is no shorter than the place. Where that counts what is kept behind it, it is longer by just that.
+fn reach<D: Device>(
+    words: &Published<Entry>,
+    log: &mut LogPass<Entry>,
+    node: &Option<Node<D>>,
+    place: u64,
+)
+    requires own { log.old.table ≡ words.now }
+    ensures same { (log.new.table ≡ log.old.table) × (log.new.horizon ≡ log.old.horizon) }
+    ensures later { IsPrefix log.old.seen log.new.seen }
+    ensures counted { place ≡ length (log.old.seen ++ behind_in log.old.seen node.now) → log.new.seen ≡ log.old.seen ++ behind_in log.old.seen node.now }
+{
+    if words.length(log) < place {
+        advance_to(words, log, node, place);
+    }
+}
+
+// The horizon is no lower than the place, where that is one of the list.
+fn raise_to(words: &Published<Entry>, log: &mut LogPass<Entry>, place: u64)
+    requires own { log.old.table ≡ words.now }
+    ensures same { (log.new.table ≡ log.old.table) × (log.new.seen ≡ log.old.seen) }
+    ensures later { log.old.horizon ≤ log.new.horizon }
+    ensures raised { place ≤ length log.old.seen → log.old.horizon ≤ place → log.new.horizon ≡ place }
+{
+    if place <= words.length(log) {
+        words.raise(log, place);
+    }
 }
 
 // The list is that which the heads count, and its horizon is theirs.
@@ -54,14 +83,59 @@ fn join_to<D: Device>(
     heads: &Heads,
 )
     requires own { log.old.table ≡ words.now }
-    requires kept { heads.now.kept ≡ length (log.old.seen ++ behind_in log.old.seen node.now) }
-    requires horizon { (heads.now.horizon ≤ heads.now.kept) × (log.old.horizon ≤ heads.now.horizon) }
     ensures same { log.new.table ≡ log.old.table }
-    ensures added { log.new.seen ≡ log.old.seen ++ behind_in log.old.seen node.now }
-    ensures horizon { log.new.horizon ≡ heads.now.horizon }
+    ensures later { IsPrefix log.old.seen log.new.seen × (log.old.horizon ≤ log.new.horizon) }
+    ensures follows { FollowsHeads (log.old.seen ++ behind_in log.old.seen node.now) log.old.horizon heads.now log.new.seen log.new.horizon }
 {
-    advance_to(words, log, node, heads.kept());
-    words.raise(log, heads.horizon());
+    reach(words, log, node, heads.kept());
+    raise_to(words, log, heads.horizon());
+}
+
+// The list begins, as long as the place: with the list at which the devices rest, and what is kept behind it.
+fn advance_first<D: Device, B: Room, A: Adds<Entry>>(
+    words: &Published<Entry>,
+    log: &mut LogPass<Entry>,
+    node: &Option<Node<D>>,
+    place: u64,
+)
+    requires own { log.old.table ≡ words.now }
+    requires empty { log.old.seen ≡ [] }
+    requires added { A.added ≡ exactly place (B.first ++ behind_in B.first node.now) }
+    ensures same { (log.new.table ≡ log.old.table) × (log.new.horizon ≡ log.old.horizon) }
+    ensures added { log.new.seen ≡ exactly place (B.first ++ behind_in B.first node.now) }
+{
+    let _node = node;
+    words.advance::<A>(log, place);
+}
+
+fn begin_at<D: Device, B: Room>(
+    words: &Published<Entry>,
+    log: &mut LogPass<Entry>,
+    node: &Option<Node<D>>,
+    place: u64,
+)
+    requires own { log.old.table ≡ words.now }
+    requires empty { log.old.seen ≡ [] }
+    ensures same { (log.new.table ≡ log.old.table) × (log.new.horizon ≡ log.old.horizon) }
+    ensures added { log.new.seen ≡ exactly place (B.first ++ behind_in B.first node.now) }
+{
+    advance_first::<D, B, Brand>(words, log, node, place);
+}
+
+// The list begins with what the heads count.
+fn begin_to<D: Device, B: Room>(
+    words: &Published<Entry>,
+    log: &mut LogPass<Entry>,
+    node: &Option<Node<D>>,
+    heads: &Heads,
+)
+    requires own { log.old.table ≡ words.now }
+    requires empty { (log.old.seen ≡ []) × (log.old.horizon ≡ 0) }
+    ensures same { log.new.table ≡ log.old.table }
+    ensures follows { FollowsHeads (B.first ++ behind_in B.first node.now) 0 heads.now log.new.seen log.new.horizon }
+{
+    begin_at::<D, B>(words, log, node, heads.kept());
+    raise_to(words, log, heads.horizon());
 }
 
 // The heads that a reply tells.
@@ -95,7 +169,7 @@ pub(crate) fn join<D: Device, B: Room>(
     node: &mut Option<Node<D>>,
 )
     requires own { log.old.table ≡ words.now }
-    requires joins { MayJoin D.state D.honest B.store B.shards node.old log.old.seen log.old.horizon [] }
+    requires sound { IsSoundThere D.state D.honest B.store B.shards node.old }
     ensures node { node.new ≡ node.old }
     ensures same { log.new.table ≡ log.old.table }
     ensures later { IsPrefix log.old.seen log.new.seen × (log.old.horizon ≤ log.new.horizon) }
@@ -105,4 +179,24 @@ pub(crate) fn join<D: Device, B: Room>(
     if let Some(heads) = ask_heads(node) {
         join_to(words, log, node, &heads);
     }
+}
+
+/// The list begins with what the coordinator, which is up, has found.
+pub(crate) fn begin<D: Device, B: Room>(
+    words: &Published<Entry>,
+    log: &mut LogPass<Entry>,
+    node: &mut Option<Node<D>>,
+)
+    requires own { log.old.table ≡ words.now }
+    requires empty { (log.old.seen ≡ []) × (log.old.horizon ≡ 0) }
+    requires runs { RunsThere D.state D.honest node.old }
+    ensures node { node.new ≡ node.old }
+    ensures same { log.new.table ≡ log.old.table }
+    ensures tied { MayJoin D.state D.honest B.store B.shards node.old B.first B.low []
+        → IsTiedThere D.state D.honest B.store B.shards node.new log.new.seen log.new.horizon [] × IsPrefix B.first log.new.seen × (B.low ≤ log.new.horizon) }
+{
+    let Some(heads) = ask_heads(node) else {
+        unreachable!()
+    };
+    begin_to::<D, B>(words, log, node, &heads);
 }

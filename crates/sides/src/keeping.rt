@@ -38,7 +38,7 @@ impl<D: Device, B: Room> CoordinatorSide<D, B> {
         ensures answers { CoordinatorSideAnswers D.state D.honest D.moment D.left_since self.old flush_call result self.new }
         ensures list { HasLaterList self.old self.new }
         ensures caller { KnowsAll pass.old self.new pass.new }
-        ensures tried { (tried : List Attempt) → HasTried D.state D.honest B.store B.shards self.old tried → HasTried D.state D.honest B.store B.shards self.new tried }
+        ensures tried { B.rests → (tried : List Attempt) → HasTried D.state D.honest B.store B.shards self.old tried → HasTried D.state D.honest B.store B.shards self.new tried }
         ensures told { Notes told.old result told.new }
     {
         let reply = ask_coordinator(&mut self.node, CoordinatorCall::Flush, told);

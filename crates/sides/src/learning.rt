@@ -23,7 +23,7 @@ impl<D: Device, B: Room> ShardSide<D, B> {
         batch: Batch,
     ) -> Reply
         requires own { (words.now ≡ B.log) × (pass.old.table ≡ B.log) }
-        requires batch { IsBatchOf pass.old.seen batch }
+        requires batch { B.rests → IsBatchOf pass.old.seen batch }
         ensures answers { SideAnswers D.state D.honest D.moment D.left_since self.old (learn_call batch) result self.new }
         ensures own { KnowsBoth self.old.pass pass.old self.new.pass }
         ensures caller { KnowsBoth self.old.pass pass.old pass.new }

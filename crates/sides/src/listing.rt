@@ -26,7 +26,7 @@ impl<D: Device, B: Room> CoordinatorSide<D, B> {
         ensures answers { CoordinatorSideAnswers D.state D.honest D.moment D.left_since self.old (batch_call from to) result self.new }
         ensures list { HasSameList self.old self.new }
         ensures caller { KnowsAll pass.old self.new pass.new }
-        ensures batch { TellsBatch pass.new.seen from to result }
+        ensures batch { B.rests → TellsBatch pass.new.seen from to result }
         ensures told { Notes told.old result told.new }
     {
         words.meet(&mut self.log, pass);
@@ -45,7 +45,7 @@ impl<D: Device, B: Room> CoordinatorSide<D, B> {
         ensures answers { CoordinatorSideAnswers D.state D.honest D.moment D.left_since self.old (inquire_call id) result self.new }
         ensures list { HasSameList self.old self.new }
         ensures caller { KnowsAll pass.old self.new pass.new }
-        ensures found { TellsFound pass.new.seen id result }
+        ensures found { B.rests → TellsFound pass.new.seen id result }
         ensures told { Notes told.old result told.new }
     {
         words.meet(&mut self.log, pass);

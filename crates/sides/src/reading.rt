@@ -35,7 +35,7 @@ impl<D: Device, B: Room> ShardSide<D, B> {
         ensures answers { SideAnswers D.state D.honest D.moment D.left_since self.old (read_call place set) result self.new }
         ensures own { KnowsBoth self.old.pass pass.old self.new.pass }
         ensures caller { KnowsBoth self.old.pass pass.old pass.new }
-        ensures rows { TellsRows B.shards self.old.number pass.new.seen place set result }
+        ensures rows { B.rests → TellsRows B.shards self.old.number pass.new.seen place set result }
         ensures told { Notes told.old result told.new }
     {
         self.share(words, pass);

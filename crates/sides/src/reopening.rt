@@ -67,7 +67,7 @@ impl<D: Device, B: Room> ShardSide<D, B> {
         requires own { pass.table ≡ B.log }
         requires me { me ≡ shard_node B.store B.shards me.node }
         requires shard { me.node < B.shards }
-        requires rows { RowsAnywhere D.state D.honest B.shards me.node a b pass.seen pass.horizon }
+        requires rows { B.rests → RowsAnywhere D.state D.honest B.shards me.node a b pass.seen pass.horizon }
         ensures opened { OpenedIn D.state D.honest D.moment D.left_since me a b result.node }
         ensures number { result.number ≡ me.node }
         ensures pass { result.pass ≡ pass }

@@ -1,13 +1,14 @@
 // The coordinator is opened under its lock, or opened again, and what it found joins the list.
-ghost use Rattle.std.specs.Prelude.{◌≡◌, ◌≤◌, [], true, is_some};
+ghost use Rattle.std.specs.Prelude.{◌≡◌, ◌≤◌, [], IfErr, IfOk, true, is_some};
 ghost use mathlib.Core.List.{IsPrefix};
+ghost use Rattle.calls.specs.Views.{refused};
 ghost use Rattle.laws.specs.Worlds.{coordinator_node};
 ghost use Rattle.records.specs.Identity.{coordinator_number};
 ghost use Rattle.sides.specs.CoordinatorSides.{HasLaterList};
 ghost use Rattle.sides.specs.Reopening.{LogOpenedIn, LogReopens, LogRestartedIn};
 ghost use Rattle.ties.specs.Ties.{Anywhere};
 
-use crate::joining::join;
+use crate::joining::{begin, join};
 use crate::reopening::revive;
 use crate::{CoordinatorSide, Room};
 use calls::Node;
@@ -51,8 +52,8 @@ fn restart_coordinator<D: Device>(
 }
 
 impl<D: Device, B: Room> CoordinatorSide<D, B> {
-    /// Opens the coordinator over two devices, of which a stop leaves the list and perhaps more. Both are revived first, and it is up, with what was found
-    /// behind the list, or holds the refusal of its opening.
+    /// Opens the coordinator over two devices, of which a stop leaves the list at which the store rests, and perhaps more. Both are revived first. It is up,
+    /// with what was found behind the list; or its opening is refused.
     pub fn open(
         words: &Published<Entry>,
         alloc: Global,
@@ -60,22 +61,29 @@ impl<D: Device, B: Room> CoordinatorSide<D, B> {
         b: D,
         me: Identity,
         log: LogPass<Entry>,
-    ) -> CoordinatorSide<D, B>
+    ) -> Result<CoordinatorSide<D, B>, Refusal>
         requires own { (words.now ≡ B.log) × (log.table ≡ B.log) }
+        requires empty { (log.seen ≡ []) × (log.horizon ≡ 0) }
         requires me { me ≡ coordinator_node B.store B.shards }
-        requires anywhere { Anywhere D.state D.honest a b log.seen log.horizon [] }
-        ensures opened { LogOpenedIn D.state D.honest D.moment D.left_since me a b result.node }
-        ensures list { IsPrefix log.seen result.seen × (log.horizon ≤ result.low) }
+        requires honest { D.honest a × D.honest b }
+        requires anywhere { B.rests → Anywhere D.state D.honest a b B.first B.low [] }
+        ensures opened { IfOk result (λ side. LogOpenedIn D.state D.honest D.moment D.left_since me a b side.node) }
+        ensures list { IfOk result (λ side. B.rests → IsPrefix B.first side.seen × (B.low ≤ side.low)) }
+        ensures refused { IfErr result (λ e. (x : D) × (y : D) × LogReopens D.state D.honest D.moment D.left_since me a b (refused e x y)) }
     {
+        let opened = reopen(alloc, a, b, me);
+        if let Some(refusal) = opened.refusal() {
+            return Err(refusal);
+        }
         let mut log = log;
-        let mut node = Some(reopen(alloc, a, b, me));
-        join::<D, B>(words, &mut log, &mut node);
-        CoordinatorSide {
+        let mut node = Some(opened);
+        begin::<D, B>(words, &mut log, &mut node);
+        Ok(CoordinatorSide {
             node,
             me,
             log,
             room: PhantomData,
-        }
+        })
     }
 
     /// The node's memory is thrown away, its devices are revived, and it is opened again: what was found behind the list joins it. The refusal of its

@@ -29,13 +29,13 @@ pub struct ShardSide<D: Device, B: Room> {
 impl<D: Device, B: Room> Model for ShardSide<D, B> {
     ghost use Rattle.std.specs.Prelude.{◌≡◌, ◌<◌};
     ghost use Rattle.laws.specs.Worlds.{shard_node};
-    ghost use Rattle.sides.specs.Sides.{IsTiedIn, Side};
+    ghost use Rattle.sides.specs.Sides.{IsOfShard, IsTiedIn, Side};
 
     ghost Value = { Side D };
 
     ghost view = { λ s. record { node = s.node; number = s.me.node; pass = s.pass } };
 
-    ghost invariant = { λ s. (s.pass.table ≡ B.log) × (s.me ≡ shard_node B.store B.shards s.me.node) × (s.me.node < B.shards) × IsTiedIn D.state D.honest B.store B.shards s.me.node s.node s.pass };
+    ghost invariant = { λ s. (s.pass.table ≡ B.log) × (s.me ≡ shard_node B.store B.shards s.me.node) × (s.me.node < B.shards) × IsOfShard B.store B.shards s.me.node s.node × (B.rests → IsTiedIn D.state D.honest B.store B.shards s.me.node s.node s.pass) };
 }
 
 // Makes the one call, of the node, which is there.
@@ -64,11 +64,11 @@ impl<D: Device, B: Room> ShardSide<D, B> {
         self.me.node()
     }
 
-    /// What it keeps whatever is called: it is a shard of the room's store, beside a pass of the room's words, and tied to what that knows.
+    /// What it keeps whatever is called: it is a shard of the room's store, beside a pass of the room's words, and tied to what that knows where its devices rested.
     pub fn keeps(&self)
         ensures own { self.now.pass.table ≡ B.log }
         ensures number { self.now.number < B.shards }
-        ensures tied { IsTiedIn D.state D.honest B.store B.shards self.now.number self.now.node self.now.pass }
+        ensures tied { B.rests → IsTiedIn D.state D.honest B.store B.shards self.now.number self.now.node self.now.pass }
     {
         let _number = self.me.node();
     }
@@ -81,7 +81,7 @@ impl<D: Device, B: Room> ShardSide<D, B> {
         ensures caller { KnowsBoth self.old.pass pass.old pass.new }
 
         // To what the caller's pass knows the node is tied as well.
-        ensures tied { IsTiedIn D.state D.honest B.store B.shards self.new.number self.new.node pass.new }
+        ensures tied { B.rests → IsTiedIn D.state D.honest B.store B.shards self.new.number self.new.node pass.new }
     {
         words.share(&mut self.pass, pass);
     }

@@ -23,7 +23,7 @@ impl<D: Device, B: Room> CoordinatorSide<D, B> {
         ensures answers { CoordinatorSideAnswers D.state D.honest D.moment D.left_since self.old heads_call result self.new }
         ensures list { HasSameList self.old self.new }
         ensures caller { KnowsAll pass.old self.new pass.new }
-        ensures heads { TellsHeads pass.new.seen pass.new.horizon result }
+        ensures heads { B.rests → TellsHeads pass.new.seen pass.new.horizon result }
         ensures told { Notes told.old result told.new }
     {
         words.meet(&mut self.log, pass);

@@ -20,7 +20,7 @@ impl<D: Device, B: Room> CoordinatorSide<D, B> {
     pub fn begin(&mut self, told: &mut Told, write: Write) -> Reply
         ensures answers { CoordinatorSideAnswers D.state D.honest D.moment D.left_since self.old (begin_call write) result self.new }
         ensures list { HasSameList self.old self.new }
-        ensures begun { TellsBegun write self.new.seen result }
+        ensures begun { B.rests → TellsBegun write self.new.seen result }
         ensures told { Notes told.old result told.new }
     {
         ask_coordinator(&mut self.node, CoordinatorCall::Begin(write), told)
@@ -41,7 +41,7 @@ impl<D: Device, B: Room> CoordinatorSide<D, B> {
         ensures answers { CoordinatorSideAnswers D.state D.honest D.moment D.left_since self.old (decide_call intent votes) result self.new }
         ensures list { HasSameList self.old self.new }
         ensures caller { KnowsAll pass.old self.new pass.new }
-        ensures decided { TellsDecided D.state D.honest B.store B.shards self.new intent.write result }
+        ensures decided { B.rests → TellsDecided D.state D.honest B.store B.shards self.new intent.write result }
         ensures told { Notes told.old result told.new }
     {
         words.meet(&mut self.log, pass);
@@ -61,8 +61,8 @@ impl<D: Device, B: Room> CoordinatorSide<D, B> {
         ensures answers { CoordinatorSideAnswers D.state D.honest D.moment D.left_since self.old (outcome_call decided) result self.new }
         ensures list { HasSameList self.old self.new }
         ensures caller { KnowsAll pass.old self.new pass.new }
-        ensures kept { TellsKept D.state D.honest B.store B.shards self.old decided result }
-        ensures tried { (tried : List Attempt) → HasTried D.state D.honest B.store B.shards self.old tried → HasTried D.state D.honest B.store B.shards self.new tried }
+        ensures kept { B.rests → TellsKept D.state D.honest B.store B.shards self.old decided result }
+        ensures tried { B.rests → (tried : List Attempt) → HasTried D.state D.honest B.store B.shards self.old tried → HasTried D.state D.honest B.store B.shards self.new tried }
         ensures told { Notes told.old result told.new }
     {
         words.meet(&mut self.log, pass);

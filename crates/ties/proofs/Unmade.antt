@@ -1,7 +1,7 @@
 -- Devices that nobody has written yet are tied to the empty list.
-use Rattle.std.proofs.Common.{◌≡◌, ◌≤◌, ℕ, List, [], ◌++◌, take, drop, Some, refl, sym, ◌∙◌, ap, subst, arith}
+use Rattle.std.proofs.Common.{◌≡◌, ℕ, List, [], Some, refl, sym, ◌∙◌, ap, subst, arith}
 use Rattle.std.proofs.lemmas.Option.{same_Some}
-use Rattle.tuples.specs.Versions.{collected, changes_from, of_shard, versions}
+use Rattle.tuples.specs.Versions.{collected, of_shard, versions}
 use Rattle.device.specs.Device.{Leaves, State, left}
 use Rattle.device.proofs.Moments.{leaves_nothing_else}
 use Rattle.gated.specs.Gated.{gated}

@@ -12,7 +12,7 @@ invariant-loop g l = record {
   of : l.flow.shards ≡ g.B.Room.shards;
   rests : l.flow.seen.awaited ≡ None;
   later : IsLater l.initial.pass l.pass;
-  held : (asked : WriteValue) (above : ℕ) → above ≤ length l.initial.pass.seen → IsWriteOf of_none asked above l.initial.pass.seen l.initial.flow.seen
+  held : g.B.Room.rests → (asked : WriteValue) (above : ℕ) → above ≤ length l.initial.pass.seen → IsWriteOf of_none asked above l.initial.pass.seen l.initial.flow.seen
       → IsWriteOf (links_by g.D.Device.state g.D.Device.honest g.B.Room.store g.B.Room.shards l.side) asked above l.pass.seen l.flow.seen;
   told : RefusesAsTold g.B.Room.shards l.initial.told l.initial.flow.seen → RefusesAsTold g.B.Room.shards l.told l.flow.seen;
 }

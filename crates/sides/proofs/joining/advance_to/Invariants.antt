@@ -1,5 +1,6 @@
-use Rattle.sides.specs.Joining.{behind_in}
+use Rattle.std.proofs.Common.{◌-◌, length}
+use Rattle.sides.specs.Joining.{behind_in, exactly}
 use Rattle.sides.proofs.joining.advance_to.Given as goal
 
 abbrev pub ghosts-advance : goal.ghosts-advance
-ghosts-advance g a = record { added = behind_in a.log.now.seen a.node.now }
+ghosts-advance g a = record { added = exactly (a.place - length a.log.now.seen) (behind_in a.log.now.seen a.node.now) }

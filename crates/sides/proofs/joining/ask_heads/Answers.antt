@@ -1,4 +1,3 @@
-use Rattle.std.proofs.Common.{ap, subst, sym, ◌∙◌}
 use Rattle.sides.proofs.LogJoins.{heads_are_told}
 use Rattle.sides.proofs.joining.ask_heads.Goals as goal
 

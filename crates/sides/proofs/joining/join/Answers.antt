@@ -1,4 +1,4 @@
-use Rattle.std.proofs.Common.{◌++◌, ℕ, List, Option, subst, sym}
+use Rattle.std.proofs.Common.{◌≡◌, ◌++◌, length, ℕ, List, Option, subst, sym}
 use Rattle.tuples.specs.declared.entry.Entry.{Entry}
 use Rattle.calls.specs.Views.{NodeView}
 use Rattle.sides.specs.CoordinatorSides.{IsTiedThere}
@@ -12,5 +12,7 @@ returns-in-Some-clause-tied g c tried may =
     let heads = c.in-Some.heads in
     let it = told_joins g.D.Device.state g.D.Device.honest g.B.Room.store g.B.Room.shards c.args.node.now seen c.args.log.now.horizon tried heads may c.in-Some.ensures.heads in
     let there = subst (λ (n : Option (NodeView g.row.D.Denot)). IsTiedThere g.D.Device.state g.D.Device.honest g.B.Room.store g.B.Room.shards n (seen ++ behind_in seen n) heads.horizon tried) (sym c.ask_heads.ensures.same) it.tied in
-    let listed = subst (λ (l : List Entry). IsTiedThere g.D.Device.state g.D.Device.honest g.B.Room.store g.B.Room.shards c.ask_heads.new.node l heads.horizon tried) (sym c.join_to.ensures.added) there in
-    subst (λ (n : ℕ). IsTiedThere g.D.Device.state g.D.Device.honest g.B.Room.store g.B.Room.shards c.ask_heads.new.node c.join_to.new.log.seen n tried) (sym c.join_to.ensures.horizon) listed
+    let counted = subst (λ (n : Option (NodeView g.row.D.Denot)). heads.kept ≡ length (seen ++ behind_in seen n)) (sym c.ask_heads.ensures.same) it.kept in
+    let follows = c.join_to.ensures.follows counted it.within it.raised in
+    let listed = subst (λ (l : List Entry). IsTiedThere g.D.Device.state g.D.Device.honest g.B.Room.store g.B.Room.shards c.ask_heads.new.node l heads.horizon tried) (sym follows.0) there in
+    subst (λ (n : ℕ). IsTiedThere g.D.Device.state g.D.Device.honest g.B.Room.store g.B.Room.shards c.ask_heads.new.node c.join_to.new.log.seen n tried) (sym follows.1) listed

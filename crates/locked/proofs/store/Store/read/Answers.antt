@@ -5,13 +5,13 @@ use Rattle.locked.proofs.ReadTurns.{read_ends, read_refuses}
 use Rattle.locked.proofs.store.Store.read.Goals as goal
 
 pub returns-clause-answer : goal.returns-clause-answer
-returns-clause-answer g c =
+returns-clause-answer g c rests =
     let run = c.run_read-flow.ensures in
-    read_ends g.B.Room.shards c.begin_read-flow.new.caller.seen c.run_read-flow.new.caller.seen c.args.freshness (length c.args.caller.now.seen) c.args.sets.items c.begin_read-flow.result c.run_read-flow.result (ending_of c.ended.result)
-    c.begin_read-flow.ensures.runs run.same.0 run.same.1 run.held c.ended.ensures
+    read_ends g.B.Room.rests g.B.Room.shards c.begin_read-flow.new.caller.seen c.run_read-flow.new.caller.seen c.args.freshness (length c.args.caller.now.seen) c.args.sets.items c.begin_read-flow.result c.run_read-flow.result (ending_of c.ended.result)
+    c.begin_read-flow.ensures.runs run.same.0 run.same.1 (run.held rests) c.ended.ensures
 
 pub returns-clause-refused : goal.returns-clause-refused
-returns-clause-refused g c =
+returns-clause-refused g c rests =
     let run = c.run_read-flow.ensures in
-    read_refuses g.B.Room.shards c.begin_read-flow.new.caller.seen c.run_read-flow.new.caller.seen c.args.freshness (length c.args.caller.now.seen) c.run_read-flow.new.caller.horizon c.run_read-flow.new.told c.args.sets.items c.begin_read-flow.result
-    c.run_read-flow.result (ending_of c.ended.result) c.begin_read-flow.ensures.runs (prefix_length c.begin_read-flow.new.caller.seen c.run_read-flow.new.caller.seen run.caller.seen) run.same.0 run.reason c.ended.ensures
+    read_refuses g.B.Room.rests g.B.Room.shards c.begin_read-flow.new.caller.seen c.run_read-flow.new.caller.seen c.args.freshness (length c.args.caller.now.seen) c.run_read-flow.new.caller.horizon c.run_read-flow.new.told c.args.sets.items c.begin_read-flow.result
+    c.run_read-flow.result (ending_of c.ended.result) c.begin_read-flow.ensures.runs (prefix_length c.begin_read-flow.new.caller.seen c.run_read-flow.new.caller.seen run.caller.seen) run.same.0 (run.reason rests) c.ended.ensures

@@ -11,5 +11,5 @@ loop-preserved g c =
       of = c.turn.ensures.of;
       goes = turns.given.1;
       later = later_on c.args.caller.now c.loop.caller c.turn.new.caller was.later turns.serves.later;
-      held = care_goes_on g.B.Room.shards c.loop.caller c.turn.new.caller c.loop.told c.turn.new.told c.loop.flow c.turn.new.flow was.held turns;
+      held = λ h. care_goes_on g.B.Room.rests g.B.Room.shards c.loop.caller c.turn.new.caller c.loop.told c.turn.new.told c.loop.flow c.turn.new.flow (was.held h) turns h;
     }

@@ -10,5 +10,5 @@ invariant-loop g l = record {
   of : IsThere g.B.Room.shards l.flow;
   goes : GoesOrEnds (has_next l.flow) (end_of l.flow);
   later : IsLater l.initial.caller l.caller;
-  held : IsCareOf l.caller.seen l.caller.horizon l.flow;
+  held : g.B.Room.rests → IsCareOf l.caller.seen l.caller.horizon l.flow;
 }

@@ -11,9 +11,9 @@ pub loop-preserved : goal.loop-preserved
 loop-preserved g c =
     let was = c.loop.invariant in
     let turns = c.turn.ensures.turns in
-    let same = same_asked g.B.Room.shards c.loop.caller c.turn.new.caller c.loop.told c.turn.new.told c.loop.flow c.turn.new.flow turns in
-    let held = check_goes_on g.B.Room.shards c.loop.caller c.turn.new.caller c.loop.told c.turn.new.told c.args.userset.now c.loop.flow c.turn.new.flow was.of (not_ended c.loop.flow.seen.ended c.next_name.result c.next_name.ensures.ended c.if-is_none.ensures) was.held turns in
-    let fresh = subst (λ (f : Freshness). IsCheckOf c.turn.new.caller.seen f c.args.userset.now c.loop.flow.user c.turn.new.flow.seen) (sym same.0) held in
+    let same = same_asked g.B.Room.rests g.B.Room.shards c.loop.caller c.turn.new.caller c.loop.told c.turn.new.told c.loop.flow c.turn.new.flow turns in
+    let held = λ (h : g.B.Room.rests). check_goes_on g.B.Room.rests g.B.Room.shards c.loop.caller c.turn.new.caller c.loop.told c.turn.new.told c.args.userset.now c.loop.flow c.turn.new.flow was.of (not_ended c.loop.flow.seen.ended c.next_name.result c.next_name.ensures.ended c.if-is_none.ensures) (was.held h) turns h in
+    let fresh = λ (h : g.B.Room.rests). subst (λ (f : Freshness). IsCheckOf c.turn.new.caller.seen f c.args.userset.now c.loop.flow.user c.turn.new.flow.seen) (sym same.0) (held h) in
     record {
       runs = (tt, tt);
       of = c.turn.ensures.of;
@@ -21,7 +21,7 @@ loop-preserved g c =
       user = same.1 ∙ was.user;
       rests = turns.given.2;
       later = later_on c.args.caller.now c.loop.caller c.turn.new.caller was.later turns.serves.later;
-      held = subst (λ (u : User). IsCheckOf c.turn.new.caller.seen c.turn.new.flow.fresh c.args.userset.now u c.turn.new.flow.seen) (sym same.1) fresh;
-      reason = subst (λ (f : Freshness). CheckHasReason c.turn.new.told f c.turn.new.caller.seen c.turn.new.caller.horizon c.args.userset.now c.turn.new.flow.seen) (sym same.0)
-          (check_has_reason g.B.Room.shards c.loop.caller c.turn.new.caller c.loop.told c.turn.new.told c.args.userset.now c.loop.flow c.turn.new.flow was.of (not_ended c.loop.flow.seen.ended c.next_name.result c.next_name.ensures.ended c.if-is_none.ensures) was.held turns);
+      held = λ h. subst (λ (u : User). IsCheckOf c.turn.new.caller.seen c.turn.new.flow.fresh c.args.userset.now u c.turn.new.flow.seen) (sym same.1) (fresh h);
+      reason = λ h. subst (λ (f : Freshness). CheckHasReason c.turn.new.told f c.turn.new.caller.seen c.turn.new.caller.horizon c.args.userset.now c.turn.new.flow.seen) (sym same.0)
+          (check_has_reason g.B.Room.rests g.B.Room.shards c.loop.caller c.turn.new.caller c.loop.told c.turn.new.told c.args.userset.now c.loop.flow c.turn.new.flow was.of (not_ended c.loop.flow.seen.ended c.next_name.result c.next_name.ensures.ended c.if-is_none.ensures) (was.held h) turns h);
     }

@@ -11,6 +11,6 @@ invariant-loop g l = record {
   user : l.flow.user ≡ l.initial.flow.user;
   rests : l.flow.seen.awaited ≡ None;
   later : IsLater l.initial.caller l.caller;
-  held : IsCheckOf l.caller.seen l.flow.fresh l.userset l.flow.user l.flow.seen;
-  reason : CheckHasReason l.told l.flow.fresh l.caller.seen l.caller.horizon l.userset l.flow.seen;
+  held : g.B.Room.rests → IsCheckOf l.caller.seen l.flow.fresh l.userset l.flow.user l.flow.seen;
+  reason : g.B.Room.rests → CheckHasReason l.told l.flow.fresh l.caller.seen l.caller.horizon l.userset l.flow.seen;
 }

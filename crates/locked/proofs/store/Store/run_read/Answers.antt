@@ -7,7 +7,7 @@ pub loop-preserved : goal.loop-preserved
 loop-preserved g c =
     let was = c.loop.invariant in
     let turns = c.turn.ensures.turns in
-    let on = read_goes_on g.B.Room.shards c.loop.caller c.turn.new.caller c.loop.told c.turn.new.told c.loop.flow c.turn.new.flow was.of was.held turns in
+    let on = read_goes_on g.B.Room.rests g.B.Room.shards c.loop.caller c.turn.new.caller c.loop.told c.turn.new.told c.loop.flow c.turn.new.flow was.of was.held turns in
     record {
       runs = (tt, tt);
       of = c.turn.ensures.of;
@@ -16,5 +16,5 @@ loop-preserved g c =
       rests = on.rests;
       later = later_on c.args.caller.now c.loop.caller c.turn.new.caller was.later turns.serves.later;
       held = on.held;
-      reason = read_has_reason g.B.Room.shards c.loop.caller c.turn.new.caller c.loop.told c.turn.new.told c.loop.flow c.turn.new.flow was.of turns;
+      reason = read_has_reason g.B.Room.rests g.B.Room.shards c.loop.caller c.turn.new.caller c.loop.told c.turn.new.told c.loop.flow c.turn.new.flow was.of turns;
     }

@@ -11,6 +11,6 @@ invariant-loop g l = record {
   sets : l.flow.sets ≡ l.initial.flow.sets;
   rests : l.flow.seen.awaited ≡ None;
   later : IsLater l.initial.caller l.caller;
-  held : IsReadOf g.B.Room.shards l.caller.seen l.flow.fresh l.flow.sets l.flow.seen;
-  reason : ReadHasReason l.told l.flow.fresh l.caller.seen l.caller.horizon l.flow.seen;
+  held : g.B.Room.rests → IsReadOf g.B.Room.shards l.caller.seen l.flow.fresh l.flow.sets l.flow.seen;
+  reason : g.B.Room.rests → ReadHasReason l.told l.flow.fresh l.caller.seen l.caller.horizon l.flow.seen;
 }

@@ -11,6 +11,6 @@ invariant-loop g l = record {
   names : l.flow.namespaces ≡ l.initial.flow.namespaces;
   rests : l.flow.seen.awaited ≡ None;
   later : IsLater l.initial.caller l.caller;
-  held : IsWatchOf l.flow.cursor l.flow.limit l.flow.namespaces (length l.initial.caller.seen) l.caller.seen l.flow.seen;
-  reason : WatchHasReason l.told l.flow.cursor l.caller.seen l.caller.horizon l.flow.seen;
+  held : g.B.Room.rests → IsWatchOf l.flow.cursor l.flow.limit l.flow.namespaces (length l.initial.caller.seen) l.caller.seen l.flow.seen;
+  reason : g.B.Room.rests → WatchHasReason l.told l.flow.cursor l.caller.seen l.caller.horizon l.flow.seen;
 }

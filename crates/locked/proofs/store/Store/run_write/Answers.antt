@@ -5,21 +5,21 @@ use Rattle.locked.proofs.WriteTurns.{outside_goes_on, pending_hands_over, told_g
 use Rattle.locked.proofs.store.Store.run_write.Goals as goal
 
 pub returns-in_default-clause-held : goal.returns-in_default-clause-held
-returns-in_default-clause-held g c asked above le is =
+returns-in_default-clause-held g c rests asked above le is =
     let was = c.loop.invariant in
     let within = prefix_length c.args.caller.now.seen c.loop.caller.seen was.later.seen in
-    c.in_default.ensures.left asked above (omega (arith, le, within)) (was.held asked above le is)
+    c.in_default.ensures.left rests asked above (omega (arith, le, within)) (was.held rests asked above le is)
 
 pub returns-in_default-clause-told : goal.returns-in_default-clause-told
 returns-in_default-clause-told g c is = c.in_default.ensures.told (c.loop.invariant.told is)
 
 pub make-reply-requires-clause-hands : goal.make-reply-requires-clause-hands
-make-reply-requires-clause-hands g c =
+make-reply-requires-clause-hands g c rests =
     let was = c.loop.invariant in
     let some = c.requires.asked in
     let before = length c.args.caller.now.seen in
     let within = prefix_length c.args.caller.now.seen c.loop.caller.seen was.later.seen in
-    let pending = c.in-Some-next_outside.ensures.left some.0 before within (was.held some.0 before (omega (arith)) some.1) in
+    let pending = c.in-Some-next_outside.ensures.left rests some.0 before within (was.held rests some.0 before (omega (arith)) some.1) in
     pending_hands_over some.0 before g.B.Room.shards c.next_outside.new.caller c.in-Some-next_outside.call c.next_outside.new.flow pending
 
 pub loop-preserved : goal.loop-preserved
@@ -34,9 +34,9 @@ loop-preserved g c =
       of = c.give.ensures.of g.B.Room.shards outside.of;
       rests = c.give.ensures.gives.2;
       later = later_on c.args.caller.now c.next_outside.new.caller c.make-reply.new.caller later serves.later;
-      held = λ asked above le is.
-          outside_goes_on asked above g.B.Room.shards c.next_outside.new.caller c.make-reply.new.caller c.in-Some-next_outside.call c.next_outside.new.flow c.give.new.self c.make-reply.result
-          (outside.left asked above (omega (arith, le, within)) (was.held asked above le is)) outside.outside serves c.give.ensures.gives;
+      held = λ rests asked above le is.
+          outside_goes_on g.B.Room.rests asked above g.B.Room.shards c.next_outside.new.caller c.make-reply.new.caller c.in-Some-next_outside.call c.next_outside.new.flow c.give.new.self c.make-reply.result
+          (outside.left rests asked above (omega (arith, le, within)) (was.held rests asked above le is)) outside.outside serves c.give.ensures.gives rests;
       told = λ is.
           let pending = outside.told (was.told is) in
           told_goes_on g.B.Room.shards c.next_outside.new.told c.make-reply.new.told pending.before c.next_outside.new.flow c.give.new.self c.in-Some-next_outside.call c.make-reply.result pending.of pending.asks serves.belongs

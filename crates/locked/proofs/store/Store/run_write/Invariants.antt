@@ -11,6 +11,6 @@ invariant-loop g l = record {
   of : l.flow.shards ≡ g.B.Room.shards;
   rests : l.flow.seen.awaited ≡ None;
   later : IsLater l.initial.caller l.caller;
-  held : (asked : WriteValue) (above : ℕ) → above ≤ length l.initial.caller.seen → IsWriteOf of_none asked above l.initial.caller.seen l.initial.flow.seen → IsWriteOf of_none asked above l.caller.seen l.flow.seen;
+  held : g.B.Room.rests → (asked : WriteValue) (above : ℕ) → above ≤ length l.initial.caller.seen → IsWriteOf of_none asked above l.initial.caller.seen l.initial.flow.seen → IsWriteOf of_none asked above l.caller.seen l.flow.seen;
   told : RefusesAsTold g.B.Room.shards l.initial.told l.initial.flow.seen → RefusesAsTold g.B.Room.shards l.told l.flow.seen;
 }

@@ -4,12 +4,12 @@ use Rattle.locked.proofs.WatchTurns.{watch_ends, watch_refuses}
 use Rattle.locked.proofs.store.Store.watch.Goals as goal
 
 pub returns-clause-lists : goal.returns-clause-lists
-returns-clause-lists g c =
+returns-clause-lists g c rests =
     let flow = c.new-flow.ensures in
     watch_ends c.args.cursor c.args.limit c.args.namespaces.items (length c.args.caller.now.seen) c.run_watch-flow.new.caller.seen c.new-flow.result c.run_watch-flow.result.seen (ending_of c.ended.result)
-    (ap (λ (f : WatchFlowValue). f.cursor) flow) (ap (λ (f : WatchFlowValue). f.limit) flow) (ap (λ (f : WatchFlowValue). f.namespaces) flow) c.run_watch-flow.ensures.held c.ended.ensures
+    (ap (λ (f : WatchFlowValue). f.cursor) flow) (ap (λ (f : WatchFlowValue). f.limit) flow) (ap (λ (f : WatchFlowValue). f.namespaces) flow) (c.run_watch-flow.ensures.held rests) c.ended.ensures
 
 pub returns-clause-refused : goal.returns-clause-refused
-returns-clause-refused g c =
+returns-clause-refused g c rests =
     watch_refuses c.args.cursor c.run_watch-flow.new.caller.seen c.run_watch-flow.new.caller.horizon c.run_watch-flow.new.told c.new-flow.result c.run_watch-flow.result.seen (ending_of c.ended.result)
-    (ap (λ (f : WatchFlowValue). f.cursor) c.new-flow.ensures) c.run_watch-flow.ensures.reason c.ended.ensures
+    (ap (λ (f : WatchFlowValue). f.cursor) c.new-flow.ensures) (c.run_watch-flow.ensures.reason rests) c.ended.ensures

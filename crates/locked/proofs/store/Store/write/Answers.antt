@@ -13,10 +13,10 @@ run_write-flow-requires-clause-asked g c =
     (c.args.write, subst (IsWriteOf of_none c.args.write (length seen) seen) (sym (ap (λ (f : WriteFlowValue). f.seen) c.in-Ok.ensures.ok)) (writes_begin of_none c.args.write (length seen) seen))
 
 pub returns-clause-wrote : goal.returns-clause-wrote
-returns-clause-wrote g c place is =
+returns-clause-wrote g c rests place is =
     let seen = c.args.caller.now.seen in
     let begins = subst (IsWriteOf of_none c.args.write (length seen) seen) (sym (ap (λ (f : WriteFlowValue). f.seen) c.in-Ok.ensures.ok)) (writes_begin of_none c.args.write (length seen) seen) in
-    let so_far = c.run_write-flow.ensures.held c.args.write (length seen) (omega (arith)) begins in
+    let so_far = c.run_write-flow.ensures.held rests c.args.write (length seen) (omega (arith)) begins in
     so_far.written place (sym c.in-Some.ensures ∙ ap (λ (e : WriteEnd). Some e) is)
 
 pub returns-clause-refused : goal.returns-clause-refused

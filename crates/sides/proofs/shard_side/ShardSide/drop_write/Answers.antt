@@ -2,10 +2,11 @@ use Rattle.std.proofs.Common.{ℕ, subst}
 use Rattle.calls.specs.declared.call.ShardCall.TheVariants.{DropWrite}
 use Rattle.sides.specs.Sides.{AnsweredIn}
 use Rattle.sides.proofs.ShardCalls.{drop_stays}
+use Rattle.sides.proofs.Sound.{shard_stays_there}
 use Rattle.sides.proofs.shard_side.ShardSide.drop_write.Goals as goal
 
 pub invariant_of-self : goal.invariant_of-self
 invariant_of-self g c =
     let inv = c.self.invariant in
     let answered = subst (λ (n : ℕ). AnsweredIn g.D.Device.state g.D.Device.honest g.D.Device.moment g.D.Device.left_since n c.self.inside.node (DropWrite c.args.verdict c.args.held) c.ask_shard.result c.ask_shard.new.node) c.node-number.ensures c.ask_shard.ensures.answered in
-    (inv.0, inv.1, inv.2, drop_stays g.D.Device.state g.D.Device.honest g.D.Device.moment g.D.Device.left_since g.B.Room.store g.B.Room.shards c.self.inside.me.node c.args.verdict c.args.held c.self.inside.pass c.self.inside.node c.ask_shard.new.node c.ask_shard.result inv.3 answered)
+    (inv.0, inv.1, inv.2, shard_stays_there g.D.Device.state g.D.Device.honest g.D.Device.moment g.D.Device.left_since g.B.Room.store g.B.Room.shards c.self.inside.me.node (DropWrite c.args.verdict c.args.held) c.self.inside.node c.ask_shard.new.node c.ask_shard.result inv.3 answered, λ rests. drop_stays g.D.Device.state g.D.Device.honest g.D.Device.moment g.D.Device.left_since g.B.Room.store g.B.Room.shards c.self.inside.me.node c.args.verdict c.args.held c.self.inside.pass c.self.inside.node c.ask_shard.new.node c.ask_shard.result (inv.4 rests) answered)

@@ -5,8 +5,8 @@ use Rattle.sides.proofs.ShardReads.{rows_are_told}
 use Rattle.sides.proofs.shard_side.ShardSide.read.Goals as goal
 
 pub returns-clause-rows : goal.returns-clause-rows
-returns-clause-rows g c =
-    let tied = subst (λ (v : Side g.row.D.Denot). IsTiedIn g.D.Device.state g.D.Device.honest g.B.Room.store g.B.Room.shards v.number v.node c.share.new.pass) (sym c.self.view_is) c.share.ensures.tied in
+returns-clause-rows g c rests =
+    let tied = subst (λ (v : Side g.row.D.Denot). IsTiedIn g.D.Device.state g.D.Device.honest g.B.Room.store g.B.Room.shards v.number v.node c.share.new.pass) (sym c.self.view_is) (c.share.ensures.tied rests) in
     let answered = subst (λ (n : ℕ). AnsweredIn g.D.Device.state g.D.Device.honest g.D.Device.moment g.D.Device.left_since n c.self.inside.node (Read c.args.place c.args.set) c.ask_shard.result c.ask_shard.new.node) c.node-number.ensures c.ask_shard.ensures.answered in
     subst (λ (n : ℕ). TellsRows g.B.Room.shards n c.share.new.pass.seen c.args.place c.args.set c.ask_shard.result)
     (ap (λ (v : Side g.row.D.Denot). v.number) c.self.view_is ∙ c.share.ensures.same.1)
