@@ -1,0 +1,6 @@
+use Rattle.store_sessions.proofs.Answering.{what_is_found_answers}
+use Rattle.store_sessions.proofs.session.StoreSessionAnswers.check.Goals as goal
+
+pub returns-in-Answered : goal.returns-in-Answered
+returns-in-Answered g c =
+    what_is_found_answers _ c.self.inside.caller _ _ c.self.view_is _ _ c.check-end.ensures.caller (λ rests. c.in-Answered.ensures.answer rests)

@@ -1,0 +1,13 @@
+use Rattle.std.proofs.Common.{ℕ, Ok, subst}
+use Rattle.answers.specs.declared.answer.Answer.TheVariants as answer
+use Rattle.tuples.specs.declared.request.Request.TheVariants as requests
+use Rattle.store_sessions.specs.Answered.{Answered}
+use Rattle.store_sessions.proofs.Answering.{what_is_found_answers}
+use Rattle.store_sessions.proofs.session.StoreSessionAnswers.watch.Goals as goal
+
+-- The limit that was handed over is the one that was asked for.
+pub returns-in-Answered : goal.returns-in-Answered
+returns-in-Answered g c =
+    let listed = Ok (answer.Events (record { heartbeat = c.in-Answered.heartbeat; events = c.in-Answered.events })) in
+    subst (λ (limit : ℕ). Answered g.B.Room.rests c.args.self.now c.watch-end.new.caller (requests.Watch c.args.from limit c.args.namespaces) listed) c.from-limit.ensures
+    (what_is_found_answers _ c.self.inside.caller _ _ c.self.view_is _ _ c.watch-end.ensures.caller (λ rests. c.in-Answered.ensures.lists rests))

@@ -1,0 +1,136 @@
+// A session over a store.
+ghost use Rattle.std.specs.Prelude.{◌≡◌};
+ghost use Rattle.store_sessions.specs.Answered.{Answered};
+
+use answer_flow::{CheckEnd, ReadEnd, WatchEnd};
+use answers::{Events, Membership, Rows, Written};
+use calls::Told;
+use commit_flow::WriteEnd;
+use device::Device;
+use locked::{Caller, Gate, Store};
+use sessions::Answers;
+use sides::Room;
+use std::alloc::Global;
+use std::marker::Model;
+use std::sync::Wait;
+use tuples::{Freshness, MAX_WATCHED, Namespace, Refusal, Tuple, Tupleset, Userset, Write};
+
+/// Answers the requests of one session after another over a store, for one caller, who goes on knowing what was seen.
+#[derive(Drop)]
+pub struct StoreSession<'a, D: Device, B: Room, G: Gate, R: Wait> {
+    rt: &'a R,
+    alloc: Global,
+    store: &'a Store<D, B, G>,
+    caller: Caller<B>,
+}
+
+impl<'a, D: Device, B: Room, G: Gate, R: Wait> Model for StoreSession<'a, D, B, G, R> {
+    ghost use Rattle.published.specs.Known.{Known};
+    ghost use Rattle.tuples.specs.declared.entry.Entry.{Entry as AnyEntry};
+
+    ghost Value = { Known AnyEntry };
+
+    ghost view = { λ s. s.caller };
+}
+
+impl<'a, D: Device, B: Room, G: Gate, R: Wait> StoreSession<'a, D, B, G, R> {
+    /// For this caller, who has seen what it has seen.
+    pub fn new(
+        rt: &'a R,
+        alloc: Global,
+        store: &'a Store<D, B, G>,
+        caller: Caller<B>,
+    ) -> StoreSession<'a, D, B, G, R>
+        ensures { result ≡ caller }
+    {
+        StoreSession {
+            rt,
+            alloc,
+            store,
+            caller,
+        }
+    }
+}
+
+impl<'a, D: Device, B: Room, G: Gate, R: Wait> Answers for StoreSession<'a, D, B, G, R> {
+    ghost gives = { λ old request result new. Answered B.rests old new request result };
+
+    fn write(&mut self, write: Write) -> Result<Written, Refusal> {
+        let mut told = Told::new();
+        match self
+            .store
+            .write(self.rt, self.alloc, &mut self.caller, &mut told, write)
+        {
+            WriteEnd::Wrote(place) => Ok(Written { place }),
+            WriteEnd::Refused(refusal) => Err(refusal),
+            // Nobody cancels it.
+            WriteEnd::Cancelled => Err(Refusal::Aborted),
+        }
+    }
+
+    fn read(&mut self, freshness: Freshness, sets: Vec<Tupleset>) -> Result<Rows, Refusal> {
+        let mut told = Told::new();
+        let end = self.store.read(
+            self.rt,
+            self.alloc,
+            &mut self.caller,
+            &mut told,
+            freshness,
+            sets,
+        );
+        match end {
+            ReadEnd::Answered(place, sets) => return Ok(Rows { sets, place }),
+            ReadEnd::Refused(refusal) => return Err(refusal),
+        }
+    }
+
+    fn check(&mut self, freshness: Freshness, tuple: Tuple) -> Result<Membership, Refusal> {
+        let mut told = Told::new();
+        let Tuple {
+            object,
+            relation,
+            user,
+        } = tuple;
+        let userset = Userset { object, relation };
+        let end = self.store.check(
+            self.rt,
+            self.alloc,
+            &mut self.caller,
+            &mut told,
+            freshness,
+            &userset,
+            user,
+        );
+        match end {
+            CheckEnd::Answered(place, is_member) => Ok(Membership { is_member, place }),
+            CheckEnd::Refused(refusal) => Err(refusal),
+        }
+    }
+
+    fn watch(
+        &mut self,
+        from: u64,
+        limit: u16,
+        namespaces: Vec<Namespace>,
+    ) -> Result<Events, Refusal> {
+        let limit = u64::from(limit);
+        // A request that was read is within its limits.
+        if limit > MAX_WATCHED {
+            return Err(Refusal::TooLarge);
+        }
+        let mut told = Told::new();
+        let end = self.store.watch(
+            self.rt,
+            self.alloc,
+            &mut self.caller,
+            &mut told,
+            from,
+            limit,
+            namespaces,
+        );
+        match end {
+            WatchEnd::Answered(heartbeat, events) => return Ok(Events { events, heartbeat }),
+            WatchEnd::Refused(refusal) => return Err(refusal),
+        }
+    }
+}
