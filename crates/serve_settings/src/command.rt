@@ -14,14 +14,9 @@ Status: 2 for a command line that can't be read.";
 const SERVE: &str =
     "Serves a store in files to those who connect, one JSON request a line, and prints ready once it
 listens. The coordinator's files in the folder are c.a and c.b, and those of the shards 0.a and 0.b,
-1.a and 1.b, and so on. A file that is not there is made, and the rest goes on from what it has.";
+1.a and 1.b, and so on.";
 
-fn text_argument<'a>(
-    alloc: Global,
-    name: &'a str,
-    value_name: &'a str,
-    help: &'a str,
-) -> Arg<'a> {
+fn text_argument<'a>(alloc: Global, name: &'a str, value_name: &'a str, help: &'a str) -> Arg<'a> {
     Arg::new(alloc, name)
         .long(name)
         .value_name(value_name)
@@ -51,11 +46,7 @@ fn few_argument<'a>(alloc: Global, name: &'a str, help: &'a str) -> Arg<'a> {
 
 fn with_store<'a>(alloc: Global, command: Command<'a>) -> Result<Command<'a>, Error> {
     let dir = text_argument(alloc, "dir", "DIR", "The folder of the store's files");
-    let store = amount_argument(
-        alloc,
-        "store",
-        "The id of the store, from 0 to 4294967295",
-    );
+    let store = amount_argument(alloc, "store", "The id of the store, from 0 to 4294967295");
     let shards = few_argument(alloc, "shards", "The number of shards, from 1 to 64");
     Ok(command.arg(dir)?.arg(store.required(true))?.arg(shards)?)
 }

@@ -11,5 +11,7 @@
 mod command;
 mod given;
 mod serve_settings;
+#[cfg(test)]
+mod tests;
 
 pub use serve_settings::ServeSettings;

@@ -109,13 +109,22 @@ fn numbers_of(serve: &ArgMatches) -> Option<Numbers> {
     let window = number_in(serve, "window", 0, MAX_AMOUNT)?;
     let connections = number_in(serve, "connections", 0, MAX_AMOUNT)?;
     let idle = number_in(serve, "idle", 0, MAX_AMOUNT)?;
-    Some(Numbers { store, shards, workers, window, connections, idle })
+    Some(Numbers {
+        store,
+        shards,
+        workers,
+        window,
+        connections,
+        idle,
+    })
 }
 
 fn settings_of(alloc: Global, serve: &ArgMatches) -> Result<Option<ServeSettings>, AllocError> {
-    let (Some(dir), Some(listen), Some(numbers)) =
-        (serve.get_str("dir"), serve.get_str("listen"), numbers_of(serve))
-    else {
+    let (Some(dir), Some(listen), Some(numbers)) = (
+        serve.get_str("dir"),
+        serve.get_str("listen"),
+        numbers_of(serve),
+    ) else {
         return Ok(None);
     };
     let dir = String::from_str(alloc, dir)?;
