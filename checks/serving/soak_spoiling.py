@@ -116,10 +116,8 @@ def refused_stands(ground):
 
 def gone_open(ground, last):
     """An open write of an earlier life, asked for once, that does not stand."""
-    return ground.choose(
-        ask for ask in ground.run.asks
-        if ask.life < last and ask.answer in UNKNOWN and ask.changes not in ground.log and all(one is ask or one.changes != ask.changes for one in ground.run.asks)
-    )
+    some = [ask for ask in ground.run.asks if ask.life < last and ask.answer in UNKNOWN and ask.changes not in ground.log]
+    return ground.choose(ask for ask in some if once(ground, ask))
 
 
 def open_too_late(ground):
@@ -130,7 +128,11 @@ def open_too_late(ground):
 def open_too_early(ground):
     """An open write stands, and its place had been told to someone before it was asked for."""
     stands = {changes: at for at, changes in enumerate(ground.log, 1) if changes not in ground.told}
-    return ground.with_ask(lambda ask: ask.changes in stands and ask.answer in UNKNOWN and once(ground, ask), lambda ask: ask._replace(before=stands[ask.changes]))
+
+    def fits(ask):
+        return ask.changes in stands and ask.answer in UNKNOWN and once(ground, ask)
+
+    return ground.with_ask(fits, lambda ask: ask._replace(before=stands[ask.changes]))
 
 
 def once(ground, ask):
@@ -168,6 +170,52 @@ def other_rows(read, rows):
     return read._replace(rows=(rows, *read.rows[1:]))
 
 
+def is_once_busy(ground):
+    return lambda ask: ask.answer == ("refused", 10) and once(ground, ask)
+
+
+def is_once_told(ground):
+    return lambda ask: is_told(ask) and once(ground, ask)
+
+
+def has_rows(read):
+    return read.rows[0]
+
+
+def has_none(read):
+    return not read.rows[0]
+
+
+def answered(*answer):
+    return lambda ask: ask._replace(answer=answer)
+
+
+# Of an ask: which one, where that depends on the others, and what is changed of it.
+ASKS = {
+    "another place is told": (lambda ground: is_told, lambda ask: ask._replace(answer=("told", ask.answer[1] + 1))),
+    "a told write was refused": (is_once_told, answered("refused", 10)),
+    "a told place had been told before": (lambda ground: is_told, lambda ask: ask._replace(before=ask.answer[1])),
+    "a told write is of an earlier life": (lambda ground: lambda ask: is_told(ask) and ask.life == 5, lambda ask: ask._replace(life=1)),
+    "a refusal that may not come": (lambda ground: lambda ask: ask.answer == ("refused", 10), answered("refused", 13)),
+    "a condition that was met": (is_once_busy, answered("refused", 9)),
+}
+READS = {
+    "a row is missing": (has_rows, lambda read: other_rows(read, ())),
+    "a row too many": (has_none, lambda read: other_rows(read, (read.sets[0] + "#viewer@u",))),
+    "a row twice": (has_rows, lambda read: other_rows(read, read.rows[0] * 2)),
+    "a read of an older place": (lambda read: read.kind != "exact" and read.place, lambda read: read._replace(place=read.place - 1)),
+    "a token reads another place": (lambda read: read.kind == "exact", lambda read: read._replace(place=read.place + 1)),
+    "a read above the list": (lambda read: read.kind == "latest", lambda read: read._replace(place=10**6)),
+}
+WATCHES = {
+    "an event is missing": (lambda watch: watch.events, lambda watch: watch._replace(events=watch.events[1:])),
+    "an event twice": (lambda watch: watch.events, lambda watch: watch._replace(events=[watch.events[0], *watch.events])),
+    "events that nobody made": (lambda watch: watch.events, lambda watch: watch._replace(events=[(watch.place, STRANGER[0])])),
+    "a watch that begins elsewhere": (lambda watch: watch.start, lambda watch: watch._replace(start=watch.start - 1)),
+    "a watch past its limit": (lambda watch: watch.events, lambda watch: watch._replace(limit=watch.place - watch.start - 1)),
+    "a watch that stops too early": (lambda watch: watch.limit == 256, lambda watch: watch._replace(before=watch.place + 1)),
+    "a watch above the list": (lambda watch: watch.limit == 256, lambda watch: watch._replace(place=10**6)),
+}
 KINDS = {
     "a told write is lost": lost,
     "a told write is lost, and its place is empty": lost_with_its_place,
@@ -184,30 +232,14 @@ KINDS = {
     "an open write stands behind a later life": open_too_late,
     "an open write stands below what was told": open_too_early,
     "a write is there, and is not": there_but_gone,
-    "another place is told": lambda ground: ground.with_ask(is_told, lambda ask: ask._replace(answer=("told", ask.answer[1] + 1))),
-    "a told write was refused": lambda ground: ground.with_ask(lambda ask: is_told(ask) and once(ground, ask), lambda ask: ask._replace(answer=("refused", 10))),
-    "a told place had been told before": lambda ground: ground.with_ask(is_told, lambda ask: ask._replace(before=ask.answer[1])),
-    "a told write is of an earlier life": lambda ground: ground.with_ask(lambda ask: is_told(ask) and ask.life == 5, lambda ask: ask._replace(life=1)),
-    "a refusal that may not come": lambda ground: ground.with_ask(lambda ask: ask.answer == ("refused", 10), lambda ask: ask._replace(answer=("refused", 13))),
-    "a condition that was met": lambda ground: ground.with_ask(lambda ask: ask.answer == ("refused", 10) and once(ground, ask), lambda ask: ask._replace(answer=("refused", 9))),
     "another start, another list": another_start,
     "another start, a shorter list": shorter_start,
     "a list that is not read to its end": unended_list,
     "a list out of order": unordered_list,
     "a gap in the list": gap_in_the_list,
-    "a row is missing": lambda ground: ground.with_read(lambda read: read.rows[0], lambda read: other_rows(read, ())),
-    "a row too many": lambda ground: ground.with_read(lambda read: not read.rows[0], lambda read: other_rows(read, (read.sets[0] + "#viewer@u",))),
-    "a row twice": lambda ground: ground.with_read(lambda read: read.rows[0], lambda read: other_rows(read, read.rows[0] * 2)),
-    "a read of an older place": lambda ground: ground.with_read(lambda read: read.kind != "exact" and read.place, lambda read: read._replace(place=read.place - 1)),
-    "a token reads another place": lambda ground: ground.with_read(lambda read: read.kind == "exact", lambda read: read._replace(place=read.place + 1)),
-    "a read above the list": lambda ground: ground.with_read(lambda read: read.kind == "latest", lambda read: read._replace(place=len(ground.log) + 1)),
-    "an event is missing": lambda ground: ground.with_watch(lambda watch: watch.events, lambda watch: watch._replace(events=watch.events[1:])),
-    "an event twice": lambda ground: ground.with_watch(lambda watch: watch.events, lambda watch: watch._replace(events=[watch.events[0], *watch.events])),
-    "events that nobody made": lambda ground: ground.with_watch(lambda watch: watch.events, lambda watch: watch._replace(events=[(watch.place, STRANGER[0])])),
-    "a watch that begins elsewhere": lambda ground: ground.with_watch(lambda watch: watch.start, lambda watch: watch._replace(start=watch.start - 1)),
-    "a watch past its limit": lambda ground: ground.with_watch(lambda watch: watch.limit > 1 and watch.events, lambda watch: watch._replace(limit=watch.place - watch.start - 1)),
-    "a watch that stops too early": lambda ground: ground.with_watch(lambda watch: watch.limit == 256 and watch.events, lambda watch: watch._replace(before=watch.place + 1)),
-    "a watch above the list": lambda ground: ground.with_watch(lambda watch: watch.limit == 256, lambda watch: watch._replace(place=len(ground.log) + 1)),
+    **{what: lambda ground, one=one: ground.with_ask(one[0](ground), one[1]) for what, one in ASKS.items()},
+    **{what: lambda ground, one=one: ground.with_read(*one) for what, one in READS.items()},
+    **{what: lambda ground, one=one: ground.with_watch(*one) for what, one in WATCHES.items()},
 }
 TRIES = 3
 

@@ -6,6 +6,9 @@ from judge.worlds import must
 from serving.server import HOST, SHARDS, STORE, Server, free_port, run, words_of
 from serving.wire import Session, check, write
 
+# Values that an option can't have.
+NUMBERS = ("workers", "window", "connections", "idle")
+BAD = {"shards": ("0", "65", "x", ""), "store": ("x", "-1", "4294967296"), **{name: ("x", "-1") for name in NUMBERS}}
 DOWN, DAMAGED, LISTEN = "zanstore: 13 Down\n", "zanstore: 16 Damaged\n", "zanstore: listen\n"
 
 
@@ -38,8 +41,7 @@ def bad_command_lines(folder):
     good = options(folder)
     for name in ("dir", "listen"):
         is_status_2(*words_of({key: value for key, value in good.items() if key != name}))
-    others = {"shards": ("0", "65", "x", ""), "store": ("x", "-1", "4294967296"), "workers": ("x", "-1"), "window": ("x",), "connections": ("x",), "idle": ("x",)}
-    for name, values in others.items():
+    for name, values in BAD.items():
         for value in values:
             is_status_2(*words_of({**good, name: value}))
     is_status_2(*words_of(good), "more")

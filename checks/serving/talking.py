@@ -94,8 +94,10 @@ def lines_ahead(folder):
     """requests that are sent ahead, answered in their order"""
     count = 500
     with Server(folder) as server, Session(server.port) as session:
-        asked = [spelled(write(f"+doc:d{number}#viewer@ann")) + spelled(check(f"doc:d{number}#viewer@{'ann' if number % 3 else 'bob'}")) for number in range(count)]
-        session.send(b"".join(asked) + b"{}\n")
+        for number in range(count):
+            user = "ann" if number % 3 else "bob"
+            session.send(spelled(write(f"+doc:d{number}#viewer@ann")) + spelled(check(f"doc:d{number}#viewer@{user}")))
+        session.send(b"{}\n")
         session.end()
         for number in range(count):
             at = token_of(number + 1)
