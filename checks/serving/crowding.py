@@ -5,7 +5,7 @@ import time
 
 from judge.worlds import Wrong, must
 from serving.server import HOST, Server
-from serving.wire import LIMIT, Session, check, spelled, write
+from serving.wire import LIMIT, Session, check, read, spelled, write
 from serving.wire import token as token_of
 
 CROWD = 1100
@@ -80,10 +80,17 @@ def crowded(folder):
             is_answered(session)
 
 
+def fill(session):
+    """Makes a list whose read is some 60,000 bytes."""
+    for number in range(8):
+        rows = [f"+doc:list#viewer@{number}.{row}.{'x' * 90}" for row in range(64)]
+        must("zookie" in session.ask(write(*rows)), "a write of 64 changes is refused")
+
+
 def filled(port):
-    """A connection over which lines were sent until no more are taken, and no answer is read."""
+    """A connection over which reads were sent until no more are taken, and no answer is read."""
     one = socket.create_connection((HOST, port), timeout=3)
-    lines = spelled(write("+doc:a#viewer@ann")) * 1000
+    lines = spelled(read("doc:list")) * 1000
     try:
         for _ in range(10000):
             one.sendall(lines)
@@ -95,13 +102,15 @@ def filled(port):
 def never_reads(folder):
     """a client that never reads, and others go on"""
     with Server(folder, workers=2) as server:
+        with Session(server.port) as session:
+            fill(session)
         with filled(server.port), Session(server.port) as session:
             for number in range(20):
-                answer = session.ask(write(f"+doc:b{number}#viewer@ann"))
+                answer = session.ask(write(f"+doc:a{number}#viewer@ann"))
                 must("zookie" in answer, f"answers {answer}")
         with Session(server.port) as first, Session(server.port) as second:
             for session in (first, second):
-                answer = session.ask(check("doc:a#viewer@ann"))
+                answer = session.ask(check("doc:a19#viewer@ann"))
                 must(answer.get("member") is True, f"answers {answer} once that client has gone")
 
 

@@ -34,7 +34,8 @@ class Lives:
             self.change.notify_all()
 
     def kill(self):
-        must(self.server.goes_on(), "the server has ended, and nobody killed it")
+        if not self.server.goes_on():
+            raise Wrong(f"the server has ended, and nobody killed it: {self.server.ended()}")
         self.killed = self.life
         self.server.kill()
 

@@ -1,6 +1,7 @@
 """What a server answers over its connections."""
 import importlib.machinery
 import importlib.util
+import json
 import os
 
 from judge.worlds import must
@@ -13,8 +14,10 @@ TOO_LARGE = refusal(3, "TooLarge")
 
 
 def is_told(session, request, wanted):
-    answer = session.ask(request)
-    must(answer == wanted, f"answers {str(answer)[:300]} to {str(request)[:200]}, and not {wanted}")
+    """The answer, to the byte."""
+    session.send(spelled(request))
+    answer, text = session.line(), json.dumps(wanted, sort_keys=True, separators=(",", ":")).encode()
+    must(answer == text, f"answers {answer[:300]} to {str(request)[:200]}, and not {text[:300]}")
 
 
 def each_request(folder):
