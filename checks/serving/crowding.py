@@ -147,8 +147,8 @@ def busy_sessions(folder):
         is_answered(busy)
         with Session(server.port) as other:
             other.send(spelled(ASKED))
-            for _ in range(20):
-                time.sleep(0.15)
+            for _ in range(10):
+                time.sleep(0.3)
                 is_answered(busy)
             busy.close()
             must(other.answer() == NO, "the one that waited is answered otherwise")
