@@ -1,0 +1,182 @@
+"""More connections than workers, and clients that do not care."""
+import selectors
+import socket
+import time
+
+from judge.worlds import Wrong, must
+from serving.server import HOST, Server
+from serving.wire import LIMIT, Session, check, read, spelled, write
+from serving.wire import token as token_of
+
+CROWD = 1100
+PLACES = 1024
+ASKED = check("doc:a#viewer@ann")
+NO = {"member": False, "zookie": token_of(0)}
+
+
+def is_answered(session):
+    answer = session.ask(ASKED)
+    must(answer == NO, f"answers {answer}")
+
+
+def crowd_of(port):
+    """So many connections, each with one line sent, or none where it was ended before."""
+    crowd = []
+    for _ in range(CROWD):
+        one = socket.create_connection((HOST, port), timeout=LIMIT)
+        crowd.append(one)
+        try:
+            one.sendall(spelled(ASKED))
+        except OSError:
+            pass
+        one.setblocking(False)
+    return crowd
+
+
+def took(one):
+    """What came over it, or nothing where it was ended."""
+    try:
+        return one.recv(1024)
+    except OSError:
+        return b""
+
+
+def ends(crowd, enough):
+    """How many of the crowd were answered, and how many ended, as soon as it is enough; who has an answer goes."""
+    chosen, answered, closed = selectors.DefaultSelector(), 0, 0
+    for one in crowd:
+        if one.fileno() >= 0:
+            chosen.register(one, selectors.EVENT_READ)
+    late = time.monotonic() + LIMIT
+    while not enough(answered, closed) and time.monotonic() < late:
+        for key, _ in chosen.select(0.2):
+            found = took(key.fileobj)
+            must(found in (b"", spelled(NO)), f"answers {found}")
+            answered, closed = answered + bool(found), closed + (not found)
+            chosen.unregister(key.fileobj)
+            key.fileobj.close()
+    return answered, closed
+
+
+def crowded(folder):
+    """1,100 connections at once: 1,024 wait and are served in the end, the others are closed"""
+    with Server(folder, workers=2, idle=LIMIT) as server:
+        holders = [Session(server.port) for _ in range(2)]
+        for holder in holders:
+            is_answered(holder)
+        crowd = crowd_of(server.port)
+        try:
+            answered, closed = ends(crowd, lambda _, closed: closed >= CROWD - PLACES)
+            must((answered, closed) == (0, CROWD - PLACES), f"while all workers were held {answered} were answered, and {closed} closed")
+            for holder in holders:
+                is_answered(holder)
+                holder.close()
+            answered, closed = ends(crowd, lambda answered, closed: answered + closed == PLACES)
+            must((answered, closed) == (PLACES, 0), f"of those that waited {answered} were answered, and {closed} closed")
+        finally:
+            for one in crowd:
+                one.close()
+        with Session(server.port) as session:
+            is_answered(session)
+
+
+def fill(session):
+    """Makes a list whose read is some 60,000 bytes."""
+    for number in range(8):
+        rows = [f"+doc:list#viewer@{number}.{row}.{'x' * 90}" for row in range(64)]
+        must("zookie" in session.ask(write(*rows)), "a write of 64 changes is refused")
+
+
+def filled(port):
+    """A connection over which reads were sent until no more are taken, and no answer is read."""
+    one = socket.create_connection((HOST, port), timeout=3)
+    lines = spelled(read("doc:list")) * 1000
+    try:
+        for _ in range(10000):
+            one.sendall(lines)
+    except TimeoutError:
+        return one
+    raise Wrong("takes lines for ever, and nobody reads its answers")
+
+
+def never_reads(folder):
+    """a client that never reads, and others go on"""
+    with Server(folder, workers=2) as server:
+        with Session(server.port) as session:
+            fill(session)
+        with filled(server.port), Session(server.port) as session:
+            for number in range(20):
+                answer = session.ask(write(f"+doc:a{number}#viewer@ann"))
+                must("zookie" in answer, f"answers {answer}")
+        with Session(server.port) as first, Session(server.port) as second:
+            for session in (first, second):
+                answer = session.ask(check("doc:a19#viewer@ann"))
+                must(answer.get("member") is True, f"answers {answer} once that client has gone")
+
+
+def resets(folder):
+    """clients that end in the midst of their answers"""
+    with Server(folder, workers=2) as server:
+        for _ in range(20):
+            one = socket.create_connection((HOST, server.port), timeout=LIMIT)
+            one.sendall(spelled(ASKED) * 1000)
+            one.setsockopt(socket.SOL_SOCKET, socket.SO_LINGER, b"\1\0\0\0\0\0\0\0")
+            one.close()
+        with Session(server.port) as session:
+            is_answered(session)
+        must(server.goes_on(), "the server has ended")
+
+
+def idle_sessions(folder):
+    """an idle session has its worker while nobody waits, and gives it up where someone does"""
+    with Server(folder, workers=1, idle=1) as server, Session(server.port) as idle:
+        is_answered(idle)
+        time.sleep(3)
+        is_answered(idle)
+        begin = time.monotonic()
+        with Session(server.port) as other:
+            is_answered(other)
+            must(idle.is_ended(), "the idle session goes on, and there is one worker")
+        waited = time.monotonic() - begin
+        must(waited >= 0.5, f"a session that was asked something gave its worker up after {waited:.1f} s")
+
+
+def busy_sessions(folder):
+    """a session that asks and asks has its worker, though another waits"""
+    with Server(folder, workers=1, idle=1) as server, Session(server.port) as busy:
+        is_answered(busy)
+        with Session(server.port) as other:
+            other.send(spelled(ASKED))
+            for _ in range(10):
+                time.sleep(0.3)
+                is_answered(busy)
+            busy.close()
+            must(other.answer() == NO, "the one that waited is answered otherwise")
+
+
+def counted(folder):
+    """`--connections 3`: three are served, and it ends with status 0"""
+    with Server(folder, workers=2, connections=3) as server:
+        sessions = [Session(server.port) for _ in range(3)]
+        for session in sessions[:2]:
+            is_answered(session)
+        sessions[0].close()
+        is_answered(sessions[2])
+        must(server.goes_on(), "it ends before all three are served")
+        is_answered(sessions[1])
+        for session in sessions[1:]:
+            session.close()
+        ended = server.ended()
+        must(ended == (0, "", ""), f"ends with (status, output, error) {ended}")
+    with Server(folder) as server, Session(server.port) as session:
+        is_answered(session)
+
+
+TRIES = {
+    "crowded": crowded,
+    "never-reads": never_reads,
+    "resets": resets,
+    "idle-sessions": idle_sessions,
+    "busy-sessions": busy_sessions,
+    "counted": counted,
+}

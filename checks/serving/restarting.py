@@ -1,0 +1,102 @@
+"""What a server finds again that was killed."""
+import random
+import threading
+import time
+
+from judge.worlds import must
+from serving.server import Server
+from serving.talking import is_told
+from serving.wire import Gone, Session, check, place_of, read, refusal, watch, write
+from serving.wire import token as token_of
+
+COUNT = 100
+
+
+def killed(folder):
+    """kill -9, and a start at once on the same port that reads what was written"""
+    with Server(folder) as first, Session(first.port) as session:
+        for number in range(1, COUNT + 1):
+            is_told(session, write(f"+doc:d{number}#viewer@ann", f"+pad:d{number}#viewer@ann"), {"zookie": token_of(number)})
+        port = first.port
+        first.kill()
+        must(session.is_ended(), "a session of a killed server goes on")
+    with Server(folder, port=port) as second, Session(port) as session:
+        rows = [sorted(f"{space}:d{number}#viewer@ann" for number in range(1, COUNT + 1)) for space in ("doc", "pad")]
+        is_told(session, read("doc@ann", "pad@ann"), {"sets": rows, "zookie": token_of(COUNT)})
+        is_told(session, check("doc:d7#viewer@ann", exact=token_of(7)), {"member": True, "zookie": token_of(7)})
+        is_told(session, check("doc:d7#viewer@ann", exact=token_of(6)), {"member": False, "zookie": token_of(6)})
+        is_told(session, write("+doc:more#viewer@ann"), {"zookie": token_of(COUNT + 1)})
+        second.kill()
+
+
+def writes_on(port, told):
+    """Writes until the server is gone; `told` gets the numbers that were answered."""
+    try:
+        with Session(port) as session:
+            for number in range(1, 1000000):
+                answer = session.ask(write(f"+doc:d{number}#viewer@ann"))
+                must(answer == {"zookie": token_of(number)}, f"answers {answer} to write {number}")
+                told.append(number)
+    except Gone:
+        pass
+
+
+def killed_writing(folder):
+    """kill -9 in the midst of writes: each that was answered is there, and at most one more"""
+    told = []
+    with Server(folder) as first:
+        writer = threading.Thread(target=writes_on, args=(first.port, told))
+        writer.start()
+        late = time.monotonic() + 10
+        while len(told) < 50 and time.monotonic() < late:
+            time.sleep(0.01)
+        time.sleep(random.uniform(0, 0.01))
+        first.kill()
+        writer.join()
+    must(told, "no write was answered")
+    with Server(folder) as second, Session(second.port) as session:
+        answer = session.ask(read("doc@ann"))
+        last = place_of(answer)
+        must(last - len(told) in (0, 1), f"{len(told)} were answered, and the last place is {last}")
+        must(sorted(answer["sets"][0]) == sorted(f"doc:d{number}#viewer@ann" for number in range(1, last + 1)), "reads other tuples than were written")
+
+
+def followed(folder):
+    """a watch that is followed over a restart"""
+    seen, at = [], token_of(0)
+    for life in range(3):
+        with Server(folder) as server, Session(server.port) as writer, Session(server.port) as watcher:
+            for number in range(1, 11):
+                tuple = f"doc:{life}.{number}#viewer@ann"
+                is_told(writer, write("+" + tuple), {"zookie": token_of(10 * life + number)})
+                if number % 4 == 0:
+                    answer = watcher.ask(watch(at, "doc", limit=3))
+                    seen, at = seen + answer["events"], answer["heartbeat"]
+    with Server(folder) as server, Session(server.port) as watcher:
+        while at != token_of(30):
+            answer = watcher.ask(watch(at, "doc", limit=256))
+            must(answer["heartbeat"] != at, "a watch stands still before the end")
+            seen, at = seen + answer["events"], answer["heartbeat"]
+        is_told(watcher, watch(at, "doc"), {"events": [], "heartbeat": at})
+    wanted = [(10 * life + number, f"doc:{life}.{number}#viewer@ann") for life in range(3) for number in range(1, 11)]
+    must([(event["place"], event["tuple"]) for event in seen] == wanted, f"has seen {seen}")
+
+
+def narrow_window(folder):
+    """`--window 0`: what is latest is told, and an older exact place may be refused with `8 Collected`"""
+    with Server(folder, window=0) as server, Session(server.port) as session:
+        for number in range(1, COUNT + 1):
+            is_told(session, write(f"+doc:d{number % 5}#viewer@u{number}"), {"zookie": token_of(number)})
+            answer = session.ask(check("doc:d1#viewer@u1", exact=token_of(1)))
+            must(answer in (refusal(8, "Collected"), {"member": True, "zookie": token_of(1)}), f"answers {answer} of place 1")
+        is_told(session, check("doc:d1#viewer@u1", at_least=token_of(1)), {"member": True, "zookie": token_of(COUNT)})
+    with Server(folder) as server, Session(server.port) as session:
+        is_told(session, check("doc:d1#viewer@u1"), {"member": True, "zookie": token_of(COUNT)})
+
+
+TRIES = {
+    "killed": killed,
+    "killed-writing": killed_writing,
+    "followed": followed,
+    "narrow-window": narrow_window,
+}

@@ -1,0 +1,97 @@
+"""The server as a process: started over a folder, asked to be ready, killed, and waited for."""
+import os
+import random
+import signal
+import socket
+import subprocess
+import threading
+
+from judge.worlds import Wrong, must
+
+TOP = os.path.dirname(os.path.dirname(os.path.dirname(os.path.abspath(__file__))))
+HOST = "127.0.0.1"
+STORE = 7
+SHARDS = 3
+# Far more seconds than an opening, or an end, takes where much else runs.
+LIMIT = 60
+# Below the ports that a system chooses by itself: a client that tries one of those while nobody listens may be connected to itself.
+PORTS = range(20000, 32000)
+
+
+def program():
+    return os.environ.get("ZANSTORE", os.path.join(TOP, "crates", "zanstore", "out", "zanstore"))
+
+
+def built():
+    return os.access(program(), os.X_OK)
+
+
+def free_port():
+    while True:
+        port = random.choice(PORTS)
+        with socket.socket() as tried:
+            try:
+                tried.bind((HOST, port))
+                return port
+            except OSError:
+                pass
+
+
+def words_of(options):
+    return [word for name, value in options.items() for word in (f"--{name}", str(value))]
+
+
+def run(*words):
+    """The status, standard output and standard error of a command line that is to end by itself."""
+    try:
+        done = subprocess.run([program(), *words], stdin=subprocess.DEVNULL, capture_output=True, timeout=LIMIT, text=True, errors="replace")
+    except subprocess.TimeoutExpired as late:
+        raise Wrong(f"no end in {LIMIT} seconds of: {' '.join(words)}") from late
+    return done.returncode, done.stdout, done.stderr
+
+
+class Server:
+    """A server over a folder. It is ready once this is made, unless `ready` is asked for later."""
+
+    def __init__(self, folder, waits=True, **options):
+        self.port = options.pop("port", None) or free_port()
+        given = {"dir": folder, "store": STORE, "shards": SHARDS, "listen": f"{HOST}:{self.port}", "workers": 4, **options}
+        words = [program(), "serve", *words_of(given)]
+        self.child = subprocess.Popen(words, stdin=subprocess.DEVNULL, stdout=subprocess.PIPE, stderr=subprocess.PIPE)
+        if waits and not self.is_ready():
+            raise Wrong(f"a server is not ready: {self.ended()}")
+
+    def __enter__(self):
+        return self
+
+    def __exit__(self, *_):
+        self.kill()
+
+    def is_ready(self):
+        """Whether it printed the line `ready`, and did not end before."""
+        guard = threading.Timer(LIMIT, self.child.kill)
+        guard.start()
+        line = self.child.stdout.readline()
+        guard.cancel()
+        must(line in (b"ready\n", b""), f"a server prints {line[:80]} first, and not `ready`")
+        return line != b""
+
+    def kill(self):
+        """What `kill -9` does. It is gone behind this, and what it had open is closed."""
+        if self.child.poll() is None:
+            self.child.send_signal(signal.SIGKILL)
+        self.child.wait()
+        self.child.stdout.close()
+        self.child.stderr.close()
+
+    def goes_on(self):
+        return self.child.poll() is None
+
+    def ended(self):
+        """Its status, and what it printed besides `ready`, once it ended by itself."""
+        try:
+            out, err = self.child.communicate(timeout=LIMIT)
+        except subprocess.TimeoutExpired as late:
+            self.child.kill()
+            raise Wrong(f"a server has not ended in {LIMIT} seconds") from late
+        return self.child.returncode, out.decode(errors="replace"), err.decode(errors="replace")

@@ -1,0 +1,261 @@
+"""Tests the judge: spoils a run as a wrong server would have it recorded, and asks that each is noticed."""
+from collections import Counter
+from random import Random
+
+from serving.recorded import writes_of
+from serving.soak_judge import UNSURE, judged
+from serving.soak_sample import whole
+
+STRANGER = ("+doc:stranger#viewer@u",)
+UNKNOWN = (("open",), ("refused", UNSURE))
+
+
+class Nothing(Exception):
+    """The run has nothing of the kind."""
+
+
+class Ground:
+    def __init__(self, run, random):
+        self.run, self.random, self.log = run, random, writes_of(run.log)
+        self.told = {ask.changes for ask in run.asks if ask.answer[0] == "told"}
+
+    def choose(self, some):
+        some = list(some)
+        if not some:
+            raise Nothing
+        return self.random.choice(some)
+
+    def with_log(self, log):
+        return self.run._replace(log=whole(log), again=whole(log))
+
+    def with_ask(self, fits, change):
+        """Another answer, or other marks, of one ask that fits."""
+        at = self.choose(at for at, ask in enumerate(self.run.asks) if fits(ask))
+        asks = [*self.run.asks]
+        asks[at] = change(asks[at])
+        return self.run._replace(asks=asks)
+
+    def with_read(self, fits, change):
+        at = self.choose(at for at, read in enumerate(self.run.reads) if fits(read))
+        reads = [*self.run.reads]
+        reads[at] = change(reads[at])
+        return self.run._replace(reads=reads)
+
+    def with_watch(self, fits, change):
+        at = self.choose(at for at, watch in enumerate(self.run.watches) if fits(watch))
+        watches = [*self.run.watches]
+        watches[at] = change(watches[at])
+        return self.run._replace(watches=watches)
+
+    def place(self):
+        """A place of a told write."""
+        return self.choose(at for at, changes in enumerate(self.log) if changes in self.told)
+
+
+def is_told(ask):
+    return ask.answer[0] == "told"
+
+
+def lost(ground):
+    at = ground.place()
+    return ground.with_log(ground.log[:at] + ground.log[at + 1 :])
+
+
+def lost_with_its_place(ground):
+    at = ground.place()
+    return ground.with_log([*ground.log[:at], (), *ground.log[at + 1 :]])
+
+
+def lost_at_the_end(ground):
+    last = max(at for at, changes in enumerate(ground.log) if changes in ground.told)
+    return ground.with_log(ground.log[:last])
+
+
+def in_part(ground):
+    at = ground.choose(at for at, changes in enumerate(ground.log) if len(changes) > 1)
+    cut = ground.random.randrange(len(ground.log[at]))
+    return ground.with_log([*ground.log[:at], ground.log[at][:cut] + ground.log[at][cut + 1 :], *ground.log[at + 1 :]])
+
+
+def two_in_one(ground):
+    at = ground.choose(range(len(ground.log) - 1))
+    return ground.with_log([*ground.log[:at], (), ground.log[at] + ground.log[at + 1], *ground.log[at + 2 :]])
+
+
+def other_kind(ground):
+    at = ground.place()
+    first, *rest = ground.log[at]
+    return ground.with_log([*ground.log[:at], ("-" + first[1:], *rest), *ground.log[at + 1 :]])
+
+
+def in_another_order(ground):
+    at = ground.choose(at for at, changes in enumerate(ground.log) if len(changes) > 1)
+    return ground.with_log([*ground.log[:at], ground.log[at][::-1], *ground.log[at + 1 :]])
+
+
+def twice(ground):
+    return ground.with_log([*ground.log, ground.choose(ground.log)])
+
+
+def stranger(ground):
+    return ground.with_log([*ground.log, STRANGER])
+
+
+def changed_places(ground):
+    at = ground.choose(at for at in range(1, len(ground.log)) if {ground.log[at], ground.log[at - 1]} & ground.told)
+    return ground.with_log([*ground.log[: at - 1], ground.log[at], ground.log[at - 1], *ground.log[at + 1 :]])
+
+
+def refused_stands(ground):
+    by = {}
+    for ask in ground.run.asks:
+        by.setdefault(ask.changes, []).append(ask.answer)
+    never = [changes for changes, answers in by.items() if all(answer[0] == "refused" and answer != ("refused", UNSURE) for answer in answers)]
+    return ground.with_log([*ground.log, ground.choose(never)])
+
+
+def gone_open(ground, last):
+    """An open write of an earlier life, asked for once, that does not stand."""
+    some = [ask for ask in ground.run.asks if ask.life < last and ask.answer in UNKNOWN and ask.changes not in ground.log]
+    return ground.choose(ask for ask in some if once(ground, ask))
+
+
+def open_too_late(ground):
+    last = max(ask.life for ask in ground.run.asks)
+    return ground.with_log([*ground.log, gone_open(ground, last).changes])
+
+
+def open_too_early(ground):
+    """An open write stands, and its place had been told to someone before it was asked for."""
+    stands = {changes: at for at, changes in enumerate(ground.log, 1) if changes not in ground.told}
+
+    def fits(ask):
+        return ask.changes in stands and ask.answer in UNKNOWN and once(ground, ask)
+
+    return ground.with_ask(fits, lambda ask: ask._replace(before=stands[ask.changes]))
+
+
+def once(ground, ask):
+    return sum(one.changes == ask.changes for one in ground.run.asks) == 1
+
+
+def there_but_gone(ground):
+    ask = gone_open(ground, 99)
+    return ground.run._replace(asks=[*ground.run.asks, ask._replace(answer=("refused", 9))])
+
+
+def another_start(ground):
+    return ground.run._replace(again=whole([*ground.log[:-1], STRANGER]))
+
+
+def shorter_start(ground):
+    return ground.run._replace(again=whole(ground.log[:-1]))
+
+
+def unended_list(ground):
+    return ground.run._replace(log=ground.run.log[:-1])
+
+
+def unordered_list(ground):
+    first, *rest = ground.run.log
+    return ground.run._replace(log=[first._replace(events=[*first.events[1:], first.events[0]]), *rest])
+
+
+def gap_in_the_list(ground):
+    first, second, *rest = ground.run.log
+    return ground.run._replace(log=[first, second._replace(start=second.start + 1), *rest])
+
+
+def other_rows(read, rows):
+    return read._replace(rows=(rows, *read.rows[1:]))
+
+
+def is_once_busy(ground):
+    return lambda ask: ask.answer == ("refused", 10) and once(ground, ask)
+
+
+def is_once_told(ground):
+    return lambda ask: is_told(ask) and once(ground, ask)
+
+
+def has_rows(read):
+    return read.rows[0]
+
+
+def has_none(read):
+    return not read.rows[0]
+
+
+def answered(*answer):
+    return lambda ask: ask._replace(answer=answer)
+
+
+# Of an ask: which one, where that depends on the others, and what is changed of it.
+ASKS = {
+    "another place is told": (lambda ground: is_told, lambda ask: ask._replace(answer=("told", ask.answer[1] + 1))),
+    "a told write was refused": (is_once_told, answered("refused", 10)),
+    "a told place had been told before": (lambda ground: is_told, lambda ask: ask._replace(before=ask.answer[1])),
+    "a told write is of an earlier life": (lambda ground: lambda ask: is_told(ask) and ask.life == 5, lambda ask: ask._replace(life=1)),
+    "a refusal that may not come": (lambda ground: lambda ask: ask.answer == ("refused", 10), answered("refused", 13)),
+    "a condition that was met": (is_once_busy, answered("refused", 9)),
+}
+READS = {
+    "a row is missing": (has_rows, lambda read: other_rows(read, ())),
+    "a row too many": (has_none, lambda read: other_rows(read, (read.sets[0] + "#viewer@u",))),
+    "a row twice": (has_rows, lambda read: other_rows(read, read.rows[0] * 2)),
+    "a read of an older place": (lambda read: read.kind != "exact" and read.place, lambda read: read._replace(place=read.place - 1)),
+    "a token reads another place": (lambda read: read.kind == "exact", lambda read: read._replace(place=read.place + 1)),
+    "a read above the list": (lambda read: read.kind == "latest", lambda read: read._replace(place=10**6)),
+}
+WATCHES = {
+    "an event is missing": (lambda watch: watch.events, lambda watch: watch._replace(events=watch.events[1:])),
+    "an event twice": (lambda watch: watch.events, lambda watch: watch._replace(events=[watch.events[0], *watch.events])),
+    "events that nobody made": (lambda watch: watch.events, lambda watch: watch._replace(events=[(watch.place, STRANGER[0])])),
+    "a watch that begins elsewhere": (lambda watch: watch.start, lambda watch: watch._replace(start=watch.start - 1)),
+    "a watch past its limit": (lambda watch: watch.events, lambda watch: watch._replace(limit=watch.place - watch.start - 1)),
+    "a watch that stops too early": (lambda watch: watch.limit == 256, lambda watch: watch._replace(before=watch.place + 1)),
+    "a watch above the list": (lambda watch: watch.limit == 256, lambda watch: watch._replace(place=10**6)),
+}
+KINDS = {
+    "a told write is lost": lost,
+    "a told write is lost, and its place is empty": lost_with_its_place,
+    "the last told write is lost with all behind it": lost_at_the_end,
+    "all is lost": lambda ground: ground.with_log([]),
+    "a write in part": in_part,
+    "two writes at one place": two_in_one,
+    "a change of the other kind": other_kind,
+    "changes in another order": in_another_order,
+    "a write twice": twice,
+    "a write that nobody asked for": stranger,
+    "two writes changed places": changed_places,
+    "a refused write stands": refused_stands,
+    "an open write stands behind a later life": open_too_late,
+    "an open write stands below what was told": open_too_early,
+    "a write is there, and is not": there_but_gone,
+    "another start, another list": another_start,
+    "another start, a shorter list": shorter_start,
+    "a list that is not read to its end": unended_list,
+    "a list out of order": unordered_list,
+    "a gap in the list": gap_in_the_list,
+    **{what: lambda ground, one=one: ground.with_ask(one[0](ground), one[1]) for what, one in ASKS.items()},
+    **{what: lambda ground, one=one: ground.with_read(*one) for what, one in READS.items()},
+    **{what: lambda ground, one=one: ground.with_watch(*one) for what, one in WATCHES.items()},
+}
+TRIES = 3
+
+
+def spoil(run, seed):
+    """How often each kind was tried on this run, how often each rule noticed something, and what was not noticed."""
+    tried, rules, passed = Counter(), Counter(), []
+    for what, kind in KINDS.items():
+        for number in range(TRIES):
+            try:
+                spoiled = kind(Ground(run, Random(f"{seed} {what} {number}")))
+            except Nothing:
+                break
+            tried[what] += 1
+            found = {rule for rule, _ in judged(spoiled)}
+            rules.update(found)
+            if not found:
+                passed.append(f"seed {seed}: {what} is not noticed")
+    return tried, rules, passed

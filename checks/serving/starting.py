@@ -1,0 +1,140 @@
+"""How a server starts, and when it doesn't."""
+import os
+import socket
+
+from judge.worlds import must
+from serving.server import HOST, SHARDS, STORE, Server, free_port, run, words_of
+from serving.wire import Session, check, write
+
+# Values that an option can't have.
+NUMBERS = ("workers", "window", "connections", "idle")
+BAD = {"shards": ("0", "65", "x", ""), "store": ("x", "-1", "4294967296"), **{name: ("x", "-1") for name in NUMBERS}}
+DOWN, DAMAGED, LISTEN = "zanstore: 13 Down\n", "zanstore: 16 Damaged\n", "zanstore: listen\n"
+
+
+def options(folder, **other):
+    return {"dir": folder, "store": STORE, "shards": SHARDS, "listen": f"{HOST}:{free_port()}", "workers": 2, **other}
+
+
+def refused(wanted, given):
+    """A server with these options ends with status 1, and prints just this fault."""
+    found = run("serve", *words_of(given))
+    must(found == (1, "", wanted), f"is (status, output, error) {found}, and not {(1, '', wanted)}")
+
+
+def makes_files(folder, *changes):
+    """Leaves the files of a store in the folder."""
+    with Server(folder) as server, Session(server.port) as session:
+        for change in changes:
+            answer = session.ask(write(change))
+            must("zookie" in answer, f"answers {answer} to a touch")
+
+
+def is_status_2(*words):
+    status, out, err = run("serve", *words)
+    must(status == 2, f"has status {status}, and not 2: {words}")
+    must("ready" not in out and out + err, f"prints {(out, err)}: {words}")
+
+
+def bad_command_lines(folder):
+    """status 2 and a text"""
+    good = options(folder)
+    for name in ("dir", "listen"):
+        is_status_2(*words_of({key: value for key, value in good.items() if key != name}))
+    for name, values in BAD.items():
+        for value in values:
+            is_status_2(*words_of({**good, name: value}))
+    is_status_2(*words_of(good), "more")
+    is_status_2(*words_of(good), "--other", "1")
+    is_status_2(*words_of(good), "--window")
+    must(not os.listdir(folder), f"a bad command line leaves {os.listdir(folder)}")
+
+
+def help_is_told(folder):
+    """status 0, and the words of the command line"""
+    status, out, err = run("serve", "--help")
+    must(status == 0, f"has status {status}, and prints {err}")
+    for name in ("--dir", "--store", "--shards", "--listen", "--workers", "--window", "--connections", "--idle"):
+        must(name in out, f"does not tell {name}")
+
+
+def no_folder(folder):
+    """a folder that is not there, or is none: `13 Down`"""
+    refused(DOWN, options(os.path.join(folder, "none")))
+    with open(os.path.join(folder, "file"), "w"):
+        pass
+    refused(DOWN, options(os.path.join(folder, "file")))
+
+
+def taken_port(folder):
+    """a port that another has: `listen`"""
+    with socket.create_server((HOST, free_port())) as other:
+        address = f"{HOST}:{other.getsockname()[1]}"
+        refused(LISTEN, options(folder, listen=address))
+        # Of two faults the one that is met first is told.
+        refused(DOWN, options(os.path.join(folder, "none"), listen=address))
+        spoil(os.path.join(folder, "c.a"), 5)
+        refused(DAMAGED, options(folder, listen=address))
+    is_status_2(*words_of(options(os.path.join(folder, "none"), shards=0)))
+
+
+def second_server(folder):
+    """a second server on the folder: `13 Down`, and the first goes on"""
+    with Server(folder) as first, Session(first.port) as session:
+        session.ask(write("+doc:a#viewer@ann"))
+        refused(DOWN, options(folder))
+        answer = session.ask(check("doc:a#viewer@ann"))
+        must(answer.get("member") is True, f"the first answers {answer}")
+    with Server(folder) as later, Session(later.port) as session:
+        answer = session.ask(check("doc:a#viewer@ann"))
+        must(answer.get("member") is True, f"a later one answers {answer}")
+
+
+def spoil(path, at):
+    with open(path, "r+b") as file:
+        file.seek(at)
+        byte = file.read(1)
+        must(byte, f"{os.path.basename(path)} ends before byte {at}")
+        file.seek(at)
+        file.write(bytes([byte[0] ^ 0x55]))
+
+
+def damaged_files(folder):
+    """a file with another byte: `16 Damaged`, and its own byte again: ready"""
+    makes_files(folder, "+doc:a#viewer@ann", "+doc:b#viewer@ann", "+doc:c#viewer@ann")
+    # Behind the gate and the length stands the version of the first batch.
+    for name in ("c.a", "0.a", "1.a", "2.a"):
+        path = os.path.join(folder, name)
+        spoil(path, 5)
+        refused(DAMAGED, options(folder))
+        spoil(path, 5)
+    finds(folder, "doc:a#viewer@ann")
+
+
+def finds(folder, tuple):
+    with Server(folder) as server, Session(server.port) as session:
+        answer = session.ask(check(tuple))
+        must(answer.get("member") is True, f"answers {answer} to a check of {tuple}")
+
+
+def other_stores(folder):
+    """files of another number of shards, another store or another node: `16 Damaged`"""
+    makes_files(folder, "+doc:a#viewer@ann")
+    for other in ({"shards": SHARDS - 1}, {"shards": SHARDS + 1}, {"store": STORE + 1}):
+        refused(DAMAGED, options(folder, **other))
+    finds(folder, "doc:a#viewer@ann")
+    pair = [os.path.join(folder, name) for name in ("0.a", "1.a", "other")]
+    for source, target in ((0, 2), (1, 0), (2, 1)):
+        os.rename(pair[source], pair[target])
+    refused(DAMAGED, options(folder))
+
+
+TRIES = {
+    "bad-command-lines": bad_command_lines,
+    "help": help_is_told,
+    "no-folder": no_folder,
+    "taken-port": taken_port,
+    "second-server": second_server,
+    "damaged-files": damaged_files,
+    "other-stores": other_stores,
+}

@@ -1,0 +1,160 @@
+"""What a server answers over its connections."""
+import importlib.machinery
+import importlib.util
+import json
+import os
+
+from judge.worlds import must
+from serving.server import TOP, Server
+from serving.wire import Session, check, delete, place_of, read, refusal, spelled, touch, watch, write
+from serving.wire import token as token_of
+
+MAX_LINE = 262144
+TOO_LARGE = refusal(3, "TooLarge")
+
+
+def is_told(session, request, wanted):
+    """The answer, to the byte."""
+    session.send(spelled(request))
+    answer, text = session.line(), json.dumps(wanted, sort_keys=True, separators=(",", ":")).encode()
+    must(answer == text, f"answers {answer[:300]} to {str(request)[:200]}, and not {text[:300]}")
+
+
+def each_request(folder):
+    """the four requests, each answered as its page says"""
+    with Server(folder) as server, Session(server.port) as session:
+        is_told(session, write("+doc:readme#viewer@ann"), {"zookie": token_of(1)})
+        is_told(session, write("+group:staff#member@bob", "+doc:readme#viewer@group:staff#member", "-doc:readme#viewer@ann"), {"zookie": token_of(2)})
+        is_told(session, check("doc:readme#viewer@bob"), {"member": True, "zookie": token_of(2)})
+        is_told(session, check("doc:readme#viewer@ann"), {"member": False, "zookie": token_of(2)})
+        is_told(session, check("doc:readme#viewer@ann", exact=token_of(1)), {"member": True, "zookie": token_of(1)})
+        sets = [["doc:readme#viewer@group:staff#member"], ["group:staff#member@bob"]]
+        is_told(session, read("doc:readme", "group@bob"), {"sets": sets, "zookie": token_of(2)})
+        conditions = [{"tuple": "doc:readme#viewer@ann", "since": token_of(1)}]
+        is_told(session, write("+doc:readme#viewer@ann", conditions=conditions), refusal(9, "Precondition"))
+        conditions = [{"tuple": "doc:readme#viewer@ann", "want": "absent"}, {"tuple": "group:staff#member@bob", "want": "exists"}]
+        is_told(session, write("+doc:readme#owner@ann", conditions=conditions), {"zookie": token_of(3)})
+        is_told(session, check("doc:readme#viewer@ann", exact=token_of(4)), refusal(7, "Future"))
+        is_told(session, read("doc:readme", exact=token_of(1, 99)), refusal(6, "WrongStore"))
+        events = [(2, touch("group:staff#member@bob")), (3, touch("doc:readme#owner@ann"))]
+        events.insert(1, (2, touch("doc:readme#viewer@group:staff#member")))
+        events.insert(2, (2, delete("doc:readme#viewer@ann")))
+        told = [{"change": change["op"], "place": place, "tuple": change["tuple"]} for place, change in events]
+        is_told(session, watch(token_of(1), "doc", "group"), {"events": told, "heartbeat": token_of(3)})
+        is_told(session, watch(token_of(1), "group", limit=1), {"events": told[:1], "heartbeat": token_of(2)})
+
+
+def is_a_refused_row(row):
+    """Whether it is refused before any store is asked."""
+    answer = row.split(b"\t", 1)[0]
+    return answer.isdigit() and 1 <= int(answer) <= 6
+
+
+def refused_lines(folder):
+    """each refused line of checks/request_lines.tsv"""
+    path = os.path.join(TOP, "checks", "request_lines")
+    loader = importlib.machinery.SourceFileLoader("request_lines", path)
+    lines = importlib.util.module_from_spec(importlib.util.spec_from_loader("request_lines", loader))
+    loader.exec_module(lines)
+    with open(path + ".tsv", "rb") as file:
+        rows = [row.split(b"\t", 1) for row in file.read().splitlines() if is_a_refused_row(row)]
+    must(len(rows) > 250, f"there are {len(rows)} rows")
+    with Server(folder, store=1) as server:
+        for answer, line in rows:
+            with Session(server.port) as session:
+                given = lines.given(line)
+                session.send(given)
+                session.end()
+                told = [session.line() for _ in given.removesuffix(b"\n").split(b"\n")]
+                must(told[-1] == lines.wanted(answer), f"answers {told[-1]} to {line[:200]}, and not {lines.wanted(answer)}")
+                must(session.is_ended(), "does not end")
+
+
+def fresh_reads(folder):
+    """a touch over one connection, and a read and a check over another, at least as new as its token"""
+    with Server(folder) as server, Session(server.port) as first, Session(server.port) as second:
+        for number in range(1, 101):
+            tuple = f"doc:d{number}#viewer@ann"
+            told = first.ask(write("+" + tuple))
+            must(told == {"zookie": token_of(number)}, f"answers {told} to touch {number}")
+            asked = read(f"doc:d{number}", at_least=told["zookie"]) if number % 2 else check(tuple, at_least=told["zookie"])
+            answer = second.ask(asked)
+            must(answer.get("sets") == [[tuple]] or answer.get("member") is True, f"answers {answer} to {asked}")
+            must(place_of(answer) >= number, f"answers at place {place_of(answer)}, and the touch is at {number}")
+
+
+def two_sessions(folder):
+    """two sessions at once, with two workers"""
+    with Server(folder, workers=2) as server, Session(server.port) as first, Session(server.port) as second:
+        for number in range(1, 51):
+            session = first if number % 2 else second
+            is_told(session, write(f"+doc:d{number}#viewer@ann"), {"zookie": token_of(number)})
+        is_told(first, check("doc:d50#viewer@ann"), {"member": True, "zookie": token_of(50)})
+        is_told(second, check("doc:d49#viewer@ann"), {"member": True, "zookie": token_of(50)})
+
+
+def lines_ahead(folder):
+    """requests that are sent ahead, answered in their order"""
+    count = 500
+    with Server(folder) as server, Session(server.port) as session:
+        for number in range(count):
+            user = "ann" if number % 3 else "bob"
+            session.send(spelled(write(f"+doc:d{number}#viewer@ann")) + spelled(check(f"doc:d{number}#viewer@{user}")))
+        session.send(b"{}\n")
+        session.end()
+        for number in range(count):
+            at = token_of(number + 1)
+            for wanted in ({"zookie": at}, {"member": number % 3 != 0, "zookie": at}):
+                answer = session.answer()
+                must(answer == wanted, f"answers {answer}, and not {wanted}")
+        must(session.answer() == refusal(1, "BadRequest"), "answers something else to the last line")
+        must(session.is_ended(), "does not end where its client has ended")
+
+
+def half_lines(folder):
+    """a client that sends half a line and goes"""
+    half = spelled(write("+doc:half#viewer@ann"))[:-20]
+    with Server(folder, workers=2) as server:
+        for _ in range(10):
+            with Session(server.port) as session:
+                session.send(half)
+        with Session(server.port) as session:
+            session.send(half)
+            session.end()
+            must(session.answer() == refusal(1, "BadRequest"), "does not refuse bytes behind the last line feed")
+            must(session.is_ended(), "does not end")
+        with Session(server.port) as session:
+            is_told(session, read("doc:half"), {"sets": [[]], "zookie": token_of(0)})
+
+
+def slow_lines(folder):
+    """a line that comes in pieces"""
+    line = spelled(write("+doc:a#viewer@ann"))
+    with Server(folder) as server, Session(server.port) as session:
+        for at in range(len(line)):
+            session.send(line[at : at + 1])
+        must(session.answer() == {"zookie": token_of(1)}, "answers something else")
+
+
+def long_lines(folder):
+    """a line of 262,144 bytes is answered, one of a byte more is refused, and the session goes on"""
+    line = spelled(check("doc:a#viewer@ann"))[:-1]
+    whole = {"member": False, "zookie": token_of(0)}
+    with Server(folder) as server, Session(server.port) as session:
+        for length, wanted in ((MAX_LINE, whole), (MAX_LINE + 1, TOO_LARGE), (MAX_LINE, whole), (3 * MAX_LINE, TOO_LARGE)):
+            session.send(line + b" " * (length - len(line)) + b"\n")
+            answer = session.answer()
+            must(answer == wanted, f"answers {answer} to a line of {length} bytes, and not {wanted}")
+        is_told(session, check("doc:a#viewer@ann"), whole)
+
+
+TRIES = {
+    "each-request": each_request,
+    "refused-lines": refused_lines,
+    "fresh-reads": fresh_reads,
+    "two-sessions": two_sessions,
+    "lines-ahead": lines_ahead,
+    "half-lines": half_lines,
+    "slow-lines": slow_lines,
+    "long-lines": long_lines,
+}
