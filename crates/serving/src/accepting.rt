@@ -1,0 +1,92 @@
+// The acceptor puts each connection where the workers find it.
+ghost use Rattle.std.specs.Prelude.{◌≡◌};
+
+use crate::hall::Hall;
+use connections::AcceptorPass;
+use crossbeam_utils::sync::Unparker;
+use std::net::{TcpListener, TcpStream};
+use std::sync::Wait;
+use std::time::{Clock, Duration};
+use std::{io, thread};
+
+// A read that waits longer is a tick.
+const TICK_SECONDS: u64 = 1;
+
+// A caller who takes nothing for so long is not waited for.
+const SLOWEST_SECONDS: u64 = 30;
+
+// How long it waits behind an accept that failed, as where too many files are open.
+const PAUSE_MILLISECONDS: u64 = 10;
+
+// How many accepts may fail in a row.
+const FAILURES: u32 = 1024;
+
+// No server accepts so many.
+const CONNECTIONS: u64 = 1 << 62;
+
+#[derive(Drop)]
+pub(crate) struct Acceptor<'a> {
+    pub(crate) hall: &'a Hall,
+    pub(crate) listener: &'a TcpListener,
+    pub(crate) pass: AcceptorPass<TcpStream>,
+    pub(crate) bells: Vec<Unparker>,
+    ghost queue: { pass.queue ≡ hall.now.queue },
+}
+
+impl Acceptor<'_> {
+    /// Accepts until so many connections were put. An error ends it that came 1,024 times in a row.
+    pub(crate) fn accept_all<R: Wait + Clock>(
+        &mut self,
+        rt: &R,
+        connections: Option<u64>,
+    ) -> io::Result<()> {
+        let most = connections.unwrap_or(CONNECTIONS);
+        let mut failures = 0u32;
+        for _ in rt.forever() {
+            if self.pass.count() >= most {
+                return Ok(());
+            }
+            match self.listener.accept() {
+                Ok((stream, _)) => {
+                    failures = 0;
+                    self.admit(rt, stream);
+                }
+                Err(error) => {
+                    failures = failures.saturating_add(1);
+                    if failures >= FAILURES {
+                        return Err(error);
+                    }
+                    thread::sleep(rt, Duration::from_millis(PAUSE_MILLISECONDS));
+                }
+            }
+        }
+        unreachable!()
+    }
+
+    // One whose socket cannot be set up is closed.
+    fn admit<R: Wait>(&mut self, rt: &R, stream: TcpStream) {
+        if self.pass.count() < CONNECTIONS && set_up(&stream).is_ok() {
+            self.hall.put(rt, &mut self.pass, stream);
+            self.ring();
+        }
+    }
+
+    // Each worker looks for a connection, or whether the server closes. A ring before its sleep is kept.
+    fn ring(&self) {
+        for bell in &self.bells {
+            bell.unpark();
+        }
+    }
+
+    /// The workers end once none waits.
+    pub(crate) fn close(&self) {
+        self.hall.signs.close();
+        self.ring();
+    }
+}
+
+fn set_up(stream: &TcpStream) -> io::Result<()> {
+    stream.set_nodelay(true)?;
+    stream.set_read_timeout(Some(Duration::from_secs(TICK_SECONDS)))?;
+    stream.set_write_timeout(Some(Duration::from_secs(SLOWEST_SECONDS)))
+}
