@@ -1,5 +1,5 @@
 // The acceptor puts each connection where the workers find it.
-ghost use Rattle.std.specs.Prelude.{◌≡◌};
+ghost use Rattle.std.specs.Prelude.{◌≡◌, ◌≤◌, ◌+◌, OnOk, IfSome};
 
 use crate::hall::Hall;
 use connections::AcceptorPass;
@@ -39,7 +39,10 @@ impl Acceptor<'_> {
         &mut self,
         rt: &R,
         connections: Option<u64>,
-    ) -> io::Result<()> {
+    ) -> io::Result<()>
+        requires { self.old.pass.put ≡ 0 }
+        ensures { OnOk result (IfSome connections (λ n. self.new.pass.put ≡ n)) }
+    {
         let most = connections.unwrap_or(CONNECTIONS);
         let mut failures = 0u32;
         for _ in rt.forever() {
@@ -64,7 +67,9 @@ impl Acceptor<'_> {
     }
 
     // One whose socket cannot be set up is closed.
-    fn admit<R: Wait>(&mut self, rt: &R, stream: TcpStream) {
+    fn admit<R: Wait>(&mut self, rt: &R, stream: TcpStream)
+        ensures { self.new.pass.put ≤ self.old.pass.put + 1 }
+    {
         if self.pass.count() < CONNECTIONS && set_up(&stream).is_ok() {
             self.hall.put(rt, &mut self.pass, stream);
             self.ring();

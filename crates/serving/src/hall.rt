@@ -1,5 +1,5 @@
 // What the threads of a server share: where connections wait, and what sessions are told.
-ghost use Rattle.std.specs.Prelude.{◌≡◌, ◌<◌, ◌^◌};
+ghost use Rattle.std.specs.Prelude.{◌≡◌, ◌<◌, ◌^◌, ◌≤◌, ◌+◌};
 
 use crate::signs::Signs;
 use connections::{AcceptorPass, Connections, WorkerPass};
@@ -23,6 +23,7 @@ impl Hall {
         requires queue { acceptor.old.queue ≡ self.now.queue }
         requires number { acceptor.old.put < 2 ^ 62 }
         ensures queue { acceptor.new.queue ≡ acceptor.old.queue }
+        ensures number { acceptor.new.put ≤ acceptor.old.put + 1 }
     {
         // Before it can be taken, so that no more are taken than were counted.
         self.signs.add_waiting();

@@ -17,6 +17,8 @@ mod patient;
 mod serving;
 mod session;
 mod signs;
+#[cfg(test)]
+mod tests;
 mod working;
 
 pub use patience::Patience;

@@ -29,24 +29,17 @@ impl<R: Read> Read for Patient<'_, R> {
                     self.patience.ticks = 0;
                     return Ok(count);
                 }
-                Err(error) => {
-                    if !is_late(&error) {
-                        return Err(error);
+                Err(error) => match error.kind() {
+                    ErrorKind::Interrupted => {}
+                    ErrorKind::WouldBlock | ErrorKind::TimedOut => {
+                        if self.patience.tick() {
+                            return Err(error);
+                        }
                     }
-                    if self.patience.tick() {
-                        return Err(error);
-                    }
-                }
+                    _ => return Err(error),
+                },
             }
         }
         Err(ErrorKind::TimedOut.into())
-    }
-}
-
-// Whether a read found nothing in time.
-fn is_late(error: &io::Error) -> bool {
-    match error.kind() {
-        ErrorKind::WouldBlock | ErrorKind::TimedOut => true,
-        _ => false,
     }
 }

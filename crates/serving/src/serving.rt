@@ -40,7 +40,7 @@ pub fn serve_on<R: Threads + Wait + Clock + Sync, A: Answers + Send + Drop>(
         signs: Signs::new(),
     };
     let mut bells = Vec::new(alloc);
-    let workers = equipped(alloc, &hall, serving, passes, workers, &mut bells)?;
+    let workers = equipped(alloc, &hall, passes, workers, &mut bells)?;
     let mut acceptor = Acceptor {
         hall: &hall,
         listener,
@@ -54,7 +54,6 @@ pub fn serve_on<R: Threads + Wait + Clock + Sync, A: Answers + Send + Drop>(
 fn equipped<'a, A: Answers + Drop>(
     alloc: Global,
     hall: &'a Hall,
-    serving: &'a Serving,
     mut passes: Vec<WorkerPass<TcpStream>>,
     workers: Vec<A>,
     bells: &mut Vec<Unparker>,
@@ -68,7 +67,6 @@ fn equipped<'a, A: Answers + Drop>(
             bells.push(parker.unparker().clone()?)?;
             let worker = Worker {
                 hall,
-                serving,
                 parker,
                 pass,
                 answers,
@@ -86,20 +84,31 @@ fn run<R: Threads + Wait + Clock + Sync, A: Answers + Send + Drop>(
     serving: &Serving,
     acceptor: &mut Acceptor<'_>,
     workers: Vec<Worker<'_, A>>,
-) -> io::Result<()> {
+) -> io::Result<()>
+    requires { acceptor.old.pass.put ≡ 0 }
+{
     if workers.is_empty() {
         return Err(ErrorKind::InvalidInput.into());
     }
-    thread::scope(thread::scope_env(), rt, move |scope| -> io::Result<()> {
-        for worker in workers {
-            let mut worker = worker;
-            if scope.spawn(move || worker.work(rt, alloc)).is_err() {
-                acceptor.close();
-                return Err(io::Error::other("could not start a thread"));
+    thread::scope(
+        thread::scope_env(),
+        rt,
+        move |scope| -> io::Result<()>
+            requires { acceptor.now.pass.put ≡ 0 }
+        {
+            for worker in workers {
+                let mut worker = worker;
+                if scope
+                    .spawn(move || worker.work(rt, alloc, serving))
+                    .is_err()
+                {
+                    acceptor.close();
+                    return Err(io::Error::other("could not start a thread"));
+                }
             }
-        }
-        let accepted = acceptor.accept_all(rt, serving.connections);
-        acceptor.close();
-        accepted
-    })
+            let accepted = acceptor.accept_all(rt, serving.connections);
+            acceptor.close();
+            accepted
+        },
+    )
 }
