@@ -18,8 +18,8 @@ const SLOWEST_SECONDS: u64 = 30;
 // How long it waits behind an accept that failed, as where too many files are open.
 const PAUSE_MILLISECONDS: u64 = 10;
 
-// How many accepts may fail in a row.
-const FAILURES: u32 = 1024;
+// As many accepts that fail in a row end the server.
+const TRIES: u32 = 1024;
 
 // No server accepts so many.
 const CONNECTIONS: u64 = 1 << 62;
@@ -34,7 +34,7 @@ pub(crate) struct Acceptor<'a> {
 }
 
 impl Acceptor<'_> {
-    /// Accepts until so many connections were put. An error ends it that came 1,024 times in a row.
+    /// Accepts until so many connections were put. 1,024 accepts that fail in a row end it.
     pub(crate) fn accept_all<R: Wait + Clock>(
         &mut self,
         rt: &R,
@@ -44,26 +44,26 @@ impl Acceptor<'_> {
         ensures { OnOk result (IfSome connections (λ n. self.new.pass.put ≡ n)) }
     {
         let most = connections.unwrap_or(CONNECTIONS);
-        let mut failures = 0u32;
         for _ in rt.forever() {
             if self.pass.count() >= most {
                 return Ok(());
             }
-            match self.listener.accept() {
-                Ok((stream, _)) => {
-                    failures = 0;
-                    self.admit(rt, stream);
-                }
-                Err(error) => {
-                    failures = failures.saturating_add(1);
-                    if failures >= FAILURES {
-                        return Err(error);
-                    }
-                    thread::sleep(rt, Duration::from_millis(PAUSE_MILLISECONDS));
-                }
-            }
+            let stream = self.accept_next(rt)?;
+            self.admit(rt, stream);
         }
         unreachable!()
+    }
+
+    // The next connection. It tries again behind an accept that failed, and ends with the error of the last try.
+    fn accept_next<R: Clock>(&self, rt: &R) -> io::Result<TcpStream> {
+        for _ in 1..TRIES {
+            if let Ok((stream, _)) = self.listener.accept() {
+                return Ok(stream);
+            }
+            thread::sleep(rt, Duration::from_millis(PAUSE_MILLISECONDS));
+        }
+        let (stream, _) = self.listener.accept()?;
+        Ok(stream)
     }
 
     // One whose socket cannot be set up is closed.
