@@ -1,0 +1,9 @@
+use Rattle.std.proofs.Common.{◌≡◌}
+use Rattle.std.specs.Io.KnownBytes.{Keeps}
+use Rattle.serving.proofs.patient.PatientRead.read.Given as goal
+
+abbrev pub invariant-loop : goal.invariant-loop
+invariant-loop g l = record {
+  bytes : Keeps (g.R.Read.remaining l.initial.self.input) (g.R.Read.remaining l.self.input);
+  idle : l.self.patience.idle ≡ l.initial.self.patience.idle;
+}

@@ -1,0 +1,28 @@
+//! Serving: sessions over TCP, one connection a session, by as many threads as there are workers.
+//!
+//! Keeps: what a connection is written is the session of what was read from it, or a beginning of it where the session broke off.
+//! Never: cuts a session that was not idle for the ticks that it may be; one that may be idle for ever is cut only while the server closes.
+//! Callers rely on: a worker serves one connection at a time, from its first line to its last.
+//!
+//! Only tested: that each connection is served once, that sessions of several workers go on beside one another, and that the server ends.
+//! No contract says that a call returns: threads wait for connections, and each for its caller.
+//!
+//! Start at `serve_one`, a session over any reader and writer, and then `serve_on`.
+#![tactic(auto)]
+
+mod accepting;
+mod hall;
+mod patience;
+mod patient;
+mod serving;
+mod session;
+mod signs;
+#[cfg(test)]
+mod tests;
+mod working;
+
+pub use patience::Patience;
+pub use patient::Patient;
+pub use serving::{Serving, serve_on};
+pub use session::serve_one;
+pub use signs::Signs;

@@ -1,0 +1,114 @@
+// A server over a listener.
+ghost use Rattle.std.specs.Prelude.{◌≡◌, All};
+
+use crate::accepting::Acceptor;
+use crate::hall::Hall;
+use crate::signs::Signs;
+use crate::working::Worker;
+use connections::{Connections, WorkerPass};
+use crossbeam_utils::sync::{Parker, Unparker};
+use sessions::Answers;
+use std::alloc::{AllocError, Global};
+use std::io::{self, ErrorKind};
+use std::net::{TcpListener, TcpStream};
+use std::sync::Wait;
+use std::thread::{self, Threads};
+use std::time::Clock;
+
+/// How a server serves.
+#[derive(Clone, Copy)]
+pub struct Serving {
+    /// The store that requests are asked of.
+    pub store: u64,
+    /// For how many ticks, of a second each, an idle session keeps its worker while others wait; 0: for ever.
+    pub idle: u64,
+    /// The server ends behind so many connections. Once the last has come, a session is cut where it is idle for a tick.
+    pub connections: Option<u64>,
+}
+
+/// Serves connections of the listener, by a thread for each worker, until so many have come and are served.
+pub fn serve_on<R: Threads + Wait + Clock + Sync, A: Answers + Send + Drop>(
+    rt: &R,
+    alloc: Global,
+    listener: &TcpListener,
+    serving: &Serving,
+    workers: Vec<A>,
+) -> io::Result<()> {
+    let (queue, pass, passes) = Connections::new(alloc, workers.len())?;
+    let hall = Hall {
+        queue,
+        signs: Signs::new(),
+    };
+    let mut bells = Vec::new(alloc);
+    let workers = equipped(alloc, &hall, passes, workers, &mut bells)?;
+    let mut acceptor = Acceptor {
+        hall: &hall,
+        listener,
+        pass,
+        bells,
+    };
+    run(rt, alloc, serving, &mut acceptor, workers)
+}
+
+// The workers with their passes, and what wakes each of them.
+fn equipped<'a, A: Answers + Drop>(
+    alloc: Global,
+    hall: &'a Hall,
+    mut passes: Vec<WorkerPass<TcpStream>>,
+    workers: Vec<A>,
+    bells: &mut Vec<Unparker>,
+) -> Result<Vec<Worker<'a, A>>, AllocError>
+    requires { All (λ w. w.queue ≡ hall.now.queue) passes.items }
+{
+    let mut equipped = Vec::new(alloc);
+    for answers in workers {
+        if let Some(pass) = passes.pop() {
+            let parker = Parker::new(alloc)?;
+            bells.push(parker.unparker().clone()?)?;
+            let worker = Worker {
+                hall,
+                parker,
+                pass,
+                answers,
+            };
+            equipped.push(worker)?;
+        }
+    }
+    Ok(equipped)
+}
+
+// Runs the workers beside the acceptor. Where a thread cannot be made, the server closes at once.
+fn run<R: Threads + Wait + Clock + Sync, A: Answers + Send + Drop>(
+    rt: &R,
+    alloc: Global,
+    serving: &Serving,
+    acceptor: &mut Acceptor<'_>,
+    workers: Vec<Worker<'_, A>>,
+) -> io::Result<()>
+    requires { acceptor.old.pass.put ≡ 0 }
+{
+    if workers.is_empty() {
+        return Err(ErrorKind::InvalidInput.into());
+    }
+    thread::scope(
+        thread::scope_env(),
+        rt,
+        move |scope| -> io::Result<()>
+            requires { acceptor.now.pass.put ≡ 0 }
+        {
+            for worker in workers {
+                let mut worker = worker;
+                if scope
+                    .spawn(move || worker.work(rt, alloc, serving))
+                    .is_err()
+                {
+                    acceptor.close();
+                    return Err(io::Error::other("could not start a thread"));
+                }
+            }
+            let accepted = acceptor.accept_all(rt, serving.connections);
+            acceptor.close();
+            accepted
+        },
+    )
+}

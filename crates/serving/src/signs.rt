@@ -1,0 +1,43 @@
+// What sessions are told of their server.
+use std::sync::atomic::{AtomicBool, AtomicU64, Ordering};
+
+/// What sessions are told of their server: how many connections wait for a worker, and whether the server closes.
+/// Other threads change it at any time, so contracts see nothing of it.
+#[derive(Drop)]
+pub struct Signs {
+    waiting: AtomicU64,
+    closing: AtomicBool,
+}
+
+impl Signs {
+    /// None waits, and the server does not close.
+    pub fn new() -> Signs {
+        Signs {
+            waiting: AtomicU64::new(0),
+            closing: AtomicBool::new(false),
+        }
+    }
+
+    /// One more waits.
+    pub fn add_waiting(&self) {
+        self.waiting.fetch_add(1, Ordering::SeqCst);
+    }
+
+    /// One fewer waits. It was added before.
+    pub fn remove_waiting(&self) {
+        self.waiting.fetch_sub(1, Ordering::SeqCst);
+    }
+
+    pub fn has_waiting(&self) -> bool {
+        self.waiting.load(Ordering::SeqCst) > 0
+    }
+
+    /// From now on the server closes.
+    pub fn close(&self) {
+        self.closing.store(true, Ordering::SeqCst);
+    }
+
+    pub fn is_closing(&self) -> bool {
+        self.closing.load(Ordering::SeqCst)
+    }
+}
