@@ -1,8 +1,7 @@
 // What all threads of a run share beside the store: its clock, and its counter.
-use std::io;
 use std::sync::atomic::{AtomicU64, Ordering};
-use std::thread;
 use std::time::{Clock, Duration, Instant};
+use std::{io, thread};
 
 /// The time of a run, and the counter that says which calls had ended before another began.
 #[derive(Drop)]

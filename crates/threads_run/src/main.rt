@@ -55,6 +55,8 @@ fn main(rt: HostRuntime) -> ExitCode {
 
 fn tell_usage(rt: &impl Eprint) -> u8 {
     // A text that can't be printed changes nothing of the status.
-    let _ = eprintln!(rt; "usage: threads_run SECONDS SEED, threads_run two-callers, or threads_run two-writers");
+    let _ = eprintln!(rt;
+        "usage: threads_run SECONDS SEED, threads_run two-callers, or threads_run two-writers"
+    );
     USAGE
 }

@@ -50,7 +50,10 @@ fn run_over_disks<R: Runtime + Threads + Wait + Sync>(
     asked: Asked,
 ) -> u8 {
     let meeting = Meeting::of(asked.guests());
-    match (new_disks(alloc, SHARDS, asked.failing()), Published::new(alloc)) {
+    match (
+        new_disks(alloc, SHARDS, asked.failing()),
+        Published::new(alloc),
+    ) {
         (Ok(disks), Ok((words, log))) => run_over::<SimDisk, Brand, R>(
             rt, alloc, parker, bell, &meeting, words, log, disks, asked,
         ),

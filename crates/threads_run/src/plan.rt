@@ -32,7 +32,7 @@ impl Kind {
             Kind::Writer => (150, 1_500),
             Kind::Reader => (300, 3_000),
             Kind::Watcher => (100, 1_500),
-            Kind::Trouble => (8, 400),
+            Kind::Trouble => (12, 480),
             Kind::End => (0, 0),
         }
     }

@@ -1,6 +1,6 @@
 // What the plays ask: writes of one change, and reads of one tuple.
-use calls::Told;
 use answer_flow::{ReadEnd, WatchEnd};
+use calls::Told;
 use commit_flow::WriteEnd;
 use device::Device;
 use locked::{Caller, Gate, Store};

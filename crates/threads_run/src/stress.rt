@@ -54,18 +54,17 @@ fn work_all<
     B: Room + Send + Sync,
     G: Gate + Sync,
     R: Threads + Wait + Clock + Sync,
->(
-    rt: &R,
-    store: &Store<D, B, G>,
-    course: &Course,
-    workers: &mut [Worker<B>],
-    seconds: u64,
-) {
+>(rt: &R, store: &Store<D, B, G>, course: &Course, workers: &mut [Worker<B>], seconds: u64) {
     let threads = workers.len().max(1);
-    thread::for_each_mut(rt, workers, threads, &|_, worker: &mut Worker<B>| {
-        let calls = worker.kind.calls_in(seconds);
-        worker.work(rt, store, course, calls);
-    });
+    thread::for_each_mut(
+        rt,
+        workers,
+        threads,
+        &|_, worker: &mut Worker<B>| {
+            let calls = worker.kind.calls_in(seconds);
+            worker.work(rt, store, course, calls);
+        },
+    );
 }
 
 // They work while another thread tends the store.
@@ -155,13 +154,7 @@ pub(crate) fn run<
     B: Room + Send + Sync,
     G: Gate + Sync,
     R: Runtime + Threads + Wait + Sync,
->(
-    rt: &R,
-    alloc: Global,
-    store: &Store<D, B, G>,
-    parker: Parker,
-    asked: Stress,
-) -> u8 {
+>(rt: &R, alloc: Global, store: &Store<D, B, G>, parker: Parker, asked: Stress) -> u8 {
     let course = Course::begin(rt, asked.seconds.saturating_mul(1_000));
     match (new_workers(rt, alloc, store, asked.seed), course) {
         (Ok(mut workers), Ok(course)) => {

@@ -6,9 +6,13 @@ use locked::{Gate, Store};
 use names::NodeName;
 use sides::Room;
 use std::sync::Wait;
+use std::thread;
 
 // How often a node is opened again at the end, where it does not come up.
 const TRIES: u64 = 10;
+
+// How often the trouble yields to others at most, before it opens a node again.
+const MOST_TURNS: u64 = 4_000;
 
 impl<B: Room> Worker<B> {
     /// Tells that both disks of each node were set to fail.
@@ -28,6 +32,10 @@ impl<B: Room> Worker<B> {
         store: &Store<D, B, G>,
         course: &Course,
     ) {
+        // The others begin at the same time as this one does, and have to be within their calls.
+        for _ in 0..self.random.below(MOST_TURNS) {
+            thread::yield_now();
+        }
         let shards = store.shards();
         let node = if self.random.happens(25) {
             NodeName::Coordinator

@@ -96,10 +96,7 @@ fn b_sees_behind<D: Device, B: Room, G: Gate, R: Wait>(
         "behind a further write B reads at latest that the tuple is gone",
     );
     let (at, there) = has(rt, alloc, store, caller, Freshness::Exact(place), TUPLE)?;
-    findings.find(
-        at == place && there,
-        "B still reads the tuple at the place",
-    );
+    findings.find(at == place && there, "B still reads the tuple at the place");
     let (at, events) = watch(rt, alloc, store, caller, place.saturating_sub(1))?;
     let is_listed = events.iter().any(|event| is_touch_at(event, place));
     findings.find(
@@ -110,12 +107,7 @@ fn b_sees_behind<D: Device, B: Room, G: Gate, R: Wait>(
 }
 
 // A writes while B, on another thread, reads what there is.
-fn a_writes<
-    D: Device + Send,
-    B: Room + Send + Sync,
-    G: Gate + Sync,
-    R: Threads + Wait + Sync,
->(
+fn a_writes<D: Device + Send, B: Room + Send + Sync, G: Gate + Sync, R: Threads + Wait + Sync>(
     rt: &R,
     alloc: Global,
     store: &Store<D, B, G>,
@@ -133,12 +125,7 @@ fn a_writes<
 }
 
 // B looks beside the strangers.
-fn all_look<
-    D: Device + Send,
-    B: Room + Send + Sync,
-    G: Gate + Sync,
-    R: Threads + Wait + Sync,
->(
+fn all_look<D: Device + Send, B: Room + Send + Sync, G: Gate + Sync, R: Threads + Wait + Sync>(
     rt: &R,
     alloc: Global,
     store: &Store<D, B, G>,
@@ -156,12 +143,7 @@ fn all_look<
 }
 
 // A writes and tells B, who looks.
-fn play<
-    D: Device + Send,
-    B: Room + Send + Sync,
-    G: Gate + Sync,
-    R: Threads + Wait + Sync,
->(
+fn play<D: Device + Send, B: Room + Send + Sync, G: Gate + Sync, R: Threads + Wait + Sync>(
     rt: &R,
     alloc: Global,
     store: &Store<D, B, G>,
@@ -183,11 +165,7 @@ pub(crate) fn run<
     B: Room + Send + Sync,
     G: Gate + Sync,
     R: Runtime + Threads + Wait + Sync,
->(
-    rt: &R,
-    alloc: Global,
-    store: &Store<D, B, G>,
-) -> u8 {
+>(rt: &R, alloc: Global, store: &Store<D, B, G>) -> u8 {
     let mut a = store.session(rt);
     let mut b = Friend {
         caller: store.session(rt),

@@ -45,12 +45,7 @@ fn write_at<D: Device, B: Room, G: Gate, R: Wait>(
 }
 
 // Both write, each from a thread of its own.
-fn write_both<
-    D: Device + Send,
-    B: Room + Send + Sync,
-    G: Gate + Sync,
-    R: Threads + Wait + Sync,
->(
+fn write_both<D: Device + Send, B: Room + Send + Sync, G: Gate + Sync, R: Threads + Wait + Sync>(
     rt: &R,
     alloc: Global,
     store: &Store<D, B, G>,
@@ -71,12 +66,7 @@ pub(crate) fn run<
     B: Room + Send + Sync,
     G: Gate + Sync,
     R: Runtime + Threads + Wait + Sync,
->(
-    rt: &R,
-    alloc: Global,
-    store: &Store<D, B, G>,
-    meeting: &Meeting,
-) -> u8 {
+>(rt: &R, alloc: Global, store: &Store<D, B, G>, meeting: &Meeting) -> u8 {
     if let Err(refusal) = write_both(rt, alloc, store) {
         tell_refusal(rt, refusal);
         return FAILED;
