@@ -1,7 +1,5 @@
 // The words of the command line.
-ghost use Rattle.std.specs.Prelude.{◌≤◌};
-
-/// The most seconds of a run.
+// The most seconds of a run.
 const LONGEST: u64 = 3_600;
 
 /// For how many seconds the threads ask, and what chooses what they ask.
@@ -9,8 +7,6 @@ const LONGEST: u64 = 3_600;
 pub(crate) struct Stress {
     pub(crate) seconds: u64,
     pub(crate) seed: u64,
-    ghost some: { 1 ≤ seconds },
-    ghost few: { seconds ≤ 3600 },
 }
 
 /// What is to be run.

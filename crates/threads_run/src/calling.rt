@@ -17,22 +17,37 @@ use std::alloc::Global;
 use std::sync::Wait;
 use tuples::{Freshness, Namespace, Refusal, Tuple, Tupleset, Userset, Write};
 
+fn add_namespace(
+    alloc: Global,
+    namespaces: &mut Vec<Namespace>,
+    name: &str,
+) -> Result<(), Refusal> {
+    namespaces.reserve(1)?;
+    let bytes = Vec::from_slice(alloc, name.as_bytes())?;
+    let namespace = Namespace::from_vec(bytes)?;
+    namespaces.push_reserved(namespace);
+    Ok(())
+}
+
 /// The namespaces of these names.
-fn namespaces(alloc: Global, names: &[&'static str]) -> Result<Vec<Namespace>, Refusal> {
+pub(crate) fn namespaces(alloc: Global, names: &[&'static str]) -> Result<Vec<Namespace>, Refusal> {
     let mut namespaces = Vec::new(alloc);
     for name in names {
-        let bytes = Vec::from_slice(alloc, name.as_bytes())?;
-        namespaces.reserve(1)?;
-        namespaces.push_reserved(Namespace::from_vec(bytes)?);
+        add_namespace(alloc, &mut namespaces, name)?;
     }
     Ok(namespaces)
 }
 
-// The tupleset of this text, alone.
-fn sets(alloc: Global, text: &str) -> Result<Vec<Tupleset>, Refusal> {
+/// The tupleset of this text, alone.
+pub(crate) fn sets(alloc: Global, text: &str) -> Result<Vec<Tupleset>, Refusal> {
     let mut sets = Vec::with_capacity(alloc, 1)?;
-    sets.push_reserved(Tupleset::parse(alloc, text.as_bytes())?);
-    Ok(sets)
+    match Tupleset::parse(alloc, text.as_bytes()) {
+        Ok(set) => {
+            sets.push_reserved(set);
+            Ok(sets)
+        }
+        Err(refusal) => Err(refusal),
+    }
 }
 
 impl<B: Room> Worker<B> {

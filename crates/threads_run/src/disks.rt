@@ -17,8 +17,9 @@ struct Failure {
     tear: Tear,
 }
 
-// When the disk of this number fails, by the seed.
-fn failure_of(seed: u64, disk: u64) -> Failure {
+// When the disk of this number fails, by the seed; never where there is none.
+fn failure_of(seed: Option<u64>, disk: u64) -> Option<Failure> {
+    let seed = seed?;
     let mut random = Random::of(seed, FIRST_ROW.saturating_add(disk));
     let call = 100 + random.below(3_900);
     let tear = match random.below(3) {
@@ -26,7 +27,7 @@ fn failure_of(seed: u64, disk: u64) -> Failure {
         1 => Tear::New,
         _ => Tear::Fill(random.below(256) as u8),
     };
-    Failure { call, tear }
+    Some(Failure { call, tear })
 }
 
 // A disk that nobody has written, set to fail where that is said.
@@ -52,7 +53,7 @@ pub(crate) fn new_disks(
     let count = 2 * (shards as usize + 1);
     let mut disks = Vec::with_capacity(alloc, count)?;
     for disk in 0..count {
-        let failure = seed.map(|seed| failure_of(seed, disk as u64));
+        let failure = failure_of(seed, disk as u64);
         disks.push_reserved(new_disk(alloc, failure)?);
     }
     Ok(disks)

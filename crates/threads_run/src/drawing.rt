@@ -19,14 +19,24 @@ fn shared(random: &mut Random) -> &'static str {
     SHARED[random.below(20) as usize]
 }
 
-fn add_touch(alloc: Global, changes: &mut Vec<Change>, text: &str) -> Result<(), Refusal> {
+/// Behind the others.
+pub(crate) fn add_touch(
+    alloc: Global,
+    changes: &mut Vec<Change>,
+    text: &str,
+) -> Result<(), Refusal> {
     changes.reserve(1)?;
     let tuple = Tuple::parse(alloc, text.as_bytes())?;
     changes.push_reserved(Change::Touch(tuple));
     Ok(())
 }
 
-fn add_delete(alloc: Global, changes: &mut Vec<Change>, text: &str) -> Result<(), Refusal> {
+/// Behind the others.
+pub(crate) fn add_delete(
+    alloc: Global,
+    changes: &mut Vec<Change>,
+    text: &str,
+) -> Result<(), Refusal> {
     changes.reserve(1)?;
     let tuple = Tuple::parse(alloc, text.as_bytes())?;
     changes.push_reserved(Change::Delete(tuple));

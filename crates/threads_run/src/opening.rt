@@ -30,7 +30,7 @@ pub(crate) const FAILED: u8 = 1;
 /// Opens a store, and runs what was asked for. The status.
 pub(crate) fn run<R: Runtime + Threads + Wait + Sync>(rt: &R, alloc: Global, asked: Asked) -> u8 {
     match new_bell(alloc) {
-        Ok((parker, bell)) => run_over_disks(rt, alloc, parker, bell, asked),
+        Ok((parker, bell)) => run_with_bell(rt, alloc, parker, bell, asked),
         Err(_) => FAILED,
     }
 }
@@ -42,22 +42,37 @@ fn new_bell(alloc: Global) -> Result<(Parker, Unparker), AllocError> {
     Ok((parker, bell))
 }
 
-fn run_over_disks<R: Runtime + Threads + Wait + Sync>(
+fn run_with_bell<R: Runtime + Threads + Wait + Sync>(
     rt: &R,
     alloc: Global,
     parker: Parker,
     bell: Unparker,
     asked: Asked,
 ) -> u8 {
+    match Published::new(alloc) {
+        Ok((words, log)) => run_over_words(rt, alloc, parker, bell, words, log, asked),
+        Err(_) => FAILED,
+    }
+}
+
+fn run_over_words<R: Runtime + Threads + Wait + Sync>(
+    rt: &R,
+    alloc: Global,
+    parker: Parker,
+    bell: Unparker,
+    words: Published<Entry>,
+    log: LogPass<Entry>,
+    asked: Asked,
+) -> u8
+    requires own { log.table ≡ words }
+    requires empty { (log.seen ≡ []) × (log.horizon ≡ 0) }
+{
     let meeting = Meeting::of(asked.guests());
-    match (
-        new_disks(alloc, SHARDS, asked.failing()),
-        Published::new(alloc),
-    ) {
-        (Ok(disks), Ok((words, log))) => run_over::<SimDisk, Brand, R>(
+    match new_disks(alloc, SHARDS, asked.failing()) {
+        Ok(disks) => run_over::<SimDisk, Brand, R>(
             rt, alloc, parker, bell, &meeting, words, log, disks, asked,
         ),
-        _ => FAILED,
+        Err(_) => FAILED,
     }
 }
 

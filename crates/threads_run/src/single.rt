@@ -1,4 +1,6 @@
 // What the plays ask: writes of one change, and reads of one tuple.
+use crate::calling::{namespaces, sets};
+use crate::drawing::{add_delete, add_touch};
 use answer_flow::{ReadEnd, WatchEnd};
 use calls::Told;
 use commit_flow::WriteEnd;
@@ -7,7 +9,7 @@ use locked::{Caller, Gate, Store};
 use sides::Room;
 use std::alloc::Global;
 use std::sync::Wait;
-use tuples::{Change, Freshness, Namespace, Refusal, Tuple, Tupleset, Version, Write};
+use tuples::{Freshness, Refusal, Tuple, Version, Write};
 
 /// What is done to a tuple.
 #[derive(Clone, Copy)]
@@ -18,14 +20,15 @@ pub(crate) enum Deed {
 
 // A write that does it to the tuple with this text.
 fn write_of(alloc: Global, deed: Deed, text: &str) -> Result<Write, Refusal> {
-    let tuple = Tuple::parse(alloc, text.as_bytes())?;
-    let change = match deed {
-        Deed::Touch => Change::Touch(tuple),
-        Deed::Delete => Change::Delete(tuple),
+    let mut changes = Vec::new(alloc);
+    let added = match deed {
+        Deed::Touch => add_touch(alloc, &mut changes, text),
+        Deed::Delete => add_delete(alloc, &mut changes, text),
     };
-    let mut changes = Vec::with_capacity(alloc, 1)?;
-    changes.push_reserved(change);
-    Write::new(changes, Vec::new(alloc))
+    match added {
+        Ok(()) => Write::new(changes, Vec::new(alloc)),
+        Err(refusal) => Err(refusal),
+    }
 }
 
 /// Makes the write, and tells its place.
@@ -46,6 +49,15 @@ pub(crate) fn write<D: Device, B: Room, G: Gate, R: Wait>(
     }
 }
 
+fn has_rows(sets: &[Vec<Tuple>]) -> bool {
+    for rows in sets {
+        if !rows.is_empty() {
+            return true;
+        }
+    }
+    false
+}
+
 /// The place of the answer, and whether the tuple with this text is there.
 pub(crate) fn has<D: Device, B: Room, G: Gate, R: Wait>(
     rt: &R,
@@ -55,10 +67,9 @@ pub(crate) fn has<D: Device, B: Room, G: Gate, R: Wait>(
     freshness: Freshness,
     text: &str,
 ) -> Result<(u64, bool), Refusal> {
-    let mut sets = Vec::with_capacity(alloc, 1)?;
-    sets.push_reserved(Tupleset::parse(alloc, text.as_bytes())?);
+    let sets = sets(alloc, text)?;
     match store.read(rt, alloc, caller, &mut Told::new(), freshness, sets) {
-        ReadEnd::Answered(place, rows) => Ok((place, rows.iter().any(|tuples| !tuples.is_empty()))),
+        ReadEnd::Answered(place, rows) => Ok((place, has_rows(&rows))),
         ReadEnd::Refused(refusal) => Err(refusal),
     }
 }
@@ -71,8 +82,7 @@ pub(crate) fn watch<D: Device, B: Room, G: Gate, R: Wait>(
     caller: &mut Caller<B>,
     from: u64,
 ) -> Result<(u64, Vec<Version>), Refusal> {
-    let mut namespaces = Vec::with_capacity(alloc, 1)?;
-    namespaces.push_reserved(Namespace::from_vec(Vec::from_slice(alloc, b"doc")?)?);
+    let namespaces = namespaces(alloc, &["doc"])?;
     match store.watch(rt, alloc, caller, &mut Told::new(), from, 16, namespaces) {
         WatchEnd::Answered(place, events) => Ok((place, events)),
         WatchEnd::Refused(refusal) => Err(refusal),

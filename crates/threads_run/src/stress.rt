@@ -155,11 +155,11 @@ pub(crate) fn run<
     G: Gate + Sync,
     R: Runtime + Threads + Wait + Sync,
 >(rt: &R, alloc: Global, store: &Store<D, B, G>, parker: Parker, asked: Stress) -> u8 {
-    let course = Course::begin(rt, asked.seconds.saturating_mul(1_000));
-    match (new_workers(rt, alloc, store, asked.seed), course) {
-        (Ok(mut workers), Ok(course)) => {
-            run_workers(rt, alloc, store, &course, &mut workers, parker, asked)
-        }
-        _ => FAILED,
+    let Ok(course) = Course::begin(rt, asked.seconds.saturating_mul(1_000)) else {
+        return FAILED;
+    };
+    match new_workers(rt, alloc, store, asked.seed) {
+        Ok(mut workers) => run_workers(rt, alloc, store, &course, &mut workers, parker, asked),
+        Err(_) => FAILED,
     }
 }

@@ -73,11 +73,15 @@ fn strangers_see<D: Device, B: Room, G: Gate, R: Wait>(
     Ok(())
 }
 
-fn is_touch_at(event: &Version, place: u64) -> bool {
-    match event.change {
-        Change::Touch(_) => event.place == place,
-        Change::Delete(_) => false,
+fn has_touch_at(events: &[Version], place: u64) -> bool {
+    for event in events {
+        if let Change::Touch(_) = event.change {
+            if event.place == place {
+                return true;
+            }
+        }
     }
+    false
 }
 
 // What B sees of the write at the place, where another one at `gone` deleted the tuple.
@@ -98,9 +102,8 @@ fn b_sees_behind<D: Device, B: Room, G: Gate, R: Wait>(
     let (at, there) = has(rt, alloc, store, caller, Freshness::Exact(place), TUPLE)?;
     findings.find(at == place && there, "B still reads the tuple at the place");
     let (at, events) = watch(rt, alloc, store, caller, place.saturating_sub(1))?;
-    let is_listed = events.iter().any(|event| is_touch_at(event, place));
     findings.find(
-        at >= gone && is_listed,
+        at >= gone && has_touch_at(&events, place),
         "B's watch from before the place lists the write",
     );
     Ok(())

@@ -14,18 +14,30 @@ use std::sync::Wait;
 use std::thread::{self, Threads};
 use tuples::{Refusal, Tuple, shard_of};
 
-// Of so many objects one has each shard.
-const OBJECTS: u64 = 256;
+// One of these objects has each shard of a store of four.
+const TEXTS: [&str; 4] = [
+    "doc:a#viewer@u1",
+    "doc:b#viewer@u1",
+    "doc:c#viewer@u1",
+    "doc:d#viewer@u1",
+];
 
-// The text of a tuple whose object has this shard.
-fn text_at(alloc: Global, shards: u8, shard: u8) -> Result<String, Refusal>
+// Whether the object of the tuple with this text has the shard.
+fn is_at(alloc: Global, text: &str, shards: u8, shard: u8) -> Result<bool, Refusal>
     requires some { 1 ≤ shards }
     requires few { shards ≤ max_shards }
 {
-    for number in 0..OBJECTS {
-        let text = format!(in alloc; "doc:o{number}#viewer@u1")?;
-        let tuple = Tuple::parse(alloc, text.as_bytes())?;
-        if shard_of(&tuple.object, shards) == shard {
+    let tuple = Tuple::parse(alloc, text.as_bytes())?;
+    Ok(shard_of(&tuple.object, shards) == shard)
+}
+
+// The text of a tuple whose object has this shard.
+fn text_at(alloc: Global, shards: u8, shard: u8) -> Result<&'static str, Refusal>
+    requires some { 1 ≤ shards }
+    requires few { shards ≤ max_shards }
+{
+    for text in TEXTS {
+        if is_at(alloc, text, shards, shard)? {
             return Ok(text);
         }
     }
@@ -41,7 +53,7 @@ fn write_at<D: Device, B: Room, G: Gate, R: Wait>(
 ) -> Result<u64, Refusal> {
     let text = text_at(alloc, store.shards(), shard)?;
     let mut caller = store.session(rt);
-    write(rt, alloc, store, &mut caller, Deed::Touch, text.as_str())
+    write(rt, alloc, store, &mut caller, Deed::Touch, text)
 }
 
 // Both write, each from a thread of its own.
