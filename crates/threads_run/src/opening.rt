@@ -1,0 +1,129 @@
+// A new store is opened over disks in memory, and what was asked for is run over it.
+ghost use Rattle.std.specs.Prelude.{◌≡◌, ◌*◌, ◌+◌, [], All, vec_len};
+ghost use Rattle.locked.specs.Opening.{IsNew};
+
+use crate::asked::Asked;
+use crate::disks::new_disks;
+use crate::meeting::{Door, Meeting};
+use crate::{stress, two_callers, two_writers};
+use crossbeam_utils::sync::{Parker, Unparker};
+use device::{Device, SimDisk};
+use locked::{Gate, Store};
+use published::{LogPass, Published};
+use sides::Room;
+use std::alloc::{AllocError, Global};
+use std::marker::Brand;
+use std::rt::Runtime;
+use std::sync::Wait;
+use std::thread::Threads;
+use tuples::Entry;
+
+/// The number of the store.
+const STORE: u64 = 1;
+
+/// How many shards it has.
+const SHARDS: u8 = 4;
+
+/// The status where a run was cut off, or a play did not go as it has to.
+pub(crate) const FAILED: u8 = 1;
+
+/// Opens a store, and runs what was asked for. The status.
+pub(crate) fn run<R: Runtime + Threads + Wait + Sync>(rt: &R, alloc: Global, asked: Asked) -> u8 {
+    match new_bell(alloc) {
+        Ok((parker, bell)) => run_with_bell(rt, alloc, parker, bell, asked),
+        Err(_) => FAILED,
+    }
+}
+
+// What wakes whoever tends the store, and what sleeps there.
+fn new_bell(alloc: Global) -> Result<(Parker, Unparker), AllocError> {
+    let parker = Parker::new(alloc)?;
+    let bell = parker.unparker().clone()?;
+    Ok((parker, bell))
+}
+
+fn run_with_bell<R: Runtime + Threads + Wait + Sync>(
+    rt: &R,
+    alloc: Global,
+    parker: Parker,
+    bell: Unparker,
+    asked: Asked,
+) -> u8 {
+    match Published::new(alloc) {
+        Ok((words, log)) => run_over_words(rt, alloc, parker, bell, words, log, asked),
+        Err(_) => FAILED,
+    }
+}
+
+fn run_over_words<R: Runtime + Threads + Wait + Sync>(
+    rt: &R,
+    alloc: Global,
+    parker: Parker,
+    bell: Unparker,
+    words: Published<Entry>,
+    log: LogPass<Entry>,
+    asked: Asked,
+) -> u8
+    requires own { log.table ≡ words }
+    requires empty { (log.seen ≡ []) × (log.horizon ≡ 0) }
+{
+    let meeting = Meeting::of(asked.guests());
+    match new_disks(alloc, SHARDS, asked.failing()) {
+        Ok(disks) => run_over::<SimDisk, Brand, R>(
+            rt, alloc, parker, bell, &meeting, words, log, disks, asked,
+        ),
+        Err(_) => FAILED,
+    }
+}
+
+fn run_over<D: Device + Send, B: Room + Send + Sync, R: Runtime + Threads + Wait + Sync>(
+    rt: &R,
+    alloc: Global,
+    parker: Parker,
+    bell: Unparker,
+    meeting: &Meeting,
+    words: Published<Entry>,
+    log: LogPass<Entry>,
+    devices: Vec<D>,
+    asked: Asked,
+) -> u8
+    requires own { (words ≡ B.log) × (log.table ≡ B.log) }
+    requires empty { (log.seen ≡ []) × (log.horizon ≡ 0) }
+    requires of { (B.store ≡ STORE) × (B.shards ≡ SHARDS) }
+    requires count { vec_len devices ≡ 2 * (SHARDS + 1) }
+    requires new { All (IsNew D.state D.honest) devices.items }
+{
+    match Store::<D, B, Door<'_>>::open(
+        alloc,
+        Door { meeting },
+        bell,
+        words,
+        log,
+        devices,
+        STORE,
+        SHARDS,
+    ) {
+        Ok(store) => run_asked(rt, alloc, &store, parker, meeting, asked),
+        Err(_) => FAILED,
+    }
+}
+
+fn run_asked<
+    D: Device + Send,
+    B: Room + Send + Sync,
+    G: Gate + Sync,
+    R: Runtime + Threads + Wait + Sync,
+>(
+    rt: &R,
+    alloc: Global,
+    store: &Store<D, B, G>,
+    parker: Parker,
+    meeting: &Meeting,
+    asked: Asked,
+) -> u8 {
+    match asked {
+        Asked::Stress(asked) => stress::run(rt, alloc, store, parker, asked),
+        Asked::TwoCallers => two_callers::run(rt, alloc, store),
+        Asked::TwoWriters => two_writers::run(rt, alloc, store, meeting),
+    }
+}
