@@ -1,5 +1,5 @@
 -- What the coordinator under its lock tells is of the list.
-use Rattle.std.proofs.Common.{◌≡◌, ◌≤◌, ◌+◌, ◌-◌, ℕ, min, List, [], ◌∷◌, ◌++◌, length, drop, Result, Option, Some, Ok, Err, refl, sym, ◌∙◌, subst, ap, arith, length-append}
+use Rattle.std.proofs.Common.{◌≡◌, ◌≤◌, ◌-◌, ℕ, min, List, [], ◌∷◌, ◌++◌, length, drop, Result, Option, Some, Ok, Err, refl, sym, ◌∙◌, subst, ap, arith, length-append}
 use Rattle.std.specs.Global.{Vec}
 use Rattle.std.proofs.lemmas.List.{length-drop, length-take}
 use Rattle.refusal.specs.declared.refusal.Refusal.{Refusal}

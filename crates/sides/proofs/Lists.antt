@@ -1,5 +1,5 @@
 -- Just so many writes.
-use Rattle.std.proofs.Common.{◌≡◌, ◌≤◌, ◌-◌, ◌+◌, ℕ, List, [], ◌++◌, length, replicate, take, sym, ◌∙◌, ap, arith, length-append}
+use Rattle.std.proofs.Common.{◌≡◌, ◌≤◌, ◌-◌, ℕ, List, [], ◌++◌, length, replicate, sym, ◌∙◌, ap, arith, length-append}
 use Rattle.std.proofs.lemmas.List.{append-nil, length-replicate, length-take-le, nil_from_length, take-append-le, take_all}
 use Rattle.tuples.specs.declared.entry.Entry.{Entry}
 use Rattle.sides.specs.Joining.{exactly, nothing}

@@ -1,5 +1,5 @@
 -- What a coordinator that is opened again found may join the list.
-use Rattle.std.proofs.Common.{⊎_elim, ℕ, ◌≤◌, true, true≢false, List, Option, Some, None, sym, ◌∙◌, subst}
+use Rattle.std.proofs.Common.{⊎_elim, ℕ, ◌≤◌, true≢false, List, Option, Some, None, sym, ◌∙◌, subst}
 use Rattle.refusal.specs.declared.refusal.Refusal.{Refusal}
 use Rattle.tuples.specs.declared.entry.Entry.{Entry}
 use Rattle.device.specs.Device.{State, left}

@@ -1,6 +1,6 @@
 // A new store is opened over disks in memory, and what was asked for is run over it.
 ghost use Rattle.std.specs.Prelude.{◌≡◌, ◌*◌, ◌+◌, [], All, vec_len};
-ghost use Rattle.locked.specs.Opening.{IsNew};
+ghost use Rattle.locked.specs.Opening.{RestAt};
 
 use crate::asked::Asked;
 use crate::disks::new_disks;
@@ -91,7 +91,8 @@ fn run_over<D: Device + Send, B: Room + Send + Sync, R: Runtime + Threads + Wait
     requires empty { (log.seen ≡ []) × (log.horizon ≡ 0) }
     requires of { (B.store ≡ STORE) × (B.shards ≡ SHARDS) }
     requires count { vec_len devices ≡ 2 * (SHARDS + 1) }
-    requires new { All (IsNew D.state D.honest) devices.items }
+    requires honest { All D.honest devices.items }
+    requires rests { B.rests → RestAt D.state D.honest B.shards B.first B.low devices.items }
 {
     match Store::<D, B, Door<'_>>::open(
         alloc,
