@@ -7,8 +7,8 @@ from serving.server import HOST, SHARDS, STORE, Server, free_port, run, words_of
 from serving.wire import Session, check, write
 
 # Values that an option can't have.
-NUMBERS = ("workers", "window", "connections", "idle")
-BAD = {"shards": ("0", "65", "x", ""), "store": ("x", "-1", "4294967296"), **{name: ("x", "-1") for name in NUMBERS}}
+COUNTED = {name: ("x", "-1", "4294967296") for name in ("store", "window", "connections", "idle")}
+BAD = {**COUNTED, **{name: ("0", "65", "x", "") for name in ("shards", "workers")}}
 DOWN, DAMAGED, LISTEN = "zanstore: 13 Down\n", "zanstore: 16 Damaged\n", "zanstore: listen\n"
 
 
@@ -39,7 +39,7 @@ def is_status_2(*words):
 def bad_command_lines(folder):
     """status 2 and a text"""
     good = options(folder)
-    for name in ("dir", "listen"):
+    for name in good:
         is_status_2(*words_of({key: value for key, value in good.items() if key != name}))
     for name, values in BAD.items():
         for value in values:
