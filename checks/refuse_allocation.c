@@ -1,11 +1,18 @@
 // Refuses one allocation of a program: the one whose number, from 1 on, the environment names in REFUSE_ALLOCATION.
-// Loaded before the C library, for the check `refused_memory` alone; no part of the program.
+// Where it names a file in REFUSE_SHARED, three numbers of 8 bytes there say it while the program runs: which is to be refused, and none where it is 0, how
+// many there were since, and how many were refused.
+// Loaded before the C library, for the checks `refused_memory`, `refused_session` and `refused_serving` alone; no part of the program.
 #define _GNU_SOURCE
 #include <dlfcn.h>
 #include <errno.h>
+#include <fcntl.h>
+#include <stdatomic.h>
 #include <stdlib.h>
+#include <sys/mman.h>
 #include <unistd.h>
 
+struct shared { atomic_long wanted, asked, refused; };
+static struct shared *shared = NULL;
 static long wanted = 0;
 static long asked = 0;
 static int refused = 0;
@@ -24,18 +31,33 @@ __attribute__((constructor)) static void find(void) {
   real_aligned_alloc = dlsym(RTLD_NEXT, "aligned_alloc");
   const char *number = getenv("REFUSE_ALLOCATION");
   wanted = number ? atol(number) : 0;
+  const char *name = getenv("REFUSE_SHARED");
+  int file = name ? open(name, O_RDWR | O_CLOEXEC) : -1;
+  void *found = file < 0 ? MAP_FAILED : mmap(NULL, sizeof *shared, PROT_READ | PROT_WRITE, MAP_SHARED, file, 0);
+  if (found != MAP_FAILED) shared = found;
 }
 
-// Tells by its last words whether the allocation came at all.
+// Tells whether the allocation came at all: at once where it did, since a program with threads may end without its last words.
+static void tell_refused(void) {
+  ssize_t ignored = write(9, "refused\n", 8);
+  (void)ignored;
+}
+
 __attribute__((destructor)) static void tell(void) {
-  const char *words = refused ? "refused\n" : "reached the end\n";
-  ssize_t ignored = write(9, words, refused ? 8 : 16);
+  if (shared || refused) return;
+  ssize_t ignored = write(9, "reached the end\n", 16);
   (void)ignored;
 }
 
 static int is_refused(void) {
+  if (shared && shared->wanted) {
+    if (atomic_fetch_add(&shared->asked, 1) + 1 != shared->wanted) return 0;
+    shared->refused++;
+    return 1;
+  }
   if (!wanted || ++asked != wanted) return 0;
   refused = 1;
+  tell_refused();
   return 1;
 }
 

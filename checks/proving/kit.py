@@ -9,7 +9,9 @@ import types
 
 # The toolchains that these checks were held against. Their `rt` has no interface that it promises, so with any other one
 # each command here is plain `rt`.
-HELD_AGAINST = ("rattle-kit-13f logic dac8208d650f15bf",)
+WITH_STORE = ("rattle-kit-13f logic dac8208d650f15bf",)
+# Their `rt` keeps nothing of one run for the next: `storeless` has the forms for them.
+STORELESS = ("rattle-kit-13b logic dac8208d650f15bf",)
 
 
 def folder():
@@ -20,12 +22,20 @@ def folder():
     return os.path.dirname(os.path.dirname(os.path.realpath(found)))
 
 
-def is_known():
+def name():
     try:
         with open(f"{folder()}/KIT-ID", encoding="utf-8") as file:
-            return file.read().strip() in HELD_AGAINST
+            return file.read().strip()
     except OSError:
-        return False
+        return None
+
+
+def is_known():
+    return name() in WITH_STORE + STORELESS
+
+
+def has_store():
+    return name() in WITH_STORE
 
 
 def script(name, path):

@@ -13,8 +13,11 @@ Read = namedtuple("Read", "kind asked before sets place rows")
 # A watch from a place, of so many places at most, and the place and events of its answer; an event is a place and a change.
 Watch = namedtuple("Watch", "start limit before place events")
 
+# What `dump` prints of the files while no server has them: the greatest place that was told before, its place and its tuples.
+Dump = namedtuple("Dump", "before place rows")
+
 # All of a run. `log` and `again` are the watches of the whole list behind the last kill, and behind one more.
-Run = namedtuple("Run", "asks reads watches log again")
+Run = namedtuple("Run", "asks reads watches log again dumps")
 
 
 def events_of(watches):

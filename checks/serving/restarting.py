@@ -82,6 +82,30 @@ def followed(folder):
     must([(event["place"], event["tuple"]) for event in seen] == wanted, f"has seen {seen}")
 
 
+def full_disk(folder):
+    """a file that gets no longer, as on a full disk: writes are refused with `13 Down` or `12 Unsure`, and a start with room finds what was told"""
+    told, refused = [], []
+    with Server(folder, longest=4000) as server, Session(server.port) as session:
+        for number in range(1, COUNT + 1):
+            answer = session.ask(write(f"+doc:d{number}#viewer@ann"))
+            if "zookie" in answer:
+                told.append(number)
+                must(place_of(answer) == len(told), f"write {number} is told {answer}, and {len(told) - 1} were told before")
+            else:
+                refused.append((number, answer["error"]))
+        must(10 <= len(told) < COUNT and {error for _, error in refused} <= {12, 13}, f"{len(told)} were told, and refused {refused[:5]}")
+        must(sum(error == 12 for _, error in refused) <= 1 and refused[-1] == (COUNT, 13), f"refused {refused[:5]} and at last {refused[-1]}")
+        with Session(server.port) as other:
+            answer = other.ask(write("+doc:more#viewer@ann"))
+            must(answer == refusal(13, "Down"), f"answers {answer} to another session")
+        must(server.goes_on(), "the server has ended")
+    with Server(folder) as server, Session(server.port) as session:
+        found = session.ask(read("doc@ann"))["sets"][0]
+        wanted, unsure = {f"doc:d{number}#viewer@ann" for number in told}, {f"doc:d{number}#viewer@ann" for number, error in refused if error == 12}
+        must(wanted <= {*found} <= wanted | unsure, f"finds {len(found)} tuples, and {len(wanted)} were told")
+        is_told(session, write("+doc:more#viewer@ann"), {"zookie": token_of(len(found) + 1)})
+
+
 def narrow_window(folder):
     """`--window 0`: what is latest is told, and an older exact place may be refused with `8 Collected`"""
     with Server(folder, window=0) as server, Session(server.port) as session:
@@ -98,5 +122,6 @@ TRIES = {
     "killed": killed,
     "killed-writing": killed_writing,
     "followed": followed,
+    "full-disk": full_disk,
     "narrow-window": narrow_window,
 }

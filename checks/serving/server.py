@@ -1,6 +1,7 @@
 """The server as a process: started over a folder, asked to be ready, killed, and waited for."""
 import os
 import random
+import resource
 import signal
 import socket
 import subprocess
@@ -50,14 +51,22 @@ def run(*words):
     return done.returncode, done.stdout, done.stderr
 
 
-class Server:
-    """A server over a folder. It is ready once this is made, unless `ready` is asked for later."""
+def limit_files(longest):
+    """A write past this many bytes fails, and no signal ends the process."""
+    signal.signal(signal.SIGXFSZ, signal.SIG_IGN)
+    resource.setrlimit(resource.RLIMIT_FSIZE, (longest, longest))
 
-    def __init__(self, folder, waits=True, **options):
+
+class Server:
+    """A server over a folder. It is ready once this is made, unless `ready` is asked for later; no file of it gets longer than `longest` bytes."""
+
+    def __init__(self, folder, waits=True, environment=None, longest=None, **options):
         self.port = options.pop("port", None) or free_port()
         given = {"dir": folder, "store": STORE, "shards": SHARDS, "listen": f"{HOST}:{self.port}", "workers": 4, **options}
         words = [program(), "serve", *words_of(given)]
-        self.child = subprocess.Popen(words, stdin=subprocess.DEVNULL, stdout=subprocess.PIPE, stderr=subprocess.PIPE)
+        pipes = {"stdin": subprocess.DEVNULL, "stdout": subprocess.PIPE, "stderr": subprocess.PIPE}
+        limited = (lambda: limit_files(longest)) if longest else None
+        self.child = subprocess.Popen(words, **pipes, env={**os.environ, **(environment or {})}, preexec_fn=limited)
         if waits and not self.is_ready():
             raise Wrong(f"a server is not ready: {self.ended()}")
 

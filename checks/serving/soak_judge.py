@@ -43,6 +43,7 @@ class History:
         yield from self.faults_of_lives()
         yield from self.faults_of_reads()
         yield from self.faults_of_watches()
+        yield from self.faults_of_dumps()
 
     def faults_of_places(self):
         for place, changes in enumerate(self.log, 1):
@@ -98,6 +99,13 @@ class History:
             if [*map(sorted, read.rows)] != wanted:
                 yield "the rows of a place", f"{read.sets} at {read.place} are {read.rows}, and not {wanted}"
 
+    def faults_of_dumps(self):
+        for dump in self.run.dumps:
+            if not dump.before <= dump.place <= len(self.log):
+                yield "a dump is as new as what was told", f"one at {dump.place}, behind {dump.before}, and the list ends at {len(self.log)}"
+            elif list(dump.rows) != there_at(self.log, dump.place):
+                yield "a dump has the tuples of its place", f"one at {dump.place} has {len(dump.rows)} tuples, {list(dump.rows)[:5]}"
+
     def faults_of_watches(self):
         at = 0
         for watch in self.run.watches:
@@ -113,6 +121,14 @@ class History:
             at = watch.place
 
 
+def there_at(log, place):
+    there = set()
+    for changes in log[:place]:
+        for change in changes:
+            (there.add if change[0] == "+" else there.discard)(change[1:])
+    return sorted(there)
+
+
 def spread(log, watch):
     return [(log[place - 1], place) for place in range(watch.start + 1, min(watch.place, len(log)) + 1)]
 
@@ -126,7 +142,7 @@ RULES = (
     "the form of the list", "a start changes nothing", "what stands was asked for", "a write stands once", "what was told stands at its place",
     "what was refused does not stand", "a refusal that may come", "what is there stands", "a write stands above what was told",
     "lives come one after another", "a place as fresh as asked", "a place of the list", "the rows of a place", "a watch goes on",
-    "a watch goes as far as what was told", "the events of the list",
+    "a watch goes as far as what was told", "the events of the list", "a dump is as new as what was told", "a dump has the tuples of its place",
 )
 
 

@@ -1,7 +1,8 @@
 """A run of a plain store that is killed now and then, as its callers would record it."""
 from random import Random
 
-from serving.recorded import Ask, Read, Run, Watch
+from serving.recorded import Ask, Dump, Read, Run, Watch
+from serving.soak_judge import there_at
 
 LIVES, STEPS = 5, 40
 
@@ -9,7 +10,7 @@ LIVES, STEPS = 5, 40
 class Plain:
     def __init__(self, seed):
         self.random, self.log, self.life = Random(seed), [], 0
-        self.asks, self.reads, self.watches, self.again, self.number = [], [], [], [], 0
+        self.asks, self.reads, self.watches, self.dumps, self.again, self.number = [], [], [], [], [], 0
 
     def changes(self):
         self.number += 1
@@ -57,6 +58,7 @@ class Plain:
             self.random.choice((self.write, self.write, self.read, self.watch))()
         for _ in range(3):
             self.write(is_killed=True)
+        self.dumps.append(Dump(len(self.log), len(self.log), there_at(self.log, len(self.log))))
 
 
 def watched(log, start, limit, before):
@@ -74,4 +76,4 @@ def sample(seed):
     plain = Plain(seed)
     for _ in range(LIVES):
         plain.live()
-    return Run(plain.asks, plain.reads, plain.watches, whole(plain.log), whole(plain.log))
+    return Run(plain.asks, plain.reads, plain.watches, whole(plain.log), whole(plain.log), plain.dumps)

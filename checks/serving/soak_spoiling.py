@@ -47,6 +47,12 @@ class Ground:
         watches[at] = change(watches[at])
         return self.run._replace(watches=watches)
 
+    def with_dump(self, change):
+        at = self.choose(at for at, dump in enumerate(self.run.dumps) if dump.rows)
+        dumps = [*self.run.dumps]
+        dumps[at] = change(dumps[at])
+        return self.run._replace(dumps=dumps)
+
     def place(self):
         """A place of a told write."""
         return self.choose(at for at, changes in enumerate(self.log) if changes in self.told)
@@ -241,6 +247,14 @@ KINDS = {
     **{what: lambda ground, one=one: ground.with_read(*one) for what, one in READS.items()},
     **{what: lambda ground, one=one: ground.with_watch(*one) for what, one in WATCHES.items()},
 }
+DUMPS = {
+    "a dump lacks a tuple": lambda dump: dump._replace(rows=dump.rows[1:]),
+    "a dump has a tuple that nobody wrote": lambda dump: dump._replace(rows=[*dump.rows, STRANGER[0][1:]]),
+    "a dump in another order": lambda dump: dump._replace(rows=dump.rows[::-1]),
+    "a dump of an older place": lambda dump: dump._replace(place=dump.place - 1),
+    "a dump above the list": lambda dump: dump._replace(place=10**6),
+}
+KINDS.update({what: lambda ground, change=change: ground.with_dump(change) for what, change in DUMPS.items()})
 TRIES = 3
 
 

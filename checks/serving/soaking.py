@@ -3,10 +3,11 @@ import threading
 import time
 from random import Random
 
+from judge.lines import read_token
 from judge.worlds import Wrong, must
 from serving import wire
-from serving.recorded import Ask, Read, Run, Watch
-from serving.server import Server
+from serving.recorded import Ask, Dump, Read, Run, Watch
+from serving.server import SHARDS, STORE, Server, run
 from serving.soak_judge import UNSURE
 from serving.wire import Gone, Session, place_of, token
 
@@ -21,14 +22,18 @@ FREE = 30
 class Lives:
     """Which server there is, and what all callers know together."""
 
-    def __init__(self, folder, random):
-        self.folder, self.random, self.server = folder, random, None
+    def __init__(self, folder, random, power=None):
+        self.folder, self.random, self.power, self.server = folder, random, power, None
         self.life = self.killed = self.openings = 0
         self.stopped, self.change = False, threading.Condition()
-        self.greatest, self.given, self.names, self.faults = 0, [0], [], []
+        self.greatest, self.given, self.names, self.faults, self.writes = 0, [0], [], [], 0
+        self.dumps, self.has_dump = [], run("dump", "--help")[0] == 0
+
+    def started(self, waits):
+        return Server(self.folder, waits, self.power and self.power.environment(), workers=WRITERS + READERS + 2)
 
     def start(self):
-        server = Server(self.folder, workers=WRITERS + READERS + 2)
+        server = self.started(True)
         with self.change:
             self.server, self.life = server, self.life + 1
             self.change.notify_all()
@@ -37,12 +42,26 @@ class Lives:
         if not self.server.goes_on():
             raise Wrong(f"the server has ended, and nobody killed it: {self.server.ended()}")
         self.killed = self.life
-        self.server.kill()
+        self.ends(self.server)
+
+    def ends(self, server):
+        server.kill()
+        if self.power:
+            self.power.fails()
+
+    def dump(self):
+        """What the program prints of the files, where it has the command."""
+        if not self.has_dump:
+            return
+        status, out, err = run("dump", "--dir", self.folder, "--store", str(STORE), "--shards", str(SHARDS))
+        first, *rows = out.splitlines() or [""]
+        must(status == 0 and first.startswith("at ") and not err, f"a dump ends with status {status}, {first[:80]} and {err[:200]}")
+        self.dumps.append(Dump(self.greatest, read_token(first[3:], STORE), rows))
 
     def kill_opening(self, longest):
-        server = Server(self.folder, waits=False)
+        server = self.started(False)
         time.sleep(self.random.uniform(0, longest))
-        server.kill()
+        self.ends(server)
         self.openings += 1
 
     def connected(self, behind):
@@ -69,6 +88,7 @@ class Lives:
             if len(self.given) < 20000:
                 self.given.append(place)
             self.names += names
+            self.writes += bool(names)
 
     def follow(self, caller):
         """Lets the caller ask, life after life."""
@@ -182,15 +202,26 @@ def whole_list(session):
     return found
 
 
+def lives_on(lives, end):
+    """Some lives last for a time, and some until a few writes were told, however fast the machine is."""
+    lives_until, writes = time.monotonic() + lives.random.choice((0.02, 0.2, 1)) * lives.random.random(), lives.writes
+    if lives.random.random() < 0.5:
+        writes, lives_until = writes + lives.random.randint(1, 40), end
+    while time.monotonic() < lives_until and not lives.faults and (lives_until < end or lives.writes < writes):
+        time.sleep(0.002)
+
+
 def kills(lives, seconds):
     end, begin = time.monotonic() + seconds, time.monotonic()
     lives.start()
     opening = time.monotonic() - begin
     while time.monotonic() < end and not lives.faults:
-        time.sleep(lives.random.choice((0.02, 0.2, 1)) * lives.random.random())
+        lives_on(lives, end)
         lives.kill()
         if lives.random.random() < 0.3:
             lives.kill_opening(1.2 * opening)
+        if lives.random.random() < 0.1:
+            lives.dump()
         begin = time.monotonic()
         lives.start()
         opening = time.monotonic() - begin
@@ -211,12 +242,13 @@ def frees(lives):
 
 def again(lives):
     lives.kill()
+    lives.dump()
     lives.start()
 
 
-def soaked(folder, seconds, seed):
+def soaked(folder, seconds, seed, power=None):
     """The run, and how many kills and killed openings there were. Raises `Wrong`."""
-    lives = Lives(folder, Random(f"{seed} kills"))
+    lives = Lives(folder, Random(f"{seed} kills"), power)
     writers = [Writer(lives, Random(f"{seed} writer {number}"), number) for number in range(WRITERS)]
     readers = [Reader(lives, Random(f"{seed} reader {number}")) for number in range(READERS)]
     watcher = Watcher(lives, Random(f"{seed} watcher"))
@@ -248,4 +280,4 @@ def ended(lives, writers, readers, watcher):
         reads += [read(lives, session, "exact", one.place, one.sets) for one in some]
     again(lives)
     with Session(lives.server.port) as session:
-        return Run(asks, reads, watcher.found, log, whole_list(session))
+        return Run(asks, reads, watcher.found, log, whole_list(session), lives.dumps)

@@ -1,11 +1,12 @@
 """What a server answers over its connections."""
-import importlib.machinery
-import importlib.util
 import json
 import os
+import time
 
 from judge.worlds import must
-from serving.server import TOP, Server
+from serving.libraries import built_library
+from serving.rows import is_refused_before, rows
+from serving.server import Server
 from serving.wire import Session, check, delete, place_of, read, refusal, spelled, touch, watch, write
 from serving.wire import token as token_of
 
@@ -44,29 +45,17 @@ def each_request(folder):
         is_told(session, watch(token_of(1), "group", limit=1), {"events": told[:1], "heartbeat": token_of(2)})
 
 
-def is_a_refused_row(row):
-    """Whether it is refused before any store is asked."""
-    answer = row.split(b"\t", 1)[0]
-    return answer.isdigit() and 1 <= int(answer) <= 6
-
-
 def refused_lines(folder):
     """each refused line of checks/request_lines.tsv"""
-    path = os.path.join(TOP, "checks", "request_lines")
-    loader = importlib.machinery.SourceFileLoader("request_lines", path)
-    lines = importlib.util.module_from_spec(importlib.util.spec_from_loader("request_lines", loader))
-    loader.exec_module(lines)
-    with open(path + ".tsv", "rb") as file:
-        rows = [row.split(b"\t", 1) for row in file.read().splitlines() if is_a_refused_row(row)]
-    must(len(rows) > 250, f"there are {len(rows)} rows")
+    refused = [row for row in rows() if is_refused_before(row[0])]
+    must(len(refused) > 250, f"there are {len(refused)} rows")
     with Server(folder, store=1) as server:
-        for answer, line in rows:
+        for _, given, wanted in refused:
             with Session(server.port) as session:
-                given = lines.given(line)
                 session.send(given)
                 session.end()
                 told = [session.line() for _ in given.removesuffix(b"\n").split(b"\n")]
-                must(told[-1] == lines.wanted(answer), f"answers {told[-1]} to {line[:200]}, and not {lines.wanted(answer)}")
+                must(told[-1] == wanted, f"answers {told[-1]} to {given[-200:]}, and not {wanted}")
                 must(session.is_ended(), "does not end")
 
 
@@ -93,6 +82,31 @@ def two_sessions(folder):
         is_told(second, check("doc:d49#viewer@ann"), {"member": True, "zookie": token_of(50)})
 
 
+def met(folder, workers):
+    """`both`, where two writes of different shards are within their first syncs at the same time, or `late`; and their answers."""
+    os.mkdir(folder)
+    note = folder + ".held"
+    held = {"LD_PRELOAD": built_library("hold_syncs"), "HOLD_FOLDER": os.path.realpath(folder), "HOLD_FILE": note}
+    with Server(folder, environment=held, shards=2, workers=workers) as server, Session(server.port) as first:
+        open(note, "w").close()
+        first.send(spelled(write("+doc:b#viewer@ann")))
+        with Session(server.port) as second:
+            second.send(spelled(write("+doc:a#viewer@ann")))
+            answers = [first.answer()]
+            first.close()
+            answers.append(second.answer())
+    with open(note) as file:
+        return file.read(), answers
+
+
+def two_inside(folder):
+    """two writes of different shards are inside at once: neither's first sync ends before the other's is reached; with one worker it is late"""
+    for workers, wanted in ((2, "both\n"), (1, "late\n")):
+        found, answers = met(os.path.join(folder, str(workers)), workers)
+        must(sorted(map(place_of, answers)) == [1, 2], f"answers {answers}")
+        must(found == wanted, f"with {workers} workers the syncs are reached {found!r}, and not {wanted!r}")
+
+
 def lines_ahead(folder):
     """requests that are sent ahead, answered in their order"""
     count = 500
@@ -109,6 +123,24 @@ def lines_ahead(folder):
                 must(answer == wanted, f"answers {answer}, and not {wanted}")
         must(session.answer() == refusal(1, "BadRequest"), "answers something else to the last line")
         must(session.is_ended(), "does not end where its client has ended")
+
+
+def seconds_of(session, count, ahead):
+    """How long so many checks take, of which so many are sent before an answer is read."""
+    line, begin = spelled(check("doc:a#viewer@ann")), time.monotonic()
+    for _ in range(count // ahead):
+        session.send(line * ahead)
+        for _ in range(ahead):
+            session.line()
+    return time.monotonic() - begin
+
+
+def ahead_is_faster(folder):
+    """requests that are sent ahead take less time than one at a time"""
+    with Server(folder) as server, Session(server.port) as session:
+        tries = [(seconds_of(session, 1000, 1), seconds_of(session, 1000, 100)) for _ in range(3)]
+        alone, ahead = (min(times) for times in zip(*tries))
+        must(ahead < alone, f"1,000 checks take {ahead:.3f} s where they are sent ahead, and {alone:.3f} s one at a time")
 
 
 def half_lines(folder):
@@ -153,7 +185,9 @@ TRIES = {
     "refused-lines": refused_lines,
     "fresh-reads": fresh_reads,
     "two-sessions": two_sessions,
+    "two-inside": two_inside,
     "lines-ahead": lines_ahead,
+    "ahead-is-faster": ahead_is_faster,
     "half-lines": half_lines,
     "slow-lines": slow_lines,
     "long-lines": long_lines,

@@ -9,14 +9,13 @@
 //! Each life of the store is an opening and a run as the headline promises them (`headline`: `Headline`, at any device), since a device over a file keeps
 //! the contract of a device. From one life to the next it goes on where what is found in each file is a content that a stop may leave: what was told stays.
 //!
-//! Start at `devices.rt`; `asked.rt` has the words of the command line.
+//! Start at `run`; `node_files` opens the files, and `asked.rt` has the words of the command line.
 #![tactic(auto)]
 
 mod asked;
-mod devices;
 
 use asked::Asked;
-use devices::open_all;
+use node_files::open_all;
 use refusal::Refusal;
 use scripts::run_over;
 use std::process::ExitCode;

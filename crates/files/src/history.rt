@@ -2,7 +2,7 @@
 //
 // `new` and `note` are proved by hand (proofs/history), since no rule of the language sets data that no memory holds. That is sound:
 // `also_owns` asks for nothing, so every list is one that a history may have, and no run can tell which. What clauses make of the list rests
-// on `note` alone adding to it, with what its caller did. So no other proof by hand over `History` may exist: it could
+// on `note` alone adding to it, with what its caller did. So no other function over `History` may be proved by hand: it could
 // set the events to anything, and the clauses of a device would then speak of calls that were not made.
 ghost use Rattle.std.specs.Prelude.{◌≡◌, List, [], ◌∷◌};
 ghost use Rattle.std.specs.Borrow.{ftrue};
@@ -19,6 +19,9 @@ pub struct History {
 impl Model for History {
     ghost also_owns = { λ _. ftrue };
 }
+
+// It owns nothing, so a device may go to another thread.
+unsafe impl Send for History {}
 
 impl History {
     fn new() -> History

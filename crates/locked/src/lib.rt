@@ -6,7 +6,7 @@
 //! Callers rely on: a read, a check and a watch answer what is so of the list that the caller has then seen, at a place as fresh as asked; and a write that
 //! is told a place stands there in that list, above all that the caller had seen.
 //!
-//! Of all programs only the check of threads uses this yet. Start at `specs/Serving.antt`, what a call leaves a caller with, and then `Store`.
+//! The server and the check of threads use it. Start at `specs/Serving.antt`, what a call leaves a caller with, and then `Store`.
 #![tactic(auto)]
 
 mod caller;
@@ -15,6 +15,7 @@ mod caring;
 mod checking;
 mod gate;
 mod holding;
+mod looking;
 mod making;
 mod opening;
 mod opening_laws;

@@ -1,31 +1,84 @@
-//! The program: a store over disks in memory, which runs scripts.
+//! The program: a store over files that is served to those who connect, or dumped, and a store over disks in memory which runs scripts.
 //!
-//! Keeps: status 0 means that all was read, and that what its lines print was written.
-//! Never: looks at what a line says, and owns no store: `life` has a script carried out over a store of its own, and promises that this is one life of
-//! it.
-//! Callers rely on: the status, 0 at the end of the script, 1 where a read or a write failed or there was no memory for the disks, 2 for a command line that
-//! can't be read.
+//! Keeps: the first word says what is done: `serve`, `dump` or `sim`. Status 0 means that all was done and that what was asked for was written.
+//! Never: looks at a request or a line, and owns no store: `server` serves one over files, `dumping` writes all tuples of one, and `life` has a script carried
+//! out over a store of its own, and promises that this is one life of it.
+//! Callers rely on: the status, 0 at the end of the script or of the last connection, 1 where files, nodes, the address, a read or a write failed or there
+//! was no memory, 2 for a command line that can't be read.
 //!
-//! Start at `sim` of `life`; `settings` reads the command line.
+//! Start at `serve` of `server`, `dump_folder` of `dumping` and `sim` of `life`; `serve_settings`, `dump_settings` and `settings` read the command line.
 #![tactic(auto)]
 
+use dump_settings::DumpSettings;
+use dumping::dump_folder;
 use life::sim;
+use serve_settings::ServeSettings;
+use server::serve;
 use settings::Settings;
-use std::io;
+use std::net::{Net, TcpListener, TcpStream};
 use std::process::ExitCode;
+use std::rt::Runtime;
+use std::sync::Wait;
+use std::thread::Threads;
+use std::{env, io};
+
+// The status where the words of the command line can't be had.
+const USAGE: u8 = 2;
 
 fn main(rt: HostRuntime) -> ExitCode {
-    let settings = match Settings::read(&rt) {
+    let Ok(args) = env::args(&rt) else {
+        return ExitCode::from(USAGE);
+    };
+    let Ok(words) = args.collect::<Vec<String>>(rt.alloc()) else {
+        return ExitCode::from(USAGE);
+    };
+    if ServeSettings::are_for(&words) {
+        return ExitCode::from(run_server(&rt, &rt, &words));
+    }
+    if DumpSettings::are_for(&words) {
+        return ExitCode::from(run_dump(&rt, &words));
+    }
+    ExitCode::from(run_script(&rt))
+}
+
+// Serves what the words ask for.
+fn run_server<R>(rt: &R, files: &HostRuntime, words: &[String]) -> u8
+where
+    R: Runtime + Net<Listener = TcpListener, Stream = TcpStream> + Threads + Wait + Sync,
+{
+    match ServeSettings::read(files, words) {
+        Ok(settings) => serve(rt, files, &settings),
+        Err(status) => status,
+    }
+}
+
+// Writes all tuples of the store that the words ask for.
+fn run_dump(rt: &HostRuntime, words: &[String]) -> u8 {
+    match DumpSettings::read(rt, words) {
+        Ok(settings) => dump_folder(
+            rt,
+            settings.dir.as_str(),
+            settings.store,
+            settings.shards,
+            settings.at,
+        ),
+        Err(status) => status,
+    }
+}
+
+// Runs the script of standard input.
+fn run_script(rt: &HostRuntime) -> u8 {
+    let settings = match Settings::read(rt) {
         Ok(settings) => settings,
-        Err(status) => return ExitCode::from(status),
+        Err(status) => return status,
     };
     let mut reader = rt.reader();
-    let mut writer = io::writer(&rt);
-    ExitCode::from(sim(
+    let mut writer = io::writer(rt);
+    sim(
         rt.alloc(),
         settings.store,
         settings.shards,
         &mut reader,
         &mut writer,
-    ))
+    )
 }

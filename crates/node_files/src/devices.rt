@@ -1,6 +1,6 @@
 // The devices of a store that a folder keeps: two files for each node.
 ghost use Rattle.std.specs.Prelude.{◌≡◌, ◌*◌, ◌+◌, All, IfOk, OnOk, vec_len};
-ghost use Rattle.file_scripts.specs.Devices.{IsFound};
+ghost use Rattle.node_files.specs.Devices.{IsFound};
 
 use files::{FileDevice, HostFile, open};
 use refusal::Refusal;
@@ -69,8 +69,12 @@ fn fill(
     Ok(())
 }
 
-/// Opens, or makes, the two files of each node in the folder: `c.a` and `c.b` of the coordinator, and then those of each shard, as `0.a` and `0.b`.
-pub(crate) fn open_all(
+/// Opens, or makes, the two files of each node in the folder: `c.a` and `c.b` of the coordinator, and then those of each shard by rising number, as `0.a` and
+/// `0.b`. Each is locked for as long as its device lives.
+///
+/// `Down` where the folder or a file can't be opened or made, is a link or no plain file, is too long, or where another process has it; `NoMemory` for its
+/// bytes. What was there is not changed.
+pub fn open_all(
     rt: &HostRuntime,
     folder: &str,
     shards: u8,

@@ -1,7 +1,7 @@
 -- Two more for each shard, each just opened.
 use Rattle.std.proofs.Common.{◌≡◌, ◌*◌, ◌+◌, All, vec_len}
-use Rattle.file_scripts.specs.Devices.{IsFound}
-use Rattle.file_scripts.proofs.devices.fill.Given as goal
+use Rattle.node_files.specs.Devices.{IsFound}
+use Rattle.node_files.proofs.devices.fill.Given as goal
 
 abbrev pub invariant-loop-shard : goal.invariant-loop-shard
 invariant-loop-shard l = record {

@@ -1,0 +1,64 @@
+// Holds a sync of the file 0.a of a folder until one of 1.a is reached, and the other way round, for a try of `served` alone; no part of the program.
+// HOLD_FOLDER names the folder, by its real path. Syncs are held once the file HOLD_FILE is there; it is one line longer, `both` or `late`, as soon as both
+// were reached or two seconds were over, and from then on nothing is held.
+#define _GNU_SOURCE
+#include <dlfcn.h>
+#include <fcntl.h>
+#include <limits.h>
+#include <pthread.h>
+#include <stdio.h>
+#include <stdlib.h>
+#include <string.h>
+#include <sys/syscall.h>
+#include <time.h>
+#include <unistd.h>
+
+#define SECONDS 2
+static pthread_mutex_t lock = PTHREAD_MUTEX_INITIALIZER;
+static pthread_cond_t reached = PTHREAD_COND_INITIALIZER;
+static int is_reached[2], is_over;
+
+// The shard whose file it is, or none.
+static int shard_of(int file) {
+  char link[64], path[PATH_MAX];
+  const char *folder = getenv("HOLD_FOLDER");
+  snprintf(link, sizeof link, "/proc/self/fd/%d", file);
+  ssize_t length = readlink(link, path, sizeof path - 1);
+  if (!folder || length < 0) return -1;
+  path[length] = 0;
+  size_t start = strlen(folder);
+  if (strncmp(path, folder, start)) return -1;
+  return !strcmp(path + start, "/0.a") ? 0 : !strcmp(path + start, "/1.a") ? 1 : -1;
+}
+
+static void tell(const char *word) {
+  int file = syscall(SYS_openat, AT_FDCWD, getenv("HOLD_FILE"), O_WRONLY | O_APPEND | O_CLOEXEC);
+  if (file < 0 || syscall(SYS_write, file, word, strlen(word)) < 0) abort();
+  close(file);
+  is_over = 1;
+  pthread_cond_broadcast(&reached);
+}
+
+static void hold(int shard) {
+  const char *name = getenv("HOLD_FILE");
+  if (!name || access(name, F_OK)) return;
+  struct timespec late;
+  clock_gettime(CLOCK_REALTIME, &late);
+  late.tv_sec += SECONDS;
+  pthread_mutex_lock(&lock);
+  is_reached[shard] = 1;
+  if (!is_over && is_reached[!shard]) tell("both\n");
+  while (!is_over)
+    if (pthread_cond_timedwait(&reached, &lock, &late)) tell("late\n");
+  pthread_mutex_unlock(&lock);
+}
+
+static int sync_by(const char *name, int file) {
+  int shard = shard_of(file);
+  if (shard >= 0) hold(shard);
+  int (*call)(int) = (int (*)(int))dlsym(RTLD_NEXT, name);
+  return call(file);
+}
+
+int fdatasync(int file) { return sync_by("fdatasync", file); }
+int fsync(int file) { return sync_by("fsync", file); }

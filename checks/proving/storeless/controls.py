@@ -1,0 +1,60 @@
+"""The batches' own control: beside edits that are refused, changes that harm nothing are not told as refused.
+
+Three functions of `device` that a device in memory calls are spoiled by edits of its own, and four that call them are changed in a
+way that is proved. In one check all seven have no proof, four of them for their callees' sake alone.
+"""
+
+import glob
+import os
+
+from .. import batches
+from ..kit import rt
+from ..lanes import Task
+
+HERE = os.path.dirname(os.path.dirname(os.path.realpath(__file__)))
+CRATE = "device"
+REFUSED = ("error_without_a_failure.edit", "fails_one_call_too_late.edit", "script_is_gone_after_revive.edit")
+KEY = (CRATE, "control")
+
+
+def batch_of(crate):
+    """The edits that are refused and those that harm nothing, as one batch, or None where they are no such batch."""
+    spoiled = [f"{crate.folder}/must-fail/{name}" for name in REFUSED]
+    harmless = sorted(glob.glob(f"{HERE}/controls_{CRATE}/*.edit"))
+    made, alone = batches.batches_of(crate, [*spoiled, *harmless])
+    return None if alone or len(made) != 1 or len(harmless) != 4 else made[0]
+
+
+def wrong(told):
+    """Which of the batch were told wrongly."""
+    named = {os.path.basename(edit): why for edit, why in told.items()}
+    return [name for name, why in named.items() if bool(why) != (name in REFUSED)]
+
+
+def is_right(crate, copy):
+    batch = batch_of(crate)
+    if batch is None:
+        rt.say(f"control: the edits of {CRATE} are no one batch any more")
+        return False
+    with copy(crate) as kept:
+        found = wrong(batches.try_batch(crate, batch, kept, ["--jobs", "1"]))
+    if found:
+        rt.say(f"control: told wrongly: {', '.join(found)}")
+    return not found
+
+
+def tasks(crates, copy):
+    """The control as a task behind its crate's proof."""
+    crate = next((it for it in crates if it.name == CRATE), None)
+    if crate is None:
+        return {KEY: Task([], 0, 0, 1, lambda given, jobs: False)}
+    return {KEY: Task([(CRATE, "proof")], 40, rt.need(crate), 1, lambda given, jobs: bool(given[CRATE, "proof"]) and is_right(crate, copy))}
+
+
+def failed(given):
+    """1 where the batches' control failed, so that no refusal of this run is worth anything."""
+    if given.get(KEY):
+        rt.say("control: of seven changes of device in one batch three are refused, and the four that harm nothing are not")
+        return 0
+    rt.say("FAILED: the control of the batches")
+    return 1

@@ -1,0 +1,109 @@
+"""Hostile lines through a server: sent ahead over a connection for each process here, and judged."""
+import multiprocessing
+import queue
+import threading
+from collections import Counter
+
+from judge.lines import Refused
+from judge.worlds import Wrong, must
+from serving.hostile_judge import Judge
+from serving.hostile_lines import lines
+from serving.server import Server
+from serving.wire import Gone, Session
+
+CALLERS = 4
+# How many lines go in one piece, and how many pieces may be ahead of their answers.
+PIECE, AHEAD = 50, 8
+# KiB that a process of so few tuples may grow by behind the first quarter of the lines, and that it may take at its most.
+GROWTH, MOST = 32 * 1024, 256 * 1024
+
+
+def pieces(made):
+    piece = []
+    for asked in made:
+        piece.append(asked)
+        if len(piece) == PIECE or len(asked.line) > 100000:
+            yield piece
+            piece = []
+    if piece:
+        yield piece
+
+
+class Caller:
+    """Sends lines over a session of its own, and judges the answers as they come."""
+
+    def __init__(self, port):
+        self.session, self.judge, self.sent, self.tried, self.stopped = Session(port), Judge(), queue.Queue(AHEAD), Counter(), False
+
+    def send(self, made):
+        try:
+            for piece in pieces(made):
+                self.sent.put(piece)
+                if self.stopped:
+                    break
+                self.session.send(b"".join(asked.line + b"\n" for asked in piece))
+        except Gone:
+            pass  # the one who reads tells it
+        self.sent.put(None)
+
+    def read(self):
+        while piece := self.sent.get():
+            for asked in piece:
+                try:
+                    answer = self.session.line()
+                    self.judge.judged(asked, answer)
+                except (Wrong, Gone, Refused, ValueError) as wrong:
+                    told = f": {answer[:300]}" if isinstance(wrong, Wrong) and "answer" in locals() else ""
+                    raise Wrong(f"{wrong} to the line {asked.line[:300]} of {len(asked.line)} bytes{told}") from wrong
+
+    def asks(self, made):
+        with self.session:
+            sender = threading.Thread(target=self.send, args=(made,), daemon=True)
+            sender.start()
+            self.read()
+
+
+def called(port, seed, number, count, found):
+    """What a process here does: it puts its fault or none, and its counts."""
+    caller, fault = Caller(port), None
+    try:
+        caller.asks(lines(f"{seed} {number}", f"sure{number}", count, caller.tried))
+    except Wrong as wrong:
+        fault = str(wrong)
+    found.put((fault, caller.judge.counts, caller.tried))
+
+
+def kibibytes(server, name):
+    with open(f"/proc/{server.child.pid}/status") as file:
+        return next(int(line.split()[1]) for line in file if line.startswith(name))
+
+
+def part(server, seed, count, total, tried):
+    """Sends so many lines over connections side by side; a fault, or none."""
+    found = multiprocessing.SimpleQueue()
+    callers = [multiprocessing.Process(target=called, args=(server.port, seed, number, count // CALLERS, found)) for number in range(CALLERS)]
+    for caller in callers:
+        caller.start()
+    fault = None
+    for _ in callers:
+        one, counts, some = found.get()
+        fault = fault or one
+        total.update(counts)
+        tried.update(some)
+    for caller in callers:
+        caller.join()
+    must(server.goes_on(), f"the server has ended: {server.ended() if not server.goes_on() else None}")
+    must(not fault, fault)
+
+
+def sent(folder, seed, count):
+    """What was answered, how often what was changed, and the memory in KiB behind a quarter, at the end and at most. Raises `Wrong`."""
+    total, tried = Counter(), Counter()
+    with Server(folder, workers=CALLERS) as server:
+        part(server, f"{seed} first", count // 4, total, tried)
+        first = kibibytes(server, "VmRSS:")
+        part(server, f"{seed} then", count - count // 4, total, tried)
+        memory = first, kibibytes(server, "VmRSS:"), kibibytes(server, "VmHWM:")
+    must(memory[1] <= memory[0] + GROWTH, f"takes {memory[1]} KiB, and {memory[0]} behind the first quarter")
+    must(memory[2] <= MOST, f"has taken {memory[2]} KiB")
+    return total, tried, memory

@@ -1,0 +1,7 @@
+mod Bools
+mod Machines
+mod Flows
+mod Covering
+mod Listing
+mod OneMore
+pub mod Snapshots

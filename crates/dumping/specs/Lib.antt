@@ -1,0 +1,4 @@
+pub mod Gathering
+pub mod Dumps
+pub mod Dumped
+pub mod DumpLaws

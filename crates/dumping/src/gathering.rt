@@ -1,0 +1,81 @@
+// The versions of all shards, once each has learned what is kept.
+ghost use Rattle.std.specs.Prelude.{◌≡◌, [], List, true, OnOk};
+ghost use Rattle.cluster.specs.declared.event.Answer.TheVariants.{Done};
+ghost use Rattle.cluster.specs.declared.event.What.TheVariants.{Ended};
+ghost use Rattle.dumping.specs.Gathering.{AllTell, HasAll, Plays, TellsOne};
+ghost use Rattle.holds.specs.Holds.{is_in};
+ghost use Rattle.std.specs.Prelude.{Some};
+ghost use Rattle.tuples.specs.declared.tuple.Tuple.{Tuple as AnyTuple};
+ghost use Rattle.tuples.specs.declared.version.Version.{Version as AnyVersion};
+
+use crate::found::put_all;
+use crate::playing::serve;
+use cluster::{Answer, Step};
+use names::Care;
+use scripts::Store;
+use std::collections::BTreeSet;
+use tuples::{Refusal, Tuple, Version};
+
+fn learn<S: Store>(store: &mut S, shard: u8) -> Result<(), Refusal>
+    ensures { OnOk result (Plays S.takes S.nexts (Step.Care (Care.Learn shard)) store.old (Some (Ended Done)) store.new) }
+{
+    match serve(store, Step::Care(Care::Learn(shard)))? {
+        Answer::Done => Ok(()),
+        // To learn has no other answer.
+        _ => Err(Refusal::Damaged),
+    }
+}
+
+// Whether none stands above the place.
+fn are_within(versions: &[Version], latest: u64) -> bool {
+    for version in versions {
+        if version.place > latest {
+            return false;
+        }
+    }
+    true
+}
+
+// A shard learns what is kept, and the tuple of each of its versions is put into the set.
+fn gather_one<S: Store>(
+    store: &mut S,
+    shard: u8,
+    latest: u64,
+    found: &mut BTreeSet<Tuple>,
+) -> Result<(), Refusal>
+    ensures tells { OnOk result ((told : List AnyVersion) × TellsOne S.takes S.nexts S.shows shard store.old told store.new × HasAll found.new.keys told) }
+    ensures keeps { OnOk result ((t : AnyTuple) → is_in found.old.keys t ≡ true → is_in found.new.keys t ≡ true) }
+{
+    learn(store, shard)?;
+    let versions = store.rows(shard)?;
+    put(found, &versions, latest)
+}
+
+fn put(found: &mut BTreeSet<Tuple>, versions: &[Version], latest: u64) -> Result<(), Refusal>
+    ensures all { OnOk result (HasAll found.new.keys versions.now) }
+    ensures keeps { OnOk result ((t : AnyTuple) → is_in found.old.keys t ≡ true → is_in found.new.keys t ≡ true) }
+{
+    // No write runs, so what a shard has learned was kept before. Files of two copies may have more.
+    if !are_within(versions, latest) {
+        return Err(Refusal::Damaged);
+    }
+    match put_all(found, versions) {
+        Ok(()) => Ok(()),
+        Err(_) => Err(Refusal::NoMemory),
+    }
+}
+
+/// Each shard learns what is kept, and the tuples of all their versions are put into the set.
+pub(crate) fn gather<S: Store>(
+    store: &mut S,
+    shards: u8,
+    latest: u64,
+    found: &mut BTreeSet<Tuple>,
+) -> Result<(), Refusal>
+    ensures { OnOk result ((told : List AnyVersion) × AllTell S.takes S.nexts S.shows shards store.old told store.new × HasAll found.new.keys told) }
+{
+    for shard in 0..shards {
+        gather_one(store, shard, latest, found)?;
+    }
+    Ok(())
+}

@@ -1,0 +1,132 @@
+// A dump of a store that is opened over its devices.
+ghost use Rattle.std.specs.Prelude.{◌≡◌, ◌≤◌, ◌+◌, ◌*◌, ◌++◌, List, ℕ, IfErr, IfOk, OnOk, vec_len};
+ghost use Rattle.cluster.specs.Openings.{IsOpenedOver};
+ghost use Rattle.cluster.specs.Steps.{Takes};
+ghost use Rattle.cluster.specs.Worlds.{WorldView};
+ghost use Rattle.dumping.specs.Dumped.{IsDumped, Leaves, dump_text};
+ghost use Rattle.dumping.specs.Dumps.{Dumps};
+ghost use Rattle.line_io.specs.Outputs.{HasBegun};
+ghost use Rattle.scripts.specs.Stepping.{IsNext, ShowsRows};
+ghost use Rattle.std.specs.Io.KnownBytes.{Appends};
+ghost use Rattle.tuples.specs.Limits.{max_shards};
+ghost use Rattle.tuples.specs.declared.tuple.Tuple.{Tuple as AnyTuple};
+
+use crate::dump_laws::dumps_are_snapshots;
+use crate::taking::{Dump, take_dump};
+use crate::text::write_text;
+use cluster::reopen;
+use device::Device;
+use line_io::write_all;
+use scripts::{Stepping, Store};
+use std::alloc::{AllocError, Global};
+use std::io::Write;
+use tuples::Refusal;
+
+/// Why a dump was not written, or not to its end.
+#[derive(Clone, Copy, Debug, PartialEq, Eq)]
+pub enum Fault {
+    /// Nothing was written: the place can't be read, a node is not up, or there is no memory.
+    Refused(Refusal),
+    /// The writer failed; it may have a part.
+    Unwritten,
+}
+
+// Opens the store over its devices.
+fn open<D: Device>(
+    alloc: Global,
+    store: u64,
+    shards: u8,
+    devices: Vec<D>,
+) -> Result<Stepping<D>, Refusal>
+    requires some { 1 ≤ shards }
+    requires few { shards ≤ max_shards }
+    requires count { vec_len devices ≡ 2 * (shards + 1) }
+    ensures { IfOk result (IsOpenedOver D.state D.honest D.moment D.left_since store shards devices.items) }
+{
+    match reopen(alloc, devices, store, shards) {
+        Ok(world) => Ok(Stepping::new(world)),
+        Err(_) => Err(Refusal::NoMemory),
+    }
+}
+
+fn write_dump(id: u64, dump: &Dump, text: &mut Vec<u8>) -> Result<(), Refusal>
+    ensures { OnOk result (text.new.items ≡ text.old.items ++ dump_text id dump.now.place dump.now.tuples.items) }
+{
+    match write_text(id, dump.place, &dump.tuples, text) {
+        Ok(()) => Ok(()),
+        Err(AllocError) => Err(Refusal::NoMemory),
+    }
+}
+
+// Appends the text of the store with this id.
+fn append<S: Store>(
+    alloc: Global,
+    id: u64,
+    store: &mut S,
+    shards: u8,
+    at: Option<u64>,
+    text: &mut Vec<u8>,
+) -> Result<(), Refusal>
+    ensures { OnOk result ((place : ℕ) × (rows : List AnyTuple) × Dumps S.takes S.nexts S.shows shards at store.old place rows store.new × (text.new.items ≡ text.old.items ++ dump_text id place rows)) }
+{
+    match take_dump(alloc, store, shards, at) {
+        Ok(dump) => write_dump(id, &dump, text),
+        Err(refusal) => Err(refusal),
+    }
+}
+
+// Opens the store over its devices, and appends its text.
+fn append_over<D: Device>(
+    alloc: Global,
+    store: u64,
+    shards: u8,
+    at: Option<u64>,
+    devices: Vec<D>,
+    text: &mut Vec<u8>,
+) -> Result<(), Refusal>
+    requires some { 1 ≤ shards }
+    requires few { shards ≤ max_shards }
+    requires count { vec_len devices ≡ 2 * (shards + 1) }
+    ensures { OnOk result ((opened new : WorldView D) × (place : ℕ) × (rows : List AnyTuple) × IsOpenedOver D.state D.honest D.moment D.left_since store shards devices.items opened
+        × Dumps (Takes D.state D.honest D.moment D.left_since) IsNext (ShowsRows D.state D.honest) shards at opened place rows new × (text.new.items ≡ text.old.items ++ dump_text store place rows)) }
+{
+    match open(alloc, store, shards, devices) {
+        Ok(mut opened) => append(alloc, store, &mut opened, shards, at, text),
+        Err(refusal) => Err(refusal),
+    }
+}
+
+/// Opens the store of this id and of 1 to 64 shards over its devices, as `reopen` does, and writes the text of all tuples that are there at the place, or at
+/// the latest: the token of the place, and each tuple, a line each.
+pub fn dump_over<D: Device, W: Write>(
+    alloc: Global,
+    store: u64,
+    shards: u8,
+    at: Option<u64>,
+    devices: Vec<D>,
+    output: &mut W,
+) -> Result<(), Fault>
+    requires some { 1 ≤ shards }
+    requires few { shards ≤ max_shards }
+    requires count { vec_len devices ≡ 2 * (shards + 1) }
+    ensures ok { OnOk result (IsDumped D.state D.honest D.moment D.left_since store shards devices.items at (W.contents output.old) (W.contents output.new)) }
+    ensures err { IfErr result (Leaves D.state D.honest D.moment D.left_since store shards devices.items at (W.contents output.old) (W.contents output.new)) }
+{
+    // A law: it does nothing.
+    dumps_are_snapshots::<D>();
+    let mut text = Vec::new(alloc);
+    match append_over(alloc, store, shards, at, devices, &mut text) {
+        Ok(()) => write(output, &text),
+        Err(refusal) => Err(Fault::Refused(refusal)),
+    }
+}
+
+fn write<W: Write>(output: &mut W, text: &[u8]) -> Result<(), Fault>
+    ensures ok { OnOk result (Appends (W.contents output.old) (W.contents output.new) text.now) }
+    ensures err { IfErr result (λ fault. (fault ≡ Fault.Unwritten) × HasBegun (W.contents output.old) (W.contents output.new) text.now) }
+{
+    match write_all(output, text) {
+        Ok(()) => Ok(()),
+        Err(_) => Err(Fault::Unwritten),
+    }
+}

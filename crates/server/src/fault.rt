@@ -1,0 +1,34 @@
+// Why a server does not start, or ends.
+use refusal::Refusal;
+use std::{fmt, io};
+
+/// Why a server does not start, or ends before its last connection.
+#[derive(Debug, Drop)]
+pub(crate) enum Fault {
+    /// A file or a node is refused, or there is no memory.
+    Refused(Refusal),
+    /// The address can't be bound.
+    Listen,
+    /// It could not go on to accept connections.
+    Ended(io::Error),
+}
+
+impl fmt::Display for Fault {
+    fn fmt<W: fmt::Write>(&self, f: &mut fmt::Formatter<W>) -> fmt::Result {
+        match self {
+            Fault::Refused(refusal) => write!(f, "zanstore: {refusal}"),
+            Fault::Listen => write!(f, "zanstore: listen"),
+            Fault::Ended(error) => write!(f, "zanstore: {error}"),
+        }
+    }
+}
+
+/// The status of a server that a fault ended.
+pub(crate) const FAILED: u8 = 1;
+
+/// The fault on standard error, and the status to end with.
+pub(crate) fn tell(rt: &impl Eprint, fault: &Fault) -> u8 {
+    // A text that can't be printed changes nothing of the status.
+    let _ = eprintln!(rt; "{fault}");
+    FAILED
+}

@@ -1,0 +1,134 @@
+// A store is opened over the files of a folder, and served.
+ghost use Rattle.std.specs.Prelude.{◌≡◌, ◌↔◌, ◌*◌, ◌+◌, [], All, vec_len};
+ghost use Rattle.server.specs.Premise.{IsAtRest, found_coordinator};
+
+use crate::fault::{Fault, tell};
+use crate::running::serve_store;
+use crossbeam_utils::sync::{Parker, Unparker};
+use device::Device;
+use files::{FileDevice, HostFile};
+use locked::{Gate, Open, Store};
+use node_files::open_all;
+use published::{LogPass, Published};
+use refusal::Refusal;
+use serve_settings::ServeSettings;
+use sides::Room;
+use std::alloc::{AllocError, Global};
+use std::marker::Brand;
+use std::net::{Net, TcpListener, TcpStream};
+use std::rt::Runtime;
+use std::sync::Wait;
+use std::thread::Threads;
+use tuples::Entry;
+
+/// Serves the store that the folder keeps, or a new one where its files are missing, to those who connect. The status: 0 once as many connections were
+/// served as the settings ask for, and 1 behind a fault, of which standard error is told:
+///
+/// | Line | Fault |
+/// |---|---|
+/// | `zanstore: 13 Down` | the folder or a file of it can't be opened, or another process has it |
+/// | `zanstore: 16 Damaged` | what is in the files was not left there by this store |
+/// | `zanstore: 14 NoMemory` | there is no memory for the store or its workers |
+/// | `zanstore: listen` | the address can't be bound |
+///
+/// They are looked for in the order files, nodes (the coordinator, and then the shards by rising number), address; `ready` is printed behind them.
+pub fn serve<R>(rt: &R, files: &HostRuntime, settings: &ServeSettings) -> u8
+where
+    R: Runtime + Net<Listener = TcpListener, Stream = TcpStream> + Threads + Wait + Sync,
+{
+    match new_bell(files.alloc()) {
+        Ok((parker, bell)) => serve_with_bell(rt, files, settings, parker, bell),
+        Err(_) => tell(rt, &Fault::Refused(Refusal::NoMemory)),
+    }
+}
+
+// What wakes whoever tends the store, and what sleeps there.
+fn new_bell(alloc: Global) -> Result<(Parker, Unparker), AllocError> {
+    let parker = Parker::new(alloc)?;
+    let bell = parker.unparker().clone()?;
+    Ok((parker, bell))
+}
+
+fn serve_with_bell<R>(
+    rt: &R,
+    files: &HostRuntime,
+    settings: &ServeSettings,
+    parker: Parker,
+    bell: Unparker,
+) -> u8
+where
+    R: Runtime + Net<Listener = TcpListener, Stream = TcpStream> + Threads + Wait + Sync,
+{
+    match Published::new(files.alloc()) {
+        Ok((words, log)) => serve_files(rt, files, settings, parker, bell, words, log),
+        Err(_) => tell(rt, &Fault::Refused(Refusal::NoMemory)),
+    }
+}
+
+fn serve_files<R>(
+    rt: &R,
+    files: &HostRuntime,
+    settings: &ServeSettings,
+    parker: Parker,
+    bell: Unparker,
+    words: Published<Entry>,
+    log: LogPass<Entry>,
+) -> u8
+where
+    R: Runtime + Net<Listener = TcpListener, Stream = TcpStream> + Threads + Wait + Sync,
+    requires own { log.table ≡ words }
+    requires empty { (log.seen ≡ []) × (log.horizon ≡ 0) }
+{
+    match open_all(files, settings.dir.as_str(), settings.shards) {
+        Ok(devices) => serve_over::<FileDevice<HostFile>, Brand, Open, R>(
+            rt,
+            files.alloc(),
+            settings,
+            Open,
+            parker,
+            bell,
+            words,
+            log,
+            devices,
+        ),
+        Err(refusal) => tell(rt, &Fault::Refused(refusal)),
+    }
+}
+
+/// Opens the store over its devices, and serves it as `serve` does. Where the devices rest at the list that the coordinator's have, all that sessions answer
+/// is said of that list and of what joins it; no other premise is taken.
+pub fn serve_over<D: Device + Send, B: Room + Send + Sync, G: Gate + Sync, R>(
+    rt: &R,
+    alloc: Global,
+    settings: &ServeSettings,
+    gate: G,
+    parker: Parker,
+    bell: Unparker,
+    words: Published<Entry>,
+    log: LogPass<Entry>,
+    devices: Vec<D>,
+) -> u8
+where
+    R: Runtime + Net<Listener = TcpListener, Stream = TcpStream> + Threads + Wait + Sync,
+    requires own { (words ≡ B.log) × (log.table ≡ B.log) }
+    requires empty { (log.seen ≡ []) × (log.horizon ≡ 0) }
+    requires of { (B.store ≡ settings.now.store) × (B.shards ≡ settings.now.shards) }
+    requires count { vec_len devices ≡ 2 * (settings.now.shards + 1) }
+    requires honest { All D.honest devices.items }
+    requires first { (B.first ≡ (found_coordinator D.state devices.items).log) × (B.low ≡ (found_coordinator D.state devices.items).horizon) }
+    requires rests { B.rests ↔ IsAtRest D.state D.honest B.shards devices.items }
+{
+    match Store::<D, B, G>::open(
+        alloc,
+        gate,
+        bell,
+        words,
+        log,
+        devices,
+        settings.store,
+        settings.shards,
+    ) {
+        Ok(store) => serve_store(rt, alloc, &store, parker, settings),
+        Err(refusal) => tell(rt, &Fault::Refused(refusal)),
+    }
+}

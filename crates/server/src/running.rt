@@ -1,0 +1,125 @@
+// An open store is looked over, and served while it is tended.
+use crate::fault::{Fault, tell};
+use calls::Told;
+use crossbeam_utils::sync::Parker;
+use device::Device;
+use locked::{Gate, Store};
+use serve_settings::ServeSettings;
+use serving::{Serving, serve_on};
+use sides::Room;
+use std::alloc::{AllocError, Global};
+use std::io::{self, Write};
+use std::net::{Net, TcpListener, TcpStream};
+use std::rt::Runtime;
+use std::sync::Wait;
+use std::thread::{self, Threads};
+use std::time::Clock;
+use store_sessions::StoreSession;
+
+/// Looks the store over, binds the address, and serves. The status.
+pub(crate) fn serve_store<D: Device + Send, B: Room + Send + Sync, G: Gate + Sync, R>(
+    rt: &R,
+    alloc: Global,
+    store: &Store<D, B, G>,
+    parker: Parker,
+    settings: &ServeSettings,
+) -> u8
+where
+    R: Runtime + Net<Listener = TcpListener, Stream = TcpStream> + Threads + Wait + Sync,
+{
+    match start(rt, store, settings) {
+        Ok(listener) => ended(rt, serve_at(rt, alloc, store, parker, settings, &listener)),
+        Err(fault) => tell(rt, &fault),
+    }
+}
+
+// Looks the store over, and binds the address.
+fn start<D: Device, B: Room, G: Gate, R>(
+    rt: &R,
+    store: &Store<D, B, G>,
+    settings: &ServeSettings,
+) -> Result<TcpListener, Fault>
+where
+    R: Net<Listener = TcpListener, Stream = TcpStream> + Wait,
+{
+    let mut caller = store.session(rt);
+    if let Err(refusal) = store.look_over(rt, &mut caller, &mut Told::new()) {
+        return Err(Fault::Refused(refusal));
+    }
+    match TcpListener::bind(rt, settings.listen.as_str()) {
+        Ok(listener) => Ok(listener),
+        Err(_) => Err(Fault::Listen),
+    }
+}
+
+// How it ended, as a status.
+fn ended(rt: &impl Eprint, served: io::Result<()>) -> u8 {
+    match served {
+        Ok(()) => 0,
+        Err(error) => tell(rt, &Fault::Ended(error)),
+    }
+}
+
+// A session for each worker.
+fn sessions<'a, D: Device, B: Room, G: Gate, R: Wait>(
+    rt: &'a R,
+    alloc: Global,
+    store: &'a Store<D, B, G>,
+    workers: u8,
+) -> Result<Vec<StoreSession<'a, D, B, G, R>>, AllocError> {
+    let mut sessions = Vec::new(alloc);
+    for _ in 0..workers {
+        sessions.reserve(1)?;
+        let caller = store.session(rt);
+        sessions.push_reserved(StoreSession::new(rt, alloc, store, caller));
+    }
+    Ok(sessions)
+}
+
+// How the sessions are served.
+fn serving_of(settings: &ServeSettings) -> Serving {
+    let connections = match settings.connections {
+        0 => None,
+        some => Some(some),
+    };
+    Serving {
+        store: settings.store,
+        idle: settings.idle,
+        connections,
+    }
+}
+
+// Who waits for the line may be gone, which keeps nobody from being served.
+fn announce(rt: &impl Print) {
+    let _ = println!(rt; "ready");
+    let _ = io::writer(rt).flush();
+}
+
+// Serves those who connect, while another thread tends the store.
+fn serve_at<D: Device + Send, B: Room + Send + Sync, G: Gate + Sync, R>(
+    rt: &R,
+    alloc: Global,
+    store: &Store<D, B, G>,
+    parker: Parker,
+    settings: &ServeSettings,
+    listener: &TcpListener,
+) -> io::Result<()>
+where
+    R: Runtime + Threads + Wait + Clock + Sync,
+{
+    let sessions = sessions(rt, alloc, store, settings.workers)?;
+    let serving = serving_of(settings);
+    let window = settings.window;
+    let mut keeper = store.session(rt);
+    announce(rt);
+    let (_, served) = thread::join(
+        rt,
+        move || store.keep(rt, alloc, &mut keeper, window, &parker),
+        move || {
+            let served = serve_on(rt, alloc, listener, &serving, sessions);
+            store.close();
+            served
+        },
+    );
+    served
+}
