@@ -199,13 +199,13 @@ class Edits:
         What is settled is kept, where no file that it stands on was touched since the run began."""
         if not given[self.name, "proof"]:
             return []
-        tried = {edit: it for key in self.keys for edit, it in given[key].items()}
+        tried = {edit: it for key in self.keys for edit, it in (given[key] or {}).items()}
         if not given[self.sound]:
             tried = {edit: rt.must_fail(self.crate, edit, ONE_JOB) for edit in tried}
         for edit, (kind, text) in tried.items():
             if kind in rt.SETTLED and self.stats[edit] == stat_of(edit) and self.kept.is_untouched(self.crate):
                 self.kept.keep_tried(self.names[edit], kind, text)
-        return [{**self.known(), **tried}[it][:2] for it in self.edits]
+        return [{**self.known(), **tried}.get(it, (rt.UNSURE, f"{it}: not tried"))[:2] for it in self.edits]
 
     def results(self, given):
         return given[self.last]

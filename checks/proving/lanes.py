@@ -3,6 +3,7 @@
 import collections
 import os
 import time
+import traceback
 from concurrent.futures import FIRST_COMPLETED, ThreadPoolExecutor, wait
 
 from .kit import rt
@@ -37,6 +38,8 @@ class Lanes:
         self.count = count or rt.processors()
         self.memory = 0.85 * rt.free()
         self.running, self.given, self.took = {}, {}, {}
+        # the keys of the tasks that raised, so that nobody knows what they come to
+        self.broken = []
 
     def room(self):
         return self.memory - sum(memory for _, memory, _ in self.running.values())
@@ -50,9 +53,14 @@ class Lanes:
         return max(1, min(task.jobs, self.idle() // max(ready, 1), by_memory))
 
     def timed(self, key, call, jobs):
+        """What the task gives, and None where it raises, as where no space is left: then the run fails, but tells all the rest first."""
         start = time.monotonic()
         try:
             return call(self.given, jobs)
+        except Exception:
+            self.broken.append(key)
+            rt.say(f"BROKEN: {' '.join(key)}: {traceback.format_exc()}")
+            return None
         finally:
             self.took[key] = time.monotonic() - start
 
@@ -68,7 +76,7 @@ class Lanes:
                 self.running[run] = key, task.memory * (1 + MORE * (jobs - 1)), jobs
 
     def run(self, tasks, ended=lambda key: None):
-        """Runs all, and returns what each gave. A task that raises ends the run."""
+        """Runs all, and returns what each gave: None where it raised."""
         behind = chains(tasks)
         left = sorted(tasks, key=lambda key: -behind[key])
         with ThreadPoolExecutor(self.count) as pool:

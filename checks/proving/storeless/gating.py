@@ -152,8 +152,8 @@ class Edits:
             return self.bad, self.good, []
         if not given[self.keys[-1]]:
             return self.bad, self.good, [rt.must_fail(self.crate, it, ONE_JOB) for it in self.good]
-        tried = {edit: it for key in self.keys[:-1] for edit, it in given[key].items()}
-        return self.bad, self.good, [tried[it] for it in self.good]
+        tried = {edit: it for key in self.keys[:-1] for edit, it in (given[key] or {}).items()}
+        return self.bad, self.good, [tried.get(it) or rt.must_fail(self.crate, it, ONE_JOB) for it in self.good]
 
 
 class Gate:
@@ -197,4 +197,4 @@ class Gate:
         rt.put_back = lambda root, aside, was_killed=False: give_back(root, aside, True)
         status = rt.ci()
         self.seconds.write(self.lanes.took, self.meter.rows())
-        return status or controls.failed(self.given)
+        return status or controls.failed(self.given) or int(bool(self.lanes.broken))
