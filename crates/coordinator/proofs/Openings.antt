@@ -130,7 +130,8 @@ module _ {D : Type 0} (state : D → State) (honest : D → Type 0) (j : View D)
     staged = [];
     remembers = subst (λ (rs : List Record). Remembers (coordinator_state now) (coordinator_state rs) l epoch kept horizon None) (sym (append-nil now))
         (remembers_opened s (coordinator_state now) l epoch kept horizon state_is zero_base ledger next below kept_is fits horizon_is within);
-    greatest = λ x there. absurd (search rules);
+    in_order = tt;
+    last = refl;
     numbers_given = subst (All (IsGivenNumber 0)) (sym none) (λ k d lt. absurd (omega (arith, lt)));
     given_fits = omega arith;
     staged_is = λ up. sym fresh;

@@ -13,6 +13,7 @@ mod beginning;
 mod coordinator;
 mod decided;
 mod deciding;
+mod lending;
 mod open_writes;
 mod opening;
 mod raising;
@@ -22,6 +23,7 @@ mod votes;
 
 pub use coordinator::Coordinator;
 pub use decided::{Decided, NotDecided};
+pub use lending::Flying;
 pub use raising::{NotRaised, settles};
 pub use telling::{Inquiry, Outcome};
 pub use votes::votes_match;
