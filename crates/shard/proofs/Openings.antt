@@ -164,7 +164,7 @@ module _ (me : Identity) (records : List Record) (image : IsShardImage me record
           me.shards,
           subst (λ (l : List Record). Contains l (opening me records)) (sym (opened_durable (back_a ka) (back_b kb))) (Contains-append_right records (opening me records ∷ []) (opening me records) (0, omega arith, refl)),
         );
-        unflushed_are = λ up id. ap (has_id id) (none ∙ ap prepared_ids (sym fresh));
+        unflushed_are = λ up. none ∙ ap prepared_ids (sym fresh);
         settled_is = λ up ka kb. place ∙ all_replayed.learned ∙ ap (λ (l : List Record). (shard_state l).learned) (sym (opened_durable (back_a ka) (back_b kb)));
       }
 

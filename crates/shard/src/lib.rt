@@ -27,6 +27,7 @@
 mod collecting;
 mod dropping;
 mod learning;
+mod lending;
 mod opening;
 mod own;
 mod preparing;
@@ -34,7 +35,9 @@ mod reading;
 mod replies;
 mod settling;
 mod shard;
+mod staged_ids;
 mod write_ids;
 
+pub use lending::Flying;
 pub use replies::{ReadReply, VoteReply};
 pub use shard::Shard;
