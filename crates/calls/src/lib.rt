@@ -13,6 +13,7 @@
 mod asking;
 mod call;
 mod fitting;
+mod lending;
 mod node;
 mod reply;
 mod running;
@@ -20,6 +21,7 @@ mod told;
 
 pub use asking::{ask, refuse};
 pub use call::{CoordinatorCall, NodeCall, ShardCall};
+pub use lending::{Flying, Lent};
 pub use node::Node;
 pub use reply::{CoordinatorReply, Reply, ShardReply};
 pub use running::Running;
