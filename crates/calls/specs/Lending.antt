@@ -12,7 +12,7 @@ use Rattle.shard.specs.Keeping.{prepared_ids}
 use Rattle.shard.specs.Lending.{HasFlown as HasFlownOfShard, IsLentShard, landed_shard}
 use Rattle.shard.specs.Shards.{IsUp, ShardView, journal_of, memory}
 use Rattle.shard.specs.declared.lending.Flying.{Flying as OfShard}
-use Rattle.calls.specs.Views.{NodeView, coordinator, shard, refused}
+use Rattle.calls.specs.Views.{NodeView, coordinator, shard}
 use Rattle.calls.specs.declared.lending.Flying.{Flying}
 use Rattle.calls.specs.declared.lending.Flying.TheVariants.{Coordinator, Shard}
 

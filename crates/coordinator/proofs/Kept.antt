@@ -1,7 +1,7 @@
 -- What a coordinator keeps in memory is what its records stand for.
-use Rattle.std.proofs.Common.{◌≡◌, ◌≤◌, ◌+◌, ◌-◌, ◌++◌, ℕ, List, [], ◌∷◌, Option, None, Some, Contains, drop, length, length-append, length-drop, ◌<◌, ◌==◌, not, All, ⊎_elim, append_assoc, refl, sym, ap, ◌∙◌, subst, arith, false, rules}
+use Rattle.std.proofs.Common.{◌≡◌, ◌≤◌, ◌+◌, ◌-◌, ◌++◌, ℕ, List, [], ◌∷◌, Option, None, Some, drop, length, length-append, length-drop, ◌<◌, ◌==◌, not, All, append_assoc, refl, sym, ap, ◌∙◌, subst, arith, false}
 use Rattle.std.proofs.lemmas.List.{append-nil, drop-append-le, drop-drop}
-use Rattle.std.proofs.lemmas.List.Elements.{All-filter, All-push, All-weaker, Contains-append_left, Contains-push, Contains-push_cases}
+use Rattle.std.proofs.lemmas.List.Elements.{All-filter, All-push, All-weaker}
 use Rattle.tuples.specs.declared.entry.Entry.{Entry}
 use Rattle.records.specs.declared.record.Record.{Record}
 use Rattle.records.specs.declared.record.Record.TheVariants.{Decision, Horizon}
@@ -12,7 +12,6 @@ use Rattle.device.specs.Device.{State}
 use Rattle.journal.specs.Records.{HasRecords, View}
 use Rattle.ledger.specs.Ledgers.{LedgerValue}
 use Rattle.coordinator.specs.Keeping.{AreDurable, IsGivenNumber, IsKept, Remembers, others, risen}
-use Rattle.coordinator.specs.Staged.{AreInOrder, last_horizon}
 use Rattle.coordinator.proofs.Staged.{last_of_more, order_decided, order_raised}
 
 -- what was staged is durable, and what stands at or below the horizon then is forgotten

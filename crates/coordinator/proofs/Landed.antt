@@ -1,5 +1,5 @@
 -- What a coordinator keeps in memory, while its devices are elsewhere and once they are back.
-use Rattle.std.proofs.Common.{◌≡◌, ◌≤◌, ◌+◌, ◌-◌, ◌++◌, ◌||◌, ℕ, Bool, true, false, List, Option, None, Some, drop, length, take, length-append, length-drop, append_assoc, true≢false, refl, sym, ap, ◌∙◌, subst, arith}
+use Rattle.std.proofs.Common.{◌≡◌, ◌≤◌, ◌+◌, ◌-◌, ◌++◌, ◌||◌, ℕ, Bool, true, false, List, Option, None, drop, length, take, length-append, length-drop, append_assoc, true≢false, refl, sym, ap, ◌∙◌, subst, arith}
 use Rattle.std.proofs.lemmas.List.{drop-drop, take-append-drop}
 use Rattle.away.specs.Aways.{lent_honest, lent_state}
 use Rattle.away.specs.declared.away.Away.{Away}
@@ -10,7 +10,6 @@ use Rattle.records.specs.Replays.{Identity, greatest_number}
 use Rattle.device.specs.Device.{State, left}
 use Rattle.journal.specs.Lending.{IsLent, landed}
 use Rattle.journal.specs.Records.{HasRecords, View}
-use Rattle.journal.specs.declared.lending.Sent.{Sent}
 use Rattle.ledger.specs.Ledgers.{LedgerValue}
 use Rattle.decisions.specs.Coordinators.{CoordinatorView, IsRunning}
 use Rattle.coordinator.specs.Keeping.{IsKept, Remembers, risen}

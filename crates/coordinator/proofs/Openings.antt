@@ -1,5 +1,5 @@
 -- Opening a coordinator once more.
-use Rattle.std.proofs.Common.{◌≡◌, inl, inr, ⊎_elim, ◌≤◌, ◌<◌, ◌+◌, ◌-◌, ◌++◌, ℕ, List, [], ◌∷◌, Option, Some, None, All, length, length-drop, drop, refl, sym, ap, ◌∙◌, subst, arith, false, rules}
+use Rattle.std.proofs.Common.{◌≡◌, inl, inr, ⊎_elim, ◌≤◌, ◌<◌, ◌+◌, ◌-◌, ◌++◌, ℕ, List, [], ◌∷◌, Option, Some, None, All, length, length-drop, drop, refl, sym, ap, ◌∙◌, subst, arith, false}
 use Rattle.std.proofs.lemmas.List.{append-nil}
 use Rattle.records.specs.declared.record.Record.{Record}
 use Rattle.records.specs.declared.record.Record.TheVariants.{Epoch}
@@ -9,7 +9,7 @@ use Rattle.records.specs.Identity.{coordinator_number}
 use Rattle.records.specs.Replays.{Identity, greatest_number}
 use Rattle.records.proofs.CoordinatorStates.{coordinator_empty, coordinator_image_push, coordinator_push}
 use Rattle.device.specs.Device.{State, left}
-use Rattle.journal.specs.Records.{both, HasNoRoom, HasOldOrNew, HasRecords, LeavesBoth, View, found}
+use Rattle.journal.specs.Records.{both, HasNoRoom, HasOldOrNew, HasRecords, LeavesBoth, View}
 use Rattle.ledger.specs.Ledgers.{LedgerValue}
 use Rattle.decisions.specs.Coordinators.{coordinator_opening}
 use Rattle.journal.specs.Unread.{IsRead, Left}

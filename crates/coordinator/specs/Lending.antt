@@ -1,6 +1,6 @@
 -- A coordinator whose devices were lent, what of it flies with them, and what it is once they are back.
-use Rattle.std.specs.Prelude.{◌≡◌, ◌||◌, ◌++◌, ℕ, false, List, None, drop, length, take}
-use Rattle.away.specs.Aways.{lent_honest, lent_state}
+use Rattle.std.specs.Prelude.{◌≡◌, ◌||◌, ◌++◌, ℕ, List, None, drop, length, take}
+use Rattle.away.specs.Aways.{lent_honest}
 use Rattle.away.specs.declared.away.Away.{Away}
 use Rattle.records.specs.declared.record.Record.{Record}
 use Rattle.device.specs.Device.{State}

@@ -1,7 +1,6 @@
 -- What a shard keeps in memory is what its records stand for.
-use Rattle.std.proofs.Common.{◌≡◌, ◌≤◌, ◌++◌, ◌||◌, ℕ, Bool, true, List, [], ◌∷◌, false, refl, sym, ap, ◌∙◌, subst, append_assoc}
+use Rattle.std.proofs.Common.{◌≡◌, ◌≤◌, ◌++◌, ℕ, List, [], ◌∷◌, false, refl, sym, ap, ◌∙◌, subst, append_assoc}
 use Rattle.std.proofs.lemmas.List.{append-nil}
-use Rattle.tuples.specs.Log.{same_id}
 use Rattle.tuples.specs.declared.entry.Entry.{Entry}
 use Rattle.tuples.specs.declared.entry.WriteId.{WriteId}
 use Rattle.records.specs.declared.record.PlacedId.{PlacedId}
@@ -14,7 +13,7 @@ use Rattle.replay.proofs.States.{image_push, shard_push}
 use Rattle.device.specs.Device.{State}
 use Rattle.journal.specs.Records.{View}
 use Rattle.decisions.specs.Values.{NamesNode}
-use Rattle.shard.specs.Keeping.{IsBacked, IsKept, has_id, prepared_ids}
+use Rattle.shard.specs.Keeping.{IsBacked, IsKept, prepared_ids}
 use Rattle.shard.specs.Shards.{IsUp, ShardView, Stages, memory}
 
 pub prepared_append : (rs more : List Record) → prepared_ids (rs ++ more) ≡ prepared_ids rs ++ prepared_ids more

@@ -1,5 +1,5 @@
 -- What a shard keeps in memory, while its devices are elsewhere and once they are back.
-use Rattle.std.proofs.Common.{◌≡◌, ◌≤◌, ◌++◌, ◌||◌, ℕ, Bool, true, false, List, Contains, drop, length, take, append_assoc, true≢false, refl, sym, ap, ◌∙◌, subst}
+use Rattle.std.proofs.Common.{◌≡◌, ◌++◌, ◌||◌, ℕ, Bool, true, false, List, drop, length, take, append_assoc, true≢false, refl, sym, ap, ◌∙◌, subst}
 use Rattle.std.proofs.Math.Seq.{drop-append_seam}
 use Rattle.std.proofs.lemmas.List.{take-append-drop}
 use Rattle.std.proofs.lemmas.List.Elements.{Contains-append_left}

@@ -12,10 +12,10 @@ use Rattle.replay.specs.Alike.{IsAlike}
 use Rattle.replay.proofs.Alike.{alike_same, alike_step, alike_sym, alike_trans, may_come_alike}
 use Rattle.replay.proofs.States.{image_empty, image_push, shard_push}
 use Rattle.device.specs.Device.{State, left}
-use Rattle.journal.specs.Records.{both, HasNoRoom, HasRecords, HasOldOrNew, LeavesBoth, View, found}
+use Rattle.journal.specs.Records.{both, HasNoRoom, HasRecords, HasOldOrNew, LeavesBoth, View}
 use Rattle.journal.specs.Unread.{IsRead, Left}
 use Rattle.journal.proofs.Left.{both-nil, read_among, read_more}
-use Rattle.shard.specs.Keeping.{HasFoundOrOpened, IsKept, IsReplayed, has_id, prepared_ids}
+use Rattle.shard.specs.Keeping.{HasFoundOrOpened, IsKept, IsReplayed, prepared_ids}
 use Rattle.shard.specs.Shards.{IsUp, opening}
 use Rattle.shard.proofs.Kept.{view_of}
 

@@ -1,9 +1,8 @@
 -- A write was prepared: what the shard keeps then, and what its ticket tells.
-use Rattle.std.proofs.Common.{◌≡◌, ◌≤◌, ◌++◌, ◌||◌, ℕ, Bool, List, [], ◌∷◌, Some, true, false, refl, sym, ap, ◌∙◌, subst}
+use Rattle.std.proofs.Common.{◌≡◌, ◌≤◌, ◌++◌, ℕ, List, [], ◌∷◌, Some, true, false, sym, ap, ◌∙◌, subst}
 use Rattle.std.specs.Option.{is_some}
 use Rattle.tuples.specs.declared.entry.Entry.{Entry}
 use Rattle.tuples.specs.declared.entry.WriteId.{WriteId}
-use Rattle.tuples.specs.Log.{same_id}
 use Rattle.tuples.specs.Parts.{part}
 use Rattle.records.specs.declared.record.Record.{Record}
 use Rattle.records.specs.declared.record.Record.TheVariants.{Prepare}
@@ -14,7 +13,7 @@ use Rattle.replay.proofs.Doubts.{find_put_same}
 use Rattle.device.specs.Device.{State}
 use Rattle.journal.specs.Records.{View}
 use Rattle.decisions.specs.Values.{IsIntent}
-use Rattle.shard.specs.Keeping.{IsKept, has_id}
+use Rattle.shard.specs.Keeping.{IsKept}
 use Rattle.shard.specs.Shards.{AreFree, IsPreparable}
 use Rattle.shard.proofs.Kept.{kept_push, prepare_epoch}
 use Rattle.shard.proofs.Tested.{part_may_come, same_part_id}

@@ -1,4 +1,4 @@
-use Rattle.std.proofs.Common.{◌≡◌, ◌∙◌, ap, sym, subst}
+use Rattle.std.proofs.Common.{◌∙◌, ap, sym, subst}
 use Rattle.away.specs.declared.away.Away.{Away}
 use Rattle.calls.specs.Lending.{NodeLands}
 use Rattle.calls.specs.Seen.{seen}

@@ -1,4 +1,4 @@
-use Rattle.std.proofs.Common.{◌≡◌, ◌-◌, ◌∙◌, ap, sym, subst, List, length}
+use Rattle.std.proofs.Common.{◌-◌, ◌∙◌, ap, List, length}
 use Rattle.records.specs.declared.record.Record.{Record}
 use Rattle.decisions.specs.Coordinators.{CoordinatorView}
 use Rattle.coordinator.specs.Staged.{decided, last_horizon}

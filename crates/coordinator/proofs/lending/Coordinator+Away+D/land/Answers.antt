@@ -1,5 +1,4 @@
-use Rattle.std.proofs.Common.{◌≡◌, ◌∙◌, ap, sym, subst, arith}
-use Rattle.journal.specs.Records.{View}
+use Rattle.std.proofs.Common.{◌∙◌, sym}
 use Rattle.coordinator.proofs.Landed.{goes_from, goes_to, has_room, kept_as_it_was, kept_up}
 use Rattle.coordinator.proofs.lending.Coordinator+Away+D.land.Goals as goal
 use Rattle.coordinator.proofs.lending.Coordinator+Away+D.land.Goals.{then-not-is_down, else-not-is_down}

@@ -1,5 +1,5 @@
 use Rattle.std.proofs.Math.Seq.{paste}
-use Rattle.std.proofs.Common.{◌≡◌, ◌+◌, ◌-◌, ◌++◌, ◌≤◌, ℕ, List, length, take, drop, sym, ◌∙◌, ap, subst, arith}
+use Rattle.std.proofs.Common.{◌≡◌, ◌+◌, ◌-◌, ◌++◌, ◌≤◌, ℕ, List, length, take, drop, ◌∙◌, ap, arith}
 use Rattle.records.specs.declared.record.Record.{Record}
 use Rattle.journal.specs.Records.{batch_size}
 use Rattle.journal.proofs.Staged.{first_fits, forgotten, forgotten_view, moved_down, staged_is}

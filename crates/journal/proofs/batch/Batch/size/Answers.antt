@@ -1,4 +1,4 @@
-use Rattle.std.proofs.Common.{◌≡◌, length, ap, arith}
+use Rattle.std.proofs.Common.{length, ap, arith}
 use Rattle.journal.proofs.Staged.{flies_whole, staged_is}
 use Rattle.journal.proofs.batch.Batch.size.Goals as goal
 

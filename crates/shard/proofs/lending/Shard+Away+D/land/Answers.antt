@@ -1,4 +1,4 @@
-use Rattle.std.proofs.Common.{◌≡◌, ◌∙◌, sym}
+use Rattle.std.proofs.Common.{◌∙◌, sym}
 use Rattle.shard.proofs.Landed.{kept_as_it_was, kept_up, up_again}
 use Rattle.shard.proofs.lending.Shard+Away+D.land.Goals as goal
 use Rattle.shard.proofs.lending.Shard+Away+D.land.Goals.{then-not-is_down, else-not-is_down}
