@@ -33,7 +33,7 @@ module _ {D : Type 0} (state : D → State) (honest : D → Type 0) where
     pub all : flying.sent.count ≡ length v.staged
     pub sent : Flies v.staged flying.sent
     pub prepares : v.is_down ≡ false → flying.prepares ≡ length (prepared_ids v.staged)
-    pub learned : IsUp state honest v → flying.learned ≡ (memory v).learned
+    pub learned : v.is_down ≡ false → honest v.a → honest v.b → flying.learned ≡ (memory v).learned
     pub up : IsUp state honest v → IsUp (lent_state state) (lent_honest honest) u
 
   abbrev pub NodeLends : NodeView D → NodeView (Away D) → View D → Flying → Type 0

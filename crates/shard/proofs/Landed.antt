@@ -15,7 +15,7 @@ use Rattle.journal.specs.Records.{HasRecords, View}
 use Rattle.decisions.specs.Values.{NamesNode}
 use Rattle.shard.specs.Keeping.{IsKept, prepared_ids}
 use Rattle.shard.specs.Lending.{HasFlown, IsLentShard}
-use Rattle.shard.specs.Shards.{IsUp, ShardView}
+use Rattle.shard.specs.Shards.{IsUp, ShardView, memory}
 use Rattle.shard.specs.declared.lending.Flying.{Flying}
 use Rattle.shard.proofs.Kept.{prepared_append, view_of}
 
@@ -75,6 +75,13 @@ module _ {D : Type 0} (state : D → State) (honest : D → Type 0) where
     image = subst (λ (rs : List Record). IsShardImage u.me (rs ++ u.staged)) (sym is.durable)
         (subst (λ (rs : List Record). IsShardImage u.me (v.durable ++ rs)) (sym is.staged) (subst (λ (me : Identity). IsShardImage me (v.durable ++ v.staged)) (sym is.me) up.image));
   }
+
+  -- what it has learned with all that is staged
+  pub learned_all : (j : View D) (me : Identity) (m : ShardState) (ids : List WriteId) (settled : ℕ) → IsKept state honest j me m ids settled → (v : ShardView D) → view_of j me ≡ v
+      → v.is_down ≡ false → honest v.a → honest v.b → m.learned ≡ (memory v).learned
+  learned_all j me m ids settled was v is =
+      subst (λ (w : ShardView D). w.is_down ≡ false → honest w.a → honest w.b → m.learned ≡ (memory w).learned) is
+      (λ up ha hb. was.replayed.learned ∙ ap (λ (rs : List Record). (shard_state rs).learned) (was.backed up ha hb).whole)
 
   same_kept : (j : View D) (me : Identity) (m : ShardState) (ids ids_too : List WriteId) (settled settled_too : ℕ) → ids_too ≡ ids → settled_too ≡ settled → IsKept state honest j me m ids settled → IsKept state honest j me m ids_too settled_too
   same_kept j me m ids ids_too settled settled_too same_ids same_place was =

@@ -30,7 +30,7 @@ impl<D: Device> Shard<D> {
         ensures all { result.2.sent.count ≡ length self.staged }
         ensures sent { Flies self.staged result.2.sent }
         ensures prepares { self.is_down ≡ false → result.2.prepares ≡ length (prepared_ids self.staged) }
-        ensures learned { IsUp D.state D.honest self → result.2.learned ≡ (memory_of self).learned }
+        ensures learned { self.is_down ≡ false → D.honest self.a → D.honest self.b → result.2.learned ≡ (memory_of self).learned }
 
         // It is up without its devices.
         ensures up { IsUp D.state D.honest self → IsUp (lent_state D.state) (lent_honest D.honest) result.0 }
