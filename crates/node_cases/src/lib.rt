@@ -1,7 +1,7 @@
 //! Tables of cases for the nodes: the coordinator and the shards of a store, by public calls alone, with values that were worked out from
 //! what they promise.
 //!
-//! Keeps: nothing at run time; it has tests alone.
+//! Keeps: nothing at run time; it has tests, and two functions that flush a node in two steps, which no program calls.
 //! They stand here, since a crate with tests of its own is proved once more for them. Whatever calls a node is generic over its devices: a
 //! call at a disk in memory itself takes longer to prove.
 //!
@@ -10,6 +10,7 @@
 
 #[cfg(test)]
 mod batches;
+mod flights;
 #[cfg(test)]
 mod horizons;
 #[cfg(test)]
@@ -20,3 +21,5 @@ mod shard_bytes;
 mod stores;
 #[cfg(test)]
 mod writes;
+
+pub use flights::{fly_coordinator, fly_shard};
