@@ -4,8 +4,6 @@ import math
 import os
 import re
 import shutil
-import signal
-import subprocess
 import sys
 import tempfile
 
@@ -183,7 +181,8 @@ class Gate:
 
     def stop_on_format(self):
         """What one look at the texts can tell is told before an hour of proofs."""
-        wrong = [it.name for it in self.crates if rtlib.fmt(it.folder, "--check", subprocess.DEVNULL)]
+        with open(os.devnull, "w", encoding="utf-8") as nowhere:
+            wrong = [it.name for it in self.crates if rtlib.fmt(it.folder, "--check", nowhere)]
         if wrong:
             rtlib.stop(f"run rt fmt in the folders of: {' '.join(wrong)}")
 
