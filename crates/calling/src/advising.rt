@@ -40,26 +40,52 @@ pub fn is_sent_again(refusal: Refusal) -> bool
     )
 }
 
-/// What a client does about it.
+/// The cause, and what a client does about it, as docs/API.md has them.
 pub fn advice(refusal: Refusal) -> &'static str {
     match refusal {
-        Refusal::BadRequest => "mend the request: it is in no shape that the server knows",
-        Refusal::BadTuple => "mend the text: it is no tuple, tupleset or name",
-        Refusal::TooLarge =>
-            "make several requests of it; a write that is cut is no longer one write",
-        Refusal::Repeated => "leave one out of the two changes or conditions that name one tuple",
-        Refusal::BadZookie => "take the token from an answer, as it was",
-        Refusal::WrongStore => "ask the store that gave the token",
-        Refusal::Future => "take a token that this store gave: each of those lies in its log",
-        Refusal::Collected =>
-            "ask for a later place; a watcher reads all anew and goes on from there",
-        Refusal::Precondition => "read again, and decide anew whether to write",
-        Refusal::Busy => "write again after a moment, as --retry does",
-        Refusal::Aborted => "write again, as --retry does",
-        Refusal::Unsure => "read what became of the write: it stands whole, or not at all",
-        Refusal::Down => "have the node opened again by a restart of the server, then ask again",
-        Refusal::NoMemory => "ask again once there is memory, as --retry does",
-        Refusal::Full => "ask again once others are done, as --retry does, or ask for less",
-        Refusal::Damaged => "give the node its own devices, or a copy of them: no call mends this",
+        Refusal::BadRequest => {
+            "the line or request is not in its grammar, or a write has no change; a client mends the request"
+        }
+        Refusal::BadTuple => "a text is no tuple, tupleset or name; a client mends the text",
+        Refusal::TooLarge => {
+            "more changes, conditions, tuplesets, namespaces or bytes than a limit allows; a client makes several requests of it; a write that is cut is no longer one write"
+        }
+        Refusal::Repeated => {
+            "two changes, or two conditions, of one write name one tuple; a client leaves one of them out"
+        }
+        Refusal::BadZookie => {
+            "the text is no zookie; a client takes the token from an answer, as it was"
+        }
+        Refusal::WrongStore => {
+            "the zookie is that of another store; a client asks the store that gave it"
+        }
+        Refusal::Future => {
+            "a place above the end of the log; a client takes a token that this store gave: each of those lies in the log"
+        }
+        Refusal::Collected => {
+            "a place below the horizon; a client asks for a later place; a watcher reads all anew and goes on from there"
+        }
+        Refusal::Precondition => {
+            "a condition of the write is not met; a client reads again, and decides anew whether to write"
+        }
+        Refusal::Busy => {
+            "a write in doubt holds one of the tuples; a client writes again after a moment"
+        }
+        Refusal::Aborted => {
+            "the coordinator or a participant was opened again since the write began; a client writes again"
+        }
+        Refusal::Unsure => {
+            "the coordinator failed or was opened again behind the decision; a client reads what became of the write: it stands whole, or not at all"
+        }
+        Refusal::Down => {
+            "a device of the node failed or had no room for a batch more, and the node was not opened again since; a client has the node opened again, then asks again"
+        }
+        Refusal::NoMemory => "memory was refused; a client asks again once there is memory",
+        Refusal::Full => {
+            "a limit is met: open writes, flows, the bytes or records of a batch, usersets of a check, numbers; a client asks again once others are done, or asks for less"
+        }
+        Refusal::Damaged => {
+            "what lies on the devices was not left there by this node of this store; a client gives the node its own devices, or a copy of them: no call mends this"
+        }
     }
 }
