@@ -53,6 +53,7 @@ module _ {D : Type 0} (state : D → State) (honest : D → Type 0) (store shard
 
   abbrev s : CoordinatorState
   s = coordinator_state read.0
+
   abbrev means : Means store shards whole m.horizon read.0 (at_shards (stops state honest store shards (devices_at any devices)))
   means = (rests.rests.each read.0 is_left).3
 

@@ -1,0 +1,4 @@
+pub mod Verbs
+pub mod Fine
+pub mod Cuts
+pub mod Feeds
