@@ -10,3 +10,4 @@ pub mod Belonging
 pub mod Failing
 pub mod Rows
 pub mod Fitting
+pub mod Lending

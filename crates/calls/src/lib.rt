@@ -7,12 +7,15 @@
 //! Never: makes more than the one call, or keeps anything between two.
 //! Callers rely on: `ask` promises what the node's own call does, and what a `Told` holds was carried by a reply.
 //!
+//! A node may lend its devices for a flush and take them back (`Node::lend`, `Node::land`). No program does so yet.
+//!
 //! Start at `specs/Asking.antt`, what may be asked and what is answered; then `Running`, which is all that a driver of flows has to know of one.
 #![tactic(auto)]
 
 mod asking;
 mod call;
 mod fitting;
+mod lending;
 mod node;
 mod reply;
 mod running;
@@ -20,6 +23,7 @@ mod told;
 
 pub use asking::{ask, refuse};
 pub use call::{CoordinatorCall, NodeCall, ShardCall};
+pub use lending::{Flying, Lent};
 pub use node::Node;
 pub use reply::{CoordinatorReply, Reply, ShardReply};
 pub use running::Running;

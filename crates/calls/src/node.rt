@@ -30,7 +30,7 @@ pub(crate) enum Opened<D: Device> {
 pub struct Node<D: Device> {
     pub(crate) alloc: Global,
     // the identity with which it was opened
-    me: Identity,
+    pub(crate) me: Identity,
     pub(crate) opened: Opened<D>,
 }
 

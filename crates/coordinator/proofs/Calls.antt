@@ -1,5 +1,5 @@
 -- What the calls do, seen from outside.
-use Rattle.std.proofs.Common.{◌≡◌, ◌⊎◌, inl, inr, ⊎_elim, ◌≤◌, ◌<◌, ◌+◌, ◌++◌, ℕ, List, [], ◌∷◌, Option, None, Some, All, Contains, length, length-append, refl, sym, ap, ◌∙◌, subst, arith, false}
+use Rattle.std.proofs.Common.{◌≡◌, ◌⊎◌, inl, inr, ⊎_elim, ◌≤◌, ◌<◌, ◌+◌, ◌++◌, ℕ, List, [], ◌∷◌, Option, All, length, length-append, refl, sym, ap, ◌∙◌, subst, arith, false}
 use Rattle.tuples.specs.Limits.{max_open}
 use Rattle.tuples.specs.declared.change.Condition.{Condition}
 use Rattle.tuples.specs.declared.change.Want.{Want}
@@ -14,7 +14,7 @@ use Rattle.device.specs.Device.{State}
 use Rattle.journal.specs.Records.{View}
 use Rattle.ledger.specs.Ledgers.{LedgerValue}
 use Rattle.decisions.specs.Coordinators.{CoordinatorView, FirstIs, HasNoId, IsInRange, IsRising, IsRunning, NamesCollected, NamesFuture, RaisesAt, kept_of, memory_of, next_id, without_id}
-use Rattle.coordinator.specs.Keeping.{IsGreatest, Remembers, newest_first}
+use Rattle.coordinator.specs.Keeping.{Remembers, newest_first}
 use Rattle.coordinator.specs.Ranges.{FirstOut, IsAbove, IsBelow, IsBetween}
 use Rattle.coordinator.proofs.Facts.{view_of}
 use Rattle.coordinator.proofs.OpenIds.{newest_length, newest_push}
@@ -104,11 +104,6 @@ module _ {D : Type 0} (v : CoordinatorView D) (end horizon : ℕ) (end_is : end 
   pub first_collected : (cs : List Condition) → FirstOut horizon end cs (IsBelow horizon) → FirstIs v cs (NamesCollected v)
   first_collected cs f = record { index = f.index; condition = f.condition; there = f.there; is = collected f.condition f.is; before = λ i c lt there. in_range c (f.before i c lt there) }
 
--- what is staged names no horizon so high
-pub not_rising : (rs : List Record) (rising : Option ℕ) (place : ℕ) → IsGreatest rs rising → ((r : ℕ) → rising ≡ Some r → r < place) → ((x : ℕ) × Contains rs (Horizon x) × (place ≤ x)) → ⊥
-not_rising rs None place none lower there = none there.0 there.1
-not_rising rs (Some r) place some lower there = let high = some.1 there.0 there.1 in let low = lower r refl in let le = there.2 in omega (arith, high, low, le)
-
 module _ {D : Type 0} (v : CoordinatorView D) (l : LedgerValue) (epoch kept horizon : ℕ) (rising : Option ℕ) (r : Remembers (kept_of v) (memory_of v) l epoch kept horizon rising) where
   pub raised_at : (place : ℕ) (new : CoordinatorView D) → v.is_down ≡ false → horizon ≤ place → place ≤ kept → (IsRising v place → ⊥) → new ≡ record v { staged = v.staged ++ Horizon place ∷ [] }
       → RaisesAt v place new × (place ≤ end_of (kept_of v))
@@ -118,6 +113,15 @@ module _ {D : Type 0} (v : CoordinatorView D) (l : LedgerValue) (epoch kept hori
       let h = r.horizon_is in
       let len : length (memory_of v).log ≡ length (kept_of v).log + length r.more = ap length r.longer ∙ length-append (kept_of v).log r.more in
       (record { was_up = up; above = omega (arith, on, h); within = omega (arith, within, e, b, len); new_is = inl (lower, is) }, omega (arith, within, e))
+
+  -- it is staged already
+  pub rising_at : (place : ℕ) → v.is_down ≡ false → horizon ≤ place → place ≤ kept → IsRising v place → RaisesAt v place v × (place ≤ end_of (kept_of v))
+  rising_at place up on within there =
+      let e = r.kept_is in
+      let b = r.same_base in
+      let h = r.horizon_is in
+      let len : length (memory_of v).log ≡ length (kept_of v).log + length r.more = ap length r.longer ∙ length-append (kept_of v).log r.more in
+      (record { was_up = up; above = omega (arith, on, h); within = omega (arith, within, e, b, len); new_is = inr (there, refl) }, omega (arith, within, e))
 
   pub end_now : l.base + length l.log ≡ end_of (memory_of v)
   end_now = sym r.end_is

@@ -1,5 +1,5 @@
 -- What the memory tells of the records.
-use Rattle.std.proofs.Common.{◌≡◌, ◌≢◌, ◌⊎◌, inl, inr, ⊎_elim, ◌≤◌, ◌<◌, ◌+◌, ◌-◌, ◌++◌, ℕ, zero, suc, List, [], ◌∷◌, Option, Some, Contains, drop, take, length, length-drop, refl, sym, ap, ◌∙◌, subst, arith, false, slice_get}
+use Rattle.std.proofs.Common.{◌≡◌, ◌≢◌, ◌⊎◌, inl, inr, ⊎_elim, ◌≤◌, ◌<◌, ◌+◌, ◌-◌, ◌++◌, ℕ, zero, suc, List, [], ◌∷◌, Option, None, Some, Contains, drop, take, length, length-drop, refl, sym, ap, ◌∙◌, subst, arith, false, slice_get}
 use Rattle.std.proofs.lemmas.Option.{slice_get_within}
 use Rattle.std.proofs.lemmas.List.{drop-append-le, drop-drop, take-append-drop, take-append-le}
 use Rattle.tuples.specs.declared.entry.Entry.{Entry}
@@ -12,7 +12,8 @@ use Rattle.journal.specs.Records.{View}
 use Rattle.ledger.specs.Ledgers.{IsOther, IsPlaceOf, LedgerValue}
 use Rattle.decisions.specs.Coordinators.{CoordinatorView, FindsAt, FindsNone, FindsNothingYet, IsDecidedAbove, IsGivenAt, IsRunning, kept_of, memory_of}
 use Rattle.decisions.specs.Values.{IsAborted, IsStretch}
-use Rattle.coordinator.specs.Keeping.{IsGreatest, IsKept, Remembers, newest_first}
+use Rattle.coordinator.specs.Keeping.{IsKept, Remembers, newest_first}
+use Rattle.coordinator.specs.Staged.{AreInOrder, last_horizon}
 use Rattle.coordinator.proofs.OpenIds.{numbers_open}
 
 -- the coordinator as its callers see it
@@ -48,8 +49,9 @@ module _ {D : Type 0} (state : D → State) (honest : D → Type 0) (j : View D)
   pub remembers_now : Remembers (kept_of v) (memory_of v) l epoch kept horizon rising
   remembers_now = subst (λ (x : CoordinatorView D). Remembers (kept_of x) (memory_of x) l epoch kept horizon rising) is remembers_journal
 
-  pub greatest_now : IsGreatest v.staged rising
-  greatest_now = subst (λ (x : CoordinatorView D). IsGreatest x.staged rising) is (subst (λ (ss : List Record). IsGreatest ss rising) staged_is k.greatest)
+  pub order_now : AreInOrder horizon kept v.staged × (rising ≡ last_horizon None v.staged)
+  order_now = subst (λ (x : CoordinatorView D). AreInOrder horizon kept x.staged × (rising ≡ last_horizon None x.staged)) is
+      (subst (λ (ss : List Record). AreInOrder horizon kept ss × (rising ≡ last_horizon None ss)) staged_is (k.in_order, k.last))
 
 -- decisions above the horizon are those of the ledger
 module _ (d w : CoordinatorState) (l : LedgerValue) (epoch kept horizon : ℕ) (rising : Option ℕ) (r : Remembers d w l epoch kept horizon rising) where

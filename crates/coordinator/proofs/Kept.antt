@@ -1,7 +1,7 @@
 -- What a coordinator keeps in memory is what its records stand for.
-use Rattle.std.proofs.Common.{◌≡◌, ◌≤◌, ◌+◌, ◌-◌, ◌++◌, ℕ, List, [], ◌∷◌, Option, None, Some, Contains, drop, length, length-append, length-drop, ◌<◌, ◌==◌, not, All, ⊎_elim, append_assoc, refl, sym, ap, ◌∙◌, subst, arith, false, rules}
+use Rattle.std.proofs.Common.{◌≡◌, ◌≤◌, ◌+◌, ◌-◌, ◌++◌, ℕ, List, [], ◌∷◌, Option, None, Some, drop, length, length-append, length-drop, ◌<◌, ◌==◌, not, All, append_assoc, refl, sym, ap, ◌∙◌, subst, arith, false}
 use Rattle.std.proofs.lemmas.List.{append-nil, drop-append-le, drop-drop}
-use Rattle.std.proofs.lemmas.List.Elements.{All-filter, All-push, All-weaker, Contains-append_left, Contains-push, Contains-push_cases}
+use Rattle.std.proofs.lemmas.List.Elements.{All-filter, All-push, All-weaker}
 use Rattle.tuples.specs.declared.entry.Entry.{Entry}
 use Rattle.records.specs.declared.record.Record.{Record}
 use Rattle.records.specs.declared.record.Record.TheVariants.{Decision, Horizon}
@@ -11,7 +11,8 @@ use Rattle.records.proofs.CoordinatorStates.{coordinator_push}
 use Rattle.device.specs.Device.{State}
 use Rattle.journal.specs.Records.{HasRecords, View}
 use Rattle.ledger.specs.Ledgers.{LedgerValue}
-use Rattle.coordinator.specs.Keeping.{AreDurable, IsGivenNumber, IsGreatest, IsKept, Remembers, others, risen}
+use Rattle.coordinator.specs.Keeping.{AreDurable, IsGivenNumber, IsKept, Remembers, others, risen}
+use Rattle.coordinator.proofs.Staged.{last_of_more, order_decided, order_raised}
 
 -- what was staged is durable, and what stands at or below the horizon then is forgotten
 pub remembers_flushed : (d w : CoordinatorState) (l m : LedgerValue) (epoch kept horizon end : ℕ) (rising : Option ℕ) → Remembers d w l epoch kept horizon rising
@@ -76,7 +77,8 @@ module _ {D : Type 0} (state : D → State) (honest : D → Type 0) (j k : View 
     staged = [];
     remembers = subst (λ (rs : List Record). Remembers (coordinator_state (was.durable ++ was.staged)) (coordinator_state rs) m epoch end (risen horizon rising) None) (sym (append-nil (was.durable ++ was.staged)))
         (remembers_flushed _ _ l m epoch kept horizon end rising was.remembers is end_is fits);
-    greatest = λ x there. absurd (search rules);
+    in_order = tt;
+    last = refl;
     numbers_given = was.numbers_given;
     given_fits = was.given_fits;
     staged_is = λ now. sym fresh;
@@ -160,23 +162,6 @@ remembers_raised d w l epoch kept horizon place rising was on within = record {
   risen_within = let e = was.kept_is in let b = was.same_base in let len : length w.log ≡ length d.log + length was.more = ap length was.longer ∙ length-append d.log was.more in omega (arith, within, e, b, len);
 }
 
-greatest_decided : (rs : List Record) (rising : Option ℕ) (place : ℕ) (x : Entry) → IsGreatest rs rising → IsGreatest (rs ++ Decision place x ∷ []) rising
-greatest_decided rs None place x none = λ h there. ⊎_elim (λ was. none h was) (λ is. absurd cc) (Contains-push_cases rs (Decision place x) (Horizon h) there)
-greatest_decided rs (Some r) place x some = (
-  Contains-append_left rs (Decision place x ∷ []) (Horizon r) some.0,
-  λ h there. ⊎_elim (λ was. some.1 h was) (λ is. absurd cc) (Contains-push_cases rs (Decision place x) (Horizon h) there),
-)
-
-greatest_raised : (rs : List Record) (rising : Option ℕ) (place : ℕ) → IsGreatest rs rising → ((r : ℕ) → rising ≡ Some r → r < place) → IsGreatest (rs ++ Horizon place ∷ []) (Some place)
-greatest_raised rs rising place was lower = (
-  Contains-push rs (Horizon place),
-  λ h there. ⊎_elim (λ before. highest rising was lower h before) (λ is. let e : place ≡ h = cc in omega (arith, e)) (Contains-push_cases rs (Horizon place) (Horizon h) there),
-)
-  where
-    highest : (o : Option ℕ) → IsGreatest rs o → ((r : ℕ) → o ≡ Some r → r < place) → (h : ℕ) → Contains rs (Horizon h) → h ≤ place
-    highest None none low h before = absurd (none h before)
-    highest (Some r) some low h before = let a = some.1 h before in let b = low r refl in omega (arith, a, b)
-
 module _ {D : Type 0} (state : D → State) (honest : D → Type 0) (j k : View D) (l m : LedgerValue) (epoch kept horizon : ℕ) (rising : Option ℕ) (numbers more : List ℕ) (given : ℕ)
     (was : IsKept state honest j l epoch kept horizon rising numbers given) where
   pub kept_decided : (place : ℕ) (x : Entry) → k ≡ record j { staged = j.staged ++ Decision place x ∷ [] } → m ≡ record l { log = l.log ++ x ∷ []; awaited = None } → All (IsGivenNumber given) more
@@ -187,7 +172,8 @@ module _ {D : Type 0} (state : D → State) (honest : D → Type 0) (j k : View 
     remembers = subst (λ (s : CoordinatorState). Remembers (coordinator_state was.durable) s m epoch kept horizon rising)
         (sym (state_decided (was.durable ++ was.staged) place x) ∙ ap coordinator_state (append_assoc was.durable was.staged (Decision place x ∷ [])))
         (remembers_decided _ _ l m epoch kept horizon rising x was.remembers listed);
-    greatest = greatest_decided was.staged rising place x was.greatest;
+    in_order = order_decided horizon kept place x was.staged was.in_order;
+    last = was.last ∙ sym (last_of_more None was.staged (Decision place x ∷ []));
     numbers_given = numbers_given;
     given_fits = was.given_fits;
     staged_is = subst (λ (i : View D). i.is_down ≡ false → was.staged ++ Decision place x ∷ [] ≡ i.staged) (sym staged) (λ up. ap (λ (rs : List Record). rs ++ Decision place x ∷ []) (was.staged_is up));
@@ -202,7 +188,8 @@ module _ {D : Type 0} (state : D → State) (honest : D → Type 0) (j k : View 
     remembers = subst (λ (s : CoordinatorState). Remembers (coordinator_state was.durable) s l epoch kept horizon (Some place))
         (sym (state_raised (was.durable ++ was.staged) place) ∙ ap coordinator_state (append_assoc was.durable was.staged (Horizon place ∷ [])))
         (remembers_raised _ _ l epoch kept horizon place rising was.remembers on within);
-    greatest = greatest_raised was.staged rising place was.greatest lower;
+    in_order = order_raised horizon kept place None was.staged on within (λ r is. lower r (was.last ∙ is)) was.in_order;
+    last = sym (last_of_more None was.staged (Horizon place ∷ []));
     numbers_given = was.numbers_given;
     given_fits = was.given_fits;
     staged_is = subst (λ (i : View D). i.is_down ≡ false → was.staged ++ Horizon place ∷ [] ≡ i.staged) (sym staged) (λ up. ap (λ (rs : List Record). rs ++ Horizon place ∷ []) (was.staged_is up));
@@ -215,7 +202,8 @@ module _ {D : Type 0} (state : D → State) (honest : D → Type 0) (j k : View 
     durable = was.durable;
     staged = was.staged;
     remembers = was.remembers;
-    greatest = was.greatest;
+    in_order = was.in_order;
+    last = was.last;
     numbers_given = numbers_given;
     given_fits = fits;
     staged_is = was.staged_is;

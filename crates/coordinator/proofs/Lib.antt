@@ -4,3 +4,5 @@ pub mod Kept
 pub mod OpenIds
 pub mod Openings
 pub mod CountedVotes
+pub mod Staged
+pub mod Landed

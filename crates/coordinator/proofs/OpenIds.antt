@@ -8,13 +8,13 @@ use Rattle.holds.proofs.Doubts.{same_id_refl}
 use Rattle.decisions.specs.Coordinators.{without_id}
 use Rattle.coordinator.specs.Keeping.{newest_first, others}
 
-first_or_later : {X : Type 0} (x y : X) (xs : List X) → Contains (x ∷ xs) y → (x ≡ y) ⊎ Contains xs y
+pub first_or_later : {X : Type 0} (x y : X) (xs : List X) → Contains (x ∷ xs) y → (x ≡ y) ⊎ Contains xs y
 first_or_later x y xs there = ⊎_elim
     (λ one. ⊎_elim (λ none. absurd (search rules)) (λ is. inl is) (Contains-push_cases [] x y one))
     (λ later. inr later)
     (Contains-append_cases (x ∷ []) xs y there)
 
-nothing_in : {X : Type 0} (x : X) → Contains [] x → ⊥
+pub nothing_in : {X : Type 0} (x : X) → Contains [] x → ⊥
 nothing_in x there = search rules
 
 pub newest_push : (epoch n : ℕ) (numbers : List ℕ) (ids : List WriteId) → newest_first epoch (numbers ++ n ∷ []) ids ≡ record { epoch = epoch; number = n } ∷ newest_first epoch numbers ids

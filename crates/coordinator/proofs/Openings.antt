@@ -1,5 +1,5 @@
 -- Opening a coordinator once more.
-use Rattle.std.proofs.Common.{◌≡◌, inl, inr, ⊎_elim, ◌≤◌, ◌<◌, ◌+◌, ◌-◌, ◌++◌, ℕ, List, [], ◌∷◌, Option, Some, None, All, length, length-drop, drop, refl, sym, ap, ◌∙◌, subst, arith, false, rules}
+use Rattle.std.proofs.Common.{◌≡◌, inl, inr, ⊎_elim, ◌≤◌, ◌<◌, ◌+◌, ◌-◌, ◌++◌, ℕ, List, [], ◌∷◌, Option, Some, None, All, length, length-drop, drop, refl, sym, ap, ◌∙◌, subst, arith, false}
 use Rattle.std.proofs.lemmas.List.{append-nil}
 use Rattle.records.specs.declared.record.Record.{Record}
 use Rattle.records.specs.declared.record.Record.TheVariants.{Epoch}
@@ -9,7 +9,7 @@ use Rattle.records.specs.Identity.{coordinator_number}
 use Rattle.records.specs.Replays.{Identity, greatest_number}
 use Rattle.records.proofs.CoordinatorStates.{coordinator_empty, coordinator_image_push, coordinator_push}
 use Rattle.device.specs.Device.{State, left}
-use Rattle.journal.specs.Records.{both, HasNoRoom, HasOldOrNew, HasRecords, LeavesBoth, View, found}
+use Rattle.journal.specs.Records.{both, HasNoRoom, HasOldOrNew, HasRecords, LeavesBoth, View}
 use Rattle.ledger.specs.Ledgers.{LedgerValue}
 use Rattle.decisions.specs.Coordinators.{coordinator_opening}
 use Rattle.journal.specs.Unread.{IsRead, Left}
@@ -130,7 +130,8 @@ module _ {D : Type 0} (state : D → State) (honest : D → Type 0) (j : View D)
     staged = [];
     remembers = subst (λ (rs : List Record). Remembers (coordinator_state now) (coordinator_state rs) l epoch kept horizon None) (sym (append-nil now))
         (remembers_opened s (coordinator_state now) l epoch kept horizon state_is zero_base ledger next below kept_is fits horizon_is within);
-    greatest = λ x there. absurd (search rules);
+    in_order = tt;
+    last = refl;
     numbers_given = subst (All (IsGivenNumber 0)) (sym none) (λ k d lt. absurd (omega (arith, lt)));
     given_fits = omega arith;
     staged_is = λ up. sym fresh;

@@ -1,15 +1,16 @@
 -- What a coordinator keeps beside its journal: in memory what its records stand for, above the durable horizon.
-use Rattle.std.specs.Prelude.{◌≡◌, ◌⊎◌, ◌≤◌, ◌+◌, ◌-◌, ℕ, false, List, [], ◌∷◌, ◌++◌, Option, Some, None, All, Contains, drop, length, filter, not, ◌==◌}
+use Rattle.std.specs.Prelude.{◌≡◌, ◌⊎◌, ◌≤◌, ◌+◌, ◌-◌, ℕ, false, List, [], ◌∷◌, ◌++◌, Option, Some, None, All, drop, length, filter, not, ◌==◌}
 use Rattle.tuples.specs.declared.entry.Entry.{Entry}
 use Rattle.tuples.specs.declared.entry.WriteId.{WriteId}
 use Rattle.records.specs.declared.record.Record.{Record}
-use Rattle.records.specs.declared.record.Record.TheVariants.{Epoch, Horizon}
+use Rattle.records.specs.declared.record.Record.TheVariants.{Epoch}
 use Rattle.records.specs.Coordinators.{CoordinatorState, IsCoordinatorImage, coordinator_state, end_of}
 use Rattle.records.specs.Replays.{Identity, greatest_number}
 use Rattle.device.specs.Device.{State}
 use Rattle.journal.specs.Records.{HasRecords, IsOpened, LacksRoom, View, found}
 use Rattle.ledger.specs.Ledgers.{LedgerValue}
 use Rattle.decisions.specs.Coordinators.{coordinator_opening}
+use Rattle.coordinator.specs.Staged.{AreInOrder, last_horizon}
 
 -- the ids of this epoch with these numbers, the last of them first, before others
 abbrev pub newest_first : ℕ → List ℕ → List WriteId → List WriteId
@@ -19,11 +20,6 @@ newest_first epoch (n ∷ numbers) ids = newest_first epoch numbers (record { ep
 -- the numbers but this one
 abbrev pub others : ℕ → List ℕ → List ℕ
 others number = filter (λ n. not (n == number))
-
--- the greatest horizon among these records, if there is one
-abbrev pub IsGreatest : List Record → Option ℕ → Type 0
-IsGreatest rs None = (x : ℕ) → Contains rs (Horizon x) → ⊥
-IsGreatest rs (Some h) = Contains rs (Horizon h) × ((x : ℕ) → Contains rs (Horizon x) → x ≤ h)
 
 -- the horizon once what is staged is durable
 abbrev pub risen : ℕ → Option ℕ → ℕ
@@ -69,7 +65,8 @@ pub record IsKept {D : Type 0} (state : D → State) (honest : D → Type 0) (jo
   pub durable : List Record
   pub staged : List Record
   pub remembers : Remembers (coordinator_state durable) (coordinator_state (durable ++ staged)) ledger epoch kept horizon rising
-  pub greatest : IsGreatest staged rising
+  pub in_order : AreInOrder horizon kept staged
+  pub last : rising ≡ last_horizon None staged
   pub numbers_given : All (IsGivenNumber given) numbers
   pub given_fits : given ≤ greatest_number
   pub staged_is : journal.is_down ≡ false → staged ≡ journal.staged

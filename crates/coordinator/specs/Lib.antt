@@ -1,2 +1,4 @@
 pub mod Keeping
+pub mod Lending
 pub mod Ranges
+pub mod Staged

@@ -48,7 +48,7 @@ impl<D: Device> Model for Coordinator<D> {
 }
 
 // Forgets the decisions up to a horizon that became durable.
-fn rise(ledger: &mut Ledger, horizon: &mut u64, rising: Option<u64>)
+pub(crate) fn rise(ledger: &mut Ledger, horizon: &mut u64, rising: Option<u64>)
     requires base { ledger.old.base ≡ horizon.old }
     requires rises { horizon.old ≤ risen horizon.old rising }
     requires within { risen horizon.old rising ≤ ledger.old.base + length ledger.old.log }

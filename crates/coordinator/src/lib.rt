@@ -5,6 +5,9 @@
 //! Callers rely on: an id is given once; a place is told as kept only where every stop leaves its decision; after `Down` it answers
 //! nothing more until it is opened again.
 //!
+//! Its devices may be lent, while a flight makes durable what was staged: it goes on without them, and `land` takes them back. No program does
+//! so yet.
+//!
 //! Start at `decisions/specs/Coordinators.antt`, what a coordinator is and what each of its calls does.
 #![tactic(auto)]
 
@@ -13,6 +16,7 @@ mod beginning;
 mod coordinator;
 mod decided;
 mod deciding;
+mod lending;
 mod open_writes;
 mod opening;
 mod raising;
@@ -22,6 +26,7 @@ mod votes;
 
 pub use coordinator::Coordinator;
 pub use decided::{Decided, NotDecided};
+pub use lending::Flying;
 pub use raising::{NotRaised, settles};
 pub use telling::{Inquiry, Outcome};
 pub use votes::votes_match;

@@ -7,12 +7,15 @@
 //! Many bodies may be written ahead of a list, behind its closed gate, and become its end by one byte (`write_ahead`, `publish`); `clear`
 //! empties a list by one byte. No crate above calls these three yet.
 //!
+//! `lend` gives the log with its device away, and leaves one that knows where the list ends; no program calls it yet.
+//!
 //! Start at `specs/Gated.antt`, what bytes stand for which list, and then `append`, its four calls.
 #![tactic(auto)]
 
 mod ahead;
 mod append;
 mod format;
+mod lending;
 mod log;
 mod opening;
 mod split;

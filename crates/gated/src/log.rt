@@ -16,11 +16,11 @@ use std::marker::Model;
 /// that are ahead of it.
 #[derive(Drop)]
 pub struct GatedLog<D: Device> {
-    device: D,
+    pub(crate) device: D,
     // where the closed gate stands that ends the list
-    end: usize,
+    pub(crate) end: usize,
     // where the open gate stands behind the bodies that are ahead; where none is, the same place
-    at: usize,
+    pub(crate) at: usize,
 }
 
 impl<D: Device> Model for GatedLog<D> {

@@ -1,6 +1,8 @@
 -- What the bytes of a batch stand for.
 use Rattle.std.proofs.Common.{◌≡◌, ◌≢◌, inl, inr, ⊎_elim, ◌≤◌, ◌<◌, ◌+◌, ◌-◌, ◌==◌, ℕ, zero, suc, false, cond, List, [], ◌∷◌, ◌++◌, Some, length, take, drop, refl, sym, ◌∙◌, ap, subst, arith, append_assoc, length-append}
-use Rattle.std.proofs.lemmas.List.{append-nil, take_at, drop_at, length-take-le, length-drop, drop-append-le, drop_all, take_all}
+use Rattle.std.proofs.lemmas.List.Edits.{take-paste}
+use Rattle.std.proofs.Math.Seq.{paste}
+use Rattle.std.proofs.lemmas.List.{append-nil, drop-drop, take-append-drop, take_at, drop_at, length-take-le, length-drop, drop-append-le, drop_all, take_all}
 use Rattle.std.proofs.lemmas.Bool.{ne_eqb}
 use Rattle.std.proofs.lemmas.Grind.{flat_map-append}
 use Rattle.std.specs.List.{flat_map}
@@ -9,6 +11,7 @@ use Rattle.records.specs.declared.record.Record.{Record}
 use Rattle.records.specs.Format.{AreRecords, IsRecord, record_bytes, batch_bytes}
 use Rattle.records.specs.Reading.{batch}
 use Rattle.gated.specs.Gated.{body_of}
+use Rattle.journal.specs.Lending.{Flies}
 use Rattle.journal.specs.Records.{or_none, batch_size, HasNoRoom}
 use Rattle.records.proofs.Spelled.{batch_spelled}
 use Rattle.journal.specs.Staging.{staged_in, IsSpelled}
@@ -123,3 +126,67 @@ completed_is bytes capacity count s =
 pub lent : (xs ys : List ℕ) (n : ℕ) → length ys ≡ length xs → n ≡ length xs → take n (ys ++ drop (length ys) xs) ≡ ys
 lent xs ys n same is =
     ap (λ (l : List ℕ). take n (ys ++ l)) (drop_all (length ys) xs (omega (arith, same))) ∙ ap (take n) (append-nil ys) ∙ take_all n ys (omega (arith, same, is))
+
+-- all that is staged flies: so many records, and the bytes behind the first seven
+pub flies_whole : (bytes : List ℕ) (capacity count : ℕ) (s : IsSpelled bytes capacity count) (rs : List Record) → staged_in count bytes ≡ rs → (len : ℕ) → len + 7 ≡ length bytes → Flies rs (record { count = count; len = len })
+flies_whole bytes capacity count s rs is len size =
+    let all : count ≡ length rs = omega (arith, s.number, ap length (staged_is bytes capacity count s), ap length is) in
+    record {
+      count = omega (arith, all);
+      len = ap batch_size (take_all count rs (omega (arith, all))) ∙ omega (arith, size, length_is bytes capacity count s, ap batch_size is);
+    }
+
+are_dropped : (n : ℕ) (rs : List Record) → AreRecords rs → AreRecords (drop n rs)
+are_dropped zero rs are = are
+are_dropped (suc n) [] are = tt
+are_dropped (suc n) (r ∷ rs) are = are_dropped n rs are.1
+
+-- the first of what is staged is forgotten: so many records, in so many bytes
+module _ (bytes : List ℕ) (capacity count : ℕ) (s : IsSpelled bytes capacity count) (n len : ℕ) (le : n ≤ count) (size : batch_size (take n (staged_in count bytes)) ≡ len + 3) where
+  abbrev spells : List Record → List ℕ
+  spells = flat_map (record_bytes false)
+
+  first_size : length (spells (take n s.rs)) ≡ len
+  first_size = omega (arith, size, ap (λ (rs : List Record). batch_size (take n rs)) (staged_is bytes capacity count s), batch_size_is (take n s.rs))
+
+  in_two : spells s.rs ≡ spells (take n s.rs) ++ spells (drop n s.rs)
+  in_two = ap spells (sym (take-append-drop n s.rs)) ∙ flat_map-append (record_bytes false) (take n s.rs) (drop n s.rs)
+
+  pub first_fits : 7 + len ≤ length bytes
+  first_fits = omega (arith, s.front, length-drop 7 bytes, ap length s.spelled, ap length in_two, length-append (spells (take n s.rs)) (spells (drop n s.rs)), first_size)
+
+  behind_first : drop (7 + len) bytes ≡ spells (drop n s.rs)
+  behind_first = sym (drop-drop len 7 bytes) ∙ ap (drop len) (s.spelled ∙ in_two) ∙ drop_at (spells (take n s.rs)) (spells (drop n s.rs)) len first_size
+
+  head : length (take 7 bytes) ≡ 7
+  head = length-take-le 7 bytes (omega (arith, s.front))
+
+  module _ (shorter : List ℕ) (is : shorter ≡ take 7 bytes ++ drop (7 + len) bytes) where
+    size_is : length shorter + len ≡ length bytes
+    size_is = omega (arith, ap length is, length-append (take 7 bytes) (drop (7 + len) bytes), head, length-drop (7 + len) bytes, first_fits)
+
+    pub forgotten : (new_capacity : ℕ) → capacity ≤ new_capacity → IsSpelled shorter new_capacity (count - n)
+    forgotten new_capacity grows = record {
+      rs = drop n s.rs;
+      are_records = are_dropped n s.rs s.are_records;
+      number = omega (arith, length-drop n s.rs, s.number);
+      few = omega (arith, s.few);
+      front = omega (arith, ap length is, length-append (take 7 bytes) (drop (7 + len) bytes), head);
+      spelled = ap (drop 7) is ∙ drop_at (take 7 bytes) (drop (7 + len) bytes) 7 head ∙ behind_first;
+      fits = omega (arith, s.fits, size_is);
+      room = omega (arith, s.room, grows);
+    }
+
+    pub forgotten_view : staged_in (count - n) shorter ≡ drop n (staged_in count bytes)
+    unfolding forgotten
+    forgotten_view = staged_is shorter capacity (count - n) (forgotten capacity (omega arith)) ∙ ap (drop n) (sym (staged_is bytes capacity count s))
+
+-- bytes were moved down, and the end was cut off
+pub moved_down : (bytes : List ℕ) (len cut : ℕ) → 7 + len ≤ length bytes → cut + len ≡ length bytes
+    → take cut (paste bytes 7 (drop (7 + len) bytes) (length bytes - (7 + len))) ≡ take 7 bytes ++ drop (7 + len) bytes
+moved_down bytes len cut fits is =
+    let rest : length (drop (7 + len) bytes) ≡ length bytes - (7 + len) = length-drop (7 + len) bytes in
+    let where_to : cut ≡ 7 + (length bytes - (7 + len)) = omega (arith, fits, is) in
+    ap (λ k. take k (paste bytes 7 (drop (7 + len) bytes) (length bytes - (7 + len)))) where_to
+    ∙ take-paste bytes 7 (drop (7 + len) bytes) (length bytes - (7 + len)) (omega (arith, fits)) (omega (arith, rest))
+    ∙ ap (λ (l : List ℕ). take 7 bytes ++ l) (take_all (length bytes - (7 + len)) (drop (7 + len) bytes) (omega (arith, rest)))

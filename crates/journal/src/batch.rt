@@ -4,11 +4,13 @@ ghost use Rattle.std.specs.Int.{w16, to_be_bytes};
 ghost use Rattle.device.specs.Device.{LeavesOnly, HasFailed};
 ghost use Rattle.gated.specs.Gated.{HasList, IsOldOrNew, body_of, record_head};
 ghost use Rattle.journal.specs.Records.{HasNoRoom, LacksRoom, batch_size};
+ghost use Rattle.journal.specs.Lending.{Flies};
 ghost use Rattle.journal.specs.Staging.{max_len, staged_in, IsSpelled};
 ghost use Rattle.records.specs.Format.{IsPrepared, IsRecord, batch_bytes, record_bytes};
 ghost use Rattle.records.specs.declared.record.Record.TheVariants.{Prepare as prepare_record};
 ghost use Rattle.records.specs.Reading.{batch};
 
+use crate::Sent;
 use device::Device;
 use gated::{GatedLog, MAX_BODY};
 use records::{MAX_RECORDS, Record, VERSION, encode_prepare};
@@ -113,6 +115,40 @@ impl Batch {
             }
             Err(_) => false,
         }
+    }
+
+    /// The same records as another, in the memory that this one has.
+    pub(crate) fn copy(&mut self, other: &Batch)
+        ensures { self.new ≡ other.now }
+    {
+        self.bytes.clear();
+        match self.bytes.extend_from_slice(&other.bytes) {
+            Ok(()) => {}
+            Err(_) => unreachable!(),
+        }
+        self.count = other.count;
+    }
+
+    /// How many there are, and in how many bytes.
+    pub(crate) fn size(&self) -> Sent
+        ensures all { result.count ≡ length self.now }
+        ensures sent { Flies self.now result }
+    {
+        Sent {
+            count: self.count,
+            len: self.bytes.len() - HEAD,
+        }
+    }
+
+    /// Forgets the first of them.
+    pub(crate) fn forget_first(&mut self, sent: Sent)
+        requires { Flies self.old sent }
+        ensures { self.new ≡ drop sent.count self.old }
+    {
+        let end = self.bytes.len();
+        self.bytes.copy_within(HEAD + sent.len..end, HEAD);
+        self.bytes.truncate(end - sent.len);
+        self.count -= sent.count;
     }
 
     /// Appends them to a log as one batch. Whatever comes of it, none are staged any more.

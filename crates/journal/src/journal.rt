@@ -21,11 +21,11 @@ use tuples::{Entry, Refusal};
 #[derive(Drop)]
 pub struct Journal<D: Device> {
     // bank a
-    log: GatedLog<D>,
+    pub(crate) log: GatedLog<D>,
     // bank b
-    spare: D,
+    pub(crate) spare: D,
     pub(crate) staged: Batch,
-    is_down: bool,
+    pub(crate) is_down: bool,
 }
 
 impl<D: Device> Model for Journal<D> {

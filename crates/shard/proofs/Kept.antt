@@ -1,7 +1,6 @@
 -- What a shard keeps in memory is what its records stand for.
-use Rattle.std.proofs.Common.{◌≡◌, ◌≤◌, ◌++◌, ◌||◌, ℕ, Bool, true, List, [], ◌∷◌, false, refl, sym, ap, ◌∙◌, subst, append_assoc}
-use Rattle.std.proofs.lemmas.List.Folds.{list_any-append}
-use Rattle.tuples.specs.Log.{same_id}
+use Rattle.std.proofs.Common.{◌≡◌, ◌≤◌, ◌++◌, ℕ, List, [], ◌∷◌, false, refl, sym, ap, ◌∙◌, subst, append_assoc}
+use Rattle.std.proofs.lemmas.List.{append-nil}
 use Rattle.tuples.specs.declared.entry.Entry.{Entry}
 use Rattle.tuples.specs.declared.entry.WriteId.{WriteId}
 use Rattle.records.specs.declared.record.PlacedId.{PlacedId}
@@ -14,10 +13,10 @@ use Rattle.replay.proofs.States.{image_push, shard_push}
 use Rattle.device.specs.Device.{State}
 use Rattle.journal.specs.Records.{View}
 use Rattle.decisions.specs.Values.{NamesNode}
-use Rattle.shard.specs.Keeping.{IsBacked, IsKept, has_id, prepared_ids}
+use Rattle.shard.specs.Keeping.{IsBacked, IsKept, prepared_ids}
 use Rattle.shard.specs.Shards.{IsUp, ShardView, Stages, memory}
 
-prepared_append : (rs more : List Record) → prepared_ids (rs ++ more) ≡ prepared_ids rs ++ prepared_ids more
+pub prepared_append : (rs more : List Record) → prepared_ids (rs ++ more) ≡ prepared_ids rs ++ prepared_ids more
 prepared_append [] more = refl
 prepared_append (Prepare w ∷ rs) more = ap (λ (l : List WriteId). w.id ∷ l) (prepared_append rs more)
 prepared_append (Learned to placed_ids ∷ rs) more = prepared_append rs more
@@ -35,16 +34,12 @@ memory_is {D} state honest j me m ids settled kept v is up =
     subst (λ (w : ShardView D). IsUp state honest w → IsAlike m (memory w)) is (λ here. subst (λ (l : List Record). IsAlike m (shard_state l)) (kept.backed here.up here.honest_a here.honest_b).whole kept.replayed) up
 
 -- a record that prepares nothing has no id
-pub no_more : (id : WriteId) (ids : List WriteId) → has_id id ids ≡ (has_id id ids || false)
-no_more id ids = sym (or_false (has_id id ids))
-  where
-    or_false : (b : Bool) → (b || false) ≡ b
-    or_false true = refl
-    or_false false = refl
+pub no_more : (ids : List WriteId) → ids ≡ ids ++ []
+no_more ids = sym (append-nil ids)
 
 -- one record more is staged, and applied in memory
 pub kept_push : {D : Type 0} (state : D → State) (honest : D → Type 0) (j k : View D) (me : Identity) (m n : ShardState) (ids more : List WriteId) (settled : ℕ) (r : Record) → IsKept state honest j me m ids settled
-    → MayCome me m r → k ≡ record j { staged = j.staged ++ r ∷ [] } → IsAlike n (shard_step m r) → 1 ≤ n.epoch → ((id : WriteId) → has_id id more ≡ (has_id id ids || has_id id (prepared_ids (r ∷ [])))) → IsKept state honest k me n more settled
+    → MayCome me m r → k ≡ record j { staged = j.staged ++ r ∷ [] } → IsAlike n (shard_step m r) → 1 ≤ n.epoch → more ≡ ids ++ prepared_ids (r ∷ []) → IsKept state honest k me n more settled
 kept_push {D} state honest j k me m n ids more settled r kept may staged stepped opened pushed = record {
   rs = kept.rs ++ r ∷ [];
   replayed = alike_trans stepped (subst (IsAlike (shard_step m r)) (sym (shard_push kept.rs r)) (alike_step kept.replayed r));
@@ -59,11 +54,8 @@ kept_push {D} state honest j k me m n ids more settled r kept may staged stepped
         whole = ap (λ (l : List Record). l ++ r ∷ []) b.whole ∙ append_assoc j.durable j.staged (r ∷ []);
       });
   named = subst (λ (i : View D). i.is_down ≡ false → honest i.a → honest i.b → NamesNode i.durable me.node) (sym staged) kept.named;
-  unflushed_are = subst (λ (i : View D). i.is_down ≡ false → (id : WriteId) → has_id id more ≡ has_id id (prepared_ids i.staged)) (sym staged)
-      (λ up id. pushed id
-      ∙ ap (λ (b : Bool). b || has_id id (prepared_ids (r ∷ []))) (kept.unflushed_are up id)
-      ∙ sym (list_any-append (λ (y : WriteId). same_id y id) (prepared_ids j.staged) (prepared_ids (r ∷ [])))
-      ∙ sym (ap (has_id id) (prepared_append j.staged (r ∷ []))));
+  unflushed_are = subst (λ (i : View D). i.is_down ≡ false → more ≡ prepared_ids i.staged) (sym staged)
+      (λ up. pushed ∙ ap (λ (l : List WriteId). l ++ prepared_ids (r ∷ [])) (kept.unflushed_are up) ∙ sym (prepared_append j.staged (r ∷ [])));
   settled_is = subst (λ (i : View D). i.is_down ≡ false → honest i.a → honest i.b → settled ≡ (shard_state i.durable).learned) (sym staged) kept.settled_is;
 }
 

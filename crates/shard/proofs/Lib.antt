@@ -9,3 +9,4 @@ pub mod Given
 pub mod Parts
 mod Openings
 pub mod Told
+pub mod Landed

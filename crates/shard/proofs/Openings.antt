@@ -12,10 +12,10 @@ use Rattle.replay.specs.Alike.{IsAlike}
 use Rattle.replay.proofs.Alike.{alike_same, alike_step, alike_sym, alike_trans, may_come_alike}
 use Rattle.replay.proofs.States.{image_empty, image_push, shard_push}
 use Rattle.device.specs.Device.{State, left}
-use Rattle.journal.specs.Records.{both, HasNoRoom, HasRecords, HasOldOrNew, LeavesBoth, View, found}
+use Rattle.journal.specs.Records.{both, HasNoRoom, HasRecords, HasOldOrNew, LeavesBoth, View}
 use Rattle.journal.specs.Unread.{IsRead, Left}
 use Rattle.journal.proofs.Left.{both-nil, read_among, read_more}
-use Rattle.shard.specs.Keeping.{HasFoundOrOpened, IsKept, IsReplayed, has_id, prepared_ids}
+use Rattle.shard.specs.Keeping.{HasFoundOrOpened, IsKept, IsReplayed, prepared_ids}
 use Rattle.shard.specs.Shards.{IsUp, opening}
 use Rattle.shard.proofs.Kept.{view_of}
 
@@ -164,7 +164,7 @@ module _ (me : Identity) (records : List Record) (image : IsShardImage me record
           me.shards,
           subst (λ (l : List Record). Contains l (opening me records)) (sym (opened_durable (back_a ka) (back_b kb))) (Contains-append_right records (opening me records ∷ []) (opening me records) (0, omega arith, refl)),
         );
-        unflushed_are = λ up id. ap (has_id id) (none ∙ ap prepared_ids (sym fresh));
+        unflushed_are = λ up. none ∙ ap prepared_ids (sym fresh);
         settled_is = λ up ka kb. place ∙ all_replayed.learned ∙ ap (λ (l : List Record). (shard_state l).learned) (sym (opened_durable (back_a ka) (back_b kb)));
       }
 

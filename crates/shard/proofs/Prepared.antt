@@ -1,9 +1,8 @@
 -- A write was prepared: what the shard keeps then, and what its ticket tells.
-use Rattle.std.proofs.Common.{◌≡◌, ◌≤◌, ◌++◌, ◌||◌, ℕ, Bool, List, [], ◌∷◌, Some, true, false, refl, sym, ap, ◌∙◌, subst}
+use Rattle.std.proofs.Common.{◌≡◌, ◌≤◌, ◌++◌, ℕ, List, [], ◌∷◌, Some, true, false, sym, ap, ◌∙◌, subst}
 use Rattle.std.specs.Option.{is_some}
 use Rattle.tuples.specs.declared.entry.Entry.{Entry}
 use Rattle.tuples.specs.declared.entry.WriteId.{WriteId}
-use Rattle.tuples.specs.Log.{same_id}
 use Rattle.tuples.specs.Parts.{part}
 use Rattle.records.specs.declared.record.Record.{Record}
 use Rattle.records.specs.declared.record.Record.TheVariants.{Prepare}
@@ -14,14 +13,10 @@ use Rattle.replay.proofs.Doubts.{find_put_same}
 use Rattle.device.specs.Device.{State}
 use Rattle.journal.specs.Records.{View}
 use Rattle.decisions.specs.Values.{IsIntent}
-use Rattle.shard.specs.Keeping.{IsKept, has_id}
+use Rattle.shard.specs.Keeping.{IsKept}
 use Rattle.shard.specs.Shards.{AreFree, IsPreparable}
 use Rattle.shard.proofs.Kept.{kept_push, prepare_epoch}
 use Rattle.shard.proofs.Tested.{part_may_come, same_part_id}
-
-or_false : (b : Bool) → (b || false) ≡ b
-or_false true = refl
-or_false false = refl
 
 held_now : (m : ShardState) (p : Entry) → AreFree m p → find_in_doubt p.id (shard_step m (Prepare p)).in_doubt ≡ Some p
 unfolding shard_step
@@ -29,11 +24,10 @@ held_now m p free = find_put_same m.in_doubt p
 
 module _ {D : Type 0} (state : D → State) (honest : D → Type 0) (j k : View D) (me : Identity) (m n : ShardState) (ids more : List WriteId) (settled : ℕ) (w : Entry)
     (kept : IsKept state honest j me m ids settled) (whole : IsIntent w) (able : IsPreparable m (part me.shards me.node w))
-    (staged : k ≡ record j { staged = j.staged ++ Prepare (part me.shards me.node w) ∷ [] }) (stepped : n ≡ shard_step m (Prepare (part me.shards me.node w))) (waits : (j : WriteId) → has_id j more ≡ (has_id j ids || same_id w.id j)) where
+    (staged : k ≡ record j { staged = j.staged ++ Prepare (part me.shards me.node w) ∷ [] }) (stepped : n ≡ shard_step m (Prepare (part me.shards me.node w))) (waits : more ≡ ids ++ w.id ∷ []) where
   pub kept_after : IsKept state honest k me n more settled
   kept_after =
-      let id : (j : WriteId) → has_id j more ≡ (has_id j ids || has_id j ((part me.shards me.node w).id ∷ [])) =
-      λ j. waits j ∙ ap (λ (i : WriteId). has_id j ids || same_id i j) (sym (same_part_id me.shards me.node w)) ∙ ap (λ (b : Bool). has_id j ids || b) (sym (or_false (same_id (part me.shards me.node w).id j))) in
+      let id : more ≡ ids ++ (part me.shards me.node w).id ∷ [] = waits ∙ ap (λ (i : WriteId). ids ++ i ∷ []) (sym (same_part_id me.shards me.node w)) in
       kept_push state honest j k me m n ids more settled (Prepare (part me.shards me.node w)) kept (part_may_come me m w kept.opened whole able.free) staged (alike_same _ _ stepped)
       (subst (λ (s : ShardState). 1 ≤ s.epoch) (sym stepped) (prepare_epoch m (part me.shards me.node w) kept.opened)) id
 

@@ -44,7 +44,7 @@ pub record IsKept {D : Type 0} (state : D → State) (honest : D → Type 0) (jo
   pub node : me.node < me.shards
   pub backed : journal.is_down ≡ false → honest journal.a → honest journal.b → IsBacked state journal rs
   pub named : journal.is_down ≡ false → honest journal.a → honest journal.b → NamesNode journal.durable me.node
-  pub unflushed_are : journal.is_down ≡ false → (id : WriteId) → has_id id unflushed ≡ has_id id (prepared_ids journal.staged)
+  pub unflushed_are : journal.is_down ≡ false → unflushed ≡ prepared_ids journal.staged
   pub settled_is : journal.is_down ≡ false → honest journal.a → honest journal.b → settled ≡ (shard_state journal.durable).learned
 
 -- the records were found, they are those of this shard, and the memory is alike to their replay

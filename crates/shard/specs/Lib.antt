@@ -2,3 +2,4 @@ pub mod Shards
 pub mod Keeping
 pub mod Own
 pub mod Calls
+pub mod Lending

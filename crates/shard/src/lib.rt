@@ -21,12 +21,16 @@
 //! Callers rely on: a `Vote` means that every stop leaves the prepare; once a flush failed the shard answers `Down` to all until it is
 //! opened again.
 //!
+//! Its devices may be lent, while a flight makes durable what was staged: it goes on without them, and `land` takes them back. No program does
+//! so yet.
+//!
 //! Start at `specs/Shards.antt`, what a shard is, and `records/specs/Replays.antt`, what its records stand for.
 #![tactic(auto)]
 
 mod collecting;
 mod dropping;
 mod learning;
+mod lending;
 mod opening;
 mod own;
 mod preparing;
@@ -34,7 +38,9 @@ mod reading;
 mod replies;
 mod settling;
 mod shard;
+mod staged_ids;
 mod write_ids;
 
+pub use lending::Flying;
 pub use replies::{ReadReply, VoteReply};
 pub use shard::Shard;

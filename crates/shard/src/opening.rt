@@ -11,7 +11,7 @@ ghost use Rattle.shard.specs.Shards.{IsOpenedShard, IsUp, LacksRoomToOpen, WasLe
 
 use crate::Shard;
 use crate::preparing::stage_fitting;
-use crate::write_ids::WriteIds;
+use crate::staged_ids::StagedIds;
 use device::Device;
 use journal::{Journal, Opening, Refused, Unread};
 use records::{Identity, Record};
@@ -116,7 +116,7 @@ fn start<D: Device>(
                 journal,
                 me,
                 memory,
-                unflushed: WriteIds::new(alloc),
+                unflushed: StagedIds::new(alloc),
                 settled,
             })
         }

@@ -1,20 +1,17 @@
 // Preparing a write: its part is tested, staged and held in doubt.
-ghost use Rattle.std.specs.Prelude.{◌≡◌, ◌||◌, ◌⊎◌, ◌↔◌, ◌++◌, ◌∷◌, [], true, false, OnOk, IfOk, IfErr, IsErrOf};
+ghost use Rattle.std.specs.Prelude.{◌≡◌, ◌⊎◌, ◌↔◌, ◌++◌, ◌∷◌, [], true, false, OnOk, IfOk, IfErr, IsErrOf};
 ghost use Rattle.decisions.specs.Values.{IsIntent};
 ghost use Rattle.holds.specs.Holds.{IsFree};
 ghost use Rattle.journal.specs.Records.{HasNoRoom};
 ghost use Rattle.records.specs.Format.{IsPrepared, IsRecord};
 ghost use Rattle.records.specs.Replays.{shard_step};
 ghost use Rattle.records.specs.declared.record.Record.TheVariants.{Prepare as prepare_record};
-ghost use Rattle.tuples.specs.Log.{same_id};
 ghost use Rattle.tuples.specs.Parts.{part, takes_part};
-ghost use Rattle.tuples.specs.declared.entry.WriteId.{WriteId as AnyId};
-ghost use Rattle.shard.specs.Keeping.{has_id};
 ghost use Rattle.shard.specs.Shards.{AreFree, AskBelow, HoldHere, IsBroken, IsBusy, IsPreparable, IsUp, Stages, memory as memory_of, own_part as own_part_of};
 
 use crate::Shard;
 use crate::own::{holds, is_collected, is_free, own_part};
-use crate::write_ids::WriteIds;
+use crate::staged_ids::StagedIds;
 use decisions::{Intent, Ticket};
 use device::Device;
 use journal::Journal;
@@ -51,7 +48,7 @@ fn stage_fitting_prepare<D: Device>(journal: &mut Journal<D>, part: &Entry)
 fn hold<D: Device>(
     journal: &mut Journal<D>,
     memory: &mut Memory,
-    unflushed: &mut WriteIds,
+    unflushed: &mut StagedIds,
     part: Entry,
 ) -> Result<(), Refusal>
     requires spelled { IsPrepared part }
@@ -59,12 +56,12 @@ fn hold<D: Device>(
     requires room { HasNoRoom journal.old.staged (prepare_record part) → ⊥ }
     ensures staged { OnOk result (journal.new ≡ record journal.old { staged = journal.old.staged ++ prepare_record part ∷ [] }) }
     ensures held { OnOk result (memory.new ≡ shard_step memory.old (prepare_record part)) }
-    ensures waits { OnOk result ((j : AnyId) → has_id j unflushed.new ≡ (has_id j unflushed.old || same_id part.id j)) }
+    ensures waits { OnOk result (unflushed.new ≡ unflushed.old ++ part.id ∷ []) }
     ensures err { IfErr result (λ e. (e ≡ Refusal.NoMemory) × (journal.new ≡ journal.old) × (memory.new ≡ memory.old) × (unflushed.new ≡ unflushed.old)) }
 {
     let id = part.id;
     memory.prepare(part)?;
-    if unflushed.put(id).is_err() {
+    if unflushed.push(id).is_err() {
         memory.drop_write(id);
         return Err(Refusal::NoMemory);
     }
@@ -80,7 +77,7 @@ fn hold<D: Device>(
 fn prepare<D: Device>(
     journal: &mut Journal<D>,
     memory: &mut Memory,
-    unflushed: &mut WriteIds,
+    unflushed: &mut StagedIds,
     alloc: Global,
     write: &Entry,
     me: Identity,
@@ -89,7 +86,7 @@ fn prepare<D: Device>(
     requires part { takes_part me.shards me.node write.now ≡ true }
     ensures staged { OnOk result (journal.new ≡ record journal.old { staged = journal.old.staged ++ prepare_record (part me.shards me.node write.now) ∷ [] }) }
     ensures held { OnOk result (memory.new ≡ shard_step memory.old (prepare_record (part me.shards me.node write.now))) }
-    ensures waits { OnOk result ((j : AnyId) → has_id j unflushed.new ≡ (has_id j unflushed.old || same_id write.now.id j)) }
+    ensures waits { OnOk result (unflushed.new ≡ unflushed.old ++ write.now.id ∷ []) }
     ensures up { OnOk result (journal.old.is_down ≡ false) }
     ensures ok { OnOk result (IsPreparable memory.old (part me.shards me.node write.now)) }
     ensures down { IsErrOf result Refusal.Down ↔ (journal.old.is_down ≡ true) }

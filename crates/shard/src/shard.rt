@@ -9,7 +9,7 @@ ghost use Rattle.shard.specs.declared.replies.VoteReply.TheVariants.{Yes, Later,
 ghost use Rattle.shard.specs.Shards.{IsDurable, IsUp, ShardView, journal_of, memory};
 
 use crate::VoteReply;
-use crate::write_ids::WriteIds;
+use crate::staged_ids::StagedIds;
 use decisions::{Ticket, Vote};
 use device::{Device, Tear};
 use journal::{Bank, Journal};
@@ -32,7 +32,7 @@ pub struct Shard<D: Device> {
     // what the records stand for, but for the order of rows of different tuples; opened at least once
     pub(crate) memory: Memory,
     // the ids of the staged prepares
-    pub(crate) unflushed: WriteIds,
+    pub(crate) unflushed: StagedIds,
     // the place that the durable records have learned
     pub(crate) settled: u64,
 }

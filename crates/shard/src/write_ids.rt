@@ -49,11 +49,4 @@ impl WriteIds {
         self.ids.insert(id)?;
         Ok(())
     }
-
-    /// None is one of them from here on.
-    pub fn clear(&mut self)
-        ensures { self.new ≡ [] }
-    {
-        self.ids.clear();
-    }
 }

@@ -1,8 +1,6 @@
-use Rattle.std.proofs.Common.{◌≡◌, ◌||◌, sym, ◌∙◌, ap, subst}
+use Rattle.std.proofs.Common.{◌≡◌, ◌++◌, ◌∷◌, [], sym, ◌∙◌, ap, subst}
 use Rattle.tuples.specs.declared.entry.Entry.{Entry}
 use Rattle.tuples.specs.declared.entry.WriteId.{WriteId}
-use Rattle.tuples.specs.Log.{same_id}
-use Rattle.shard.specs.Keeping.{has_id}
 use Rattle.records.specs.Format.{IsPrepared}
 use Rattle.shard.proofs.Tested.{part_prepared, same_part_id}
 use Rattle.shard.proofs.preparing.prepare.Goals as goal
@@ -15,4 +13,4 @@ hold-requires-clause-spelled g c =
 pub returns-clause-waits : goal.returns-clause-waits
 returns-clause-waits g c =
     let id : c.in_ok-kept.kept.id ≡ c.args.write.now.id = ap (λ (p : Entry). p.id) (c.in_ok-kept.ensures ∙ c.own_part-part.ensures) ∙ same_part_id c.args.me.shards c.args.me.node c.args.write.now in
-    λ j. c.in_ok-hold.ensures.waits j ∙ ap (λ (i : WriteId). has_id j c.args.unflushed.now || same_id i j) id
+    c.in_ok-hold.ensures.waits ∙ ap (λ (i : WriteId). c.args.unflushed.now ++ i ∷ []) id

@@ -17,7 +17,7 @@ invariant_of-self-2 g c =
     } in
     let opened : 1 ≤ c.collect.new.self.epoch = subst (λ (n : ℕ). 1 ≤ n) (sym c.collect.ensures.epoch) (horizon_epoch s.memory place c.self.invariant.opened) in
     kept_push g.D.Device.state g.D.Device.honest s.journal c.stage.new.self me s.memory c.collect.new.self s.unflushed s.unflushed s.settled (horizon_record place)
-    c.self.invariant may c.in_ok-stage.ensures.ok c.collect.ensures opened (λ i. no_more i s.unflushed)
+    c.self.invariant may c.in_ok-stage.ensures.ok c.collect.ensures opened (no_more s.unflushed)
 
 pub returns-clause-ok : goal.returns-clause-ok
 returns-clause-ok g c = λ up above within.

@@ -27,7 +27,7 @@ invariant_of-self g c =
     let may : MayDrop s.memory id = record { opened = c.self.invariant.opened; prepared = one } in
     let opened : 1 ≤ c.drop_write.new.self.epoch = subst (λ (n : ShardState). 1 ≤ n.epoch) (sym c.drop_write.ensures) (dropped_epoch s.memory id c.self.invariant.opened) in
     kept_push g.D.Device.state g.D.Device.honest s.journal c.stage.new.self me s.memory c.drop_write.new.self s.unflushed s.unflushed s.settled (dropped_record id)
-    c.self.invariant may c.in-Ok.ensures.ok (alike_same _ _ c.drop_write.ensures) opened (λ i. no_more i s.unflushed)
+    c.self.invariant may c.in-Ok.ensures.ok (alike_same _ _ c.drop_write.ensures) opened (no_more s.unflushed)
 
 pub returns-in-Ok-clause-dropped : goal.returns-in-Ok-clause-dropped
 returns-in-Ok-clause-dropped g c = λ up there room.

@@ -82,7 +82,7 @@ invariant_of-self-2 g c =
     (may_learn s.me.shards s.me.node s.memory b.from b.writes le lt (omega (arith, c.to.ensures.greatest, c.to.ensures.value)) c.in_ok-placed_ids.placed_ids.items placed_ids (subst (λ (l : List PlacedId). ArePrepared l s.memory.in_doubt) (sym c.in_ok-placed_ids.ensures) (all_prepared s.me s.memory (c.learned-learned.result + 1) c.behind-writes.result.now (c.are_learnable.ensures.0 c.if-not-are_learnable.false))) c.self.invariant.opened)) in
     let opened : 1 ≤ c.apply.new.memory.epoch = subst (λ (n : ℕ). 1 ≤ n) (sym c.in_ok-apply.ensures.applied.epoch) (learned_epoch s.memory c.to-2.result c.in_ok-placed_ids.placed_ids.items c.self.invariant.opened) in
     kept_push g.D.Device.state g.D.Device.honest s.journal c.apply.new.journal me s.memory c.apply.new.memory s.unflushed s.unflushed s.settled r c.self.invariant may
-    c.in_ok-apply.ensures.staged c.in_ok-apply.ensures.applied opened (λ i. no_more i s.unflushed)
+    c.in_ok-apply.ensures.staged c.in_ok-apply.ensures.applied opened (no_more s.unflushed)
 
 pub returns-clause-learnable : goal.returns-clause-learnable
 returns-clause-learnable g c = λ up from_le learned_lt.

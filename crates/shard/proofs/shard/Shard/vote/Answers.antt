@@ -21,7 +21,7 @@ new-requires g c = record {
       let backed = kept.backed up ha hb in
       let one = found_one c.id-id.result s.memory.in_doubt c.find.result c.find.ensures c.is_none.ensures c.if-is_none.false in
       let none : has_id c.id-id.result (prepared_ids s.journal.staged) ≡ false =
-      sym (kept.unflushed_are up c.id-id.result) ∙ sym c.has.ensures ∙ c.if-has.false in
+      sym (ap (has_id c.id-id.result) (kept.unflushed_are up)) ∙ sym c.has.ensures ∙ c.if-has.false in
       let there = sym (ap (find_in_doubt c.id-id.result) kept.replayed.in_doubt ∙ ap (λ (rs : List Record). find_in_doubt c.id-id.result (shard_state rs).in_doubt) backed.whole) ∙ one.1 in
       ap (λ o. is_some o) (durable_prepare g.D.Device.state s.journal.a s.journal.b s.journal.durable c.id-id.result one.0 backed.rest (durable_found s.journal.durable s.journal.staged c.id-id.result one.0 none there) rs finds);
   shard = λ ha hb.
@@ -39,7 +39,7 @@ returns-clause-yes g c = λ v up is.
     let is_up : s.journal.is_down ≡ false = cc in
     let none : has_id c.id-id.result (prepared_ids c.args.self.now.staged) ≡ false =
     ap (λ (w : ShardView g.row.D.Denot). has_id c.id-id.result (prepared_ids w.staged)) (sym c.self.view_is)
-    ∙ sym (kept.unflushed_are is_up c.id-id.result) ∙ sym c.has.ensures ∙ c.if-has.false in
+    ∙ sym (ap (has_id c.id-id.result) (kept.unflushed_are is_up)) ∙ sym c.has.ensures ∙ c.if-has.false in
     let IsVoted : WriteId → Type 0 = λ i. ((p : Entry) → find_in_doubt i (memory c.args.self.now).in_doubt ≡ Some p → IsDurable g.D.Device.state c.args.self.now i p) × (is_some (find_in_doubt i (memory c.args.self.now).in_doubt) ≡ true) in
     let voted : IsVoted c.id-id.result = (λ p found. is_durable g.D.Device.state g.D.Device.honest c.args.self.now c.id-id.result p up none found, ap (λ o. is_some o) there) in
     subst IsVoted c.id-id.ensures voted
@@ -61,7 +61,7 @@ returns-then-has-clause-later g c = λ t up is.
     let is_up : s.journal.is_down ≡ false = cc in
     let has : has_id c.id-id.result (prepared_ids c.args.self.now.staged) ≡ true =
     ap (λ (w : ShardView g.row.D.Denot). has_id c.id-id.result (prepared_ids w.staged)) (sym c.self.view_is)
-    ∙ sym (kept.unflushed_are is_up c.id-id.result) ∙ sym c.has.ensures ∙ c.if-has.true in
+    ∙ sym (ap (has_id c.id-id.result) (kept.unflushed_are is_up)) ∙ sym c.has.ensures ∙ c.if-has.true in
     let IsStaged : WriteId → Type 0 = λ i. (is_some (find_in_doubt i (memory c.args.self.now).in_doubt) ≡ true) × ((w : Entry) × (w.id ≡ i) × Contains c.args.self.now.staged (Prepare w)) in
     let waits : IsStaged c.id-id.result = (ap (λ o. is_some o) there, waiting c.args.self.now.staged c.id-id.result has) in
     subst IsStaged c.id-id.ensures waits
