@@ -16,6 +16,8 @@ from ..seconds import Seconds
 ONE_JOB = ["--jobs", "1"]
 # The processor seconds that a batch of edits may take, by the record.
 LONG_BATCH = 200
+# How much of the memory that rt reckons with a check was seen to take at most: of a library, and of a program or of tests.
+TAKEN, TAKEN_WHOLE = 0.8, 1.1
 # Kept work is let go early where the disk has fewer bytes left: that of all crates together takes more than half as much.
 ROOM = 20 << 30
 
@@ -169,6 +171,7 @@ class Gate:
         tasks = {}
         for (name, kind), (waits, lines, needs, call) in plain.items():
             crate = next(it for it in self.crates if it.name == name)
+            needs *= TAKEN_WHOLE if crate.is_program or crate.has_tests() else TAKEN
             if kind == "edits":
                 Edits(crate, (waits, lines, needs, call), self.seconds).put(tasks)
                 continue

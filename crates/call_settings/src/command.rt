@@ -17,7 +17,8 @@ Of standard input, an empty line and one that begins with ; are passed over.
 Status: 0 where each request was answered and none refused; 1 where one was refused or is none, the
 connection failed or ended, or the input or output failed; 2 for a command line that can't be read.";
 
-const CALL: &str = "Sends requests to a server, one after another, and prints each answer line as it is.
+const CALL: &str =
+    "Sends requests to a server, one after another, and prints each answer line as it is.
 A refusal is told on standard error too, with what to do about it.";
 
 fn address_argument<'a>(alloc: Global) -> Arg<'a> {

@@ -59,7 +59,11 @@ fn a_line_that_is_wrong_is_refused(rt: HostRuntime) -> Result<(), Fail> {
 
 #[test]
 fn who_asks_for_help_is_told(rt: HostRuntime) -> Result<(), Fail> {
-    for line in ["zanstore call --help", "zanstore call -h", "zanstore help call"] {
+    for line in [
+        "zanstore call --help",
+        "zanstore call -h",
+        "zanstore help call",
+    ] {
         let words = words_of(rt.alloc(), line)?;
         let read = CallSettings::read(&rt, &words);
         assert_eq!(rt; read.err(), Some(0), "at {line}");
@@ -69,7 +73,13 @@ fn who_asks_for_help_is_told(rt: HostRuntime) -> Result<(), Fail> {
 
 #[test]
 fn the_second_word_says_for_whom_they_are(rt: HostRuntime) -> Result<(), Fail> {
-    for line in ["zanstore", "zanstore serve", "call", "zanstore serve call", "zanstore calls"] {
+    for line in [
+        "zanstore",
+        "zanstore serve",
+        "call",
+        "zanstore serve call",
+        "zanstore calls",
+    ] {
         let words = words_of(rt.alloc(), line)?;
         assert!(rt; !CallSettings::are_for(&words), "at {line}");
     }

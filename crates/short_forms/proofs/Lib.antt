@@ -2,3 +2,4 @@ pub mod Verbs
 pub mod Fine
 pub mod Cuts
 pub mod Feeds
+pub mod Reread

@@ -1,5 +1,5 @@
 -- What is read of words, and what is made of it.
-use Rattle.std.specs.Prelude.{◌≡◌, ◌≤◌, ◌⊎◌, ℕ, List, [], ◌∷◌, ◌++◌, length, map, codes, All}
+use Rattle.std.specs.Prelude.{◌≡◌, ◌≤◌, ◌⊎◌, ℕ, true, List, [], ◌∷◌, ◌++◌, length, map, codes, All}
 use Rattle.std.specs.Borrow.{Bor}
 use Rattle.std.specs.List.{slice_split}
 use Rattle.std.specs.Prelude.{◌==◌}
@@ -13,6 +13,12 @@ use Rattle.short_forms.specs.declared.form.Freshness.TheVariants as freshness
 use Rattle.short_forms.specs.declared.mistake.Mistake.{Mistake}
 use Rattle.short_forms.specs.declared.mistake.Mistake.TheVariants.{NoMemory}
 use Rattle.requests.specs.Shapes.{list_with, members_with}
+use Rattle.requests.specs.Laws.{IsRequest}
+use Rattle.requests.specs.Lines.{Spells}
+use Rattle.refusal.specs.declared.refusal.Refusal.{Refusal}
+use Rattle.refusal.specs.declared.refusal.Refusal.TheVariants as refusal
+use Rattle.tuples.specs.declared.request.Request.{Request}
+use Rattle.tuples.specs.Parsing.{has_byte}
 use Rattle.short_forms.specs.Forms.{Asked, Changed, Fresh, HasShort, IsAsked, IsOpened, Short, absent, asked_json, asked_word, at_least, changed_json, changed_word, deleted, exact, exists, fresh_words, if_words, latest, short_fields, since, touched, unsaid}
 
 -- the texts of borrowed words
@@ -85,3 +91,11 @@ with_conditions (c ∷ cs) ms = put (codes "conditions") (list_with (map asked_j
 
 abbrev pub PutsConditions : List (List ℕ) → Members → Members → Type 0
 PutsConditions words old new = (cs : List Asked) × (words ≡ if_words (map asked_word cs)) × All IsAsked cs × (new ≡ with_conditions cs old)
+
+-- the request that the short form stands for at this store, if there is one, is refused for want of memory alone
+abbrev pub IsRefusedForMemory : ℕ → Short → Refusal → Type 0
+IsRefusedForMemory store s e = (r : Request) → IsRequest r → Spells store (short_fields s) r → e ≡ refusal.NoMemory
+
+-- why no request is read of the line of a text: memory, a line feed, words of no short form, or those of one that stands for no request
+abbrev pub IsUnread : ℕ → List ℕ → Refusal → Type 0
+IsUnread store text e = (e ≡ refusal.NoMemory) ⊎ ((has_byte 10 text ≡ true) ⊎ (SpellsNone (words_of text) ⊎ ((s : Short) × HasShort (words_of text) s × IsRefusedForMemory store s e)))

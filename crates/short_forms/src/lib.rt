@@ -5,7 +5,7 @@
 //! Never: looks into a tuple, a name or a token: the server tests each, and tells what is wrong.
 //! Callers rely on: words that are refused are those of no short form.
 //!
-//! Start at `specs/Forms.antt`: the short forms, the words of each, and what it stands for.
+//! Start at `specs/Forms.antt`: the short forms, the words of each, and what it stands for. `read_back` is the law that the server's reader reads just that.
 #![tactic(auto)]
 
 mod condition;
@@ -15,8 +15,12 @@ mod freshness;
 mod line;
 mod members;
 mod mistake;
+mod reading_back;
+#[cfg(test)]
+mod tests;
 mod words;
 mod write;
 
 pub use line::request_line;
 pub use mistake::Mistake;
+pub use reading_back::read_back;
