@@ -3,6 +3,8 @@
 mod stub_lines;
 mod stub_log;
 mod stub_rows;
+#[path = "../lines/src/token.rs"]
+mod token;
 
 use std::collections::HashMap;
 use std::io::{BufRead, BufReader, Read, Write};

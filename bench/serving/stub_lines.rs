@@ -1,7 +1,7 @@
 // Request lines of the stub, read, and its answers, spelled.
 use crate::stub_rows::{text_of, Set};
+use crate::token;
 
-const LETTERS: &[u8; 64] = b"ABCDEFGHIJKLMNOPQRSTUVWXYZabcdefghijklmnopqrstuvwxyz0123456789+/";
 type Refusal = (u8, &'static str);
 const BAD_REQUEST: Refusal = (1, "BadRequest");
 const BAD_TUPLE: Refusal = (2, "BadTuple");
@@ -174,33 +174,12 @@ fn tupleset_of(text: &str) -> Result<Set, Refusal> {
     Ok(Set { object: None, start: format!("{object}\0"), relation, user })
 }
 
-pub fn token_of(store: u64, place: u64) -> String {
-    let mut bytes = [0; 18];
-    bytes[0] = 1;
-    bytes[2..10].copy_from_slice(&store.to_be_bytes());
-    bytes[10..].copy_from_slice(&place.to_be_bytes());
-    let mut text = String::with_capacity(24);
-    for three in bytes.chunks(3) {
-        let bits = (three[0] as usize) << 16 | (three[1] as usize) << 8 | three[2] as usize;
-        text.extend([18, 12, 6, 0].map(|shift| LETTERS[bits >> shift & 63] as char));
-    }
-    text
-}
-
 fn place_of(text: &str, store: u64) -> Result<u64, Refusal> {
-    let (mut bytes, mut bits) = (Vec::new(), 0u32);
-    for (at, letter) in text.bytes().enumerate() {
-        bits = bits << 6 | LETTERS.iter().position(|one| *one == letter).ok_or((5, "BadZookie"))? as u32;
-        if at % 4 == 3 {
-            bytes.extend(&bits.to_be_bytes()[1..]);
-            bits = 0;
-        }
+    match token::decode(text) {
+        Some((of, place)) if of == store => Ok(place),
+        Some(_) => Err((6, "WrongStore")),
+        None => Err((5, "BadZookie")),
     }
-    if bytes.len() != 18 || bytes[..2] != [1, 0] {
-        return Err((5, "BadZookie"));
-    }
-    let number = |at: usize| u64::from_be_bytes(bytes[at..at + 8].try_into().unwrap());
-    if number(2) == store { Ok(number(10)) } else { Err((6, "WrongStore")) }
 }
 
 fn freshness(request: &Json, store: u64, kept: u64) -> Result<Option<u64>, Refusal> {
@@ -304,5 +283,5 @@ pub fn spell(answer: &Answer, store: u64, out: &mut Vec<u8>) {
         }
     };
     let (before, name) = name.split_at(name.find(char::is_alphabetic).unwrap());
-    out.extend(format!("{before}\"{name}\":\"{}\"}}\n", token_of(store, *place)).bytes());
+    out.extend(format!("{before}\"{name}\":\"{}\"}}\n", token::encode(store, *place)).bytes());
 }

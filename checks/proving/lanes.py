@@ -69,11 +69,13 @@ class Lanes:
         ready = [key for key in left if all(it in self.given for it in tasks[key].waits)]
         for at, key in enumerate(ready):
             task = tasks[key]
-            if self.idle() > 0 and (not self.running or task.memory <= self.room()):
-                left.remove(key)
-                jobs = self.jobs_for(task, len(ready) - at)
-                run = pool.submit(self.timed, key, task.call, jobs)
-                self.running[run] = key, task.memory * (1 + MORE * (jobs - 1)), jobs
+            # Who has the longest chain behind it waits for memory alone, and none that could do with less takes it meanwhile.
+            if self.idle() <= 0 or (self.running and task.memory > self.room()):
+                break
+            left.remove(key)
+            jobs = self.jobs_for(task, len(ready) - at)
+            run = pool.submit(self.timed, key, task.call, jobs)
+            self.running[run] = key, task.memory * (1 + MORE * (jobs - 1)), jobs
 
     def run(self, tasks, ended=lambda key: None):
         """Runs all, and returns what each gave: None where it raised."""

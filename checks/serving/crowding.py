@@ -4,7 +4,7 @@ import socket
 import time
 
 from judge.worlds import Wrong, must
-from serving.server import HOST, Server
+from serving.server import HOST, SHARDS, Server, is_start
 from serving.wire import LIMIT, Session, check, read, spelled, write
 from serving.wire import token as token_of
 
@@ -166,8 +166,8 @@ def counted(folder):
         is_answered(sessions[1])
         for session in sessions[1:]:
             session.close()
-        ended = server.ended()
-        must(ended == (0, "", ""), f"ends with (status, output, error) {ended}")
+        status, out, err = server.ended()
+        must((status, out) == (0, "") and is_start(err, folder, SHARDS, 0, 0), f"ends with (status, output, error) {(status, out, err)}")
     with Server(folder) as server, Session(server.port) as session:
         is_answered(session)
 

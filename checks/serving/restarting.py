@@ -4,7 +4,7 @@ import threading
 import time
 
 from judge.worlds import must
-from serving.server import Server
+from serving.server import SHARDS, Server, is_start
 from serving.talking import is_told
 from serving.wire import Gone, Session, check, place_of, read, refusal, watch, write
 from serving.wire import token as token_of
@@ -21,6 +21,8 @@ def killed(folder):
         first.kill()
         must(session.is_ended(), "a session of a killed server goes on")
     with Server(folder, port=port) as second, Session(port) as session:
+        line = second.child.stderr.readline().decode()
+        must(is_start(line, folder, SHARDS, 0, COUNT), f"tells of its start: {line}")
         rows = [sorted(f"{space}:d{number}#viewer@ann" for number in range(1, COUNT + 1)) for space in ("doc", "pad")]
         is_told(session, read("doc@ann", "pad@ann"), {"sets": rows, "zookie": token_of(COUNT)})
         is_told(session, check("doc:d7#viewer@ann", exact=token_of(7)), {"member": True, "zookie": token_of(7)})

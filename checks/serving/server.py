@@ -1,6 +1,7 @@
 """The server as a process: started over a folder, asked to be ready, killed, and waited for."""
 import os
 import random
+import re
 import resource
 import signal
 import socket
@@ -49,6 +50,12 @@ def run(*words):
     except subprocess.TimeoutExpired as late:
         raise Wrong(f"no end in {LIMIT} seconds of: {' '.join(words)}") from late
     return done.returncode, done.stdout, done.stderr
+
+
+def is_start(text, folder, shards, horizon, latest):
+    """Whether the text is just the line that a server of a new store, or of one with these places, prints on standard error as it begins."""
+    wanted = re.escape(f"zanstore: {folder}: {shards} shards, places {horizon} to {latest}, opened in ")
+    return re.fullmatch(wanted + r"[0-9]+\.[0-9]{3} s\n", text) is not None
 
 
 def limit_files(longest):

@@ -4,7 +4,6 @@ import math
 import os
 import re
 import shutil
-import signal
 import sys
 import tempfile
 
@@ -17,6 +16,10 @@ from ..seconds import Seconds
 ONE_JOB = ["--jobs", "1"]
 # The processor seconds that a batch of edits may take, by the record.
 LONG_BATCH = 200
+# How much of the memory that rt reckons with a check was seen to take at most: of a library, and of a program or of tests.
+TAKEN, TAKEN_WHOLE = 0.8, 1.1
+# Kept work is let go early where the disk has fewer bytes left: that of all crates together takes more than half as much.
+ROOM = 20 << 30
 
 
 class Crate(rt.Crate):
@@ -53,7 +56,9 @@ class Crate(rt.Crate):
         return status
 
     def prove_tests(self, flags):
-        """Proves and links the tests, over a copy of what the crate's own proof left."""
+        """Proves and links the tests, over a copy of what the crate's own proof left; where that is not there, there is nothing to test."""
+        if not os.path.isdir(self.kept()):
+            return 1
         made, toolchain = f"out/{self.name}_tests", ["--toolchain", f"{rt.KIT}/toolchain", "--backend", "llvm"]
         with Copy(self) as kept:
             words = self.words(flags, tests=True, keeps=False)
@@ -159,13 +164,14 @@ class Edits:
 class Gate:
     def __init__(self, lanes, anew=False):
         self.lanes, self.meter, self.seconds = Lanes(lanes), Meter("out/gate/commands.tsv"), Seconds()
-        self.crates = []
+        self.crates, self.given = [], {}
 
     def tasks_of(self, plain):
         """rt's own tasks, with those of the edits in the place of one a crate."""
         tasks = {}
         for (name, kind), (waits, lines, needs, call) in plain.items():
             crate = next(it for it in self.crates if it.name == name)
+            needs *= TAKEN_WHOLE if crate.is_program or crate.has_tests() else TAKEN
             if kind == "edits":
                 Edits(crate, (waits, lines, needs, call), self.seconds).put(tasks)
                 continue
@@ -176,10 +182,26 @@ class Gate:
         tasks.update(controls.tasks(self.crates, Copy))
         return tasks
 
+    def stop_on_format(self):
+        """What one look at the texts can tell is told before an hour of proofs."""
+        with open(os.devnull, "w", encoding="utf-8") as nowhere:
+            wrong = [it.name for it in self.crates if rtlib.fmt(it.folder, "--check", nowhere)]
+        if wrong:
+            rtlib.stop(f"run rt fmt in the folders of: {' '.join(wrong)}")
+
     def in_lanes(self, plain):
         self.crates = rtlib.crates_below(os.getcwd())
-        self.given = self.lanes.run(self.tasks_of(plain))
+        self.stop_on_format()
+        tasks = self.tasks_of(plain)
+        self.given = self.lanes.run(tasks, lambda key: self.spare(key[0], tasks))
         return self.given
+
+    def spare(self, name, tasks):
+        """Where the disk is nearly full, lets go what was kept of a crate of which nothing is left to do. Its library stays."""
+        crate = next(it for it in self.crates if it.name == name)
+        is_done = all(key in self.lanes.given for key in tasks if key[0] == name)
+        if is_done and shutil.disk_usage(crate.folder).free < ROOM:
+            shutil.rmtree(crate.kept(), ignore_errors=True)
 
     def ran(self):
         """The whole run: rt's ci with its crates, its order and its judge of the last line."""

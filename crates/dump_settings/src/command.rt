@@ -13,7 +13,8 @@ Status: 0 once all is written; 1 where a file can't be opened, a node can't be r
 above what is kept or below the horizon, or the output failed; 2 for a command line that can't be
 read.";
 
-const DUMP: &str = "Prints all tuples of a store in files at one place, one a line. No server may have the folder open:
+const DUMP: &str =
+    "Prints all tuples of a store in files at one place, one a line. No server may have the folder open:
 a file that another process has is refused with 13 Down. Opening the files adds a record to each
 node's, as each start of a server does.";
 
@@ -52,7 +53,12 @@ fn few_argument<'a>(alloc: Global, name: &'a str, help: &'a str) -> Arg<'a> {
 
 fn with_store<'a>(alloc: Global, command: Command<'a>) -> Result<Command<'a>, Error> {
     let dir = text_argument(alloc, "dir", "DIR", "The folder of the store's files");
-    let store = amount_argument(alloc, "store", "N", "The id of the store, from 0 to 4294967295");
+    let store = amount_argument(
+        alloc,
+        "store",
+        "N",
+        "The id of the store, from 0 to 4294967295",
+    );
     let shards = few_argument(alloc, "shards", "The number of shards, from 1 to 64");
     Ok(command.arg(dir)?.arg(store.required(true))?.arg(shards)?)
 }

@@ -27,10 +27,7 @@ fn words_of(alloc: Global, line: &str) -> Result<Vec<String>, AllocError> {
 
 #[test]
 fn without_a_place_none_is_asked_for(rt: HostRuntime) -> Result<(), Fail> {
-    let words = words_of(
-        rt.alloc(),
-        "zanstore dump --dir data --store=7 --shards 2",
-    )?;
+    let words = words_of(rt.alloc(), "zanstore dump --dir data --store=7 --shards 2")?;
     assert!(rt; DumpSettings::are_for(&words));
     let read = DumpSettings::read(&rt, &words);
     assert!(rt; read.is_ok());
@@ -67,7 +64,11 @@ fn a_line_that_is_wrong_is_refused(rt: HostRuntime) -> Result<(), Fail> {
 
 #[test]
 fn who_asks_for_help_is_told(rt: HostRuntime) -> Result<(), Fail> {
-    for line in ["zanstore dump --help", "zanstore dump -h", "zanstore help dump"] {
+    for line in [
+        "zanstore dump --help",
+        "zanstore dump -h",
+        "zanstore help dump",
+    ] {
         let words = words_of(rt.alloc(), line)?;
         let read = DumpSettings::read(&rt, &words);
         assert_eq!(rt; read.err(), Some(0), "at {line}");
@@ -77,7 +78,13 @@ fn who_asks_for_help_is_told(rt: HostRuntime) -> Result<(), Fail> {
 
 #[test]
 fn the_second_word_says_for_whom_they_are(rt: HostRuntime) -> Result<(), Fail> {
-    for line in ["zanstore", "zanstore sim", "dump", "zanstore serve dump", "zanstore dumps"] {
+    for line in [
+        "zanstore",
+        "zanstore sim",
+        "dump",
+        "zanstore serve dump",
+        "zanstore dumps",
+    ] {
         let words = words_of(rt.alloc(), line)?;
         assert!(rt; !DumpSettings::are_for(&words), "at {line}");
     }

@@ -3,3 +3,4 @@ pub mod Turning
 pub mod Answering
 pub mod Holding
 pub mod Opening
+pub mod Looking

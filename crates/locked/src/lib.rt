@@ -28,5 +28,7 @@ mod writing;
 
 pub use caller::Caller;
 pub use gate::{Gate, Open};
+pub use looking::LookedOver;
 pub use opening_laws::new_devices_rest;
 pub use store::Store;
+pub use tending::new_bell;

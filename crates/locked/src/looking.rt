@@ -1,15 +1,40 @@
 // A store that was just opened is looked over before anybody is served.
-ghost use Rattle.std.specs.Prelude.{◌≡◌, ◌⊎◌, ◌<◌, IfErr};
+ghost use Rattle.std.specs.Prelude.{◌≡◌, ◌⊎◌, ◌≤◌, ◌<◌, ◌+◌, ◌↔◌, IfErr, IfOk, IsTrue, OnOk, length, vec_len};
 ghost use Rattle.refusal.specs.declared.refusal.Refusal.{Refusal as AnyRefusal};
 ghost use Rattle.calls.specs.Refusing.{HasTold};
+ghost use Rattle.locked.specs.Looking.{AreOfOneStore};
 ghost use Rattle.sides.specs.Sides.{IsLater};
 
 use crate::{Caller, Gate, Store};
 use calls::{NodeCall, Reply, ShardCall, ShardReply, Told};
 use device::Device;
 use sides::Room;
+use std::alloc::Global;
 use std::sync::Wait;
 use tuples::Refusal;
+
+/// How far the nodes of a store were that was looked over.
+#[derive(Drop)]
+pub struct LookedOver {
+    /// No place below it can be read.
+    pub horizon: u64,
+    /// The latest place that is kept.
+    pub latest: u64,
+    /// The place up to which each shard has learned, by rising number.
+    pub learned: Vec<u64>,
+}
+
+impl LookedOver {
+    /// Whether no shard has learned less than the horizon, or more than is kept. Else what the nodes were opened over was not left there by one store at one
+    /// moment, and places that were told would be given out again, or tuples be missing.
+    pub fn is_of_one_store(&self) -> bool
+        ensures { IsTrue result ↔ AreOfOneStore self.now.horizon self.now.latest self.now.learned.items }
+    {
+        self.learned
+            .iter()
+            .all(|place| self.horizon <= *place && *place <= self.latest)
+    }
+}
 
 impl<D: Device, B: Room, G: Gate> Store<D, B, G> {
     // How far the shard of this number has learned; where its opening was refused, that refusal.
@@ -31,26 +56,49 @@ impl<D: Device, B: Room, G: Gate> Store<D, B, G> {
         }
     }
 
-    /// Whether each shard is up, and has learned no less than the horizon and no more than the coordinator keeps. The refusal of the first shard whose opening
-    /// was refused; `Damaged` where one has learned less or more: then what the nodes were opened over was not left there by one store at one moment, and
-    /// places that were told would be given out again, or tuples be missing.
-    pub fn look_over<R: Wait>(
+    // How far each shard has learned, behind what stands there.
+    fn learned_by_all<R: Wait>(
         &self,
         rt: &R,
         caller: &mut Caller<B>,
         told: &mut Told,
+        places: &mut Vec<u64>,
     ) -> Result<(), Refusal>
         ensures caller { IsLater caller.old caller.new }
-        ensures refused { IfErr result (λ e. HasTold told.new e ⊎ (e ≡ AnyRefusal.Damaged)) }
+        ensures all { OnOk result (vec_len places.new ≡ vec_len places.old + B.shards) }
+        ensures refused { IfErr result (λ e. HasTold told.new e ⊎ (e ≡ AnyRefusal.NoMemory)) }
     {
-        let kept = self.latest(caller);
-        let horizon = self.horizon(caller);
         for shard in 0..self.count {
-            let learned = self.learned(rt, caller, told, shard)?;
-            if learned < horizon || kept < learned {
-                return Err(Refusal::Damaged);
-            }
+            let place = self.learned(rt, caller, told, shard)?;
+            places.reserve(1)?;
+            places.push_reserved(place);
         }
         Ok(())
+    }
+
+    /// How far each node is, of a store that nobody asks yet. The refusal of the first shard whose opening was refused.
+    pub fn look_over<R: Wait>(
+        &self,
+        rt: &R,
+        alloc: Global,
+        caller: &mut Caller<B>,
+        told: &mut Told,
+    ) -> Result<LookedOver, Refusal>
+        ensures caller { IsLater caller.old caller.new }
+        ensures all { IfOk result (λ found. vec_len found.learned ≡ B.shards) }
+        ensures known { IfOk result (λ found. (found.horizon ≤ found.latest) × (found.latest ≤ length caller.new.seen)) }
+        ensures refused { IfErr result (λ e. HasTold told.new e ⊎ (e ≡ AnyRefusal.NoMemory)) }
+    {
+        let horizon = self.horizon(caller);
+        let latest = self.latest(caller);
+        let mut learned = Vec::new(alloc);
+        match self.learned_by_all(rt, caller, told, &mut learned) {
+            Ok(()) => Ok(LookedOver {
+                horizon,
+                latest,
+                learned,
+            }),
+            Err(refusal) => Err(refusal),
+        }
     }
 }

@@ -5,13 +5,20 @@ ghost use Rattle.sides.specs.Sides.{IsLater};
 
 use crate::{Caller, Gate, Store};
 use calls::Told;
-use crossbeam_utils::sync::Parker;
+use crossbeam_utils::sync::{Parker, Unparker};
 use device::Device;
 use names::{Care, NodeName};
 use sides::Room;
-use std::alloc::Global;
+use std::alloc::{AllocError, Global};
 use std::sync::Wait;
 use std::sync::atomic::Ordering;
+
+/// What wakes whoever tends a store, and what sleeps there: the bell is for `Store::open`, and the parker for `Store::keep`.
+pub fn new_bell(alloc: Global) -> Result<(Parker, Unparker), AllocError> {
+    let parker = Parker::new(alloc)?;
+    let bell = parker.unparker().clone()?;
+    Ok((parker, bell))
+}
 
 impl<D: Device, B: Room, G: Gate> Store<D, B, G> {
     // Cares for a node. A care that is refused is tried again in the next round.

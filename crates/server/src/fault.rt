@@ -1,4 +1,6 @@
 // Why a server does not start, or ends.
+ghost use Rattle.std.specs.Prelude.{◌≡◌};
+
 use refusal::Refusal;
 use std::{fmt, io};
 
@@ -27,7 +29,9 @@ impl fmt::Display for Fault {
 pub(crate) const FAILED: u8 = 1;
 
 /// The fault on standard error, and the status to end with.
-pub(crate) fn tell(rt: &impl Eprint, fault: &Fault) -> u8 {
+pub(crate) fn tell(rt: &impl Eprint, fault: &Fault) -> u8
+    ensures { result ≡ 1 }
+{
     // A text that can't be printed changes nothing of the status.
     let _ = eprintln!(rt; "{fault}");
     FAILED

@@ -6,15 +6,16 @@
 //!
 //! What each answer line says is the contract of `serve_one` (`serving`) at a session of the store (`store_sessions`): the definition's value on the list that
 //! its caller has then seen. It has one premise, the only one of `serve_over`: that what was found in the files rests at the list that the coordinator's
-//! files have (`IsAtRest`).
+//! files have (`IsAtRest`, whose laws say that what a stop leaves meets it).
 //!
-//! Only tested: which fault is told, that `ready` is printed and when, and that the server ends.
+//! Only tested: which fault is told, what is told of a start, that `ready` is printed and when, and that the server ends.
 //!
-//! Start at `specs/Premise.antt`, and then `serve`.
+//! Start at `serve`.
 #![tactic(auto)]
 
 mod fault;
 mod opening;
 mod running;
+mod start;
 
 pub use opening::{serve, serve_over};

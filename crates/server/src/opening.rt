@@ -1,24 +1,25 @@
 // A store is opened over the files of a folder, and served.
-ghost use Rattle.std.specs.Prelude.{◌≡◌, ◌↔◌, ◌*◌, ◌+◌, [], All, vec_len};
-ghost use Rattle.server.specs.Premise.{IsAtRest, found_coordinator};
+ghost use Rattle.std.specs.Prelude.{◌≡◌, ◌⊎◌, ◌↔◌, ◌*◌, ◌+◌, [], All, vec_len};
+ghost use Rattle.at_rest.specs.AtRest.{IsAtRest, found_coordinator};
 
 use crate::fault::{Fault, tell};
 use crate::running::serve_store;
 use crossbeam_utils::sync::{Parker, Unparker};
 use device::Device;
 use files::{FileDevice, HostFile};
-use locked::{Gate, Open, Store};
+use locked::{Gate, Open, Store, new_bell};
 use node_files::open_all;
 use published::{LogPass, Published};
 use refusal::Refusal;
 use serve_settings::ServeSettings;
 use sides::Room;
-use std::alloc::{AllocError, Global};
+use std::alloc::Global;
 use std::marker::Brand;
 use std::net::{Net, TcpListener, TcpStream};
 use std::rt::Runtime;
 use std::sync::Wait;
 use std::thread::Threads;
+use std::time::Instant;
 use tuples::Entry;
 
 /// Serves the store that the folder keeps, or a new one where its files are missing, to those who connect. The status: 0 once as many connections were
@@ -35,18 +36,12 @@ use tuples::Entry;
 pub fn serve<R>(rt: &R, files: &HostRuntime, settings: &ServeSettings) -> u8
 where
     R: Runtime + Net<Listener = TcpListener, Stream = TcpStream> + Threads + Wait + Sync,
+    ensures { (result ≡ 0) ⊎ (result ≡ 1) }
 {
     match new_bell(files.alloc()) {
         Ok((parker, bell)) => serve_with_bell(rt, files, settings, parker, bell),
         Err(_) => tell(rt, &Fault::Refused(Refusal::NoMemory)),
     }
-}
-
-// What wakes whoever tends the store, and what sleeps there.
-fn new_bell(alloc: Global) -> Result<(Parker, Unparker), AllocError> {
-    let parker = Parker::new(alloc)?;
-    let bell = parker.unparker().clone()?;
-    Ok((parker, bell))
 }
 
 fn serve_with_bell<R>(
@@ -58,6 +53,7 @@ fn serve_with_bell<R>(
 ) -> u8
 where
     R: Runtime + Net<Listener = TcpListener, Stream = TcpStream> + Threads + Wait + Sync,
+    ensures { (result ≡ 0) ⊎ (result ≡ 1) }
 {
     match Published::new(files.alloc()) {
         Ok((words, log)) => serve_files(rt, files, settings, parker, bell, words, log),
@@ -78,6 +74,7 @@ where
     R: Runtime + Net<Listener = TcpListener, Stream = TcpStream> + Threads + Wait + Sync,
     requires own { log.table ≡ words }
     requires empty { (log.seen ≡ []) × (log.horizon ≡ 0) }
+    ensures { (result ≡ 0) ⊎ (result ≡ 1) }
 {
     match open_all(files, settings.dir.as_str(), settings.shards) {
         Ok(devices) => serve_over::<FileDevice<HostFile>, Brand, Open, R>(
@@ -117,7 +114,9 @@ where
     requires honest { All D.honest devices.items }
     requires first { (B.first ≡ (found_coordinator D.state devices.items).log) × (B.low ≡ (found_coordinator D.state devices.items).horizon) }
     requires rests { B.rests ↔ IsAtRest D.state D.honest B.shards devices.items }
+    ensures { (result ≡ 0) ⊎ (result ≡ 1) }
 {
+    let began = Instant::now(rt).ok();
     match Store::<D, B, G>::open(
         alloc,
         gate,
@@ -128,7 +127,7 @@ where
         settings.store,
         settings.shards,
     ) {
-        Ok(store) => serve_store(rt, alloc, &store, parker, settings),
+        Ok(store) => serve_store(rt, alloc, &store, parker, settings, began),
         Err(refusal) => tell(rt, &Fault::Refused(refusal)),
     }
 }

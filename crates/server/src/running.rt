@@ -1,5 +1,9 @@
 // An open store is looked over, and served while it is tended.
+ghost use Rattle.locked.specs.Looking.{AreOfOneStore};
+ghost use Rattle.std.specs.Prelude.{◌≡◌, ◌⊎◌, ◌≤◌, None, Some, IfErr, IfOk, vec_len};
+
 use crate::fault::{Fault, tell};
+use crate::start::{Start, tell_start};
 use calls::Told;
 use crossbeam_utils::sync::Parker;
 use device::Device;
@@ -13,22 +17,31 @@ use std::net::{Net, TcpListener, TcpStream};
 use std::rt::Runtime;
 use std::sync::Wait;
 use std::thread::{self, Threads};
-use std::time::Clock;
+use std::time::{Clock, Instant};
 use store_sessions::StoreSession;
+use tuples::Refusal;
 
-/// Looks the store over, binds the address, and serves. The status.
+/// Looks the store over that was begun to be opened then, binds the address, and serves. The status.
 pub(crate) fn serve_store<D: Device + Send, B: Room + Send + Sync, G: Gate + Sync, R>(
     rt: &R,
     alloc: Global,
     store: &Store<D, B, G>,
     parker: Parker,
     settings: &ServeSettings,
+    began: Option<Instant>,
 ) -> u8
 where
     R: Runtime + Net<Listener = TcpListener, Stream = TcpStream> + Threads + Wait + Sync,
+    ensures { (result ≡ 0) ⊎ (result ≡ 1) }
 {
-    match start(rt, store, settings) {
-        Ok(listener) => ended(rt, serve_at(rt, alloc, store, parker, settings, &listener)),
+    match start(rt, alloc, store, settings) {
+        Ok(start) => {
+            tell_start(rt, settings, &start, began);
+            ended(
+                rt,
+                serve_at(rt, alloc, store, parker, settings, &start.listener),
+            )
+        }
         Err(fault) => tell(rt, &fault),
     }
 }
@@ -36,24 +49,33 @@ where
 // Looks the store over, and binds the address.
 fn start<D: Device, B: Room, G: Gate, R>(
     rt: &R,
+    alloc: Global,
     store: &Store<D, B, G>,
     settings: &ServeSettings,
-) -> Result<TcpListener, Fault>
+) -> Result<Start, Fault>
 where
     R: Net<Listener = TcpListener, Stream = TcpStream> + Wait,
+    ensures { IfOk result (λ start. AreOfOneStore start.found.horizon start.found.latest start.found.learned.items) }
 {
     let mut caller = store.session(rt);
-    if let Err(refusal) = store.look_over(rt, &mut caller, &mut Told::new()) {
-        return Err(Fault::Refused(refusal));
+    let found = match store.look_over(rt, alloc, &mut caller, &mut Told::new()) {
+        Ok(found) => found,
+        Err(refusal) => return Err(Fault::Refused(refusal)),
+    };
+    if !found.is_of_one_store() {
+        return Err(Fault::Refused(Refusal::Damaged));
     }
     match TcpListener::bind(rt, settings.listen.as_str()) {
-        Ok(listener) => Ok(listener),
+        Ok(listener) => Ok(Start { listener, found }),
         Err(_) => Err(Fault::Listen),
     }
 }
 
 // How it ended, as a status.
-fn ended(rt: &impl Eprint, served: io::Result<()>) -> u8 {
+fn ended(rt: &impl Eprint, served: io::Result<()>) -> u8
+    ensures ok { IfOk served (λ nothing. result ≡ 0) }
+    ensures err { IfErr served (λ error. result ≡ 1) }
+{
     match served {
         Ok(()) => 0,
         Err(error) => tell(rt, &Fault::Ended(error)),
@@ -66,7 +88,9 @@ fn sessions<'a, D: Device, B: Room, G: Gate, R: Wait>(
     alloc: Global,
     store: &'a Store<D, B, G>,
     workers: u8,
-) -> Result<Vec<StoreSession<'a, D, B, G, R>>, AllocError> {
+) -> Result<Vec<StoreSession<'a, D, B, G, R>>, AllocError>
+    ensures { IfOk result (λ made. vec_len made ≡ workers) }
+{
     let mut sessions = Vec::new(alloc);
     for _ in 0..workers {
         sessions.reserve(1)?;
@@ -77,7 +101,12 @@ fn sessions<'a, D: Device, B: Room, G: Gate, R: Wait>(
 }
 
 // How the sessions are served.
-fn serving_of(settings: &ServeSettings) -> Serving {
+fn serving_of(settings: &ServeSettings) -> Serving
+    ensures store { result.store ≡ settings.now.store }
+    ensures idle { result.idle ≡ settings.now.idle }
+    ensures for_ever { settings.now.connections ≡ 0 → result.connections ≡ None }
+    ensures so_many { 1 ≤ settings.now.connections → result.connections ≡ Some settings.now.connections }
+{
     let connections = match settings.connections {
         0 => None,
         some => Some(some),

@@ -21,7 +21,8 @@ It prints the token of the write's place, and yes with that of the place that an
 The lines of a script: zanstore sim --help
 
 A store in files, served over TCP: zanstore serve --help
-All tuples of such a store: zanstore dump --help";
+All tuples of such a store: zanstore dump --help
+Requests to such a server: zanstore call --help";
 
 const SIM: &str =
     "Runs a script from standard input over a new store on disks in memory, and prints what each line

@@ -8,10 +8,10 @@ use crate::meeting::{Door, Meeting};
 use crate::{stress, two_callers, two_writers};
 use crossbeam_utils::sync::{Parker, Unparker};
 use device::{Device, SimDisk};
-use locked::{Gate, Store};
+use locked::{Gate, Store, new_bell};
 use published::{LogPass, Published};
 use sides::Room;
-use std::alloc::{AllocError, Global};
+use std::alloc::Global;
 use std::marker::Brand;
 use std::rt::Runtime;
 use std::sync::Wait;
@@ -33,13 +33,6 @@ pub(crate) fn run<R: Runtime + Threads + Wait + Sync>(rt: &R, alloc: Global, ask
         Ok((parker, bell)) => run_with_bell(rt, alloc, parker, bell, asked),
         Err(_) => FAILED,
     }
-}
-
-// What wakes whoever tends the store, and what sleeps there.
-fn new_bell(alloc: Global) -> Result<(Parker, Unparker), AllocError> {
-    let parker = Parker::new(alloc)?;
-    let bell = parker.unparker().clone()?;
-    Ok((parker, bell))
 }
 
 fn run_with_bell<R: Runtime + Threads + Wait + Sync>(

@@ -1,14 +1,18 @@
-//! The program: a store over files that is served to those who connect, or dumped, and a store over disks in memory which runs scripts.
+//! The program: a store over files that is served to those who connect, or dumped, a client of such a server, and a store over disks in memory which runs
+//! scripts.
 //!
-//! Keeps: the first word says what is done: `serve`, `dump` or `sim`. Status 0 means that all was done and that what was asked for was written.
-//! Never: looks at a request or a line, and owns no store: `server` serves one over files, `dumping` writes all tuples of one, and `life` has a script carried
-//! out over a store of its own, and promises that this is one life of it.
-//! Callers rely on: the status, 0 at the end of the script or of the last connection, 1 where files, nodes, the address, a read or a write failed or there
-//! was no memory, 2 for a command line that can't be read.
+//! Keeps: the first word says what is done: `serve`, `dump`, `call` or `sim`. Status 0 means that all was done and that what was asked for was written.
+//! Never: looks at a request or a line, and owns no store: `server` serves one over files, `dumping` writes all tuples of one, `calling` asks a server, and
+//! `life` has a script carried out over a store of its own, and promises that this is one life of it.
+//! Callers rely on: the status, 0 at the end of the script, of the requests or of the last connection, 1 where files, nodes, the address, a request, a read
+//! or a write failed or there was no memory, 2 for a command line that can't be read.
 //!
-//! Start at `serve` of `server`, `dump_folder` of `dumping` and `sim` of `life`; `serve_settings`, `dump_settings` and `settings` read the command line.
+//! Start at `serve` of `server`, `dump_folder` of `dumping`, `call` of `calling` and `sim` of `life`; `serve_settings`, `dump_settings`, `call_settings` and
+//! `settings` read the command line.
 #![tactic(auto)]
 
+use call_settings::CallSettings;
+use calling::call;
 use dump_settings::DumpSettings;
 use dumping::dump_folder;
 use life::sim;
@@ -38,6 +42,9 @@ fn main(rt: HostRuntime) -> ExitCode {
     if DumpSettings::are_for(&words) {
         return ExitCode::from(run_dump(&rt, &words));
     }
+    if CallSettings::are_for(&words) {
+        return ExitCode::from(run_call(&rt, &rt, &words));
+    }
     ExitCode::from(run_script(&rt))
 }
 
@@ -62,6 +69,14 @@ fn run_dump(rt: &HostRuntime, words: &[String]) -> u8 {
             settings.shards,
             settings.at,
         ),
+        Err(status) => status,
+    }
+}
+
+// Asks a server what the words ask for.
+fn run_call<R: Net<Stream = TcpStream>>(net: &R, rt: &HostRuntime, words: &[String]) -> u8 {
+    match CallSettings::read(rt, words) {
+        Ok(settings) => call(net, rt, &settings),
         Err(status) => status,
     }
 }

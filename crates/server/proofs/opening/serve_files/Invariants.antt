@@ -2,7 +2,7 @@ use Rattle.std.proofs.Common.{ℕ, List}
 use Rattle.device.specs.Device.{State}
 use Rattle.records.specs.Coordinators.{CoordinatorState}
 use Rattle.files.specs.Life.{life_state}
-use Rattle.server.specs.Premise.{IsAtRest, found_coordinator}
+use Rattle.at_rest.specs.AtRest.{IsAtRest, found_coordinator}
 use Rattle.server.proofs.opening.serve_files.Given as goal
 
 -- (the devices first, which say what they are)

@@ -1,0 +1,41 @@
+-- When devices that were just opened are at rest: the statements of the laws.
+use Rattle.std.specs.Prelude.{◌≡◌, ◌<◌, ◌+◌, ◌*◌, ℕ, List, length, Some, All, slice_index_or}
+use Rattle.device.specs.Device.{State, left}
+use Rattle.device.specs.Disk.{IsFresh}
+use Rattle.headline.specs.Promised.{devices_at}
+use Rattle.journal.specs.Records.{found}
+use Rattle.laws.specs.Machines.{Machine}
+use Rattle.locked.specs.Opening.{RestAt}
+use Rattle.records.specs.declared.record.Record.{Record}
+use Rattle.tuples.specs.declared.entry.Entry.{Entry}
+use Rattle.turns.specs.Stores.{RestsOver}
+use Rattle.at_rest.specs.AtRest.{IsAtRest}
+
+module _ {D : Type 0} (state : D → State) (honest : D → Type 0) where
+  -- it was just opened: what it reads is durable, and nothing was written since
+  abbrev pub IsJustOpened : D → Type 0
+  IsJustOpened d = IsFresh (state d).seen (state d)
+
+  -- Whatever machine a closed store rests at: where all its devices were just opened, they are at rest.
+  abbrev pub WhatRestsIsAtRest : Type 0
+  WhatRestsIsAtRest = (store shards : ℕ) (any : D) (devices : List D) (m : Machine) → length devices ≡ 2 * (shards + 1) → All IsJustOpened devices
+      → RestsOver state honest store shards (devices_at any devices) m → IsAtRest state honest shards devices
+
+  -- whatever a stop leaves of the two devices holds records
+  abbrev pub AreReadable : D → D → Type 0
+  AreReadable a b = (c d : List ℕ) → left (state a) c → left (state b) d → (rs : List Record) × (found c d ≡ Some rs)
+
+  -- the second device was just opened, and found what a stop may leave of the first
+  pub record IsFoundOf (old new : D) : Type 0 where
+    pub is_honest : honest new
+    pub opened : IsJustOpened new
+    pub was_left : left (state old) (state new).seen
+
+  -- each device found what a stop may leave of the one before it
+  abbrev pub AreFoundOf : List D → List D → Type 0
+  AreFoundOf olds news = (i : ℕ) (any : D) → i < length olds → IsFoundOf (slice_index_or olds i any) (slice_index_or news i any)
+
+  -- Whatever list devices rest at, with more behind it or not: where the coordinator's can be read, those that find what a stop leaves are at rest.
+  abbrev pub WhatIsFoundIsAtRest : Type 0
+  WhatIsFoundIsAtRest = (shards : ℕ) (any : D) (first : List Entry) (low : ℕ) (olds news : List D) → length olds ≡ 2 * (shards + 1) → length news ≡ length olds
+      → RestAt state honest shards first low olds → AreReadable (slice_index_or olds 0 any) (slice_index_or olds 1 any) → AreFoundOf olds news → IsAtRest state honest shards news

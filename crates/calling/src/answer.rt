@@ -1,0 +1,77 @@
+// What an answer line says.
+ghost use Rattle.std.specs.Prelude.{◌≡◌, Some, IfOk, OnOk, codes, option_and_then, option_map, string_bytes};
+ghost use Rattle.serde_json.specs.Data.{Data, put, string};
+ghost use Rattle.serde_json.specs.Find.{as_str, get};
+ghost use Rattle.serde_json.specs.Read.{read};
+ghost use Rattle.serde_json.specs.View.{members_view, view};
+ghost use Rattle.calling.specs.Answers.{GoesOn, IsRefusal, Says, told_number};
+
+use crate::advising::refusal_of;
+use refusal::Refusal;
+use serde_json::{Error, Map, Value};
+use std::alloc::{AllocError, Global};
+
+/// An answer line, and what it says of how to go on.
+#[derive(Drop)]
+pub struct Answered {
+    pub line: String,
+    /// Why the request was refused.
+    pub refusal: Option<Refusal>,
+    /// Where a watch goes on.
+    pub heartbeat: Option<String>,
+}
+
+/// What the line says.
+pub fn read_answer(alloc: Global, line: String) -> Result<Answered, Error>
+    ensures { IfOk result (λ a. (d : Data) × (a.line ≡ line) × (read (string_bytes line) ≡ Some d) × Says d a) }
+{
+    let value = Value::from_str(alloc, line.as_str())?;
+    let refusal = refusal_in(&value);
+    let heartbeat = heartbeat_in(alloc, &value)?;
+    Ok(Answered {
+        line,
+        refusal,
+        heartbeat,
+    })
+}
+
+fn refusal_in(value: &Value) -> Option<Refusal>
+    ensures { IsRefusal (told_number (view value.now)) result }
+{
+    match value.get("error").and_then(Value::as_u64) {
+        Some(number) => refusal_of(number),
+        None => None,
+    }
+}
+
+fn heartbeat_in(alloc: Global, value: &Value) -> Result<Option<String>, AllocError>
+    ensures { IfOk result (λ h. option_map string_bytes h ≡ option_and_then as_str (get (codes "heartbeat") (view value.now))) }
+{
+    match value.get("heartbeat").and_then(Value::as_str) {
+        Some(text) => Ok(Some(String::from_str(alloc, text)?)),
+        None => Ok(None),
+    }
+}
+
+/// The watch that goes on from the heartbeat: the request with this cursor in place of its own. A request that is no object goes on as it is.
+pub fn watch_on(alloc: Global, request: &str, heartbeat: &str) -> Result<String, Error>
+    ensures { IfOk result (λ line. GoesOn request.now heartbeat.now (string_bytes line)) }
+{
+    let mut value = Value::from_str(alloc, request)?;
+    if let Some(object) = value.as_object_mut() {
+        put_text(object, alloc, "from", heartbeat)?;
+    }
+    Ok(value.to_string(alloc)?)
+}
+
+fn put_text(
+    object: &mut Map<String, Value>,
+    alloc: Global,
+    key: &str,
+    text: &str,
+) -> Result<(), AllocError>
+    ensures { OnOk result (members_view object.new.entries ≡ put key.now (string text.now) (members_view object.old.entries)) }
+{
+    let value = Value::try_from_str(alloc, text)?;
+    serde_json::put(object, alloc, key, value)
+}

@@ -1,0 +1,103 @@
+// A request is sent, and its answer is waited for.
+ghost use Rattle.std.specs.Prelude.{◌≡◌, ◌≤◌, ◌∷◌, ◌++◌, [], IfOk, OnOk, string_bytes};
+ghost use Rattle.std.specs.Io.KnownBytes.{Appends};
+ghost use Rattle.calling.specs.Sent.{SendsAgain};
+
+use crate::advising::is_sent_again;
+use crate::answer::{Answered, read_answer};
+use crate::fault::Fault;
+use line_io::write_all;
+use refusal::Refusal;
+use std::alloc::{AllocError, Global};
+use std::io::{BufRead, ErrorKind, Write};
+use std::thread;
+use std::time::{Clock, Duration};
+
+// The first pause before a request is sent again, and the longest.
+const PAUSE_MILLISECONDS: u64 = 50;
+
+const LONGEST_MILLISECONDS: u64 = 2000;
+
+/// Sends the request, and again while its refusal is one of those behind which it may be, up to so many times more, after a pause that grows. The last
+/// answer.
+pub fn ask_again<C: Clock, I: BufRead, O: Write>(
+    clock: &C,
+    alloc: Global,
+    input: &mut I,
+    output: &mut O,
+    request: &str,
+    retry: u64,
+) -> Result<Answered, Fault>
+    ensures { OnOk result (SendsAgain retry request.now (O.contents output.old) (O.contents output.new)) }
+{
+    for number in 0..retry {
+        let answered = ask(alloc, input, output, request)?;
+        if !is_asked_again(answered.refusal) {
+            return Ok(answered);
+        }
+        pause(clock, number);
+    }
+    ask(alloc, input, output, request)
+}
+
+fn is_asked_again(refusal: Option<Refusal>) -> bool {
+    match refusal {
+        Some(refusal) => is_sent_again(refusal),
+        None => false,
+    }
+}
+
+fn pause(clock: &impl Clock, number: u64) {
+    let longer = PAUSE_MILLISECONDS.saturating_mul(1 << number.min(10));
+    thread::sleep(
+        clock,
+        Duration::from_millis(longer.min(LONGEST_MILLISECONDS)),
+    );
+}
+
+fn ask<I: BufRead, O: Write>(
+    alloc: Global,
+    input: &mut I,
+    output: &mut O,
+    request: &str,
+) -> Result<Answered, Fault>
+    ensures { OnOk result (Appends (O.contents output.old) (O.contents output.new) (request.now ++ 10 ∷ [])) }
+{
+    send(alloc, output, request)?;
+    let line = receive(alloc, input)?;
+    Ok(read_answer(alloc, line)?)
+}
+
+fn send<O: Write>(alloc: Global, output: &mut O, request: &str) -> Result<(), Fault>
+    ensures { OnOk result (Appends (O.contents output.old) (O.contents output.new) (request.now ++ 10 ∷ [])) }
+{
+    let bytes = with_feed(alloc, request)?;
+    match write_all(output, &bytes) {
+        Ok(()) => Ok(()),
+        Err(error) => Err(Fault::Gone(error)),
+    }
+}
+
+fn with_feed(alloc: Global, request: &str) -> Result<Vec<u8>, AllocError>
+    ensures { IfOk result (λ bytes. bytes.items ≡ request.now ++ 10 ∷ []) }
+{
+    let mut bytes = Vec::new(alloc);
+    bytes.extend_from_slice(request.as_bytes())?;
+    bytes.push(b'\n')?;
+    Ok(bytes)
+}
+
+// The next line, without its line feed.
+fn receive<I: BufRead>(alloc: Global, input: &mut I) -> Result<String, Fault> {
+    let mut line = String::new(alloc);
+    match input.read_line(&mut line) {
+        Ok(_) => {
+            if line.pop() == Some('\n') {
+                Ok(line)
+            } else {
+                Err(Fault::Gone(ErrorKind::UnexpectedEof.into()))
+            }
+        }
+        Err(error) => Err(Fault::Gone(error)),
+    }
+}

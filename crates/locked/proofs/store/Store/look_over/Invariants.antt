@@ -1,5 +1,0 @@
-use Rattle.sides.specs.Sides.{IsLater}
-use Rattle.locked.proofs.store.Store.look_over.Given as goal
-
-abbrev pub invariant-loop-shard : goal.invariant-loop-shard
-invariant-loop-shard g l = record { later : IsLater l.fn.caller l.caller }

@@ -1,0 +1,5 @@
+pub mod Verbs
+pub mod Fine
+pub mod Cuts
+pub mod Feeds
+pub mod Reread
