@@ -7,19 +7,27 @@ TEXTS = ("a", "b", "doc", "x y", "", "a" * 64, "a" * 65, "a" * 129, "A", "a#b", 
 
 def changed(random, image, images):
     """What was done, and the image behind it."""
-    kind = random.choice((of_byte, of_byte, of_piece, of_record, of_record, of_list, of_batch, of_identity))
-    return kind(random, image, images)
+    kind = random.choice((of_byte, of_byte, of_piece, of_record, of_record, of_list, of_batch, of_identity, of_banks))
+    if kind in (of_identity, of_banks):
+        return kind(random, image)
+    bank = random.choice(filled(image))
+    what, device = kind(random, getattr(image, bank), images)
+    return what, image._replace(**{bank: device})
 
 
-def of_byte(random, image, _):
-    at = random.randrange(len(image.bytes))
-    old = image.bytes[at]
+def filled(image):
+    """The banks that have a batch."""
+    return [bank for bank in ("a", "b") if len(getattr(image, bank)) > 1]
+
+
+def of_byte(random, device, _):
+    at = random.randrange(len(device))
+    old = device[at]
     new = random.choice((random.randrange(256), old ^ 1 << random.randrange(8), (old + 1) % 256, (old - 1) % 256, 0xA5, 0, 1, 2, 0xFF))
-    return "a byte", image._replace(bytes=image.bytes[:at] + bytes([new]) + image.bytes[at + 1 :])
+    return "a byte", device[:at] + bytes([new]) + device[at + 1 :]
 
 
-def of_piece(random, image, _):
-    data = image.bytes
+def of_piece(random, data, _):
     begin = random.randrange(len(data))
     end = min(len(data), begin + random.choice((1, 2, random.randrange(1, 40), len(data))))
     kind = random.choice(("cut", "doubled", "left out", "put behind"))
@@ -29,7 +37,7 @@ def of_piece(random, image, _):
         "left out": data[:begin] + data[end:],
         "put behind": data + data[begin:end],
     }[kind]
-    return f"a piece {kind}", image._replace(bytes=made)
+    return f"a piece {kind}", made
 
 
 def other_number(random, value, most):
@@ -78,6 +86,7 @@ def other_placed(random, placed):
 
 
 FIELDS = {
+    "change": other_item,
     "id": other_id,
     "placed": lambda random, value: other_list(random, value, other_placed),
     "changes": lambda random, value: other_list(random, value, other_item),
@@ -88,25 +97,26 @@ FIELDS = {
 
 
 def other_record(random, made):
+    """A record with another value in one field; a mark may be another mark too."""
     field = random.choice(made._fields)
     other = FIELDS.get(field, lambda random, value: other_number(random, value, 2**64 - 1))
     return field, made._replace(**{field: other(random, getattr(made, field))})
 
 
-def of_record(random, image, _):
+def of_record(random, device, _):
     """Another value in one field of a record."""
-    batches, _ = batches_of(Rules(), image.bytes)
+    batches, _ = batches_of(Rules(), device)
     at = random.randrange(len(batches))
     version, records = batches[at]
     which = random.randrange(len(records))
     field, made = other_record(random, records[which])
     batches[at] = version, [*records[:which], made, *records[which + 1 :]]
-    return f"another {field} of a {type(made).__name__}", image._replace(bytes=device_bytes(batches))
+    return f"another {field} of a {type(made).__name__}", device_bytes(batches)
 
 
-def of_list(random, image, images):
+def of_list(random, device, images):
     """A record left out, doubled, put elsewhere, or one of another node put in."""
-    batches, _ = batches_of(Rules(), image.bytes)
+    batches, _ = batches_of(Rules(), device)
     at = random.randrange(len(batches))
     version, records = batches[at]
     which = random.randrange(len(records))
@@ -120,16 +130,21 @@ def of_list(random, image, images):
         batches[at] = version, rest
         batches.insert(random.randrange(len(batches) + 1), (version, [records[which]]))
     else:
-        stranger, _ = batches_of(Rules(), random.choice(images).bytes)
-        taken = random.choice(random.choice(stranger)[1])
-        batches[at] = 2, [*records[:which], taken, *records[which:]]
+        batches[at] = 2, [*records[:which], a_stranger(random, images), *records[which:]]
     # A batch that has no record more is left out too, or stays as it is.
     stays = random.random() < 0.5
-    return f"a record {kind}", image._replace(bytes=device_bytes([batch for batch in batches if batch[1] or stays]))
+    return f"a record {kind}", device_bytes([batch for batch in batches if batch[1] or stays])
 
 
-def of_batch(random, image, _):
-    batches, _ = batches_of(Rules(), image.bytes)
+def a_stranger(random, images):
+    """A record of some node."""
+    image = random.choice(images)
+    batches, _ = batches_of(Rules(), getattr(image, random.choice(filled(image))))
+    return random.choice(random.choice(batches)[1])
+
+
+def of_batch(random, device, _):
+    batches, _ = batches_of(Rules(), device)
     at = random.randrange(len(batches))
     version, records = batches[at]
     kind = random.choice(("left out", "doubled", "of another version", "joined"))
@@ -141,10 +156,10 @@ def of_batch(random, image, _):
         batches[at] = random.choice((0, 1, 2, 3)), records
     else:
         batches[at : at + 2] = [(2, [made for _, some in batches[at : at + 2] for made in some])]
-    return f"a batch {kind}", image._replace(bytes=device_bytes(batches))
+    return f"a batch {kind}", device_bytes(batches)
 
 
-def of_identity(random, image, _):
+def of_identity(random, image):
     """The bytes as they are, of another node, store or number of shards."""
     kind = random.choice(("node", "store", "number of shards"))
     if kind == "node":
@@ -154,3 +169,16 @@ def of_identity(random, image, _):
     else:
         other = image._replace(shards=min(64, image.shards + 1))
     return f"opened with another {kind}", other
+
+
+def of_banks(random, image):
+    """The banks in each other's place, one of them twice, or one of them gone."""
+    kind = random.choice(("swapped", "of bank a twice", "of bank b twice", "without bank a", "without bank b"))
+    other = {
+        "swapped": {"a": image.b, "b": image.a},
+        "of bank a twice": {"b": image.a},
+        "of bank b twice": {"a": image.b},
+        "without bank a": {"a": random.choice((b"", b"\0", b"\xa5"))},
+        "without bank b": {"b": random.choice((b"", b"\0", b"\xa5"))},
+    }[kind]
+    return f"banks {kind}", image._replace(**other)

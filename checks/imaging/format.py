@@ -16,7 +16,13 @@ Dropped = namedtuple("Dropped", "id")
 Epoch = namedtuple("Epoch", "epoch store shards node")
 Decision = namedtuple("Decision", "place id changes conditions")
 Horizon = namedtuple("Horizon", "place")
+# The marks of a checkpoint.
+Begins = namedtuple("Begins", "generation")
+Row = namedtuple("Row", "place change")
+Ends = namedtuple("Ends", "generation")
+MARKS = (Begins, Row, Ends)
 KINDS = {1: Prepare, 2: Learned, 3: Dropped, 4: Epoch, 5: Decision, 6: Horizon}
+CHECKPOINT = 7
 # What a condition asks for; the first with a place.
 NOT_AFTER, EXISTS, ABSENT = 1, 2, 3
 
@@ -54,10 +60,8 @@ class Bytes:
         return int.from_bytes(self.take(count), "big")
 
     def place(self):
-        """A place, an epoch or a number."""
-        found = self.number(8)
-        self.must(found <= GREATEST, "no number is above 2^63 - 1")
-        return found
+        """A place, an epoch or a number. How great it may be is a rule of the list that a node reads, and not of a batch."""
+        return self.number(8)
 
     def text(self, shape):
         found = self.take(self.number(1))
@@ -107,6 +111,8 @@ class Bytes:
 
     def record(self, version):
         kind = self.number(1)
+        if kind == CHECKPOINT:
+            return self.mark()
         self.must(kind in KINDS, "a record is of a kind that there is")
         if kind == 1:
             made = Prepare(self.id(), *self.write(version, 0))
@@ -122,6 +128,11 @@ class Bytes:
             return Decision(self.place(), self.id(), *self.write(version, 1))
         return Horizon(self.place())
 
+    def mark(self):
+        kind = self.number(1)
+        self.must(kind < len(MARKS), "a mark begins or ends a checkpoint, or is a row")
+        return Row(self.place(), self.change()) if kind == 1 else MARKS[kind](self.place())
+
     def learned(self):
         place, count = self.place(), self.number(2)
         self.must(count <= 256, "a learned record has at most 256 placed ids")
@@ -134,7 +145,6 @@ class Bytes:
     def epoch(self):
         made = Epoch(self.place(), self.number(8), self.number(1), self.number(1))
         self.must(1 <= made.shards <= 64, "a store has 1 to 64 shards")
-        self.must(made.node < made.shards or made.node == 0xFF, "a node is one of the store")
         return made
 
     def batch(self):
@@ -193,12 +203,24 @@ def condition_bytes(version, condition):
 
 
 def write_bytes(version, made):
-    changes = b"".join((b"\1" if is_touch else b"\2") + tuple_bytes(named) for is_touch, named in made.changes)
+    changes = b"".join(map(change_bytes, made.changes))
     conditions = b"".join(condition_bytes(version, condition) for condition in made.conditions)
     return number(1, len(made.changes)) + changes + number(1, len(made.conditions)) + conditions
 
 
+def change_bytes(change):
+    is_touch, named = change
+    return (b"\1" if is_touch else b"\2") + tuple_bytes(named)
+
+
+def mark_bytes(made):
+    place = made.place if isinstance(made, Row) else made.generation
+    return number(1, CHECKPOINT) + number(1, MARKS.index(type(made))) + number(8, place) + (change_bytes(made.change) if isinstance(made, Row) else b"")
+
+
 def record_bytes(version, made):
+    if isinstance(made, MARKS):
+        return mark_bytes(made)
     kind = next(number(1, kind) for kind, shape in KINDS.items() if isinstance(made, shape))
     if isinstance(made, Prepare):
         return kind + id_bytes(made.id) + write_bytes(version, made)

@@ -1,11 +1,11 @@
-"""Images that are right: those that real runs leave, and the same in the first version of the format where that can spell them."""
+"""Images that are right: those that real runs leave, the same in the first version of the format where that can spell them, and with checkpoints."""
 import os
 import subprocess
 import tempfile
 from collections import namedtuple
 
-from imaging.format import CLOSED, NOT_AFTER, Rules, batches_of, device_bytes
-from imaging.replaying import COORDINATOR
+from imaging.format import CLOSED, NOT_AFTER, Begins, Ends, Epoch, Horizon, Learned, Row, Rules, batches_of, device_bytes
+from imaging.replaying import COORDINATOR, found, node_of
 from judge.making import Maker
 
 TOP = os.path.dirname(os.path.dirname(os.path.dirname(os.path.abspath(__file__))))
@@ -13,8 +13,8 @@ TOP = os.path.dirname(os.path.dirname(os.path.dirname(os.path.abspath(__file__))
 LIVES = 3
 MOST_LINES = 60
 
-# The node with the identity that is asked for, and the bytes of its first device.
-Image = namedtuple("Image", "node store shards bytes")
+# The node with the identity that is asked for, and the bytes of its devices.
+Image = namedtuple("Image", "node store shards a b")
 
 
 def scripts_program():
@@ -43,7 +43,7 @@ def real_images(seed):
         for life in range(LIVES):
             run(folder, maker, lines[life * len(lines) // LIVES : (life + 1) * len(lines) // LIVES])
         nodes = [("c", COORDINATOR), *((str(shard), shard) for shard in range(maker.shards))]
-        return [Image(node, maker.store, maker.shards, read_file(f"{folder}/{name}.a")) for name, node in nodes]
+        return [Image(node, maker.store, maker.shards, *(read_file(f"{folder}/{name}.{bank}") for bank in "ab")) for name, node in nodes]
 
 
 def read_file(path):
@@ -53,14 +53,32 @@ def read_file(path):
 
 def fault_of(image):
     """Why the bytes that the program wrote are not those of the format."""
-    batches, end = batches_of(Rules(), image.bytes)
-    if image.bytes[:end] != device_bytes(batches)[:-1]:
-        return f"node {image.node}: what was written is not how the format spells it"
-    if image.bytes[end:] != bytes([CLOSED]):
-        return f"node {image.node}: there is more than a closed gate behind the last batch"
-    if any(version != 2 for version, _ in batches):
-        return f"node {image.node}: a batch of version 1 was written"
+    for bank, device in (("a", image.a), ("b", image.b)):
+        batches, end = batches_of(Rules(), device)
+        if device[:end] != device_bytes(batches)[:-1]:
+            return f"node {image.node}, bank {bank}: what was written is not how the format spells it"
+        if device[end : end + 1] != bytes([CLOSED]):
+            return f"node {image.node}, bank {bank}: no closed gate stands behind the last batch"
+        if len(device) > end + 1 and not was_written_over(batches):
+            return f"node {image.node}, bank {bank}: there is more than a closed gate behind the last batch"
+        if any(version != 2 for version, _ in batches):
+            return f"node {image.node}, bank {bank}: a batch of version 1 was written"
     return None
+
+
+def generation_of(batches):
+    """That of the checkpoint with which the batches of a bank begin, and 0 where they begin with none."""
+    first = batches[0][1][0] if batches else None
+    return first.generation if isinstance(first, Begins) else 0
+
+
+def was_written_over(batches):
+    """Whether the bank had other records before, of which the rest stands behind its gate: checkpoints go to banks b and a in turn."""
+    return generation_of(batches) >= 2
+
+
+def has_no_checkpoint(image):
+    return not any(generation_of(batches_of(Rules(), device)[0]) for device in (image.a, image.b))
 
 
 def can_be_first(records):
@@ -69,5 +87,58 @@ def can_be_first(records):
 
 def in_first_version(image):
     """The image with its batches in version 1, but for those that ask what it has no word for."""
-    batches, _ = batches_of(Rules(), image.bytes)
-    return image._replace(bytes=device_bytes([(1 if can_be_first(records) else 2, records) for _, records in batches]))
+    return image._replace(**{bank: first_version_of(getattr(image, bank)) for bank in ("a", "b")})
+
+
+def first_version_of(device):
+    batches, _ = batches_of(Rules(), device)
+    return device_bytes([(1 if can_be_first(records) else 2, records) for _, records in batches])
+
+
+def checkpoint(generation, image, records):
+    """The checkpoint of a node with these records."""
+    node = node_of(Rules(), image)
+    node.replay(records)
+    head = [Begins(generation), Epoch(node.epoch, image.store, image.shards, image.node), Horizon(node.horizon)]
+    if image.node == COORDINATOR:
+        return [*head, *node.log[node.horizon - node.base :], Ends(generation)]
+    rows = [Row(place, (is_touch, named)) for named, place, is_touch in sorted(node.rows)]
+    return [*head, Learned(node.learned, ()), *rows, *(node.in_doubt[id] for id in sorted(node.in_doubt)), Ends(generation)]
+
+
+def in_pieces(random, records):
+    """Batches of these records, cut anywhere."""
+    cuts = sorted({0, len(records), *(random.randrange(len(records) + 1) for _ in range(random.randrange(3)))})
+    return [(2, records[begin:end]) for begin, end in zip(cuts, cuts[1:])]
+
+
+def with_checkpoints(random, image):
+    """The image of a node that made no checkpoint, had it made one or two on its way: its other bank is as it was left, or was emptied or written in part since."""
+    batches, _ = batches_of(Rules(), image.a)
+    cuts = sorted(random.randrange(1, len(batches) + 1) for _ in range(random.choice((1, 1, 2))))
+    banks, is_b, begin = [[], []], 0, 0
+    for generation, cut in enumerate(cuts, 1):
+        banks[is_b] += batches[begin:cut]
+        records = [made for _, some in banks[is_b] for made in some]
+        is_b, begin = 1 - is_b, cut
+        banks[is_b] = in_pieces(random, checkpoint(generation, image, records))
+    banks[is_b] += batches[begin:]
+    banks[1 - is_b] = other_bank(random, banks[1 - is_b], banks[is_b])
+    a, b = map(device_bytes, banks)
+    return image._replace(a=a, b=b)
+
+
+def other_bank(random, batches, current):
+    """What a bank that is not current may have: what it had, nothing, or the next checkpoint in part."""
+    kind = random.choice(("as it was", "as it was", "nothing", "a part"))
+    if kind == "as it was":
+        return batches
+    if kind == "nothing":
+        return []
+    begun = current[0][1][0].generation + 1
+    return [(2, [Begins(begun)]), *((2, [made]) for _, records in current for made in records[1:] if not isinstance(made, Ends))][: random.randrange(1, 6)]
+
+
+def reads_alike(image, other):
+    """Whether two images are of nodes that have the same to tell."""
+    return found(Rules(), image)[0].told() == found(Rules(), other)[0].told()

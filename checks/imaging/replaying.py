@@ -1,7 +1,30 @@
 """What a node finds on its device, as docs/FORMAT.md says, and what `image_rows` has to print of it."""
-from imaging.format import ABSENT, EXISTS, GREATEST, NOT_AFTER, Damaged, Decision, Dropped, Epoch, Horizon, Learned, Prepare, Rules, appended, batch_bytes, batches_of
+from imaging.format import (
+    ABSENT,
+    CLOSED,
+    EXISTS,
+    GREATEST,
+    MARKS,
+    NOT_AFTER,
+    Begins,
+    Damaged,
+    Decision,
+    Dropped,
+    Ends,
+    Epoch,
+    Horizon,
+    Learned,
+    Prepare,
+    Row,
+    Rules,
+    appended,
+    batch_bytes,
+    batches_of,
+)
 
 COORDINATOR = 0xFF
+# How far a checkpoint is: what stands last in it.
+BEGUN, OPENED, RAISED, LEARNED, DOUBTED = range(5)
 
 
 def tuple_text(named):
@@ -14,6 +37,14 @@ def shard_of(named, shards):
     return sum(f"{named[0]}:{named[1]}".encode()) % shards
 
 
+def numbers_of(made):
+    """Places, epochs, numbers and generations of a record."""
+    placed = [(*id, place) for id, place in getattr(made, "placed", ())]
+    wants = [condition[2] for condition in getattr(made, "conditions", ()) if condition[1] == NOT_AFTER]
+    own = [getattr(made, field) for field in ("place", "epoch", "generation") if hasattr(made, field)]
+    return [*own, *getattr(made, "id", ()), *wants, *(number for one in placed for number in one)]
+
+
 def named_of(made):
     return {named for _, named in made.changes} | {condition[0] for condition in made.conditions}
 
@@ -24,26 +55,66 @@ class Node:
     def __init__(self, rules, node, store, shards):
         self.rules, self.node, self.store, self.shards = rules, node, store, shards
         self.epoch = self.horizon = 0
+        # the checkpoint that is under way: its generation, and how far it is
+        self.generation = self.stage = None
 
     def must(self, is_so, rule):
         self.rules.must(is_so, rule)
 
     def replay(self, records):
         for made in records:
-            self.must(self.epoch or isinstance(made, Epoch), "the first record is an epoch")
+            self.must(self.epoch or self.is_inside() or isinstance(made, (Epoch, Begins)), "the first record is an epoch, or begins a checkpoint")
             self.record(made)
 
+    def is_inside(self):
+        return self.stage is not None
+
+    def may_come(self, *stages):
+        """Within a checkpoint only behind these; elsewhere always."""
+        self.must(not self.is_inside() or self.stage in stages, "the parts of a checkpoint have their order")
+
+    def further(self, stage):
+        if self.is_inside():
+            self.stage = stage
+
     def record(self, made):
+        self.must(all(number <= GREATEST for number in numbers_of(made)), "no number is above 2^63 - 1")
         if isinstance(made, Epoch):
-            self.must(made.epoch == self.epoch + 1, "the first epoch is 1, and each later one is one more")
-            self.must((made.store, made.shards, made.node) == (self.store, self.shards, self.node), "an epoch names this node of this store")
-            self.epoch = made.epoch
+            self.open(made)
         elif isinstance(made, Horizon):
+            self.may_come(OPENED)
             self.must(self.horizon <= made.place, "a horizon is at least the one before")
-            self.must(made.place <= self.end(), "a horizon is at most the last place")
+            self.must(self.is_inside() or made.place <= self.end(), "a horizon is at most the last place")
             self.raise_to(made.place)
+            self.further(RAISED)
+        elif isinstance(made, MARKS):
+            self.mark(made)
         else:
             self.own(made)
+
+    def open(self, made):
+        self.may_come(BEGUN)
+        if self.is_inside():
+            self.must(made.epoch >= 1, "the epoch of a checkpoint is from 1 on")
+        else:
+            self.must(made.epoch == self.epoch + 1, "the first epoch is 1, and each later one is one more")
+        self.must((made.store, made.shards, made.node) == (self.store, self.shards, self.node), "an epoch names this node of this store")
+        self.epoch = made.epoch
+        self.further(OPENED)
+
+    def mark(self, made):
+        if isinstance(made, Begins):
+            self.must(self.epoch == 0 and not self.is_inside(), "a checkpoint begins with the first record")
+            self.must(made.generation >= 1, "a generation is from 1 on")
+            self.generation, self.stage = made.generation, BEGUN
+        elif isinstance(made, Row):
+            self.row(made)
+        else:
+            self.must(self.is_inside(), "what ends has begun")
+            self.may_come(*self.lasts())
+            self.must(made.generation == self.generation, "a checkpoint ends as it began")
+            self.must(self.horizon <= self.end(), "the horizon of a checkpoint is at most what is learned")
+            self.stage = None
 
     def raise_to(self, place):
         self.horizon = place
@@ -57,6 +128,9 @@ class Shard(Node):
     def end(self):
         return self.learned
 
+    def lasts(self):
+        return LEARNED, DOUBTED
+
     def own(self, made):
         self.must(not isinstance(made, Decision), "a shard has no decision")
         if isinstance(made, Prepare):
@@ -64,10 +138,23 @@ class Shard(Node):
         elif isinstance(made, Learned):
             self.learn(made)
         elif isinstance(made, Dropped):
+            self.may_come()
             self.must(made.id in self.in_doubt, "a dropped write is in doubt")
             self.in_doubt.pop(made.id, None)
 
+    def row(self, made):
+        self.must(self.is_inside(), "a row stands in a checkpoint")
+        self.may_come(LEARNED)
+        is_touch, named = made.change
+        self.must(shard_of(named, self.shards) == self.node, "a row is of a tuple of this shard")
+        self.must(1 <= made.place <= self.learned, "a row lies within what is learned")
+        last = max((at for other, at, _ in self.rows if other == named), default=0)
+        self.must(last <= made.place, "a row is no older than those of its tuple before it")
+        self.rows.append((named, made.place, is_touch))
+
     def prepare(self, made):
+        self.may_come(LEARNED, DOUBTED)
+        self.further(DOUBTED)
         self.must(made.id not in self.in_doubt, "a prepare has an id that is not in doubt")
         named = named_of(made)
         self.must(all(shard_of(one, self.shards) == self.node for one in named), "a prepare has tuples of this shard")
@@ -75,6 +162,9 @@ class Shard(Node):
         self.in_doubt[made.id] = made
 
     def learn(self, made):
+        self.may_come(RAISED)
+        self.must(not self.is_inside() or not made.placed, "what a checkpoint has learned has no parts")
+        self.further(LEARNED)
         self.must(self.learned <= made.place, "what is learned is at least what was")
         for id, place in made.placed:
             self.must(self.learned < place, "a placed id lies above what was learned")
@@ -101,18 +191,30 @@ class Shard(Node):
 class Coordinator(Node):
     def __init__(self, *identity):
         super().__init__(*identity)
-        self.log, self.ids, self.last = [], set(), {}
+        self.log, self.ids, self.last, self.base = [], set(), {}, 0
 
     def end(self):
-        return len(self.log)
+        return self.base + len(self.log)
+
+    def lasts(self):
+        return (RAISED,)
 
     def own(self, made):
         self.must(isinstance(made, Decision), "a coordinator has no prepare, learned or dropped record")
         if isinstance(made, Decision):
+            self.may_come(RAISED)
             self.decide(made)
 
+    def row(self, _):
+        self.must(False, "a coordinator has no row")
+
+    def raise_to(self, place):
+        self.horizon = place
+        if self.is_inside():
+            self.base = place
+
     def decide(self, made):
-        self.must(made.place == len(self.log) + 1, "the places of decisions are 1, 2, 3 and so on")
+        self.must(made.place == self.end() + 1, "the places of decisions go on without a gap")
         self.must(made.id not in self.ids, "no two decisions have one id")
         self.must(all(self.is_met(*condition) for condition in made.conditions), "the conditions of a decision are met by those before it")
         self.log.append(made)
@@ -120,15 +222,39 @@ class Coordinator(Node):
         self.last.update({named: (made.place, is_touch) for is_touch, named in made.changes})
 
     def is_met(self, named, want, place):
+        """Where a checkpoint has left out earlier decisions, none of those that are there may say otherwise."""
+        if self.base and named not in self.last:
+            return True
         at, is_there = self.last.get(named, (0, False))
         return {NOT_AFTER: lambda: at <= place, EXISTS: lambda: is_there, ABSENT: lambda: not is_there}[want]()
 
     def told(self):
-        lines = [f"kept {len(self.log)} horizon {self.horizon}"]
-        for made in self.log[self.horizon :]:
+        lines = [f"kept {self.end()} horizon {self.horizon}"]
+        for made in self.log[self.horizon - self.base :]:
             lines.append(f"commit {made.id[0]}.{made.id[1]} {made.place}")
             lines += [f"{made.place} {'+' if is_touch else '-'}{tuple_text(named)}" for is_touch, named in made.changes]
         return lines
+
+
+def generation_of(records):
+    return records[0].generation if records and isinstance(records[0], Begins) else 0
+
+
+def is_complete(records):
+    """Whether a bank has its records whole."""
+    generation = generation_of(records)
+    return bool(records) and (not generation or any(isinstance(made, Ends) and made.generation == generation for made in records))
+
+
+def is_b_current(rules, a, b):
+    """Whether b is the current one of two banks with these records."""
+    rules.must(not b or generation_of(b), "bank b begins with a checkpoint")
+    whole = is_complete(a), is_complete(b)
+    if all(whole):
+        rules.must(generation_of(a) != generation_of(b), "no two banks have one generation")
+        return generation_of(b) > generation_of(a)
+    rules.must(any(whole) or not (a or b), "a bank is complete, or there is no record")
+    return whole[1]
 
 
 def is_found_without(rule, image):
@@ -139,16 +265,39 @@ def is_found_without(rule, image):
         return False
 
 
+def node_of(rules, image):
+    return (Coordinator if image.node == COORDINATOR else Shard)(rules, image.node, image.store, image.shards)
+
+
+def records_of(rules, device):
+    batches, _ = batches_of(rules, device)
+    return [made for _, records in batches for made in records]
+
+
+def found(rules, image):
+    """What the node finds, and whether bank b is the current one."""
+    banks = [records_of(rules, device) for device in (image.a, image.b)]
+    is_b = is_b_current(rules, *banks)
+    node = node_of(rules, image)
+    node.replay(banks[is_b])
+    rules.must(not node.is_inside(), "a checkpoint has its end")
+    return node, is_b
+
+
+def made_of(device):
+    """The device once it is made, where it was not."""
+    return device if len(device) > 1 else bytes([CLOSED])
+
+
 def answer(rules, image):
     """The lines that an opening of the image has to be answered with."""
-    node = (Coordinator if image.node == COORDINATOR else Shard)(rules, image.node, image.store, image.shards)
     try:
-        batches, end = batches_of(rules, image.bytes)
-        for _, records in batches:
-            node.replay(records)
+        node, is_b = found(rules, image)
     except Damaged:
         return ["refused 16 Damaged"]
     if node.epoch == GREATEST:
         return ["refused 15 Full"]
     opening = batch_bytes(2, [Epoch(node.epoch + 1, image.store, image.shards, image.node)])
-    return [*node.told(), appended(image.bytes, end, opening).hex()]
+    banks = [made_of(image.a), made_of(image.b)]
+    banks[is_b] = appended(banks[is_b], batches_of(rules, banks[is_b])[1], opening)
+    return [*node.told(), *(bank.hex() for bank in banks)]

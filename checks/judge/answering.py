@@ -30,7 +30,10 @@ class Answers(Told):
             return self.is_answered(world, flow, kind, place, printed)
         if number == 13:
             flushed = ["c"] if place is not None and place > world.kept else []
-            return [world] if flow.met_down and flow.next != "heads" else world.downs(self.touched(flow), flushed)
+            if not flow.met_down or flow.next == "heads":
+                return world.downs(self.touched(flow), flushed)
+            # Either the node that it met told it, or the flush of the coordinator has failed.
+            return [*world.flush_fails(flushed), world]
         fallen = min(flow.kept_places) if kind in ("latest", "least") and flow.next != "heads" else place
         causes = {
             7: place is not None and place > flow.least_length,

@@ -24,6 +24,10 @@ class Cares(Told):
             world.settle(name)
         return [world]
 
+    def checkpoint(self, world, name, printed):
+        """A node has what it had, by other records: to whoever asks it is a flush."""
+        return self.flush(world, name, printed)
+
     def learn(self, world, name, printed):
         if not self.done(printed):
             return world.downs(["c", name], [])
@@ -156,7 +160,10 @@ class Cares(Told):
             world.note()
             return [world]
         must(self.refusal(printed) == 13 and node.may_fail, "an opening is refused without a failure")
-        node.is_down, node.may_fail = True, False
+        return [each for failed in world.struck(name) for each in self.opening_fails(failed, name)]
+
+    def opening_fails(self, world, name):
+        """The opening is lost, or was counted."""
         world.note()
         if name != "c":
             return [world]
@@ -166,6 +173,5 @@ class Cares(Told):
 
     def fail(self, world, name, bank, n, tear, printed):
         self.is_printed(printed, "set")
-        # The second bank is not used yet.
-        world.nodes[name].may_fail |= bank == "a"
+        world.nodes[name].scripts |= {bank}
         return [world]

@@ -13,7 +13,7 @@ BY_USER = re.compile(rf"({NAME})(?:#({NAME}))?@(.*)", re.S)
 FLOW = re.compile(r"[a-z0-9]{1,16}")
 NUMBER = re.compile(r"0|[1-9][0-9]*")
 CALLS = (
-    "begin heads learned batch learn stage_prepare flush vote decide outcome abort drop_write inquire in_doubt read settle raise collect"
+    "begin heads learned batch learn stage_prepare flush vote decide outcome abort drop_write inquire in_doubt read settle raise collect checkpoint"
 ).split()
 REFUSALS = (
     "BadRequest BadTuple TooLarge Repeated BadZookie WrongStore Future Collected Precondition Busy Aborted Unsure Down NoMemory Full Damaged"
@@ -112,11 +112,11 @@ class Reader:
         if kind == "fail":
             need(len(rest) == 3 and rest[0] and rest[0][-1] in "ab" and re.fullmatch("old|new|[0-9a-f]{2}", rest[2]))
             return ["fail", self.node(rest[0][:-1]), rest[0][-1], read_number(rest[1], 1), rest[2]]
-        need(kind in ("flush", "learn", "resolve", "raise", "collect", "rows", "restart") and len(rest) == 1)
+        need(kind in ("flush", "checkpoint", "learn", "resolve", "raise", "collect", "rows", "restart") and len(rest) == 1)
         if kind == "raise":
             return [kind, read_number(rest[0])]
         node = self.node(rest[0])
-        need(node != "c" or kind in ("flush", "restart"))
+        need(node != "c" or kind in ("flush", "checkpoint", "restart"))
         return [kind, node]
 
     def node(self, text):

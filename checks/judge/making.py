@@ -12,7 +12,7 @@ TEARS = ("old", "new", "00", "a5", "5a")
 WRITE_CALLS = "begin learned batch learn stage_prepare vote decide outcome abort inquire drop_write".split()
 ANSWER_CALLS = "heads flush learned batch learn read".split()
 NO_LINES = (
-    *("", "; nothing", "?", "write", "checkpoint c", "reshard 3", "read  latest doc:a"),
+    *("", "; nothing", "?", "write", "checkpoint", "reshard 3", "read  latest doc:a"),
     *("turn nobody", "raise 01", "write +doc:a#viewer@", "fail ca 0 old"),
 )
 
@@ -41,8 +41,8 @@ class Maker:
         self.names = 0
         self.nodes = sorted({definitions.shard_of(*named, self.shards) for named in OBJECTS})
         self.waiting = []
-        kinds = {"write": 8, "answer": 6, "care": 3, "nothing": 0.3, "flow": 0, "write_story": 0, "answer_story": 0, "restart": 0, "fail": 0}
-        for kind, weight in (("flow", 4), ("write_story", 3), ("answer_story", 1.5), ("restart", 0.7), ("fail", 0.7)):
+        kinds = {"write": 8, "answer": 6, "care": 3, "nothing": 0.3, "flow": 0, "write_story": 0, "answer_story": 0, "checkpoint": 0, "restart": 0, "fail": 0}
+        for kind, weight in (("flow", 4), ("write_story", 3), ("answer_story", 1.5), ("checkpoint", 0.7), ("restart", 0.7), ("fail", 0.7)):
             if self.random.random() < 0.6 and not is_plain:
                 kinds[kind] = weight
         self.kinds = kinds
@@ -224,6 +224,9 @@ class Maker:
         request = self.request()
         self.say(f"start {name} {request}")
         self.flows.append((name, self.changes if request.startswith("write") and self.is_likely else None, request.startswith("write")))
+
+    def checkpoint(self):
+        self.say(f"checkpoint {self.node()}")
 
     def restart(self):
         self.open(self.node())

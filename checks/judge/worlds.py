@@ -18,11 +18,15 @@ def must(is_so, why):
 
 
 class Node:
-    """A node: whether it is down, and whether a failing script of its device may wait still. What it holds is replaced, and never changed."""
+    """A node: whether it is down, and the banks of which a failing script may wait still. What it holds is replaced, and never changed."""
 
     def __init__(self):
         self.is_down = False
-        self.may_fail = False
+        self.scripts = frozenset()
+
+    @property
+    def may_fail(self):
+        return bool(self.scripts)
 
 
 class Shard(Node):
@@ -111,7 +115,7 @@ class World:
         return other
 
     def key(self):
-        nodes = tuple((node.is_down, node.may_fail) for node in self.nodes.values())
+        nodes = tuple((node.is_down, node.scripts) for node in self.nodes.values())
         flows = tuple((name, flow.next, flow.met_down) for name, flow in self.flows.items())
         ids = tuple(write.id for write in self.log)
         collected = tuple(tuple(sorted(self.nodes[shard].collected)) for shard in range(self.count))
@@ -126,10 +130,21 @@ class World:
         for name in names:
             must(not self.nodes[name].is_down, f"node {name} is down and has answered")
 
+    def struck(self, name):
+        """The worlds in which a device call of the node has just failed, each by another script that may have waited."""
+        found = []
+        for bank in sorted(self.nodes[name].scripts):
+            world = self.twin()
+            node = world.nodes[name]
+            node.is_down, node.scripts = True, node.scripts - {bank}
+            found.append(world)
+        return found
+
     def fails(self, name):
-        """The worlds in which a device call of the node has just failed: its last batch is kept or lost."""
-        node = self.nodes[name]
-        node.is_down, node.may_fail = True, False
+        """The same in a flush: its last batch is kept or lost."""
+        return [each for world in self.struck(name) for each in world.is_kept_or_lost(name)]
+
+    def is_kept_or_lost(self, name):
         if name != "c":
             return [self]
         for write in self.writes:
@@ -141,12 +156,13 @@ class World:
 
     def downs(self, touched, flushed):
         """The worlds in which a call of these nodes is refused with Down: one was down, or one that made a device call has failed."""
-        found = [] if self.is_up(*touched) else [self.twin()]
-        for name in flushed:
-            if self.nodes[name].may_fail and not self.nodes[name].is_down:
-                found += self.twin().fails(name)
+        found = ([] if self.is_up(*touched) else [self.twin()]) + self.flush_fails(flushed)
         must(found, "Down without a failure")
         return found
+
+    def flush_fails(self, names):
+        """The worlds in which a flush of one of these nodes has just failed."""
+        return [each for name in names if self.nodes[name].may_fail and self.is_up(name) for each in self.twin().fails(name)]
 
     # The log.
 

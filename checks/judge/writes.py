@@ -79,9 +79,7 @@ class Writes(Told):
         found = [world]
         name = next(name for name, flow in world.flows.items() if flow is write)
         if write.stage <= 2 and (kind == "until" or made == "flush"):
-            for shard in write.shards:
-                if world.nodes[shard].may_fail and not world.nodes[shard].is_down:
-                    found += world.twin().fails(shard)
+            found += world.flush_fails(write.shards)
         for each in found:
             self.is_begun(each, each.flows[name])
             each.flows[name].stage = 5
@@ -127,7 +125,10 @@ class Writes(Told):
             if was_out:
                 must(write.met_down, "Down without a failure")
                 return [world]
-            return world.downs(["c", *write.shards], write.shards) if not write.met_down else [world]
+            if not write.met_down:
+                return world.downs(["c", *write.shards], write.shards)
+            # Either the node that it met told it, or a flush of another one has failed.
+            return [*world.flush_fails(write.shards), world]
         causes = {
             8: any(isinstance(condition.want, int) and condition.want < world.horizon for condition in write.conditions),
             9: write.met_broken,

@@ -9,7 +9,7 @@ import sys
 import tempfile
 import threading
 
-from . import batches, controls, sums
+from . import batches, controls, formats, sums
 from .kit import rt, rtlib
 from .lanes import Lanes, Meter, Task
 from .seconds import Seconds
@@ -237,6 +237,7 @@ class Gate:
 
     def in_lanes(self, plain):
         self.crates = rtlib.crates_below(os.getcwd())
+        formats.stop_on_wrong(self.crates)
         tasks = {key: self.task_of(key, task) for key, task in plain.items()}
         tasks.update(controls.tasks(self.crates, Copy, self.kept))
         with rt.ending():
@@ -265,4 +266,4 @@ class Gate:
         rt.put_back = lambda root, aside, was_killed=False: give_back(root, aside, True)
         status = rt.where_disk_lasts(rt.ci, self.anew)
         self.seconds.write(self.lanes.took, self.meter.rows())
-        return status or controls.failed(self.given) or int(self.bad() > 0)
+        return status or controls.failed(self.given) or int(self.bad() > 0 or bool(self.lanes.broken))

@@ -10,6 +10,8 @@ from serving.wire import Gone, Session, check, place_of, read, refusal, watch, w
 from serving.wire import token as token_of
 
 COUNT = 100
+# The coordinator's file is the first that is full, since it has every change.
+DOWN_LINE = "zanstore: the coordinator is down, and no write is taken until the server is started again\n"
 
 
 def killed(folder):
@@ -85,7 +87,8 @@ def followed(folder):
 
 
 def full_disk(folder):
-    """a file that gets no longer, as on a full disk: writes are refused with `13 Down` or `12 Unsure`, and a start with room finds what was told"""
+    """a file that gets no longer, as on a full disk: writes are refused with `13 Down` or `12 Unsure`, standard error tells once of each node that is down,
+    and a start with room finds what was told"""
     told, refused = [], []
     with Server(folder, longest=4000) as server, Session(server.port) as session:
         for number in range(1, COUNT + 1):
@@ -101,6 +104,8 @@ def full_disk(folder):
             answer = other.ask(write("+doc:more#viewer@ann"))
             must(answer == refusal(13, "Down"), f"answers {answer} to another session")
         must(server.goes_on(), "the server has ended")
+        begin, down = (server.next_line(server.child.stderr).decode() for _ in range(2))
+        must(is_start(begin, folder, SHARDS, 0, 0) and down == DOWN_LINE, f"standard error says {begin}{down}")
     with Server(folder) as server, Session(server.port) as session:
         found = session.ask(read("doc@ann"))["sets"][0]
         wanted, unsure = {f"doc:d{number}#viewer@ann" for number in told}, {f"doc:d{number}#viewer@ann" for number, error in refused if error == 12}

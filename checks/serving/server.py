@@ -83,12 +83,17 @@ class Server:
     def __exit__(self, *_):
         self.kill()
 
-    def is_ready(self):
-        """Whether it printed the line `ready`, and did not end before."""
+    def next_line(self, output):
+        """The next line of its output or of its errors; an empty one where it ended before, or does not print one in time."""
         guard = threading.Timer(LIMIT, self.child.kill)
         guard.start()
-        line = self.child.stdout.readline()
+        line = output.readline()
         guard.cancel()
+        return line
+
+    def is_ready(self):
+        """Whether it printed the line `ready`, and did not end before."""
+        line = self.next_line(self.child.stdout)
         must(line in (b"ready\n", b""), f"a server prints {line[:80]} first, and not `ready`")
         return line != b""
 

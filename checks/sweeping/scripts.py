@@ -57,6 +57,15 @@ SCRIPTS = {
         *("learn 0", "flush 0", "write -doc:a#viewer@u1 +doc:b#viewer@u3", "raise 2", "collect 0", "collect 1", "restart 0"),
         "write -doc:b#viewer@u3 if ?doc:b#viewer@u3",
     ],
+    "collected-and-checkpointed": [
+        *("write +doc:a#viewer@u1", "write -doc:a#viewer@u1", "write +doc:a#viewer@u1", "raise 2", "collect 1"),
+        *("checkpoint 1", "restart 1", "checkpoint c", "restart c", "write +doc:b#viewer@u1"),
+    ],
+    # The second checkpoint of each node goes to the bank of the first records; what is staged and what is in doubt is in the first.
+    "two-checkpoints": [
+        *("start v write +doc:a#viewer@u1 +doc:b#viewer@u1", "until v vote", "checkpoint 1", "until v outcome", "checkpoint c", "run v"),
+        *("write -doc:a#viewer@u1", "learn 1", "raise 1", "checkpoint c", "checkpoint 1", "write +doc:a#viewer@u2"),
+    ],
 }
 
 

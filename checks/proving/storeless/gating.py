@@ -7,7 +7,7 @@ import shutil
 import sys
 import tempfile
 
-from .. import batches
+from .. import batches, formats
 from . import controls, sums
 from ..kit import rt, rtlib
 from ..lanes import Lanes, Meter, Task
@@ -182,16 +182,9 @@ class Gate:
         tasks.update(controls.tasks(self.crates, Copy))
         return tasks
 
-    def stop_on_format(self):
-        """What one look at the texts can tell is told before an hour of proofs."""
-        with open(os.devnull, "w", encoding="utf-8") as nowhere:
-            wrong = [it.name for it in self.crates if rtlib.fmt(it.folder, "--check", nowhere)]
-        if wrong:
-            rtlib.stop(f"run rt fmt in the folders of: {' '.join(wrong)}")
-
     def in_lanes(self, plain):
         self.crates = rtlib.crates_below(os.getcwd())
-        self.stop_on_format()
+        formats.stop_on_wrong(self.crates)
         tasks = self.tasks_of(plain)
         self.given = self.lanes.run(tasks, lambda key: self.spare(key[0], tasks))
         return self.given

@@ -26,6 +26,7 @@ owed shards way (Coordinator (calls.Outcome d)) out there asks = absurd asks
 owed shards way (Coordinator (calls.Abort i)) out there asks = absurd asks
 owed shards way (Coordinator (calls.Inquire id)) out there asks = absurd asks
 owed shards way (Coordinator (calls.Raise place ss)) out there asks = absurd asks
+owed shards way (Coordinator calls.Checkpoint) out there asks = absurd asks
 owed shards way (Coordinator calls.Flush) out there asks = absurd asks
 owed shards way (Shard s shard_calls.Learned) out there asks = (subst (λ (n : ℕ). n < shards) (sym asks.0) there, tt)
 owed shards way (Shard s (shard_calls.Learn b)) out there asks = (subst (λ (n : ℕ). n < shards) (sym asks.0) there, tt)
@@ -38,6 +39,7 @@ owed shards way (Shard s (shard_calls.Read place set)) out there asks = absurd a
 owed shards way (Shard s (shard_calls.ReadForCheck place x u)) out there asks = absurd asks.1
 owed shards way (Shard s shard_calls.Settle) out there asks = absurd asks.1
 owed shards way (Shard s (shard_calls.Collect h)) out there asks = absurd asks.1
+owed shards way (Shard s shard_calls.Checkpoint) out there asks = absurd asks.1
 
 -- a call leaves the shard and the place
 pub same_way : (way : CatchUpValue) (call : NodeCall) (out : CatchUpCallValue) → catching.Asks way call out → (out.held.shard ≡ way.shard) × (out.held.to ≡ way.to)
@@ -49,6 +51,7 @@ same_way way (Coordinator (calls.Outcome d)) out asks = absurd asks
 same_way way (Coordinator (calls.Abort i)) out asks = absurd asks
 same_way way (Coordinator (calls.Inquire id)) out asks = absurd asks
 same_way way (Coordinator (calls.Raise place ss)) out asks = absurd asks
+same_way way (Coordinator calls.Checkpoint) out asks = absurd asks
 same_way way (Coordinator calls.Flush) out asks = absurd asks
 same_way way (Shard s shard_calls.Learned) out asks = let e = asks.1 in (ap (λ (o : CatchUpCallValue). o.held.shard) e, ap (λ (o : CatchUpCallValue). o.held.to) e)
 same_way way (Shard s (shard_calls.Learn b)) out asks = let e = asks.1.1 in (ap (λ (o : CatchUpCallValue). o.held.shard) e, ap (λ (o : CatchUpCallValue). o.held.to) e)
@@ -61,6 +64,7 @@ same_way way (Shard s (shard_calls.Read place set)) out asks = absurd asks.1
 same_way way (Shard s (shard_calls.ReadForCheck place x u)) out asks = absurd asks.1
 same_way way (Shard s shard_calls.Settle) out asks = absurd asks.1
 same_way way (Shard s (shard_calls.Collect h)) out asks = absurd asks.1
+same_way way (Shard s shard_calls.Checkpoint) out asks = absurd asks.1
 
 is_collected : (e : Refusal) → (e ≡ Collected) ⊎ (e ≢ Collected)
 is_collected Collected = inl refl
@@ -133,6 +137,7 @@ goes_on call (from_coordinator (told.Abort r)) c fits gives = absurd gives
 goes_on call (from_coordinator (told.Inquire r)) c fits gives = absurd gives
 goes_on call (from_coordinator (told.Raise r)) c fits gives = absurd gives
 goes_on call (from_coordinator (told.Flush r)) c fits gives = absurd gives
+goes_on call (from_coordinator (told.Checkpoint r)) c fits gives = absurd gives
 goes_on call (from_shard (told_by.Learned (Ok n))) c fits gives = ⊎_elim
     (λ (below : n < call.held.to). with_batch call c _ _ _ _ (gives.1 below))
     (λ (there : call.held.to ≤ n). absurd (let wrong = gives.0 there in cc))
@@ -150,3 +155,4 @@ goes_on call (from_shard (told_by.Read set r)) c fits gives = absurd gives
 goes_on call (from_shard (told_by.ReadForCheck x u r)) c fits gives = absurd gives
 goes_on call (from_shard (told_by.Settle r)) c fits gives = absurd gives
 goes_on call (from_shard (told_by.Collect h r)) c fits gives = absurd gives
+goes_on call (from_shard (told_by.Checkpoint r)) c fits gives = absurd gives

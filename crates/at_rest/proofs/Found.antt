@@ -1,5 +1,5 @@
 -- What is found in devices that were just opened.
-use Rattle.std.proofs.Common.{◌≡◌, ◌≤◌, ◌<◌, ◌+◌, ◌*◌, ℕ, List, [], ◌∷◌, length, Some, slice_index_or, refl, sym, ◌∙◌, ap, subst, arith}
+use Rattle.std.proofs.Common.{◌≡◌, ◌≤◌, ◌<◌, ◌+◌, ◌*◌, ℕ, List, [], ◌∷◌, length, Some, drop, slice_index_or, refl, sym, ◌∙◌, ap, subst, arith}
 use Rattle.std.proofs.lemmas.List.{get_or_default}
 use Rattle.std.proofs.lemmas.Option.{same_Some}
 use Rattle.device.specs.Device.{Leaves, State, left}
@@ -8,30 +8,11 @@ use Rattle.device.proofs.Moments.{leaves_itself, leaves_nothing_else}
 use Rattle.journal.specs.Records.{Finds, found, or_none}
 use Rattle.locked.specs.Opening.{RestAt}
 use Rattle.records.specs.declared.record.Record.{Record}
-use Rattle.records.specs.declared.record.Record.TheVariants.{Decision, Dropped, Epoch, Horizon, Learned, Prepare}
-use Rattle.records.specs.Coordinators.{CoordinatorState, coordinator_from, coordinator_state, coordinator_step, empty_coordinator}
+use Rattle.records.specs.Coordinators.{CoordinatorState, coordinator_state, empty_coordinator}
 use Rattle.ties.specs.ShardTies.{RowsAnywhere}
 use Rattle.ties.specs.Ties.{Anywhere, IsLonger}
 use Rattle.tuples.specs.declared.entry.Entry.{Entry}
-use Rattle.at_rest.specs.AtRest.{IsAtRest, found_coordinator}
-
--- no record raises the base
-base_stays : (s : CoordinatorState) (r : Record) → (coordinator_step s r).base ≡ s.base
-unfolding coordinator_step
-base_stays s (Prepare w) = refl
-base_stays s (Learned to placed_ids) = refl
-base_stays s (Dropped id) = refl
-base_stays s (Epoch epoch store shards node) = refl
-base_stays s (Decision place w) = refl
-base_stays s (Horizon place) = refl
-
-base_from : (s : CoordinatorState) (rs : List Record) → (coordinator_from s rs).base ≡ s.base
-base_from s [] = refl
-base_from s (r ∷ rs) = base_from (coordinator_step s r) rs ∙ base_stays s r
-
-pub base_is_zero : (rs : List Record) → (coordinator_state rs).base ≡ 0
-unfolding coordinator_state
-base_is_zero rs = base_from empty_coordinator rs
+use Rattle.at_rest.specs.AtRest.{AreAtRest, RestsAtOne, found_coordinator}
 
 -- a stop leaves what was found, and nothing else
 pub leaves_seen : (s : State) → IsFresh s.seen s → left s s.seen
@@ -72,9 +53,9 @@ module _ {D : Type 0} (state : D → State) (honest : D → Type 0) (shards : �
   -- Whoever finds the list in the coordinator's devices, and each shard's rows of it in the others, has found devices at rest.
   pub at_rest_with : (rs : List Record) (whole : List Entry) → IsFresh (state coordinator_a).seen (state coordinator_a) → IsFresh (state coordinator_b).seen (state coordinator_b)
       → found (state coordinator_a).seen (state coordinator_b).seen ≡ Some rs → honest coordinator_a → honest coordinator_b
-      → (coordinator_state rs).log ≡ whole → IsLonger whole (coordinator_state rs).horizon [] (coordinator_state rs)
+      → (coordinator_state rs).log ≡ drop (coordinator_state rs).base whole → IsLonger whole (coordinator_state rs).horizon [] (coordinator_state rs)
       → ((k : ℕ) → k < shards → RowsAnywhere state honest shards k (slice_index_or devices (2 * k + 2) any) (slice_index_or devices (2 * k + 3) any) whole (coordinator_state rs).horizon)
-      → IsAtRest state honest shards devices
+      → AreAtRest state honest shards devices
   at_rest_with rs whole fresh_a fresh_b is honest_a honest_b log_is longer rows =
       let low : ℕ = (coordinator_state rs).horizon in
       let here : Anywhere state honest coordinator_a coordinator_b whole low [] = record {
@@ -91,5 +72,9 @@ module _ {D : Type 0} (state : D → State) (honest : D → Type 0) (shards : �
             (subst (λ (y : D). RowsAnywhere state honest shards k (slice_index_or devices (2 * k + 2) any) y whole low) (same_device (2 * k + 3) other (omega (arith, count, lt))) (rows k lt));
       } in
       let read : found_coordinator state devices ≡ coordinator_state rs = found_is state devices any (omega (arith, count)) ∙ ap (λ o. coordinator_state (or_none o)) is in
-      subst (λ (c : CoordinatorState). RestAt state honest shards c.log c.horizon devices) (sym read)
-      (subst (λ (l : List Entry). RestAt state honest shards l low devices) (sym log_is) rest)
+      subst (λ (c : CoordinatorState). RestsAtOne state honest shards devices c) (sym read) (record {
+        first = whole;
+        known = log_is;
+        rests = rest;
+        whole = λ zero. subst (λ (l : List Entry). RestAt state honest shards l low devices) (sym (log_is ∙ ap (λ (b : ℕ). drop b whole) zero)) rest;
+      })

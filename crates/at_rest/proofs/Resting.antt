@@ -21,9 +21,9 @@ use Rattle.ties.proofs.ShardOpening.{longer_lists_stay_tied}
 use Rattle.tuples.specs.declared.entry.Entry.{Entry}
 use Rattle.turns.specs.Stands.{at_shards}
 use Rattle.turns.specs.Stores.{RestsOver, stops}
-use Rattle.at_rest.specs.AtRest.{IsAtRest}
+use Rattle.at_rest.specs.AtRest.{AreAtRest}
 use Rattle.at_rest.specs.RestingLaws.{AreFoundOf, AreReadable, IsFoundOf, IsJustOpened, WhatIsFoundIsAtRest, WhatRestsIsAtRest}
-use Rattle.at_rest.proofs.Found.{at_rest_with, base_is_zero, leaves_only, leaves_seen}
+use Rattle.at_rest.proofs.Found.{at_rest_with, leaves_only, leaves_seen}
 
 module _ {D : Type 0} (state : D → State) (honest : D → Type 0) (store shards : ℕ) (any : D) (devices : List D) (m : Machine)
     (count : length devices ≡ 2 * (shards + 1)) (fresh : All (IsJustOpened state honest) devices) (rests : RestsOver state honest store shards (devices_at any devices) m) where
@@ -95,9 +95,9 @@ module _ {D : Type 0} (state : D → State) (honest : D → Type 0) (store shard
       subst (λ (i : ℕ). RowsAnywhere state honest shards k (slice_index_or devices (2 * k + 2) any) (slice_index_or devices i any) whole s.horizon) other
       (subst (λ (i : ℕ). RowsAnywhere state honest shards k (slice_index_or devices i any) (slice_index_or devices (2 * (k + 1) + 1) any) whole s.horizon) one here)
 
-  rested : IsAtRest state honest shards devices
+  rested : AreAtRest state honest shards devices
   rested = at_rest_with state honest shards devices any count read.0 whole fresh_a fresh_b read.1 (rests.sound.honest_a coordinator tt) (rests.sound.honest_b coordinator tt)
-      (means.decided.decisions ∙ ap (λ (b : ℕ). drop b whole) (base_is_zero read.0)) longer rows
+      means.decided.decisions longer rows
 
 pub what_rests_is_at_rest : {D : Type 0} (state : D → State) (honest : D → Type 0) → WhatRestsIsAtRest state honest
 what_rests_is_at_rest state honest store shards any devices m count fresh rests = rested state honest store shards any devices m count fresh rests
@@ -158,9 +158,9 @@ module _ {D : Type 0} (state : D → State) (honest : D → Type 0) (shards : �
         );
       }
 
-  found_at_rest : IsAtRest state honest shards news
+  found_at_rest : AreAtRest state honest shards news
   found_at_rest = at_rest_with state honest shards news any (same_count ∙ count) read_anew.0 all of_a.opened of_b.opened read_anew.1 of_a.is_honest of_b.is_honest
-      (was_longer.are.decisions ∙ ap (λ (b : ℕ). drop b all) (base_is_zero read_anew.0)) no_longer rows_found
+      was_longer.are.decisions no_longer rows_found
 
 pub what_is_found_is_at_rest : {D : Type 0} (state : D → State) (honest : D → Type 0) → WhatIsFoundIsAtRest state honest
 what_is_found_is_at_rest state honest shards any first low olds news count same_count rests readable found_of =

@@ -9,7 +9,7 @@ use Rattle.locked.specs.Opening.{RestAt}
 use Rattle.records.specs.declared.record.Record.{Record}
 use Rattle.tuples.specs.declared.entry.Entry.{Entry}
 use Rattle.turns.specs.Stores.{RestsOver}
-use Rattle.at_rest.specs.AtRest.{IsAtRest}
+use Rattle.at_rest.specs.AtRest.{AreAtRest}
 
 module _ {D : Type 0} (state : D → State) (honest : D → Type 0) where
   -- it was just opened: what it reads is durable, and nothing was written since
@@ -19,7 +19,7 @@ module _ {D : Type 0} (state : D → State) (honest : D → Type 0) where
   -- Whatever machine a closed store rests at: where all its devices were just opened, they are at rest.
   abbrev pub WhatRestsIsAtRest : Type 0
   WhatRestsIsAtRest = (store shards : ℕ) (any : D) (devices : List D) (m : Machine) → length devices ≡ 2 * (shards + 1) → All IsJustOpened devices
-      → RestsOver state honest store shards (devices_at any devices) m → IsAtRest state honest shards devices
+      → RestsOver state honest store shards (devices_at any devices) m → AreAtRest state honest shards devices
 
   -- whatever a stop leaves of the two devices holds records
   abbrev pub AreReadable : D → D → Type 0
@@ -38,4 +38,4 @@ module _ {D : Type 0} (state : D → State) (honest : D → Type 0) where
   -- Whatever list devices rest at, with more behind it or not: where the coordinator's can be read, those that find what a stop leaves are at rest.
   abbrev pub WhatIsFoundIsAtRest : Type 0
   WhatIsFoundIsAtRest = (shards : ℕ) (any : D) (first : List Entry) (low : ℕ) (olds news : List D) → length olds ≡ 2 * (shards + 1) → length news ≡ length olds
-      → RestAt state honest shards first low olds → AreReadable (slice_index_or olds 0 any) (slice_index_or olds 1 any) → AreFoundOf olds news → IsAtRest state honest shards news
+      → RestAt state honest shards first low olds → AreReadable (slice_index_or olds 0 any) (slice_index_or olds 1 any) → AreFoundOf olds news → AreAtRest state honest shards news

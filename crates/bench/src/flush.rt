@@ -3,7 +3,7 @@ ghost use Rattle.records.specs.Format.{AreRecords};
 
 use crate::touches::two_disks;
 use device::{Device, SimDisk};
-use journal::Journal;
+use journal::{Journal, is_plain};
 use measures::sample::{batch_of, records_of};
 use measures::timing::{Done, print};
 use records::Record;
@@ -26,6 +26,9 @@ fn stage_and_flush<D: Device>(journal: &mut Journal<D>, records: &[Record]) -> R
     requires { AreRecords records.now }
 {
     for record in records {
+        if !is_plain(record) {
+            return Err(Refusal::Damaged);
+        }
         journal.stage(record)?;
     }
     journal.flush()

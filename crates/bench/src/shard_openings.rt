@@ -1,5 +1,6 @@
 // How long an opening of a shard takes over records of so many writes, and how much memory.
 ghost use Rattle.std.specs.Prelude.{◌≤◌, IfOk};
+ghost use Rattle.journal.specs.Rest.{IsPlain};
 ghost use Rattle.records.specs.Format.{IsPrepared, IsRecord};
 
 use crate::openings::{entry, new_journal, print_made};
@@ -132,7 +133,8 @@ fn stage_prepare<D: Device>(journal: &mut Journal<D>, prepare: &Entry) -> Result
 }
 
 fn stage_learned<D: Device>(journal: &mut Journal<D>, learned: &Record) -> Result<(), Refusal>
-    requires { IsRecord learned.now }
+    requires spellable { IsRecord learned.now }
+    requires plain { IsPlain learned.now }
 {
     if journal.stage(learned).is_ok() {
         return Ok(());
@@ -144,7 +146,8 @@ fn stage_learned<D: Device>(journal: &mut Journal<D>, learned: &Record) -> Resul
 fn learned(alloc: Global, number: u64) -> Result<Record, AllocError>
     requires some { 1 ≤ number }
     requires fits { number ≤ 4294967296 }
-    ensures { IfOk result IsRecord }
+    ensures spellable { IfOk result IsRecord }
+    ensures plain { IfOk result IsPlain }
 {
     let placed_id = PlacedId {
         id: WriteId { epoch: 1, number },

@@ -1,25 +1,28 @@
 -- A node that goes down in a call: it was flushed, and a device of it has the cause.
-use Rattle.std.proofs.Common.{◌≡◌, ◌≢◌, ◌⊎◌, inl, inr, Bool, true, false, ℕ, List, Result, Ok, Err, refl, sym, ◌∙◌, ap, if◌then◌else◌}
-use Rattle.std.specs.Result.{OnOk, OnErr}
-use Rattle.call_turns.proofs.Words.{Answered, Coordinator, CoordinatorCall, CoordinatorView, HasDeviceCause, IsNode, IsRunning, IsUp, Moment, NodeCall, NodeName, NodeView, NotRaised, Record, Refusal, Reply, SettledValue, Shard, ShardCall, ShardView, StandsOver, State, Stays, Store, VerdictValue, coordinator, down, from_coordinator, from_shard, shard, shown, up}
+use Rattle.std.proofs.Common.{◌≡◌, ◌≢◌, ◌⊎◌, inl, inr, ⊎_elim, Bool, true, false, ℕ, List, [], Result, Ok, Err, refl, sym, ◌∙◌, ap, if◌then◌else◌}
+use Rattle.std.specs.Result.{OnOk, OnErr, IfErr, IsErrOf}
+use Rattle.call_turns.proofs.Words.{Answered, Coordinator, CoordinatorCall, CoordinatorView, Down, Full, HasDeviceCause, IsNode, IsRunning, IsUp, Moment, NoMemory, NodeCall, NodeName, NodeView, NotRaised, Record, Refusal, Reply, SettledValue, Shard, ShardCall, ShardView, StandsOver, State, Stays, Store, VerdictValue, coordinator, down, from_coordinator, from_shard, shard, shown, up}
 use Rattle.tuples.specs.Writes.{WriteValue}
-use Rattle.journal.specs.Records.{HasCause}
+use Rattle.journal.specs.Ahead.{HasPointCause}
+use Rattle.journal.specs.Records.{HasCause, View}
+use Rattle.decisions.specs.Checkpoints.{next_checkpoint}
 use Rattle.decisions.specs.Coordinators.{coordinator_journal}
 use Rattle.decisions.specs.Standing.{DecidedValue}
 use Rattle.decisions.specs.Values.{IntentValue, VoteValue}
 use Rattle.coordinator.specs.declared.decided.NotDecided.{NotDecided}
+use Rattle.shard.specs.Checkpoints.{ChecksPointAt}
 use Rattle.shard.specs.Shards.{journal_of}
 use Rattle.calls.specs.Asking.{CoordinatorAnswers, ShardAnswers}
-use Rattle.calls.specs.CoordinatorAnswers.{AbortAnswers, BeginAnswers, DecideAnswers, RaiseAnswers}
-use Rattle.calls.specs.ShardAnswers.{FlushAnswers}
+use Rattle.calls.specs.CoordinatorAnswers.{AbortAnswers, BeginAnswers, CheckpointAnswers, DecideAnswers, RaiseAnswers}
+use Rattle.calls.specs.ShardAnswers as by_shard
 use Rattle.calls.specs.Views as views
-use Rattle.calls.specs.declared.call.CoordinatorCall.TheVariants.{Begin, Heads, Batch, Decide, Outcome, Abort, Inquire, Raise, Flush}
-use Rattle.calls.specs.declared.call.ShardCall.TheVariants.{Learned, Learn, StagePrepare, Vote, DropWrite, InDoubt, Read, ReadForCheck, Settle, Collect, Flush as flush_shard}
+use Rattle.calls.specs.declared.call.CoordinatorCall.TheVariants.{Begin, Heads, Batch, Decide, Outcome, Abort, Inquire, Raise, Flush, Checkpoint}
+use Rattle.calls.specs.declared.call.ShardCall.TheVariants.{Learned, Learn, StagePrepare, Vote, DropWrite, InDoubt, Read, ReadForCheck, Settle, Collect, Flush as flush_shard, Checkpoint as checkpoint_shard}
 use Rattle.calls.specs.declared.reply.CoordinatorReply.{CoordinatorReply}
 use Rattle.calls.specs.declared.reply.CoordinatorReply.TheVariants as told
 use Rattle.calls.specs.declared.reply.ShardReply.{ShardReply}
 use Rattle.calls.specs.declared.reply.ShardReply.TheVariants as told_by
-use Rattle.turns.proofs.Rooms.{failed_flushes_have_cause}
+use Rattle.turns.proofs.Rooms.{failed_points_have_cause}
 use Rattle.call_turns.specs.CallLaws.{FailedCallsHaveCause}
 use Rattle.call_turns.proofs.Standing.{runs_now, shard_is_up}
 
@@ -36,10 +39,23 @@ is_up_of false durable staged not_down = refl
 stays_up : (was is : Bool) → was ≡ false → is ≡ was → is ≡ true → ⊥
 stays_up was is was_up same gone = let both : true ≡ false = sym gone ∙ same ∙ was_up in absurd cc
 
+-- what a flush that failed has as a cause, a checkpoint has
+flush_cause : {D : Type 0} (state : D → State) (honest : D → Type 0) (old new : View D) → HasCause state honest old new → HasPointCause state honest old new
+flush_cause state honest old new cause = ⊎_elim (λ of_a. inl of_a) (λ rest. inr (⊎_elim (λ of_b. inl of_b) (λ lacks. inr (inl lacks)) rest)) cause
+
 -- a flush that left down what was up has its cause
 flushed : (P Q : Type 0) (was is : Bool) (r : Result (Unit {0}) Refusal) → was ≡ false → is ≡ true → OnOk r ((was ≡ false) × (is ≡ false) × P) → OnErr r ((was ≡ true) ⊎ Q) → Q
 flushed P Q was is (Ok done) was_up gone ok err = let both : true ≡ false = sym gone ∙ ok.1 in absurd cc
 flushed P Q was is (Err e) was_up gone ok err = elim err [ inl before ↦ (let both : true ≡ false = sym before ∙ was_up in absurd cc) | inr cause ↦ cause ]
+
+-- and so has a checkpoint
+checkpointed : (A : Type 0) (P : Refusal → Type 0) (Q : Type 0) (was is : Bool) (r : Result (Unit {0}) Refusal) → was ≡ false → is ≡ true → OnOk r (is ≡ false)
+    → IfErr r (λ e. ((e ≡ Down) × (is ≡ true)) ⊎ (A × P e)) → (A → is ≡ was) → (IsErrOf r Down → (was ≡ true) ⊎ Q) → Q
+checkpointed A P Q was is (Ok done) was_up gone ok err same cause = let both : true ≡ false = sym gone ∙ ok in absurd cc
+checkpointed A P Q was is (Err e) was_up gone ok err same cause = elim err [
+  | inl failed ↦ elim (cause (ap (λ (x : Refusal). Err x) failed.0)) [ inl before ↦ (let both : true ≡ false = sym before ∙ was_up in absurd cc) | inr has ↦ has ]
+  | inr other ↦ absurd (stays_up was is was_up (same other.0) gone)
+]
 
 module _ {D : Type 0} (state : D → State) (honest : D → Type 0) where
   begun : (v w : CoordinatorView D) (write : WriteValue) (r : Result IntentValue Refusal) → IsRunning state honest v → BeginAnswers state honest v write r w → w.is_down ≡ v.is_down
@@ -61,8 +77,16 @@ module _ {D : Type 0} (state : D → State) (honest : D → Type 0) where
   raised v w place settled (Err e) runs a = ap (λ (x : CoordinatorView D). x.is_down) (a.err.0)
 
 module _ {D : Type 0} (state : D → State) (honest : D → Type 0) (moment : D → ℕ) (left_since : D → ℕ → List ℕ → Type 0) where
+  coordinator_checkpointed : (v w : CoordinatorView D) (r : Result (Unit {0}) Refusal) → IsRunning state honest v → w.is_down ≡ true → CheckpointAnswers state honest moment left_since v r w
+      → HasPointCause state honest (coordinator_journal v) (coordinator_journal w)
+  coordinator_checkpointed v w r runs is a = checkpointed (w ≡ v) (λ e. (e ≡ NoMemory) ⊎ (e ≡ Full)) _ v.is_down w.is_down r runs.up is (comes_up r (a.ok runs)) a.err (λ same. ap (λ (x : CoordinatorView D). x.is_down) same) a.cause
+    where
+      comes_up : (r : Result (Unit {0}) Refusal) → OnOk r (IsRunning state honest w × (w.durable ≡ next_checkpoint v) × (w.staged ≡ []) × (w.is_down ≡ false)) → OnOk r (w.is_down ≡ false)
+      comes_up (Ok done) all = all.3
+      comes_up (Err e) all = tt
+
   coordinator_fails : (v w : CoordinatorView D) (call : CoordinatorCall) (reply : CoordinatorReply) → IsRunning state honest v → w.is_down ≡ true
-      → CoordinatorAnswers state honest moment left_since v call reply w → HasCause state honest (coordinator_journal v) (coordinator_journal w)
+      → CoordinatorAnswers state honest moment left_since v call reply w → HasPointCause state honest (coordinator_journal v) (coordinator_journal w) × honest w.a × honest w.b
   coordinator_fails v w (Begin write) (told.Begin r) runs is a = absurd (stays_up v.is_down w.is_down runs.up (begun state honest v w write r runs a) is)
   coordinator_fails v w Heads (told.Heads r) runs is a = absurd (stays_up v.is_down w.is_down runs.up (ap (λ (x : CoordinatorView D). x.is_down) a.0) is)
   coordinator_fails v w (Batch from to) (told.Batch r) runs is a = absurd (stays_up v.is_down w.is_down runs.up (ap (λ (x : CoordinatorView D). x.is_down) a.0) is)
@@ -71,7 +95,12 @@ module _ {D : Type 0} (state : D → State) (honest : D → Type 0) (moment : D 
   coordinator_fails v w (Abort intent) (told.Abort r) runs is a = absurd (stays_up v.is_down w.is_down runs.up (aborted state honest v w intent r runs a) is)
   coordinator_fails v w (Inquire id) (told.Inquire r) runs is a = absurd (stays_up v.is_down w.is_down runs.up (ap (λ (x : CoordinatorView D). x.is_down) a.0) is)
   coordinator_fails v w (Raise place settled) (told.Raise r) runs is a = absurd (stays_up v.is_down w.is_down runs.up (raised state honest v w place settled.items r runs a) is)
-  coordinator_fails v w Flush (told.Flush r) runs is a = flushed _ _ v.is_down w.is_down r runs.up is a.up a.cause
+  coordinator_fails v w Flush (told.Flush r) runs is a = (
+    flush_cause state honest (coordinator_journal v) (coordinator_journal w) (flushed _ _ v.is_down w.is_down r runs.up is a.up a.cause),
+    a.still_honest.0.0 runs.honest_a,
+    a.still_honest.1.0 runs.honest_b,
+  )
+  coordinator_fails v w Checkpoint (told.Checkpoint r) runs is a = (coordinator_checkpointed v w r runs is a, a.still_honest.0.0 runs.honest_a, a.still_honest.1.0 runs.honest_b)
   coordinator_fails v w call reply runs is a = absurd a
 
   same_down : (v w : ShardView D) → w ≡ v → w.is_down ≡ v.is_down
@@ -81,13 +110,21 @@ module _ {D : Type 0} (state : D → State) (honest : D → Type 0) (moment : D 
   stays_down v w is = ap (λ (x : ShardView D). x.is_down) is
 
   -- where its flush answered Ok, it is up
-  shard_flushed : (v w : ShardView D) (r : Result (Unit {0}) Refusal) → IsUp state honest v → w.is_down ≡ true → FlushAnswers state honest moment left_since v r w
+  shard_flushed : (v w : ShardView D) (r : Result (Unit {0}) Refusal) → IsUp state honest v → w.is_down ≡ true → by_shard.FlushAnswers state honest moment left_since v r w
       → HasCause state honest (journal_of v) (journal_of w)
   shard_flushed v w (Ok done) is_up is a = let both : true ≡ false = sym is ∙ (a.ok is_up).up.up in absurd cc
   shard_flushed v w (Err e) is_up is a = elim a.cause [ inl gone ↦ (let both : true ≡ false = sym gone ∙ is_up.up in absurd cc) | inr cause ↦ cause ]
 
+  shard_checkpointed : (v w : ShardView D) (r : Result (Unit {0}) Refusal) → IsUp state honest v → w.is_down ≡ true → by_shard.CheckpointAnswers state honest moment left_since v r w
+      → HasPointCause state honest (journal_of v) (journal_of w)
+  shard_checkpointed v w r is_up is a = checkpointed (w ≡ v) (λ e. (e ≡ NoMemory) ⊎ (e ≡ Full)) _ v.is_down w.is_down r is_up.up is (comes_up r (a.ok is_up)) a.err (λ same. ap (λ (x : ShardView D). x.is_down) same) a.cause
+    where
+      comes_up : (r : Result (Unit {0}) Refusal) → OnOk r (ChecksPointAt state honest v w) → OnOk r (w.is_down ≡ false)
+      comes_up (Ok done) all = all.up.up
+      comes_up (Err e) all = tt
+
   shard_fails : (v w : ShardView D) (call : ShardCall) (reply : ShardReply) → IsUp state honest v → w.is_down ≡ true
-      → ShardAnswers state honest moment left_since v call reply w → HasCause state honest (journal_of v) (journal_of w)
+      → ShardAnswers state honest moment left_since v call reply w → HasPointCause state honest (journal_of v) (journal_of w) × honest w.a × honest w.b
   shard_fails v w Learned (told_by.Learned r) is_up is a = absurd (stays_up v.is_down w.is_down is_up.up (same_down v w a.0) is)
   shard_fails v w (Learn batch) (told_by.Learn back r) is_up is a = absurd (stays_up v.is_down w.is_down is_up.up (stays_down v w a.1.stays) is)
   shard_fails v w (StagePrepare intent) (told_by.StagePrepare back r) is_up is a = absurd (stays_up v.is_down w.is_down is_up.up (stays_down v w a.1.stays) is)
@@ -98,7 +135,12 @@ module _ {D : Type 0} (state : D → State) (honest : D → Type 0) (moment : D 
   shard_fails v w (ReadForCheck place x u) (told_by.ReadForCheck back_x back_u r) is_up is a = absurd (stays_up v.is_down w.is_down is_up.up (same_down v w a.0) is)
   shard_fails v w Settle (told_by.Settle r) is_up is a = absurd (stays_up v.is_down w.is_down is_up.up (same_down v w a.0) is)
   shard_fails v w (Collect heads) (told_by.Collect back r) is_up is a = absurd (stays_up v.is_down w.is_down is_up.up (stays_down v w a.1.stays) is)
-  shard_fails v w flush_shard (told_by.Flush r) is_up is a = shard_flushed v w r is_up is a
+  shard_fails v w flush_shard (told_by.Flush r) is_up is a = (
+    flush_cause state honest (journal_of v) (journal_of w) (shard_flushed v w r is_up is a),
+    a.still_honest.0.0 is_up.honest_a,
+    a.still_honest.1.0 is_up.honest_b,
+  )
+  shard_fails v w checkpoint_shard (told_by.Checkpoint r) is_up is a = (shard_checkpointed v w r is_up is a, a.still_honest.0.0 is_up.honest_a, a.still_honest.1.0 is_up.honest_b)
   shard_fails v w call reply is_up is a = absurd a
 
 module _ {D : Type 0} (state : D → State) (honest : D → Type 0) (moment : D → ℕ) (left_since : D → ℕ → List ℕ → Type 0) (store shards : ℕ) where
@@ -107,18 +149,18 @@ module _ {D : Type 0} (state : D → State) (honest : D → Type 0) (moment : D 
       → shown (views.coordinator w) ≡ down → shown (views.coordinator v) ≢ down → HasDeviceCause state honest moment left_since store shards old.devices new.devices coordinator
   of_coordinator old new now v w call reply standing before after answered is_down not_down =
       let runs = runs_now state honest store shards old now standing v before (is_up_of v.is_down v.durable v.staged not_down) in
-      failed_flushes_have_cause state honest moment left_since store shards old.devices new.devices coordinator (coordinator_journal v) (coordinator_journal w)
-      (sym (ap (λ (p : D × D). p.0) before.devices)) (sym (ap (λ (p : D × D). p.1) before.devices)) (sym (ap (λ (p : D × D). p.0) after.devices)) (sym (ap (λ (p : D × D). p.1) after.devices)) runs.honest_a
-      (coordinator_fails state honest moment left_since v w call reply runs (is_down_of w.is_down w.durable w.staged is_down) answered)
+      let fails = coordinator_fails state honest moment left_since v w call reply runs (is_down_of w.is_down w.durable w.staged is_down) answered in
+      failed_points_have_cause state honest moment left_since store shards old.devices new.devices coordinator (coordinator_journal v) (coordinator_journal w)
+      (sym (ap (λ (p : D × D). p.0) before.devices)) (sym (ap (λ (p : D × D). p.1) before.devices)) (sym (ap (λ (p : D × D). p.0) after.devices)) (sym (ap (λ (p : D × D). p.1) after.devices)) runs.honest_a runs.honest_b fails.1 fails.2 fails.0
 
   of_shard : (old new : Store D) (now : Moment) (s : ℕ) (v w : ShardView D) (call : ShardCall) (reply : ShardReply) → StandsOver state honest store shards old now
       → IsNode store shards old (shard s) (views.shard v) → IsNode store shards new (shard s) (views.shard w) → ShardAnswers state honest moment left_since v call reply w
       → shown (views.shard w) ≡ down → shown (views.shard v) ≢ down → HasDeviceCause state honest moment left_since store shards old.devices new.devices (shard s)
   of_shard old new now s v w call reply standing before after answered is_down not_down =
       let is_up = shard_is_up state honest store shards old now standing s v before (is_up_of v.is_down v.durable v.staged not_down) in
-      failed_flushes_have_cause state honest moment left_since store shards old.devices new.devices (shard s) (journal_of v) (journal_of w)
-      (sym (ap (λ (p : D × D). p.0) before.devices)) (sym (ap (λ (p : D × D). p.1) before.devices)) (sym (ap (λ (p : D × D). p.0) after.devices)) (sym (ap (λ (p : D × D). p.1) after.devices)) is_up.honest_a
-      (shard_fails state honest moment left_since v w call reply is_up (is_down_of w.is_down w.durable w.staged is_down) answered)
+      let fails = shard_fails state honest moment left_since v w call reply is_up (is_down_of w.is_down w.durable w.staged is_down) answered in
+      failed_points_have_cause state honest moment left_since store shards old.devices new.devices (shard s) (journal_of v) (journal_of w)
+      (sym (ap (λ (p : D × D). p.0) before.devices)) (sym (ap (λ (p : D × D). p.1) before.devices)) (sym (ap (λ (p : D × D). p.0) after.devices)) (sym (ap (λ (p : D × D). p.1) after.devices)) is_up.honest_a is_up.honest_b fails.1 fails.2 fails.0
 
   -- the node that is called has the name of its kind
   of_any_coordinator : (old new : Store D) (now : Moment) (n : NodeName) (v w : CoordinatorView D) (call : CoordinatorCall) (reply : CoordinatorReply) → StandsOver state honest store shards old now

@@ -4,9 +4,8 @@ use Rattle.std.proofs.lemmas.Bool.{cases_Bool}
 use Rattle.std.proofs.lemmas.List.{append-nil}
 use Rattle.std.proofs.lemmas.Option.{same_Some}
 use Rattle.call_turns.proofs.Words.{Answered, AreSound, CoordinatorView, Down, IsAway, IsCalled, IsMade, IsQuietCall, IsRunning, IsSeen, IsUp, Machine, Moment, NodeName, NodeState, NodeView, Nodes, Record, Refusal, ShardIsSeen, ShardView, ShowsNodes, StandFor, StandsOver, State, Store, Unsure, behind, behind_shard, coordinator, down, elsewhere, found, from_coordinator, from_shard, here, left, of_coordinator, of_shard, refused, shard, staged_of, up}
-use Rattle.journal.specs.Records.{HasOldOrNew, LeavesBoth}
+use Rattle.journal.specs.Records.{HasOldOrNew, LeavesBoth, LeavesEach}
 use Rattle.decisions.specs.Coordinators.{KeepsOpen}
-use Rattle.coordinator.proofs.Openings.{leaves_weaker}
 use Rattle.calls.specs.Views as views
 use Rattle.calls.specs.declared.call.CoordinatorCall.TheVariants as coordinator_calls
 use Rattle.calls.specs.declared.call.ShardCall.TheVariants as shard_calls
@@ -32,8 +31,8 @@ module _ {D : Type 0} (state : D → State) (honest : D → Type 0) (moment : D 
     (store shards : ℕ) (old new : Store D) (now : Moment) (standing : StandsOver state honest store shards old now) where
   -- a flush by the same records is one by records that stand for the same
   same_records : (n : NodeName) (durable staged : List Record) (a b new_a new_b : D) → LeavesBoth moment left_since a b new_a new_b (HasOldOrNew durable staged)
-      → LeavesBoth moment left_since a b new_a new_b (HasOldOrSame n durable staged)
-  same_records n durable staged a b new_a new_b m = leaves_weaker moment left_since a b new_a new_b (HasOldOrNew durable staged) (HasOldOrSame n durable staged) m wider
+      → LeavesEach moment left_since a b new_a new_b (HasOldOrSame n durable staged)
+  same_records n durable staged a b new_a new_b m = record { later_a = m.later_a; later_b = m.later_b; each = λ x y in_x in_y. wider x y (m.each x y in_x in_y) }
     where
       wider : (x y : List ℕ) → HasOldOrNew durable staged x y → HasOldOrSame n durable staged x y
       wider x y (inl is) = (durable, is, inl refl)
@@ -41,7 +40,7 @@ module _ {D : Type 0} (state : D → State) (honest : D → Type 0) (moment : D 
 
   -- the devices of one node, behind its flush or a call that leaves records in place of its own
   module _ (n : NodeName) (durable staged : List Record) (a b new_a new_b : D) (at : now.nodes.at n ≡ up durable staged) (was_devices : old.devices n ≡ (a, b)) (is_devices : new.devices n ≡ (new_a, new_b))
-      (others : (k : NodeName) → k ≢ n → new.devices k ≡ old.devices k) (honest_a : honest new_a) (honest_b : honest new_b) (moments : LeavesBoth moment left_since a b new_a new_b (HasOldOrSame n durable staged)) where
+      (others : (k : NodeName) → k ≢ n → new.devices k ≡ old.devices k) (honest_a : honest new_a) (honest_b : honest new_b) (moments : LeavesEach moment left_since a b new_a new_b (HasOldOrSame n durable staged)) where
     durable_left : before state honest moment left_since store shards old new now standing n durable
     durable_left = (standing.stands.nodes.durable n durable staged durable at).1 refl
 
@@ -130,7 +129,7 @@ module _ {D : Type 0} (state : D → State) (honest : D → Type 0) (moment : D 
 
   -- the coordinator's
   module _ (v w : CoordinatorView D) (called : IsCalled state honest moment left_since store shards coordinator (views.coordinator v) (views.coordinator w) old new) (is_up : v.is_down ≡ false)
-      (keeps : KeepsOpen v w) (moments : LeavesBoth moment left_since v.a v.b w.a w.b (HasOldOrSame coordinator v.durable v.staged)) (honest_a : honest w.a) (honest_b : honest w.b) where
+      (keeps : KeepsOpen v w) (moments : LeavesEach moment left_since v.a v.b w.a w.b (HasOldOrSame coordinator v.durable v.staged)) (honest_a : honest w.a) (honest_b : honest w.b) where
     over : IsOverDevices state honest moment left_since store shards old.devices w.a w.b new.devices
     over = record { first = ap (λ (p : D × D). p.0) called.after.devices; second = ap (λ (p : D × D). p.1) called.after.devices; others = called.devices }
 
@@ -171,7 +170,7 @@ module _ {D : Type 0} (state : D → State) (honest : D → Type 0) (moment : D 
 
     pub flushed_ill : w.is_down ≡ true → FailsHere coordinator Down
     flushed_ill is_down =
-        let fails = fails_over_devices state honest moment left_since counts_now store shards old.devices new.devices now v w seen (record { over = over; honest_a = honest_a; honest_b = honest_b; any_moment = moments }) in
+        let fails = fails_over_devices state honest moment left_since counts_now store shards old.devices new.devices now v w seen over honest_a honest_b moments in
         let next = record now.nodes { at = at_coordinator down now.nodes.at } in
         let law = failed_flushes_are_quiet store shards _ _ now next standing.stands fails in
         let shows = shows_nodes state honest moment left_since store shards old new now standing coordinator (views.coordinator v) (views.coordinator w) called next
@@ -182,7 +181,7 @@ module _ {D : Type 0} (state : D → State) (honest : D → Type 0) (moment : D 
 
   -- a shard's
   module _ (s : ℕ) (v w : ShardView D) (called : IsCalled state honest moment left_since store shards (shard s) (views.shard v) (views.shard w) old new) (is_up : v.is_down ≡ false)
-      (moments : LeavesBoth moment left_since v.a v.b w.a w.b (HasOldOrSame (shard s) v.durable v.staged)) (honest_a : honest w.a) (honest_b : honest w.b) where
+      (moments : LeavesEach moment left_since v.a v.b w.a w.b (HasOldOrSame (shard s) v.durable v.staged)) (honest_a : honest w.a) (honest_b : honest w.b) where
     shard_over : IsOver state honest moment left_since store shards old.devices s w.a w.b new.devices
     shard_over = record { first = ap (λ (p : D × D). p.0) called.after.devices; second = ap (λ (p : D × D). p.1) called.after.devices; others = called.devices }
 

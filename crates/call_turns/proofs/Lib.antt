@@ -3,7 +3,10 @@ pub mod Slots
 pub mod Made
 pub mod Standing
 pub mod Turned
+pub mod Named
+pub mod Points
 pub mod Flushed
+pub mod Checkpointed
 pub mod Told
 pub mod Asked
 pub mod Belongs

@@ -13,9 +13,9 @@ use Rattle.shard.specs.declared.replies.VoteReply.TheVariants.{Yes, Later as vot
 use Rattle.calls.specs.declared.call.NodeCall.{NodeCall}
 use Rattle.calls.specs.declared.call.NodeCall.TheVariants.{Coordinator, Shard}
 use Rattle.calls.specs.declared.call.CoordinatorCall.{CoordinatorCall}
-use Rattle.calls.specs.declared.call.CoordinatorCall.TheVariants.{Begin, Heads, Batch, Decide, Outcome, Abort, Inquire, Raise, Flush}
+use Rattle.calls.specs.declared.call.CoordinatorCall.TheVariants.{Begin, Heads, Batch, Decide, Outcome, Abort, Inquire, Raise, Flush, Checkpoint}
 use Rattle.calls.specs.declared.call.ShardCall.{ShardCall}
-use Rattle.calls.specs.declared.call.ShardCall.TheVariants.{Learned, Learn, StagePrepare, Vote, DropWrite, InDoubt, Read, ReadForCheck, Settle, Collect, Flush as flush_shard}
+use Rattle.calls.specs.declared.call.ShardCall.TheVariants.{Learned, Learn, StagePrepare, Vote, DropWrite, InDoubt, Read, ReadForCheck, Settle, Collect, Flush as flush_shard, Checkpoint as checkpoint_shard}
 use Rattle.calls.specs.declared.reply.Reply.{Reply}
 use Rattle.calls.specs.declared.reply.Reply.TheVariants.{Coordinator as from_coordinator, Shard as from_shard}
 use Rattle.calls.specs.declared.reply.CoordinatorReply as coordinators
@@ -50,6 +50,7 @@ refused_coordinator e (Abort intent) (told.Abort r) h = tt
 refused_coordinator e (Inquire id) (told.Inquire r) h = tt
 refused_coordinator e (Raise place settled) (told.Raise (Err back)) h = h.1
 refused_coordinator e Flush (told.Flush r) h = tt
+refused_coordinator e Checkpoint (told.Checkpoint r) h = tt
 refused_coordinator e call reply h = absurd h
 
 refused_shard : (e : Refusal) (s : ℕ) (call : ShardCall) (reply : shards.ShardReply) → ShardRefuses e call reply → IsShardReplyTo s call reply
@@ -64,6 +65,7 @@ refused_shard e s (ReadForCheck place x u) (told_by.ReadForCheck back_x back_u r
 refused_shard e s Settle (told_by.Settle r) h = tt
 refused_shard e s (Collect heads) (told_by.Collect back r) h = h.0
 refused_shard e s flush_shard (told_by.Flush r) h = tt
+refused_shard e s checkpoint_shard (told_by.Checkpoint r) h = tt
 refused_shard e s call reply h = absurd h
 
 pub refused_belongs : (e : Refusal) (call : NodeCall) (reply : Reply) → Refuses e call reply → IsReplyTo call reply
@@ -107,6 +109,7 @@ module _ {D : Type 0} (state : D → State) (honest : D → Type 0) (moment : D 
   answered_coordinator old new (Inquire id) (told.Inquire r) h = tt
   answered_coordinator old new (Raise place settled) (told.Raise r) h = raise_back state honest old new place settled.items r h
   answered_coordinator old new Flush (told.Flush r) h = tt
+  answered_coordinator old new Checkpoint (told.Checkpoint r) h = tt
   answered_coordinator old new call reply h = absurd h
 
   vote_of : (s : ℕ) (v : ShardView D) (ticket : TicketValue) (r : VoteReply) → v.me.node ≡ s → VoteAnswers state honest v ticket r → GivesVote s ticket r
@@ -127,6 +130,7 @@ module _ {D : Type 0} (state : D → State) (honest : D → Type 0) (moment : D 
   answered_shard s old new Settle (told_by.Settle r) is h = tt
   answered_shard s old new (Collect heads) (told_by.Collect back r) is h = h.0
   answered_shard s old new flush_shard (told_by.Flush r) is h = tt
+  answered_shard s old new checkpoint_shard (told_by.Checkpoint r) is h = tt
   answered_shard s old new call reply is h = absurd h
 
   -- whatever a node has answered belongs to the call
@@ -150,6 +154,7 @@ module _ {D : Type 0} (state : D → State) (honest : D → Type 0) (moment : D 
   stays old new Settle (told_by.Settle r) h = ap (λ (v : ShardView D). v.me) h.0
   stays old new (Collect heads) (told_by.Collect back r) h = ap (λ (v : ShardView D). v.me) h.1.stays
   stays old new flush_shard (told_by.Flush r) h = h.me
+  stays old new checkpoint_shard (told_by.Checkpoint r) h = h.me
   stays old new call reply h = absurd h
 
   -- a shard stays that shard, whatever it is asked

@@ -13,9 +13,9 @@ use Rattle.shard.specs.declared.replies.VoteReply.TheVariants.{No}
 use Rattle.calls.specs.declared.call.NodeCall.{NodeCall}
 use Rattle.calls.specs.declared.call.NodeCall.TheVariants.{Coordinator, Shard}
 use Rattle.calls.specs.declared.call.CoordinatorCall.{CoordinatorCall}
-use Rattle.calls.specs.declared.call.CoordinatorCall.TheVariants.{Begin, Heads, Batch, Decide, Outcome, Abort, Inquire, Raise, Flush}
+use Rattle.calls.specs.declared.call.CoordinatorCall.TheVariants.{Begin, Heads, Batch, Decide, Outcome, Abort, Inquire, Raise, Flush, Checkpoint}
 use Rattle.calls.specs.declared.call.ShardCall.{ShardCall}
-use Rattle.calls.specs.declared.call.ShardCall.TheVariants.{Learned, Learn, StagePrepare, Vote, DropWrite, InDoubt, Read, ReadForCheck, Settle, Collect, Flush as flush_shard}
+use Rattle.calls.specs.declared.call.ShardCall.TheVariants.{Learned, Learn, StagePrepare, Vote, DropWrite, InDoubt, Read, ReadForCheck, Settle, Collect, Flush as flush_shard, Checkpoint as checkpoint_shard}
 use Rattle.calls.specs.declared.reply.Reply.{Reply}
 use Rattle.calls.specs.declared.reply.Reply.TheVariants.{Coordinator as from_coordinator, Shard as from_shard}
 use Rattle.calls.specs.declared.reply.CoordinatorReply as coordinators
@@ -37,6 +37,7 @@ MayAskCoordinator shards (Abort intent) = Unit {0}
 MayAskCoordinator shards (Inquire id) = Unit {0}
 MayAskCoordinator shards (Raise place settled) = HaveSettled shards place settled.items
 MayAskCoordinator shards Flush = Unit {0}
+MayAskCoordinator shards Checkpoint = Unit {0}
 
 -- what is owed to a shard of so many
 abbrev pub MayAskShard : ℕ → ℕ → ShardCall → Type 0
@@ -51,6 +52,7 @@ MayAskShard shards s (ReadForCheck place x u) = Unit {0}
 MayAskShard shards s Settle = Unit {0}
 MayAskShard shards s (Collect heads) = Unit {0}
 MayAskShard shards s flush_shard = Unit {0}
+MayAskShard shards s checkpoint_shard = Unit {0}
 
 -- a call that may be made in a store of so many shards, of the node that it names
 abbrev pub MayBeMade : ℕ → NodeCall → Type 0
@@ -84,6 +86,7 @@ CoordinatorRefuses e (Abort intent) (told.Abort r) = r ≡ Err e
 CoordinatorRefuses e (Inquire id) (told.Inquire r) = r ≡ Err e
 CoordinatorRefuses e (Raise place settled) (told.Raise (Err back)) = IsNotRaised e settled.items back
 CoordinatorRefuses e Flush (told.Flush r) = r ≡ Err e
+CoordinatorRefuses e Checkpoint (told.Checkpoint r) = r ≡ Err e
 CoordinatorRefuses e call reply = ⊥
 
 abbrev pub ShardRefuses : Refusal → ShardCall → shards.ShardReply → Type 0
@@ -98,6 +101,7 @@ ShardRefuses e (ReadForCheck place x u) (told_by.ReadForCheck back_x back_u r) =
 ShardRefuses e Settle (told_by.Settle r) = r ≡ Err e
 ShardRefuses e (Collect heads) (told_by.Collect back r) = (back ≡ heads) × (r ≡ Err e)
 ShardRefuses e flush_shard (told_by.Flush r) = r ≡ Err e
+ShardRefuses e checkpoint_shard (told_by.Checkpoint r) = r ≡ Err e
 ShardRefuses e call reply = ⊥
 
 abbrev pub Refuses : Refusal → NodeCall → Reply → Type 0
@@ -117,6 +121,7 @@ module _ {D : Type 0} (state : D → State) (honest : D → Type 0) (moment : D 
   CoordinatorAnswers old (Inquire id) (told.Inquire r) new = (new ≡ old) × by_coordinator.InquireAnswers state honest old id r
   CoordinatorAnswers old (Raise place settled) (told.Raise r) new = by_coordinator.RaiseAnswers state honest old place settled.items r new
   CoordinatorAnswers old Flush (told.Flush r) new = by_coordinator.FlushAnswers state honest moment left_since old r new
+  CoordinatorAnswers old Checkpoint (told.Checkpoint r) new = by_coordinator.CheckpointAnswers state honest moment left_since old r new
   CoordinatorAnswers old call reply new = ⊥
 
   -- What a shard does at a call.
@@ -132,6 +137,7 @@ module _ {D : Type 0} (state : D → State) (honest : D → Type 0) (moment : D 
   ShardAnswers old Settle (told_by.Settle r) new = (new ≡ old) × by_shard.SettleAnswers state honest old r
   ShardAnswers old (Collect heads) (told_by.Collect back r) new = (back ≡ heads) × by_shard.CollectAnswers state honest old heads r new
   ShardAnswers old flush_shard (told_by.Flush r) new = by_shard.FlushAnswers state honest moment left_since old r new
+  ShardAnswers old checkpoint_shard (told_by.Checkpoint r) new = by_shard.CheckpointAnswers state honest moment left_since old r new
   ShardAnswers old call reply new = ⊥
 
   -- What a node does at a call, and what it leaves of itself: its kind stays, and one whose opening was refused is as before.

@@ -12,9 +12,9 @@ use Rattle.names.specs.declared.node_name.NodeName.TheVariants.{Coordinator as n
 use Rattle.calls.specs.declared.call.NodeCall.{NodeCall}
 use Rattle.calls.specs.declared.call.NodeCall.TheVariants.{Coordinator, Shard}
 use Rattle.calls.specs.declared.call.CoordinatorCall.{CoordinatorCall}
-use Rattle.calls.specs.declared.call.CoordinatorCall.TheVariants.{Begin, Heads, Batch, Decide, Outcome, Abort, Inquire, Raise, Flush}
+use Rattle.calls.specs.declared.call.CoordinatorCall.TheVariants.{Begin, Heads, Batch, Decide, Outcome, Abort, Inquire, Raise, Flush, Checkpoint}
 use Rattle.calls.specs.declared.call.ShardCall.{ShardCall}
-use Rattle.calls.specs.declared.call.ShardCall.TheVariants.{Learned, Learn, StagePrepare, Vote, DropWrite, InDoubt, Read, ReadForCheck, Settle, Collect, Flush as flush_shard}
+use Rattle.calls.specs.declared.call.ShardCall.TheVariants.{Learned, Learn, StagePrepare, Vote, DropWrite, InDoubt, Read, ReadForCheck, Settle, Collect, Flush as flush_shard, Checkpoint as checkpoint_shard}
 use Rattle.calls.specs.declared.reply.Reply.{Reply}
 use Rattle.calls.specs.declared.reply.Reply.TheVariants.{Coordinator as from_coordinator, Shard as from_shard}
 use Rattle.calls.specs.declared.reply.CoordinatorReply as coordinators
@@ -48,6 +48,7 @@ IsCoordinatorReplyTo (Abort intent) (told.Abort r) = Unit {0}
 IsCoordinatorReplyTo (Inquire id) (told.Inquire r) = Unit {0}
 IsCoordinatorReplyTo (Raise place settled) (told.Raise r) = GivesSettledBack settled.items r
 IsCoordinatorReplyTo Flush (told.Flush r) = Unit {0}
+IsCoordinatorReplyTo Checkpoint (told.Checkpoint r) = Unit {0}
 IsCoordinatorReplyTo call reply = ⊥
 
 -- A vote is that of the shard, for the write of the ticket; a ticket that comes back is the one that was handed in.
@@ -69,6 +70,7 @@ IsShardReplyTo s (ReadForCheck place x u) (told_by.ReadForCheck back_x back_u r)
 IsShardReplyTo s Settle (told_by.Settle r) = Unit {0}
 IsShardReplyTo s (Collect heads) (told_by.Collect back r) = back ≡ heads
 IsShardReplyTo s flush_shard (told_by.Flush r) = Unit {0}
+IsShardReplyTo s checkpoint_shard (told_by.Checkpoint r) = Unit {0}
 IsShardReplyTo s call reply = ⊥
 
 -- The reply is one to this call, and what was lent comes back as it was, also where the call was refused.

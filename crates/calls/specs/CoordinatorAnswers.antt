@@ -1,5 +1,5 @@
 -- What each call of a coordinator answers, in the words of the coordinator's own contracts.
-use Rattle.std.specs.Prelude.{◌≡◌, ◌⊎◌, ◌↔◌, ◌≤◌, ◌<◌, ℕ, true, false, List, [], Result, Ok, Some, None, All, Contains, IfOk, IfErr, IsErr, IsErrOf, OnOk, OnErr}
+use Rattle.std.specs.Prelude.{◌≡◌, ◌⊎◌, ◌↔◌, ◌≤◌, ◌<◌, ℕ, true, false, List, [], Result, Ok, Err, Some, None, All, Contains, IfOk, IfErr, IsErr, IsErrOf, OnOk, OnErr}
 use Rattle.refusal.specs.declared.refusal.Refusal.{Refusal}
 use Rattle.refusal.specs.declared.refusal.Refusal.TheVariants.{Aborted, Collected, Down, Full, Future, NoMemory}
 use Rattle.tuples.specs.declared.entry.WriteId.{WriteId}
@@ -7,7 +7,11 @@ use Rattle.tuples.specs.Writes.{WriteValue}
 use Rattle.records.specs.declared.record.Record.TheVariants.{Horizon}
 use Rattle.records.specs.Coordinators.{end_of}
 use Rattle.device.specs.Device.{State}
-use Rattle.journal.specs.Records.{HasCause, HasNoRoom, HasOldOrNew, LeavesBoth}
+use Rattle.records.specs.Checkpoints.{generation_of}
+use Rattle.records.specs.Replays.{greatest_number}
+use Rattle.journal.specs.Ahead.{HasPointCause}
+use Rattle.journal.specs.Records.{HasCause, HasNoRoom, HasOldOrNew, LeavesBoth, LeavesEach}
+use Rattle.decisions.specs.Checkpoints.{HasOldNewOrPoint, next_checkpoint}
 use Rattle.decisions.specs.Standing.{DecidedValue}
 use Rattle.decisions.specs.Values.{BatchValue, HeadsValue, IntentValue, SettledValue, VerdictValue, VoteValue}
 use Rattle.decisions.specs.Coordinators.{AbortsAt, BatchesAt, BeginsAt, CoordinatorView, DecidesAt, FindsAt, FindsNone, FindsNothingYet, FirstIs, FlushesAll, HasNoId, HasNoPlace, IsDecidedAbove, IsGivenAt, IsInRange, IsKeptBy, IsOfNow, IsRising, IsRunning, IsStagedBy, KeepsOpen, NamesCollected, NamesFuture, RaisesAt, coordinator_journal, heads_of, kept_of}
@@ -99,3 +103,16 @@ module _ {D : Type 0} (state : D → State) (honest : D → Type 0) where
     pub quiet : old.staged ≡ [] → new ≡ old
     pub cause : OnErr r ((old.is_down ≡ true) ⊎ HasCause state honest (coordinator_journal old) (coordinator_journal new))
     pub err : IfErr r (λ e. (e ≡ Down) × (new.is_down ≡ true))
+
+  -- as a flush, by a checkpoint in place of all records
+  pub record CheckpointAnswers (moment : D → ℕ) (left_since : D → ℕ → List ℕ → Type 0) (old : CoordinatorView D) (r : Result (Unit {0}) Refusal) (new : CoordinatorView D) : Type 0 where
+    pub still_honest : (honest old.a ↔ honest new.a) × (honest old.b ↔ honest new.b)
+    pub any_moment : IsRunning state honest old → LeavesEach moment left_since old.a old.b new.a new.b (HasOldNewOrPoint old)
+    pub ok : IsRunning state honest old → OnOk r (IsRunning state honest new × (new.durable ≡ next_checkpoint old) × (new.staged ≡ []) × (new.is_down ≡ false))
+    pub keeps : KeepsOpen old new
+    pub counts : ((state old.a).failures ≤ (state new.a).failures) × ((state old.b).failures ≤ (state new.b).failures)
+    pub down : old.is_down ≡ true → (r ≡ Err Down) × (new ≡ old)
+    pub last : IsRunning state honest old → greatest_number ≤ generation_of old.durable → new ≡ old
+    pub full : IsRunning state honest old → IsErrOf r Full → greatest_number ≤ generation_of old.durable
+    pub cause : IsErrOf r Down → (old.is_down ≡ true) ⊎ HasPointCause state honest (coordinator_journal old) (coordinator_journal new)
+    pub err : IfErr r (λ e. ((e ≡ Down) × (new.is_down ≡ true)) ⊎ ((new ≡ old) × ((e ≡ NoMemory) ⊎ (e ≡ Full))))

@@ -26,6 +26,7 @@ name_at_coordinator (coordinator_calls.Abort intent) = names.Abort
 name_at_coordinator (coordinator_calls.Inquire id) = names.Inquire
 name_at_coordinator (coordinator_calls.Raise place settled) = names.Raise
 name_at_coordinator coordinator_calls.Flush = names.Flush
+name_at_coordinator coordinator_calls.Checkpoint = names.Checkpoint
 
 -- the name of a call of a shard
 abbrev pub name_at_shard : ShardCall → CallName
@@ -40,6 +41,7 @@ name_at_shard (shard_calls.ReadForCheck place x u) = names.Read
 name_at_shard shard_calls.Settle = names.Settle
 name_at_shard (shard_calls.Collect heads) = names.Collect
 name_at_shard shard_calls.Flush = names.Flush
+name_at_shard shard_calls.Checkpoint = names.Checkpoint
 
 -- the name of a call, at whichever node
 abbrev pub name_of : NodeCall → CallName

@@ -12,9 +12,9 @@ use Rattle.shard.specs.declared.replies.VoteReply.TheVariants.{Yes, Later as vot
 use Rattle.calls.specs.declared.reply.Reply.{Reply}
 use Rattle.calls.specs.declared.reply.Reply.TheVariants.{Coordinator, Shard}
 use Rattle.calls.specs.declared.reply.CoordinatorReply as coordinators
-use Rattle.calls.specs.declared.reply.CoordinatorReply.TheVariants.{Begin, Heads, Batch, Decide, Outcome, Abort, Inquire, Raise, Flush}
+use Rattle.calls.specs.declared.reply.CoordinatorReply.TheVariants.{Begin, Heads, Batch, Decide, Outcome, Abort, Inquire, Raise, Flush, Checkpoint}
 use Rattle.calls.specs.declared.reply.ShardReply as shards
-use Rattle.calls.specs.declared.reply.ShardReply.TheVariants.{Learned, Learn, StagePrepare, Vote, DropWrite, InDoubt, Read, ReadForCheck, Settle, Collect, Flush as flush_shard}
+use Rattle.calls.specs.declared.reply.ShardReply.TheVariants.{Learned, Learn, StagePrepare, Vote, DropWrite, InDoubt, Read, ReadForCheck, Settle, Collect, Flush as flush_shard, Checkpoint as checkpoint_shard}
 
 -- the error of a result
 abbrev pub error_of : {T : Type 0} → Result T Refusal → Option Refusal
@@ -51,6 +51,7 @@ coordinator_error (Abort r) = error_of r
 coordinator_error (Inquire r) = error_of r
 coordinator_error (Raise r) = not_raised_error r
 coordinator_error (Flush r) = error_of r
+coordinator_error (Checkpoint r) = error_of r
 
 abbrev pub shard_error : shards.ShardReply → Option Refusal
 shard_error (Learned r) = error_of r
@@ -64,6 +65,7 @@ shard_error (ReadForCheck x u r) = error_of r
 shard_error (Settle r) = error_of r
 shard_error (Collect h r) = error_of r
 shard_error (flush_shard r) = error_of r
+shard_error (checkpoint_shard r) = error_of r
 
 -- the refusal that a reply carries
 abbrev pub refused_by : Reply → Option Refusal

@@ -1,5 +1,5 @@
 -- What each call of a shard answers, in the words of the shard's own contracts.
-use Rattle.std.specs.Prelude.{◌≡◌, ◌⊎◌, ◌↔◌, ◌≤◌, ◌<◌, ℕ, Bool, true, List, [], Result, None, IfOk, IfErr, IsErr, IsErrOf, OnOk, OnErr}
+use Rattle.std.specs.Prelude.{◌≡◌, ◌⊎◌, ◌↔◌, ◌≤◌, ◌<◌, ℕ, Bool, true, List, [], Result, Err, None, IfOk, IfErr, IsErr, IsErrOf, OnOk, OnErr}
 use Rattle.std.specs.Global.{Vec}
 use Rattle.tuples.specs.declared.entry.WriteId.{WriteId}
 use Rattle.tuples.specs.declared.tuple.Tuple.{Tuple}
@@ -8,10 +8,13 @@ use Rattle.tuples.specs.declared.user.User.{User}
 use Rattle.tuples.specs.declared.tupleset.Tupleset.{Tupleset}
 use Rattle.refusal.specs.declared.refusal.Refusal.{Refusal}
 use Rattle.refusal.specs.declared.refusal.Refusal.TheVariants.{Aborted, Busy, Collected, Damaged, Down, Full, NoMemory, Precondition}
-use Rattle.records.specs.Replays.{find_in_doubt}
+use Rattle.records.specs.Replays.{find_in_doubt, greatest_number}
 use Rattle.device.specs.Device.{State}
 use Rattle.records.specs.declared.record.Record.TheVariants.{Horizon}
-use Rattle.journal.specs.Records.{HasCause, HasNoRoom, HasOldOrNew, LeavesBoth}
+use Rattle.records.specs.Checkpoints.{generation_of}
+use Rattle.journal.specs.Ahead.{HasPointCause}
+use Rattle.journal.specs.Records.{HasCause, HasNoRoom, HasOldOrNew, LeavesBoth, LeavesEach}
+use Rattle.shard.specs.Checkpoints.{ChecksPointAt, HasOldNewOrPoint}
 use Rattle.decisions.specs.Values.{BatchValue, HeadsValue, IntentValue, SettledValue, TicketValue, VerdictValue, VoteValue}
 use Rattle.shard.specs.declared.replies.VoteReply.{VoteReply}
 use Rattle.shard.specs.declared.replies.VoteReply.TheVariants.{Yes, Later, No}
@@ -111,3 +114,16 @@ module _ {D : Type 0} (state : D → State) (honest : D → Type 0) where
     pub quiet : ((old.is_down ≡ true) ⊎ (old.staged ≡ [])) → new ≡ old
     pub cause : OnErr r ((old.is_down ≡ true) ⊎ HasCause state honest (journal_of old) (journal_of new))
     pub err : IfErr r (λ e. (e ≡ Down) × (new.is_down ≡ true))
+
+  -- as a flush, by a checkpoint in place of all records
+  pub record CheckpointAnswers (moment : D → ℕ) (left_since : D → ℕ → List ℕ → Type 0) (old : ShardView D) (r : Result (Unit {0}) Refusal) (new : ShardView D) : Type 0 where
+    pub still_honest : (honest old.a ↔ honest new.a) × (honest old.b ↔ honest new.b)
+    pub any_moment : IsUp state honest old → LeavesEach moment left_since old.a old.b new.a new.b (HasOldNewOrPoint old)
+    pub ok : IsUp state honest old → OnOk r (ChecksPointAt state honest old new)
+    pub me : new.me ≡ old.me
+    pub counts : ((state old.a).failures ≤ (state new.a).failures) × ((state old.b).failures ≤ (state new.b).failures)
+    pub down : old.is_down ≡ true → (r ≡ Err Down) × (new ≡ old)
+    pub last : IsUp state honest old → greatest_number ≤ generation_of old.durable → new ≡ old
+    pub full : IsUp state honest old → IsErrOf r Full → greatest_number ≤ generation_of old.durable
+    pub cause : IsErrOf r Down → (old.is_down ≡ true) ⊎ HasPointCause state honest (journal_of old) (journal_of new)
+    pub err : IfErr r (λ e. ((e ≡ Down) × (new.is_down ≡ true)) ⊎ ((new ≡ old) × ((e ≡ NoMemory) ⊎ (e ≡ Full))))

@@ -1,4 +1,5 @@
 -- A node as its callers see it.
+use Rattle.std.specs.Prelude.{◌+◌, ◌-◌, ◌^◌, ℕ, min}
 use Rattle.refusal.specs.declared.refusal.Refusal.{Refusal}
 use Rattle.decisions.specs.Coordinators.{CoordinatorView}
 use Rattle.shard.specs.Shards.{ShardView}
@@ -14,3 +15,9 @@ abbrev pub devices_of : {D : Type 0} → NodeView D → D × D
 devices_of (coordinator v) = (v.a, v.b)
 devices_of (shard v) = (v.a, v.b)
 devices_of (refused e a b) = (a, b)
+
+-- how many bytes the current bank has, up to the gate that ends its list and with it; none of a node whose opening was refused
+abbrev pub bank_len_of : {D : Type 0} → NodeView D → ℕ
+bank_len_of (coordinator v) = min (2 ^ 64 - 1) (v.end + 1)
+bank_len_of (shard v) = min (2 ^ 64 - 1) (v.end + 1)
+bank_len_of (refused e a b) = 0

@@ -42,6 +42,9 @@ fn ask_coordinator<D: Device>(
             CoordinatorReply::Raise(coordinator.raise(place, settled))
         }
         CoordinatorCall::Flush => CoordinatorReply::Flush(coordinator.flush()),
+        CoordinatorCall::Checkpoint => {
+            CoordinatorReply::Checkpoint(coordinator.checkpoint(alloc))
+        }
     }
 }
 
@@ -79,6 +82,7 @@ fn ask_shard<D: Device>(alloc: Global, shard: &mut Shard<D>, call: ShardCall) ->
             ShardReply::Collect(heads, answer)
         }
         ShardCall::Flush => ShardReply::Flush(shard.flush()),
+        ShardCall::Checkpoint => ShardReply::Checkpoint(shard.checkpoint(alloc)),
     }
 }
 
@@ -106,6 +110,7 @@ fn refuse_for_coordinator(refusal: Refusal, call: CoordinatorCall) -> Coordinato
             CoordinatorReply::Raise(Err(NotRaised { refusal, settled }))
         }
         CoordinatorCall::Flush => CoordinatorReply::Flush(Err(refusal)),
+        CoordinatorCall::Checkpoint => CoordinatorReply::Checkpoint(Err(refusal)),
     }
 }
 
@@ -150,6 +155,7 @@ fn refuse_for_shard(refusal: Refusal, call: ShardCall) -> ShardReply
         ShardCall::Settle => ShardReply::Settle(Err(refusal)),
         ShardCall::Collect(heads) => ShardReply::Collect(heads, Err(refusal)),
         ShardCall::Flush => ShardReply::Flush(Err(refusal)),
+        ShardCall::Checkpoint => ShardReply::Checkpoint(Err(refusal)),
     }
 }
 
@@ -162,6 +168,25 @@ pub fn refuse(refusal: Refusal, call: NodeCall) -> Reply
         NodeCall::Coordinator(call) => Reply::Coordinator(refuse_for_coordinator(refusal, call)),
         NodeCall::Shard(_, call) => Reply::Shard(refuse_for_shard(refusal, call)),
     }
+}
+
+// The refusal that the reply carries is told.
+fn tell(reply: &Reply, told: &mut Told)
+    ensures { Notes told.old reply.now told.new }
+{
+    if let Some(refusal) = reply.refusal() {
+        told.note(refusal);
+    }
+}
+
+/// As `refuse`, of a call that nobody is to make here, and the refusal is told.
+pub fn refuse_aloud(refusal: Refusal, call: NodeCall, told: &mut Told) -> Reply
+    ensures belongs { IsReplyTo call result }
+    ensures told { Notes told.old result told.new }
+{
+    let reply = refuse(refusal, call);
+    tell(&reply, told);
+    reply
 }
 
 fn make<D: Device>(alloc: Global, opened: &mut Opened<D>, call: NodeCall) -> Reply
@@ -193,8 +218,6 @@ pub fn ask<D: Device>(node: &mut Node<D>, call: NodeCall, told: &mut Told) -> Re
     ensures told { Notes told.old result told.new }
 {
     let reply = make(node.alloc, &mut node.opened, call);
-    if let Some(refusal) = reply.refusal() {
-        told.note(refusal);
-    }
+    tell(&reply, told);
     reply
 }

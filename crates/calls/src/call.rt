@@ -17,6 +17,7 @@ pub enum CoordinatorCall {
     Inquire(WriteId),
     Raise(u64, Vec<Settled>),
     Flush,
+    Checkpoint,
 }
 
 /// A call of a shard.
@@ -34,6 +35,7 @@ pub enum ShardCall {
     Settle,
     Collect(Heads),
     Flush,
+    Checkpoint,
 }
 
 /// A call of one node of the store. It carries values that have to be spent, so it has to be made.
@@ -62,6 +64,7 @@ impl CoordinatorCall {
             CoordinatorCall::Inquire(_) => CallName::Inquire,
             CoordinatorCall::Raise(_, _) => CallName::Raise,
             CoordinatorCall::Flush => CallName::Flush,
+            CoordinatorCall::Checkpoint => CallName::Checkpoint,
         }
     }
 }
@@ -86,6 +89,7 @@ impl ShardCall {
             ShardCall::Settle => CallName::Settle,
             ShardCall::Collect(_) => CallName::Collect,
             ShardCall::Flush => CallName::Flush,
+            ShardCall::Checkpoint => CallName::Checkpoint,
         }
     }
 }

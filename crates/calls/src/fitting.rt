@@ -14,7 +14,7 @@ impl CoordinatorCall {
                 let _entry = intent.entry();
             }
             CoordinatorCall::Outcome(_) | CoordinatorCall::Abort(_) => {}
-            CoordinatorCall::Inquire(_) | CoordinatorCall::Flush => {}
+            CoordinatorCall::Inquire(_) | CoordinatorCall::Flush | CoordinatorCall::Checkpoint => {}
             CoordinatorCall::Raise(place, _) => {
                 let _place = *place;
             }
@@ -37,7 +37,8 @@ impl ShardCall {
             }
             ShardCall::Learned | ShardCall::Vote(_) | ShardCall::DropWrite(_, _) => {}
             ShardCall::InDoubt | ShardCall::Read(_, _) | ShardCall::ReadForCheck(_, _, _) => {}
-            ShardCall::Settle | ShardCall::Collect(_) | ShardCall::Flush => {}
+            ShardCall::Settle | ShardCall::Collect(_) => {}
+            ShardCall::Flush | ShardCall::Checkpoint => {}
         }
     }
 }

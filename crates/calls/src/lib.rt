@@ -7,7 +7,7 @@
 //! Never: makes more than the one call, or keeps anything between two.
 //! Callers rely on: `ask` promises what the node's own call does, and what a `Told` holds was carried by a reply.
 //!
-//! A node may lend its devices for a flush and take them back (`Node::lend`, `Node::land`). No program does so yet.
+//! A node may lend its devices for a flush and take them back (`Node::lend`, `Node::land`). The shards of a server do so.
 //!
 //! Start at `specs/Asking.antt`, what may be asked and what is answered; then `Running`, which is all that a driver of flows has to know of one.
 #![tactic(auto)]
@@ -21,7 +21,7 @@ mod reply;
 mod running;
 mod told;
 
-pub use asking::{ask, refuse};
+pub use asking::{ask, refuse, refuse_aloud};
 pub use call::{CoordinatorCall, NodeCall, ShardCall};
 pub use lending::{Flying, Lent};
 pub use node::Node;

@@ -5,7 +5,7 @@ ghost use Rattle.calls.specs.Belonging.{IsNodeOf};
 ghost use Rattle.calls.specs.Failing.{NodeIsSet};
 ghost use Rattle.calls.specs.Opening.{CoordinatorOpens, HasStopped, ShardOpens, refusal_of};
 ghost use Rattle.calls.specs.Rows.{RowsOf};
-ghost use Rattle.calls.specs.Views.{devices_of, refused};
+ghost use Rattle.calls.specs.Views.{bank_len_of, devices_of, refused};
 ghost use Rattle.refusal.specs.declared.refusal.Refusal.TheVariants.{Down};
 
 use coordinator::Coordinator;
@@ -151,6 +151,17 @@ impl<D: Device> Node<D> {
             Opened::Coordinator(_) => Err(Refusal::BadRequest),
             Opened::Shard(shard) => shard.rows(self.alloc),
             Opened::Refused(refused) => Err(refused.refusal),
+        }
+    }
+
+    /// How many bytes its current bank has, up to the closed gate that ends the list and with it; 0 where its opening was refused.
+    pub fn bank_len(&self) -> u64
+        ensures { result ≡ bank_len_of self.now }
+    {
+        match &self.opened {
+            Opened::Coordinator(coordinator) => coordinator.bank_len(),
+            Opened::Shard(shard) => shard.bank_len(),
+            Opened::Refused(_) => 0,
         }
     }
 

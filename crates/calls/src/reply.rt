@@ -19,6 +19,7 @@ pub enum CoordinatorReply {
     Inquire(Result<Inquiry, Refusal>),
     Raise(Result<(), NotRaised>),
     Flush(Result<(), Refusal>),
+    Checkpoint(Result<(), Refusal>),
 }
 
 /// The answer of a shard. What was only lent comes back first.
@@ -35,6 +36,7 @@ pub enum ShardReply {
     Settle(Result<Settled, Refusal>),
     Collect(Heads, Result<(), Refusal>),
     Flush(Result<(), Refusal>),
+    Checkpoint(Result<(), Refusal>),
 }
 
 /// The answer to a call. It may carry values that have to be spent, so it has to go to the flow that asked.
@@ -98,6 +100,7 @@ impl CoordinatorReply {
             CoordinatorReply::Raise(Ok(())) => None,
             CoordinatorReply::Raise(Err(refused)) => Some(refused.refusal),
             CoordinatorReply::Flush(answer) => error_of(answer),
+            CoordinatorReply::Checkpoint(answer) => error_of(answer),
         }
     }
 
@@ -111,7 +114,8 @@ impl CoordinatorReply {
             | CoordinatorReply::Abort(_)
             | CoordinatorReply::Inquire(_)
             | CoordinatorReply::Raise(_)
-            | CoordinatorReply::Flush(_) => {}
+            | CoordinatorReply::Flush(_)
+            | CoordinatorReply::Checkpoint(_) => {}
         }
     }
 }
@@ -133,6 +137,7 @@ impl ShardReply {
             ShardReply::Settle(answer) => error_of(answer),
             ShardReply::Collect(_, answer) => error_of(answer),
             ShardReply::Flush(answer) => error_of(answer),
+            ShardReply::Checkpoint(answer) => error_of(answer),
         }
     }
 
@@ -151,7 +156,8 @@ impl ShardReply {
             | ShardReply::ReadForCheck(_, _, _)
             | ShardReply::Settle(_)
             | ShardReply::Collect(_, _)
-            | ShardReply::Flush(_) => {}
+            | ShardReply::Flush(_)
+            | ShardReply::Checkpoint(_) => {}
         }
     }
 }

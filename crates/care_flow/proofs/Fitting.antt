@@ -1,5 +1,5 @@
 -- The reply to a call that a care makes is one that it waits for, and a care stays one of nodes that are there.
-use Rattle.std.proofs.Common.{◌≡◌, ◌<◌, ℕ, Option, Some, None, Result, Ok, Err, MatchOption, IfErr, [], sym, subst}
+use Rattle.std.proofs.Common.{◌≡◌, ◌<◌, ℕ, Bool, true, false, Option, Some, None, Result, Ok, Err, MatchOption, IfErr, [], sym, subst}
 use Rattle.std.specs.Global.{Vec}
 use Rattle.tuples.specs.declared.entry.WriteId.{WriteId}
 use Rattle.decisions.specs.Coordinators.{HaveSettled}
@@ -53,18 +53,22 @@ asks_next : {H S : Type 0} (A : S → NodeCall → CareView H S → Type 0) (nex
 asks_next A None call old new h P f = absurd (no_call call h.0)
 asks_next A (Some step) call old new h P f = f step h
 
-flush_fits : (node : NodeName) (reply : Reply) → IsReplyTo (flushing.flush_of node) reply → flushing.Fits node reply
-flush_fits nodes.Coordinator (from_coordinator (told.Flush r)) b = tt
-flush_fits (nodes.Shard s) (from_shard (told_by.Flush r)) b = tt
-flush_fits node reply b = absurd b
+flush_fits : (is_checkpoint : Bool) (node : NodeName) (reply : Reply) → IsReplyTo (flushing.flush_of is_checkpoint node) reply → flushing.Fits is_checkpoint node reply
+flush_fits false nodes.Coordinator (from_coordinator (told.Flush r)) b = tt
+flush_fits false (nodes.Shard s) (from_shard (told_by.Flush r)) b = tt
+flush_fits true nodes.Coordinator (from_coordinator (told.Checkpoint r)) b = tt
+flush_fits true (nodes.Shard s) (from_shard (told_by.Checkpoint r)) b = tt
+flush_fits is_checkpoint node reply b = absurd b
 
-flush_waits : (next : Option flushing.FlushStep) (old new : flushing.FlushFlowValue) (call : NodeCall) (reply : Reply) → new.node ≡ old.node
-    → MatchOption next ((Some call ≡ None) × (new.seen ≡ old.seen)) (λ step. (Some call ≡ Some (flushing.flush_of old.node)) × (new.seen ≡ out tt flushing.flush))
+flush_waits : (next : Option flushing.FlushStep) (old new : flushing.FlushFlowValue) (call : NodeCall) (reply : Reply) → new.node ≡ old.node → new.is_checkpoint ≡ old.is_checkpoint
+    → MatchOption next ((Some call ≡ None) × (new.seen ≡ old.seen)) (λ step. (Some call ≡ Some (flushing.flush_of old.is_checkpoint old.node)) × (new.seen ≡ out tt flushing.flush))
     → IsReplyTo call reply → flushing.Awaits new reply
-flush_waits None old new call reply same h b = absurd (no_call call h.0)
-flush_waits (Some step) old new call reply same h b =
-    let fit = flush_fits old.node reply (to_call call (flushing.flush_of old.node) reply (same_call call (flushing.flush_of old.node) h.0) b) in
-    waits (λ s r. flushing.Fits new.node r) new.seen tt flushing.flush reply h.1 (subst (λ (n : NodeName). flushing.Fits n reply) (sym same) fit)
+flush_waits None old new call reply same kind h b = absurd (no_call call h.0)
+flush_waits (Some step) old new call reply same kind h b =
+    let asked = flushing.flush_of old.is_checkpoint old.node in
+    let fit = flush_fits old.is_checkpoint old.node reply (to_call call asked reply (same_call call asked h.0) b) in
+    let of_node = subst (λ (n : NodeName). flushing.Fits old.is_checkpoint n reply) (sym same) fit in
+    waits (λ s r. flushing.Fits new.is_checkpoint new.node r) new.seen tt flushing.flush reply h.1 (subst (λ (x : Bool). flushing.Fits x new.node reply) (sym kind) of_node)
 
 learn_ask_fits : (reply : Reply) → IsReplyTo (of_coordinator coordinator_calls.Heads) reply → learning.Fits learning.ask reply
 learn_ask_fits (from_coordinator (told.Heads r)) b = tt
@@ -188,7 +192,7 @@ raise_awaits old new reply shards place h =
 
 -- the reply to the call is one that the care waits for
 pub awaits : (old new : CareFlow) (call : NodeCall) (reply : Reply) → NextCall old (Some call) new → IsReplyTo call reply → Awaits new reply
-awaits (Flush old) (Flush new) call reply h b = flush_waits old.seen.next old new call reply h.0 h.1 b
+awaits (Flush old) (Flush new) call reply h b = flush_waits old.seen.next old new call reply h.0 h.1 h.2 b
 awaits (Learn old) (Learn new) call reply h b =
     asks_next (learning.Asks old.shard old.seen.holds) old.seen.next call old.seen new.seen h.1 (learning.Awaits new reply) (λ step a. learn_fits old.shard old.seen.holds step call new.seen reply a b)
 awaits (Resolve old) (Resolve new) call reply h b =

@@ -1,5 +1,5 @@
 -- Any care, as the flow that it is.
-use Rattle.std.specs.Prelude.{◌≡◌, ◌<◌, ℕ, Bool, [], map, Option, Some, is_some, option_map}
+use Rattle.std.specs.Prelude.{◌≡◌, ◌<◌, ℕ, Bool, true, false, [], map, Option, Some, is_some, option_map}
 use Rattle.decisions.specs.Flows.{no_heads, nothing_raised}
 use Rattle.calls.specs.Asking.{MayBeMade}
 use Rattle.calls.specs.Names.{name_of}
@@ -23,7 +23,8 @@ use Rattle.care_flow.specs.Views.{GoesOrEnds, ready}
 
 -- the flow before its first call
 abbrev pub begun : ℕ → Care → CareFlow
-begun shards (cares.Flush node) = Flush (record { node = node; seen = ready tt flushing.flush })
+begun shards (cares.Flush node) = Flush (record { node = node; is_checkpoint = false; seen = ready tt flushing.flush })
+begun shards (cares.Checkpoint node) = Flush (record { node = node; is_checkpoint = true; seen = ready tt flushing.flush })
 begun shards (cares.Learn s) = Learn (record { shard = s; seen = ready no_heads learning.ask; next_name = Some names.Heads })
 begun shards (cares.Resolve s) = Resolve (record { shard = s; doubts = []; seen = ready resolving.nothing_found resolving.in_doubt; next_name = Some names.InDoubt })
 begun shards (cares.Raise place) = Raise (record { shards = shards; place = place; seen = ready nothing_raised raising.ask; next_name = Some names.Heads })
@@ -39,7 +40,7 @@ IsThere shards (Collect v) = v.shard < shards
 
 -- the name of its next call, if there is one
 abbrev pub next_name_of : CareFlow → Option CallName
-next_name_of (Flush v) = option_map flushing.name_of v.seen.next
+next_name_of (Flush v) = option_map (flushing.name_of v.is_checkpoint) v.seen.next
 next_name_of (Learn v) = v.next_name
 next_name_of (Resolve v) = v.next_name
 next_name_of (Raise v) = v.next_name
@@ -55,7 +56,7 @@ has_next (Collect v) = is_some v.seen.next
 
 -- Its next call, if there is one.
 abbrev pub NextCall : CareFlow → Option NodeCall → CareFlow → Type 0
-NextCall (Flush old) call (Flush new) = (new.node ≡ old.node) × flushing.NextCall old call new
+NextCall (Flush old) call (Flush new) = (new.node ≡ old.node) × (new.is_checkpoint ≡ old.is_checkpoint) × flushing.NextCall old call new
 NextCall (Learn old) call (Learn new) = (new.shard ≡ old.shard) × learning.NextCall old call new
 NextCall (Resolve old) call (Resolve new) = (new.shard ≡ old.shard) × (new.doubts ≡ old.doubts) × resolving.NextCall old call new
 NextCall (Raise old) call (Raise new) = (new.shards ≡ old.shards) × (new.place ≡ old.place) × raising.NextCall old call new
@@ -72,7 +73,7 @@ Awaits (Collect v) reply = collecting.Awaits v reply
 
 -- What the reply makes of it.
 abbrev pub Answered : CareFlow → Reply → CareFlow → Type 0
-Answered (Flush old) reply (Flush new) = (new.node ≡ old.node) × flushing.Answered old reply new
+Answered (Flush old) reply (Flush new) = (new.node ≡ old.node) × (new.is_checkpoint ≡ old.is_checkpoint) × flushing.Answered old reply new
 Answered (Learn old) reply (Learn new) = (new.shard ≡ old.shard) × learning.Answered old reply new
 Answered (Resolve old) reply (Resolve new) = (new.shard ≡ old.shard) × resolving.Answered old reply new
 Answered (Raise old) reply (Raise new) = (new.shards ≡ old.shards) × (new.place ≡ old.place) × raising.Answered old reply new

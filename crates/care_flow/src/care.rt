@@ -19,6 +19,7 @@ use std::alloc::Global;
 #[derive(Drop)]
 #[must_use]
 pub enum CareFlow {
+    /// A checkpoint too.
     Flush(FlushFlow),
     Learn(LearnFlow),
     Resolve(ResolveFlow),
@@ -32,7 +33,8 @@ impl CareFlow {
         ensures { result ≡ begun shards care }
     {
         match care {
-            Care::Flush(node) => CareFlow::Flush(FlushFlow::new(node)),
+            Care::Flush(node) => CareFlow::Flush(FlushFlow::new(node, false)),
+            Care::Checkpoint(node) => CareFlow::Flush(FlushFlow::new(node, true)),
             Care::Learn(shard) => CareFlow::Learn(LearnFlow::new(shard)),
             Care::Resolve(shard) => CareFlow::Resolve(ResolveFlow::new(alloc, shard)),
             Care::Raise(place) => CareFlow::Raise(RaiseFlow::new(alloc, shards, place)),

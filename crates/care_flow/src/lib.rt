@@ -1,4 +1,4 @@
-//! The care of a store's nodes, one call a turn: a flush; a shard learns what is kept; what became of the writes in doubt at a shard; a raise of the
+//! The care of a store's nodes, one call a turn: a flush, or a checkpoint; a shard learns what is kept; what became of the writes in doubt at a shard; a raise of the
 //! horizon; a shard's collection.
 //!
 //! Keeps: what it found of each write in doubt, and what each shard has settled, until it ends.

@@ -18,13 +18,13 @@ use Rattle.care_turns.specs.CareTurns.{CareTurns}
 
 -- the flush of the coordinator before its call, with the call out, and behind its end
 abbrev fresh : CareFlow
-fresh = Flush (record { node = named.Coordinator; seen = ready tt flush })
+fresh = Flush (record { node = named.Coordinator; is_checkpoint = false; seen = ready tt flush })
 
 abbrev asking : CareFlow
-asking = Flush (record { node = named.Coordinator; seen = out tt flush })
+asking = Flush (record { node = named.Coordinator; is_checkpoint = false; seen = out tt flush })
 
 abbrev ended_so : CareEnd → CareFlow
-ended_so end = Flush (record { node = named.Coordinator; seen = over tt end })
+ended_so end = Flush (record { node = named.Coordinator; is_checkpoint = false; seen = over tt end })
 
 -- a node that is up or down is not refused
 not_refused : (is_down : Bool) (durable staged : List Record) → (if is_down then down else up durable staged) ≡ refused Down → ⊥
@@ -33,14 +33,14 @@ not_refused false durable staged is = cc
 
 -- the flush of the coordinator calls the coordinator
 calls_flush : (call : NodeCall) (next : CareFlow) → NextCall fresh (Some call) next → call ≡ Coordinator calls.Flush
-calls_flush call (Flush v) asks = same_Some call (Coordinator calls.Flush) asks.1.0
+calls_flush call (Flush v) asks = same_Some call (Coordinator calls.Flush) asks.2.0
 calls_flush call (Learn v) asks = absurd asks
 calls_flush call (Resolve v) asks = absurd asks
 calls_flush call (Raise v) asks = absurd asks
 calls_flush call (Collect v) asks = absurd asks
 
 -- a flush that was answered with a refusal ends with it
-ends_down : (n : names.NodeName) (reply : Reply) (end : CareEnd) → n ≡ named.Coordinator → reply ≡ from_coordinator (told.Flush (Err Down)) → Gives n reply end → end ≡ Refused Down
+ends_down : (n : names.NodeName) (reply : Reply) (end : CareEnd) → n ≡ named.Coordinator → reply ≡ from_coordinator (told.Flush (Err Down)) → Gives false n reply end → end ≡ Refused Down
 ends_down named.Coordinator (from_coordinator (told.Flush r)) end is so gives = let e : r ≡ Err Down = cc in gives ∙ ap ended_by e
 ends_down (named.Shard s) reply end is so gives = absurd (let bad : named.Shard s ≡ named.Coordinator = is in cc)
 ends_down named.Coordinator reply end is so gives = absurd gives
@@ -69,7 +69,7 @@ module _ {D : Type 0} (state : D → State) (honest : D → Type 0) (moment : D 
     there = tt;
     call = Coordinator calls.Flush;
     out = asking;
-    asks = (refl, (refl, refl));
+    asks = (refl, refl, (refl, refl));
     fits = tt;
     was = views.refused Down a b;
     is = views.refused Down a b;
@@ -83,7 +83,7 @@ module _ {D : Type 0} (state : D → State) (honest : D → Type 0) (moment : D 
     };
     reply = from_coordinator (told.Flush (Err Down));
     answers = (refl, refl);
-    gives = (refl, (Refused Down, refl, refl));
+    gives = (refl, refl, (Refused Down, refl, refl));
     turns = record { before = refl; after = refl; others = others };
   }
 
@@ -106,8 +106,8 @@ module _ {D : Type 0} (state : D → State) (honest : D → Type 0) (moment : D 
       let call_is = calls_flush call (Flush v) asks in
       let by_coordinator = subst (λ (x : NodeCall). IsNode 7 1 before (called x) was) call_is node in
       let answer = subst (λ (x : NodeCall). Answered state honest moment left_since was x reply is) call_is so in
-      let over_is = ends_down v.node reply gives.1.0 asks.0 (answers_down was is reply by_coordinator answer) gives.1.1 in
-      same_Some end (Refused Down) (ap (λ (x : FlushView). x.ended) gives.1.2 ∙ ap Some over_is)
+      let over_is = ends_down v.node reply gives.2.0 asks.0 (answers_down was is reply by_coordinator answer) (subst (λ (b : Bool). Gives b v.node reply gives.2.0) asks.1 gives.2.1) in
+      same_Some end (Refused Down) (ap (λ (x : FlushView). x.ended) gives.2.2 ∙ ap Some over_is)
   ends_refused end call (Learn v) was is reply asks gives node so = absurd asks
   ends_refused end call (Resolve v) was is reply asks gives node so = absurd asks
   ends_refused end call (Raise v) was is reply asks gives node so = absurd asks
@@ -145,7 +145,7 @@ module _ {D : Type 0} (state : D → State) (honest : D → Type 0) (moment : D 
 
   -- and a store of one shard has no second one to flush
   abbrev of_no_shard : CareFlow
-  of_no_shard = Flush (record { node = named.Shard 1; seen = ready tt flush })
+  of_no_shard = Flush (record { node = named.Shard 1; is_checkpoint = false; seen = ready tt flush })
 
   flushed_no_shard : (old new : Store D) (next : CareFlow) → CareTurns state honest moment left_since 7 1 old new 0 of_no_shard next → ⊥
   flushed_no_shard old new next turn = let there : 1 < 1 = turn.there in omega arith

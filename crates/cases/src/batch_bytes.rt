@@ -47,6 +47,12 @@ const TOUCHING_TWO: [u8; 58] = [
     0x76, 0x69, 0x65, 0x77, 0x65, 0x72, 1, 2, 0x75, 0x32, 0,
 ];
 
+/// The marks of a checkpoint of generation 1: its begin, a touch of `doc:a#viewer@u1` at 3, and its end.
+const CHECKPOINT: [u8; 51] = [
+    2, 0, 3, 7, 0, 0, 0, 0, 0, 0, 0, 0, 1, 7, 1, 0, 0, 0, 0, 0, 0, 0, 3, 1, 3, 0x64, 0x6f, 0x63, 1,
+    0x61, 6, 0x76, 0x69, 0x65, 0x77, 0x65, 0x72, 1, 2, 0x75, 0x31, 7, 2, 0, 0, 0, 0, 0, 0, 0, 1,
+];
+
 /// What is written of the records that the bytes spell, without the head of a batch.
 fn written(alloc: Global, bytes: &[u8]) -> Option<Vec<u8>> {
     let records = decode_batch(alloc, bytes).ok()?;
@@ -66,6 +72,7 @@ fn what_is_read_is_written_again(rt: HostRuntime) -> Result<(), Fail> {
         (WHERE_ABSENT.as_slice(), &WHERE_ABSENT[3..]),
         (WHERE_UNCHANGED.as_slice(), &WHERE_UNCHANGED_LATER[3..]),
         (LEARNING.as_slice(), &LEARNING[3..]),
+        (CHECKPOINT.as_slice(), &CHECKPOINT[3..]),
     ] {
         let out = written(rt.alloc(), bytes).ok_or("it is a batch")?;
         assert_eq!(rt; out.as_slice(), again);
@@ -98,7 +105,7 @@ fn what_is_no_batch_is_damaged(rt: HostRuntime) -> Result<(), Fail> {
         (OPENING.as_slice(), 2, 0, 0, "there is no record"),
         (OPENING.as_slice(), 2, 2, 0, "there are fewer records"),
         (LEARNING.as_slice(), 2, 1, 0, "a record stands behind it"),
-        (OPENING.as_slice(), 3, 7, 0, "there is no kind 7"),
+        (OPENING.as_slice(), 3, 8, 0, "there is no kind 8"),
         (OPENING.as_slice(), 20, 0, 0, "there is no shard"),
         (OPENING.as_slice(), 20, 65, 0, "there are too many shards"),
         (
@@ -108,6 +115,8 @@ fn what_is_no_batch_is_damaged(rt: HostRuntime) -> Result<(), Fail> {
             0,
             "a tuple is changed twice",
         ),
+        (CHECKPOINT.as_slice(), 42, 3, 0, "there is no mark 3"),
+        (CHECKPOINT.as_slice(), 23, 0, 0, "there is no change 0"),
     ] {
         assert!(rt; is_damaged(rt.alloc(), bytes, i, byte, left_out)?, "{why}");
     }

@@ -1,7 +1,7 @@
 // The bytes of a journal over two disks in memory, and what is found in them, also after a call of a disk failed.
 // The batches were worked out by hand. Version 1 is read, version 2 is written.
 use device::{Device, SimDisk, Tear};
-use journal::{Bank, Journal};
+use journal::{Bank, Journal, is_plain};
 use records::decode_batch;
 use refusal::Refusal;
 use std::alloc::Global;
@@ -109,6 +109,9 @@ fn stage_and_flush<D: Device>(
     tear: Tear,
 ) -> Result<bool, Refusal> {
     for record in &decode_batch(alloc, batch)? {
+        if !is_plain(record) {
+            return Err(Refusal::Damaged);
+        }
         journal.stage(record)?;
     }
     journal.fail(Bank::A, n, tear);

@@ -1,7 +1,7 @@
 // What a shard knows after its records, and which records may not come next: bytes of records that were worked out by hand.
 use records::{Identity, decode_batch};
 use refusal::Refusal;
-use replay::Memory;
+use replay::{Memory, Replay};
 use std::alloc::{AllocError, Global};
 use tuples::Tupleset;
 
@@ -40,6 +40,20 @@ enum Step {
     Collected,
     /// A horizon of 6.
     CollectedAbove,
+    /// Learned to 5, with nothing.
+    LearnedPlain,
+    /// A checkpoint of generation 3 begins.
+    Begun,
+    /// A version of `doc:a#viewer@u1`: a touch at 3.
+    Row,
+    /// The same at 6.
+    RowAbove,
+    /// A touch of `doc:b#viewer@u1` at 3, which shard 0 has.
+    RowElsewhere,
+    /// The checkpoint of generation 3 ends.
+    Ended,
+    /// One of generation 4 ends.
+    EndedElsewhere,
 }
 
 fn put(out: &mut Vec<u8>, step: Step) -> Result<(), AllocError> {
@@ -95,28 +109,44 @@ fn put(out: &mut Vec<u8>, step: Step) -> Result<(), AllocError> {
         ]),
         Step::Collected => out.extend_from_slice(&[6, 0, 0, 0, 0, 0, 0, 0, 4]),
         Step::CollectedAbove => out.extend_from_slice(&[6, 0, 0, 0, 0, 0, 0, 0, 6]),
+        Step::LearnedPlain => out.extend_from_slice(&[2, 0, 0, 0, 0, 0, 0, 0, 5, 0, 0]),
+        Step::Begun => out.extend_from_slice(&[7, 0, 0, 0, 0, 0, 0, 0, 0, 3]),
+        Step::Row => out.extend_from_slice(&[
+            7, 1, 0, 0, 0, 0, 0, 0, 0, 3, 1, 3, 100, 111, 99, 1, 97, 6, 118, 105, 101, 119, 101,
+            114, 1, 2, 117, 49,
+        ]),
+        Step::RowAbove => out.extend_from_slice(&[
+            7, 1, 0, 0, 0, 0, 0, 0, 0, 6, 1, 3, 100, 111, 99, 1, 97, 6, 118, 105, 101, 119, 101,
+            114, 1, 2, 117, 49,
+        ]),
+        Step::RowElsewhere => out.extend_from_slice(&[
+            7, 1, 0, 0, 0, 0, 0, 0, 0, 3, 1, 3, 100, 111, 99, 1, 98, 6, 118, 105, 101, 119, 101,
+            114, 1, 2, 117, 49,
+        ]),
+        Step::Ended => out.extend_from_slice(&[7, 2, 0, 0, 0, 0, 0, 0, 0, 3]),
+        Step::EndedElsewhere => out.extend_from_slice(&[7, 2, 0, 0, 0, 0, 0, 0, 0, 4]),
     }
 }
 
 /// Applies one record, at shard 1 of the two of store 9.
-fn apply(alloc: Global, memory: &mut Memory, step: Step) -> Result<(), Refusal> {
+fn apply(alloc: Global, replay: &mut Replay, step: Step) -> Result<(), Refusal> {
     let mut batch = Vec::from_slice(alloc, &[2, 0, 1])?;
     put(&mut batch, step)?;
     for found in decode_batch(alloc, &batch)? {
-        memory.replay(alloc, Identity::shard(9, 2, 1), found)?;
+        replay.take(alloc, Identity::shard(9, 2, 1), found)?;
     }
     Ok(())
 }
 
-/// What a shard knows after these records; the number of those before the first that may not come next.
-fn apply_all(alloc: Global, steps: &[Step]) -> Result<Memory, usize> {
-    let mut memory = Memory::new(alloc);
+/// These records, as they are read; the number of those before the first that may not come next.
+fn apply_all(alloc: Global, steps: &[Step]) -> Result<Replay, usize> {
+    let mut replay = Replay::new(alloc);
     for (i, step) in steps.iter().enumerate() {
-        if apply(alloc, &mut memory, *step).is_err() {
+        if apply(alloc, &mut replay, *step).is_err() {
             return Err(i);
         }
     }
-    Ok(memory)
+    Ok(replay)
 }
 
 // The tupleset is taken, so that who asks has nothing to let go on a way out, and there is one way out here.
@@ -146,26 +176,47 @@ fn known(alloc: Global, memory: &Memory) -> Result<[u64; 5], Refusal> {
     ])
 }
 
-/// What a shard that was opened twice, learned a write and dropped another knows.
-fn known_after_all(alloc: Global) -> Result<[u64; 5], Refusal> {
-    let steps = [
-        Step::Opened,
-        Step::Prepared,
-        Step::Learned,
-        Step::Collected,
-        Step::PreparedLater,
-        Step::Dropped,
-        Step::OpenedAgain,
-    ];
-    match apply_all(alloc, &steps) {
-        Ok(memory) => known(alloc, &memory),
-        Err(_) => Err(Refusal::Damaged),
-    }
+/// What a shard knows after these records; `Damaged` where one of them may not come next, or a checkpoint has not ended.
+fn known_after(alloc: Global, steps: &[Step]) -> Result<[u64; 5], Refusal> {
+    let Ok(replay) = apply_all(alloc, steps) else {
+        return Err(Refusal::Damaged);
+    };
+    let memory = replay.into_memory()?;
+    known(alloc, &memory)
 }
+
+/// A shard is opened twice, learns a write and drops another.
+const LIVED: [Step; 7] = [
+    Step::Opened,
+    Step::Prepared,
+    Step::Learned,
+    Step::Collected,
+    Step::PreparedLater,
+    Step::Dropped,
+    Step::OpenedAgain,
+];
+
+/// A checkpoint that stands for the same, with another write in doubt that is dropped behind it.
+const CHECKPOINTED: [Step; 8] = [
+    Step::Begun,
+    Step::OpenedAgain,
+    Step::Collected,
+    Step::LearnedPlain,
+    Step::Row,
+    Step::PreparedLater,
+    Step::Ended,
+    Step::Dropped,
+];
 
 #[test]
 fn a_shard_knows_what_its_records_stand_for(rt: HostRuntime) {
-    assert_eq!(rt; known_after_all(rt.alloc()), Ok([2, 5, 4, 0, 1]));
+    let alloc = rt.alloc();
+    assert_eq!(rt; known_after(alloc, &LIVED), Ok([2, 5, 4, 0, 1]));
+    assert_eq!(rt; known_after(alloc, &CHECKPOINTED), Ok([2, 5, 4, 0, 1]));
+    assert_eq!(rt;
+        known_after(alloc, &CHECKPOINTED[..6]),
+        Err(Refusal::Damaged)
+    );
 }
 
 /// How many records are applied before the first that may not come next, where this one is the fifth.
@@ -197,4 +248,46 @@ fn what_may_not_come_next_is_damage(rt: HostRuntime) {
     ] {
         assert_eq!(rt; applied_before(rt.alloc(), last), Some(4), "{why}");
     }
+}
+
+/// How many records are applied before the first that may not come next, where this one stands fifth in a checkpoint.
+fn applied_inside(alloc: Global, last: Step) -> Option<usize> {
+    let steps = [
+        Step::Begun,
+        Step::OpenedAgain,
+        Step::Collected,
+        Step::LearnedPlain,
+        last,
+    ];
+    apply_all(alloc, &steps).err()
+}
+
+#[test]
+fn what_may_not_stand_in_a_checkpoint_is_damage(rt: HostRuntime) {
+    for (last, why) in [
+        (Step::Begun, "another begins"),
+        (Step::OpenedAgain, "an epoch behind its horizon"),
+        (Step::Collected, "two horizons"),
+        (Step::LearnedPlain, "two places learned"),
+        (Step::RowAbove, "a version above what is learned"),
+        (Step::RowElsewhere, "a version of another shard"),
+        (Step::PreparedElsewhere, "a tuple of another shard"),
+        (Step::Dropped, "a write is dropped"),
+        (Step::Decided, "a decision"),
+        (Step::EndedElsewhere, "the end of another"),
+    ] {
+        assert_eq!(rt; applied_inside(rt.alloc(), last), Some(4), "{why}");
+    }
+}
+
+#[test]
+fn a_checkpoint_ends_within_what_is_learned(rt: HostRuntime) {
+    let steps = [
+        Step::Begun,
+        Step::OpenedAgain,
+        Step::CollectedAbove,
+        Step::LearnedPlain,
+        Step::Ended,
+    ];
+    assert_eq!(rt; apply_all(rt.alloc(), &steps).err(), Some(4));
 }

@@ -24,6 +24,8 @@ request_runs shards (Watch cursor limit names) = record { of = tt; goes_on = ref
 pub care_runs : (shards : ℕ) (care : Care) → MayCare shards care → IsRunning shards (caring_for shards care)
 care_runs shards (cares.Flush Coordinator) may = record { of = tt; goes_on = refl }
 care_runs shards (cares.Flush (Shard s)) may = record { of = may; goes_on = refl }
+care_runs shards (cares.Checkpoint Coordinator) may = record { of = tt; goes_on = refl }
+care_runs shards (cares.Checkpoint (Shard s)) may = record { of = may; goes_on = refl }
 care_runs shards (cares.Learn s) may = record { of = may; goes_on = refl }
 care_runs shards (cares.Resolve s) may = record { of = may; goes_on = refl }
 care_runs shards (cares.Raise place) may = record { of = refl; goes_on = refl }

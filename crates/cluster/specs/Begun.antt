@@ -38,6 +38,7 @@ IsNodeThere shards (Shard s) = s < shards
 -- the node that is cared for is there, and the place of a raise is a number that places have
 abbrev pub MayCare : ℕ → Care → Type 0
 MayCare shards (any_care.Flush node) = IsNodeThere shards node
+MayCare shards (any_care.Checkpoint node) = IsNodeThere shards node
 MayCare shards (any_care.Learn s) = s < shards
 MayCare shards (any_care.Resolve s) = s < shards
 MayCare shards (any_care.Raise place) = place ≤ max_number

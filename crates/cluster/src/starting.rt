@@ -155,7 +155,7 @@ fn may_care(shards: u8, care: Care) -> bool
     ensures { IsTrue result ↔ MayCare shards care }
 {
     match care {
-        Care::Flush(node) => is_there(shards, node),
+        Care::Flush(node) | Care::Checkpoint(node) => is_there(shards, node),
         Care::Learn(shard) => shard < shards,
         Care::Resolve(shard) => shard < shards,
         Care::Raise(place) => place <= MAX_NUMBER,

@@ -69,6 +69,7 @@ fits_coordinator shards v calls.Flush (told.Flush r) after may h b = elim h [
 ]
 fits_coordinator shards v calls.Heads reply after may h b = absurd h
 fits_coordinator shards v (calls.Raise place settled) reply after may h b = absurd h
+fits_coordinator shards v calls.Checkpoint reply after may h b = absurd h
 fits_coordinator shards v call reply after may h b = absurd b
 
 fits_shard : (shards s : ℕ) (v : WriteView) (call : ShardCall) (reply : ShardReply) (after : WriteView)
@@ -97,6 +98,7 @@ fits_shard shards s v (shard_calls.Read place set) reply after may h b = absurd 
 fits_shard shards s v (shard_calls.ReadForCheck place x u) reply after may h b = absurd h
 fits_shard shards s v shard_calls.Settle reply after may h b = absurd h
 fits_shard shards s v (shard_calls.Collect heads) reply after may h b = absurd h
+fits_shard shards s v shard_calls.Checkpoint reply after may h b = absurd h
 fits_shard shards s v call reply after may h b = absurd b
 
 pub fits : (shards : ℕ) (v : WriteView) (call : NodeCall) (reply : Reply) (after : WriteView) → Asks shards v call after → IsReplyTo call reply → MayGive shards after reply

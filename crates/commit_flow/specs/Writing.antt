@@ -58,6 +58,7 @@ AsksCoordinator v (calls.Outcome decided) after = (v.holds.decided ≡ Some deci
 AsksCoordinator v (calls.Abort intent) after = IsOnItsWayOut v × (v.holds.intent ≡ Some intent) × Waits v (record v.holds { intent = None }) waits.abort after
 AsksCoordinator v (calls.Inquire id) after = IsOnItsWayOut v × (v.holds.intent ≡ None) × (v.holds.id ≡ Some id) × Waits v v.holds waits.inquire after
 AsksCoordinator v (calls.Raise place settled) after = ⊥
+AsksCoordinator v calls.Checkpoint after = ⊥
 AsksCoordinator v calls.Flush after = (IsOnItsWay v × Waits v v.holds waits.flush_to_decide after × (v.flushed ≡ false)) ⊎ ((v.holds.way ≡ onward) × (v.holds.decided ≢ None) × Waits v v.holds waits.flush_to_outcome after)
 
 -- A call of a shard, by what it may be handed: on its way one that takes part in the write, which prepares its part only where it is caught up, and
@@ -79,6 +80,7 @@ AsksShard shards v s (shard_calls.Read place set) after = ⊥
 AsksShard shards v s (shard_calls.ReadForCheck place x u) after = ⊥
 AsksShard shards v s shard_calls.Settle after = ⊥
 AsksShard shards v s (shard_calls.Collect heads) after = ⊥
+AsksShard shards v s shard_calls.Checkpoint after = ⊥
 AsksShard shards v s shard_calls.Flush after = IsOnItsWay v
     × ((HasShard shards v s × (Waits v v.holds (waits.catch_up flushing) after ⊎ Waits v v.holds (waits.flush_to_prepare s) after))
     ⊎ ((t : TicketValue) × (others : List HeldTicket) × (v.holds.tickets ≡ ticket_value (s, t) ∷ others) × Waits v v.holds (waits.flush_to_vote s) after))

@@ -17,7 +17,7 @@ use Rattle.coordinator.specs.Lending.{HasFlown, IsLentCoordinator, IsToldOf}
 use Rattle.coordinator.specs.declared.lending.Flying.{Flying}
 use Rattle.coordinator.specs.Staged.{AreInOrder, decided, last_horizon}
 use Rattle.coordinator.proofs.Facts.{view_of}
-use Rattle.coordinator.proofs.Staged.{GoesOn, decided_behind, epoch_behind, horizon_behind, in_two, last_of_more, left_is, lies_below, lies_on, lies_within, order_of_first, order_wider, rises_still, risen_twice, state_of_more}
+use Rattle.coordinator.proofs.Staged.{GoesOn, base_behind, decided_behind, epoch_behind, horizon_behind, in_two, last_of_more, left_is, lies_below, lies_on, lies_within, order_of_first, order_wider, rises_still, risen_twice, state_of_more}
 
 -- The first of what is staged is durable: what the memory remembers then.
 module _ (ds xs ys : List Record) (l : LedgerValue) (epoch kept horizon : ℕ) (rising flown : Option ℕ) (count : ℕ)
@@ -39,13 +39,13 @@ module _ (ds xs ys : List Record) (l : LedgerValue) (epoch kept horizon : ℕ) (
   from_mid = state_of_more (ds ++ xs) ys
 
   mid_log : mid.log ≡ d.log ++ decided xs
-  mid_log = ap (λ (x : CoordinatorState). x.log) from_d ∙ (decided_behind d xs).0
+  mid_log = ap (λ (x : CoordinatorState). x.log) from_d ∙ decided_behind d xs
 
   mid_base : mid.base ≡ d.base
-  mid_base = ap (λ (x : CoordinatorState). x.base) from_d ∙ (decided_behind d xs).1
+  mid_base = ap (λ (x : CoordinatorState). x.base) from_d ∙ base_behind horizon kept d xs (order_of_first horizon kept xs ys order)
 
   w_log : w.log ≡ mid.log ++ decided ys
-  w_log = ap (λ (x : CoordinatorState). x.log) from_mid ∙ (decided_behind mid ys).0
+  w_log = ap (λ (x : CoordinatorState). x.log) from_mid ∙ decided_behind mid ys
 
   on : GoesOn horizon horizon kept flown ys
   on = subst (λ (o : Option ℕ). GoesOn horizon horizon kept o ys) (sym tells) (in_two horizon horizon kept None xs ys (omega arith) order tt)
@@ -159,7 +159,7 @@ module _ {D : Type 0} (state : D → State) (honest : D → Type 0) where
   all_told j l epoch kept horizon rising numbers given was up =
       let d = coordinator_state was.durable in
       let whole = state_of_more was.durable was.staged in
-      let log : (coordinator_state (was.durable ++ was.staged)).log ≡ d.log ++ decided was.staged = ap (λ (s : CoordinatorState). s.log) whole ∙ (decided_behind d was.staged).0 in
+      let log : (coordinator_state (was.durable ++ was.staged)).log ≡ d.log ++ decided was.staged = ap (λ (s : CoordinatorState). s.log) whole ∙ decided_behind d was.staged in
       let len : length (coordinator_state (was.durable ++ was.staged)).log ≡ length d.log + length (decided was.staged) = ap length log ∙ length-append d.log (decided was.staged) in
       let e = was.remembers.end_is in
       let k = was.remembers.kept_is in
@@ -291,6 +291,16 @@ module _ {D : Type 0} (state : D → State) (honest : D → Type 0) where
           (λ ha hb.
           let h : HasFlown state honest (view_of j me epoch numbers given) f flying.sent.count = subst (λ (x : CoordinatorView (Away D)). HasFlown state honest x f flying.sent.count) (sym is) (flown view_up both_up.1 ha hb) in
           (h.honest_a, h.honest_b, h.durable, h.rest))))
+
+    -- where the flight went well it is up
+    pub running_again : (v.is_down ≡ false → f.is_down ≡ false → honest f.a → honest f.b → HasFlown state honest v f flying.sent.count)
+        → v.is_down ≡ false → f.is_down ≡ false → honest f.a → honest f.b → IsRunning state honest (view_of k me epoch numbers given)
+    running_again flown up flew ha hb = subst (λ (x : View D). IsRunning state honest (view_of x me epoch numbers given)) (sym back) (record {
+      honest_a = ha;
+      honest_b = hb;
+      up = ap (λ (down : Bool). down || f.is_down) (ap (λ (x : CoordinatorView (Away D)). x.is_down) is ∙ up) ∙ flew;
+      rest = (flown up flew ha hb).rest;
+    })
 
     pub kept_as_it_was : (n : LedgerValue) (kept_now horizon_now : ℕ) (rising_now : Option ℕ) → k.is_down ≡ true → n ≡ l → kept_now ≡ kept → horizon_now ≡ horizon → rising_now ≡ rising
         → IsKept state honest k n epoch kept_now horizon_now rising_now numbers given

@@ -1,8 +1,10 @@
 pub mod Calls
 pub mod Facts
 pub mod Kept
+pub mod Checkpointed
 pub mod OpenIds
 pub mod Openings
 pub mod CountedVotes
 pub mod Staged
 pub mod Landed
+pub mod Still

@@ -4,8 +4,8 @@ use Rattle.std.proofs.lemmas.List.{append-nil}
 use Rattle.std.proofs.lemmas.List.Elements.{Contains-append_left, Contains-append_right, Contains-push}
 use Rattle.tuples.specs.declared.entry.Entry.{Entry}
 use Rattle.records.specs.declared.record.Record.{Record}
-use Rattle.records.specs.declared.record.Record.TheVariants.{Decision, Dropped, Epoch, Horizon, Learned, Prepare}
-use Rattle.records.specs.Coordinators.{CoordinatorState, coordinator_from, coordinator_state, coordinator_step, empty_coordinator}
+use Rattle.records.specs.declared.record.Record.TheVariants.{Decision, Dropped, Epoch, Horizon, Learned, Prepare, Checkpoint}
+use Rattle.records.specs.Coordinators.{CoordinatorState, coordinator_from, coordinator_state, coordinator_step, empty_coordinator, marked_base}
 use Rattle.records.proofs.CoordinatorStates.{coordinator_from-append}
 use Rattle.coordinator.specs.Keeping.{risen}
 use Rattle.coordinator.specs.Staged.{AreInOrder, decided, last_horizon}
@@ -15,18 +15,29 @@ pub state_of_more : (rs more : List Record) → coordinator_state (rs ++ more) �
 unfolding coordinator_state
 state_of_more rs more = coordinator_from-append empty_coordinator rs more
 
--- the decisions among them stand behind those that were known, and the base is the same
-pub decided_behind : (s : CoordinatorState) (rs : List Record) → ((coordinator_from s rs).log ≡ s.log ++ decided rs) × ((coordinator_from s rs).base ≡ s.base)
+-- the decisions among them stand behind those that were known
+pub decided_behind : (s : CoordinatorState) (rs : List Record) → (coordinator_from s rs).log ≡ s.log ++ decided rs
 unfolding coordinator_step
-decided_behind s [] = (sym (append-nil s.log), refl)
+decided_behind s [] = sym (append-nil s.log)
 decided_behind s (Prepare w ∷ rs) = decided_behind s rs
 decided_behind s (Learned to placed_ids ∷ rs) = decided_behind s rs
 decided_behind s (Dropped id ∷ rs) = decided_behind s rs
 decided_behind s (Epoch epoch store shards node ∷ rs) = decided_behind (record s { epoch = epoch }) rs
-decided_behind s (Decision place w ∷ rs) =
-    let rest = decided_behind (record s { log = s.log ++ w ∷ [] }) rs in
-    (rest.0 ∙ append_assoc s.log (w ∷ []) (decided rs), rest.1)
+decided_behind s (Decision place w ∷ rs) = decided_behind (record s { log = s.log ++ w ∷ [] }) rs ∙ append_assoc s.log (w ∷ []) (decided rs)
 decided_behind s (Horizon place ∷ rs) = decided_behind (record s { horizon = place }) rs
+decided_behind s (Checkpoint mark ∷ rs) = decided_behind (record s { base = marked_base mark s }) rs
+
+-- the base is the same
+pub base_behind : (low high : ℕ) (s : CoordinatorState) (rs : List Record) → AreInOrder low high rs → (coordinator_from s rs).base ≡ s.base
+unfolding coordinator_step
+base_behind low high s [] order = refl
+base_behind low high s (Prepare w ∷ rs) order = absurd order
+base_behind low high s (Learned to placed_ids ∷ rs) order = absurd order
+base_behind low high s (Dropped id ∷ rs) order = absurd order
+base_behind low high s (Epoch epoch store shards node ∷ rs) order = absurd order
+base_behind low high s (Decision place w ∷ rs) order = base_behind low high (record s { log = s.log ++ w ∷ [] }) rs order
+base_behind low high s (Horizon place ∷ rs) order = base_behind (place + 1) high (record s { horizon = place }) rs order.2
+base_behind low high s (Checkpoint mark ∷ rs) order = absurd order
 
 -- the horizon is the last of them
 pub horizon_behind : (low : ℕ) (before : Option ℕ) (s : CoordinatorState) (rs : List Record) → s.horizon ≡ risen low before → (coordinator_from s rs).horizon ≡ risen low (last_horizon before rs)
@@ -35,6 +46,7 @@ horizon_behind low before s [] is = is
 horizon_behind low before s (Prepare w ∷ rs) is = horizon_behind low before s rs is
 horizon_behind low before s (Learned to placed_ids ∷ rs) is = horizon_behind low before s rs is
 horizon_behind low before s (Dropped id ∷ rs) is = horizon_behind low before s rs is
+horizon_behind low before s (Checkpoint mark ∷ rs) is = horizon_behind low before (record s { base = marked_base mark s }) rs is
 horizon_behind low before s (Epoch epoch store shards node ∷ rs) is = horizon_behind low before (record s { epoch = epoch }) rs is
 horizon_behind low before s (Decision place w ∷ rs) is = horizon_behind low before (record s { log = s.log ++ w ∷ [] }) rs is
 horizon_behind low before s (Horizon place ∷ rs) is = horizon_behind low (Some place) (record s { horizon = place }) rs refl
@@ -46,6 +58,7 @@ epoch_behind low high s [] order = refl
 epoch_behind low high s (Prepare w ∷ rs) order = absurd order
 epoch_behind low high s (Learned to placed_ids ∷ rs) order = absurd order
 epoch_behind low high s (Dropped id ∷ rs) order = absurd order
+epoch_behind low high s (Checkpoint mark ∷ rs) order = absurd order
 epoch_behind low high s (Epoch epoch store shards node ∷ rs) order = absurd order
 epoch_behind low high s (Decision place w ∷ rs) order = epoch_behind low high (record s { log = s.log ++ w ∷ [] }) rs order
 epoch_behind low high s (Horizon place ∷ rs) order = epoch_behind (place + 1) high (record s { horizon = place }) rs order.2
@@ -55,6 +68,7 @@ last_of_more before [] more = refl
 last_of_more before (Prepare w ∷ rs) more = last_of_more before rs more
 last_of_more before (Learned to placed_ids ∷ rs) more = last_of_more before rs more
 last_of_more before (Dropped id ∷ rs) more = last_of_more before rs more
+last_of_more before (Checkpoint mark ∷ rs) more = last_of_more before rs more
 last_of_more before (Epoch epoch store shards node ∷ rs) more = last_of_more before rs more
 last_of_more before (Decision place w ∷ rs) more = last_of_more before rs more
 last_of_more before (Horizon place ∷ rs) more = last_of_more (Some place) rs more
@@ -65,6 +79,7 @@ order_of_first low high [] more order = tt
 order_of_first low high (Prepare w ∷ rs) more order = absurd order
 order_of_first low high (Learned to placed_ids ∷ rs) more order = absurd order
 order_of_first low high (Dropped id ∷ rs) more order = absurd order
+order_of_first low high (Checkpoint mark ∷ rs) more order = absurd order
 order_of_first low high (Epoch epoch store shards node ∷ rs) more order = absurd order
 order_of_first low high (Decision place w ∷ rs) more order = order_of_first low high rs more order
 order_of_first low high (Horizon place ∷ rs) more order = (order.0, order.1, order_of_first (place + 1) high rs more order.2)
@@ -75,6 +90,7 @@ order_wider low high lower higher [] below above order = tt
 order_wider low high lower higher (Prepare w ∷ rs) below above order = absurd order
 order_wider low high lower higher (Learned to placed_ids ∷ rs) below above order = absurd order
 order_wider low high lower higher (Dropped id ∷ rs) below above order = absurd order
+order_wider low high lower higher (Checkpoint mark ∷ rs) below above order = absurd order
 order_wider low high lower higher (Epoch epoch store shards node ∷ rs) below above order = absurd order
 order_wider low high lower higher (Decision place w ∷ rs) below above order = order_wider low high lower higher rs below above order
 order_wider low high lower higher (Horizon place ∷ rs) below above order =
@@ -86,6 +102,7 @@ rises_on low high place [] lt order = (place, refl, omega arith)
 rises_on low high place (Prepare w ∷ rs) lt order = absurd order
 rises_on low high place (Learned to placed_ids ∷ rs) lt order = absurd order
 rises_on low high place (Dropped id ∷ rs) lt order = absurd order
+rises_on low high place (Checkpoint mark ∷ rs) lt order = absurd order
 rises_on low high place (Epoch epoch store shards node ∷ rs) lt order = absurd order
 rises_on low high place (Decision p w ∷ rs) lt order = rises_on low high place rs lt order
 rises_on low high place (Horizon p ∷ rs) lt order =
@@ -100,6 +117,7 @@ at_most_last low high before [] x order there = absurd (nothing_in (Horizon x) t
 at_most_last low high before (Prepare w ∷ rs) x order there = absurd order
 at_most_last low high before (Learned to placed_ids ∷ rs) x order there = absurd order
 at_most_last low high before (Dropped id ∷ rs) x order there = absurd order
+at_most_last low high before (Checkpoint mark ∷ rs) x order there = absurd order
 at_most_last low high before (Epoch epoch store shards node ∷ rs) x order there = absurd order
 at_most_last low high before (Decision place w ∷ rs) x order there =
     ⊎_elim (λ is. absurd cc) (λ later. at_most_last low high before rs x order later) (first_or_later (Decision place w) (Horizon x) rs there)
@@ -127,6 +145,7 @@ last_there before [] r is = inl is
 last_there before (Prepare w ∷ rs) r is = behind_first before (Prepare w) rs r (last_there before rs r is)
 last_there before (Learned to placed_ids ∷ rs) r is = behind_first before (Learned to placed_ids) rs r (last_there before rs r is)
 last_there before (Dropped id ∷ rs) r is = behind_first before (Dropped id) rs r (last_there before rs r is)
+last_there before (Checkpoint mark ∷ rs) r is = behind_first before (Checkpoint mark) rs r (last_there before rs r is)
 last_there before (Epoch epoch store shards node ∷ rs) r is = behind_first before (Epoch epoch store shards node) rs r (last_there before rs r is)
 last_there before (Decision place w ∷ rs) r is = behind_first before (Decision place w) rs r (last_there before rs r is)
 last_there before (Horizon place ∷ rs) r is = ⊎_elim
@@ -143,6 +162,7 @@ order_decided low high place w [] order = tt
 order_decided low high place w (Prepare v ∷ rs) order = absurd order
 order_decided low high place w (Learned to placed_ids ∷ rs) order = absurd order
 order_decided low high place w (Dropped id ∷ rs) order = absurd order
+order_decided low high place w (Checkpoint mark ∷ rs) order = absurd order
 order_decided low high place w (Epoch epoch store shards node ∷ rs) order = absurd order
 order_decided low high place w (Decision p v ∷ rs) order = order_decided low high place w rs order
 order_decided low high place w (Horizon p ∷ rs) order = (order.0, order.1, order_decided (p + 1) high place w rs order.2)
@@ -154,6 +174,7 @@ order_raised low high place before [] le within below order = (le, within, tt)
 order_raised low high place before (Prepare v ∷ rs) le within below order = absurd order
 order_raised low high place before (Learned to placed_ids ∷ rs) le within below order = absurd order
 order_raised low high place before (Dropped id ∷ rs) le within below order = absurd order
+order_raised low high place before (Checkpoint mark ∷ rs) le within below order = absurd order
 order_raised low high place before (Epoch epoch store shards node ∷ rs) le within below order = absurd order
 order_raised low high place before (Decision p v ∷ rs) le within below order = order_raised low high place before rs le within below order
 order_raised low high place before (Horizon p ∷ rs) le within below order =
@@ -195,6 +216,7 @@ in_two first low high before [] more le order lies = record { next = low; up = o
 in_two first low high before (Prepare w ∷ rs) more le order lies = absurd order
 in_two first low high before (Learned to placed_ids ∷ rs) more le order lies = absurd order
 in_two first low high before (Dropped id ∷ rs) more le order lies = absurd order
+in_two first low high before (Checkpoint mark ∷ rs) more le order lies = absurd order
 in_two first low high before (Epoch epoch store shards node ∷ rs) more le order lies = absurd order
 in_two first low high before (Decision place w ∷ rs) more le order lies = in_two first low high before rs more le order lies
 in_two first low high before (Horizon place ∷ rs) more le order lies =
@@ -210,6 +232,7 @@ last_or_before low high before [] order = inl (refl, refl)
 last_or_before low high before (Prepare w ∷ rs) order = absurd order
 last_or_before low high before (Learned to placed_ids ∷ rs) order = absurd order
 last_or_before low high before (Dropped id ∷ rs) order = absurd order
+last_or_before low high before (Checkpoint mark ∷ rs) order = absurd order
 last_or_before low high before (Epoch epoch store shards node ∷ rs) order = absurd order
 last_or_before low high before (Decision place w ∷ rs) order = last_or_before low high before rs order
 last_or_before low high before (Horizon place ∷ rs) order =

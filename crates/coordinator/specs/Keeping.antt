@@ -7,7 +7,7 @@ use Rattle.records.specs.declared.record.Record.TheVariants.{Epoch}
 use Rattle.records.specs.Coordinators.{CoordinatorState, IsCoordinatorImage, coordinator_state, end_of}
 use Rattle.records.specs.Replays.{Identity, greatest_number}
 use Rattle.device.specs.Device.{State}
-use Rattle.journal.specs.Records.{HasRecords, IsOpened, LacksRoom, View, found}
+use Rattle.journal.specs.Records.{BankLacksRoom, HasRecords, IsOpened, View, found}
 use Rattle.ledger.specs.Ledgers.{LedgerValue}
 use Rattle.decisions.specs.Coordinators.{coordinator_opening}
 use Rattle.coordinator.specs.Staged.{AreInOrder, last_horizon}
@@ -89,5 +89,6 @@ pub record HasNoRoomToOpen {D : Type 0} (state : D → State) (honest : D → Ty
   pub journal : View D
   pub found : honest a → honest b → IsOpened state a b rs journal
   pub same : honest a → honest journal.a
+  pub same_b : honest b → honest journal.b
   pub epoch : ℕ
-  pub lacks : LacksRoom state honest journal.a journal.end (Epoch epoch me.store me.shards me.node ∷ [])
+  pub lacks : BankLacksRoom state honest journal.a journal.b journal.end (Epoch epoch me.store me.shards me.node ∷ [])

@@ -1,4 +1,5 @@
 pub mod Keeping
+pub mod Checkpoints
 pub mod Lending
 pub mod Ranges
 pub mod Staged

@@ -116,6 +116,13 @@ impl<D: Device> Coordinator<D> {
         self.journal.is_down()
     }
 
+    /// How many bytes the current bank has, up to the closed gate that ends its list and with it.
+    pub fn bank_len(&self) -> u64
+        ensures { result ≡ min (2 ^ 64 - 1) (self.now.end + 1) }
+    {
+        self.journal.bank_len()
+    }
+
     /// Sets the script of one device, and changes nothing else.
     pub fn fail(&mut self, bank: Bank, n: u64, tear: Tear)
         ensures set { IsSetOn D.set_to_fail bank n tear self.old.a self.old.b self.new.a self.new.b }

@@ -56,7 +56,8 @@ fn decided_entry(found: Record) -> Option<Entry>
         | Record::Learned { .. }
         | Record::Dropped(_)
         | Record::Epoch { .. }
-        | Record::Horizon(_) => None,
+        | Record::Horizon(_)
+        | Record::Checkpoint(_) => None,
     }
 }
 

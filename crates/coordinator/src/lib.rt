@@ -13,9 +13,11 @@
 
 mod aborting;
 mod beginning;
+mod checkpointing;
 mod coordinator;
 mod decided;
 mod deciding;
+mod known;
 mod lending;
 mod open_writes;
 mod opening;

@@ -1,7 +1,7 @@
 // Opening a coordinator: its records are replayed, and one opening more is made durable.
 ghost use Rattle.std.specs.Prelude.{◌≡◌, ◌⊎◌, ◌↔◌, ◌<◌, ◌+◌, ◌++◌, ◌∷◌, [], List, Option, Some, true, false, OnOk, OnErr, IfOk, IfErr, IsErr, IsErrOf, MatchResult};
 ghost use Rattle.device.specs.Device.{HasFailed};
-ghost use Rattle.journal.specs.Records.{HasCause, HasOldOrNew, HasRecords, LacksRoom, LeavesBoth, found};
+ghost use Rattle.journal.specs.Records.{BankLacksRoom, HasCause, HasOldOrNew, HasRecords, LeavesBoth, found};
 ghost use Rattle.records.specs.declared.record.Record.{Record as AnyRecord};
 ghost use Rattle.records.specs.declared.record.Record.TheVariants.{Epoch as epoch_record};
 ghost use Rattle.records.specs.Identity.{coordinator_number};
@@ -15,7 +15,7 @@ use crate::staging::stage_fitting;
 use device::Device;
 use journal::{Journal, Opening, Refused, Unread};
 use records::{Identity, Record};
-use recovery::Recovery;
+use recovery::{Recovery, Replay};
 use std::alloc::Global;
 use tuples::{MAX_NUMBER, Refusal};
 
@@ -25,11 +25,11 @@ fn replayed(alloc: Global, me: Identity, mut unread: Unread) -> Result<Recovery,
     ensures damaged { IsErrOf result Refusal.Damaged → (rs : List AnyRecord) → unread.records ≡ Some rs → IsCoordinatorImage me rs → ⊥ }
     ensures err { IfErr result (λ e. (e ≡ Refusal.Damaged) ⊎ (e ≡ Refusal.NoMemory)) }
 {
-    let mut so_far = Recovery::new(alloc);
+    let mut so_far = Replay::new(alloc);
     while let Some(record) = unread.next(alloc)? {
-        so_far = so_far.replay(me, record)?;
+        so_far = so_far.take(alloc, me, record)?;
     }
-    Ok(so_far)
+    so_far.into_recovery()
 }
 
 // As `replayed`, and `Full` after the last epoch.
@@ -63,6 +63,15 @@ fn count_opening<D: Device>(
     ensures cause { OnErr result (HasCause D.state D.honest (record journal.old { staged = epoch_record epoch me.store me.shards me.node ∷ [] }) journal.new) }
     ensures err { IfErr result (λ e. e ≡ Refusal.Down) }
 {
+    stage_opening(journal, epoch, me);
+    journal.flush()?;
+    Ok(())
+}
+
+fn stage_opening<D: Device>(journal: &mut Journal<D>, epoch: u64, me: Identity)
+    requires fresh { journal.old.staged ≡ [] }
+    ensures { journal.new ≡ record journal.old { staged = epoch_record epoch me.store me.shards me.node ∷ [] } }
+{
     let next = Record::Epoch {
         epoch,
         store: me.store(),
@@ -70,8 +79,6 @@ fn count_opening<D: Device>(
         node: me.node(),
     };
     stage_fitting(journal, &next);
-    journal.flush()?;
-    Ok(())
 }
 
 fn refused<D: Device>(refusal: Refusal, journal: Journal<D>) -> Refused<D>
@@ -126,7 +133,7 @@ fn start<D: Device>(
     ensures honest { MatchResult result (λ s. (D.honest journal.a ↔ D.honest s.a) × (D.honest journal.b ↔ D.honest s.b)) (λ e. (D.honest journal.a ↔ D.honest e.a) × (D.honest journal.b ↔ D.honest e.b)) }
     ensures ok { D.honest journal.a → D.honest journal.b → IfOk result (λ s. (s.durable ≡ journal.durable ++ coordinator_opening me journal.durable ∷ []) × IsRunning D.state D.honest s) }
     ensures fresh { IfOk result (λ s. (s.staged ≡ []) × (s.is_down ≡ false) × (s.me ≡ me) × (s.open_ids ≡ []) × (s.given ≡ 0)) }
-    ensures down { IfErr result (λ e. HasFailed (D.state journal.a) (D.state e.a) ⊎ (HasFailed (D.state journal.b) (D.state e.b) ⊎ LacksRoom D.state D.honest journal.a journal.end (epoch_record (so_far.epoch + 1) me.store me.shards me.node ∷ []))) }
+    ensures down { IfErr result (λ e. HasFailed (D.state journal.a) (D.state e.a) ⊎ (HasFailed (D.state journal.b) (D.state e.b) ⊎ BankLacksRoom D.state D.honest journal.a journal.b journal.end (epoch_record (so_far.epoch + 1) me.store me.shards me.node ∷ []))) }
     ensures err { IfErr result (λ e. e.refusal ≡ Refusal.Down) }
     ensures any_moment { D.honest journal.a → D.honest journal.b → MatchResult result
         (λ s. LeavesBoth D.moment D.left_since journal.a journal.b s.a s.b (HasFoundOrOpened me journal.durable))
@@ -141,7 +148,7 @@ fn start<D: Device>(
 impl<D: Device> Coordinator<D> {
     /// Opens the coordinator with this identity: replays its journal, and makes one `Epoch` record more durable.
     ///
-    /// Each refusal gives the devices back: `Down` where a call of a device failed, or bank a has no room for the record; `NoMemory`; `Full`
+    /// Each refusal gives the devices back: `Down` where a call of a device failed, or the current bank has no room for the record; `NoMemory`; `Full`
     /// after the last epoch; and `Damaged` where the devices have no records of this coordinator of this store, a condition that does not
     /// hold at its decision among the causes.
     pub fn open(alloc: Global, a: D, b: D, me: Identity) -> Result<Coordinator<D>, Refused<D>>
@@ -156,7 +163,7 @@ impl<D: Device> Coordinator<D> {
             × IsCoordinatorImage me rs × ((coordinator_state rs).epoch ≡ greatest_number)) }
         ensures down { IfErr result (λ e. e.refusal ≡ Refusal.Down → HasFailed (D.state a) (D.state e.a) ⊎ (HasFailed (D.state b) (D.state e.b) ⊎ HasNoRoomToOpen D.state D.honest a b me)) }
         ensures err { IfErr result (λ e. (e.refusal ≡ Refusal.Down) ⊎ ((e.refusal ≡ Refusal.NoMemory) ⊎ ((e.refusal ≡ Refusal.Full) ⊎ (e.refusal ≡ Refusal.Damaged)))) }
-        ensures stopped { (D.state a).stopped ≡ true → IsErr result }
+        ensures stopped { ((D.state a).stopped ≡ true) ⊎ ((D.state b).stopped ≡ true) → IsErr result }
 
         // At every moment of the call a stop leaves what it could leave before, or the records found, with this opening's or without.
         ensures any_moment { D.honest a → D.honest b → MatchResult result

@@ -20,7 +20,7 @@ use Rattle.journal.specs.Records.{HasNoRoom, HasRecords, View, WasLeftOrFound, f
 use Rattle.decisions.specs.Standing.{DecidedValue}
 use Rattle.decisions.specs.Values.{BatchValue, HeadsValue, IntentValue, IsIntent, SettledValue, VoteValue}
 
--- A coordinator over two devices: where the list of bank a ends, what is durable, what is staged, whether a device failed since the opening, which node of which store it is;
+-- A coordinator over two devices: where the list of the current bank ends, what is durable, what is staged, whether a device failed since the opening, which node of which store it is;
 -- and what lies in its memory alone: the ids of the writes that are open, the last of them first, and the last number that it gave.
 pub record CoordinatorView (D : Type 0) : Type 0 where
   pub a : D
@@ -236,7 +236,7 @@ pub record IsOpenedCoordinator {D : Type 0} (state : D → State) (honest : D �
   pub durable : new.durable ≡ rs ++ coordinator_opening me rs ∷ []
   pub running : IsRunning state honest new
 
--- at a moment of an opening the contents could be left before it, or hold what was found, or the records found with the opening's
+-- at a moment of an opening the contents have the records of some that could be left before it, or those found with the opening's
 abbrev pub WasLeftOrReopened : Identity → State → State → List ℕ → List ℕ → Type 0
 WasLeftOrReopened me sa sb x y = WasLeftOrFound sa sb x y
     ⊎ ((rs : List Record) × (found sa.seen sb.seen ≡ Some rs) × IsCoordinatorImage me (rs ++ coordinator_opening me rs ∷ []) × (found x y ≡ Some (rs ++ coordinator_opening me rs ∷ [])))

@@ -15,8 +15,10 @@ fn is_there(care: Care) -> bool
     ensures { result ≡ true → IsThere 2 (begun 2 care) }
 {
     match care {
-        Care::Flush(NodeName::Coordinator) => true,
-        Care::Flush(NodeName::Shard(shard)) => shard < SHARDS,
+        Care::Flush(NodeName::Coordinator) | Care::Checkpoint(NodeName::Coordinator) => true,
+        Care::Flush(NodeName::Shard(shard)) | Care::Checkpoint(NodeName::Shard(shard)) => {
+            shard < SHARDS
+        }
         Care::Learn(shard) => shard < SHARDS,
         Care::Resolve(shard) => shard < SHARDS,
         Care::Raise(_) => true,

@@ -1,5 +1,5 @@
 -- What a care holds is of the list and of the horizon that were seen.
-use Rattle.std.proofs.Common.{◌≡◌, inl, inr, ⊎_elim, ℕ, ◌≤◌, ◌<◌, ◌+◌, Bool, true, List, [], ◌∷◌, ◌++◌, length, Option, Some, None, Result, Ok, Err, slice_get, refl, sym, ◌∙◌, ap, subst, arith}
+use Rattle.std.proofs.Common.{◌≡◌, inl, inr, ⊎_elim, ℕ, ◌≤◌, ◌<◌, ◌+◌, Bool, true, false, List, [], ◌∷◌, ◌++◌, length, Option, Some, None, Result, Ok, Err, slice_get, refl, sym, ◌∙◌, ap, subst, arith}
 use Rattle.std.specs.Global.{Vec}
 use Rattle.std.specs.Prelude.{MatchOption}
 use Rattle.std.proofs.lemmas.Bool.{cases_Bool, cases_eq, cases_lt}
@@ -53,6 +53,7 @@ some_of P (Some x) it = (x, refl, it)
 
 pub cares_begin : CaresBegin
 cares_begin shards (cares.Flush n) seen low = record { batch = none_held seen; heads = λ h none. absurd (let bad : None ≡ Some h = none in cc) }
+cares_begin shards (cares.Checkpoint n) seen low = record { batch = none_held seen; heads = λ h none. absurd (let bad : None ≡ Some h = none in cc) }
 cares_begin shards (cares.Learn s) seen low = record { batch = none_held seen; heads = λ h none. absurd (let bad : None ≡ Some h = none in cc) }
 cares_begin shards (cares.Resolve s) seen low = record { batch = none_held seen; heads = λ h none. absurd (let bad : None ≡ Some h = none in cc) }
 cares_begin shards (cares.Raise place) seen low = record { batch = none_held seen; heads = λ h none. absurd (let bad : None ≡ Some h = none in cc) }
@@ -362,12 +363,14 @@ module _ (shards : ℕ) (seen : List Entry) (low : ℕ) where
   -- what is handed over is what was held
   hands_batch : (v out : CareFlow) (s : ℕ) (b : BatchValue) → IsCareOf seen low v → NextCall v (Some (Shard s (shard_calls.Learn b))) out → IsBatchOf seen b
   hands_batch (Flush v) (Flush m) s b was asks =
-      let (step, asked) = next_is v.seen.next (Shard s (shard_calls.Learn b)) (m.seen ≡ v.seen) (λ x. (Some (Shard s (shard_calls.Learn b)) ≡ Some (flushing.flush_of v.node)) × (m.seen ≡ out tt flushing.flush)) asks.1 in
-      absurd (no_flush v.node asked.0)
+      let (step, asked) = next_is v.seen.next (Shard s (shard_calls.Learn b)) (m.seen ≡ v.seen) (λ x. (Some (Shard s (shard_calls.Learn b)) ≡ Some (flushing.flush_of v.is_checkpoint v.node)) × (m.seen ≡ out tt flushing.flush)) asks.2 in
+      absurd (no_flush v.is_checkpoint v.node asked.0)
     where
-      no_flush : (n : NodeName) → Some (Shard s (shard_calls.Learn b)) ≡ Some (flushing.flush_of n) → ⊥
-      no_flush named.Coordinator is = cc
-      no_flush (named.Shard k) is = cc
+      no_flush : (is_checkpoint : Bool) (n : NodeName) → Some (Shard s (shard_calls.Learn b)) ≡ Some (flushing.flush_of is_checkpoint n) → ⊥
+      no_flush false named.Coordinator is = cc
+      no_flush false (named.Shard k) is = cc
+      no_flush true named.Coordinator is = cc
+      no_flush true (named.Shard k) is = cc
   hands_batch (Learn v) (Learn m) s b was asks = let (step, asked) = next_is v.seen.next (Shard s (shard_calls.Learn b)) (m.seen ≡ v.seen) (λ x. learning.Asks v.shard v.seen.holds x (Shard s (shard_calls.Learn b)) m.seen) asks.1 in by_step step asked
     where
       by_step : (step : learning.LearnStep) → learning.Asks v.shard v.seen.holds step (Shard s (shard_calls.Learn b)) m.seen → IsBatchOf seen b
@@ -406,12 +409,14 @@ module _ (shards : ℕ) (seen : List Entry) (low : ℕ) where
 
   hands_heads : (v out : CareFlow) (s : ℕ) (h : HeadsValue) → IsCareOf seen low v → NextCall v (Some (Shard s (shard_calls.Collect h))) out → h.horizon ≤ low
   hands_heads (Flush v) (Flush m) s h was asks =
-      let (step, asked) = next_is v.seen.next (Shard s (shard_calls.Collect h)) (m.seen ≡ v.seen) (λ x. (Some (Shard s (shard_calls.Collect h)) ≡ Some (flushing.flush_of v.node)) × (m.seen ≡ out tt flushing.flush)) asks.1 in
-      absurd (no_flush v.node asked.0)
+      let (step, asked) = next_is v.seen.next (Shard s (shard_calls.Collect h)) (m.seen ≡ v.seen) (λ x. (Some (Shard s (shard_calls.Collect h)) ≡ Some (flushing.flush_of v.is_checkpoint v.node)) × (m.seen ≡ out tt flushing.flush)) asks.2 in
+      absurd (no_flush v.is_checkpoint v.node asked.0)
     where
-      no_flush : (n : NodeName) → Some (Shard s (shard_calls.Collect h)) ≡ Some (flushing.flush_of n) → ⊥
-      no_flush named.Coordinator is = cc
-      no_flush (named.Shard k) is = cc
+      no_flush : (is_checkpoint : Bool) (n : NodeName) → Some (Shard s (shard_calls.Collect h)) ≡ Some (flushing.flush_of is_checkpoint n) → ⊥
+      no_flush false named.Coordinator is = cc
+      no_flush false (named.Shard k) is = cc
+      no_flush true named.Coordinator is = cc
+      no_flush true (named.Shard k) is = cc
   hands_heads (Learn v) (Learn m) s h was asks = let (step, asked) = next_is v.seen.next (Shard s (shard_calls.Collect h)) (m.seen ≡ v.seen) (λ x. learning.Asks v.shard v.seen.holds x (Shard s (shard_calls.Collect h)) m.seen) asks.1 in by_step step asked
     where
       by_step : (step : learning.LearnStep) → learning.Asks v.shard v.seen.holds step (Shard s (shard_calls.Collect h)) m.seen → h.horizon ≤ low

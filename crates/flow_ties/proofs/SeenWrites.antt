@@ -330,6 +330,7 @@ module _ (links : DecidedValue → Entry → Type 0) (asked : WriteValue) (above
     by_coordinator (calls.Abort intent) out reply after asks belongs is_told tells gives = abort_replied intent reply after (given_to (record v.holds { intent = None }) waits.abort out reply after asks.2 gives)
     by_coordinator (calls.Inquire id) out reply after asks belongs is_told tells gives = inquire_replied reply after (given_to v.holds waits.inquire out reply after asks.3 gives)
     by_coordinator (calls.Raise place settled) out reply after asks belongs is_told tells gives = absurd asks
+    by_coordinator calls.Checkpoint out reply after asks belongs is_told tells gives = absurd asks
     by_coordinator calls.Flush out reply after asks belongs is_told tells gives = ⊎_elim
         (λ (on_way, waits_for, unflushed). flush_to_decide_replied reply after on_way.1 (given_to v.holds waits.flush_to_decide out reply after waits_for gives))
         (λ (way, decided, waits_for). flush_to_outcome_replied reply after (given_to v.holds waits.flush_to_outcome out reply after waits_for gives))
@@ -357,6 +358,7 @@ module _ (links : DecidedValue → Entry → Type 0) (asked : WriteValue) (above
     by_shard s (shard_calls.ReadForCheck place x u) out reply after asks belongs gives = absurd asks
     by_shard s shard_calls.Settle out reply after asks belongs gives = absurd asks
     by_shard s (shard_calls.Collect heads) out reply after asks belongs gives = absurd asks
+    by_shard s shard_calls.Checkpoint out reply after asks belongs gives = absurd asks
     by_shard s shard_calls.Flush out reply after asks belongs gives = ⊎_elim
         (λ (there, way). ⊎_elim
         (λ waits_for. flush_to_learn_replied s reply after asks.0.1 belongs (given_to v.holds (waits.catch_up flushing) out reply after waits_for gives))

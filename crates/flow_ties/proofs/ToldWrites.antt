@@ -251,6 +251,7 @@ module _ (shards : ℕ) (old new : List Bool) (v after : WriteView) (was : Refus
         aborted (at holds waits.abort) reply notes refl was.tickets (to holds waits.abort asks.2)
     by_coordinator (calls.Inquire id) notes asks belongs = inquired (at v.holds waits.inquire) reply notes refl was.tickets (to v.holds waits.inquire asks.3)
     by_coordinator (calls.Raise place settled) notes asks belongs = absurd asks
+    by_coordinator calls.Checkpoint notes asks belongs = absurd asks
     by_coordinator calls.Flush notes asks belongs = ⊎_elim
         (λ (on_way, waits_for, unflushed). flushed_to_decide reply notes (to v.holds waits.flush_to_decide waits_for))
         (λ (way, has, waits_for). flushed_to_come_out reply notes (to v.holds waits.flush_to_outcome waits_for))
@@ -287,6 +288,7 @@ module _ (shards : ℕ) (old new : List Bool) (v after : WriteView) (was : Refus
     by_shard s (shard_calls.ReadForCheck place x u) kept noted asks belongs = absurd asks
     by_shard s shard_calls.Settle kept noted asks belongs = absurd asks
     by_shard s (shard_calls.Collect heads) kept noted asks belongs = absurd asks
+    by_shard s shard_calls.Checkpoint kept noted asks belongs = absurd asks
     by_shard s shard_calls.Flush kept noted asks belongs = ⊎_elim
         (λ (there, way). ⊎_elim
         (λ waits_for. flushed_to_learn s reply (noted there.2) belongs (to v.holds (waits.catch_up flushing) waits_for))

@@ -5,7 +5,7 @@
 //! Callers rely on: the list gains the body on `Ok`; after `Full` nothing has changed, after `Down` open again.
 //!
 //! Many bodies may be written ahead of a list, behind its closed gate, and become its end by one byte (`write_ahead`, `publish`); `clear`
-//! empties a list by one byte. No crate above calls these three yet.
+//! empties a list by one byte. A checkpoint of a journal is written by these three.
 //!
 //! `lend` gives the log with its device away, and leaves one that knows where the list ends; no program calls it yet.
 //!

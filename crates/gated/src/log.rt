@@ -62,6 +62,9 @@ impl<D: Device> GatedLog<D> {
         ensures any_moment { D.honest device → MatchResult result
             (λ r. LeavesOnly D.moment D.left_since device r.0.device (λ c. left (D.state device) c ⊎ (gated c ≡ gated (D.state device).seen)))
             (λ e. LeavesOnly D.moment D.left_since device e.1 (λ c. left (D.state device) c ⊎ (gated c ≡ gated (D.state device).seen))) }
+
+        // Of a device that has failed it leaves nothing else.
+        ensures still { (D.state device).stopped ≡ true → D.honest device → IfErr result (λ e. LeavesOnly D.moment D.left_since device e.1 (left (D.state device))) }
     {
         match find_list(alloc, &mut device) {
             Ok((bodies, end)) => Ok((
@@ -234,6 +237,13 @@ impl<D: Device> GatedLog<D> {
         ensures time { D.honest self.old.device → Elapses (D.moment self.old.device) (D.moment self.new.device) (D.left_since self.old.device) (D.left_since self.new.device) (left (D.state self.new.device)) }
     {
         self.device.fail(n, tear);
+    }
+
+    /// The place of the closed gate that ends the list.
+    pub fn end(&self) -> usize
+        ensures { result ≡ self.now.end }
+    {
+        self.end
     }
 
     /// Its device.

@@ -64,6 +64,7 @@ pub(crate) fn find_list<D: Device>(
     ensures counts { (D.state device.old).failures ≤ (D.state device.new).failures }
     ensures none { IsErrOf result Refusal.Down ⊎ ((D.state device.new).failures ≡ (D.state device.old).failures) }
     ensures any_moment { D.honest device.old → LeavesOnly D.moment D.left_since device.old device.new (λ c. left (D.state device.old) c ⊎ (gated c ≡ gated (D.state device.old).seen)) }
+    ensures still { (D.state device.old).stopped ≡ true → D.honest device.old → LeavesOnly D.moment D.left_since device.old device.new (left (D.state device.old)) }
 {
     let Ok(n) = device.len() else {
         return Err(Refusal::Down);

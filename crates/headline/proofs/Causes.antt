@@ -2,7 +2,7 @@
 use Rattle.std.proofs.Common.{◌≡◌, ◌⊎◌, inl, inr, ⊎_elim, ◌≤◌, ◌+◌, ◌++◌, ℕ, Bool, false, List, [], ◌∷◌, Some, sym, ◌∙◌, ap, subst, arith, if◌then◌else◌}
 use Rattle.headline.proofs.Words.{ComesUp, Down, Full, HasFailed, IsFound, IsRevived, NodeName, NodeState, NodeView, Opens, OpensWithCause, Record, Refusal, Reopened, State, coordinator, devices_of, down, found, named, refused, shard, shown, stops, up}
 use Rattle.records.specs.Replays.{greatest_number}
-use Rattle.journal.specs.Records.{IsOpened, LacksRoom, View}
+use Rattle.journal.specs.Records.{BankLacksRoom, IsOpened, View}
 use Rattle.calls.specs.Views as views
 use Rattle.laws.specs.Nodes.{epoch_of, opening_record}
 use Rattle.turns.specs.Promises.{HasDeviceCause}
@@ -73,10 +73,10 @@ module _ {D : Type 0} (state : D → State) (honest : D → Type 0) (moment : D 
       is_up = is ∙ ap (λ (l : List Record). up l staged) longer ∙ ap (up (rs ++ opening_record store shards n (epoch_of n rs + 1) ∷ [])) none;
     })
 
-    -- the opening has no room on bank a
-    lacks_room : (rs staged : List Record) (journal : View D) → honest journal.a → IsOpened state a b rs journal → LacksRoom state honest journal.a journal.end staged → HasCause
-    lacks_room rs staged journal hon opened lacks =
-        openings_without_room_have_cause state honest moment left_since store shards old new n a b rs staged journal are_revived hon opened lacks
+    -- the opening has no room on the current bank
+    lacks_room : (rs staged : List Record) (journal : View D) → honest journal.a → honest journal.b → IsOpened state a b rs journal → BankLacksRoom state honest journal.a journal.b journal.end staged → HasCause
+    lacks_room rs staged journal hon other opened lacks =
+        openings_without_room_have_cause state honest moment left_since store shards old new n a b rs staged journal are_revived hon other opened lacks
 
     -- a device failed in it
     fails_a : (x y : D) → new n ≡ (x, y) → HasFailed (state a) (state x) → HasCause
@@ -99,7 +99,7 @@ module _ {D : Type 0} (state : D → State) (honest : D → Type 0) (moment : D 
       (λ of_a. fails_a state honest moment left_since store shards old new coordinator a b hon_a hon_b ra rb fa fb x y is of_a)
       (λ rest. ⊎_elim
       (λ of_b. fails_b state honest moment left_since store shards old new coordinator a b hon_a hon_b ra rb fa fb x y is of_b)
-      (λ none. lacks_room state honest moment left_since store shards old new coordinator a b hon_a hon_b ra rb fa fb none.rs _ none.journal (none.same (ra.still_honest.0 hon_a))
+      (λ none. lacks_room state honest moment left_since store shards old new coordinator a b hon_a hon_b ra rb fa fb none.rs _ none.journal (none.same (ra.still_honest.0 hon_a)) (none.same_b (rb.still_honest.0 hon_b))
       (none.found (ra.still_honest.0 hon_a) (rb.still_honest.0 hon_b)) none.lacks)
       rest)
       (o.down same))
@@ -116,7 +116,7 @@ module _ {D : Type 0} (state : D → State) (honest : D → Type 0) (moment : D 
       (λ of_a. fails_a state honest moment left_since store shards old new (shard s) a b hon_a hon_b ra rb fa fb x y is of_a)
       (λ rest. ⊎_elim
       (λ of_b. fails_b state honest moment left_since store shards old new (shard s) a b hon_a hon_b ra rb fa fb x y is of_b)
-      (λ none. lacks_room state honest moment left_since store shards old new (shard s) a b hon_a hon_b ra rb fa fb none.rs _ none.journal (none.same (ra.still_honest.0 hon_a))
+      (λ none. lacks_room state honest moment left_since store shards old new (shard s) a b hon_a hon_b ra rb fa fb none.rs _ none.journal (none.same (ra.still_honest.0 hon_a)) (none.same_b (rb.still_honest.0 hon_b))
       (none.found (ra.still_honest.0 hon_a) (rb.still_honest.0 hon_b)) none.lacks)
       rest)
       (o.down same))

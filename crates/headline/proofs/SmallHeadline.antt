@@ -24,13 +24,13 @@ use Rattle.headline.proofs.Joined.{lives}
 
 -- the flush of the coordinator before its call, with the call out, and behind its end
 abbrev fresh : CareFlow
-fresh = Flush (record { node = named.Coordinator; seen = ready tt flush })
+fresh = Flush (record { node = named.Coordinator; is_checkpoint = false; seen = ready tt flush })
 
 abbrev asking : CareFlow
-asking = Flush (record { node = named.Coordinator; seen = out tt flush })
+asking = Flush (record { node = named.Coordinator; is_checkpoint = false; seen = out tt flush })
 
 abbrev refused_down : CareFlow
-refused_down = Flush (record { node = named.Coordinator; seen = over tt (ends.Refused Down) })
+refused_down = Flush (record { node = named.Coordinator; is_checkpoint = false; seen = over tt (ends.Refused Down) })
 
 -- a flush begins, its turn is its end, and there is none to turn then
 abbrev pub steps : List Step
@@ -84,11 +84,11 @@ module _ {D : Type 0} (state : D → State) (honest : D → Type 0) (moment : D 
           call = Coordinator calls.Flush;
           out = asking;
           reply = from_coordinator (told.Flush (Err Down));
-          asked = (refl, (refl, (refl, refl)), λ shards there. tt);
+          asked = (refl, (refl, refl, (refl, refl)), λ shards there. tt);
           fits = tt;
           whole = tt;
           called = record { is = away new; answers = inl (refl, refl); new_is = refl };
-          given = ((refl, (ends.Refused Down, refl, refl)), (ends.Refused Down, refl));
+          given = ((refl, refl, (ends.Refused Down, refl, refl)), (ends.Refused Down, refl));
         };
         leaves = record {
           named = refl;

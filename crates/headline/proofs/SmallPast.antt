@@ -3,7 +3,8 @@ use Rattle.std.proofs.Common.{◌≤◌, ℕ, [], ◌∷◌, refl, arith}
 use Rattle.tuples.specs.declared.entry.Entry.{Entry}
 use Rattle.tuples.specs.declared.entry.WriteId.{WriteId}
 use Rattle.gated.specs.Gated.{gated}
-use Rattle.journal.specs.Records.{found}
+use Rattle.journal.specs.Records.{current_bank, found}
+use Rattle.records.specs.Checkpoints.{is_complete}
 use Rattle.records.specs.Coordinators.{coordinator_state}
 use Rattle.laws.specs.Machines.{Machine}
 use Rattle.laws.specs.Nodes.{NodeName, coordinator}
@@ -24,7 +25,7 @@ past_before_all = record { given = λ found there. omega arith; unlisted = λ j 
 
 -- one of the first epoch may still be given out
 found_empty : stops itself IsHonest 7 1 (λ (n : NodeName). (unmade, unmade)) coordinator []
-unfolding found gated
+unfolding found gated current_bank is_complete
 found_empty = ([], [], unmade_honest.reads_left refl, unmade_honest.reads_left refl, refl)
 
 yet_to_be_given : IsSmallPast empty_machine (of_epoch 1) → ⊥

@@ -186,6 +186,7 @@ node_to_flow shards (called_names.Shard s) is = is
 
 care_able : (shards : ℕ) (care : Care) → IsAskable shards (MayCare shards care) (asked_for care) (caring_for shards care)
 care_able shards (any_care.Flush node) = record { decided = node_or_not shards node; whole = node_to_laws shards node; wanted = node_from_laws shards node; shown = λ is. (refl, node_to_flow shards node is) }
+care_able shards (any_care.Checkpoint node) = record { decided = node_or_not shards node; whole = node_to_laws shards node; wanted = node_from_laws shards node; shown = λ is. (refl, node_to_flow shards node is) }
 care_able shards (any_care.Learn s) = record { decided = below_or_not shards s; whole = λ is. is; wanted = λ is. is; shown = λ is. (refl, is) }
 care_able shards (any_care.Resolve s) = record { decided = below_or_not shards s; whole = λ is. is; wanted = λ is. is; shown = λ is. (refl, is) }
 care_able shards (any_care.Raise place) = record { decided = at_most place max_number; whole = λ is. is; wanted = λ is. is; shown = λ is. (refl, refl) }

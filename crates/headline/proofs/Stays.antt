@@ -7,7 +7,7 @@ use Rattle.shard.specs.Shards.{ShardView}
 use Rattle.calls.specs.Asking.{CoordinatorAnswers}
 use Rattle.calls.specs.Views as views
 use Rattle.calls.specs.declared.call.CoordinatorCall.{CoordinatorCall}
-use Rattle.calls.specs.declared.call.CoordinatorCall.TheVariants.{Begin, Heads, Batch, Decide, Outcome, Abort, Inquire, Raise, Flush}
+use Rattle.calls.specs.declared.call.CoordinatorCall.TheVariants.{Begin, Heads, Batch, Decide, Outcome, Abort, Inquire, Raise, Flush, Checkpoint}
 use Rattle.calls.specs.declared.reply.CoordinatorReply.{CoordinatorReply}
 use Rattle.calls.specs.declared.reply.CoordinatorReply.TheVariants as told
 use Rattle.calls.proofs.Belonging.{shard_stays}
@@ -39,6 +39,7 @@ module _ {D : Type 0} (state : D → State) (honest : D → Type 0) (moment : D 
       ⊎_elim (λ is. absurd (let bad : false ≡ true = a.was_up is in cc)) (λ up. ⊎_elim (λ one. ap me_of one.1) (λ same. ap me_of same.1) ((a.ok (sound up)).0.new_is)) (up_or_down v)
   stays v w (Raise place settled) (told.Raise (Err e)) sound a = ap me_of a.err.0
   stays v w Flush (told.Flush r) sound a = a.keeps.me
+  stays v w Checkpoint (told.Checkpoint r) sound a = a.keeps.me
   stays v w call reply sound a = absurd a
 
   module _ (store shards : ℕ) (old : Store D) (now : Moment) (standing : StandsOver state honest store shards old now) where

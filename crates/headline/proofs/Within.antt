@@ -24,7 +24,7 @@ found_again old new r = record {
   stopped = r.stopped;
 }
 
--- at a moment of an opening the contents could be left before it, or hold what was found, or that with the record of the opening
+-- at a moment of an opening the contents have the records of some that could be left before it, or those that were found with the record of the opening
 abbrev pub WasLeftOrLonger : (List Record → Type 0) → (List Record → Record) → State → State → List ℕ → List ℕ → Type 0
 WasLeftOrLonger image opening sa sb c d = WasLeftOrFound sa sb c d ⊎ ((rs : List Record) × (found sa.seen sb.seen ≡ Some rs) × image (rs ++ opening rs ∷ []) × (found c d ≡ Some (rs ++ opening rs ∷ [])))
 
@@ -69,8 +69,12 @@ module _ {D : Type 0} (state : D → State) (honest : D → Type 0) (moment : D 
 
   module _ (image : List Record → Type 0) (opening : List Record → Record) (old_a old_b new_a new_b : D) (hon_a : honest old_a) (hon_b : honest old_b)
       (readable : AreReadable old_a old_b) (over : AreOpenedOver image opening old_a old_b new_a new_b) where
+    -- contents with the records of some that could be left before
+    read_as : (c d v w : List ℕ) → found c d ≡ found v w → left (state old_a) v → left (state old_b) w → WasOrIsLonger image opening old_a old_b c d
+    read_as c d v w same in_v in_w = let rs = readable v w in_v in_w in (rs.0, same ∙ rs.1, inl (v, w, in_v, in_w, rs.1))
+
     could_be : (c d : List ℕ) → left (state old_a) c → left (state old_b) d → WasOrIsLonger image opening old_a old_b c d
-    could_be c d in_c in_d = let rs = readable c d in_c in_d in (rs.0, rs.1, inl (c, d, in_c, in_d, rs.1))
+    could_be c d in_c in_d = read_as c d c d refl in_c in_d
 
     of_a : (c : List ℕ) → left (state over.a) c → left (state old_a) c
     of_a = less_left old_a over.a hon_a over.revived_a
@@ -81,16 +85,13 @@ module _ {D : Type 0} (state : D → State) (honest : D → Type 0) (moment : D 
     -- what an opening leaves, where both devices read as they could be left
     by_opening : left (state old_a) (state over.a).seen → left (state old_b) (state over.b).seen → (c d : List ℕ) → WasLeftOrLonger image opening (state over.a) (state over.b) c d
         → WasOrIsLonger image opening old_a old_b c d
-    by_opening in_a in_b c d (inl (inl both)) = could_be c d (of_a c both.0) (of_b d both.1)
-    by_opening in_a in_b c d (inl (inr same)) =
-        let rs = readable (state over.a).seen (state over.b).seen in_a in_b in
-        (rs.0, same ∙ rs.1, inl ((state over.a).seen, (state over.b).seen, in_a, in_b, rs.1))
+    by_opening in_a in_b c d (inl was) = read_as c d was.0 was.1 was.4 (of_a was.0 was.2) (of_b was.1 was.3)
     by_opening in_a in_b c d (inr more) = (more.0 ++ opening more.0 ∷ [], more.3, inr (more.0, ((state over.a).seen, (state over.b).seen, in_a, in_b, more.1), more.2, refl))
 
     pub opened_since : (c d : List ℕ) → left_since new_a (moment old_a) c → left_since new_b (moment old_b) d → WasOrIsLonger image opening old_a old_b c d
     opened_since c d in_c in_d = ⊎_elim
         (λ opens. ⊎_elim
-        (λ was. could_be c d (less_since old_a over.a hon_a over.revived_a c was.0) (less_since old_b over.b hon_b over.revived_b d was.1))
+        (λ was. read_as c d was.0 was.1 was.4 (less_since old_a over.a hon_a over.revived_a was.0 was.2) (less_since old_b over.b hon_b over.revived_b was.1 was.3))
         (λ by. by_opening opens.0.found opens.1.found c d by)
         (opens.2.before (moment old_a) (moment old_b) c d (over.revived_a.time hon_a).later (over.revived_b.time hon_b).later in_c in_d))
         (λ same. could_be c d

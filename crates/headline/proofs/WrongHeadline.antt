@@ -51,10 +51,10 @@ untouched = record { seen = []; durable = []; written = []; stopped = false; fai
 
 -- devices of a node that failed since, or have no room: between these and those
 abbrev HaveCause : State × State → State × State → Type 0
-HaveCause old new = HasFailed old.0 new.0 ⊎ (HasFailed old.1 new.1 ⊎ (IsNearlyFull old.0 ⊎ IsNearlyFull old.1))
+HaveCause old new = HasFailed old.0 new.0 ⊎ (HasFailed old.1 new.1 ⊎ (IsNearlyFull old.0 ⊎ (IsNearlyFull old.1 ⊎ (IsNearlyFull new.0 ⊎ IsNearlyFull new.1))))
 
 no_cause : HaveCause (untouched, untouched) (untouched, untouched) → ⊥
-no_cause cause = ⊎_elim not_failed (λ rest. ⊎_elim not_failed (λ full. ⊎_elim (λ is. omega (arith, is)) (λ is. omega (arith, is)) full) rest) cause
+no_cause cause = ⊎_elim not_failed (λ rest. ⊎_elim not_failed (λ full. ⊎_elim (λ is. omega (arith, is)) (λ more. ⊎_elim (λ is. omega (arith, is)) (λ behind. ⊎_elim (λ is. omega (arith, is)) (λ is. omega (arith, is)) behind) more) full) rest) cause
   where
     not_failed : HasFailed untouched untouched → ⊥
     not_failed failed = ⊎_elim (λ is. omega (arith, is)) (λ is. omega (arith, is)) failed

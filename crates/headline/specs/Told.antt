@@ -28,9 +28,10 @@ asked_by (requests.Read fresh sets) = to_read fresh sets.items
 asked_by (requests.Check fresh tuple) = to_check fresh (userset_of tuple) tuple.user
 asked_by (requests.Watch cursor limit names) = to_watch cursor limit names.items
 
--- and what a care asks
+-- and what a care asks: a checkpoint is a flush of its node
 abbrev pub asked_for : Care → Asked
 asked_for (cares.Flush node) = to_flush (name_of node)
+asked_for (cares.Checkpoint node) = to_flush (name_of node)
 asked_for (cares.Learn s) = to_learn s
 asked_for (cares.Resolve s) = to_resolve s
 asked_for (cares.Raise place) = to_raise place

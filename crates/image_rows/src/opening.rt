@@ -1,4 +1,4 @@
-// What a node finds as it is opened, and which bytes it leaves on its first device.
+// What a node finds as it is opened, and which bytes it leaves on its devices.
 ghost use Rattle.std.specs.Prelude.{◌≡◌, ◌<◌};
 ghost use Rattle.records.specs.Identity.{coordinator_number};
 
@@ -14,7 +14,7 @@ use tuples::{Change, Refusal};
 // Texts that name no store are the same at every store.
 const ANY_STORE: u64 = 0;
 
-/// Opens the shard: what it has learned up to, the writes in doubt, its versions, and the bytes of its first device behind the opening.
+/// Opens the shard: what it has learned up to, the writes in doubt, its versions, and the bytes of its devices behind the opening.
 pub(crate) fn open_shard<D: Device>(
     alloc: Global,
     me: Identity,
@@ -27,9 +27,10 @@ pub(crate) fn open_shard<D: Device>(
     match Shard::open(alloc, a, b, me) {
         Ok(shard) => {
             let told = tell_shard(alloc, &shard, out);
-            let (mut a, _b) = shard.into_devices();
+            let (mut a, mut b) = shard.into_devices();
             told?;
-            tell_bytes(alloc, &mut a, out)
+            tell_bytes(alloc, &mut a, out)?;
+            tell_bytes(alloc, &mut b, out)
         }
         Err(refused) => Err(refused.refusal),
     }
@@ -49,7 +50,7 @@ fn tell_shard<D: Device>(
     Ok(Printed::Versions(&rows).write_to(ANY_STORE, out)?)
 }
 
-/// Opens the coordinator: its kept place and its horizon, its decisions above that with their changes, and the bytes of its first device behind the opening.
+/// Opens the coordinator: its kept place and its horizon, its decisions above that with their changes, and the bytes of its devices behind the opening.
 pub(crate) fn open_coordinator<D: Device>(
     alloc: Global,
     me: Identity,
@@ -62,9 +63,10 @@ pub(crate) fn open_coordinator<D: Device>(
     match Coordinator::open(alloc, a, b, me) {
         Ok(coordinator) => {
             let told = tell_coordinator(alloc, &coordinator, out);
-            let (mut a, _b) = coordinator.into_devices();
+            let (mut a, mut b) = coordinator.into_devices();
             told?;
-            tell_bytes(alloc, &mut a, out)
+            tell_bytes(alloc, &mut a, out)?;
+            tell_bytes(alloc, &mut b, out)
         }
         Err(refused) => Err(refused.refusal),
     }

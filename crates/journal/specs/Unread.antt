@@ -2,8 +2,6 @@
 use Rattle.std.specs.Prelude.{◌≡◌, ◌<◌, ◌+◌, ℕ, false, List, [], ◌∷◌, length, Option, Some}
 use Rattle.records.specs.declared.record.Record.{Record}
 use Rattle.records.specs.Reading.{batch}
-use Rattle.device.specs.Device.{State}
-use Rattle.gated.specs.Gated.{HasList}
 use Rattle.journal.specs.Records.{View, batches, both, or_none}
 
 -- the records that are left, none where a batch among them is no batch, and a number that each record read makes smaller
@@ -29,12 +27,6 @@ pub record IsRead (old : Left) (r : Record) (new : Left) : Type 0 where
 pub record IsBatchRead (old : List (List ℕ)) (rs : List Record) (new : List (List ℕ)) : Type 0 where
   pub records : batches old ≡ both (Some rs) (batches new)
   pub steps : steps_of old ≡ length rs + 1 + steps_of new
-
--- every content that a stop may leave has these bodies, of a device that has not failed
-pub record HasBodies (s : State) : Type 0 where
-  pub bodies : List (List ℕ)
-  pub has : HasList s bodies
-  pub up : s.stopped ≡ false
 
 -- two devices whose records were found: none where a batch is no batch
 pub record OpeningView (D : Type 0) : Type 0 where

@@ -2,21 +2,21 @@
 ghost use Rattle.std.specs.Prelude.{◌≡◌, ◌≤◌, ◌<◌, ◌+◌, ◌++◌, ◌∷◌, ◌↔◌, ◌⊎◌, [], List, ℕ, Some, true, false, length, take, drop, vec_capacity, IfOk, IfErr, OnOk, OnErr};
 ghost use Rattle.std.specs.Int.{w16, to_be_bytes};
 ghost use Rattle.device.specs.Device.{LeavesOnly, HasFailed};
-ghost use Rattle.gated.specs.Gated.{HasList, IsOldOrNew, body_of, record_head};
+ghost use Rattle.gated.specs.Gated.{HasList, IsAhead, IsOldOrNew, body_of, gated, record_head};
 ghost use Rattle.journal.specs.Records.{HasNoRoom, LacksRoom, batch_size};
 ghost use Rattle.journal.specs.Lending.{Flies};
 ghost use Rattle.journal.specs.Staging.{max_len, staged_in, IsSpelled};
-ghost use Rattle.records.specs.Format.{IsPrepared, IsRecord, batch_bytes, record_bytes};
-ghost use Rattle.records.specs.declared.record.Record.TheVariants.{Prepare as prepare_record};
+ghost use Rattle.journal.specs.Sources.{record_of};
+ghost use Rattle.records.specs.Format.{IsRecord, batch_bytes, record_bytes};
 ghost use Rattle.records.specs.Reading.{batch};
 
-use crate::Sent;
+use crate::{RecordRef, Sent};
 use device::Device;
 use gated::{GatedLog, MAX_BODY};
-use records::{MAX_RECORDS, Record, VERSION, encode_prepare};
+use records::{MAX_RECORDS, Record, VERSION};
 use std::alloc::{AllocError, Global};
 use std::marker::Model;
-use tuples::{Entry, Refusal};
+use tuples::Refusal;
 
 /// Before the records: four bytes that the log fills itself, the version, and two bytes of the number of records.
 const HEAD: usize = 7;
@@ -65,33 +65,17 @@ impl Batch {
     }
 
     /// Adds a record, or is `Full`.
-    pub(crate) fn push(&mut self, next: &Record) -> Result<(), Refusal>
-        requires { IsRecord next.now }
-        ensures ok { OnOk result (self.new ≡ self.old ++ next.now ∷ []) }
-        ensures room { OnOk result (HasNoRoom self.old next.now → ⊥) }
-        ensures full { OnErr result (HasNoRoom self.old next.now) }
+    pub(crate) fn push(&mut self, next: RecordRef<'_>) -> Result<(), Refusal>
+        requires { IsRecord (record_of next) }
+        ensures ok { OnOk result (self.new ≡ self.old ++ record_of next.entry ∷ []) }
+        ensures room { OnOk result (HasNoRoom self.old (record_of next.entry) → ⊥) }
+        ensures full { OnErr result (HasNoRoom self.old (record_of next.entry)) }
         ensures err { IfErr result (λ e. (e ≡ Refusal.Full) × (self.new ≡ self.old)) }
     {
         if self.count == MAX_RECORDS {
             return Err(Refusal::Full);
         }
         spell(next, &mut self.bytes)?;
-        self.count += 1;
-        Ok(())
-    }
-
-    /// Adds the prepare of a part, or is `Full`.
-    pub(crate) fn push_prepare(&mut self, part: &Entry) -> Result<(), Refusal>
-        requires { IsPrepared part.now }
-        ensures ok { OnOk result (self.new ≡ self.old ++ prepare_record part.now ∷ []) }
-        ensures room { OnOk result (HasNoRoom self.old (prepare_record part.now) → ⊥) }
-        ensures full { OnErr result (HasNoRoom self.old (prepare_record part.now)) }
-        ensures err { IfErr result (λ e. (e ≡ Refusal.Full) × (self.new ≡ self.old)) }
-    {
-        if self.count == MAX_RECORDS {
-            return Err(Refusal::Full);
-        }
-        spell_prepare(part, &mut self.bytes)?;
         self.count += 1;
         Ok(())
     }
@@ -108,7 +92,7 @@ impl Batch {
             return false;
         }
         let end = self.bytes.len();
-        match spell(next, &mut self.bytes) {
+        match spell(RecordRef::Whole(next), &mut self.bytes) {
             Ok(()) => {
                 self.bytes.truncate(end);
                 true
@@ -172,15 +156,40 @@ impl Batch {
         self.count = 0;
         result
     }
+
+    /// Writes them ahead of the list of a log as one batch. Whatever comes of it, none are left.
+    pub(crate) fn write_ahead_to<D: Device>(&mut self, log: &mut GatedLog<D>) -> Result<(), Refusal>
+        requires some { 1 ≤ length self.old }
+        requires up { D.honest log.old.device → (D.state log.old.device).stopped ≡ false }
+        ensures empty { self.new ≡ [] }
+        ensures read { batch (batch_bytes false self.old) ≡ Some self.old }
+        ensures honest { D.honest log.old.device ↔ D.honest log.new.device }
+        ensures any_moment { (bodies : List (List ℕ)) → D.honest log.old.device → HasList (D.state log.old.device) bodies → LeavesOnly D.moment D.left_since log.old.device log.new.device (λ c. gated c ≡ Some bodies) }
+        ensures list { (bodies : List (List ℕ)) → D.honest log.old.device → HasList (D.state log.old.device) bodies → HasList (D.state log.new.device) bodies }
+        ensures ok { (ahead : List (List ℕ)) → D.honest log.old.device → IsAhead (D.state log.old.device) log.old.end log.old.at ahead
+            → OnOk result (IsAhead (D.state log.new.device) log.new.end log.new.at (ahead ++ batch_bytes false self.old ∷ [])) }
+        ensures up { D.honest log.old.device → OnOk result ((D.state log.new.device).stopped ≡ false) }
+        ensures counts { (D.state log.old.device).failures ≤ (D.state log.new.device).failures }
+        ensures none { OnOk result ((D.state log.new.device).failures ≡ (D.state log.old.device).failures) }
+        ensures end { log.new.end ≡ log.old.end }
+        ensures at { OnOk result (log.new.end < log.new.at) }
+        ensures cause { OnErr result (HasFailed (D.state log.old.device) (D.state log.new.device) ⊎ LacksRoom D.state D.honest log.new.device log.new.at self.old) }
+    {
+        complete(&mut self.bytes, self.count);
+        let result = log.write_ahead(&mut self.bytes);
+        self.bytes.truncate(HEAD);
+        self.count = 0;
+        result
+    }
 }
 
 // Adds the bytes of the record, if a batch may be so long.
-fn spell(next: &Record, bytes: &mut Vec<u8>) -> Result<(), Refusal>
-    requires spellable { IsRecord next.now }
+fn spell(next: RecordRef<'_>, bytes: &mut Vec<u8>) -> Result<(), Refusal>
+    requires spellable { IsRecord (record_of next) }
     requires fits { length bytes.old.items ≤ max_len }
     requires room { max_len + 1 ≤ vec_capacity bytes.old }
-    ensures ok { OnOk result ((bytes.new.items ≡ bytes.old.items ++ record_bytes false next.now) × (length bytes.new.items ≤ max_len)) }
-    ensures full { OnErr result (max_len < length bytes.old.items + length (record_bytes false next.now)) }
+    ensures ok { OnOk result ((bytes.new.items ≡ bytes.old.items ++ record_bytes false (record_of next.entry)) × (length bytes.new.items ≤ max_len)) }
+    ensures full { OnErr result (max_len < length bytes.old.items + length (record_bytes false (record_of next.entry))) }
     ensures err { IfErr result (λ e. (e ≡ Refusal.Full) × (bytes.new.items ≡ bytes.old.items)) }
     ensures capacity { vec_capacity bytes.old ≤ vec_capacity bytes.new }
 {
@@ -190,27 +199,6 @@ fn spell(next: &Record, bytes: &mut Vec<u8>) -> Result<(), Refusal>
     };
     if bytes.len() > MAX_LEN {
         bytes.truncate(end);
-        return Err(Refusal::Full);
-    }
-    Ok(())
-}
-
-// Adds the bytes of the record that prepares a part, if a batch may be so long.
-fn spell_prepare(part: &Entry, bytes: &mut Vec<u8>) -> Result<(), Refusal>
-    requires spellable { IsPrepared part.now }
-    requires fits { length bytes.old.items ≤ max_len }
-    requires room { max_len + 1 ≤ vec_capacity bytes.old }
-    ensures ok { OnOk result ((bytes.new.items ≡ bytes.old.items ++ record_bytes false (prepare_record part.now)) × (length bytes.new.items ≤ max_len)) }
-    ensures full { OnErr result (max_len < length bytes.old.items + length (record_bytes false (prepare_record part.now))) }
-    ensures err { IfErr result (λ e. (e ≡ Refusal.Full) × (bytes.new.items ≡ bytes.old.items)) }
-    ensures capacity { vec_capacity bytes.old ≤ vec_capacity bytes.new }
-{
-    let before = bytes.len();
-    let Ok(()) = encode_prepare(part, bytes) else {
-        return Err(Refusal::Full);
-    };
-    if bytes.len() > MAX_LEN {
-        bytes.truncate(before);
         return Err(Refusal::Full);
     }
     Ok(())

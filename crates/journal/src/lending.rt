@@ -41,24 +41,30 @@ impl<D: Device> Journal<D> {
     {
         let BatchRoom { mut batch } = room;
         let Journal {
-            log,
-            spare,
+            a,
+            b,
+            is_b,
+            generation,
             staged,
             is_down,
         } = self;
         batch.copy(&staged);
         let sent = staged.size();
-        let stands = Away::of(&spare);
-        let (without, log) = log.lend();
+        let (without_a, a) = a.lend();
+        let (without_b, b) = b.lend();
         let lent = Journal {
-            log: without,
-            spare: stands,
+            a: without_a,
+            b: without_b,
+            is_b,
+            generation,
             staged,
             is_down,
         };
         let flight = Journal {
-            log,
-            spare,
+            a,
+            b,
+            is_b,
+            generation,
             staged: batch,
             is_down,
         };
@@ -74,21 +80,27 @@ impl<D: Device> Journal<Away<D>> {
         ensures { result.0 ≡ landed self flown sent }
     {
         let Journal {
-            log: _,
-            spare: _,
+            a: _,
+            b: _,
+            is_b: _,
+            generation: _,
             mut staged,
             is_down,
         } = self;
         staged.forget_first(sent);
         let Journal {
-            log,
-            spare,
+            a,
+            b,
+            is_b,
+            generation,
             staged: batch,
             is_down: has_failed,
         } = flown;
         let back = Journal {
-            log,
-            spare,
+            a,
+            b,
+            is_b,
+            generation,
             staged,
             is_down: is_down || has_failed,
         };

@@ -1,25 +1,34 @@
-//! The records of a node, staged and durable, on two devices.
+//! The records of a node, staged and durable, on its two devices, of which one has the records and the other takes a checkpoint.
 //!
-//! Keeps: a flush leaves the durable records with all that was staged or without, at every moment, and with it after `Ok`.
-//! Never: knows what a record does to a node. The second device is untouched so far.
+//! Keeps: a flush leaves the durable records with all that was staged or without, at every moment, and with it after `Ok`; a checkpoint leaves the old
+//! records or its own.
+//! Never: knows what a record does to a node, but for those that begin and end a checkpoint, by which the current bank is told.
 //! Callers rely on: `stage` and `flush` take no memory; after `Down` nothing becomes durable until the devices are opened again.
 //!
+//! A bank b that has records without a checkpoint is damage.
+//!
 //! A journal may lend its devices: a flight is a journal with them, to be flushed, while records are staged to what stays, and `land` brings
-//! them back. No program calls the two yet.
+//! them back. The shards of a server are flushed so.
 //!
 //! Start at `specs/Records.antt`, which records two contents have.
 #![tactic(auto)]
 
 mod batch;
+mod checkpoint;
 mod journal;
 mod lending;
 mod opening;
+mod record_ref;
 mod refused;
 mod room;
+mod summary;
 mod unread;
 
+pub use checkpoint::Source;
 pub use journal::Journal;
 pub use lending::{BatchRoom, Sent};
 pub use opening::Opening;
+pub use record_ref::RecordRef;
 pub use refused::{Bank, Refused};
+pub use summary::is_plain;
 pub use unread::Unread;

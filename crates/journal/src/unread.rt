@@ -1,7 +1,8 @@
 // The records that an opening found, read batch by batch.
-ghost use Rattle.std.specs.Prelude.{◌≡◌, ◌⊎◌, ◌<◌, [], Some, None, map, length, IfOk, IfErr, IsErrOf, MatchOption};
+ghost use Rattle.std.specs.Prelude.{◌≡◌, ◌⊎◌, ◌<◌, [], Some, None, map, length, IfOk, IfErr, IfSome, IsErrOf, MatchOption};
 ghost use Rattle.journal.specs.Records.{batches};
 ghost use Rattle.journal.specs.Unread.{IsBatchRead, IsRead};
+ghost use Rattle.records.specs.Format.{AreRecords, IsRecord};
 
 use records::{Record, decode_batch};
 use std::alloc::Global;
@@ -24,16 +25,20 @@ impl Model for Unread {
     ghost use Rattle.std.specs.Prelude.{map};
     ghost use Rattle.std.specs.Vec.Iter.{into_iter_items};
     ghost use Rattle.journal.specs.Unread.{Left, left_of};
+    ghost use Rattle.records.specs.Format.{AreRecords};
 
     ghost Value = { Left };
 
     ghost view = { λ u. left_of (into_iter_items u.batch) (map (λ b. b.items) u.bodies.items) };
+
+    ghost invariant = { λ u. AreRecords (into_iter_items u.batch) };
 }
 
 // The records of the first batch, which is let go; none where no batch is left. A refusal changes nothing.
 fn next_batch(alloc: Global, bodies: &mut VecDeque<Vec<u8>>) -> Result<Option<Vec<Record>>, Refusal>
     ensures ok { IfOk result (λ o. MatchOption o (bodies.old.items ≡ []) (λ rs. IsBatchRead (map (λ b. b.items) bodies.old.items) rs.items (map (λ b. b.items) bodies.new.items))) }
     ensures shorter { IfOk result (λ o. MatchOption o (bodies.old.items ≡ []) (λ rs. length bodies.new.items < length bodies.old.items)) }
+    ensures spelled { IfOk result (λ o. IfSome o (λ rs. AreRecords rs.items)) }
     ensures damaged { IsErrOf result Refusal.Damaged → batches (map (λ b. b.items) bodies.old.items) ≡ None }
     ensures err { IfErr result (λ e. (bodies.new.items ≡ bodies.old.items) × ((e ≡ Refusal.NoMemory) ⊎ (e ≡ Refusal.Damaged))) }
 {
@@ -58,6 +63,7 @@ impl Unread {
     /// The next record, or none where all were read; `Damaged` where its batch is no batch, `NoMemory`. A refusal changes nothing.
     pub fn next(&mut self, alloc: Global) -> Result<Option<Record>, Refusal>
         ensures ok { IfOk result (λ o. MatchOption o (self.old.records ≡ Some []) (λ r. IsRead self.old r self.new)) }
+        ensures spelled { IfOk result (λ o. IfSome o IsRecord) }
         ensures damaged { IsErrOf result Refusal.Damaged → self.old.records ≡ None }
         ensures err { IfErr result (λ e. (self.new.records ≡ self.old.records) × ((e ≡ Refusal.NoMemory) ⊎ (e ≡ Refusal.Damaged))) }
     {

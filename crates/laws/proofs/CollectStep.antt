@@ -1,4 +1,5 @@
 -- Rows that are collected again under a higher horizon, and the rows of one shard.
+use Rattle.records.proofs.LastWrites.{or_left, or_right}
 use Rattle.std.proofs.Common.{◌≡◌, ◌⊎◌, inl, inr, ⊎_elim, ℕ, Bool, true, false, not, ◌<◌, ◌≤◌, ◌==◌, ◌&&◌, ◌||◌, nat_lt, nat_le, cond, List, [], ◌∷◌, filter, take, refl, sym, ◌∙◌, ap, arith}
 use Rattle.std.proofs.lemmas.Bool.{cases_Bool, lt-ltb, le-leb, ltb-true, leb-true, leb-false, or_cases, both_ways}
 use Rattle.tuples.specs.declared.entry.Entry.{Entry}
@@ -28,13 +29,6 @@ three false b c is = absurd cc
 
 from_three : (a b c : Bool) → a ≡ true → b ≡ true → c ≡ true → (a && b && c) ≡ true
 from_three a b c x y z = rw x (rw y z)
-
-or_right : (a b : Bool) → b ≡ true → (a || b) ≡ true
-or_right true b is = refl
-or_right false b is = is
-
-or_left : (a b : Bool) → a ≡ true → (a || b) ≡ true
-or_left a b is = rw is refl
 
 -- what a version is followed by stays below a higher horizon too
 higher : (h g : ℕ) (v : Version) → h ≤ g → (rows : List Version) → superseded h v rows ≡ true → superseded g v rows ≡ true

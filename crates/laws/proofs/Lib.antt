@@ -27,3 +27,4 @@ pub mod KeptVersions
 pub mod ShardRows
 mod SmallImages
 mod SmallMeanings
+mod SmallCheckpoints

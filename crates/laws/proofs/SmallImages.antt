@@ -3,7 +3,8 @@ use Rattle.std.proofs.Common.{◌≡◌, ℕ, List, [], ◌∷◌, ◌++◌, tak
 use Rattle.records.specs.declared.record.Record.TheVariants.{Epoch}
 use Rattle.records.specs.Reading.{batch, version_of, records_at, number_at, list_at, record_at, record_of_kind_at, epoch_at}
 use Rattle.gated.specs.Gated.{gated}
-use Rattle.journal.specs.Records.{found}
+use Rattle.records.specs.Checkpoints.{is_complete}
+use Rattle.journal.specs.Records.{current_bank, found}
 
 -- version 1, one record: an opening, epoch 1, of store 1 with two shards, at node 1
 abbrev batch_of_an_opening : List ℕ
@@ -33,11 +34,11 @@ unfolding gated
 unmade = refl
 
 one_opening : found image [] ≡ Some (Epoch 1 1 2 1 ∷ [])
-unfolding found gated batch version_of records_at number_at list_at record_at record_of_kind_at epoch_at
+unfolding found gated current_bank is_complete batch version_of records_at number_at list_at record_at record_of_kind_at epoch_at
 one_opening = refl
 
 no_records : found (0 ∷ drop 1 image) [] ≡ Some []
-unfolding found gated
+unfolding found gated current_bank is_complete
 no_records = refl
 
 not_found : found (take 27 image) [] ≡ None

@@ -9,7 +9,7 @@ use Rattle.tuples.specs.Versions.{collected, versions}
 use Rattle.tuples.proofs.Examples.{numbered, viewed}
 use Rattle.laws.specs.Nodes.{StandsForSame}
 use Rattle.records.specs.Coordinators.{CoordinatorState, HoldsKnown, MayDecide, coordinator_state, coordinator_step}
-use Rattle.laws.proofs.CoordinatorStates.{coordinator_empty, coordinator_image_push}
+use Rattle.laws.proofs.CoordinatorStates.{coordinator_empty, coordinator_image_push, coordinator_last}
 use Rattle.tuples.specs.Versions.{last_version}
 
 -- one write, which a store's only shard has in doubt, or has learned
@@ -96,12 +96,12 @@ decided_next = coordinator_image_push (coordinator_node 7 1) opened (Decision 1 
 
 gap : IsCoordinatorImage (coordinator_node 7 1) (opened ++ Decision 2 first_write ∷ []) → ⊥
 unfolding coordinator_state coordinator_step
-gap image = let may : MayDecide _ 2 first_write = image opened [] (Decision 2 first_write) refl in omega (arith, may.next)
+gap image = let may : MayDecide _ 2 first_write = coordinator_last (coordinator_node 7 1) opened (Decision 2 first_write) image in omega (arith, may.next)
 
 -- no id is decided twice
 twice : IsCoordinatorImage (coordinator_node 7 1) (opened ++ Decision 1 first_write ∷ Decision 2 first_write ∷ []) → ⊥
 unfolding coordinator_state coordinator_step
-twice image = let may : MayDecide _ 2 first_write = image (opened ++ Decision 1 first_write ∷ []) [] (Decision 2 first_write) refl in may.new 0 first_write refl refl
+twice image = let may : MayDecide _ 2 first_write = coordinator_last (coordinator_node 7 1) (opened ++ Decision 1 first_write ∷ []) (Decision 2 first_write) image in may.new 0 first_write refl refl
 
 -- nothing is decided whose condition is broken
 abbrev if_absent : Entry
@@ -111,7 +111,7 @@ broken : IsCoordinatorImage (coordinator_node 7 1) (opened ++ Decision 1 first_w
 unfolding coordinator_state coordinator_step is_at tuple_eq
 broken image =
     let before = opened ++ Decision 1 first_write ∷ [] in
-    let may : MayDecide _ 2 if_absent = image before [] (Decision 2 if_absent) refl in
+    let may : MayDecide _ 2 if_absent = coordinator_last (coordinator_node 7 1) before (Decision 2 if_absent) image in
     let holds : HoldsKnown (coordinator_state before) (record { tuple = viewed 97; want = Absent }) = All-head (HoldsKnown (coordinator_state before)) (record { tuple = viewed 97; want = Absent }) [] may.conditions in
     true≢false (sym (holds (inl refl)))
 

@@ -8,6 +8,8 @@ use Rattle.std.proofs.lemmas.List.Elements.{All-cons, All-head, All-nil, All-tai
 use Rattle.std.proofs.lemmas.List.Folds.{list_any-append}
 use Rattle.laws.proofs.Words.{Change, Condition, Delete, Entry, Holds, Touch, Tuple, WriteId, changed, conditioned, find_in_doubt, has_tuple, last_from, meets_want, named, same_id, shard_of, there_after, tuple_eq, tuple_of, tuple_same}
 use Rattle.tuples.specs.Log.{HoldAfter, is_at, last_place}
+pub use Rattle.records.proofs.LastWrites.{last_from-append, or_left, or_right, there_both, there_last}
+use Rattle.records.proofs.LastWrites.{last_behind, there_behind}
 use Rattle.tuples.specs.Parts.{expected, part, takes_part}
 use Rattle.tuples.proofs.Named.{shard_below, tuple_equivalence}
 use Rattle.laws.specs.LockLaws.{ConditionsHoldAsKnown, ConditionsHoldByParts, DecisionsLeaveConditions}
@@ -19,16 +21,6 @@ pub there_unchanged : (t : Tuple) (b : Bool) (changes : List Change) → has_tup
 there_unchanged t b [] none = refl
 there_unchanged t b (Touch u ∷ changes) none = let parts = or_parts (tuple_eq t u) (has_tuple t (changed changes)) none in rw (parts.0) (there_unchanged t b changes parts.1)
 there_unchanged t b (Delete u ∷ changes) none = let parts = or_parts (tuple_eq t u) (has_tuple t (changed changes)) none in rw (parts.0) (there_unchanged t b changes parts.1)
-
-pub there_both : (t : Tuple) (b : Bool) (xs ys : List Change) → there_after t b (xs ++ ys) ≡ there_after t (there_after t b xs) ys
-there_both t b [] ys = refl
-there_both t b (Touch u ∷ xs) ys = there_both t (cond (tuple_eq t u) true b) xs ys
-there_both t b (Delete u ∷ xs) ys = there_both t (cond (tuple_eq t u) false b) xs ys
-
--- whether it is there after all of a log
-pub there_last : (t : Tuple) (log : List Entry) → is_at log (length log) t ≡ there_after t false (flat_map (λ (w : Entry). w.changes) log)
-unfolding is_at
-there_last t log = ap (λ (l : List Entry). there_after t false (flat_map (λ (w : Entry). w.changes) l)) (take_all (length log) log (omega arith))
 
 there_push : (t : Tuple) (log : List Entry) (w : Entry) → has_tuple t (changed w.changes) ≡ false → is_at (log ++ w ∷ []) (length (log ++ w ∷ [])) t ≡ is_at log (length log) t
 there_push t log w none =
@@ -53,13 +45,6 @@ holds_push log w c none holds =
     ap (λ (n : ℕ). meets_want c.want n (is_at (log ++ w ∷ []) (length (log ++ w ∷ [])) c.tuple)) (last_push c.tuple log w none)
     ∙ ap (λ (b : Bool). meets_want c.want (last_place log c.tuple) b) (there_push c.tuple log w none)
     ∙ holds
-
-pub or_left : (a b : Bool) → a ≡ true → (a || b) ≡ true
-or_left a b is = rw is refl
-
-pub or_right : (a b : Bool) → b ≡ true → (a || b) ≡ true
-or_right true b is = refl
-or_right false b is = is
 
 pub tuple_itself : (t : Tuple) → tuple_eq t t ≡ true
 tuple_itself t = tuple_equivalence.refl t
@@ -167,73 +152,26 @@ conditions_hold_by_parts shards log w some each = hold_parts shards log w.condit
     nothing : (conditions : List Condition) → not (length conditions == 0) ≡ false → All (Holds log) conditions
     nothing conditions none = subst (All (Holds log)) (sym (empty_of_length conditions none)) (All-nil (Holds log))
 
--- what changes that name a tuple leave does not hang on what was there before
-there_changed : (t : Tuple) (a b : Bool) (changes : List Change) → has_tuple t (changed changes) ≡ true → there_after t a changes ≡ there_after t b changes
-there_changed t a b [] has = absurd cc
-there_changed t a b (Touch u ∷ changes) has = ⊎_elim
-    (λ here. rw here refl)
-    (λ later. there_changed t (cond (tuple_eq t u) true a) (cond (tuple_eq t u) true b) changes later)
-    (or_cases (tuple_eq t u) (has_tuple t (changed changes)) has)
-there_changed t a b (Delete u ∷ changes) has = ⊎_elim
-    (λ here. rw here refl)
-    (λ later. there_changed t (cond (tuple_eq t u) false a) (cond (tuple_eq t u) false b) changes later)
-    (or_cases (tuple_eq t u) (has_tuple t (changed changes)) has)
-
--- nor on the place found so far
-last_changed : (t : Tuple) (a b place : ℕ) (log : List Entry) → list_any (λ (w : Entry). has_tuple t (changed w.changes)) log ≡ true → last_from a place t log ≡ last_from b place t log
-last_changed t a b place [] has = absurd cc
-last_changed t a b place (w ∷ log) has = ⊎_elim
-    (λ here. rw here refl)
-    (λ later. last_changed t (cond (has_tuple t (changed w.changes)) place a) (cond (has_tuple t (changed w.changes)) place b) (place + 1) log later)
-    (or_cases (has_tuple t (changed w.changes)) (list_any (λ (v : Entry). has_tuple t (changed v.changes)) log) has)
-
-changed_by_log : (t : Tuple) (log : List Entry) → list_any (λ (w : Entry). has_tuple t (changed w.changes)) log ≡ true → has_tuple t (changed (flat_map (λ (w : Entry). w.changes) log)) ≡ true
-changed_by_log t [] has = absurd cc
-changed_by_log t (w ∷ log) has =
-    let rest = flat_map (λ (v : Entry). v.changes) log in
-    let split : has_tuple t (changed (w.changes ++ rest)) ≡ (has_tuple t (changed w.changes) || has_tuple t (changed rest)) =
-    ap (has_tuple t) (map-append tuple_of w.changes rest) ∙ list_any-append (tuple_eq t) (changed w.changes) (changed rest) in
-    ⊎_elim
-    (λ here. split ∙ or_left (has_tuple t (changed w.changes)) (has_tuple t (changed rest)) here)
-    (λ later. split ∙ or_right (has_tuple t (changed w.changes)) (has_tuple t (changed rest)) (changed_by_log t log later))
-    (or_cases (has_tuple t (changed w.changes)) (list_any (λ (v : Entry). has_tuple t (changed v.changes)) log) has)
-
-pub last_from-append : (found place : ℕ) (t : Tuple) (xs ys : List Entry) → last_from found place t (xs ++ ys) ≡ last_from (last_from found place t xs) (place + length xs) t ys
-last_from-append found place t [] ys = ap (λ n. last_from found n t ys) (let e : place ≡ place + 0 = omega arith in e)
-last_from-append found place t (w ∷ xs) ys =
-    let at = cond (has_tuple t (changed w.changes)) place found in
-    last_from-append at (place + 1) t xs ys
-    ∙ ap (λ n. last_from (last_from at (place + 1) t xs) n t ys) (let e : place + 1 + length xs ≡ place + length (w ∷ xs) = omega arith in e)
-
 -- the last change of a tuple, and whether it is there, by the writes behind a place, where these change it or are the whole log
 module _ (log : List Entry) (base : ℕ) (t : Tuple) (le : base ≤ length log) (enough : (base ≡ 0) ⊎ (list_any (λ (w : Entry). has_tuple t (changed w.changes)) (drop base log) ≡ true)) where
   joined : take base log ++ drop base log ≡ log
   joined = take-append-drop base log
 
-  last_behind : last_place log t ≡ last_from 0 (base + 1) t (drop base log)
-  unfolding last_place
-  last_behind =
-      let size : length (take base log) ≡ base = length-take-le base log le in
-      ap (last_from 0 1 t) (sym joined)
-      ∙ last_from-append 0 1 t (take base log) (drop base log)
-      ∙ ap (λ n. last_from (last_from 0 1 t (take base log)) n t (drop base log)) (let e : 1 + length (take base log) ≡ base + 1 = omega (arith, size) in e)
-      ∙ ⊎_elim
-      (λ none. ap (λ n. last_from (last_from 0 1 t (take n log)) (base + 1) t (drop base log)) none)
-      (λ has. last_changed t (last_from 0 1 t (take base log)) 0 (base + 1) (drop base log) has)
-      enough
+  size : length (take base log) ≡ base
+  size = length-take-le base log le
 
-  there_behind : is_at log (length log) t ≡ is_at (drop base log) (length (drop base log)) t
-  there_behind =
-      let of_log = λ (l : List Entry). flat_map (λ (w : Entry). w.changes) l in
-      there_last t log
-      ∙ ap (λ (l : List Entry). there_after t false (of_log l)) (sym joined)
-      ∙ ap (there_after t false) (flat_map-append (λ (w : Entry). w.changes) (take base log) (drop base log))
-      ∙ there_both t false (of_log (take base log)) (of_log (drop base log))
-      ∙ ⊎_elim
-      (λ none. ap (λ n. there_after t (there_after t false (of_log (take n log))) (of_log (drop base log))) none)
-      (λ has. there_changed t (there_after t false (of_log (take base log))) false (of_log (drop base log)) (changed_by_log t (drop base log) has))
-      enough
-      ∙ sym (there_last t (drop base log))
+  behind : (0 + length (take base log) ≡ 0) ⊎ (list_any (λ (w : Entry). has_tuple t (changed w.changes)) (drop base log) ≡ true)
+  behind = ⊎_elim (λ none. inl (omega (arith, none, size))) (λ has. inr has) enough
+
+  last_known : last_place log t ≡ last_from 0 (base + 1) t (drop base log)
+  unfolding last_place
+  last_known =
+      ap (last_from 0 1 t) (sym joined)
+      ∙ last_behind 0 t (drop base log) (take base log) behind
+      ∙ ap (λ n. last_from 0 n t (drop base log)) (let e : 0 + length (take base log) + 1 ≡ base + 1 = omega (arith, size) in e)
+
+  there_known : is_at log (length log) t ≡ is_at (drop base log) (length (drop base log)) t
+  there_known = ap (λ (l : List Entry). is_at l (length l) t) (sym joined) ∙ there_behind 0 t (drop base log) (take base log) behind
 
 pub conditions_hold_as_known : ConditionsHoldAsKnown
 conditions_hold_as_known log h state c m holds enough =
@@ -241,6 +179,6 @@ conditions_hold_as_known log h state c m holds enough =
     let here : (state.base ≡ 0) ⊎ (list_any (λ (w : Entry). has_tuple c.tuple (changed w.changes)) (drop state.base log) ≡ true) =
     ⊎_elim (λ none. inl none) (λ has. inr (ap (list_any (λ (w : Entry). has_tuple c.tuple (changed w.changes))) (sym m.decisions) ∙ has)) enough in
     ap (λ (l : List Entry). meets_want c.want (last_from 0 (state.base + 1) c.tuple l) (is_at l (length l) c.tuple)) m.decisions
-    ∙ ap (λ (n : ℕ). meets_want c.want n (is_at (drop state.base log) (length (drop state.base log)) c.tuple)) (sym (last_behind log state.base c.tuple le here))
-    ∙ ap (λ (b : Bool). meets_want c.want (last_place log c.tuple) b) (sym (there_behind log state.base c.tuple le here))
+    ∙ ap (λ (n : ℕ). meets_want c.want n (is_at (drop state.base log) (length (drop state.base log)) c.tuple)) (sym (last_known log state.base c.tuple le here))
+    ∙ ap (λ (b : Bool). meets_want c.want (last_place log c.tuple) b) (sym (there_known log state.base c.tuple le here))
     ∙ holds

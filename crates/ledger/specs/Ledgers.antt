@@ -5,6 +5,7 @@ use Rattle.std.specs.declared.cmp.Ordering.{Ordering}
 use Rattle.tuples.specs.declared.entry.Entry.{Entry}
 use Rattle.tuples.specs.declared.entry.WriteId.{WriteId}
 use Rattle.tuples.specs.Log.{same_id}
+use Rattle.records.specs.Format.{IsDecision}
 use Rattle.records.specs.Replays.{greatest_number}
 
 -- the decisions behind a place, and the id of the one for which there is room
@@ -12,6 +13,10 @@ pub record LedgerValue : Type 0 where
   pub base : ℕ
   pub log : List Entry
   pub awaited : Option WriteId
+
+-- a write that may be decided, whatever its place
+abbrev pub IsDecided : Entry → Type 0
+IsDecided w = IsDecision 0 w
 
 -- none of these writes has the id
 abbrev pub IsOther : WriteId → List Entry → Type 0

@@ -1,7 +1,7 @@
 // The decisions behind a place: by place in a queue, by id in a map.
 ghost use Rattle.std.specs.Prelude.{ℕ, true, false, ◌≡◌, ◌+◌, ◌-◌, ◌≤◌, ◌<◌, ◌++◌, ◌∷◌, [], drop, length, None, Some, OnOk, OnErr, IfOk, MatchOption, take};
 ghost use Rattle.records.specs.Replays.{greatest_number};
-ghost use Rattle.ledger.specs.Ledgers.{IsOther, IsPlaceOf};
+ghost use Rattle.ledger.specs.Ledgers.{IsDecided, IsOther, IsPlaceOf};
 
 use std::alloc::{AllocError, Global};
 use std::collections::{BTreeMap, VecDeque};
@@ -21,13 +21,15 @@ pub struct Ledger {
 impl Model for Ledger {
     ghost use Rattle.std.specs.BTreeMap.{get};
     ghost use Rattle.std.specs.VecDeque.{deque_len, deque_capacity};
-    ghost use Rattle.ledger.specs.Ledgers.{HasRoomFor, IsIndexed, LedgerValue, id_cmp, known_ids};
+    ghost use Rattle.std.specs.Prelude.{All};
+    ghost use Rattle.ledger.specs.Ledgers.{HasRoomFor, IsDecided, IsIndexed, LedgerValue, id_cmp, known_ids};
 
     ghost Value = { LedgerValue };
 
     ghost view = { λ l. record { base = l.base; log = l.decisions.items; awaited = l.awaited } };
 
-    ghost invariant = { λ l. IsIndexed (λ id. get id_cmp l.places id) l.base (known_ids l.decisions.items l.awaited) × HasRoomFor l.awaited (deque_len l.decisions) (deque_capacity l.decisions) };
+    ghost invariant = { λ l. IsIndexed (λ id. get id_cmp l.places id) l.base (known_ids l.decisions.items l.awaited) × HasRoomFor l.awaited (deque_len l.decisions) (deque_capacity l.decisions)
+        × All IsDecided l.decisions.items };
 }
 
 fn copied(write: &Entry) -> Result<Entry, AllocError>
@@ -104,11 +106,22 @@ impl Ledger {
 
     /// One decision more behind the others, for which there is room.
     pub fn push_reserved(&mut self, write: Entry)
-        requires { self.old.awaited ≡ Some write.id }
+        requires awaited { self.old.awaited ≡ Some write.id }
+        requires decided { IsDecided write }
         ensures { self.new ≡ record self.old { log = self.old.log ++ write ∷ []; awaited = None } }
     {
         self.decisions.push_back_reserved(write);
         self.awaited = None;
+    }
+
+    /// The decision at a place. It has what its record is to have.
+    pub fn at(&self, place: u64) -> &Entry
+        requires behind { self.now.base < place }
+        requires within { place ≤ self.now.base + length self.now.log }
+        ensures decided { IsDecided result.now }
+        ensures rest { drop (place - self.now.base - 1) self.now.log ≡ result.now ∷ drop (place - self.now.base) self.now.log }
+    {
+        &self.decisions[(place - self.base) as usize - 1]
     }
 
     // Forgets the first decision.

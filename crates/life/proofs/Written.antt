@@ -46,6 +46,7 @@ next_short call.Read = line_short (codes "read") (search rules)
 next_short call.Settle = line_short (codes "settle") (search rules)
 next_short call.Raise = line_short (codes "raise") (search rules)
 next_short call.Collect = line_short (codes "collect") (search rules)
+next_short call.Checkpoint = line_short (codes "checkpoint") (search rules)
 
 -- the byte at a number
 abbrev at : ℕ → List ℕ → ℕ

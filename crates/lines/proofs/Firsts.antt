@@ -13,7 +13,8 @@ use Rattle.lines.specs.declared.flow.Handling.{Handling}
 use Rattle.lines.specs.declared.flow.Handling.TheVariants as handling
 use Rattle.lines.specs.Lines.{SpellNoOrder, SpellsCare, SpellsFailure, SpellsHandling, SpellsRestart, SpellsRows}
 use Rattle.lines.specs.Shapes.{ArePartsShaped, HasShape, Shape, check, read, watch, write}
-use Rattle.lines.specs.Texts.{IsNode, bank_text}
+use Rattle.std.specs.Fmt.{decimal}
+use Rattle.lines.specs.Texts.{IsNode, bank_text, node_text}
 use Rattle.lines.specs.Words.{if_words}
 use Rattle.lines.proofs.Lists.{heads, tails}
 
@@ -33,6 +34,7 @@ start_is_no_order store shards running ws (command.Handle flow (handling.Until c
 start_is_no_order store shards running ws (command.Handle flow handling.Run) o h = other_first 0 (codes "start") (codes "run") ws _ refl h.2
 start_is_no_order store shards running ws (command.Handle flow handling.Cancel) o h = other_first 0 (codes "start") (codes "cancel") ws _ refl h.2
 start_is_no_order store shards running ws (command.Care (care.Flush node)) o h = other_first 0 (codes "start") (codes "flush") ws _ refl h.0
+start_is_no_order store shards running ws (command.Care (care.Checkpoint node)) o h = other_first 0 (codes "start") (codes "checkpoint") ws _ refl h.0
 start_is_no_order store shards running ws (command.Care (care.Learn shard)) o h = other_first 0 (codes "start") (codes "learn") ws _ refl h.0
 start_is_no_order store shards running ws (command.Care (care.Resolve shard)) o h = other_first 0 (codes "start") (codes "resolve") ws _ refl h.0
 start_is_no_order store shards running ws (command.Care (care.Raise place)) o h = other_first 0 (codes "start") (codes "raise") ws _ refl h.0
@@ -79,3 +81,14 @@ no_handling running words turns runs cancels untils flow handling.Cancel h = can
 pub no_bank : (shards : ℕ) (words : List (List ℕ)) (bank n tear : List ℕ) → words ≡ codes "fail" ∷ bank ∷ n ∷ tear ∷ [] → ((p : NodeName × Bank) → IsNode shards p.0 → bank ≡ bank_text p.0 p.1 → ⊥) → (f : Failure) → SpellsFailure shards words f → ⊥
 no_bank shards words bank n tear whole none f h =
     none (f.node, f.bank) h.1 (heads bank (bank_text f.node f.bank) _ _ (tails (codes "fail") (codes "fail") _ _ (sym whole ∙ h.0)))
+
+-- words that are those of no care
+pub no_care : (shards : ℕ) (words : List (List ℕ)) → ((word : List ℕ) → words ≡ codes "flush" ∷ word ∷ [] → ⊥) → ((word : List ℕ) → words ≡ codes "checkpoint" ∷ word ∷ [] → ⊥)
+    → ((word : List ℕ) → words ≡ codes "learn" ∷ word ∷ [] → ⊥) → ((word : List ℕ) → words ≡ codes "resolve" ∷ word ∷ [] → ⊥) → ((word : List ℕ) → words ≡ codes "raise" ∷ word ∷ [] → ⊥)
+    → ((word : List ℕ) → words ≡ codes "collect" ∷ word ∷ [] → ⊥) → (c : Care) → SpellsCare shards words c → ⊥
+no_care shards words flush checkpoint learn resolve raise collect (care.Flush node) h = flush (node_text node) h.0
+no_care shards words flush checkpoint learn resolve raise collect (care.Checkpoint node) h = checkpoint (node_text node) h.0
+no_care shards words flush checkpoint learn resolve raise collect (care.Learn shard) h = learn (decimal shard) h.0
+no_care shards words flush checkpoint learn resolve raise collect (care.Resolve shard) h = resolve (decimal shard) h.0
+no_care shards words flush checkpoint learn resolve raise collect (care.Raise place) h = raise (decimal place) h.0
+no_care shards words flush checkpoint learn resolve raise collect (care.Collect shard) h = collect (decimal shard) h.0

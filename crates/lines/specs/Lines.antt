@@ -58,6 +58,7 @@ SpellsHandling running words flow h = (name : List ℕ) × (slice_get running fl
 
 abbrev pub care_words : Care → List (List ℕ)
 care_words (care.Flush node) = codes "flush" ∷ node_text node ∷ []
+care_words (care.Checkpoint node) = codes "checkpoint" ∷ node_text node ∷ []
 care_words (care.Learn shard) = codes "learn" ∷ decimal shard ∷ []
 care_words (care.Resolve shard) = codes "resolve" ∷ decimal shard ∷ []
 care_words (care.Raise place) = codes "raise" ∷ decimal place ∷ []
@@ -65,6 +66,7 @@ care_words (care.Collect shard) = codes "collect" ∷ decimal shard ∷ []
 
 abbrev pub IsCare : ℕ → Care → Type 0
 IsCare shards (care.Flush node) = IsNode shards node
+IsCare shards (care.Checkpoint node) = IsNode shards node
 IsCare shards (care.Learn shard) = shard < shards
 IsCare shards (care.Resolve shard) = shard < shards
 IsCare shards (care.Raise place) = IsPlace place

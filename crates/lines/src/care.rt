@@ -16,6 +16,9 @@ pub(crate) fn parse_care(words: &[&[u8]], shards: u8) -> Option<Care>
     if let Some(node) = one_behind(words, b"flush") {
         return Some(Care::Flush(parse_node(node, shards)?));
     }
+    if let Some(node) = one_behind(words, b"checkpoint") {
+        return Some(Care::Checkpoint(parse_node(node, shards)?));
+    }
     if let Some(shard) = one_behind(words, b"learn") {
         return Some(Care::Learn(parse_shard(shard, shards)?));
     }

@@ -29,7 +29,7 @@ pub enum Command {
     Start(Name, Request),
     /// `turn w`, `until w decide`, `run w` or `cancel w`, with the number of the flow among those that run.
     Handle(usize, Handling),
-    /// `flush c`, `learn 0`, `resolve 0`, `raise 3` or `collect 0`
+    /// `flush c`, `checkpoint c`, `learn 0`, `resolve 0`, `raise 3` or `collect 0`
     Care(Care),
     /// `rows 0`
     Rows(u8),

@@ -1,5 +1,5 @@
 -- Of the devices of a store, node by node.
-use Rattle.std.proofs.Common.{◌≡◌, ◌≤◌, ◌<◌, ◌+◌, ◌*◌, suc, ℕ, List, ◌∷◌, [], slice_index_or, subst, arith}
+use Rattle.std.proofs.Common.{All, ◌≡◌, ◌≤◌, ◌<◌, ◌+◌, ◌*◌, suc, ℕ, List, ◌∷◌, [], slice_index_or, subst, arith}
 use mathlib.Core.List.{IsPrefix}
 use Rattle.device.specs.Device.{State}
 use Rattle.refusal.specs.declared.refusal.Refusal.TheVariants.{Damaged}
@@ -10,6 +10,17 @@ use Rattle.ties.specs.Ties.{Anywhere}
 use Rattle.ties.proofs.ShardOpening.{longer_lists_stay_tied}
 use Rattle.ties.proofs.Unmade.{unmade_nodes_are_tied}
 use Rattle.locked.specs.Opening.{NewDevicesRest, RestAt, ShardsRest}
+
+-- the first two are honest, and so are those behind them
+pub two_honest : {D : Type 0} (honest : D → Type 0) (all : List D) (a b : D) (rest : List D) → all ≡ a ∷ b ∷ rest → All honest all → honest a × honest b
+two_honest {D} honest all a b rest is hon =
+    let here : All honest (a ∷ b ∷ rest) = subst (λ (l : List D). All honest l) is hon in
+    (here 0 a (omega arith), here 1 b (omega arith))
+
+pub others_honest : {D : Type 0} (honest : D → Type 0) (all : List D) (a b : D) (rest : List D) → all ≡ a ∷ b ∷ rest → All honest all → All honest rest
+others_honest {D} honest all a b rest is hon k any lt =
+    let here : All honest (a ∷ b ∷ rest) = subst (λ (l : List D). All honest l) is hon in
+    here (suc (suc k)) any (omega (arith, lt))
 
 module _ {D : Type 0} (state : D → State) (honest : D → Type 0) (shards : ℕ) where
   module _ (first : List Entry) (low : ℕ) (all : List D) (a b : D) (rest : List D) (is : all ≡ a ∷ b ∷ rest) where

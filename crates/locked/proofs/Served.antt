@@ -1,10 +1,44 @@
--- What is answered for a shard that is not there.
+-- What is answered for a shard that is not there, and to a flush of one that is.
 use Rattle.std.proofs.Common.{ℕ, ◌≤◌, List, Bool, arith}
 use Rattle.calls.specs.declared.call.NodeCall.TheVariants.{Shard}
+use Rattle.published.specs.Known.{Known}
+use Rattle.tuples.specs.declared.entry.Entry.{Entry}
+use Rattle.refusal.specs.declared.refusal.Refusal.{Refusal}
+use Rattle.calls.specs.Asking.{Refuses}
+use Rattle.calls.specs.Belonging.{IsReplyTo}
 use Rattle.calls.specs.declared.call.ShardCall.{ShardCall}
+use Rattle.calls.specs.declared.call.ShardCall.TheVariants.{Flush}
 use Rattle.calls.specs.declared.reply.Reply.{Reply}
 use Rattle.flow_ties.specs.Refusing.{Notices}
+use Rattle.locked.specs.Serving.{Serves}
+use Rattle.locked.proofs.Passes.{later_self}
+use Rattle.locked.proofs.RefusedCalls.{refused_is_told}
 
 -- nothing is told then, and nothing has to be
 pub absent_is_noticed : (marks : List Bool) (shards s : ℕ) (call : ShardCall) (reply : Reply) → shards ≤ s → Notices shards marks (Shard s call) reply marks
 absent_is_noticed marks shards s call reply le = record { kept = λ e has. has; carried = λ lt e at. absurd (omega (arith, le, lt)) }
+
+-- a flush tells nothing of the list
+pub flush_serves : (rests : Type 0) (shards s : ℕ) (pass : Known Entry) (reply : Reply) → IsReplyTo (Shard s Flush) reply → Serves rests shards pass pass (Shard s Flush) reply
+flush_serves rests shards s pass reply belongs = record {
+  later = later_self pass;
+  belongs = belongs;
+  told = λ at. tt;
+  reach = λ at. tt;
+  watcher = λ at. tt;
+  care = λ at. tt;
+  intent = λ at. tt;
+}
+
+-- nor is anything told of it by what is refused of a shard that is not there
+pub absent_serves : (rests : Type 0) (shards s : ℕ) (pass : Known Entry) (e : Refusal) (call : ShardCall) (reply : Reply) → Refuses e (Shard s call) reply → IsReplyTo (Shard s call) reply
+    → Serves rests shards pass pass (Shard s call) reply
+absent_serves rests shards s pass e call reply refuses belongs = record {
+  later = later_self pass;
+  belongs = belongs;
+  told = λ at. refused_is_told e shards pass.seen (Shard s call) reply refuses;
+  reach = λ at. tt;
+  watcher = λ at. tt;
+  care = λ at. tt;
+  intent = λ at. tt;
+}

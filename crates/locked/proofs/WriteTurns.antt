@@ -72,6 +72,7 @@ undecided links asked above shards seen v out (Coordinator (calls.Abort intent))
 undecided links asked above shards seen v out (Coordinator (calls.Inquire id)) is asks outside = out_is_undecided links asked above v.holds.way v.holds.decided asks.1.0.0 asks.1.0.1 is.decided
 undecided links asked above shards seen v out (Coordinator (calls.Raise place settled)) is asks outside = absurd asks.1
 undecided links asked above shards seen v out (Coordinator calls.Flush) is asks outside = absurd (let bad : true ≡ false = outside in cc)
+undecided links asked above shards seen v out (Coordinator calls.Checkpoint) is asks outside = absurd asks.1
 undecided links asked above shards seen v out (Shard s shard_calls.Learned) is asks outside = asks.1.0.1
 undecided links asked above shards seen v out (Shard s (shard_calls.Learn b)) is asks outside = asks.1.0.1
 undecided links asked above shards seen v out (Shard s (shard_calls.StagePrepare i)) is asks outside = asks.1.0.1
@@ -84,6 +85,7 @@ undecided links asked above shards seen v out (Shard s (shard_calls.ReadForCheck
 undecided links asked above shards seen v out (Shard s shard_calls.Settle) is asks outside = absurd asks.1
 undecided links asked above shards seen v out (Shard s (shard_calls.Collect h)) is asks outside = absurd asks.1
 undecided links asked above shards seen v out (Shard s shard_calls.Flush) is asks outside = asks.1.0.1
+undecided links asked above shards seen v out (Shard s shard_calls.Checkpoint) is asks outside = absurd asks.1
 
 -- one that has no decision is linked in any way
 unlinked : (links other : Linking) (asked : WriteValue) (above : ℕ) (seen : List Entry) (v : WriteView) → v.holds.decided ≡ None → IsWriteOf links asked above seen v → IsWriteOf other asked above seen v

@@ -1,9 +1,10 @@
-// One call of one node, under one hold of its lock.
-ghost use Rattle.std.specs.Prelude.{◌≡◌, ◌≤◌, ℕ, length};
+// One call of one node, under one hold of its lock; a flush of a shard is made without it.
+ghost use Rattle.std.specs.Prelude.{◌≡◌, ◌≤◌, ℕ, false, length};
 ghost use Rattle.calls.specs.Asking.{MayAskCoordinator, MayAskShard};
 ghost use Rattle.calls.specs.Belonging.{IsOwed};
 ghost use Rattle.calls.specs.Refusing.{Notes};
 ghost use Rattle.calls.specs.declared.call.NodeCall.TheVariants.{Coordinator as of_coordinator, Shard as of_shard};
+ghost use Rattle.flights.specs.Places.{is_flush, number_at};
 ghost use Rattle.flow_ties.specs.Cares.{HandsOver};
 ghost use Rattle.flow_ties.specs.Refusing.{Notices};
 ghost use Rattle.tuples.specs.Writes.{WriteValue};
@@ -11,10 +12,11 @@ ghost use Rattle.locked.specs.Holding.{KeepsTried, TellsInHold};
 ghost use Rattle.locked.specs.Serving.{Serves};
 
 use crate::{Caller, Gate, Store};
-use calls::{CoordinatorCall, NodeCall, Reply, ShardCall, Told, refuse};
+use calls::{CoordinatorCall, NodeCall, Reply, ShardCall, Told, refuse, refuse_aloud};
 use device::Device;
+use flights::ShardPlace;
 use published::{Published, SessionPass};
-use sides::{CoordinatorSide, Room, ShardSide};
+use sides::{CoordinatorSide, Room};
 use std::sync::Wait;
 use tuples::{Entry, Refusal};
 
@@ -43,38 +45,31 @@ pub(crate) fn serve_coordinator<D: Device, B: Room>(
         CoordinatorCall::Inquire(id) => side.inquire(words, pass, told, id),
         CoordinatorCall::Raise(place, settled) => side.raise(told, place, settled),
         CoordinatorCall::Flush => side.flush(words, pass, told),
+        // A store that callers share makes no checkpoint.
+        CoordinatorCall::Checkpoint => refuse_aloud(
+            Refusal::BadRequest,
+            NodeCall::Coordinator(CoordinatorCall::Checkpoint),
+            told,
+        ),
     }
 }
 
-// Makes the call of the shard, under its lock.
+// Makes a call of the shard that is no flush, under its lock.
 fn serve_shard<D: Device, B: Room>(
     words: &Published<Entry>,
-    side: &mut ShardSide<D, B>,
+    place: &mut ShardPlace<D, B>,
     pass: &mut SessionPass<Entry>,
     told: &mut Told,
     call: ShardCall,
 ) -> Reply
     requires own { (words.now ≡ B.log) × (pass.old.table ≡ B.log) }
-    requires owed { MayAskShard B.shards side.old.number call }
-    requires hands { B.rests → HandsOver pass.old.seen pass.old.horizon (of_shard side.old.number call) }
-    ensures serves { Serves B.rests B.shards pass.old pass.new (of_shard side.old.number call) result }
+    requires owed { MayAskShard B.shards (number_at place.old) call }
+    requires hands { B.rests → HandsOver pass.old.seen pass.old.horizon (of_shard (number_at place.old) call) }
+    requires no_flush { is_flush call ≡ false }
+    ensures serves { Serves B.rests B.shards pass.old pass.new (of_shard (number_at place.old) call) result }
     ensures told { Notes told.old result told.new }
 {
-    match call {
-        ShardCall::Learned => side.learned(told),
-        ShardCall::Learn(batch) => side.learn(words, pass, told, batch),
-        ShardCall::StagePrepare(intent) => side.stage_prepare(told, intent),
-        ShardCall::Vote(ticket) => side.vote(told, ticket),
-        ShardCall::DropWrite(verdict, held) => side.drop_write(told, verdict, held),
-        ShardCall::InDoubt => side.in_doubt(told),
-        ShardCall::Read(place, set) => side.read(words, pass, told, place, set),
-        ShardCall::ReadForCheck(place, userset, user) => {
-            side.read_for_check(words, pass, told, place, userset, user)
-        }
-        ShardCall::Settle => side.settle(told),
-        ShardCall::Collect(heads) => side.collect(words, pass, told, heads),
-        ShardCall::Flush => side.flush(told),
-    }
+    place.ask(words, pass, told, call)
 }
 
 impl<D: Device, B: Room, G: Gate> Store<D, B, G> {
@@ -94,7 +89,7 @@ impl<D: Device, B: Room, G: Gate> Store<D, B, G> {
         serve_coordinator(&self.words, &mut side, &mut caller.pass, told, call)
     }
 
-    // Makes the call of this shard. One that is not there answers that the caller is damaged.
+    // Makes the call of this shard: a flush without its lock. One that is not there answers that the caller is damaged.
     fn make_at<R: Wait>(
         &self,
         rt: &R,
@@ -111,8 +106,21 @@ impl<D: Device, B: Room, G: Gate> Store<D, B, G> {
         if shard >= self.count {
             return refuse(Refusal::Damaged, NodeCall::Shard(shard, call));
         }
-        let mut side = self.side(rt, shard);
-        serve_shard(&self.words, &mut side, &mut caller.pass, told, call)
+        match call {
+            ShardCall::Flush => {
+                self.shards[shard as usize].flush(rt, &self.launches, &self.launch_log, told)
+            }
+            // A store that callers share makes no checkpoint.
+            ShardCall::Checkpoint => refuse_aloud(
+                Refusal::BadRequest,
+                NodeCall::Shard(shard, ShardCall::Checkpoint),
+                told,
+            ),
+            call => {
+                let mut place = self.side(rt, shard);
+                serve_shard(&self.words, &mut place, &mut caller.pass, told, call)
+            }
+        }
     }
 
     // Makes the call, of the node that it names.

@@ -1,6 +1,6 @@
 // A store is opened.
 ghost use Rattle.std.specs.Prelude.{◌≡◌, ◌≤◌, ◌<◌, ◌+◌, ◌*◌, ◌∷◌, [], All, IfOk};
-ghost use Rattle.std.specs.Vec.{vec_capacity, vec_len};
+ghost use Rattle.std.specs.Vec.{vec_len};
 ghost use Rattle.records.specs.Identity.{max_shards};
 ghost use mathlib.Core.List.{IsPrefix};
 ghost use Rattle.locked.specs.Opening.{RestAt, ShardsRest};
@@ -8,11 +8,13 @@ ghost use Rattle.locked.specs.Opening.{RestAt, ShardsRest};
 use crate::{Gate, Store};
 use crossbeam_utils::sync::Unparker;
 use device::Device;
+use flights::{ClosedShard, Launch, LaunchLog, Launches, ShardCell};
+use journal::BatchRoom;
 use published::{LogPass, Published};
 use records::Identity;
-use sides::{CoordinatorSide, Room, ShardSide};
-use std::alloc::Global;
-use std::sync::Mutex;
+use sides::{CoordinatorSide, Room};
+use std::alloc::{AllocError, Global};
+use std::thread::{self, Threads};
 use tuples::{Entry, Refusal};
 
 // The two devices of the next node.
@@ -44,6 +46,7 @@ fn open_coordinator<D: Device, B: Room>(
     requires honest { All D.honest devices.old.items }
     requires rests { B.rests → RestAt D.state D.honest B.shards B.first B.low devices.old.items }
     ensures left { vec_len devices.new + 2 ≡ vec_len devices.old }
+    ensures honest { All D.honest devices.new.items }
     ensures rests { B.rests → ShardsRest D.state D.honest B.shards B.first B.low 0 devices.new.items }
     ensures list { IfOk result (λ side. B.rests → IsPrefix B.first side.seen × (B.low ≤ side.low)) }
 {
@@ -58,75 +61,116 @@ fn open_coordinator<D: Device, B: Room>(
     )
 }
 
-// The next shard over the next two devices. What the coordinator has found it knows.
-fn open_shard<D: Device, B: Room>(
+// The next shard, which is to be opened over the next two devices. What the coordinator has found it knows.
+fn next_shard<D: Device, B: Room>(
     alloc: Global,
     words: &Published<Entry>,
+    launches: &Published<Launch>,
+    launch_log: &mut LaunchLog<B>,
     coordinator: &mut CoordinatorSide<D, B>,
     store: u64,
     shards: u8,
     shard: u8,
     devices: &mut Vec<D>,
-) -> ShardSide<D, B>
-    requires own { words.now ≡ B.log }
+    room: BatchRoom,
+) -> ClosedShard<D, B>
+    requires own { (words.now ≡ B.log) × (launches.now ≡ B.launches) }
     requires of { (store ≡ B.store) × (shards ≡ B.shards) }
     requires few { shards ≤ max_shards }
     requires there { shard < shards }
     requires left { 2 ≤ vec_len devices.old }
+    requires honest { All D.honest devices.old.items }
     requires rests { B.rests → ShardsRest D.state D.honest B.shards B.first B.low shard devices.old.items }
     requires list { B.rests → IsPrefix B.first coordinator.old.seen × (B.low ≤ coordinator.old.low) }
     ensures left { vec_len devices.new + 2 ≡ vec_len devices.old }
+    ensures honest { All D.honest devices.new.items }
     ensures rests { B.rests → ShardsRest D.state D.honest B.shards B.first B.low (shard + 1) devices.new.items }
     ensures same { coordinator.new ≡ coordinator.old }
 {
     let (a, b) = take_two(devices);
     let pass = coordinator.session(words);
-    ShardSide::open(alloc, a, b, Identity::shard(store, shards, shard), pass)
+    let me = Identity::shard(store, shards, shard);
+    let known = launch_log.session(launches);
+    ClosedShard::new(alloc, a, b, me, pass, room, known)
 }
 
-// All shards, in the order of their numbers.
-fn open_shards<D: Device, B: Room>(
+// All shards that are to be opened, in the order of their numbers, each with the memory for one flight.
+fn closed_shards<D: Device, B: Room>(
     alloc: Global,
     words: &Published<Entry>,
+    launches: &Published<Launch>,
+    launch_log: &mut LaunchLog<B>,
     coordinator: &mut CoordinatorSide<D, B>,
     store: u64,
     shards: u8,
     devices: &mut Vec<D>,
-    sides: &mut Vec<Mutex<ShardSide<D, B>>>,
-)
-    requires own { words.now ≡ B.log }
+) -> Result<Vec<ClosedShard<D, B>>, AllocError>
+    requires own { (words.now ≡ B.log) × (launches.now ≡ B.launches) }
     requires of { (store ≡ B.store) × (shards ≡ B.shards) }
     requires few { shards ≤ max_shards }
     requires left { 2 * shards ≤ vec_len devices.old }
+    requires honest { All D.honest devices.old.items }
     requires rests { B.rests → ShardsRest D.state D.honest B.shards B.first B.low 0 devices.old.items }
     requires list { B.rests → IsPrefix B.first coordinator.old.seen × (B.low ≤ coordinator.old.low) }
-    requires none { vec_len sides.old ≡ 0 }
-    requires room { shards ≤ vec_capacity sides.old }
-    ensures all { vec_len sides.new ≡ shards }
+    ensures all { IfOk result (λ closed. vec_len closed ≡ shards) }
 {
+    let mut closed = Vec::with_capacity(alloc, shards as usize)?;
     for shard in 0..shards {
-        let side = open_shard(alloc, words, coordinator, store, shards, shard, devices);
-        sides.push_reserved(Mutex::new(side));
+        let room = BatchRoom::new(alloc)?;
+        let next = next_shard(
+            alloc,
+            words,
+            launches,
+            launch_log,
+            coordinator,
+            store,
+            shards,
+            shard,
+            devices,
+            room,
+        );
+        closed.push_reserved(next);
     }
+    Ok(closed)
+}
+
+// Opens them, each by a thread of its own, since each reads its own devices alone.
+fn open_shards<D: Device + Send, B: Room + Send, R: Threads + Sync>(
+    rt: &R,
+    closed: Vec<ClosedShard<D, B>>,
+) -> Result<Vec<ShardCell<D, B>>, AllocError>
+    ensures all { IfOk result (λ cells. vec_len cells ≡ vec_len closed) }
+{
+    thread::map_vec(
+        rt,
+        closed,
+        &|shard: ClosedShard<D, B>| ShardCell::new(shard.open()),
+    )
 }
 
 impl<D: Device, B: Room, G: Gate> Store<D, B, G> {
     /// Opens the store with this id and of 1 to 64 shards over its devices: those of the coordinator, and then those of each shard, by rising number, bank a
     /// before bank b. Where they rest at a list, all that is said of the list is said of that one and of what joins it. A shard whose opening is refused
     /// holds that refusal, and can be restarted; the coordinator's, or memory for the shards, refuses the store. Whoever tends the store is woken by the
-    /// bell.
-    pub fn open(
+    /// bell. The launches name the flights of its nodes, so that a flush holds no lock while devices sync. Shards are opened side by side.
+    pub fn open<R: Threads + Sync>(
+        rt: &R,
         alloc: Global,
         gate: G,
         bell: Unparker,
         words: Published<Entry>,
         log: LogPass<Entry>,
+        launches: Launches,
         mut devices: Vec<D>,
         store: u64,
         shards: u8,
     ) -> Result<Store<D, B, G>, Refusal>
+    where
+        D: Send,
+        B: Send,
         requires own { (words ≡ B.log) × (log.table ≡ B.log) }
         requires empty { (log.seen ≡ []) × (log.horizon ≡ 0) }
+        requires flights { launches ≡ B.launches }
         requires of { (store ≡ B.store) × (shards ≡ B.shards) }
         requires some { 1 ≤ shards }
         requires few { shards ≤ max_shards }
@@ -134,17 +178,28 @@ impl<D: Device, B: Room, G: Gate> Store<D, B, G> {
         requires honest { All D.honest devices.items }
         requires rests { B.rests → RestAt D.state D.honest B.shards B.first B.low devices.items }
     {
-        let mut sides = Vec::with_capacity(alloc, shards as usize)?;
         let mut coordinator = open_coordinator(alloc, &words, log, store, shards, &mut devices)?;
-        open_shards(
+        let (launches, mut launch_log) = launches.into_parts();
+        let closed = closed_shards(
             alloc,
             &words,
+            &launches,
+            &mut launch_log,
             &mut coordinator,
             store,
             shards,
             &mut devices,
-            &mut sides,
-        );
-        Ok(Store::new(gate, bell, words, coordinator, sides, shards))
+        )?;
+        let cells = open_shards(rt, closed)?;
+        Ok(Store::new(
+            gate,
+            bell,
+            words,
+            launches,
+            launch_log,
+            coordinator,
+            cells,
+            shards,
+        ))
     }
 }

@@ -3,14 +3,16 @@ ghost use Rattle.std.specs.Prelude.{◌≡◌, ◌≤◌, ◌<◌, length, vec_l
 ghost use Rattle.std.specs.Sync.Mutex.{mutex_guard_value};
 ghost use mathlib.Core.List.{IsPrefix};
 ghost use Rattle.records.specs.Identity.{max_shards};
+ghost use Rattle.flights.specs.Places.{number_at};
 ghost use Rattle.sides.specs.Sides.{IsLater};
 ghost use Rattle.locked.specs.Serving.{KnowsOf};
 
 use crate::{Caller, Gate};
 use crossbeam_utils::sync::Unparker;
 use device::Device;
+use flights::{Launch, LaunchLog, ShardCell, ShardPlace};
 use published::Published;
-use sides::{CoordinatorSide, Room, ShardSide};
+use sides::{CoordinatorSide, Room};
 use std::alloc::Global;
 use std::sync::atomic::AtomicBool;
 use std::sync::{Mutex, MutexGuard, Wait};
@@ -25,10 +27,14 @@ pub struct Store<D: Device, B: Room, G: Gate> {
     pub(crate) closed: AtomicBool,
     pub(crate) words: Published<Entry>,
     pub(crate) coordinator: Mutex<CoordinatorSide<D, B>>,
+    // which flights there were; a node's lock may be held around that of the log, and never the other way round
+    pub(crate) launches: Published<Launch>,
+    pub(crate) launch_log: Mutex<LaunchLog<B>>,
     // the shard of each number, in their order
-    pub(crate) shards: Vec<Mutex<ShardSide<D, B>>>,
+    pub(crate) shards: Vec<ShardCell<D, B>>,
     pub(crate) count: u8,
     ghost own: { words ≡ B.log },
+    ghost flights: { launches ≡ B.launches },
     ghost of: { count ≡ B.shards },
     ghost all: { vec_len shards ≡ count },
     ghost some: { 1 ≤ count },
@@ -41,11 +47,14 @@ impl<D: Device, B: Room, G: Gate> Store<D, B, G> {
         gate: G,
         bell: Unparker,
         words: Published<Entry>,
+        launches: Published<Launch>,
+        launch_log: LaunchLog<B>,
         coordinator: CoordinatorSide<D, B>,
-        shards: Vec<Mutex<ShardSide<D, B>>>,
+        shards: Vec<ShardCell<D, B>>,
         count: u8,
     ) -> Store<D, B, G>
         requires own { words ≡ B.log }
+        requires flights { launches ≡ B.launches }
         requires of { count ≡ B.shards }
         requires all { vec_len shards ≡ count }
         requires some { 1 ≤ count }
@@ -57,6 +66,8 @@ impl<D: Device, B: Room, G: Gate> Store<D, B, G> {
             closed: AtomicBool::new(false),
             words,
             coordinator: Mutex::new(coordinator),
+            launches,
+            launch_log: Mutex::new(launch_log),
             shards,
             count,
         }
@@ -105,14 +116,14 @@ impl<D: Device, B: Room, G: Gate> Store<D, B, G> {
     }
 
     // The shard of this number, locked.
-    pub(crate) fn side<'a, R: Wait>(&'a self, rt: &R, shard: u8) -> MutexGuard<'a, ShardSide<D, B>>
+    pub(crate) fn side<'a, R: Wait>(&'a self, rt: &R, shard: u8) -> MutexGuard<'a, ShardPlace<D, B>>
         requires { shard < self.now.count }
-        ensures { (mutex_guard_value result).number ≡ shard }
+        ensures { number_at (mutex_guard_value result) ≡ shard }
     {
         for _ in rt.forever() {
-            let side = self.shards[shard as usize].lock(rt);
-            if side.number() == shard {
-                return side;
+            let place = self.shards[shard as usize].lock(rt);
+            if place.number() == shard {
+                return place;
             }
         }
         unreachable!()
@@ -125,11 +136,11 @@ impl<D: Device, B: Room, G: Gate> Store<D, B, G> {
         refusal
     }
 
-    /// Opens the shard of this number again, with what its devices hold. The refusal of its opening, where that was refused.
+    /// Opens the shard of this number again, with what its devices hold, once these are back from a flush. The refusal of its opening, where that was refused.
     pub fn restart_shard<R: Wait>(&self, rt: &R, alloc: Global, shard: u8) -> Option<Refusal>
         requires { shard < B.shards }
     {
-        let refusal = self.side(rt, shard).restart(alloc);
+        let refusal = self.shards[shard as usize].restart(rt, alloc);
         self.ring();
         refusal
     }

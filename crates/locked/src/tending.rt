@@ -1,10 +1,12 @@
 // A store is tended beside its callers: what waits at its nodes is carried on.
 ghost use Rattle.std.specs.Prelude.{◌≡◌};
 ghost use Rattle.care_flow.specs.Cares.{IsThere, begun};
+ghost use Rattle.names.specs.declared.care.Care.TheVariants.{Flush as flush_of};
 ghost use Rattle.sides.specs.Sides.{IsLater};
 
-use crate::{Caller, Gate, Store};
+use crate::{Caller, Gate, Notice, Store};
 use calls::Told;
+use care_flow::CareEnd;
 use crossbeam_utils::sync::{Parker, Unparker};
 use device::Device;
 use names::{Care, NodeName};
@@ -12,6 +14,7 @@ use sides::Room;
 use std::alloc::{AllocError, Global};
 use std::sync::Wait;
 use std::sync::atomic::Ordering;
+use tuples::Refusal;
 
 /// What wakes whoever tends a store, and what sleeps there: the bell is for `Store::open`, and the parker for `Store::keep`.
 pub fn new_bell(alloc: Global) -> Result<(Parker, Unparker), AllocError> {
@@ -62,42 +65,74 @@ impl<D: Device, B: Room, G: Gate> Store<D, B, G> {
         }
     }
 
-    // What is staged becomes durable, at each node.
-    fn flush_all<R: Wait>(&self, rt: &R, alloc: Global, caller: &mut Caller<B>)
+    // What is staged at a node becomes durable, or it is noticed that it is down.
+    fn flush<R: Wait, N: Notice>(
+        &self,
+        rt: &R,
+        alloc: Global,
+        caller: &mut Caller<B>,
+        node: NodeName,
+        notice: &mut N,
+    )
+        requires there { IsThere B.shards (begun B.shards (flush_of node)) }
         ensures caller { IsLater caller.old caller.new }
     {
-        self.try_care(rt, alloc, caller, Care::Flush(NodeName::Coordinator));
+        let end = self.care(rt, alloc, caller, &mut Told::new(), Care::Flush(node));
+        if let CareEnd::Refused(Refusal::Down) = end {
+            notice.down(node);
+        }
+    }
+
+    // The same at each node.
+    fn flush_all<R: Wait, N: Notice>(
+        &self,
+        rt: &R,
+        alloc: Global,
+        caller: &mut Caller<B>,
+        notice: &mut N,
+    )
+        ensures caller { IsLater caller.old caller.new }
+    {
+        self.flush(rt, alloc, caller, NodeName::Coordinator, notice);
         for shard in 0..self.count {
-            self.try_care(rt, alloc, caller, Care::Flush(NodeName::Shard(shard)));
+            self.flush(rt, alloc, caller, NodeName::Shard(shard), notice);
         }
     }
 
     /// One round: at each shard writes in doubt are resolved and what is kept is learned; the horizon follows the latest place, so many places behind it,
     /// and shards forget what lies below; and what is staged becomes durable. What is refused waits for another round.
-    pub fn tend<R: Wait>(&self, rt: &R, alloc: Global, caller: &mut Caller<B>, window: u64)
+    pub fn tend<R: Wait, N: Notice>(
+        &self,
+        rt: &R,
+        alloc: Global,
+        caller: &mut Caller<B>,
+        window: u64,
+        notice: &mut N,
+    )
         ensures caller { IsLater caller.old caller.new }
     {
         self.settle_all(rt, alloc, caller);
         self.follow(rt, alloc, caller, window);
-        self.flush_all(rt, alloc, caller);
+        self.flush_all(rt, alloc, caller, notice);
     }
 
     /// Tends the store until it is closed: a round whenever the bell rings, and a last one once it is closed. It rings where a write left something behind,
     /// where a node was opened again, and at every 1,024th place.
-    pub fn keep<R: Wait>(
+    pub fn keep<R: Wait, N: Notice>(
         &self,
         rt: &R,
         alloc: Global,
         caller: &mut Caller<B>,
         window: u64,
         parker: &Parker,
+        notice: &mut N,
     )
         ensures caller { IsLater caller.old caller.new }
     {
         for _ in rt.forever() {
             // Before the round, so that what was done before the close is tended once more.
             let is_closed = self.closed.load(Ordering::SeqCst);
-            self.tend(rt, alloc, caller, window);
+            self.tend(rt, alloc, caller, window, notice);
             if is_closed {
                 return;
             }

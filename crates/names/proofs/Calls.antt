@@ -6,7 +6,7 @@ use Rattle.names.specs.Names.{call_text}
 
 abbrev all : List CallName
 all = call.Begin ∷ call.Heads ∷ call.Learned ∷ call.Batch ∷ call.Learn ∷ call.StagePrepare ∷ call.Flush ∷ call.Vote ∷ call.Decide ∷ call.Outcome ∷ call.Abort
-    ∷ call.DropWrite ∷ call.Inquire ∷ call.InDoubt ∷ call.Read ∷ call.Settle ∷ call.Raise ∷ call.Collect ∷ []
+    ∷ call.DropWrite ∷ call.Inquire ∷ call.InDoubt ∷ call.Read ∷ call.Settle ∷ call.Raise ∷ call.Collect ∷ call.Checkpoint ∷ []
 
 each : (P : CallName → Type 0) → All P all → (c : CallName) → P c
 each P h call.Begin = h 0 call.Begin (omega arith)
@@ -27,6 +27,7 @@ each P h call.Read = h 14 call.Read (omega arith)
 each P h call.Settle = h 15 call.Settle (omega arith)
 each P h call.Raise = h 16 call.Raise (omega arith)
 each P h call.Collect = h 17 call.Collect (omega arith)
+each P h call.Checkpoint = h 18 call.Checkpoint (omega arith)
 
 pub found : (text : List ℕ) (r : Option CallName) → MatchOption r (All (λ c. text ≡ call_text c → ⊥) all) (λ c. text ≡ call_text c)
     → MatchOption r ((c : CallName) → text ≡ call_text c → ⊥) (λ c. text ≡ call_text c)

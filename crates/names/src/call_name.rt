@@ -3,7 +3,7 @@ ghost use Rattle.std.specs.Prelude.{◌≡◌, All, MatchOption};
 ghost use Rattle.names.specs.declared.call_name.CallName.{CallName as AnyCall};
 ghost use Rattle.names.specs.Names.{call_text};
 
-/// The name of a call, which is the same whatever is handed in. A flush is called `flush` at each node, and both reads of a shard are called `read`.
+/// The name of a call, which is the same whatever is handed in. A flush is called `flush` at each node, as a checkpoint is `checkpoint`, and both reads of a shard are called `read`.
 #[derive(Clone, Copy, Debug, PartialEq, Eq)]
 pub enum CallName {
     Begin,
@@ -24,10 +24,11 @@ pub enum CallName {
     Settle,
     Raise,
     Collect,
+    Checkpoint,
 }
 
 // Each of them once.
-const ALL: [CallName; 18] = [
+const ALL: [CallName; 19] = [
     CallName::Begin,
     CallName::Heads,
     CallName::Learned,
@@ -46,6 +47,7 @@ const ALL: [CallName; 18] = [
     CallName::Settle,
     CallName::Raise,
     CallName::Collect,
+    CallName::Checkpoint,
 ];
 
 impl CallName {
@@ -79,6 +81,7 @@ impl CallName {
             CallName::Settle => "settle",
             CallName::Raise => "raise",
             CallName::Collect => "collect",
+            CallName::Checkpoint => "checkpoint",
         }
     }
 }

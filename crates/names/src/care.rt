@@ -14,4 +14,6 @@ pub enum Care {
     Raise(u64),
     /// The shard forgets what no read from the horizon on needs: `collect 0`.
     Collect(u8),
+    /// As a flush, by records of what the node knows in place of all that it has: `checkpoint 0`.
+    Checkpoint(NodeName),
 }

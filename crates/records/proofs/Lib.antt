@@ -7,5 +7,7 @@ pub mod Records
 pub mod Spelled
 pub mod Loop
 pub mod Putting
+pub mod Insides
 pub mod CoordinatorStates
 pub mod Shares
+pub mod LastWrites

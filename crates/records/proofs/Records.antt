@@ -4,20 +4,23 @@ use Rattle.std.specs.Int.{w64, to_be_bytes}
 use Rattle.std.specs.List.{AllByRecursion}
 use Rattle.std.proofs.lemmas.Bool.{leb-true, le-leb, and_parts, and_from}
 use Rattle.std.proofs.lemmas.List.Elements.{All-from_recursion, recursion_from_All, All-map}
+use Rattle.tuples.specs.declared.change.Change.{Change}
 use Rattle.tuples.specs.declared.change.Condition.{Condition}
 use Rattle.tuples.specs.declared.entry.Entry.{Entry}
 use Rattle.tuples.specs.declared.entry.WriteId.{WriteId}
 use Rattle.tuples.specs.Changes.{IsPart, changed, conditioned, tuple_of}
 use Rattle.tuples.specs.Texts.{IsTuple}
+use Rattle.records.specs.declared.mark.Mark.{Mark}
+use Rattle.records.specs.declared.mark.Mark.TheVariants.{Begins, Row, Ends}
 use Rattle.records.specs.declared.record.PlacedId.{PlacedId}
 use Rattle.records.specs.declared.record.Record.{Record}
-use Rattle.records.specs.declared.record.Record.TheVariants.{Prepare, Learned, Dropped, Epoch, Decision, Horizon}
-use Rattle.records.specs.Format.{id_bytes, entry_bytes, record_bytes, IsWriteId, WantFits, IsPlace, Fits64, ConditionsFit, ArePlaces, AreRisingTo, IsRecord, IsOfFirst}
-use Rattle.records.specs.Reading.{byte_at, number_at, write_id_at, entry_at, placed_ids_at, are_rising_to, prepare_at, learned_at, dropped_at, epoch_at, decision_at, horizon_at, record_of_kind_at, record_at}
+use Rattle.records.specs.declared.record.Record.TheVariants.{Prepare, Learned, Dropped, Epoch, Decision, Horizon, Checkpoint}
+use Rattle.records.specs.Format.{change_bytes, id_bytes, entry_bytes, mark_bytes, record_bytes, IsMark, IsWriteId, WantFits, IsPlace, Fits64, ConditionsFit, ArePlaces, AreRisingTo, IsRecord, IsOfFirst}
+use Rattle.records.specs.Reading.{byte_at, number_at, write_id_at, entry_at, placed_ids_at, are_rising_to, prepare_at, learned_at, dropped_at, epoch_at, decision_at, horizon_at, change_at, mark_of_kind_at, mark_at, checkpoint_at, record_of_kind_at, record_at}
 use Rattle.records.proofs.Fields.{IsBytes, Takes, IsField, IsCase, one_case, two_case, four_case, tagged, tagged_field, byte_field}
 use Rattle.records.proofs.Meanings.{distinct_of_test, test_of_distinct, rising_of_test, test_of_rising}
 use Rattle.records.proofs.Texts.{kind_takes}
-use Rattle.records.proofs.Writes.{InFirst, ArePlacedIds, IsCondition, IsSpelledEntry, IsSpelledPlacedId, entry_field, placed_ids_bytes, placed_ids_field, place_field, write_id_field}
+use Rattle.records.proofs.Writes.{InFirst, ArePlacedIds, IsCondition, IsChange, IsSpelledEntry, IsSpelledPlacedId, change_field, entry_field, placed_ids_bytes, placed_ids_field, place_field, write_id_field}
 
 -- what has a spelling in version 1, where the flag says so, and else in version 2
 abbrev pub IsSpelled : Bool → Record → Type 0
@@ -141,6 +144,46 @@ horizon_case : IsCase horizon_at (λ (p : ℕ). Horizon p) (to_be_bytes w64) (λ
 unfolding horizon_at
 horizon_case = one_case (number_at w64) (to_be_bytes w64) Fits64 (λ p. true) (λ p. Horizon p) place_field
 
+-- ---- the marks of a checkpoint
+
+begins_case : IsCase (mark_of_kind_at 0) (λ (g : ℕ). Begins g) (to_be_bytes w64) (λ g. Fits64 g × (true ≡ true))
+unfolding mark_of_kind_at
+begins_case = one_case (number_at w64) (to_be_bytes w64) Fits64 (λ g. true) (λ g. Begins g) place_field
+
+abbrev FitsRow : ℕ × Change → Type 0
+FitsRow x = (Fits64 x.0 × IsChange x.1) × (true ≡ true)
+
+row_case : IsCase (mark_of_kind_at 1) (λ (x : ℕ × Change). Row x.0 x.1) (λ x. to_be_bytes w64 x.0 ++ change_bytes x.1) FitsRow
+unfolding mark_of_kind_at
+row_case = two_case (number_at w64) (to_be_bytes w64) Fits64 change_at change_bytes IsChange (λ p c. true) (λ p c. Row p c) place_field change_field
+
+ends_case : IsCase (mark_of_kind_at 2) (λ (g : ℕ). Ends g) (to_be_bytes w64) (λ g. Fits64 g × (true ≡ true))
+unfolding mark_of_kind_at
+ends_case = one_case (number_at w64) (to_be_bytes w64) Fits64 (λ g. true) (λ g. Ends g) place_field
+
+mark_takes : (k : ℕ) (bytes : List ℕ) (z : Mark × List ℕ) → IsBytes bytes → mark_of_kind_at k bytes ≡ Some z → Takes (k ∷ bytes) (mark_bytes z.0) z.1 × IsMark z.0
+unfolding mark_of_kind_at
+mark_takes zero bytes z fits e =
+    kind_takes 0 (mark_of_kind_at 0) (λ (g : ℕ). Begins g) (to_be_bytes w64) (λ g. Fits64 g × (true ≡ true)) mark_bytes IsMark begins_case (λ g. refl) (λ g h. h.0) bytes z fits e
+mark_takes (suc zero) bytes z fits e =
+    kind_takes 1 (mark_of_kind_at 1) (λ (x : ℕ × Change). Row x.0 x.1) (λ x. to_be_bytes w64 x.0 ++ change_bytes x.1) FitsRow mark_bytes IsMark row_case (λ x. refl) (λ x h. record { place_fits = h.0.0; tuple = h.0.1 }) bytes z fits e
+mark_takes (suc (suc zero)) bytes z fits e =
+    kind_takes 2 (mark_of_kind_at 2) (λ (g : ℕ). Ends g) (to_be_bytes w64) (λ g. Fits64 g × (true ≡ true)) mark_bytes IsMark ends_case (λ g. refl) (λ g h. h.0) bytes z fits e
+mark_takes (suc (suc (suc k))) bytes z fits e = absurd cc
+
+mark_again : (m : Mark) (rest : List ℕ) → IsMark m → tagged mark_of_kind_at (mark_bytes m ++ rest) ≡ Some (m, rest)
+mark_again (Begins g) rest h = begins_case.again g rest (h, refl)
+mark_again (Row place change) rest h = row_case.again (place, change) rest ((h.place_fits, h.tuple), refl)
+mark_again (Ends g) rest h = ends_case.again g rest (h, refl)
+
+mark_field : IsField mark_at mark_bytes IsMark
+unfolding mark_at
+mark_field = tagged_field mark_of_kind_at mark_bytes IsMark mark_takes mark_again
+
+checkpoint_case : IsCase checkpoint_at (λ (m : Mark). Checkpoint m) mark_bytes (λ m. IsMark m × (true ≡ true))
+unfolding checkpoint_at
+checkpoint_case = one_case mark_at mark_bytes IsMark (λ m. true) (λ m. Checkpoint m) mark_field
+
 -- ---- the record
 
 record_takes : (first : Bool) (k : ℕ) (bytes : List ℕ) (z : Record × List ℕ) → IsBytes bytes → record_of_kind_at first k bytes ≡ Some z → Takes (k ∷ bytes) (record_bytes first z.0) z.1 × IsSpelled first z.0
@@ -158,7 +201,9 @@ record_takes first (suc (suc (suc (suc (suc zero))))) bytes z fits e =
     kind_takes 5 (decision_at first) (λ (x : ℕ × Entry). Decision x.0 x.1) (λ x. to_be_bytes w64 x.0 ++ entry_bytes first x.1) (FitsDecision first) (record_bytes first) (IsSpelled first) (decision_case first) (λ x. refl) (decision_fits first) bytes z fits e
 record_takes first (suc (suc (suc (suc (suc (suc zero)))))) bytes z fits e =
     kind_takes 6 horizon_at (λ (p : ℕ). Horizon p) (to_be_bytes w64) (λ p. Fits64 p × (true ≡ true)) (record_bytes first) (IsSpelled first) horizon_case (λ p. refl) (λ p h. (h.0, in_first first)) bytes z fits e
-record_takes first (suc (suc (suc (suc (suc (suc (suc k))))))) bytes z fits e = absurd cc
+record_takes first (suc (suc (suc (suc (suc (suc (suc zero))))))) bytes z fits e =
+    kind_takes 7 checkpoint_at (λ (m : Mark). Checkpoint m) mark_bytes (λ m. IsMark m × (true ≡ true)) (record_bytes first) (IsSpelled first) checkpoint_case (λ m. refl) (λ m h. (h.0, in_first first)) bytes z fits e
+record_takes first (suc (suc (suc (suc (suc (suc (suc (suc k)))))))) bytes z fits e = absurd cc
 
 record_again : (first : Bool) (r : Record) (rest : List ℕ) → IsSpelled first r → tagged (record_of_kind_at first) (record_bytes first r ++ rest) ≡ Some (r, rest)
 unfolding record_of_kind_at record_bytes
@@ -168,6 +213,7 @@ record_again first (Dropped i) rest h = dropped_case.again i rest (h.0, refl)
 record_again first (Epoch e s k n) rest h = epoch_case.again (e, s, k, n) rest (epoch_back first e s k n h)
 record_again first (Decision p w) rest h = (decision_case first).again (p, w) rest (decision_back first p w h)
 record_again first (Horizon p) rest h = horizon_case.again p rest (h.0, refl)
+record_again first (Checkpoint m) rest h = checkpoint_case.again m rest (h.0, refl)
 
 pub record_field : (first : Bool) → IsField (record_at first) (record_bytes first) (IsSpelled first)
 unfolding record_at

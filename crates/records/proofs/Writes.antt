@@ -75,7 +75,7 @@ placed_ids_field = few_field (number_at w16) (to_be_bytes w16) (λ n. n < 2 ^ 16
 
 -- ---- changes
 
-abbrev IsChange : Change → Type 0
+abbrev pub IsChange : Change → Type 0
 IsChange c = IsTuple (tuple_of c)
 
 touch_case : IsCase (change_of_kind_at 1) (λ (t : Tuple). Touch t) tuple_bytes (λ t. IsTuple t × (true ≡ true))

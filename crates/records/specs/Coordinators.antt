@@ -1,5 +1,5 @@
 -- What the records of a coordinator stand for, and which lists of records a coordinator can have.
-use Rattle.std.specs.Prelude.{◌≡◌, ◌≢◌, ◌⊎◌, ◌≤◌, ◌<◌, ◌+◌, ℕ, Bool, true, List, [], ◌∷◌, ◌++◌, length, slice_get, Some, All}
+use Rattle.std.specs.Prelude.{◌≡◌, ◌≢◌, ◌⊎◌, ◌≤◌, ◌<◌, ◌+◌, ℕ, Bool, true, List, [], ◌∷◌, ◌++◌, length, slice_get, Option, Some, None, All}
 use Rattle.std.specs.List.{list_any}
 use Rattle.tuples.specs.declared.tuple.Tuple.{Tuple}
 use Rattle.tuples.specs.declared.change.Condition.{Condition}
@@ -8,9 +8,14 @@ use Rattle.tuples.specs.declared.entry.WriteId.{WriteId}
 use Rattle.tuples.specs.Changes.{changed, has_tuple}
 use Rattle.tuples.specs.Log.{last_from, is_at, meets_want}
 use Rattle.records.specs.declared.record.Record.{Record}
-use Rattle.records.specs.declared.record.Record.TheVariants.{Prepare, Learned, Dropped, Epoch, Decision, Horizon}
+use Rattle.records.specs.declared.record.Record.TheVariants.{Prepare, Learned, Dropped, Epoch, Decision, Horizon, Checkpoint}
 use Rattle.records.specs.Identity.{Identity, coordinator_number}
-use Rattle.records.specs.Replays.{AskOfLog, greatest_number}
+use Rattle.records.specs.Inside.{MayBegin, inside_of}
+use Rattle.records.specs.Replays.{AskOfLog, MayTakeEpoch, MayTakeHorizon, greatest_number}
+use Rattle.records.specs.declared.mark.Inside.{Inside}
+use Rattle.records.specs.declared.mark.Mark.{Mark}
+use Rattle.records.specs.declared.mark.Mark.TheVariants.{Begins, Row, Ends}
+use Rattle.records.specs.declared.mark.Stage.TheVariants.{Bounded}
 
 -- what a coordinator knows: the decisions behind a place, its base, in the order of their places; the horizon; and how often it was opened
 pub record CoordinatorState : Type 0 where
@@ -18,6 +23,12 @@ pub record CoordinatorState : Type 0 where
   pub log : List Entry
   pub horizon : ℕ
   pub epoch : ℕ
+
+-- the base behind a mark of a checkpoint: one that ended holds the decisions above its horizon
+abbrev pub marked_base : Mark → CoordinatorState → ℕ
+marked_base (Begins generation) s = s.base
+marked_base (Row place change) s = s.base
+marked_base (Ends generation) s = s.horizon
 
 -- what one more record makes of it
 unfoldable pub coordinator_step : CoordinatorState → Record → CoordinatorState
@@ -27,6 +38,7 @@ coordinator_step s (Dropped id) = s
 coordinator_step s (Epoch epoch store shards node) = record s { epoch = epoch }
 coordinator_step s (Decision place w) = record s { log = s.log ++ w ∷ [] }
 coordinator_step s (Horizon place) = record s { horizon = place }
+coordinator_step s (Checkpoint mark) = record s { base = marked_base mark s }
 
 abbrev pub coordinator_from : CoordinatorState → List Record → CoordinatorState
 coordinator_from s [] = s
@@ -89,7 +101,7 @@ pub record MayRaise (s : CoordinatorState) (place : ℕ) : Type 0 where
   pub on : s.horizon ≤ place
   pub within : place ≤ end_of s
 
--- the record may come next at this coordinator
+-- the record may come next at this coordinator, where no checkpoint is under way
 abbrev pub MayComeNext : Identity → CoordinatorState → Record → Type 0
 MayComeNext me s (Prepare w) = ⊥
 MayComeNext me s (Learned to placed_ids) = ⊥
@@ -97,7 +109,49 @@ MayComeNext me s (Dropped id) = ⊥
 MayComeNext me s (Epoch epoch store shards node) = MayOpenAgain me s epoch store shards node
 MayComeNext me s (Decision place w) = MayDecide s place w
 MayComeNext me s (Horizon place) = MayRaise s place
+MayComeNext me s (Checkpoint mark) = ⊥
 
--- the records of this coordinator: each may come after those before it
-abbrev pub IsCoordinatorImage : Identity → List Record → Type 0
-IsCoordinatorImage me rs = (before after : List Record) (r : Record) → rs ≡ before ++ r ∷ after → MayComeNext me (coordinator_state before) r
+-- ---- within a checkpoint: one Epoch record, one Horizon, the decisions above it
+
+pub record MayTakeOpening (me : Identity) (i : Inside) (epoch store shards node : ℕ) : Type 0 where
+  pub may : MayTakeEpoch me i epoch store shards node
+  pub coordinator : me.node ≡ coordinator_number
+
+-- decisions stand behind the horizon
+pub record MayTakeDecision (i : Inside) (s : CoordinatorState) (place : ℕ) (w : Entry) : Type 0 where
+  pub after : i.stage ≡ Bounded
+  pub may : MayDecide (record s { base = s.horizon }) place w
+
+pub record MayEndDecisions (i : Inside) (generation : ℕ) : Type 0 where
+  pub after : i.stage ≡ Bounded
+  pub same : generation ≡ i.generation
+
+abbrev pub MayMarkNext : Inside → Mark → Type 0
+MayMarkNext i (Begins generation) = ⊥
+MayMarkNext i (Row place change) = ⊥
+MayMarkNext i (Ends generation) = MayEndDecisions i generation
+
+-- the record may come next at this coordinator, within a checkpoint
+abbrev pub MayComeNextInside : Identity → Inside → CoordinatorState → Record → Type 0
+MayComeNextInside me i s (Prepare w) = ⊥
+MayComeNextInside me i s (Learned to placed_ids) = ⊥
+MayComeNextInside me i s (Dropped id) = ⊥
+MayComeNextInside me i s (Epoch epoch store shards node) = MayTakeOpening me i epoch store shards node
+MayComeNextInside me i s (Decision place w) = MayTakeDecision i s place w
+MayComeNextInside me i s (Horizon place) = MayTakeHorizon i s.horizon place
+MayComeNextInside me i s (Checkpoint mark) = MayMarkNext i mark
+
+-- the record may follow those that were read, whether or not a checkpoint has begun among them
+abbrev pub MayFollowNext : Identity → Option Inside → CoordinatorState → Record → Type 0
+MayFollowNext me None s r = MayComeNext me s r ⊎ MayBegin s.epoch r
+MayFollowNext me (Some i) s r = MayComeNextInside me i s r
+
+-- records of this coordinator, from the first on: each may follow those before it
+abbrev pub BeginsCoordinatorImage : Identity → List Record → Type 0
+BeginsCoordinatorImage me rs = (before after : List Record) (r : Record) → rs ≡ before ++ r ∷ after → MayFollowNext me (inside_of before) (coordinator_state before) r
+
+-- the records of this coordinator: those of a checkpoint, where they begin with one, up to its end, and then each that may come after
+-- those before it
+pub record IsCoordinatorImage (me : Identity) (rs : List Record) : Type 0 where
+  pub each : BeginsCoordinatorImage me rs
+  pub whole : inside_of rs ≡ None

@@ -13,11 +13,14 @@ use Rattle.tuples.specs.declared.change.Want.{Want}
 use Rattle.tuples.specs.declared.change.Want.TheVariants.{NotAfter, Exists, Absent}
 use Rattle.tuples.specs.declared.entry.Entry.{Entry}
 use Rattle.tuples.specs.declared.entry.WriteId.{WriteId}
-use Rattle.tuples.specs.Changes.{IsPart, IsWrite}
+use Rattle.tuples.specs.Changes.{IsPart, IsWrite, tuple_of}
 use Rattle.tuples.specs.Limits.{max_shards}
+use Rattle.tuples.specs.Texts.{IsTuple}
+use Rattle.records.specs.declared.mark.Mark.{Mark}
+use Rattle.records.specs.declared.mark.Mark.TheVariants.{Begins, Row, Ends}
 use Rattle.records.specs.declared.record.PlacedId.{PlacedId}
 use Rattle.records.specs.declared.record.Record.{Record}
-use Rattle.records.specs.declared.record.Record.TheVariants.{Prepare, Learned, Dropped, Epoch, Decision, Horizon}
+use Rattle.records.specs.declared.record.Record.TheVariants.{Prepare, Learned, Dropped, Epoch, Decision, Horizon, Checkpoint}
 
 -- records of a batch
 abbrev pub max_records : ℕ
@@ -67,6 +70,12 @@ entry_bytes first w = id_bytes w.id ++ length w.changes ∷ flat_map change_byte
 abbrev pub placed_id_bytes : PlacedId → List ℕ
 placed_id_bytes p = id_bytes p.id ++ to_be_bytes w64 p.place
 
+-- the kind of a mark, and its fields
+abbrev pub mark_bytes : Mark → List ℕ
+mark_bytes (Begins generation) = 0 ∷ to_be_bytes w64 generation
+mark_bytes (Row place change) = 1 ∷ to_be_bytes w64 place ++ change_bytes change
+mark_bytes (Ends generation) = 2 ∷ to_be_bytes w64 generation
+
 -- the kind, and its fields
 unfoldable pub record_bytes : Bool → Record → List ℕ
 record_bytes first (Prepare w) = 1 ∷ entry_bytes first w
@@ -75,6 +84,7 @@ record_bytes first (Dropped id) = 3 ∷ id_bytes id
 record_bytes first (Epoch epoch store shards node) = 4 ∷ to_be_bytes w64 epoch ++ to_be_bytes w64 store ++ shards ∷ node ∷ []
 record_bytes first (Decision place w) = 5 ∷ to_be_bytes w64 place ++ entry_bytes first w
 record_bytes first (Horizon place) = 6 ∷ to_be_bytes w64 place
+record_bytes first (Checkpoint mark) = 7 ∷ mark_bytes mark
 
 -- version, number of records, and the records
 unfoldable pub batch_bytes : Bool → List Record → List ℕ
@@ -131,6 +141,15 @@ pub record IsDecision (place : ℕ) (w : Entry) : Type 0 where
   pub write : IsWrite w.changes w.conditions
   pub wants : ConditionsFit w.conditions
 
+pub record IsRow (place : ℕ) (change : Change) : Type 0 where
+  pub place_fits : Fits64 place
+  pub tuple : IsTuple (tuple_of change)
+
+abbrev pub IsMark : Mark → Type 0
+IsMark (Begins generation) = Fits64 generation
+IsMark (Row place change) = IsRow place change
+IsMark (Ends generation) = Fits64 generation
+
 -- what has a spelling
 abbrev pub IsRecord : Record → Type 0
 IsRecord (Prepare w) = IsPrepared w
@@ -139,6 +158,7 @@ IsRecord (Dropped id) = IsWriteId id
 IsRecord (Epoch epoch store shards node) = IsEpoch epoch store shards node
 IsRecord (Decision place w) = IsDecision place w
 IsRecord (Horizon place) = Fits64 place
+IsRecord (Checkpoint mark) = IsMark mark
 
 abbrev pub AreRecords : List Record → Type 0
 AreRecords = AllByRecursion IsRecord
@@ -159,6 +179,7 @@ IsOfFirst (Learned to placed_ids) = Unit {0}
 IsOfFirst (Dropped id) = Unit {0}
 IsOfFirst (Epoch epoch store shards node) = Unit {0}
 IsOfFirst (Horizon place) = Unit {0}
+IsOfFirst (Checkpoint mark) = Unit {0}
 
 -- the bytes are a batch of these records, in version 2 or, where that has them, in version 1
 pub record IsBatch (bytes : List ℕ) (rs : List Record) : Type 0 where

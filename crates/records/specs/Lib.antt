@@ -4,5 +4,7 @@ pub mod Giving
 pub mod Laws
 pub mod Putting
 pub mod Reading
+pub mod Inside
 pub mod Replays
 pub mod Coordinators
+pub mod Checkpoints

@@ -17,9 +17,11 @@ use Rattle.tuples.specs.declared.entry.WriteId.{WriteId}
 use Rattle.tuples.specs.Changes.{changed, conditioned, has_tuple}
 use Rattle.tuples.specs.Limits.{max_changes, max_conditions, max_id, max_name, max_shards}
 use Rattle.tuples.specs.Names.{is_id_byte, is_name_byte}
+use Rattle.records.specs.declared.mark.Mark.{Mark}
+use Rattle.records.specs.declared.mark.Mark.TheVariants.{Begins, Row, Ends}
 use Rattle.records.specs.declared.record.PlacedId.{PlacedId}
 use Rattle.records.specs.declared.record.Record.{Record}
-use Rattle.records.specs.declared.record.Record.TheVariants.{Prepare, Learned, Dropped, Epoch, Decision, Horizon}
+use Rattle.records.specs.declared.record.Record.TheVariants.{Prepare, Learned, Dropped, Epoch, Decision, Horizon, Checkpoint}
 use Rattle.records.specs.Format.{max_placed_ids}
 
 infixl 10 ◌>>=◌
@@ -246,6 +248,29 @@ horizon_at bytes = do
   place ← number_at w64 bytes
   Some (Horizon place.0, place.1)
 
+unfoldable pub mark_of_kind_at : ℕ → List ℕ → Option (Mark × List ℕ)
+mark_of_kind_at zero bytes = do
+  generation ← number_at w64 bytes
+  Some (Begins generation.0, generation.1)
+mark_of_kind_at (suc zero) bytes = do
+  place ← number_at w64 bytes
+  change ← change_at place.1
+  Some (Row place.0 change.0, change.1)
+mark_of_kind_at (suc (suc zero)) bytes = do
+  generation ← number_at w64 bytes
+  Some (Ends generation.0, generation.1)
+mark_of_kind_at (suc (suc (suc k))) bytes = None
+
+unfoldable pub mark_at : List ℕ → Option (Mark × List ℕ)
+mark_at bytes = do
+  kind ← byte_at bytes
+  mark_of_kind_at kind.0 kind.1
+
+unfoldable pub checkpoint_at : List ℕ → Option (Record × List ℕ)
+checkpoint_at bytes = do
+  mark ← mark_at bytes
+  Some (Checkpoint mark.0, mark.1)
+
 -- the record after its kind
 unfoldable pub record_of_kind_at : Bool → ℕ → List ℕ → Option (Record × List ℕ)
 record_of_kind_at first zero bytes = None
@@ -255,7 +280,8 @@ record_of_kind_at first (suc (suc (suc zero))) bytes = dropped_at bytes
 record_of_kind_at first (suc (suc (suc (suc zero)))) bytes = epoch_at bytes
 record_of_kind_at first (suc (suc (suc (suc (suc zero))))) bytes = decision_at first bytes
 record_of_kind_at first (suc (suc (suc (suc (suc (suc zero)))))) bytes = horizon_at bytes
-record_of_kind_at first (suc (suc (suc (suc (suc (suc (suc k))))))) bytes = None
+record_of_kind_at first (suc (suc (suc (suc (suc (suc (suc zero))))))) bytes = checkpoint_at bytes
+record_of_kind_at first (suc (suc (suc (suc (suc (suc (suc (suc k)))))))) bytes = None
 
 unfoldable pub record_at : Bool → List ℕ → Option (Record × List ℕ)
 record_at first bytes = do

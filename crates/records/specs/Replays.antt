@@ -1,24 +1,30 @@
 -- What the records of a shard stand for, and which lists of records a shard can have.
-use Rattle.std.specs.Prelude.{◌≡◌, ◌≤◌, ◌<◌, ◌+◌, ℕ, Bool, true, false, List, [], ◌∷◌, ◌++◌, Option, Some, None, if◌then◌else◌, All}
+use Rattle.std.specs.Prelude.{◌≡◌, ◌⊎◌, ◌≤◌, ◌<◌, ◌+◌, ℕ, Bool, true, false, List, [], ◌∷◌, ◌++◌, Option, Some, None, if◌then◌else◌, All}
 use Rattle.std.specs.Ordering.{match_ordering, nat_cmp, ordering_then}
 use Rattle.std.specs.declared.cmp.Ordering.{Ordering}
 use Rattle.tuples.specs.declared.tuple.Tuple.{Tuple}
+use Rattle.tuples.specs.declared.change.Change.{Change}
 use Rattle.tuples.specs.declared.change.Condition.{Condition}
 use Rattle.tuples.specs.declared.change.Want.{Want}
 use Rattle.tuples.specs.declared.change.Want.TheVariants.{NotAfter, Exists, Absent}
 use Rattle.tuples.specs.declared.entry.Entry.{Entry}
 use Rattle.tuples.specs.declared.entry.WriteId.{WriteId}
 use Rattle.tuples.specs.declared.version.Version.{Version}
-use Rattle.tuples.specs.Changes.{changed, conditioned, has_tuple}
+use Rattle.tuples.specs.Changes.{changed, conditioned, has_tuple, tuple_of}
 use Rattle.tuples.specs.Limits.{max_number}
 use Rattle.tuples.specs.Log.{same_id}
 use Rattle.tuples.specs.Parts.{shard_of}
-use Rattle.tuples.specs.Versions.{placed, collected}
+use Rattle.tuples.specs.Versions.{placed, collected, last_version}
 use Rattle.records.specs.Format.{AreRisingTo}
 pub use Rattle.records.specs.Identity.{Identity}
+use Rattle.records.specs.Inside.{MayBegin, inside_of}
+use Rattle.records.specs.declared.mark.Inside.{Inside}
+use Rattle.records.specs.declared.mark.Mark.{Mark}
+use Rattle.records.specs.declared.mark.Mark.TheVariants.{Begins, Row, Ends}
+use Rattle.records.specs.declared.mark.Stage.TheVariants.{Begun, Opened, Bounded, Listed, Doubted}
 use Rattle.records.specs.declared.record.PlacedId.{PlacedId}
 use Rattle.records.specs.declared.record.Record.{Record}
-use Rattle.records.specs.declared.record.Record.TheVariants.{Prepare, Learned, Dropped, Epoch, Decision, Horizon}
+use Rattle.records.specs.declared.record.Record.TheVariants.{Prepare, Learned, Dropped, Epoch, Decision, Horizon, Checkpoint}
 
 -- what a shard knows: the writes in doubt, ascending by id; the place up to which decisions are applied;
 -- the horizon; its versions, in the order of the log; and how often it was opened
@@ -59,6 +65,12 @@ abbrev pub learned_rows : List PlacedId → List Entry → List Version
 learned_rows [] ws = []
 learned_rows (p ∷ placed_ids) ws = changes_at p.place (find_in_doubt p.id ws) ++ learned_rows placed_ids ws
 
+-- the versions that a mark of a checkpoint adds
+abbrev pub marked_rows : Mark → List Version
+marked_rows (Begins generation) = []
+marked_rows (Row place change) = record { place = place; change = change } ∷ []
+marked_rows (Ends generation) = []
+
 -- what one more record makes of it
 unfoldable pub shard_step : ShardState → Record → ShardState
 shard_step s (Prepare w) = record s { in_doubt = put w s.in_doubt }
@@ -67,6 +79,7 @@ shard_step s (Dropped id) = record s { in_doubt = without id s.in_doubt }
 shard_step s (Epoch epoch store shards node) = record s { epoch = epoch }
 shard_step s (Decision place w) = s
 shard_step s (Horizon place) = record s { horizon = place; rows = collected place s.rows }
+shard_step s (Checkpoint mark) = record s { rows = s.rows ++ marked_rows mark }
 
 abbrev pub shard_from : ShardState → List Record → ShardState
 shard_from s [] = s
@@ -144,7 +157,7 @@ pub record MayCollect (s : ShardState) (place : ℕ) : Type 0 where
   pub on : s.horizon ≤ place
   pub within : place ≤ s.learned
 
--- the record may come next at this shard
+-- the record may come next at this shard, where no checkpoint is under way
 abbrev pub MayCome : Identity → ShardState → Record → Type 0
 MayCome me s (Prepare w) = MayPrepare me s w
 MayCome me s (Learned to placed_ids) = MayLearn s to placed_ids
@@ -152,7 +165,73 @@ MayCome me s (Dropped id) = MayDrop s id
 MayCome me s (Epoch epoch store shards node) = MayOpen me s epoch store shards node
 MayCome me s (Decision place w) = ⊥
 MayCome me s (Horizon place) = MayCollect s place
+MayCome me s (Checkpoint mark) = ⊥
 
--- the records of this shard: each may come after those before it. The first is its first opening, since nothing else may come before one.
-abbrev pub IsShardImage : Identity → List Record → Type 0
-IsShardImage me rs = (before after : List Record) (r : Record) → rs ≡ before ++ r ∷ after → MayCome me (shard_state before) r
+-- ---- within a checkpoint: one Epoch record, one Horizon, one Learned record without parts, the versions, the writes in doubt
+
+-- the openings of a node so far are not in a checkpoint, so any epoch may stand there
+pub record MayTakeEpoch (me : Identity) (i : Inside) (epoch store shards node : ℕ) : Type 0 where
+  pub after : i.stage ≡ Begun
+  pub some : 1 ≤ epoch
+  pub greatest : epoch ≤ greatest_number
+  pub same_store : store ≡ me.store
+  pub same_shards : shards ≡ me.shards
+  pub same_node : node ≡ me.node
+
+-- that it is within what is learned is tested where the checkpoint ends
+pub record MayTakeHorizon (i : Inside) (before place : ℕ) : Type 0 where
+  pub after : i.stage ≡ Opened
+  pub on : before ≤ place
+  pub fits : place ≤ greatest_number
+
+pub record MayTakeLearned (i : Inside) (s : ShardState) (to : ℕ) (placed_ids : List PlacedId) : Type 0 where
+  pub after : i.stage ≡ Bounded
+  pub no_parts : placed_ids ≡ []
+  pub may : MayLearn s to placed_ids
+
+-- a version of a tuple of this shard, of a write that is learned, no older than the versions of that tuple so far
+pub record MayTakeRow (me : Identity) (i : Inside) (s : ShardState) (place : ℕ) (change : Change) : Type 0 where
+  pub after : i.stage ≡ Listed
+  pub some : 1 ≤ place
+  pub on : last_version s.rows (tuple_of change) ≤ place
+  pub learned : place ≤ s.learned
+  pub own : shard_of me.shards (tuple_of change).object ≡ me.node
+
+pub record MayTakePrepare (me : Identity) (i : Inside) (s : ShardState) (w : Entry) : Type 0 where
+  pub after : (i.stage ≡ Listed) ⊎ (i.stage ≡ Doubted)
+  pub may : MayPrepare me s w
+
+pub record MayEnd (i : Inside) (s : ShardState) (generation : ℕ) : Type 0 where
+  pub after : (i.stage ≡ Listed) ⊎ (i.stage ≡ Doubted)
+  pub same : generation ≡ i.generation
+  pub within : s.horizon ≤ s.learned
+
+abbrev pub MayMark : Identity → Inside → ShardState → Mark → Type 0
+MayMark me i s (Begins generation) = ⊥
+MayMark me i s (Row place change) = MayTakeRow me i s place change
+MayMark me i s (Ends generation) = MayEnd i s generation
+
+-- the record may come next at this shard, within a checkpoint
+abbrev pub MayComeInside : Identity → Inside → ShardState → Record → Type 0
+MayComeInside me i s (Prepare w) = MayTakePrepare me i s w
+MayComeInside me i s (Learned to placed_ids) = MayTakeLearned i s to placed_ids
+MayComeInside me i s (Dropped id) = ⊥
+MayComeInside me i s (Epoch epoch store shards node) = MayTakeEpoch me i epoch store shards node
+MayComeInside me i s (Decision place w) = ⊥
+MayComeInside me i s (Horizon place) = MayTakeHorizon i s.horizon place
+MayComeInside me i s (Checkpoint mark) = MayMark me i s mark
+
+-- the record may follow those that were read, whether or not a checkpoint has begun among them
+abbrev pub MayFollow : Identity → Option Inside → ShardState → Record → Type 0
+MayFollow me None s r = MayCome me s r ⊎ MayBegin s.epoch r
+MayFollow me (Some i) s r = MayComeInside me i s r
+
+-- records of this shard, from the first on: each may follow those before it
+abbrev pub BeginsShardImage : Identity → List Record → Type 0
+BeginsShardImage me rs = (before after : List Record) (r : Record) → rs ≡ before ++ r ∷ after → MayFollow me (inside_of before) (shard_state before) r
+
+-- the records of this shard: those of a checkpoint, where they begin with one, up to its end, and then each that may come after those
+-- before it. The first of the others is its first opening, since nothing else may come before one.
+pub record IsShardImage (me : Identity) (rs : List Record) : Type 0 where
+  pub each : BeginsShardImage me rs
+  pub whole : inside_of rs ≡ None

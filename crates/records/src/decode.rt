@@ -3,14 +3,17 @@ ghost use Rattle.std.specs.Prelude.{◌≡◌, ◌⊎◌, List, Some, None, IfOk
 ghost use Rattle.records.specs.declared.record.Record.{Record as AnyRecord};
 ghost use Rattle.records.specs.Format.{IsBatch};
 ghost use Rattle.records.specs.Giving.{Gives};
-ghost use Rattle.records.specs.Reading.{batch, decision_at, epoch_at, learned_at, list_at, prepare_at, record_at, record_of_kind_at, records_at};
+ghost use Rattle.records.specs.Reading.{batch, checkpoint_at, decision_at, epoch_at, learned_at, list_at, mark_at, mark_of_kind_at, prepare_at, record_at, record_of_kind_at, records_at};
 
-use crate::Record;
 use crate::distinct::are_rising_to;
-use crate::format::{DECISION, DROPPED, EPOCH, FIRST_VERSION, HORIZON, LEARNED, PREPARE, VERSION};
+use crate::format::{
+    BEGINS, CHECKPOINT, DECISION, DROPPED, ENDS, EPOCH, FIRST_VERSION, HORIZON, LEARNED, PREPARE,
+    ROW, VERSION,
+};
 use crate::read_text::{byte_of, u16_of, u64_of};
-use crate::read_write::{entry_of, placed_ids_of, write_id_of};
+use crate::read_write::{change_of, entry_of, placed_ids_of, write_id_of};
 use crate::unread::Unread;
+use crate::{Mark, Record};
 use std::alloc::Global;
 use tuples::{MAX_SHARDS, Refusal};
 
@@ -71,6 +74,44 @@ fn decision_of(alloc: Global, first: bool, bytes: &[u8]) -> Result<(Record, &[u8
     Ok((Record::Decision { place, entry }, rest))
 }
 
+#[tactic(auto, unfolding(crate::specs::Reading::mark_of_kind_at))]
+fn mark_of_kind(alloc: Global, kind: u8, bytes: &[u8]) -> Result<(Mark, &[u8]), Unread>
+    ensures { Gives (λ x. (x.0, x.1.now)) result (mark_of_kind_at kind bytes.now) }
+{
+    match kind {
+        BEGINS => {
+            let (generation, rest) = u64_of(bytes)?;
+            Ok((Mark::Begins(generation), rest))
+        }
+        ROW => {
+            let (place, rest) = u64_of(bytes)?;
+            let (change, rest) = change_of(alloc, rest)?;
+            Ok((Mark::Row { place, change }, rest))
+        }
+        ENDS => {
+            let (generation, rest) = u64_of(bytes)?;
+            Ok((Mark::Ends(generation), rest))
+        }
+        _ => Err(Unread::Damaged),
+    }
+}
+
+#[tactic(auto, unfolding(crate::specs::Reading::mark_at))]
+fn mark_of(alloc: Global, bytes: &[u8]) -> Result<(Mark, &[u8]), Unread>
+    ensures { Gives (λ x. (x.0, x.1.now)) result (mark_at bytes.now) }
+{
+    let (kind, rest) = byte_of(bytes)?;
+    mark_of_kind(alloc, kind, rest)
+}
+
+#[tactic(auto, unfolding(crate::specs::Reading::checkpoint_at))]
+fn checkpoint_of(alloc: Global, bytes: &[u8]) -> Result<(Record, &[u8]), Unread>
+    ensures { Gives (λ x. (x.0, x.1.now)) result (checkpoint_at bytes.now) }
+{
+    let (mark, rest) = mark_of(alloc, bytes)?;
+    Ok((Record::Checkpoint(mark), rest))
+}
+
 #[tactic(auto, unfolding(crate::specs::Reading::record_of_kind_at, crate::specs::Reading::dropped_at, crate::specs::Reading::horizon_at))]
 fn record_of_kind(
     alloc: Global,
@@ -93,6 +134,7 @@ fn record_of_kind(
             let (place, rest) = u64_of(bytes)?;
             Ok((Record::Horizon(place), rest))
         }
+        CHECKPOINT => checkpoint_of(alloc, bytes),
         _ => Err(Unread::Damaged),
     }
 }

@@ -2,17 +2,22 @@
 ghost use Rattle.std.specs.Prelude.{◌≡◌, ◌≤◌, ◌<◌, ◌+◌, [], ◌∷◌, ◌++◌, false, length, vec_len, vec_capacity, OnOk, OnErr};
 ghost use Rattle.std.specs.Int.{w16, w64, to_be_bytes};
 ghost use Rattle.std.specs.List.{flat_map};
-ghost use Rattle.records.specs.Format.{IsPrepared, IsRecord, entry_bytes, max_placed_ids, placed_id_bytes, record_bytes};
+ghost use Rattle.records.specs.Format.{IsPrepared, IsRecord, mark_bytes, max_placed_ids, placed_id_bytes, record_bytes};
 ghost use Rattle.records.specs.Putting.{Puts};
-ghost use Rattle.records.specs.declared.record.Record.TheVariants.{Prepare as prepare_record};
+ghost use Rattle.records.specs.declared.record.Record.TheVariants.{Decision as decision_record, Prepare as prepare_record};
+ghost use Rattle.records.specs.Checkpoints.{row_record};
 ghost use Rattle.tuples.specs.Limits.{max_changes, max_conditions};
 
-use crate::format::{DECISION, DROPPED, EPOCH, HORIZON, LEARNED, PREPARE};
+use crate::format::{
+    BEGINS, CHECKPOINT, DECISION, DELETE, DROPPED, ENDS, EPOCH, HORIZON, LEARNED, PREPARE, ROW,
+    TOUCH,
+};
 use crate::put::{put_byte, put_bytes, put_u64};
-use crate::put_write::{put_entry, put_placed_ids, put_write_id};
-use crate::{PlacedIds, Record};
+use crate::put_tuple::put_tuple;
+use crate::put_write::{put_change, put_entry, put_placed_ids, put_write_id};
+use crate::{Mark, PlacedIds, Record};
 use std::alloc::AllocError;
-use tuples::Entry;
+use tuples::{Entry, Tuple};
 
 impl Record {
     /// Appends the bytes of the record, in the version that is written. It takes no memory where the vector has room for them, and
@@ -49,6 +54,44 @@ pub fn encode_prepare(part: &Entry, out: &mut Vec<u8>) -> Result<(), AllocError>
     done
 }
 
+/// Appends the bytes of the record that marks a version at a place: a touch of the tuple, or else a delete. The tuple is not copied for
+/// it. Memory is as in `Record::encode`.
+pub fn encode_row(
+    place: u64,
+    tuple: &Tuple,
+    is_touch: bool,
+    out: &mut Vec<u8>,
+) -> Result<(), AllocError>
+    ensures ok { OnOk result (out.new.items ≡ out.old.items ++ record_bytes false (row_record place is_touch tuple.now)) }
+    ensures err { OnErr result ((out.new.items ≡ out.old.items) × (vec_capacity out.old < vec_len out.old + length (record_bytes false (row_record place is_touch tuple.now)))) }
+    ensures room { vec_capacity out.old ≤ vec_capacity out.new }
+{
+    let before = out.len();
+    let done = put_row(out, place, tuple, is_touch);
+    if done.is_err() {
+        // Some of its bytes may stand there.
+        out.truncate(before);
+    }
+    done
+}
+
+/// Appends the bytes of the record that decides a write at a place, which is not copied for it. Memory is as in `Record::encode`.
+pub fn encode_decision(place: u64, write: &Entry, out: &mut Vec<u8>) -> Result<(), AllocError>
+    requires few_changes { length write.now.changes ≤ max_changes }
+    requires few_conditions { length write.now.conditions ≤ max_conditions }
+    ensures ok { OnOk result (out.new.items ≡ out.old.items ++ record_bytes false (decision_record place write.now)) }
+    ensures err { OnErr result ((out.new.items ≡ out.old.items) × (vec_capacity out.old < vec_len out.old + length (record_bytes false (decision_record place write.now)))) }
+    ensures room { vec_capacity out.old ≤ vec_capacity out.new }
+{
+    let before = out.len();
+    let done = put_decision(out, place, write);
+    if done.is_err() {
+        // Some of its bytes may stand there.
+        out.truncate(before);
+    }
+    done
+}
+
 #[tactic(auto, unfolding(crate::specs::Format::record_bytes))]
 fn put_record(out: &mut Vec<u8>, item: &Record) -> Result<(), AllocError>
     requires { IsRecord item.now }
@@ -72,7 +115,42 @@ fn put_record(out: &mut Vec<u8>, item: &Record) -> Result<(), AllocError>
             put_byte(out, HORIZON)?;
             put_u64(out, *place)
         }
+        Record::Checkpoint(mark) => {
+            put_byte(out, CHECKPOINT)?;
+            put_mark(out, mark)
+        }
     }
+}
+
+fn put_mark(out: &mut Vec<u8>, mark: &Mark) -> Result<(), AllocError>
+    ensures { Puts out.old out.new (mark_bytes mark.now) result }
+{
+    match mark {
+        Mark::Begins(generation) => {
+            put_byte(out, BEGINS)?;
+            put_u64(out, *generation)
+        }
+        Mark::Row { place, change } => {
+            put_byte(out, ROW)?;
+            put_u64(out, *place)?;
+            put_change(out, change)
+        }
+        Mark::Ends(generation) => {
+            put_byte(out, ENDS)?;
+            put_u64(out, *generation)
+        }
+    }
+}
+
+#[tactic(auto, unfolding(crate::specs::Format::record_bytes))]
+fn put_row(out: &mut Vec<u8>, place: u64, tuple: &Tuple, is_touch: bool) -> Result<(), AllocError>
+    ensures { Puts out.old out.new (record_bytes false (row_record place is_touch tuple.now)) result }
+{
+    let kind = if is_touch { TOUCH } else { DELETE };
+    put_bytes(out, &[CHECKPOINT, ROW])?;
+    put_u64(out, place)?;
+    put_byte(out, kind)?;
+    put_tuple(out, tuple)
 }
 
 #[tactic(auto, unfolding(crate::specs::Format::record_bytes))]
@@ -109,10 +187,11 @@ fn put_epoch(
     put_bytes(out, &[shards, node])
 }
 
+#[tactic(auto, unfolding(crate::specs::Format::record_bytes))]
 fn put_decision(out: &mut Vec<u8>, place: u64, entry: &Entry) -> Result<(), AllocError>
     requires few_changes { length entry.now.changes ≤ max_changes }
     requires few_conditions { length entry.now.conditions ≤ max_conditions }
-    ensures { Puts out.old out.new (5 ∷ to_be_bytes w64 place ++ entry_bytes false entry.now) result }
+    ensures { Puts out.old out.new (record_bytes false (decision_record place entry.now)) result }
 {
     put_byte(out, DECISION)?;
     put_u64(out, place)?;

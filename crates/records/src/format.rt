@@ -30,6 +30,18 @@ pub(crate) const DECISION: u8 = 5;
 /// The kind of a `Horizon` record.
 pub(crate) const HORIZON: u8 = 6;
 
+/// The kind of a record that marks a checkpoint.
+pub(crate) const CHECKPOINT: u8 = 7;
+
+/// The kind of a mark with which a checkpoint begins.
+pub(crate) const BEGINS: u8 = 0;
+
+/// The kind of a mark that is a version.
+pub(crate) const ROW: u8 = 1;
+
+/// The kind of a mark with which a checkpoint ends.
+pub(crate) const ENDS: u8 = 2;
+
 /// The kind of a user that is one id.
 pub(crate) const USER_ID: u8 = 1;
 

@@ -9,12 +9,14 @@
 //! speaks of them.
 #![tactic(auto)]
 
+mod checkpoint;
 mod decode;
 mod distinct;
 mod encode;
 mod format;
 mod identity;
 mod laws;
+mod mark;
 mod measure;
 mod places;
 mod put;
@@ -26,11 +28,13 @@ mod read_write;
 mod record;
 mod unread;
 
+pub use checkpoint::may_begin;
 pub use decode::decode_batch;
-pub use encode::encode_prepare;
+pub use encode::{encode_decision, encode_prepare, encode_row};
 pub use format::{MAX_PLACED_IDS, MAX_RECORDS, VERSION};
 pub use identity::{COORDINATOR, Identity};
 pub use laws::no_record_begins_another;
+pub use mark::{Inside, Mark, Stage};
 pub use measure::{decision_len, prepare_len};
 pub use places::{ask_of_log, places_rise};
 pub use record::{PlacedId, PlacedIds, Record};

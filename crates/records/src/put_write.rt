@@ -20,7 +20,7 @@ pub(crate) fn put_write_id(out: &mut Vec<u8>, id: &WriteId) -> Result<(), AllocE
     put_u64(out, id.number)
 }
 
-fn put_change(out: &mut Vec<u8>, change: &Change) -> Result<(), AllocError>
+pub(crate) fn put_change(out: &mut Vec<u8>, change: &Change) -> Result<(), AllocError>
     ensures { Puts out.old out.new (change_bytes change.now) result }
 {
     match change {

@@ -40,7 +40,7 @@ fn change_of_kind(alloc: Global, kind: u8, bytes: &[u8]) -> Result<(Change, &[u8
 }
 
 #[tactic(auto, unfolding(crate::specs::Reading::change_at))]
-fn change_of(alloc: Global, bytes: &[u8]) -> Result<(Change, &[u8]), Unread>
+pub(crate) fn change_of(alloc: Global, bytes: &[u8]) -> Result<(Change, &[u8]), Unread>
     ensures { Gives (λ x. (x.0, x.1.now)) result (change_at bytes.now) }
 {
     let (kind, rest) = byte_of(bytes)?;

@@ -1,4 +1,5 @@
 // Records, and the lists in them.
+use crate::Mark;
 use std::marker::Model;
 use tuples::{Entry, WriteId};
 
@@ -67,4 +68,6 @@ pub enum Record {
     },
     /// What lies below this place may be forgotten.
     Horizon(u64),
+    /// What lies between the begin and the end of a checkpoint stands for all that was written before it.
+    Checkpoint(Mark),
 }

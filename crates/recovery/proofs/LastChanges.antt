@@ -1,12 +1,14 @@
 -- The index of last changes tells what the log does.
-use Rattle.std.proofs.Common.{◌≡◌, ⊎_elim, ℕ, suc, ◌+◌, true, false, Bool, List, [], ◌∷◌, ◌++◌, length, Option, Some, None, refl, sym, ◌∙◌, ap, arith, rules, if◌then◌else◌}
+use Rattle.std.proofs.Common.{◌≡◌, ◌⊎◌, ◌↔◌, ◌==◌, ◌||◌, inl, inr, is_some, ⊎_elim, ℕ, zero, suc, ◌+◌, true, false, Bool, List, [], ◌∷◌, ◌++◌, length, Option, Some, None, refl, sym, ◌∙◌, ap, arith, rules, subst, if◌then◌else◌}
+use Rattle.std.proofs.Math.Dec.{eqb-suc-zero}
 use Rattle.std.proofs.lemmas.Bool.{cases_Bool}
 use Rattle.std.proofs.lemmas.List.{take_all}
-use Rattle.std.specs.List.{flat_map}
+use Rattle.std.specs.List.{flat_map, list_any}
 use Rattle.tuples.specs.declared.tuple.Tuple.{Tuple}
 use Rattle.tuples.specs.declared.change.Change.{Change}
 use Rattle.tuples.specs.declared.change.Change.TheVariants.{Touch, Delete}
 use Rattle.tuples.specs.declared.change.Condition.{Condition}
+use Rattle.tuples.specs.declared.change.Want.{Want}
 use Rattle.tuples.specs.declared.entry.Entry.{Entry}
 use Rattle.tuples.specs.Changes.{changed, has_tuple, tuple_of}
 use Rattle.tuples.specs.Log.{is_at as is_there_at, last_from, meets_want, there_after}
@@ -18,8 +20,9 @@ use Rattle.std.specs.Map.{lookup}
 use Rattle.std.specs.Ordering.{is_eq}
 use Rattle.tuples.specs.Order.{tuple_cmp}
 use Rattle.tuples.specs.contracts.tuple.TupleOrd.TheImpl.{ghosts}
+use Rattle.records.specs.Coordinators.{CoordinatorState, HoldsKnown, is_changed}
 use Rattle.recovery.specs.declared.latest.LastChange.{LastChange}
-use Rattle.recovery.specs.Latest.{AreLatest, last_change, last_of, latest_from, there_of}
+use Rattle.recovery.specs.Latest.{AreLatestFrom, holds_after, last_change, last_of, latest_from, there_of}
 
 abbrev pub changed_by : ℕ → Change → LastChange
 changed_by place c = record { place = place; is_there = is_touch c }
@@ -69,17 +72,61 @@ there_from place t [] o = refl
 there_from place t (w ∷ log) o =
     there_changes place t w.changes (flat_map (λ (v : Entry). v.changes) log) o ∙ there_from (place + 1) t log (last_change place w.changes t o)
 
-there_last : (t : Tuple) (log : List Entry) → is_there_at log (length log) t ≡ there_of (latest_from 1 log t None)
+there_last : (place : ℕ) (t : Tuple) (log : List Entry) → is_there_at log (length log) t ≡ there_of (latest_from place log t None)
 unfolding is_there_at
-there_last t log = ap (λ (l : List Entry). there_after t false (flat_map (λ (w : Entry). w.changes) l)) (take_all (length log) log (omega arith)) ∙ there_from 1 t log None
+there_last place t log = ap (λ (l : List Entry). there_after t false (flat_map (λ (w : Entry). w.changes) l)) (take_all (length log) log (omega arith)) ∙ there_from place t log None
 
--- what is wanted of a tuple, by the index and by the log
-pub wanted_by_index : (at : Tuple → Option LastChange) (log : List Entry) (c : Condition) → AreLatest at log
-    → meets_want c.want (last_of (at c.tuple)) (there_of (at c.tuple)) ≡ meets_want c.want (last_from 0 1 c.tuple log) (is_there_at log (length log) c.tuple)
-wanted_by_index at log c latest =
-    ap (λ (o : Option LastChange). meets_want c.want (last_of o) (there_of o)) (latest c.tuple)
-    ∙ ap (λ (n : ℕ). meets_want c.want n (there_of (latest_from 1 log c.tuple None))) (sym (place_from 1 c.tuple log None))
-    ∙ ap (meets_want c.want (last_from 0 1 c.tuple log)) (sym (there_last c.tuple log))
+-- what is wanted of a tuple, by its last change and by the log
+wanted_by_last : (place : ℕ) (log : List Entry) (c : Condition)
+    → meets_want c.want (last_of (latest_from place log c.tuple None)) (there_of (latest_from place log c.tuple None)) ≡ meets_want c.want (last_from 0 place c.tuple log) (is_there_at log (length log) c.tuple)
+wanted_by_last place log c =
+    ap (λ (n : ℕ). meets_want c.want n (there_of (latest_from place log c.tuple None))) (sym (place_from place c.tuple log None))
+    ∙ ap (meets_want c.want (last_from 0 place c.tuple log)) (sym (there_last place c.tuple log))
+
+-- a last change is known of those tuples that are changed
+known_change : (place : ℕ) (t : Tuple) (changes : List Change) (o : Option LastChange) → is_some (last_change place changes t o) ≡ (has_tuple t (changed changes) || is_some o)
+known_change place t [] o = refl
+known_change place t (c ∷ changes) o = ⊎_elim
+    (λ here. rw here (known_change place t changes (Some (changed_by place c)) ∙ either (has_tuple t (changed changes))))
+    (λ further. rw further (known_change place t changes o))
+    (cases_Bool (tuple_eq t (tuple_of c)))
+  where
+    either : (b : Bool) → (b || true) ≡ true
+    either true = refl
+    either false = refl
+
+or_assoc : (a b c : Bool) → (a || (b || c)) ≡ ((b || a) || c)
+or_assoc true true c = refl
+or_assoc true false c = refl
+or_assoc false true c = refl
+or_assoc false false c = refl
+
+known_from : (place : ℕ) (t : Tuple) (log : List Entry) (o : Option LastChange) → is_some (latest_from place log t o) ≡ (list_any (λ (w : Entry). has_tuple t (changed w.changes)) log || is_some o)
+known_from place t [] o = refl
+known_from place t (w ∷ log) o =
+    let any = list_any (λ (v : Entry). has_tuple t (changed v.changes)) log in
+    known_from (place + 1) t log (last_change place w.changes t o)
+    ∙ ap (λ (b : Bool). any || b) (known_change place t w.changes o)
+    ∙ or_assoc any (has_tuple t (changed w.changes)) (is_some o)
+
+-- the test of a condition decides what is known of it
+decides : (base : ℕ) (want : Want) (o : Option LastChange) (changes wanted : Bool) → is_some o ≡ changes → meets_want want (last_of o) (there_of o) ≡ wanted
+    → (holds_after (base == 0) want o ≡ true) ↔ ((base ≡ 0) ⊎ (changes ≡ true) → wanted ≡ true)
+decides base want (Some c) changes wanted known same = (λ is either. sym same ∙ is, λ holds. same ∙ holds (inr (sym known)))
+decides zero want None changes wanted known same = (λ is either. sym same ∙ is, λ holds. same ∙ holds (inl refl))
+decides (suc base) want None changes wanted known same =
+    (λ is either. absurd (⊎_elim (λ (first : suc base ≡ 0). omega (arith, first)) (λ (yes : changes ≡ true). let differ : false ≡ true = known ∙ yes in cc) either), λ holds. rw (eqb-suc-zero base) refl)
+
+pub known_by_index : (at : Tuple → Option LastChange) (s : CoordinatorState) (c : Condition) → AreLatestFrom (s.base + 1) at s.log → (holds_after (s.base == 0) c.want (at c.tuple) ≡ true) ↔ HoldsKnown s c
+known_by_index at s c latest =
+    let last = latest_from (s.base + 1) s.log c.tuple None in
+    let both = decides s.base c.want last (is_changed s c.tuple) (meets_want c.want (last_from 0 (s.base + 1) c.tuple s.log) (is_there_at s.log (length s.log) c.tuple))
+    (known_from (s.base + 1) c.tuple s.log None ∙ no_more (is_changed s c.tuple)) (wanted_by_last (s.base + 1) s.log c) in
+    subst (λ (o : Option LastChange). (holds_after (s.base == 0) c.want o ≡ true) ↔ HoldsKnown s c) (sym (latest c.tuple)) both
+  where
+    no_more : (b : Bool) → (b || false) ≡ b
+    no_more true = refl
+    no_more false = refl
 
 -- the order that the type derives is that of tuples
 same_order : (a b : Tuple) → ghosts.cmp a b ≡ tuple_cmp a b

@@ -1,1 +1,3 @@
 pub mod LastChanges
+pub mod Known
+pub mod Checkpoints

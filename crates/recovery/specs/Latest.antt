@@ -1,9 +1,11 @@
 -- The last change of each tuple in a log, as an index keeps it.
-use Rattle.std.specs.Prelude.{◌≡◌, ◌≤◌, ◌+◌, ℕ, Bool, false, List, [], ◌∷◌, length, Option, Some, None, if◌then◌else◌}
+use Rattle.std.specs.Prelude.{◌≡◌, ◌≤◌, ◌+◌, ◌||◌, not, ℕ, Bool, false, List, [], ◌∷◌, length, Option, Some, None, if◌then◌else◌}
 use Rattle.tuples.specs.declared.tuple.Tuple.{Tuple}
 use Rattle.tuples.specs.declared.change.Change.{Change}
+use Rattle.tuples.specs.declared.change.Want.{Want}
 use Rattle.tuples.specs.declared.entry.Entry.{Entry}
 use Rattle.tuples.specs.Changes.{tuple_of}
+use Rattle.tuples.specs.Log.{meets_want}
 use Rattle.tuples.specs.Order.{tuple_eq}
 use Rattle.tuples.specs.Versions.{is_touch}
 use Rattle.records.specs.Replays.{greatest_number}
@@ -30,14 +32,19 @@ abbrev pub there_of : Option LastChange → Bool
 there_of None = false
 there_of (Some c) = c.is_there
 
--- the index has the last change of each tuple
-abbrev pub AreLatest : (Tuple → Option LastChange) → List Entry → Type 0
-AreLatest at log = (t : Tuple) → at t ≡ latest_from 1 log t None
+-- the index has the last change of each tuple by the writes from a place on
+abbrev pub AreLatestFrom : ℕ → (Tuple → Option LastChange) → List Entry → Type 0
+AreLatestFrom place at log = (t : Tuple) → at t ≡ latest_from place log t None
 
--- what a recovery keeps: every decision from the first on, the last change of each tuple, and numbers within their bounds
+-- what is wanted of a tuple, by its last change; where none is known and the changes that are known are not all, nothing is known against it
+abbrev pub holds_after : Bool → Want → Option LastChange → Bool
+holds_after are_all want None = not are_all || meets_want want 0 false
+holds_after are_all want (Some c) = meets_want want c.place c.is_there
+
+-- what a recovery keeps: every decision behind the base, the last change of each tuple by them, and numbers within their bounds
 pub record IsRecovered (ledger : LedgerValue) (at : Tuple → Option LastChange) (horizon epoch : ℕ) : Type 0 where
-  pub from_first : ledger.base ≡ 0
   pub settled : ledger.awaited ≡ None
-  pub latest : AreLatest at ledger.log
-  pub horizon_within : horizon ≤ length ledger.log
+  pub latest : AreLatestFrom (ledger.base + 1) at ledger.log
+  pub horizon_behind : ledger.base ≤ horizon
+  pub horizon_within : horizon ≤ ledger.base + length ledger.log
   pub epoch_fits : epoch ≤ greatest_number

@@ -1,1 +1,3 @@
 pub mod Latest
+pub mod Reading
+pub mod Checkpoints

@@ -1,12 +1,13 @@
 // The last change of each tuple, by which conditions are tested without a walk over the log.
-ghost use Rattle.std.specs.Prelude.{◌≡◌, ◌↔◌, IfOk, OnOk, All, IsTrue, true};
+ghost use Rattle.std.specs.Prelude.{◌≡◌, IfOk, OnOk};
 ghost use Rattle.std.specs.BTreeMap.{get};
+ghost use Rattle.std.specs.List.{list_all};
 ghost use Rattle.tuples.specs.declared.tuple.Tuple.{Tuple as AnyTuple};
 ghost use Rattle.tuples.specs.declared.change.Condition.{Condition as AnyCondition};
 ghost use Rattle.tuples.specs.Log.{meets_want};
 ghost use Rattle.tuples.specs.Order.{tuple_cmp};
 ghost use Rattle.tuples.specs.Versions.{is_touch as is_touch_change};
-ghost use Rattle.recovery.specs.Latest.{last_change, last_of, there_of};
+ghost use Rattle.recovery.specs.Latest.{holds_after, last_change};
 
 use std::alloc::AllocError;
 use std::collections::BTreeMap;
@@ -51,24 +52,43 @@ pub(crate) fn enter(
     Ok(())
 }
 
-/// Whether a condition holds after the writes that were entered, if they are all.
-pub(crate) fn holds(latest: &BTreeMap<Tuple, LastChange>, condition: &Condition) -> bool
-    ensures { result ≡ meets_want condition.now.want (last_of (get tuple_cmp latest.now condition.now.tuple)) (there_of (get tuple_cmp latest.now condition.now.tuple)) }
+fn meets(want: Want, place: u64, is_there: bool) -> bool
+    ensures { result ≡ meets_want want place is_there }
 {
-    let last = latest.get(&condition.tuple);
-    match condition.want {
-        Want::NotAfter(place) => match last {
-            Some(change) => change.place <= place,
-            None => true,
-        },
-        Want::Exists => last.is_some_and(|change| change.is_there),
-        Want::Absent => !last.is_some_and(|change| change.is_there),
+    match want {
+        Want::NotAfter(since) => place <= since,
+        Want::Exists => is_there,
+        Want::Absent => !is_there,
+    }
+}
+
+/// Whether a condition holds after the writes that were entered, so far as they tell: of a tuple that none of them changes they tell it
+/// only where they are all.
+pub(crate) fn holds(
+    latest: &BTreeMap<Tuple, LastChange>,
+    are_all: bool,
+    condition: &Condition,
+) -> bool
+    ensures { result ≡ holds_after are_all condition.now.want (get tuple_cmp latest.now condition.now.tuple) }
+{
+    match latest.get(&condition.tuple) {
+        Some(change) => meets(condition.want, change.place, change.is_there),
+        None => !are_all || meets(condition.want, 0, false),
     }
 }
 
 /// Whether all of these conditions hold.
-pub(crate) fn all_hold(latest: &BTreeMap<Tuple, LastChange>, conditions: &[Condition]) -> bool
-    ensures { IsTrue result ↔ All (λ (c : AnyCondition). meets_want c.want (last_of (get tuple_cmp latest.now c.tuple)) (there_of (get tuple_cmp latest.now c.tuple)) ≡ true) conditions.now }
+pub(crate) fn all_hold(
+    latest: &BTreeMap<Tuple, LastChange>,
+    are_all: bool,
+    conditions: &[Condition],
+) -> bool
+    ensures { result ≡ list_all (λ (c : AnyCondition). holds_after are_all c.want (get tuple_cmp latest.now c.tuple)) conditions.now }
 {
-    conditions.iter().all(|condition| holds(latest, condition))
+    for condition in conditions {
+        if !holds(latest, are_all, condition) {
+            return false;
+        }
+    }
+    true
 }

@@ -7,8 +7,12 @@
 //! Start at `records/specs/Coordinators.antt`, what each record does and which may come next.
 #![tactic(auto)]
 
+mod checkpoint_laws;
 mod latest;
 mod recovery;
+mod replay;
 mod rules;
 
+pub use checkpoint_laws::coordinator_checkpoints_stand;
 pub use recovery::Recovery;
+pub use replay::Replay;

@@ -1,13 +1,14 @@
 // The state of a coordinator, as its records are replayed.
-ghost use Rattle.std.specs.Prelude.{◌≡◌, ◌⊎◌, ◌↔◌, ◌≤◌, drop, IfOk, IfErr, IsErrOf, IsTrue, All, None};
+ghost use Rattle.std.specs.Prelude.{◌≡◌, ◌⊎◌, ◌↔◌, ◌≤◌, ◌-◌, [], drop, IfOk, IfErr, IsErrOf, IsTrue, All, None};
 ghost use Rattle.records.specs.declared.record.Record.TheVariants.{Decision as decision_record, Epoch as epoch_record, Horizon as horizon_record};
-ghost use Rattle.records.specs.Coordinators.{HoldsKnown, IsNotDecided, MayComeNext, MayDecide, MayOpenAgain, MayRaise, coordinator_step, empty_coordinator, end_of};
+ghost use Rattle.records.specs.Format.{IsDecision};
+ghost use Rattle.records.specs.Coordinators.{HoldsKnown, IsNotDecided, MayDecide, MayOpenAgain, MayRaise, coordinator_step, empty_coordinator, end_of};
 ghost use Rattle.records.specs.Replays.{greatest_number};
 
 use crate::latest::{LastChange, all_hold, enter};
 use crate::rules::{may_decide, may_open, may_raise};
 use ledger::Ledger;
-use records::{Identity, Record};
+use records::Identity;
 use std::alloc::Global;
 use std::collections::BTreeMap;
 use std::marker::Model;
@@ -30,7 +31,7 @@ impl Model for Recovery {
 
     ghost Value = { CoordinatorState };
 
-    ghost view = { λ r. record { base = 0; log = r.ledger.log; horizon = r.horizon; epoch = r.epoch } };
+    ghost view = { λ r. record { base = r.ledger.base; log = r.ledger.log; horizon = r.horizon; epoch = r.epoch } };
 
     ghost invariant = { λ r. IsRecovered r.ledger (λ t. get tuple_cmp r.latest t) r.horizon r.epoch };
 }
@@ -48,30 +49,9 @@ impl Recovery {
         }
     }
 
-    /// With a record more of this node: `Damaged` where it may not come next, `NoMemory`.
-    pub fn replay(self, me: Identity, found: Record) -> Result<Recovery, Refusal>
-        ensures ok { IfOk result (λ r. MayComeNext me self found × (r ≡ coordinator_step self found)) }
-        ensures damaged { IsErrOf result Refusal.Damaged → MayComeNext me self found → ⊥ }
-        ensures err { IfErr result (λ e. (e ≡ Refusal.Damaged) ⊎ (e ≡ Refusal.NoMemory)) }
-    {
-        match found {
-            Record::Decision { place, entry } => self.decide(place, entry),
-            Record::Epoch {
-                epoch,
-                store,
-                shards,
-                node,
-            } => self.open_epoch(me, epoch, store, shards, node),
-            Record::Horizon(place) => self.raise(place),
-            // A coordinator prepares nothing.
-            Record::Prepare(_) | Record::Learned { .. } | Record::Dropped(_) => {
-                Err(Refusal::Damaged)
-            }
-        }
-    }
-
     #[tactic(auto, unfolding(records::specs::Coordinators::coordinator_step))]
-    fn decide(self, place: u64, write: Entry) -> Result<Recovery, Refusal>
+    pub(crate) fn decide(self, place: u64, write: Entry) -> Result<Recovery, Refusal>
+        requires { IsDecision place write }
         ensures ok { IfOk result (λ r. MayDecide self place write × (r ≡ coordinator_step self (decision_record place write))) }
         ensures damaged { IsErrOf result Refusal.Damaged → MayDecide self place write → ⊥ }
         ensures err { IfErr result (λ e. (e ≡ Refusal.Damaged) ⊎ (e ≡ Refusal.NoMemory)) }
@@ -97,7 +77,7 @@ impl Recovery {
     }
 
     #[tactic(auto, unfolding(records::specs::Coordinators::coordinator_step))]
-    fn open_epoch(
+    pub(crate) fn open_epoch(
         mut self,
         me: Identity,
         epoch: u64,
@@ -117,7 +97,7 @@ impl Recovery {
     }
 
     #[tactic(auto, unfolding(records::specs::Coordinators::coordinator_step))]
-    fn raise(mut self, place: u64) -> Result<Recovery, Refusal>
+    pub(crate) fn raise(mut self, place: u64) -> Result<Recovery, Refusal>
         ensures ok { IfOk result (λ r. MayRaise self place × (r ≡ coordinator_step self (horizon_record place))) }
         ensures damaged { IsErrOf result Refusal.Damaged → MayRaise self place → ⊥ }
         ensures err { IfErr result (λ e. e ≡ Refusal.Damaged) }
@@ -127,6 +107,35 @@ impl Recovery {
         }
         self.horizon = place;
         Ok(self)
+    }
+
+    /// After so many openings.
+    pub(crate) fn with_epoch(mut self, epoch: u64) -> Recovery
+        requires { epoch ≤ greatest_number }
+        ensures { result ≡ record self { epoch = epoch } }
+    {
+        self.epoch = epoch;
+        self
+    }
+
+    /// Where no decision is known, those behind a horizon are to come.
+    pub(crate) fn behind(self, alloc: Global, horizon: u64) -> Recovery
+        requires none { self.log ≡ [] }
+        requires fits { horizon ≤ greatest_number }
+        ensures { result ≡ record self { base = horizon; horizon = horizon } }
+    {
+        let Recovery {
+            ledger: _,
+            latest,
+            horizon: _,
+            epoch,
+        } = self;
+        Recovery {
+            ledger: Ledger::new(alloc, horizon),
+            latest,
+            horizon,
+            epoch,
+        }
     }
 
     /// How often the coordinator was opened.
@@ -162,13 +171,13 @@ impl Recovery {
     pub(crate) fn all_hold(&self, conditions: &[Condition]) -> bool
         ensures { IsTrue result ↔ All (HoldsKnown self.now) conditions.now }
     {
-        all_hold(&self.latest, conditions)
+        all_hold(&self.latest, self.ledger.base() == 0, conditions)
     }
 
     /// The decisions above the horizon, which takes no memory.
     pub fn into_ledger(self) -> Ledger
-        ensures value { result ≡ record { base = self.horizon; log = drop self.horizon self.log; awaited = None } }
-        ensures from_first { self.base ≡ 0 }
+        ensures value { result ≡ record { base = self.horizon; log = drop (self.horizon - self.base) self.log; awaited = None } }
+        ensures behind { self.base ≤ self.horizon }
     {
         let Recovery {
             mut ledger,

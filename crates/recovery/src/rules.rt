@@ -1,10 +1,10 @@
 // Which record may come next at a coordinator.
 ghost use Rattle.std.specs.Prelude.{◌↔◌, ◌≤◌, IsTrue};
-ghost use Rattle.records.specs.Coordinators.{MayDecide, MayOpenAgain, MayRaise};
+ghost use Rattle.records.specs.Coordinators.{MayDecide, MayEndDecisions, MayOpenAgain, MayRaise, MayTakeOpening};
 ghost use Rattle.records.specs.Replays.{greatest_number};
 
 use crate::Recovery;
-use records::{COORDINATOR, Identity, ask_of_log};
+use records::{COORDINATOR, Identity, Inside, Stage, ask_of_log};
 use tuples::{Entry, MAX_NUMBER};
 
 // epochs and numbers of writes begin at 1
@@ -51,4 +51,25 @@ pub(crate) fn may_raise(so_far: &Recovery, place: u64) -> bool
     ensures { IsTrue result ↔ MayRaise so_far.now place }
 {
     so_far.epoch() != 0 && so_far.horizon() <= place && place <= so_far.end()
+}
+
+/// The openings so far, of this very coordinator.
+pub(crate) fn may_take_opening(
+    me: Identity,
+    inside: Inside,
+    epoch: u64,
+    store: u64,
+    shards: u8,
+    node: u8,
+) -> bool
+    ensures { IsTrue result ↔ MayTakeOpening me inside epoch store shards node }
+{
+    inside.may_take_epoch(me, epoch, store, shards, node) && me.node() == COORDINATOR
+}
+
+/// The end of this very checkpoint, whose horizon is known.
+pub(crate) fn may_end(inside: Inside, generation: u64) -> bool
+    ensures { IsTrue result ↔ MayEndDecisions inside generation }
+{
+    inside.stage == Stage::Bounded && generation == inside.generation
 }

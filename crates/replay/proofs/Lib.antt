@@ -3,3 +3,7 @@ pub mod Doubts
 pub mod Deciding
 pub mod Alike
 pub mod Images
+pub mod Doubting
+pub mod Rising
+pub mod Fit
+pub mod Checkpoints

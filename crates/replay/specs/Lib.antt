@@ -1,2 +1,4 @@
 pub mod Rules
 pub mod Alike
+pub mod Reading
+pub mod Checkpoints

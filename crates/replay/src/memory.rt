@@ -1,23 +1,30 @@
 // What a shard knows, as the replay of its records.
-ghost use Rattle.std.specs.Prelude.{◌≡◌, ◌⊎◌, ◌↔◌, OnOk, OnErr, IfOk, IfErr, IsErrOf, IsTrue, Some, None, MatchOption};
+ghost use Rattle.std.specs.Prelude.{◌≡◌, ◌⊎◌, ◌↔◌, ◌++◌, ◌∷◌, [], OnOk, OnErr, IfOk, IfErr, IsErrOf, IsTrue, Some, None, MatchOption};
+ghost use Rattle.std.specs.List.{AllByRecursion};
 ghost use Rattle.holds.specs.Holds.{AreAscendingIds, IsFree, ids};
+ghost use Rattle.records.specs.Format.{IsPrepared};
 ghost use Rattle.records.specs.declared.record.Record.TheVariants.{Dropped as dropped_record, Epoch as epoch_record, Horizon as horizon_record, Learned as learned_record, Prepare as prepare_record};
-ghost use Rattle.records.specs.Replays.{MayCollect, MayCome, MayDrop, MayLearn, MayOpen, MayPrepare, empty_shard, find_in_doubt, is_held, shard_step};
+ghost use Rattle.records.specs.Replays.{MayCollect, MayDrop, MayLearn, MayOpen, MayPrepare, empty_shard, find_in_doubt, is_held, shard_step};
 ghost use Rattle.tuples.specs.Log.{meets_want};
 ghost use Rattle.tuples.specs.Reads.{IsSelection};
 ghost use Rattle.tuples.specs.Walking.{IsCheckSelection};
 ghost use Rattle.tuples.specs.Versions.{last_version, there_at};
 ghost use Rattle.versions.specs.Rows.{AreRows};
+ghost use Rattle.versions.specs.Walks.{IsInOrder};
 ghost use Rattle.replay.specs.Alike.{IsAlike};
 
 use crate::learning::apply_learned;
 use crate::rules::{may_collect, may_drop, may_learn, may_open, may_prepare};
 use holds::Holds;
-use records::{Identity, PlacedId, Record};
+use records::{Identity, PlacedId};
 use std::alloc::{AllocError, Global};
+use std::collections::btree_map::Values;
 use std::marker::Model;
-use tuples::{Condition, Entry, Refusal, Tuple, Tupleset, User, Userset, Version, Want, WriteId};
-use versions::Versions;
+use std::slice;
+use tuples::{
+    Change, Condition, Entry, Refusal, Tuple, Tupleset, User, Userset, Version, Want, WriteId,
+};
+use versions::{Versions, Walk};
 
 /// What a shard knows, which contracts see as the state that its records stand for.
 #[derive(Drop)]
@@ -30,11 +37,15 @@ pub struct Memory {
 }
 
 impl Model for Memory {
+    ghost use Rattle.std.specs.List.{AllByRecursion};
+    ghost use Rattle.records.specs.Format.{IsPrepared};
     ghost use Rattle.records.specs.Replays.{ShardState};
 
     ghost Value = { ShardState };
 
     ghost view = { λ m. record { in_doubt = m.in_doubt; learned = m.learned; horizon = m.horizon; rows = m.versions; epoch = m.epoch } };
+
+    ghost invariant = { λ m. AllByRecursion IsPrepared m.in_doubt };
 }
 
 impl Memory {
@@ -51,32 +62,8 @@ impl Memory {
         }
     }
 
-    /// Applies a record that was found, of the shard with this identity. `Damaged` where it may not come next, `NoMemory`; after a refusal
-    /// the memory is of no use.
-    pub fn replay(&mut self, alloc: Global, me: Identity, found: Record) -> Result<(), Refusal>
-        ensures ok { OnOk result (MayCome me self.old found × IsAlike self.new (shard_step self.old found)) }
-        ensures damaged { IsErrOf result Refusal.Damaged → MayCome me self.old found → ⊥ }
-        ensures err { IfErr result (λ e. (e ≡ Refusal.Damaged) ⊎ (e ≡ Refusal.NoMemory)) }
-    {
-        match found {
-            Record::Prepare(entry) => self.replay_prepare(me, entry),
-            Record::Learned { to, placed_ids } => {
-                self.replay_learned(alloc, to, placed_ids.as_slice())
-            }
-            Record::Dropped(id) => self.replay_dropped(id),
-            Record::Epoch {
-                epoch,
-                store,
-                shards,
-                node,
-            } => self.replay_epoch(me, epoch, store, shards, node),
-            // A shard decides nothing.
-            Record::Decision { .. } => Err(Refusal::Damaged),
-            Record::Horizon(place) => self.replay_horizon(place),
-        }
-    }
-
-    fn replay_prepare(&mut self, me: Identity, entry: Entry) -> Result<(), Refusal>
+    pub(crate) fn replay_prepare(&mut self, me: Identity, entry: Entry) -> Result<(), Refusal>
+        requires { IsPrepared entry }
         ensures ok { OnOk result (MayPrepare me self.old entry × IsAlike self.new (shard_step self.old (prepare_record entry))) }
         ensures damaged { IsErrOf result Refusal.Damaged → MayPrepare me self.old entry → ⊥ }
         ensures err { IfErr result (λ e. (e ≡ Refusal.Damaged) ⊎ (e ≡ Refusal.NoMemory)) }
@@ -88,7 +75,7 @@ impl Memory {
         Ok(())
     }
 
-    fn replay_learned(
+    pub(crate) fn replay_learned(
         &mut self,
         alloc: Global,
         to: u64,
@@ -106,7 +93,7 @@ impl Memory {
     }
 
     #[tactic(auto, unfolding(records::specs::Replays::shard_step))]
-    fn replay_dropped(&mut self, id: WriteId) -> Result<(), Refusal>
+    pub(crate) fn replay_dropped(&mut self, id: WriteId) -> Result<(), Refusal>
         ensures ok { OnOk result (MayDrop self.old id × IsAlike self.new (shard_step self.old (dropped_record id))) }
         ensures damaged { IsErrOf result Refusal.Damaged → MayDrop self.old id → ⊥ }
         ensures err { IfErr result (λ e. e ≡ Refusal.Damaged) }
@@ -119,7 +106,7 @@ impl Memory {
     }
 
     #[tactic(auto, unfolding(records::specs::Replays::shard_step))]
-    fn replay_epoch(
+    pub(crate) fn replay_epoch(
         &mut self,
         me: Identity,
         epoch: u64,
@@ -139,7 +126,7 @@ impl Memory {
     }
 
     #[tactic(auto, unfolding(records::specs::Replays::shard_step))]
-    fn replay_horizon(&mut self, place: u64) -> Result<(), Refusal>
+    pub(crate) fn replay_horizon(&mut self, place: u64) -> Result<(), Refusal>
         ensures ok { OnOk result (MayCollect self.old place × IsAlike self.new (shard_step self.old (horizon_record place))) }
         ensures damaged { IsErrOf result Refusal.Damaged → MayCollect self.old place → ⊥ }
         ensures err { IfErr result (λ e. e ≡ Refusal.Damaged) }
@@ -161,6 +148,7 @@ impl Memory {
     /// Holds a write in doubt: `Busy` where it is not free, `NoMemory`. After a refusal nothing has changed.
     #[tactic(auto, unfolding(records::specs::Replays::shard_step))]
     pub fn prepare(&mut self, entry: Entry) -> Result<(), Refusal>
+        requires { IsPrepared entry }
         ensures ok { OnOk result (self.new ≡ shard_step self.old (prepare_record entry)) }
         ensures busy { IsErrOf result Refusal.Busy ↔ (IsFree self.old.in_doubt entry → ⊥) }
         ensures err { IfErr result (λ e. (e ≡ Refusal.Busy) ⊎ (e ≡ Refusal.NoMemory)) }
@@ -204,6 +192,21 @@ impl Memory {
     {
         self.horizon = place;
         self.versions.collect(place);
+    }
+
+    /// Adds a version, behind those of its tuple.
+    pub(crate) fn add_version(&mut self, place: u64, change: &Change) -> Result<(), AllocError>
+        ensures ok { OnOk result (IsAlike self.new (record self.old { rows = self.old.rows ++ record { place = place; change = change.now } ∷ [] })) }
+        ensures err { OnErr result (self.new ≡ self.old) }
+    {
+        self.versions.apply(place, slice::from_ref(change))
+    }
+
+    /// The place of the newest version of the tuple, or 0.
+    pub(crate) fn last(&self, tuple: &Tuple) -> u64
+        ensures { result ≡ last_version self.now.rows tuple.now }
+    {
+        self.versions.last(tuple)
     }
 
     /// The place up to which decisions are applied.
@@ -284,6 +287,22 @@ impl Memory {
         ensures { IfOk result (λ v. AreRows self.now.rows v.items) }
     {
         self.versions.rows(alloc)
+    }
+
+    /// All versions, by tuple, each tuple's in the order in which they were applied. Nothing is copied.
+    pub fn walk(&self) -> Walk<'_>
+        ensures all { result ≡ self.now.rows }
+        ensures in_order { IsInOrder self.now.rows }
+    {
+        self.versions.walk()
+    }
+
+    /// The writes in doubt, ascending by id. Nothing is copied.
+    pub fn doubts(&self) -> Values<'_, WriteId, Entry>
+        ensures rest { result ≡ self.now.in_doubt }
+        ensures prepared { AllByRecursion IsPrepared self.now.in_doubt }
+    {
+        self.in_doubt.iter()
     }
 
     /// The ids of the writes in doubt, ascending.

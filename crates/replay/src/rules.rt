@@ -108,7 +108,7 @@ fn are_conditions_own(me: Identity, conditions: &[Condition]) -> bool
     true
 }
 
-fn is_own(me: Identity, tuple: &Tuple) -> bool
+pub(crate) fn is_own(me: Identity, tuple: &Tuple) -> bool
     ensures { result ≡ is_own_tuple me tuple.now }
 {
     shard_of(&tuple.object, me.shards()) == me.node()

@@ -13,6 +13,7 @@
 //! Start at `serve`.
 #![tactic(auto)]
 
+mod down;
 mod fault;
 mod opening;
 mod running;

@@ -7,6 +7,7 @@ use crate::running::serve_store;
 use crossbeam_utils::sync::{Parker, Unparker};
 use device::Device;
 use files::{FileDevice, HostFile};
+use flights::Launches;
 use locked::{Gate, Open, Store, new_bell};
 use node_files::open_all;
 use published::{LogPass, Published};
@@ -55,8 +56,11 @@ where
     R: Runtime + Net<Listener = TcpListener, Stream = TcpStream> + Threads + Wait + Sync,
     ensures { (result ≡ 0) ⊎ (result ≡ 1) }
 {
+    let Ok(launches) = Launches::new(files.alloc()) else {
+        return tell(rt, &Fault::Refused(Refusal::NoMemory));
+    };
     match Published::new(files.alloc()) {
-        Ok((words, log)) => serve_files(rt, files, settings, parker, bell, words, log),
+        Ok((words, log)) => serve_files(rt, files, settings, parker, bell, words, log, launches),
         Err(_) => tell(rt, &Fault::Refused(Refusal::NoMemory)),
     }
 }
@@ -69,6 +73,7 @@ fn serve_files<R>(
     bell: Unparker,
     words: Published<Entry>,
     log: LogPass<Entry>,
+    launches: Launches,
 ) -> u8
 where
     R: Runtime + Net<Listener = TcpListener, Stream = TcpStream> + Threads + Wait + Sync,
@@ -86,6 +91,7 @@ where
             bell,
             words,
             log,
+            launches,
             devices,
         ),
         Err(refusal) => tell(rt, &Fault::Refused(refusal)),
@@ -103,11 +109,12 @@ pub fn serve_over<D: Device + Send, B: Room + Send + Sync, G: Gate + Sync, R>(
     bell: Unparker,
     words: Published<Entry>,
     log: LogPass<Entry>,
+    launches: Launches,
     devices: Vec<D>,
 ) -> u8
 where
     R: Runtime + Net<Listener = TcpListener, Stream = TcpStream> + Threads + Wait + Sync,
-    requires own { (words ≡ B.log) × (log.table ≡ B.log) }
+    requires own { (words ≡ B.log) × (log.table ≡ B.log) × (launches ≡ B.launches) }
     requires empty { (log.seen ≡ []) × (log.horizon ≡ 0) }
     requires of { (B.store ≡ settings.now.store) × (B.shards ≡ settings.now.shards) }
     requires count { vec_len devices ≡ 2 * (settings.now.shards + 1) }
@@ -118,11 +125,13 @@ where
 {
     let began = Instant::now(rt).ok();
     match Store::<D, B, G>::open(
+        rt,
         alloc,
         gate,
         bell,
         words,
         log,
+        launches,
         devices,
         settings.store,
         settings.shards,

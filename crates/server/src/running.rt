@@ -2,6 +2,7 @@
 ghost use Rattle.locked.specs.Looking.{AreOfOneStore};
 ghost use Rattle.std.specs.Prelude.{◌≡◌, ◌⊎◌, ◌≤◌, None, Some, IfErr, IfOk, vec_len};
 
+use crate::down::DownLines;
 use crate::fault::{Fault, tell};
 use crate::start::{Start, tell_start};
 use calls::Told;
@@ -140,10 +141,11 @@ where
     let serving = serving_of(settings);
     let window = settings.window;
     let mut keeper = store.session(rt);
+    let mut notice = DownLines::new(rt);
     announce(rt);
     let (_, served) = thread::join(
         rt,
-        move || store.keep(rt, alloc, &mut keeper, window, &parker),
+        move || store.keep(rt, alloc, &mut keeper, window, &parker, &mut notice),
         move || {
             let served = serve_on(rt, alloc, listener, &serving, sessions);
             store.close();

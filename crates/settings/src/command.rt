@@ -41,7 +41,7 @@ A request call by call, under a name:
   start w REQUEST, turn w, until w decide, run w, cancel w
 
 The care of the nodes (c is the coordinator, 0 a shard):
-  flush c, learn 0, resolve 0, raise 4, collect 0, rows 0
+  flush c, checkpoint c, learn 0, resolve 0, raise 4, collect 0, rows 0
 
 Failures: the fourth call of device a of the coordinator is to fail, and what was written since its
 last sync is to be found as a5 (or old, or new). And a restart, which finds it:

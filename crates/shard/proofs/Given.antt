@@ -5,12 +5,13 @@ use Rattle.std.proofs.lemmas.List.{append-nil}
 use Rattle.tuples.specs.declared.entry.Entry.{Entry}
 use Rattle.tuples.specs.declared.entry.WriteId.{WriteId}
 use Rattle.records.specs.Format.{IsWriteId}
+use Rattle.records.specs.declared.mark.Inside.{Inside}
 use Rattle.records.specs.declared.record.PlacedId.{PlacedId}
 use Rattle.records.specs.declared.record.Record.{Record}
-use Rattle.records.specs.declared.record.Record.TheVariants.{Prepare, Learned, Dropped, Epoch, Decision, Horizon}
-use Rattle.records.specs.Replays.{ArePrepared, Identity, IsShardImage, MayCome, ShardState, find_in_doubt, shard_state, shard_step, without}
+use Rattle.records.specs.declared.record.Record.TheVariants.{Prepare, Learned, Dropped, Epoch, Decision, Horizon, Checkpoint}
+use Rattle.records.specs.Replays.{ArePrepared, Identity, IsShardImage, MayCome, MayComeInside, ShardState, find_in_doubt, shard_state, shard_step, without}
 use Rattle.replay.proofs.Doubts.{cases_id, find_put}
-use Rattle.replay.proofs.States.{shard_push}
+use Rattle.replay.proofs.States.{image_keeps}
 use Rattle.shard.proofs.Waiting.{still_placed_ids, still_without}
 
 abbrev pub AllGiven : List Entry → Type 0
@@ -37,16 +38,20 @@ given_step me s (Learned to placed_ids) given may id p is = given id p (still_pl
 given_step me s (Dropped other) given may id p is = given id p (still_without id other s.in_doubt p is)
 given_step me s (Epoch epoch store shards node) given may id p is = given id p is
 given_step me s (Decision place w) given may id p is = absurd may
+given_step me s (Checkpoint mark) given may id p is = absurd may
 given_step me s (Horizon place) given may id p is = given id p is
 
-given_from : (me : Identity) (before rs : List Record) → IsShardImage me (before ++ rs) → AllGiven (shard_state before).in_doubt → AllGiven (shard_state (before ++ rs)).in_doubt
-given_from me before [] image given = subst (λ (l : List Record). AllGiven (shard_state l).in_doubt) (sym (append-nil before)) given
-given_from me before (r ∷ rs) image given =
-    let whole : (before ++ r ∷ []) ++ rs ≡ before ++ r ∷ rs = append_assoc before (r ∷ []) rs in
-    let next : AllGiven (shard_state (before ++ r ∷ [])).in_doubt =
-    subst (λ (s : ShardState). AllGiven s.in_doubt) (sym (shard_push before r)) (given_step me (shard_state before) r given (image before rs r refl)) in
-    subst (λ (l : List Record). AllGiven (shard_state l).in_doubt) whole (given_from me (before ++ r ∷ []) rs (subst (IsShardImage me) (sym whole) image) next)
+given_inside : (me : Identity) (i : Inside) (s : ShardState) (r : Record) → AllGiven s.in_doubt → MayComeInside me i s r → AllGiven (shard_step s r).in_doubt
+unfolding shard_step
+given_inside me i s (Prepare w) given may = given_step me s (Prepare w) given may.may
+given_inside me i s (Learned to placed_ids) given may = given_step me s (Learned to placed_ids) given may.may
+given_inside me i s (Dropped id) given may = absurd may
+given_inside me i s (Epoch epoch store shards node) given may = given
+given_inside me i s (Decision place w) given may = absurd may
+given_inside me i s (Horizon place) given may = given
+given_inside me i s (Checkpoint mark) given may = given
 
 pub given_image : (me : Identity) (rs : List Record) → IsShardImage me rs → AllGiven (shard_state rs).in_doubt
-unfolding shard_state
-given_image me rs image = given_from me [] rs image (λ id p is. absurd cc)
+unfolding shard_state shard_step
+given_image me rs image =
+    image_keeps me (λ (s : ShardState). AllGiven s.in_doubt) (λ s r given may. given_step me s r given may) (λ i s r given may. given_inside me i s r given may) (λ s mark given. given) [] rs image.each (λ id p is. absurd cc)

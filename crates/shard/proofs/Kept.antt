@@ -5,7 +5,7 @@ use Rattle.tuples.specs.declared.entry.Entry.{Entry}
 use Rattle.tuples.specs.declared.entry.WriteId.{WriteId}
 use Rattle.records.specs.declared.record.PlacedId.{PlacedId}
 use Rattle.records.specs.declared.record.Record.{Record}
-use Rattle.records.specs.declared.record.Record.TheVariants.{Prepare, Learned, Dropped, Epoch, Decision, Horizon}
+use Rattle.records.specs.declared.record.Record.TheVariants.{Prepare, Learned, Dropped, Epoch, Decision, Horizon, Checkpoint}
 use Rattle.records.specs.Replays.{Identity, IsShardImage, MayCome, ShardState, shard_state, shard_step}
 use Rattle.replay.specs.Alike.{IsAlike}
 use Rattle.replay.proofs.Alike.{alike_step, alike_trans, may_come_alike}
@@ -23,6 +23,7 @@ prepared_append (Learned to placed_ids ∷ rs) more = prepared_append rs more
 prepared_append (Dropped id ∷ rs) more = prepared_append rs more
 prepared_append (Epoch epoch store shards node ∷ rs) more = prepared_append rs more
 prepared_append (Decision place w ∷ rs) more = prepared_append rs more
+prepared_append (Checkpoint mark ∷ rs) more = prepared_append rs more
 prepared_append (Horizon place ∷ rs) more = prepared_append rs more
 
 abbrev pub view_of : {D : Type 0} → View D → Identity → ShardView D

@@ -1,4 +1,5 @@
 mod Kept
+mod Checkpointed
 pub mod Waiting
 pub mod Tested
 mod Below
@@ -10,3 +11,4 @@ pub mod Parts
 mod Openings
 pub mod Told
 pub mod Landed
+pub mod Still

@@ -1,22 +1,26 @@
 -- Opening a shard once more.
-use Rattle.std.proofs.Common.{◌≡◌, inl, inr, ⊎_elim, ◌≤◌, ◌<◌, ◌+◌, ◌++◌, ℕ, List, [], ◌∷◌, Option, Some, length, refl, sym, ap, ◌∙◌, subst, arith, append_assoc, false, Contains}
+use Rattle.std.proofs.Common.{◌≡◌, inl, inr, ⊎_elim, ◌≤◌, ◌<◌, ◌+◌, ◌++◌, ℕ, List, [], ◌∷◌, Option, Some, None, length, refl, sym, ap, ◌∙◌, subst, arith, append_assoc, false, Contains}
 use Rattle.std.proofs.lemmas.List.{append-nil}
 use Rattle.std.proofs.lemmas.List.Elements.{Contains-append_right}
 use Rattle.tuples.specs.declared.entry.WriteId.{WriteId}
 use Rattle.records.specs.declared.record.Record.{Record}
-use Rattle.records.specs.declared.record.Record.TheVariants.{Prepare, Learned, Dropped, Epoch, Decision, Horizon}
+use Rattle.records.specs.declared.record.Record.TheVariants.{Prepare, Learned, Dropped, Epoch, Decision, Horizon, Checkpoint}
 use Rattle.records.specs.Format.{batch_bytes, record_bytes}
 use Rattle.records.specs.Identity.{max_shards}
-use Rattle.records.specs.Replays.{Identity, IsShardImage, MayCome, MayOpen, ShardState, empty_shard, greatest_number, shard_state, shard_step}
+use Rattle.records.specs.declared.mark.Inside.{Inside}
+use Rattle.records.specs.Inside.{inside_of, inside_step}
+use Rattle.records.proofs.Insides.{inside_push}
+use Rattle.records.specs.Replays.{BeginsShardImage, Identity, IsShardImage, MayCome, MayComeInside, MayFollow, MayOpen, ShardState, empty_shard, greatest_number, shard_state, shard_step}
 use Rattle.replay.specs.Alike.{IsAlike}
-use Rattle.replay.proofs.Alike.{alike_same, alike_step, alike_sym, alike_trans, may_come_alike}
-use Rattle.replay.proofs.States.{image_empty, image_push, shard_push}
+use Rattle.replay.specs.Reading.{ReadSoFar, TakesRecord, nothing_read as nothing_read_yet}
+use Rattle.replay.proofs.Alike.{alike_same, alike_step, alike_sym, alike_trans, may_follow_alike}
+use Rattle.replay.proofs.States.{image_empty, image_keeps, image_more, image_push, shard_push}
 use Rattle.device.specs.Device.{State, left}
-use Rattle.journal.specs.Records.{both, HasNoRoom, HasRecords, HasOldOrNew, LeavesBoth, View}
+use Rattle.journal.specs.Records.{both, HasNoRoom, HasRecords, HasOldOrNew, LeavesBoth, View, found}
 use Rattle.journal.specs.Unread.{IsRead, Left}
 use Rattle.journal.proofs.Left.{both-nil, read_among, read_more}
 use Rattle.shard.specs.Keeping.{HasFoundOrOpened, IsKept, IsReplayed, prepared_ids}
-use Rattle.shard.specs.Shards.{IsUp, opening}
+use Rattle.shard.specs.Shards.{IsUp, WasLeftOrOpened, opening}
 use Rattle.shard.proofs.Kept.{view_of}
 
 -- the record of an opening is short
@@ -35,34 +39,54 @@ unfolding shard_state
 nothing_replayed = refl
 
 -- records that were read are replayed
-pub record SoFar (me : Identity) (whole : Option (List Record)) (left : Left) (m : ShardState) : Type 0 where
+pub record SoFar (me : Identity) (whole : Option (List Record)) (left : Left) (m : ReadSoFar) : Type 0 where
   pub done : List Record
   pub all : whole ≡ both (Some done) left.records
-  pub replayed : IsAlike m (shard_state done)
-  pub image : IsShardImage me done
+  pub inside : m.inside ≡ inside_of done
+  pub replayed : IsAlike m.state (shard_state done)
+  pub begins : BeginsShardImage me done
 
-pub nothing_read : (me : Identity) (left : Left) (m : ShardState) → m ≡ empty_shard → SoFar me left.records left m
+pub nothing_read : (me : Identity) (left : Left) (m : ReadSoFar) → m ≡ nothing_read_yet → SoFar me left.records left m
+unfolding inside_of
 nothing_read me left m is = record {
   done = [];
   all = sym (both-nil left.records);
-  replayed = alike_same _ _ (is ∙ nothing_replayed);
-  image = image_empty me;
+  inside = ap (λ (n : ReadSoFar). n.inside) is;
+  replayed = alike_same _ _ (ap (λ (n : ReadSoFar). n.state) is ∙ nothing_replayed);
+  begins = (image_empty me).each;
 }
 
 -- one more
-module _ (me : Identity) (whole : Option (List Record)) (old : Left) (m : ShardState) (so_far : SoFar me whole old m) (r : Record) (new : Left) (read : IsRead old r new) where
-  pub one_replayed : (n : ShardState) → MayCome me m r → IsAlike n (shard_step m r) → SoFar me whole new n
-  one_replayed n may stepped = record {
+module _ (me : Identity) (whole : Option (List Record)) (old : Left) (m : ReadSoFar) (so_far : SoFar me whole old m) (r : Record) (new : Left) (read : IsRead old r new) where
+  pub one_replayed : (n : ReadSoFar) → MayFollow me m.inside m.state r → TakesRecord m r n → SoFar me whole new n
+  one_replayed n may taken = record {
     done = so_far.done ++ r ∷ [];
     all = read_more whole so_far.done old so_far.all r new read;
-    replayed = alike_trans stepped (subst (IsAlike (shard_step m r)) (sym (shard_push so_far.done r)) (alike_step so_far.replayed r));
-    image = image_push me so_far.done r so_far.image (may_come_alike so_far.replayed me r may);
+    inside = taken.inside ∙ ap (λ (i : Option Inside). inside_step i r) so_far.inside ∙ sym (inside_push so_far.done r);
+    replayed = alike_trans taken.state (subst (IsAlike (shard_step m.state r)) (sym (shard_push so_far.done r)) (alike_step so_far.replayed r));
+    begins = image_more me so_far.done r so_far.begins (may_follow_alike so_far.replayed me (inside_of so_far.done) r (subst (λ (i : Option Inside). MayFollow me i m.state r) so_far.inside may));
   }
 
-  pub may_follow : (rs : List Record) → whole ≡ Some rs → IsShardImage me rs → MayCome me m r
+  pub may_follow : (rs : List Record) → whole ≡ Some rs → IsShardImage me rs → MayFollow me m.inside m.state r
   may_follow rs was image =
       let among = read_among whole so_far.done old so_far.all r new read rs was in
-      may_come_alike (alike_sym so_far.replayed) me r (image so_far.done among.0 r among.1)
+      subst (λ (i : Option Inside). MayFollow me i m.state r) (sym so_far.inside) (may_follow_alike (alike_sym so_far.replayed) me (inside_of so_far.done) r (image.each so_far.done among.0 r among.1))
+
+-- all were read
+module _ (me : Identity) (whole : Option (List Record)) (left : Left) (m : ReadSoFar) (so_far : SoFar me whole left m) (none : left.records ≡ Some []) where
+  pub all_read : whole ≡ Some so_far.done
+  all_read = so_far.all ∙ ap (both (Some so_far.done)) none ∙ ap (λ (rs : List Record). Some rs) (append-nil so_far.done)
+
+  pub replayed_whole : m.inside ≡ None → IsReplayed me whole m.state
+  replayed_whole ended = record {
+    rs = so_far.done;
+    found = all_read;
+    replayed = so_far.replayed;
+    image = record { each = so_far.begins; whole = sym so_far.inside ∙ ended };
+  }
+
+  pub ended_by : (rs : List Record) → whole ≡ Some rs → IsShardImage me rs → m.inside ≡ None
+  ended_by rs was image = so_far.inside ∙ ap inside_of (some_is so_far.done rs (sym all_read ∙ was)) ∙ image.whole
 
 -- the records of the journal are those that were replayed
 pub same_records : (me : Identity) (records : Option (List Record)) (m : ShardState) (r : IsReplayed me records m) (durable : List Record) → records ≡ Some durable → durable ≡ r.rs
@@ -75,20 +99,24 @@ step_epoch me s (Learned to placed_ids) le may = le
 step_epoch me s (Dropped id) le may = le
 step_epoch me s (Epoch epoch store shards node) le may = may.greatest
 step_epoch me s (Decision place w) le may = le
+step_epoch me s (Checkpoint mark) le may = le
 step_epoch me s (Horizon place) le may = le
 
-epoch_from : (me : Identity) (before rs : List Record) → IsShardImage me (before ++ rs) → (shard_state before).epoch ≤ greatest_number → (shard_state (before ++ rs)).epoch ≤ greatest_number
-epoch_from me before [] image le = subst (λ (l : List Record). (shard_state l).epoch ≤ greatest_number) (sym (append-nil before)) le
-epoch_from me before (r ∷ rs) image le =
-    let all : (before ++ r ∷ []) ++ rs ≡ before ++ r ∷ rs = append_assoc before (r ∷ []) rs in
-    let next : (shard_state (before ++ r ∷ [])).epoch ≤ greatest_number =
-    subst (λ (s : ShardState). s.epoch ≤ greatest_number) (sym (shard_push before r)) (step_epoch me (shard_state before) r le (image before rs r refl)) in
-    subst (λ (l : List Record). (shard_state l).epoch ≤ greatest_number) all (epoch_from me (before ++ r ∷ []) rs (subst (IsShardImage me) (sym all) image) next)
+epoch_inside : (me : Identity) (i : Inside) (s : ShardState) (r : Record) → s.epoch ≤ greatest_number → MayComeInside me i s r → (shard_step s r).epoch ≤ greatest_number
+unfolding shard_step
+epoch_inside me i s (Prepare w) le may = le
+epoch_inside me i s (Learned to placed_ids) le may = le
+epoch_inside me i s (Dropped id) le may = le
+epoch_inside me i s (Epoch epoch store shards node) le may = may.greatest
+epoch_inside me i s (Decision place w) le may = le
+epoch_inside me i s (Horizon place) le may = le
+epoch_inside me i s (Checkpoint mark) le may = le
 
 -- no shard was opened more often
 pub most_openings : (me : Identity) (rs : List Record) → IsShardImage me rs → (shard_state rs).epoch ≤ greatest_number
-unfolding shard_state
-most_openings me rs image = epoch_from me [] rs image (omega arith)
+unfolding shard_state shard_step
+most_openings me rs image =
+    image_keeps me (λ (s : ShardState). s.epoch ≤ greatest_number) (λ s r le may. step_epoch me s r le may) (λ i s r le may. epoch_inside me i s r le may) (λ s mark le. le) [] rs image.each (omega arith)
 
 -- a shard's records with one opening more
 pub opened_image : (me : Identity) (rs : List Record) → IsShardImage me rs → (shard_state rs).epoch < greatest_number → IsShardImage me (rs ++ opening me rs ∷ [])
@@ -198,3 +226,8 @@ module _ (me : Identity) (records : Option (List Record)) (m : ShardState) (r : 
     pub start_kept : (n : ShardState) (ids : List WriteId) (settled : ℕ) → n ≡ record m { epoch = e } → ids ≡ [] → settled ≡ n.learned
         → 1 ≤ me.shards → me.shards ≤ max_shards → me.node < me.shards → (honest k.a → honest j.a) → (honest k.b → honest j.b) → IsKept state honest k me n ids settled
     start_kept n ids settled stepped none place = opened_kept me r.rs r.image e few next_of state honest j k same now fresh m n ids settled r.replayed stepped none place
+
+-- what was found, or the records found with the opening's
+pub opened_by : (me : Identity) (sa sb : State) → left sa sa.seen → left sb sb.seen → (durable : List Record) → found sa.seen sb.seen ≡ Some durable → (x y : List ℕ) → HasFoundOrOpened me durable x y → WasLeftOrOpened me sa sb x y
+opened_by me sa sb reads_a reads_b durable was x y (inl old) = inl (sa.seen, sb.seen, reads_a, reads_b, old ∙ sym was)
+opened_by me sa sb reads_a reads_b durable was x y (inr (image, is)) = inr (durable, was, image, is)

@@ -8,7 +8,7 @@ use Rattle.tuples.specs.declared.entry.WriteId.{WriteId}
 use Rattle.tuples.specs.Log.{same_id}
 use Rattle.records.specs.declared.record.PlacedId.{PlacedId}
 use Rattle.records.specs.declared.record.Record.{Record}
-use Rattle.records.specs.declared.record.Record.TheVariants.{Prepare, Learned, Dropped, Epoch, Decision, Horizon}
+use Rattle.records.specs.declared.record.Record.TheVariants.{Prepare, Learned, Dropped, Epoch, Decision, Horizon, Checkpoint}
 use Rattle.records.specs.Replays.{ShardState, empty_shard, find_in_doubt, shard_from, shard_state, shard_step, without, without_placed_ids}
 use Rattle.replay.proofs.Doubts.{cases_id, find_put, find_without_other, find_without_same, same_id_refl, same_id_true}
 use Rattle.replay.proofs.States.{shard_from-append}
@@ -40,6 +40,7 @@ still s id (Learned to placed_ids ∷ rs) p none is = still_placed_ids id placed
 still s id (Dropped other ∷ rs) p none is = still_without id other s.in_doubt p (still (shard_step s (Dropped other)) id rs p none is)
 still s id (Epoch epoch store shards node ∷ rs) p none is = still (shard_step s (Epoch epoch store shards node)) id rs p none is
 still s id (Decision place w ∷ rs) p none is = still (shard_step s (Decision place w)) id rs p none is
+still s id (Checkpoint mark ∷ rs) p none is = still (shard_step s (Checkpoint mark)) id rs p none is
 still s id (Horizon place ∷ rs) p none is = still (shard_step s (Horizon place)) id rs p none is
 
 -- a write in doubt whose prepare is not staged is in doubt by the durable records
@@ -63,6 +64,7 @@ waiting (Learned to placed_ids ∷ rs) id has = later_one (Learned to placed_ids
 waiting (Dropped other ∷ rs) id has = later_one (Dropped other) rs id (waiting rs id has)
 waiting (Epoch epoch store shards node ∷ rs) id has = later_one (Epoch epoch store shards node) rs id (waiting rs id has)
 waiting (Decision place w ∷ rs) id has = later_one (Decision place w) rs id (waiting rs id has)
+waiting (Checkpoint mark ∷ rs) id has = later_one (Checkpoint mark) rs id (waiting rs id has)
 waiting (Horizon place ∷ rs) id has = later_one (Horizon place) rs id (waiting rs id has)
 
 -- what a stop may leave are the records that every stop leaves

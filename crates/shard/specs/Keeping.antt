@@ -4,7 +4,7 @@ use Rattle.std.specs.List.{list_any}
 use Rattle.tuples.specs.declared.entry.WriteId.{WriteId}
 use Rattle.tuples.specs.Log.{same_id}
 use Rattle.records.specs.declared.record.Record.{Record}
-use Rattle.records.specs.declared.record.Record.TheVariants.{Prepare, Learned, Dropped, Epoch, Decision, Horizon}
+use Rattle.records.specs.declared.record.Record.TheVariants.{Prepare, Learned, Dropped, Epoch, Decision, Horizon, Checkpoint}
 use Rattle.records.specs.Identity.{max_shards}
 use Rattle.records.specs.Replays.{Identity, IsShardImage, ShardState, shard_state}
 use Rattle.replay.specs.Alike.{IsAlike}
@@ -21,6 +21,7 @@ prepared_ids (Learned to placed_ids ∷ rs) = prepared_ids rs
 prepared_ids (Dropped id ∷ rs) = prepared_ids rs
 prepared_ids (Epoch epoch store shards node ∷ rs) = prepared_ids rs
 prepared_ids (Decision place w ∷ rs) = prepared_ids rs
+prepared_ids (Checkpoint mark ∷ rs) = prepared_ids rs
 prepared_ids (Horizon place ∷ rs) = prepared_ids rs
 
 -- the id is one of these

@@ -3,3 +3,4 @@ pub mod Keeping
 pub mod Own
 pub mod Calls
 pub mod Lending
+pub mod Checkpoints

@@ -15,9 +15,9 @@ use Rattle.records.specs.declared.record.Record.TheVariants.{Learned, Epoch}
 use Rattle.records.specs.Replays.{Identity, ShardState, IsShardImage, shard_state, find_in_doubt, is_held, named}
 pub use Rattle.holds.specs.Holds.{AreAscendingIds, ids}
 use Rattle.device.specs.Device.{State, left}
-use Rattle.journal.specs.Records.{Finds, HasRecords, IsOpened, LacksRoom, View, WasLeftOrFound, found}
+use Rattle.journal.specs.Records.{BankLacksRoom, Finds, HasRecords, IsOpened, View, WasLeftOrFound, found}
 
--- a shard over two devices: where its list ends on bank a, what is durable, what is staged, whether a flush failed since the opening, and which shard it is
+-- a shard over two devices: where the list of the current bank ends, what is durable, what is staged, whether a flush failed since the opening, and which shard it is
 pub record ShardView (D : Type 0) : Type 0 where
   pub a : D
   pub b : D
@@ -107,9 +107,10 @@ pub record LacksRoomToOpen {D : Type 0} (state : D → State) (honest : D → Ty
   pub journal : View D
   pub found : honest a → honest b → IsOpened state a b rs journal
   pub same : honest a → honest journal.a
-  pub lacks : LacksRoom state honest journal.a journal.end (opening me rs ∷ [])
+  pub same_b : honest b → honest journal.b
+  pub lacks : BankLacksRoom state honest journal.a journal.b journal.end (opening me rs ∷ [])
 
--- at a moment of an opening the contents could be left before it, or hold what was found, or the records found with the opening's
+-- at a moment of an opening the contents have the records of some that could be left before it, or those found with the opening's
 abbrev pub WasLeftOrOpened : Identity → State → State → List ℕ → List ℕ → Type 0
 WasLeftOrOpened me sa sb x y = WasLeftOrFound sa sb x y
     ⊎ ((rs : List Record) × (found sa.seen sb.seen ≡ Some rs) × IsShardImage me (rs ++ opening me rs ∷ []) × (found x y ≡ Some (rs ++ opening me rs ∷ [])))

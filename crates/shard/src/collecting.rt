@@ -1,5 +1,5 @@
 // Raising a shard's horizon to that of the coordinator.
-ghost use Rattle.std.specs.Prelude.{◌≡◌, ◌⊎◌, ◌↔◌, ◌≤◌, ◌<◌, true, OnOk, IfErr, IsErr, IsErrOf};
+ghost use Rattle.std.specs.Prelude.{◌≡◌, ◌⊎◌, ◌↔◌, ◌≤◌, ◌<◌, ◌++◌, ◌∷◌, [], true, OnOk, IfErr, IsErr, IsErrOf};
 ghost use Rattle.journal.specs.Records.{HasNoRoom};
 ghost use Rattle.records.specs.declared.record.Record.TheVariants.{Horizon as horizon_record};
 ghost use Rattle.shard.specs.Shards.{IsUp, Stages, memory as memory_of};
@@ -7,8 +7,19 @@ ghost use Rattle.shard.specs.Shards.{IsUp, Stages, memory as memory_of};
 use crate::Shard;
 use decisions::Heads;
 use device::Device;
+use journal::Journal;
 use records::Record;
 use tuples::Refusal;
+
+// Stages that the horizon is at this place.
+fn stage_horizon<D: Device>(journal: &mut Journal<D>, place: u64) -> Result<(), Refusal>
+    ensures ok { OnOk result (journal.new ≡ record journal.old { staged = journal.old.staged ++ horizon_record place ∷ [] }) }
+    ensures room { OnOk result (HasNoRoom journal.old.staged (horizon_record place) → ⊥) }
+    ensures full { IsErrOf result Refusal.Full → HasNoRoom journal.old.staged (horizon_record place) }
+    ensures err { IfErr result (λ e. (e ≡ Refusal.Full) × (journal.new ≡ journal.old)) }
+{
+    journal.stage(&Record::Horizon(place))
+}
 
 impl<D: Device> Shard<D> {
     /// Stages the durable horizon of the coordinator, and forgets the versions under it. Where that horizon is above what the shard has
@@ -30,7 +41,7 @@ impl<D: Device> Shard<D> {
         if place > self.memory.learned() || place <= self.memory.horizon() {
             return Ok(());
         }
-        self.journal.stage(&Record::Horizon(place))?;
+        stage_horizon(&mut self.journal, place)?;
         self.memory.collect(place);
         Ok(())
     }

@@ -27,8 +27,10 @@
 //! Start at `specs/Shards.antt`, what a shard is, and `records/specs/Replays.antt`, what its records stand for.
 #![tactic(auto)]
 
+mod checkpointing;
 mod collecting;
 mod dropping;
+mod known;
 mod learning;
 mod lending;
 mod opening;

@@ -1,7 +1,7 @@
 // Opening a shard: its records are replayed, and one opening more is made durable.
 ghost use Rattle.std.specs.Prelude.{◌≡◌, ◌⊎◌, ◌↔◌, ◌≤◌, ◌<◌, ◌+◌, ◌++◌, ◌∷◌, [], List, Option, Some, true, false, OnOk, OnErr, IfOk, IfErr, IsErr, IsErrOf, MatchResult};
 ghost use Rattle.device.specs.Device.{HasFailed};
-ghost use Rattle.journal.specs.Records.{HasOldOrNew, HasRecords, LacksRoom, LeavesBoth, found};
+ghost use Rattle.journal.specs.Records.{BankLacksRoom, HasOldOrNew, HasRecords, LeavesBoth, found};
 ghost use Rattle.records.specs.declared.record.Record.{Record as AnyRecord};
 ghost use Rattle.records.specs.declared.record.Record.TheVariants.{Epoch as epoch_record};
 ghost use Rattle.records.specs.Identity.{IsIdentity};
@@ -15,7 +15,7 @@ use crate::staged_ids::StagedIds;
 use device::Device;
 use journal::{Journal, Opening, Refused, Unread};
 use records::{Identity, Record};
-use replay::Memory;
+use replay::{Memory, Replay};
 use std::alloc::Global;
 use tuples::{MAX_NUMBER, Refusal};
 
@@ -25,11 +25,11 @@ fn replayed(alloc: Global, me: Identity, mut unread: Unread) -> Result<Memory, R
     ensures damaged { IsErrOf result Refusal.Damaged → (rs : List AnyRecord) → unread.records ≡ Some rs → IsShardImage me rs → ⊥ }
     ensures err { IfErr result (λ e. (e ≡ Refusal.Damaged) ⊎ (e ≡ Refusal.NoMemory)) }
 {
-    let mut memory = Memory::new(alloc);
+    let mut replay = Replay::new(alloc);
     while let Some(record) = unread.next(alloc)? {
-        memory.replay(alloc, me, record)?;
+        replay.take(alloc, me, record)?;
     }
-    Ok(memory)
+    replay.into_memory()
 }
 
 // As `replayed`, and `Full` after the last epoch.
@@ -58,10 +58,20 @@ fn begin<D: Device>(journal: &mut Journal<D>, epoch: u64, me: Identity) -> Resul
         → OnOk result ((journal.new.durable ≡ journal.old.durable ++ epoch_record epoch me.store me.shards me.node ∷ []) × HasRecords (D.state journal.new.a) (D.state journal.new.b) journal.new.durable) }
     ensures fresh { OnOk result ((journal.new.staged ≡ []) × (journal.new.is_down ≡ false)) }
     ensures cause { OnErr result (HasFailed (D.state journal.old.a) (D.state journal.new.a) ⊎ (HasFailed (D.state journal.old.b) (D.state journal.new.b)
-        ⊎ LacksRoom D.state D.honest journal.old.a journal.old.end (epoch_record epoch me.store me.shards me.node ∷ []))) }
+        ⊎ BankLacksRoom D.state D.honest journal.old.a journal.old.b journal.old.end (epoch_record epoch me.store me.shards me.node ∷ []))) }
     ensures counts { ((D.state journal.old.a).failures ≤ (D.state journal.new.a).failures) × ((D.state journal.old.b).failures ≤ (D.state journal.new.b).failures) }
     ensures none { OnOk result (((D.state journal.new.a).failures ≡ (D.state journal.old.a).failures) × ((D.state journal.new.b).failures ≡ (D.state journal.old.b).failures)) }
     ensures err { IfErr result (λ e. e ≡ Refusal.Down) }
+{
+    stage_opening(journal, epoch, me);
+    journal.flush()?;
+    Ok(())
+}
+
+fn stage_opening<D: Device>(journal: &mut Journal<D>, epoch: u64, me: Identity)
+    requires fresh { journal.old.staged ≡ [] }
+    ensures whole { IsIdentity me }
+    ensures staged { journal.new ≡ record journal.old { staged = epoch_record epoch me.store me.shards me.node ∷ [] } }
 {
     let next = Record::Epoch {
         epoch,
@@ -70,8 +80,6 @@ fn begin<D: Device>(journal: &mut Journal<D>, epoch: u64, me: Identity) -> Resul
         node: me.node(),
     };
     stage_fitting(journal, &next);
-    journal.flush()?;
-    Ok(())
 }
 
 fn refused<D: Device>(refusal: Refusal, journal: Journal<D>) -> Refused<D>
@@ -99,7 +107,7 @@ fn start<D: Device>(
     ensures fresh { IfOk result (λ s. (s.staged ≡ []) × (s.is_down ≡ false) × (s.me ≡ me)) }
     ensures err { IfErr result (λ e. e.refusal ≡ Refusal.Down) }
     ensures down { IfErr result (λ e. HasFailed (D.state journal.a) (D.state e.a) ⊎ (HasFailed (D.state journal.b) (D.state e.b)
-        ⊎ LacksRoom D.state D.honest journal.a journal.end (epoch_record (memory.epoch + 1) me.store me.shards me.node ∷ []))) }
+        ⊎ BankLacksRoom D.state D.honest journal.a journal.b journal.end (epoch_record (memory.epoch + 1) me.store me.shards me.node ∷ []))) }
     ensures counts_a { MatchResult result (λ s. (D.state journal.a).failures ≤ (D.state s.a).failures) (λ e. (D.state journal.a).failures ≤ (D.state e.a).failures) }
     ensures counts_b { MatchResult result (λ s. (D.state journal.b).failures ≤ (D.state s.b).failures) (λ e. (D.state journal.b).failures ≤ (D.state e.b).failures) }
     ensures none { IfOk result (λ s. ((D.state s.a).failures ≡ (D.state journal.a).failures) × ((D.state s.b).failures ≡ (D.state journal.b).failures)) }
@@ -127,7 +135,7 @@ fn start<D: Device>(
 impl<D: Device> Shard<D> {
     /// Opens the shard with this identity: replays its journal, and makes one `Epoch` record more durable.
     ///
-    /// Each refusal gives the devices back: `Down` where a call of a device failed, or bank a would grow past 2^40 bytes; `NoMemory`;
+    /// Each refusal gives the devices back: `Down` where a call of a device failed, or the current bank would grow past 2^40 bytes; `NoMemory`;
     /// `Full` after the last epoch; `Damaged` where the devices have no records of this shard of this store.
     pub fn open(alloc: Global, a: D, b: D, me: Identity) -> Result<Shard<D>, Refused<D>>
         requires node { me.node < me.shards }
@@ -144,9 +152,9 @@ impl<D: Device> Shard<D> {
             × IsShardImage me rs × ((shard_state rs).epoch ≡ greatest_number)) }
         ensures err { IfErr result (λ e. (e.refusal ≡ Refusal.Down) ⊎ ((e.refusal ≡ Refusal.NoMemory) ⊎ ((e.refusal ≡ Refusal.Full) ⊎ (e.refusal ≡ Refusal.Damaged)))) }
 
-        // Down only where a device failed in this call, or bank a has no room.
+        // Down only where a device failed in this call, or the current bank has no room.
         ensures down { IfErr result (λ e. e.refusal ≡ Refusal.Down → HasFailed (D.state a) (D.state e.a) ⊎ (HasFailed (D.state b) (D.state e.b) ⊎ LacksRoomToOpen D.state D.honest a b me)) }
-        ensures stopped { (D.state a).stopped ≡ true → IsErr result }
+        ensures stopped { ((D.state a).stopped ≡ true) ⊎ ((D.state b).stopped ≡ true) → IsErr result }
         ensures counts_a { MatchResult result (λ s. (D.state a).failures ≤ (D.state s.a).failures) (λ e. (D.state a).failures ≤ (D.state e.a).failures) }
         ensures counts_b { MatchResult result (λ s. (D.state b).failures ≤ (D.state s.b).failures) (λ e. (D.state b).failures ≤ (D.state e.b).failures) }
         ensures none { MatchResult result (λ s. ((D.state s.a).failures ≡ (D.state a).failures) × ((D.state s.b).failures ≡ (D.state b).failures))

@@ -3,6 +3,7 @@ ghost use Rattle.std.specs.Prelude.{◌≡◌, ◌⊎◌, ◌↔◌, ◌++◌, �
 ghost use Rattle.decisions.specs.Values.{IsIntent};
 ghost use Rattle.holds.specs.Holds.{IsFree};
 ghost use Rattle.journal.specs.Records.{HasNoRoom};
+ghost use Rattle.journal.specs.Rest.{IsPlain};
 ghost use Rattle.records.specs.Format.{IsPrepared, IsRecord};
 ghost use Rattle.records.specs.Replays.{shard_step};
 ghost use Rattle.records.specs.declared.record.Record.TheVariants.{Prepare as prepare_record};
@@ -23,6 +24,7 @@ use tuples::{Entry, Refusal};
 // Stages a record that has room.
 pub(crate) fn stage_fitting<D: Device>(journal: &mut Journal<D>, next: &Record)
     requires spelled { IsRecord next.now }
+    requires plain { IsPlain next.now }
     requires room { HasNoRoom journal.old.staged next.now → ⊥ }
     ensures { journal.new ≡ record journal.old { staged = journal.old.staged ++ next.now ∷ [] } }
 {

@@ -11,7 +11,7 @@ use Rattle.coordinator.specs.declared.decided.NotDecided.{NotDecided}
 use Rattle.coordinator.specs.declared.raising.NotRaised.{NotRaised}
 use Rattle.calls.specs.declared.call.NodeCall.TheVariants.{Coordinator}
 use Rattle.calls.specs.declared.call.CoordinatorCall.{CoordinatorCall}
-use Rattle.calls.specs.declared.call.CoordinatorCall.TheVariants.{Begin, Heads, Batch, Decide, Outcome, Abort, Inquire, Raise, Flush}
+use Rattle.calls.specs.declared.call.CoordinatorCall.TheVariants.{Begin, Heads, Batch, Decide, Outcome, Abort, Inquire, Raise, Flush, Checkpoint}
 use Rattle.calls.specs.declared.reply.Reply.{Reply}
 use Rattle.calls.specs.declared.reply.Reply.TheVariants.{Coordinator as from_coordinator}
 use Rattle.calls.specs.declared.reply.CoordinatorReply.{CoordinatorReply}
@@ -140,6 +140,7 @@ module _ {D : Type 0} (state : D → State) (honest : D → Type 0) (moment : D 
   same_coordinator old new (Abort intent) reply quiet a = absurd quiet
   same_coordinator old new (Raise place settled) reply quiet a = absurd quiet
   same_coordinator old new Flush reply quiet a = absurd quiet
+  same_coordinator old new Checkpoint reply quiet a = absurd quiet
   same_coordinator old new call reply quiet a = absurd a
 
   pub quiet_stays_there : (call : CoordinatorCall) (seen : List Entry) (low : ℕ) (tried : List Attempt) → IsQuietThere call → StaysThere call seen low tried

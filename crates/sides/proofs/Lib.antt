@@ -7,4 +7,5 @@ pub mod CoordinatorCalls
 pub mod CoordinatorTelling
 pub mod LogJoins
 pub mod Sound
+pub mod Lendings
 pub mod Lists

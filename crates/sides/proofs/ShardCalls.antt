@@ -10,7 +10,7 @@ use Rattle.published.specs.Known.{Known}
 use Rattle.shard.specs.Shards.{ShardView}
 use Rattle.calls.specs.declared.call.NodeCall.TheVariants.{Shard}
 use Rattle.calls.specs.declared.call.ShardCall.{ShardCall}
-use Rattle.calls.specs.declared.call.ShardCall.TheVariants.{Learned, Learn, StagePrepare, Vote, DropWrite, InDoubt, Read, ReadForCheck, Settle, Collect, Flush}
+use Rattle.calls.specs.declared.call.ShardCall.TheVariants.{Learned, Learn, StagePrepare, Vote, DropWrite, InDoubt, Read, ReadForCheck, Settle, Collect, Flush, Checkpoint}
 use Rattle.calls.specs.declared.reply.Reply.{Reply}
 use Rattle.calls.specs.declared.reply.Reply.TheVariants.{Shard as from_shard}
 use Rattle.calls.specs.declared.reply.ShardReply.{ShardReply}
@@ -98,6 +98,7 @@ IsQuiet (StagePrepare intent) = ⊥
 IsQuiet (DropWrite verdict held) = ⊥
 IsQuiet (Collect heads) = ⊥
 IsQuiet Flush = ⊥
+IsQuiet Checkpoint = ⊥
 IsQuiet call = Unit {0}
 
 -- Given also what a device tells of the moments of a call
@@ -127,6 +128,7 @@ module _ {D : Type 0} (state : D → State) (honest : D → Type 0) (moment : D 
   same_shard old new (DropWrite verdict held) reply quiet a = absurd quiet
   same_shard old new (Collect heads) reply quiet a = absurd quiet
   same_shard old new Flush reply quiet a = absurd quiet
+  same_shard old new Checkpoint reply quiet a = absurd quiet
   same_shard old new Learned (told_by.Learned r) quiet a = a.0
   same_shard old new (Vote ticket) (told_by.Vote r) quiet a = a.0
   same_shard old new InDoubt (told_by.InDoubt r) quiet a = a.0

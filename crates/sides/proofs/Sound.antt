@@ -14,7 +14,7 @@ use Rattle.records.specs.Replays.{Identity}
 use Rattle.shard.specs.Shards.{ShardView}
 use Rattle.calls.specs.declared.call.NodeCall.TheVariants.{Coordinator, Shard}
 use Rattle.calls.specs.declared.call.CoordinatorCall.{CoordinatorCall}
-use Rattle.calls.specs.declared.call.CoordinatorCall.TheVariants.{Begin, Heads, Batch, Decide, Outcome, Abort, Inquire, Raise, Flush}
+use Rattle.calls.specs.declared.call.CoordinatorCall.TheVariants.{Begin, Heads, Batch, Decide, Outcome, Abort, Inquire, Raise, Flush, Checkpoint}
 use Rattle.calls.specs.declared.call.ShardCall.{ShardCall}
 use Rattle.calls.specs.declared.call.ShardCall.TheVariants as shard_calls
 use Rattle.calls.specs.declared.reply.Reply.{Reply}
@@ -24,7 +24,7 @@ use Rattle.calls.specs.declared.reply.CoordinatorReply.TheVariants as told
 use Rattle.calls.specs.declared.reply.ShardReply.{ShardReply}
 use Rattle.calls.specs.declared.reply.ShardReply.TheVariants as told_by
 use Rattle.calls.specs.Asking.{Answered, CoordinatorAnswers, MayAsk, MayAskCoordinator, MayAskShard, ShardAnswers}
-use Rattle.calls.specs.CoordinatorAnswers.{AbortAnswers, BeginAnswers, DecideAnswers, FlushAnswers, RaiseAnswers}
+use Rattle.calls.specs.CoordinatorAnswers.{AbortAnswers, BeginAnswers, CheckpointAnswers, DecideAnswers, FlushAnswers, RaiseAnswers}
 use Rattle.calls.specs.Opening.{CoordinatorOpens, ShardOpens, refusal_of}
 use Rattle.calls.specs.Views.{NodeView, coordinator, devices_of, shard, refused}
 use Rattle.laws.specs.Worlds.{coordinator_node, shard_node}
@@ -94,6 +94,18 @@ module _ {D : Type 0} (state : D → State) (honest : D → Type 0) (store shard
       me = a.keeps.me ∙ sound.me;
     }
 
+    checkpointed : (moment : D → ℕ) (left_since : D → ℕ → List ℕ → Type 0) (r : Result (Unit {0}) Refusal) → CheckpointAnswers state honest moment left_since old r new → Is
+    checkpointed moment left_since (Ok done) a = runs (a.ok (sound.running (is_up old.is_down (λ down. cc (a.down down).0)))).0 a.keeps.me
+    checkpointed moment left_since (Err e) a = ⊎_elim
+        (λ failed. record {
+          running = λ up. absurd (true≢false (sym failed.1 ∙ up));
+          honest_a = a.still_honest.0.0 sound.honest_a;
+          honest_b = a.still_honest.1.0 sound.honest_b;
+          me = a.keeps.me ∙ sound.me;
+        })
+        (λ same. unchanged same.0)
+        a.err
+
   coordinator_stays : (moment : D → ℕ) (left_since : D → ℕ → List ℕ → Type 0) (old new : CoordinatorView D) (call : CoordinatorCall) (reply : CoordinatorReply) → IsSound state honest store shards old
       → CoordinatorAnswers state honest moment left_since old call reply new → IsSound state honest store shards new
   coordinator_stays moment left_since old new (Begin write) (told.Begin r) sound a = begun old new sound write r a
@@ -105,6 +117,7 @@ module _ {D : Type 0} (state : D → State) (honest : D → Type 0) (store shard
   coordinator_stays moment left_since old new (Inquire id) (told.Inquire r) sound a = unchanged old new sound a.0
   coordinator_stays moment left_since old new (Raise place settled) (told.Raise r) sound a = raised old new sound place settled.items r a
   coordinator_stays moment left_since old new Flush (told.Flush r) sound a = flushed old new sound moment left_since r a
+  coordinator_stays moment left_since old new Checkpoint (told.Checkpoint r) sound a = checkpointed old new sound moment left_since r a
   coordinator_stays moment left_since old new call reply sound a = absurd a
 
   node_stays : (moment : D → ℕ) (left_since : D → ℕ → List ℕ → Type 0) (call : CoordinatorCall) (old : NodeView D) (reply : Reply) (new : NodeView D) → IsSoundThere state honest store shards (Some old)
@@ -186,6 +199,7 @@ module _ {D : Type 0} (state : D → State) (honest : D → Type 0) (moment : D 
   same_me old new shard_calls.Settle (told_by.Settle r) a = ap (λ (v : ShardView D). v.me) a.0
   same_me old new (shard_calls.Collect heads) (told_by.Collect back r) a = ap (λ (v : ShardView D). v.me) a.1.stays
   same_me old new shard_calls.Flush (told_by.Flush r) a = a.me
+  same_me old new shard_calls.Checkpoint (told_by.Checkpoint r) a = a.me
   same_me old new call reply a = absurd a
 
   shard_node_stays : (call : ShardCall) (old : NodeView D) (reply : Reply) (new : NodeView D) → IsOfShard store shards s (Some old) → Answered state honest moment left_since old (Shard s call) reply new → IsOfShard store shards s (Some new)

@@ -16,6 +16,7 @@ mod coordinator_side;
 mod joining;
 mod keeping;
 mod learning;
+mod lending;
 mod listing;
 mod preparing;
 mod reading;
@@ -27,5 +28,6 @@ mod telling;
 mod writing;
 
 pub use coordinator_side::CoordinatorSide;
+pub use lending::LentShard;
 pub use room::Room;
 pub use shard_side::ShardSide;

@@ -3,7 +3,7 @@ use crate::course::Course;
 use crate::plan::{CHECKED, NAMESPACES, SETS};
 use crate::worker::Worker;
 use device::Device;
-use locked::{Gate, Store};
+use locked::{Gate, Store, Unnoticed};
 use sides::Room;
 use std::sync::Wait;
 use tuples::{Freshness, Refusal};
@@ -70,7 +70,7 @@ impl<B: Room> Worker<B> {
     ) -> bool {
         for _ in 0..TRIES {
             trouble.restart_all(rt, store, course);
-            store.tend(rt, self.alloc, &mut self.caller, u64::MAX);
+            store.tend(rt, self.alloc, &mut self.caller, u64::MAX, &mut Unnoticed);
             self.page.clear();
             self.is_refused = false;
             if self.tell_all(rt, store, course).is_err() {

@@ -8,6 +8,7 @@ use crate::meeting::{Door, Meeting};
 use crate::{stress, two_callers, two_writers};
 use crossbeam_utils::sync::{Parker, Unparker};
 use device::{Device, SimDisk};
+use flights::Launches;
 use locked::{Gate, Store, new_bell};
 use published::{LogPass, Published};
 use sides::Room;
@@ -42,8 +43,11 @@ fn run_with_bell<R: Runtime + Threads + Wait + Sync>(
     bell: Unparker,
     asked: Asked,
 ) -> u8 {
+    let Ok(launches) = Launches::new(alloc) else {
+        return FAILED;
+    };
     match Published::new(alloc) {
-        Ok((words, log)) => run_over_words(rt, alloc, parker, bell, words, log, asked),
+        Ok((words, log)) => run_over_words(rt, alloc, parker, bell, words, log, launches, asked),
         Err(_) => FAILED,
     }
 }
@@ -55,6 +59,7 @@ fn run_over_words<R: Runtime + Threads + Wait + Sync>(
     bell: Unparker,
     words: Published<Entry>,
     log: LogPass<Entry>,
+    launches: Launches,
     asked: Asked,
 ) -> u8
     requires own { log.table ≡ words }
@@ -63,7 +68,7 @@ fn run_over_words<R: Runtime + Threads + Wait + Sync>(
     let meeting = Meeting::of(asked.guests());
     match new_disks(alloc, SHARDS, asked.failing()) {
         Ok(disks) => run_over::<SimDisk, Brand, R>(
-            rt, alloc, parker, bell, &meeting, words, log, disks, asked,
+            rt, alloc, parker, bell, &meeting, words, log, launches, disks, asked,
         ),
         Err(_) => FAILED,
     }
@@ -77,10 +82,11 @@ fn run_over<D: Device + Send, B: Room + Send + Sync, R: Runtime + Threads + Wait
     meeting: &Meeting,
     words: Published<Entry>,
     log: LogPass<Entry>,
+    launches: Launches,
     devices: Vec<D>,
     asked: Asked,
 ) -> u8
-    requires own { (words ≡ B.log) × (log.table ≡ B.log) }
+    requires own { (words ≡ B.log) × (log.table ≡ B.log) × (launches ≡ B.launches) }
     requires empty { (log.seen ≡ []) × (log.horizon ≡ 0) }
     requires of { (B.store ≡ STORE) × (B.shards ≡ SHARDS) }
     requires count { vec_len devices ≡ 2 * (SHARDS + 1) }
@@ -88,11 +94,13 @@ fn run_over<D: Device + Send, B: Room + Send + Sync, R: Runtime + Threads + Wait
     requires rests { B.rests → RestAt D.state D.honest B.shards B.first B.low devices.items }
 {
     match Store::<D, B, Door<'_>>::open(
+        rt,
         alloc,
         Door { meeting },
         bell,
         words,
         log,
+        launches,
         devices,
         STORE,
         SHARDS,

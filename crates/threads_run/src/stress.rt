@@ -7,7 +7,7 @@ use crate::random::Random;
 use crate::worker::Worker;
 use crossbeam_utils::sync::Parker;
 use device::Device;
-use locked::{Gate, Store};
+use locked::{Gate, Store, Unnoticed};
 use sides::Room;
 use std::alloc::{AllocError, Global};
 use std::io::{self, Write};
@@ -85,7 +85,7 @@ fn work_and_keep<
     let mut keeper = store.session(rt);
     thread::join(
         rt,
-        move || store.keep(rt, alloc, &mut keeper, u64::MAX, &parker),
+        move || store.keep(rt, alloc, &mut keeper, u64::MAX, &parker, &mut Unnoticed),
         || {
             work_all(rt, store, course, workers, seconds);
             store.close();

@@ -29,22 +29,39 @@ struct Strangers<B: Room> {
     findings: Findings,
 }
 
+// What B sees: the latest place, and where the tuple was asked for and whether it was there, at latest and at the place of the write.
+#[derive(Drop)]
+struct Sights {
+    latest: u64,
+    at_latest: (u64, bool),
+    at_place: (u64, bool),
+}
+
 // What B sees of the write at the place.
 fn b_sees<D: Device, B: Room, G: Gate, R: Wait>(
     rt: &R,
     alloc: Global,
     store: &Store<D, B, G>,
-    b: &mut Friend<B>,
+    caller: &mut Caller<B>,
     place: u64,
-) -> Result<(), Refusal> {
-    let Friend { caller, findings } = b;
+) -> Result<Sights, Refusal> {
     let latest = store.latest(caller);
-    findings.find(latest >= place, "B's latest is at least the place");
-    let (at, there) = has(rt, alloc, store, caller, Freshness::Latest, TUPLE)?;
+    let at_latest = has(rt, alloc, store, caller, Freshness::Latest, TUPLE)?;
+    let at_place = has(rt, alloc, store, caller, Freshness::Exact(place), TUPLE)?;
+    Ok(Sights {
+        latest,
+        at_latest,
+        at_place,
+    })
+}
+
+// What has to be so of it.
+fn find_sights(findings: &mut Findings, seen: &Sights, place: u64) {
+    findings.find(seen.latest >= place, "B's latest is at least the place");
+    let (at, there) = seen.at_latest;
     findings.find(at >= place && there, "B reads the tuple at latest");
-    let (at, there) = has(rt, alloc, store, caller, Freshness::Exact(place), TUPLE)?;
+    let (at, there) = seen.at_place;
     findings.find(at == place && there, "B reads the tuple at the place");
-    Ok(())
 }
 
 // What the strangers see of it.
@@ -136,12 +153,13 @@ fn all_look<D: Device + Send, B: Room + Send + Sync, G: Gate + Sync, R: Threads 
     strangers: &mut Strangers<B>,
     place: u64,
 ) -> Result<(), Refusal> {
+    let Friend { caller, findings } = b;
     let (seen, strange) = thread::join(
         rt,
-        || b_sees(rt, alloc, store, b, place),
+        || b_sees(rt, alloc, store, caller, place),
         || strangers_see(rt, alloc, store, strangers, place),
     );
-    seen?;
+    find_sights(findings, &seen?, place);
     strange
 }
 

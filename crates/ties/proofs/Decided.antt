@@ -4,8 +4,8 @@ use Rattle.std.proofs.lemmas.List.{append-nil}
 use Rattle.std.proofs.lemmas.List.Elements.{Contains-append_left, Contains-append_right, Contains-push}
 use Rattle.tuples.specs.declared.entry.Entry.{Entry}
 use Rattle.records.specs.declared.record.Record.{Record}
-use Rattle.records.specs.declared.record.Record.TheVariants.{Decision, Dropped, Epoch, Horizon, Learned, Prepare}
-use Rattle.records.specs.Coordinators.{CoordinatorState, coordinator_from, coordinator_state, coordinator_step, empty_coordinator}
+use Rattle.records.specs.declared.record.Record.TheVariants.{Decision, Dropped, Epoch, Horizon, Learned, Prepare, Checkpoint}
+use Rattle.records.specs.Coordinators.{CoordinatorState, coordinator_from, coordinator_state, coordinator_step, empty_coordinator, marked_base}
 use Rattle.records.proofs.CoordinatorStates.{coordinator_from-append}
 use Rattle.ties.specs.Ties.{AreStaged}
 
@@ -15,6 +15,7 @@ decided [] = []
 decided (Prepare w ∷ rs) = decided rs
 decided (Learned to placed_ids ∷ rs) = decided rs
 decided (Dropped id ∷ rs) = decided rs
+decided (Checkpoint mark ∷ rs) = decided rs
 decided (Epoch epoch store shards node ∷ rs) = decided rs
 decided (Decision place w ∷ rs) = w ∷ decided rs
 decided (Horizon place ∷ rs) = decided rs
@@ -24,22 +25,38 @@ decided-append [] more = refl
 decided-append (Prepare w ∷ rs) more = decided-append rs more
 decided-append (Learned to placed_ids ∷ rs) more = decided-append rs more
 decided-append (Dropped id ∷ rs) more = decided-append rs more
+decided-append (Checkpoint mark ∷ rs) more = decided-append rs more
 decided-append (Epoch epoch store shards node ∷ rs) more = decided-append rs more
 decided-append (Decision place w ∷ rs) more = ap (λ (l : List Entry). w ∷ l) (decided-append rs more)
 decided-append (Horizon place ∷ rs) more = decided-append rs more
 
--- they stand behind those that were known, and the base is the same
-pub decided_behind : (s : CoordinatorState) (rs : List Record) → ((coordinator_from s rs).log ≡ s.log ++ decided rs) × ((coordinator_from s rs).base ≡ s.base)
+-- they stand behind those that were known
+pub decided_behind : (s : CoordinatorState) (rs : List Record) → (coordinator_from s rs).log ≡ s.log ++ decided rs
 unfolding coordinator_step
-decided_behind s [] = (sym (append-nil s.log), refl)
+decided_behind s [] = sym (append-nil s.log)
 decided_behind s (Prepare w ∷ rs) = decided_behind s rs
 decided_behind s (Learned to placed_ids ∷ rs) = decided_behind s rs
 decided_behind s (Dropped id ∷ rs) = decided_behind s rs
 decided_behind s (Epoch epoch store shards node ∷ rs) = decided_behind (record s { epoch = epoch }) rs
-decided_behind s (Decision place w ∷ rs) =
-    let rest = decided_behind (record s { log = s.log ++ w ∷ [] }) rs in
-    (rest.0 ∙ append_assoc s.log (w ∷ []) (decided rs), rest.1)
+decided_behind s (Decision place w ∷ rs) = decided_behind (record s { log = s.log ++ w ∷ [] }) rs ∙ append_assoc s.log (w ∷ []) (decided rs)
 decided_behind s (Horizon place ∷ rs) = decided_behind (record s { horizon = place }) rs
+decided_behind s (Checkpoint mark ∷ rs) = decided_behind (record s { base = marked_base mark s }) rs
+
+-- the base is the same behind the first of what is staged
+pub base_behind : (low high : ℕ) (s : CoordinatorState) (rs more : List Record) → AreStaged low high (rs ++ more) → (coordinator_from s rs).base ≡ s.base
+unfolding coordinator_step
+base_behind low high s [] more staged = refl
+base_behind low high s (Prepare w ∷ rs) more staged = absurd staged
+base_behind low high s (Learned to placed_ids ∷ rs) more staged = absurd staged
+base_behind low high s (Dropped id ∷ rs) more staged = absurd staged
+base_behind low high s (Epoch epoch store shards node ∷ rs) more staged = absurd staged
+base_behind low high s (Decision place w ∷ rs) more staged = base_behind low high (record s { log = s.log ++ w ∷ [] }) rs more staged
+base_behind low high s (Horizon place ∷ rs) more staged = base_behind place high (record s { horizon = place }) rs more staged.1
+base_behind low high s (Checkpoint mark ∷ rs) more staged = absurd staged
+
+-- and behind all of it
+pub base_staged : (low high : ℕ) (s : CoordinatorState) (rs : List Record) → AreStaged low high rs → (coordinator_from s rs).base ≡ s.base
+base_staged low high s rs staged = base_behind low high s rs [] (subst (AreStaged low high) (sym (append-nil rs)) staged)
 
 pub state_of_more : (rs more : List Record) → coordinator_state (rs ++ more) ≡ coordinator_from (coordinator_state rs) more
 unfolding coordinator_state
@@ -53,6 +70,7 @@ staged_in_two s high [] more staged = (omega arith, staged, refl)
 staged_in_two s high (Prepare w ∷ rs) more staged = absurd staged
 staged_in_two s high (Learned to placed_ids ∷ rs) more staged = absurd staged
 staged_in_two s high (Dropped id ∷ rs) more staged = absurd staged
+staged_in_two s high (Checkpoint mark ∷ rs) more staged = absurd staged
 staged_in_two s high (Epoch epoch store shards node ∷ rs) more staged = absurd staged
 staged_in_two s high (Decision place w ∷ rs) more staged = staged_in_two (record s { log = s.log ++ w ∷ [] }) high rs more staged
 staged_in_two s high (Horizon place ∷ rs) more staged =
@@ -72,6 +90,7 @@ staged_higher low high higher [] le staged = omega (arith, le, staged)
 staged_higher low high higher (Prepare w ∷ rs) le staged = absurd staged
 staged_higher low high higher (Learned to placed_ids ∷ rs) le staged = absurd staged
 staged_higher low high higher (Dropped id ∷ rs) le staged = absurd staged
+staged_higher low high higher (Checkpoint mark ∷ rs) le staged = absurd staged
 staged_higher low high higher (Epoch epoch store shards node ∷ rs) le staged = absurd staged
 staged_higher low high higher (Decision place w ∷ rs) le staged = staged_higher low high higher rs le staged
 staged_higher low high higher (Horizon place ∷ rs) le staged = (staged.0, staged_higher place high higher rs le staged.1)
@@ -82,6 +101,7 @@ staged_decision low high place w [] staged = staged
 staged_decision low high place w (Prepare v ∷ rs) staged = absurd staged
 staged_decision low high place w (Learned to placed_ids ∷ rs) staged = absurd staged
 staged_decision low high place w (Dropped id ∷ rs) staged = absurd staged
+staged_decision low high place w (Checkpoint mark ∷ rs) staged = absurd staged
 staged_decision low high place w (Epoch epoch store shards node ∷ rs) staged = absurd staged
 staged_decision low high place w (Decision p v ∷ rs) staged = staged_decision low high place w rs staged
 staged_decision low high place w (Horizon p ∷ rs) staged = (staged.0, staged_decision p high place w rs staged.1)
@@ -95,6 +115,7 @@ staged_horizon low high place [] le within below staged = (le, within)
 staged_horizon low high place (Prepare v ∷ rs) le within below staged = absurd staged
 staged_horizon low high place (Learned to placed_ids ∷ rs) le within below staged = absurd staged
 staged_horizon low high place (Dropped id ∷ rs) le within below staged = absurd staged
+staged_horizon low high place (Checkpoint mark ∷ rs) le within below staged = absurd staged
 staged_horizon low high place (Epoch epoch store shards node ∷ rs) le within below staged = absurd staged
 staged_horizon low high place (Decision p v ∷ rs) le within below staged = staged_horizon low high place rs le within (first_too place (Decision p v) rs below) staged
 staged_horizon low high place (Horizon p ∷ rs) le within below staged = (
@@ -108,6 +129,7 @@ staged_within low high [] staged = staged
 staged_within low high (Prepare w ∷ rs) staged = absurd staged
 staged_within low high (Learned to placed_ids ∷ rs) staged = absurd staged
 staged_within low high (Dropped id ∷ rs) staged = absurd staged
+staged_within low high (Checkpoint mark ∷ rs) staged = absurd staged
 staged_within low high (Epoch epoch store shards node ∷ rs) staged = absurd staged
 staged_within low high (Decision place w ∷ rs) staged = staged_within low high rs staged
 staged_within low high (Horizon place ∷ rs) staged = let rest = staged_within place high rs staged.1 in omega (arith, staged.0, rest)

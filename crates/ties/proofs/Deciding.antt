@@ -13,7 +13,7 @@ use Rattle.records.proofs.CoordinatorStates.{coordinator_push}
 use Rattle.decisions.specs.Coordinators.{CoordinatorView, IsGivenAt, IsRising, IsRunning, kept_of, memory_of, next_id, without_id}
 use Rattle.ties.specs.Ties.{AreListed, AreOf, AreOutside, AreStaged, AreTried, Attempt, IsTiedUp, StandsOrIsPast}
 use Rattle.ties.specs.DecidingLaws.{AbortsStayTied, BeginningsStayTied, DecisionsStayTied, KeptAttemptsStand, RaisesStayTied, attempt}
-use Rattle.ties.proofs.Decided.{decided_behind, staged_decision, staged_horizon, state_of_more}
+use Rattle.ties.proofs.Decided.{base_staged, staged_decision, staged_horizon, state_of_more}
 use Rattle.ties.proofs.Lists.{first_or_later, get_back, get_front, last_at, pushed_at}
 use Rattle.ties.proofs.Outside.{kept_open, still_given, still_outside}
 
@@ -71,7 +71,7 @@ module _ {D : Type 0} (state : D → State) (honest : D → Type 0) (old : Coord
     raised_epoch = ap (λ (s : CoordinatorState). s.epoch) raised_is
 
     same_base : (memory_of old).base ≡ (kept_of old).base
-    same_base = ap (λ (s : CoordinatorState). s.base) (state_of_more old.durable old.staged) ∙ (decided_behind (kept_of old) old.staged).1
+    same_base = ap (λ (s : CoordinatorState). s.base) (state_of_more old.durable old.staged) ∙ base_staged low (length seen) (kept_of old) old.staged tied.staged
 
     raised_tied : IsTiedUp state honest raised seen low tried
     raised_tied = record {

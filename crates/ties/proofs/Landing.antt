@@ -9,7 +9,7 @@ use Rattle.records.specs.Coordinators.{CoordinatorState, coordinator_from, coord
 use Rattle.decisions.specs.Coordinators.{CoordinatorView, IsRunning, kept_of, memory_of}
 use Rattle.ties.specs.Ties.{AreListed, AreOf, AreOutside, AreStaged, AreTried, Attempt, IsTiedUp, behind}
 use Rattle.ties.specs.JoiningLaws.{FlushesStayTied, LandingsStayTied, LandsFirst}
-use Rattle.ties.proofs.Decided.{decided, decided-append, decided_behind, staged_higher, staged_in_two, staged_within, state_of_more}
+use Rattle.ties.proofs.Decided.{base_behind, base_staged, decided, decided-append, decided_behind, staged_higher, staged_in_two, staged_within, state_of_more}
 use Rattle.ties.proofs.Lists.{same_rest}
 use Rattle.ties.proofs.Outside.{still_outside}
 
@@ -31,16 +31,16 @@ module _ {D E : Type 0} (state : D → State) (honest : D → Type 0) (state_of 
   kept_is = ap coordinator_state lands.durable ∙ state_of_more old.durable first
 
   kept_log : (kept_of new).log ≡ (kept_of old).log ++ decided first
-  kept_log = ap (λ (s : CoordinatorState). s.log) kept_is ∙ (decided_behind (kept_of old) first).0
+  kept_log = ap (λ (s : CoordinatorState). s.log) kept_is ∙ decided_behind (kept_of old) first
 
   kept_base : (kept_of new).base ≡ (kept_of old).base
-  kept_base = ap (λ (s : CoordinatorState). s.base) kept_is ∙ (decided_behind (kept_of old) first).1
+  kept_base = ap (λ (s : CoordinatorState). s.base) kept_is ∙ base_behind low (length seen) (kept_of old) first rest (subst (AreStaged low (length seen)) (sym (take-append-drop count old.staged)) tied.staged)
 
   whole_log : (memory_of old).log ≡ (kept_of old).log ++ decided old.staged
-  whole_log = ap (λ (s : CoordinatorState). s.log) (state_of_more old.durable old.staged) ∙ (decided_behind (kept_of old) old.staged).0
+  whole_log = ap (λ (s : CoordinatorState). s.log) (state_of_more old.durable old.staged) ∙ decided_behind (kept_of old) old.staged
 
   whole_base : (memory_of old).base ≡ (kept_of old).base
-  whole_base = ap (λ (s : CoordinatorState). s.base) (state_of_more old.durable old.staged) ∙ (decided_behind (kept_of old) old.staged).1
+  whole_base = ap (λ (s : CoordinatorState). s.base) (state_of_more old.durable old.staged) ∙ base_staged low (length seen) (kept_of old) old.staged tied.staged
 
   parts : ((kept_of old).horizon ≤ (coordinator_from (kept_of old) first).horizon) × AreStaged (coordinator_from (kept_of old) first).horizon (length seen) rest
       × ((coordinator_from (kept_of old) first).epoch ≡ (kept_of old).epoch)

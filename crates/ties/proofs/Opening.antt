@@ -111,8 +111,7 @@ module _ {D : Type 0} (state : D → State) (honest : D → Type 0) (moment : D 
     found_longer rs is = was.each rs ((state a).seen, (state b).seen, reads_a, reads_b, is)
 
     pub left_longer : (x y : List ℕ) (rs : List Record) → found x y ≡ Some rs → WasLeftOrReopened (coordinator_node store shards) (state a) (state b) x y → IsLonger seen low tried (coordinator_state rs)
-    left_longer x y rs is (inl (inl before)) = was.each rs (x, y, before.0, before.1, is)
-    left_longer x y rs is (inl (inr same)) = found_longer rs (sym same ∙ is)
+    left_longer x y rs is (inl before) = was.each rs (before.0, before.1, before.2, before.3, sym before.4 ∙ is)
     left_longer x y rs is (inr more) =
         subst (λ (l : List Record). IsLonger seen low tried (coordinator_state l)) (same_Some (more.0 ++ coordinator_opening (coordinator_node store shards) more.0 ∷ []) rs (sym more.3 ∙ is))
         (reopened (coordinator_node store shards) seen low tried more.0 (found_longer more.0 more.1))

@@ -6,17 +6,18 @@ use Rattle.device.specs.Device.{Leaves, State, left}
 use Rattle.device.proofs.Moments.{leaves_nothing_else}
 use Rattle.gated.specs.Gated.{gated}
 use Rattle.records.specs.declared.record.Record.{Record}
+use Rattle.records.specs.Checkpoints.{is_complete}
 use Rattle.records.specs.Coordinators.{coordinator_state}
 use Rattle.records.specs.Replays.{shard_state}
-use Rattle.journal.specs.Records.{Finds, found}
+use Rattle.journal.specs.Records.{Finds, current_bank, found}
 use Rattle.versions.specs.Alike.{AreAlike}
 use Rattle.ties.specs.RestingLaws.{IsUnmade, UnmadeNodesAreTied}
 use Rattle.ties.specs.ShardTies.{AreRowsOf}
 use Rattle.ties.specs.Ties.{IsLonger}
 
-found_nothing : (y : List ℕ) → found [] y ≡ Some []
-unfolding found gated
-found_nothing y = refl
+found_nothing : found [] [] ≡ Some []
+unfolding found gated current_bank is_complete
+found_nothing = refl
 
 -- a stop leaves nothing of it
 left_nothing : (s : State) (x : List ℕ) → IsUnmade s → left s x → x ≡ []
@@ -24,9 +25,9 @@ left_nothing s x un is =
     let nothing : Leaves s.durable [] x = subst (λ (w : List (ℕ × ℕ)). Leaves s.durable w x) un.written is in
     leaves_nothing_else s.durable x nothing ∙ un.durable
 
-finds_nothing : (a b : State) (rs : List Record) → IsUnmade a → Finds (left a) (left b) rs → rs ≡ []
-finds_nothing a b rs un (x, y, in_x, in_y, is) =
-    let none : Some [] ≡ Some rs = sym (ap (λ (c : List ℕ). found c y) (left_nothing a x un in_x) ∙ found_nothing y) ∙ is in
+finds_nothing : (a b : State) (rs : List Record) → IsUnmade a → IsUnmade b → Finds (left a) (left b) rs → rs ≡ []
+finds_nothing a b rs un_a un_b (x, y, in_x, in_y, is) =
+    let none : Some [] ≡ Some rs = sym (ap (λ (c : List ℕ). found c y) (left_nothing a x un_a in_x) ∙ ap (found []) (left_nothing b y un_b in_y) ∙ found_nothing) ∙ is in
     sym (same_Some [] rs none)
 
 empty_longer : IsLonger [] 0 [] (coordinator_state [])
@@ -59,11 +60,11 @@ unmade_nodes_are_tied state honest a b honest_a honest_b un_a un_b = (
   record {
     honest_a = honest_a;
     honest_b = honest_b;
-    each = λ rs finds. subst (λ (l : List Record). IsLonger [] 0 [] (coordinator_state l)) (sym (finds_nothing (state a) (state b) rs un_a finds)) empty_longer;
+    each = λ rs finds. subst (λ (l : List Record). IsLonger [] 0 [] (coordinator_state l)) (sym (finds_nothing (state a) (state b) rs un_a un_b finds)) empty_longer;
   },
   λ shards s. record {
     honest_a = honest_a;
     honest_b = honest_b;
-    each = λ rs finds. subst (λ (l : List Record). AreRowsOf shards s [] 0 (shard_state l)) (sym (finds_nothing (state a) (state b) rs un_a finds)) (empty_rows shards s);
+    each = λ rs finds. subst (λ (l : List Record). AreRowsOf shards s [] 0 (shard_state l)) (sym (finds_nothing (state a) (state b) rs un_a un_b finds)) (empty_rows shards s);
   },
 )

@@ -1,9 +1,17 @@
 -- What the coordinator answers of a write: that it is not found, its place, or that its flow's decision is kept.
-use Rattle.std.proofs.Common.{◌≡◌, inl, ℕ, ◌≤◌, ◌<◌, Contains, ◌+◌, ◌-◌, min, List, [], ◌∷◌, ◌++◌, length, take, drop, Option, Some, None, slice_get, refl, sym, ◌∙◌, ap, subst, arith}
+use Rattle.std.proofs.Common.{◌≡◌, inl, inr, ℕ, ◌≤◌, ◌<◌, Contains, ◌+◌, ◌-◌, min, List, [], ◌∷◌, ◌++◌, length, take, drop, Option, Some, None, slice_get, refl, sym, ◌∙◌, ap, subst, arith, append_assoc}
 use Rattle.std.proofs.lemmas.List.{drop-drop, drop-take, length-drop, length-take, length-take-le, take-take, take_all}
 use Rattle.std.proofs.lemmas.Option.{slice_get_within}
 use Rattle.turns.proofs.Words.{AreRightHeads, BatchValue, CoordinatorKnows, CoordinatorState, Decision, Dropped, Entry, Epoch, HasSeenBelow, HeadsValue, Horizon, IsResolved, IsRight, IsRightBatch, IsRightDecision, IsRightWrite, IsWriteAnswer, Learned, Means, Moment, NodeName, Prepare, Record, Running, Stands, WriteId, at_shards, committed, coordinator, coordinator_from, coordinator_from-append, empty_coordinator, end_is_length, end_of, id_of, leaves, own_write, slice_get_drop, slice_get_taken, writing}
-use Rattle.records.specs.Coordinators.{coordinator_state, coordinator_step}
+use Rattle.records.specs.Coordinators.{BeginsCoordinatorImage, IsCoordinatorImage, MayComeNext, MayFollowNext, coordinator_state, coordinator_step}
+use Rattle.records.specs.Inside.{MayBegin, inside_of}
+use Rattle.records.specs.Replays.{Identity}
+use Rattle.records.specs.declared.mark.Inside.{Inside}
+use Rattle.records.specs.declared.mark.Mark.TheVariants.{Begins}
+use Rattle.records.specs.declared.record.Record.TheVariants.{Checkpoint}
+use Rattle.records.proofs.CoordinatorStates.{coordinator_image_push, coordinator_push}
+use Rattle.laws.specs.Worlds.{coordinator_node}
+use Rattle.std.proofs.lemmas.List.{append-nil}
 use Rattle.turns.specs.AbortLaws.{InquiriesAbort, InquiriesFind, OutcomesAgree}
 use Rattle.turns.specs.HeadsLaws.{BatchesAreRight, HeadsAreRight}
 use Rattle.laws.specs.Coordinators.{CoordinatorMeans}
@@ -13,16 +21,51 @@ pub replays : (rs more : List Record) → coordinator_state (rs ++ more) ≡ coo
 unfolding coordinator_state
 replays rs more = coordinator_from-append empty_coordinator rs more
 
--- no record changes the base
-base_from : (s : CoordinatorState) (rs : List Record) → (coordinator_from s rs).base ≡ s.base
+-- a checkpoint begins at a node that was not opened
+begins_unopened : (epoch : ℕ) (r : Record) → MayBegin epoch r → epoch ≡ 0
+begins_unopened epoch (Checkpoint (Begins generation)) may = may.unopened
+begins_unopened epoch _ may = absurd may
+
+-- what comes outside of a checkpoint leaves the base, and a coordinator that is opened
+base_next : (me : Identity) (s : CoordinatorState) (r : Record) → MayComeNext me s r → (coordinator_step s r).base ≡ s.base
 unfolding coordinator_step
-base_from s [] = refl
-base_from s (Prepare w ∷ rs) = base_from s rs
-base_from s (Learned to placed_ids ∷ rs) = base_from s rs
-base_from s (Dropped id ∷ rs) = base_from s rs
-base_from s (Epoch e f g h ∷ rs) = base_from (record s { epoch = e }) rs
-base_from s (Decision place w ∷ rs) = base_from (record s { log = s.log ++ w ∷ [] }) rs
-base_from s (Horizon place ∷ rs) = base_from (record s { horizon = place }) rs
+base_next me s (Prepare w) may = refl
+base_next me s (Learned to placed_ids) may = refl
+base_next me s (Dropped id) may = refl
+base_next me s (Epoch e f g h) may = refl
+base_next me s (Decision place w) may = refl
+base_next me s (Horizon place) may = refl
+base_next me s (Checkpoint mark) may = absurd may
+
+opened_next : (me : Identity) (s : CoordinatorState) (r : Record) → 1 ≤ s.epoch → MayComeNext me s r → 1 ≤ (coordinator_step s r).epoch
+unfolding coordinator_step
+opened_next me s (Prepare w) some may = some
+opened_next me s (Learned to placed_ids) some may = some
+opened_next me s (Dropped id) some may = some
+opened_next me s (Epoch e f g h) some may = let next = may.next in omega (arith, next)
+opened_next me s (Decision place w) some may = some
+opened_next me s (Horizon place) some may = some
+opened_next me s (Checkpoint mark) some may = absurd may
+
+comes_next : (me : Identity) (i : Option Inside) (s : CoordinatorState) (r : Record) → i ≡ None → 1 ≤ s.epoch → MayFollowNext me i s r → MayComeNext me s r
+comes_next me None s r outside some (inl may) = may
+comes_next me None s r outside some (inr begins) = let none = begins_unopened s.epoch r begins in absurd (omega (arith, none, some))
+comes_next me (Some i) s r outside some may = absurd cc
+
+-- so no record behind those of a coordinator that was opened changes the base
+base_behind : (me : Identity) (before rs : List Record) → IsCoordinatorImage me before → 1 ≤ (coordinator_state before).epoch → BeginsCoordinatorImage me (before ++ rs)
+    → (coordinator_state (before ++ rs)).base ≡ (coordinator_state before).base
+base_behind me before [] was some all = ap (λ (l : List Record). (coordinator_state l).base) (append-nil before)
+base_behind me before (r ∷ rs) was some all =
+    let s = coordinator_state before in
+    let whole : (before ++ r ∷ []) ++ rs ≡ before ++ r ∷ rs = append_assoc before (r ∷ []) rs in
+    let may = comes_next me (inside_of before) s r was.whole some (all before rs r refl) in
+    let stepped = coordinator_push before r in
+    let opened : 1 ≤ (coordinator_state (before ++ r ∷ [])).epoch = subst (λ (c : CoordinatorState). 1 ≤ c.epoch) (sym stepped) (opened_next me s r some may) in
+    ap (λ (l : List Record). (coordinator_state l).base) (sym whole)
+    ∙ base_behind me (before ++ r ∷ []) rs (coordinator_image_push me before r was may) opened (subst (BeginsCoordinatorImage me) (sym whole) all)
+    ∙ ap (λ (c : CoordinatorState). c.base) stepped
+    ∙ base_next me s r may
 
 -- what is behind a place is at its place in the list
 of_drop : {X : Type 0} (k : ℕ) (xs : List X) (j : ℕ) (x : X) → slice_get (drop k xs) j ≡ Some x → slice_get xs (k + j) ≡ Some x
@@ -36,15 +79,16 @@ module _ (store shards : ℕ) (left : NodeName → List Record → Type 0) (now 
   known : memory.log ≡ drop memory.base now.machine.log
   known = subst (λ (c : CoordinatorState). c.log ≡ drop c.base now.machine.log) (sym knows.replayed) whole.decided.decisions
 
+  durable_there : leaves left now.nodes coordinator knows.durable
+  durable_there = (knows.durable, (st.nodes.durable coordinator knows.durable knows.staged knows.durable knows.is_up).1 refl, inl refl)
+
   -- no staged record changes the base
   same_base : memory.base ≡ kept.base
   same_base =
-      ap (λ (c : CoordinatorState). c.base) (knows.replayed ∙ replays knows.durable knows.staged)
-      ∙ base_from (coordinator_state knows.durable) knows.staged
+      let was = st.rests.each knows.durable durable_there in
+      ap (λ (c : CoordinatorState). c.base) knows.replayed
+      ∙ base_behind (coordinator_node store shards) knows.durable knows.staged was.3.image (subst (λ (c : CoordinatorState). 1 ≤ c.epoch) knows.durable_state (st.nodes.coordinator_opened kept memory knows)) whole.image.each
       ∙ ap (λ (c : CoordinatorState). c.base) (sym knows.durable_state)
-
-  durable_there : leaves left now.nodes coordinator knows.durable
-  durable_there = (knows.durable, (st.nodes.durable coordinator knows.durable knows.staged knows.durable knows.is_up).1 refl, inl refl)
 
   -- what is durable means the log up to the kept place
   pub durable_means : CoordinatorMeans (take now.machine.kept now.machine.log) now.machine.horizon kept

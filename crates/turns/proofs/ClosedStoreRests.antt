@@ -3,13 +3,14 @@ use Rattle.std.proofs.Common.{◌≡◌, ◌≤◌, inl, ℕ, List, [], take, So
 use Rattle.std.proofs.lemmas.List.{take_all}
 use Rattle.turns.proofs.Words.{AreSound, Entry, IsThere, Leaves, NodeName, Record, Rests, ShardMeans, ShardState, State, at_shards, coordinator, coordinator_state, empty_rests, leaves, leaves_nothing_else, left, less_rests, shard, shard_state, stops}
 use Rattle.gated.specs.Gated.{gated}
-use Rattle.journal.specs.Records.{found}
+use Rattle.records.specs.Checkpoints.{is_complete}
+use Rattle.journal.specs.Records.{current_bank, found}
 use Rattle.turns.specs.StoreLaws.{ClosedStoresRest, IsUnmade, UnmadeStoresRest}
 use Rattle.turns.proofs.ShardPrepareSeam.{last_sync}
 
-found_nothing : (y : List ℕ) → found [] y ≡ Some []
-unfolding found gated
-found_nothing y = refl
+found_nothing : found [] [] ≡ Some []
+unfolding found gated current_bank is_complete
+found_nothing = refl
 
 -- what a shard's records mean, seen with the coordinator's horizon, they mean with a lower one
 pub means_lower : (shards s : ℕ) (log : List Entry) (hc h : ℕ) (found : ShardState) → h ≤ hc → ShardMeans shards s log hc h found → ShardMeans shards s log h h found
@@ -37,24 +38,25 @@ module _ {D : Type 0} (state : D → State) (honest : D → Type 0) (moment : D 
       )
 
   module _ (devices : NodeName → D × D) (un : (n : NodeName) → IsThere shards n → IsUnmade (state (devices n).0) × IsUnmade (state (devices n).1)) where
-    records_none : (n : NodeName) (a b : List ℕ) → IsThere shards n → left (state (devices n).0) a → found a b ≡ Some []
-    records_none n a b there is = ap (λ x. found x b) (left_nothing (state (devices n).0) a (un n there).0 is) ∙ found_nothing b
+    records_none : (n : NodeName) (a b : List ℕ) → IsThere shards n → left (state (devices n).0) a → left (state (devices n).1) b → found a b ≡ Some []
+    records_none n a b there in_a in_b =
+        ap (λ (x : List ℕ). found x b) (left_nothing (state (devices n).0) a (un n there).0 in_a) ∙ ap (found []) (left_nothing (state (devices n).1) b (un n there).1 in_b) ∙ found_nothing
 
     pub stops_none : (n : NodeName) (rs : List Record) → IsThere shards n → stops state honest store shards devices n rs → rs ≡ []
-    stops_none n rs there (a, b, in_a, in_b, is) = let both : Some [] ≡ Some rs = sym (records_none n a b there in_a) ∙ is in cc
+    stops_none n rs there (a, b, in_a, in_b, is) = let both : Some [] ≡ Some rs = sym (records_none n a b there in_a in_b) ∙ is in cc
 
     -- a stop leaves no records of the coordinator
     pub left_empty : stops state honest store shards devices coordinator []
     left_empty =
         let a = state (devices coordinator).0 in
         let b = state (devices coordinator).1 in
-        (a.durable, b.durable, last_sync a, last_sync b, records_none coordinator a.durable b.durable tt (last_sync a))
+        (a.durable, b.durable, last_sync a, last_sync b, records_none coordinator a.durable b.durable tt (last_sync a) (last_sync b))
 
     pub unmade_sound : (honest_devices : (n : NodeName) → IsThere shards n → honest (devices n).0 × honest (devices n).1) → AreSound state honest store shards devices
     unmade_sound both = record {
       honest_a = λ n there. (both n there).0;
       honest_b = λ n there. (both n there).1;
-      readable = λ n a b there in_a in_b. ([], records_none n a b there in_a);
+      readable = λ n a b there in_a in_b. ([], records_none n a b there in_a in_b);
     }
 
 pub unmade_stores_rest : {D : Type 0} (state : D → State) (honest : D → Type 0) (moment : D → ℕ) (left_since : D → ℕ → List ℕ → Type 0) (store shards : ℕ) → UnmadeStoresRest state honest moment left_since store shards

@@ -61,8 +61,7 @@ module _ {D : Type 0} (state : D → State) (honest : D → Type 0) (moment : D 
 
     pub was_or_reopened : (x y : List ℕ) (rs : List Record) → found x y ≡ Some rs → WasLeftOrReopened (coordinator_node store shards) (state a) (state b) x y
         → before coordinator rs ⊎ IsReopenedCoordinator store shards before rs
-    was_or_reopened x y rs is (inl (inl was)) = inl (was_left rs (sym (reads x y was) ∙ is))
-    was_or_reopened x y rs is (inl (inr same)) = inl (was_left rs (sym same ∙ is))
+    was_or_reopened x y rs is (inl was) = inl (was_left rs (sym (reads was.0 was.1 (was.2, was.3)) ∙ sym was.4 ∙ is))
     was_or_reopened x y rs is (inr more) = inr (record {
       found = more.0;
       epoch = (coordinator_state more.0).epoch + 1;
@@ -96,8 +95,7 @@ module _ {D : Type 0} (state : D → State) (honest : D → Type 0) (moment : D 
         never same = no_longer opened.rs (coordinator_opening (coordinator_node store shards) opened.rs) (same_Some opened.rs found_with (sym opened.was ∙ sym same ∙ durable_there ∙ ap Some opened.durable))
 
         by_case : WasLeftOrReopened (coordinator_node store shards) (state a) (state b) (state v.a).durable (state v.b).durable → IsCoordinatorImage (coordinator_node store shards) found_with
-        by_case (inl (inl was)) = absurd (never (reads v.a v.b over (state v.a).durable (state v.b).durable was))
-        by_case (inl (inr same)) = absurd (never same)
+        by_case (inl was) = absurd (never (was.4 ∙ reads v.a v.b over was.0 was.1 (was.2, was.3)))
         by_case (inr more) = subst (λ (rs : List Record). IsCoordinatorImage (coordinator_node store shards) (rs ++ coordinator_opening (coordinator_node store shards) rs ∷ [])) (same_Some more.0 opened.rs (sym more.1 ∙ opened.was)) more.2
 
     abbrev next : Nodes → Nodes
@@ -189,7 +187,7 @@ module _ {D : Type 0} (state : D → State) (honest : D → Type 0) (moment : D 
   )
 
   pub fails_over_devices : FailsOverDevices state honest moment left_since store shards
-  fails_over_devices old new now was v seen fails = record {
+  fails_over_devices old new now was v seen over honest_a honest_b moments = record {
     durable = was.durable;
     staged = was.staged;
     was = seen.at;
@@ -197,9 +195,9 @@ module _ {D : Type 0} (state : D → State) (honest : D → Type 0) (moment : D 
     unchanged = λ s. refl;
     open_writes = refl;
     given = refl;
-    same = elsewhere state honest moment left_since store shards old new v.a v.b fails.over;
+    same = elsewhere state honest moment left_since store shards old new v.a v.b over;
     here = λ rs finds.
-        let at = to_node state honest moment left_since store shards old new v.a v.b fails.over rs finds in
-        let one = fails.any_moment.each at.0 at.1 (counts_now v.a (moment was.a) at.0 fails.honest_a fails.any_moment.later_a at.2) (counts_now v.b (moment was.b) at.1 fails.honest_b fails.any_moment.later_b at.3) in
+        let at = to_node state honest moment left_since store shards old new v.a v.b over rs finds in
+        let one = moments.each at.0 at.1 (counts_now v.a (moment was.a) at.0 honest_a moments.later_a at.2) (counts_now v.b (moment was.b) at.1 honest_b moments.later_b at.3) in
         subst (IsOldOrSame coordinator was.durable was.staged) (same_Some one.0 rs (sym one.1 ∙ at.4)) one.2;
   }

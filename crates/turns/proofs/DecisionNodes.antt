@@ -4,6 +4,7 @@ use Rattle.std.proofs.lemmas.List.{length_push, take-append-le}
 use Rattle.std.proofs.lemmas.List.Elements.{Contains-append_right, Contains-push_cases}
 use Rattle.turns.proofs.Words.{AreNew, CoordinatorKnows, CoordinatorState, Decision, Dropped, Entry, Epoch, HeadsStand, Horizon, IdsStand, IsDeciding, IsOpen, IsRightVerdict, IsUnlisted, Learned, ListedStand, LocksStand, Means, Moment, NodeName, Nodes, NodesStand, Prepare, Record, Rests, WasGiven, WriteId, at_shards, coordinator, coordinator_from, coordinator_from-append, coordinator_push, empty_coordinator, end_of, leaves, less_rests, of_without, shard, shard_state, slice_get_push, staged_of, up, with_decision, with_write, without}
 use Rattle.records.specs.Coordinators.{coordinator_state, coordinator_step}
+use Rattle.records.specs.declared.record.Record.TheVariants.{Checkpoint}
 use Rattle.laws.proofs.CoordinatorSteps.{decisions_rest}
 use Rattle.turns.proofs.CoordinatorStages as stages
 use Rattle.turns.proofs.Frames.{KeepsStore, given_on, shard_less, verdict_on}
@@ -19,6 +20,7 @@ epoch_stays s [] none = refl
 epoch_stays s (Prepare v ∷ rs) none = epoch_stays (coordinator_step s (Prepare v)) rs (λ a b c d has. none a b c d (Contains-append_right (Prepare v ∷ []) rs (Epoch a b c d) has))
 epoch_stays s (Learned to placed_ids ∷ rs) none = epoch_stays (coordinator_step s (Learned to placed_ids)) rs (λ a b c d has. none a b c d (Contains-append_right (Learned to placed_ids ∷ []) rs (Epoch a b c d) has))
 epoch_stays s (Dropped id ∷ rs) none = epoch_stays (coordinator_step s (Dropped id)) rs (λ a b c d has. none a b c d (Contains-append_right (Dropped id ∷ []) rs (Epoch a b c d) has))
+epoch_stays s (Checkpoint mark ∷ rs) none = epoch_stays (coordinator_step s (Checkpoint mark)) rs (λ a b c d has. none a b c d (Contains-append_right (Checkpoint mark ∷ []) rs (Epoch a b c d) has))
 epoch_stays s (Epoch e f g h ∷ rs) none = absurd (none e f g h (0, omega arith, refl))
 epoch_stays s (Decision place v ∷ rs) none = epoch_stays (coordinator_step s (Decision place v)) rs (λ a b c d has. none a b c d (Contains-append_right (Decision place v ∷ []) rs (Epoch a b c d) has))
 epoch_stays s (Horizon place ∷ rs) none = epoch_stays (coordinator_step s (Horizon place)) rs (λ a b c d has. none a b c d (Contains-append_right (Horizon place ∷ []) rs (Epoch a b c d) has))

@@ -1,7 +1,11 @@
 -- Causes are those of the call that answers: beside each that is one, its like of another node, of another place or of another flow, which is none.
-use Rattle.std.proofs.Common.{◌≡◌, ◌≢◌, inl, inr, ◌<◌, ℕ, Some, None, List, [], ◌∷◌, ◌++◌, refl, sym, ◌∙◌, ap, subst, arith}
+use Rattle.std.proofs.Common.{◌≡◌, ◌≢◌, inl, inr, ◌≤◌, ◌<◌, ℕ, Some, None, List, [], ◌∷◌, ◌++◌, refl, sym, ◌∙◌, ap, subst, arith}
 use Rattle.std.proofs.lemmas.Option.{same_Some}
 use Rattle.turns.proofs.Words.{Calls, Collected, Decision, Down, Full, HasItsCause, HasNoRoom, Horizon, IsRecord, IsToLearn, Key, Learned, Machine, Moment, NoMemory, NodeName, NodeState, PlacedId, Prepare, Record, Running, Tuple, Tupleset, User, Userset, begun, checking, coordinator, down, latest, reading, refused, shard, shard_of, shard_state, three, to_check, to_collect, to_flush, to_learn, to_raise, to_read, to_write, up}
+use Rattle.records.specs.Checkpoints.{generation_of}
+use Rattle.records.specs.Replays.{greatest_number}
+use Rattle.records.specs.declared.mark.Mark.TheVariants.{Begins}
+use Rattle.records.specs.declared.record.Record.TheVariants.{Checkpoint}
 use Rattle.turns.specs.Causes.{Needs, Stages}
 use Rattle.turns.specs.Flows.{nothing_read}
 use Rattle.turns.proofs.SmallRuns.{two_kept}
@@ -63,11 +67,7 @@ down_for_a_later_tupleset first second s other (inr (calls, is)) = other (calls_
 abbrev all_up : Moment
 all_up = with_nodes two_kept (λ n. up [] [])
 
--- a flush takes no memory, nor does a collection
-flushed_without_memory : (n m : NodeName) (after : Moment) → HasItsCause 2 n all_up after (begun 0 (to_flush m)) NoMemory → ⊥
-flushed_without_memory n m after (inl never) = never
-flushed_without_memory n m after (inr (calls, is)) = let bad : up [] [] ≡ refused NoMemory = is in cc
-
+-- a collection takes no memory
 collected_without_memory : (n : NodeName) (s : ℕ) (after : Moment) → HasItsCause 2 n all_up after (begun 0 (to_collect s)) NoMemory → ⊥
 collected_without_memory n s after (inl never) = never
 collected_without_memory n s after (inr (calls, is)) = let bad : up [] [] ≡ refused NoMemory = is in cc
@@ -96,6 +96,12 @@ abbrev records_of : NodeState → List Record
 records_of (up durable staged) = durable ++ staged
 records_of down = []
 records_of (refused e) = []
+
+-- and these alone are durable
+abbrev durable_of : NodeState → List Record
+durable_of (up durable staged) = durable
+durable_of down = []
+durable_of (refused e) = []
 
 abbrev with_records : List Record → List Record → Moment
 with_records durable staged = with_nodes two_kept (λ n. up durable staged)
@@ -129,3 +135,27 @@ full_of_what_is_to_be_learned durable staged to placed_ids after more spelled no
   is_record = spelled;
   no_room = no_room;
 })
+
+-- a flush stages nothing
+flush_stages : (m n : NodeName) (next : Record) (known : List Record) → Stages 2 two_kept known (to_flush m) None n next → ⊥
+flush_stages m coordinator (Decision place w) known stages = let bad : to_flush m ≡ to_write w.changes w.conditions = stages.asks in cc
+flush_stages m coordinator (Horizon place) known stages = let bad : to_flush m ≡ to_raise place = stages in cc
+flush_stages m (shard t) (Prepare p) known (w, own, is) = let bad : to_flush m ≡ to_write w.changes w.conditions = own.asks in cc
+flush_stages m (shard t) (Learned to placed_ids) known stages = absurd stages.0
+flush_stages m (shard t) (Horizon place) known stages = let bad : to_flush m ≡ to_collect t = stages in cc
+flush_stages m n next known stages = absurd stages
+
+-- so that it is full only behind the last generation, and not where there was no checkpoint
+full_without_checkpoint : (n m : NodeName) (after : Moment) → HasItsCause 2 n all_up after (begun 0 (to_flush m)) Full → ⊥
+unfolding generation_of
+full_without_checkpoint n m after (inl (inl full)) = flush_stages m n full.next (full.durable ++ full.staged) full.stages
+full_without_checkpoint n m after (inl (inr full)) =
+    let none : full.durable ≡ [] = ap durable_of (sym full.is_up) in
+    let last = subst (λ (rs : List Record). greatest_number ≤ generation_of rs) none full.last in
+    omega (arith, last)
+full_without_checkpoint n m after (inr (calls, is)) = let bad : up [] [] ≡ refused Full = is in cc
+
+full_behind_the_last : (staged : List Record) (s : ℕ) (after : Moment) → s < 2
+    → HasItsCause 2 (shard s) (with_records (Checkpoint (Begins greatest_number) ∷ []) staged) after (begun 0 (to_flush (shard s))) Full
+unfolding generation_of
+full_behind_the_last staged s after there = inl (inr (record { durable = Checkpoint (Begins greatest_number) ∷ []; staged = staged; calls = (there, refl); is_up = refl; last = omega arith }))

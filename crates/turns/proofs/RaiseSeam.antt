@@ -5,7 +5,10 @@ use Rattle.std.proofs.lemmas.Bool.{cases_lt}
 use Rattle.std.proofs.lemmas.List.{append-nil}
 use Rattle.std.proofs.lemmas.List.Elements.{All-nil, Contains-append_right}
 use Rattle.turns.proofs.Words.{Asked, CoordinatorState, CoordinatorView, Decision, Dropped, Epoch, Holds, Horizon, Identity, IsBelow, IsCoordinatorImage, IsFull, IsFuture, IsLearnedInAll, IsQuietCall, IsRight, IsRightRaise, IsRightSettled, IsSeen, Learned, MayRaise, Moment, NodeName, NodeState, Nodes, Prepare, RaiseHolds, Record, Running, SameBut, StagesHorizon, Stands, at_shards, behind, behind_call, coordinator, coordinator_from, coordinator_image_push, coordinator_node, coordinator_push, coordinator_state, id_of, kept_of, leaves, memory_of, raising, shard, to_flush, to_raise, up, with_call}
-use Rattle.records.specs.Coordinators.{MayComeNext, coordinator_step}
+use Rattle.records.specs.Coordinators.{BeginsCoordinatorImage, MayComeNext, MayComeNextInside, coordinator_step, marked_base}
+use Rattle.records.specs.declared.record.Record.TheVariants.{Checkpoint}
+use Rattle.records.specs.declared.mark.Inside.{Inside}
+use Rattle.records.proofs.CoordinatorStates.{coordinator_keeps}
 use Rattle.decisions.specs.Coordinators.{HaveSettled, IsRising, RaisesAt, StagesOne}
 use Rattle.turns.specs.CoordinatorSeamLaws.{RaiseHasCause, RaisesTurn}
 use Rattle.turns.proofs.Answers.{replays}
@@ -32,6 +35,7 @@ risen s (Learned to placed_ids ∷ rs) = behind_one (Learned to placed_ids) rs s
 risen s (Dropped id ∷ rs) = behind_one (Dropped id) rs s.horizon _ (risen s rs)
 risen s (Epoch a b c d ∷ rs) = behind_one (Epoch a b c d) rs s.horizon _ (risen (record s { epoch = a }) rs)
 risen s (Decision place w ∷ rs) = behind_one (Decision place w) rs s.horizon _ (risen (record s { log = s.log ++ w ∷ [] }) rs)
+risen s (Checkpoint mark ∷ rs) = behind_one (Checkpoint mark) rs s.horizon _ (risen (record s { base = marked_base mark s }) rs)
 risen s (Horizon place ∷ rs) = ⊎_elim
     (λ same. inr (place, (0, omega arith, refl), same))
     (λ more. inr (more.0, Contains-append_right (Horizon place ∷ []) rs (Horizon more.0) more.1, more.2))
@@ -46,14 +50,24 @@ one_rises me s (Dropped id) may = omega arith
 one_rises me s (Epoch a b c d) may = omega arith
 one_rises me s (Decision place w) may = omega arith
 one_rises me s (Horizon place) may = may.on
+one_rises me s (Checkpoint mark) may = absurd may
 
-rises : (me : Identity) (before rs : List Record) → IsCoordinatorImage me (before ++ rs) → (coordinator_state before).horizon ≤ (coordinator_state (before ++ rs)).horizon
-rises me before [] image = subst (λ (l : List Record). (coordinator_state before).horizon ≤ (coordinator_state l).horizon) (sym (append-nil before)) (omega arith)
-rises me before (r ∷ rs) image =
-    let longer : (before ++ r ∷ []) ++ rs ≡ before ++ r ∷ rs = append_assoc before (r ∷ []) rs in
-    let first : (coordinator_state before).horizon ≤ (coordinator_state (before ++ r ∷ [])).horizon = subst (λ (c : CoordinatorState). (coordinator_state before).horizon ≤ c.horizon) (sym (coordinator_push before r)) (one_rises me (coordinator_state before) r (image before rs r refl)) in
-    let rest : (coordinator_state (before ++ r ∷ [])).horizon ≤ (coordinator_state (before ++ r ∷ rs)).horizon = subst (λ (l : List Record). (coordinator_state (before ++ r ∷ [])).horizon ≤ (coordinator_state l).horizon) longer (rises me (before ++ r ∷ []) rs (subst (IsCoordinatorImage me) (sym longer) image)) in
-    omega (arith, first, rest)
+inside_rises : (me : Identity) (i : Inside) (s : CoordinatorState) (r : Record) → MayComeNextInside me i s r → s.horizon ≤ (coordinator_step s r).horizon
+unfolding coordinator_step
+inside_rises me i s (Prepare w) may = omega arith
+inside_rises me i s (Learned to placed_ids) may = omega arith
+inside_rises me i s (Dropped id) may = omega arith
+inside_rises me i s (Epoch a b c d) may = omega arith
+inside_rises me i s (Decision place w) may = omega arith
+inside_rises me i s (Horizon place) may = may.on
+inside_rises me i s (Checkpoint mark) may = omega arith
+
+rises : (me : Identity) (before rs : List Record) → BeginsCoordinatorImage me (before ++ rs) → (coordinator_state before).horizon ≤ (coordinator_state (before ++ rs)).horizon
+unfolding coordinator_step
+rises me before rs image =
+    let low = (coordinator_state before).horizon in
+    coordinator_keeps me (λ (s : CoordinatorState). low ≤ s.horizon) (λ s r le may. let on = one_rises me s r may in omega (arith, le, on)) (λ i s r le may. let on = inside_rises me i s r may in omega (arith, le, on)) (λ s mark le may. le)
+    before rs image (omega arith)
 
 split : (rs : List Record) (r : Record) → Contains rs r → (before after : List Record) × (rs ≡ before ++ r ∷ after)
 split [] r has = absurd (omega (arith, has.1))
@@ -69,7 +83,7 @@ named_below me rs x image has =
     let s = split rs (Horizon x) has in
     let longer : (s.0 ++ Horizon x ∷ []) ++ s.1 ≡ rs = append_assoc s.0 (Horizon x ∷ []) s.1 ∙ sym s.2 in
     let here : (coordinator_state (s.0 ++ Horizon x ∷ [])).horizon ≡ x = ap (λ (c : CoordinatorState). c.horizon) (coordinator_push s.0 (Horizon x)) in
-    let low : (coordinator_state (s.0 ++ Horizon x ∷ [])).horizon ≤ (coordinator_state rs).horizon = subst (λ (l : List Record). (coordinator_state (s.0 ++ Horizon x ∷ [])).horizon ≤ (coordinator_state l).horizon) longer (rises me (s.0 ++ Horizon x ∷ []) s.1 (subst (IsCoordinatorImage me) (sym longer) image)) in
+    let low : (coordinator_state (s.0 ++ Horizon x ∷ [])).horizon ≤ (coordinator_state rs).horizon = subst (λ (l : List Record). (coordinator_state (s.0 ++ Horizon x ∷ [])).horizon ≤ (coordinator_state l).horizon) longer (rises me (s.0 ++ Horizon x ∷ []) s.1 (subst (BeginsCoordinatorImage me) (sym longer) image.each)) in
     omega (arith, here, low)
 
 module _ (store shards : ℕ) (left : NodeName → List Record → Type 0) {D : Type 0} (now : Moment) (old new : CoordinatorView D) (r : Running) (place : ℕ) (h : RaiseHolds)

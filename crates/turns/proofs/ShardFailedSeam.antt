@@ -66,10 +66,9 @@ module _ {D : Type 0} (state : D → State) (honest : D → Type 0) (moment : D 
 
       by_moment : (rs : List Record) (x y : List ℕ) → found x y ≡ Some rs → WasLeftOrOpened (shard_node store shards s) (state a) (state b) x y
           → stops state honest store shards old (shard s) rs ⊎ IsReopenedShard store shards s (stops state honest store shards old) rs
-      by_moment rs x y is (inl (inl both)) = inl (was rs (
-          ap (λ (c : List ℕ). found c (state b).seen) (sym (revived_reads (state (old (shard s)).0) (state a) revived.first x both.0))
-          ∙ ap (λ (c : List ℕ). found x c) (sym (revived_reads (state (old (shard s)).1) (state b) revived.second y both.1)) ∙ is))
-      by_moment rs x y is (inl (inr same)) = inl (was rs (sym same ∙ is))
+      by_moment rs x y is (inl could) = inl (was rs (
+          ap (λ (c : List ℕ). found c (state b).seen) (sym (revived_reads (state (old (shard s)).0) (state a) revived.first could.0 could.2))
+          ∙ ap (λ (c : List ℕ). found could.0 c) (sym (revived_reads (state (old (shard s)).1) (state b) revived.second could.1 could.3)) ∙ sym could.4 ∙ is))
       by_moment rs x y is (inr opened) = inr (
           let both : Some rs ≡ Some (opened.0 ++ opening (shard_node store shards s) opened.0 ∷ []) = sym is ∙ opened.3 in
           record {

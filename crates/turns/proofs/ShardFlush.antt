@@ -3,6 +3,10 @@ use Rattle.std.proofs.Common.{◌≡◌, ◌⊎◌, ◌↔◌, inl, inr, ⊎_eli
 use Rattle.std.proofs.lemmas.List.Elements.{Contains-append_right}
 use Rattle.turns.proofs.Words.{Decision, Dropped, Epoch, FlushesShard, Horizon, Identity, IsShardImage, Learned, MayCome, Moment, NodeName, NodeState, Nodes, Prepare, Record, ShardState, StandFor, Stands, down, empty_shard, refused, shard, shard_from, shard_from-append, shard_node, shard_push, staged_of, up}
 use Rattle.records.specs.Replays.{shard_state, shard_step}
+use Rattle.records.specs.declared.record.Record.TheVariants.{Checkpoint}
+use Rattle.records.specs.Replays.{MayComeInside}
+use Rattle.records.specs.declared.mark.Inside.{Inside}
+use Rattle.replay.proofs.States.{image_keeps}
 use Rattle.turns.specs.FlushLaws.{ShardFlushesStand}
 use Rattle.turns.proofs.Places.{IsInPlace, alike_place, still_in_place}
 use Rattle.turns.proofs.ShardChanges.{ChangesShard, IsUpWith, changed_stands, up_as}
@@ -16,6 +20,7 @@ epoch_stays s (Learned to placed_ids ∷ rs) none = epoch_stays (shard_step s (L
 epoch_stays s (Dropped id ∷ rs) none = epoch_stays (shard_step s (Dropped id)) rs (λ a b c d has. none a b c d (Contains-append_right (Dropped id ∷ []) rs (Epoch a b c d) has))
 epoch_stays s (Epoch e f g h ∷ rs) none = absurd (none e f g h (0, omega arith, refl))
 epoch_stays s (Decision place v ∷ rs) none = epoch_stays (shard_step s (Decision place v)) rs (λ a b c d has. none a b c d (Contains-append_right (Decision place v ∷ []) rs (Epoch a b c d) has))
+epoch_stays s (Checkpoint mark ∷ rs) none = epoch_stays (shard_step s (Checkpoint mark)) rs (λ a b c d has. none a b c d (Contains-append_right (Checkpoint mark ∷ []) rs (Epoch a b c d) has))
 epoch_stays s (Horizon place ∷ rs) none = epoch_stays (shard_step s (Horizon place)) rs (λ a b c d has. none a b c d (Contains-append_right (Horizon place ∷ []) rs (Epoch a b c d) has))
 
 -- no record of a shard takes back what was learned
@@ -27,14 +32,24 @@ learned_on me s (Dropped id) may = omega arith
 learned_on me s (Epoch epoch store shards node) may = omega arith
 learned_on me s (Decision place w) may = absurd may
 learned_on me s (Horizon place) may = omega arith
+learned_on me s (Checkpoint mark) may = absurd may
+
+learned_inside : (me : Identity) (i : Inside) (s : ShardState) (r : Record) → MayComeInside me i s r → s.learned ≤ (shard_step s r).learned
+unfolding shard_step
+learned_inside me i s (Prepare w) may = omega arith
+learned_inside me i s (Learned to placed_ids) may = may.may.on
+learned_inside me i s (Dropped id) may = absurd may
+learned_inside me i s (Epoch epoch store shards node) may = omega arith
+learned_inside me i s (Decision place w) may = absurd may
+learned_inside me i s (Horizon place) may = omega arith
+learned_inside me i s (Checkpoint mark) may = omega arith
 
 pub learned_more : (me : Identity) (before rs : List Record) → IsShardImage me (before ++ rs) → (shard_state before).learned ≤ (shard_state (before ++ rs)).learned
-learned_more me before [] image = subst (λ (l : List Record). (shard_state before).learned ≤ (shard_state l).learned) (sym (append-nil before)) (omega arith)
-learned_more me before (r ∷ rs) image =
-    let whole : (before ++ r ∷ []) ++ rs ≡ before ++ r ∷ rs = append_assoc before (r ∷ []) rs in
-    let first : (shard_state before).learned ≤ (shard_state (before ++ r ∷ [])).learned = subst (λ (s : ShardState). (shard_state before).learned ≤ s.learned) (sym (shard_push before r)) (learned_on me (shard_state before) r (image before rs r refl)) in
-    let rest : (shard_state (before ++ r ∷ [])).learned ≤ (shard_state (before ++ r ∷ rs)).learned = subst (λ (l : List Record). (shard_state (before ++ r ∷ [])).learned ≤ (shard_state l).learned) whole (learned_more me (before ++ r ∷ []) rs (subst (IsShardImage me) (sym whole) image)) in
-    omega (arith, first, rest)
+unfolding shard_step
+learned_more me before rs image =
+    let low = (shard_state before).learned in
+    image_keeps me (λ (s : ShardState). low ≤ s.learned) (λ s r le may. let on = learned_on me s r may in omega (arith, le, on)) (λ i s r le may. let on = learned_inside me i s r may in omega (arith, le, on)) (λ s mark le. le)
+    before rs image.each (omega arith)
 
 module _ (store shards : ℕ) (left after : NodeName → List Record → Type 0) (now : Moment) (next : Nodes) (s : ℕ) (stands : Stands store shards left now) (flush : FlushesShard s left after now.nodes next)
     (image : IsShardImage (shard_node store shards s) (flush.durable ++ flush.staged)) where

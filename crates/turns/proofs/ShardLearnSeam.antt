@@ -6,6 +6,10 @@ use Rattle.std.proofs.lemmas.List.{append-nil, drop-drop, drop-take}
 use Rattle.turns.proofs.Words.{AreOfLog, Asked, BatchValue, CallsShard, Decision, Dropped, Entry, Epoch, Full, HasItsCause, HasNoRoom, Holds, Horizon, Identity, IfHeld, IsFull, IsQuietCall, IsRecord, IsRight, IsRightBatch, IsRightResolve, IsRightVerdict, IsRightWrite, IsShardImage, IsToLearn, IsUp, Learned, LetsLearn, Machine, MayCome, Moment, NoMemory, NodeName, Prepare, Record, Refusal, Running, ShardIsSeen, ShardState, ShardView, Stages, Stands, State, Unsure, WriteId, behind_shard, checking, collecting, find_in_doubt, flushing, id_of, learns, memory, placed_ids_from, raising, reading, resolving, shard, shard_node, shard_push, to_check, to_collect, to_flush, to_learn, to_raise, to_read, to_resolve, to_watch, to_write, watching, with_call, with_nodes, writing}
 use Rattle.refusal.specs.declared.refusal.Refusal.TheVariants.{Damaged}
 use Rattle.records.specs.Replays.{greatest_number, shard_state, shard_step}
+use Rattle.records.specs.declared.record.Record.TheVariants.{Checkpoint}
+use Rattle.records.specs.Replays.{MayComeInside}
+use Rattle.records.specs.declared.mark.Inside.{Inside}
+use Rattle.replay.proofs.States.{image_keeps}
 use Rattle.gated.specs.Gated.{max_body}
 use Rattle.journal.specs.Records.{batch_size, max_records}
 use Rattle.shard.specs.Calls.{CollectsAt, DropsAt, LearnRefused, LearnsAt}
@@ -40,7 +44,7 @@ full_of shards n now r (to_write changes conditions) full = inl full
 full_of shards n now r (to_read fresh sets) full = full
 full_of shards n now r (to_check fresh x u) full = inl full
 full_of shards n now r (to_watch c limit names) full = full
-full_of shards n now r (to_flush k) full = full
+full_of shards n now r (to_flush k) full = inl full
 full_of shards n now r (to_learn s) full = full
 full_of shards n now r (to_resolve s) full = full
 full_of shards n now r (to_raise x) full = full
@@ -246,18 +250,22 @@ step_learned me m (Dropped id) le may = le
 step_learned me m (Epoch e a b c) le may = le
 step_learned me m (Decision place w) le may = le
 step_learned me m (Horizon place) le may = le
+step_learned me m (Checkpoint mark) le may = le
 
-learned_from : (me : Identity) (before rs : List Record) → IsShardImage me (before ++ rs) → (shard_state before).learned ≤ greatest_number → (shard_state (before ++ rs)).learned ≤ greatest_number
-learned_from me before [] image le = subst (λ (l : List Record). (shard_state l).learned ≤ greatest_number) (sym (append-nil before)) le
-learned_from me before (r ∷ rs) image le =
-    let all : (before ++ r ∷ []) ++ rs ≡ before ++ r ∷ rs = append_assoc before (r ∷ []) rs in
-    let next : (shard_state (before ++ r ∷ [])).learned ≤ greatest_number =
-    subst (λ (m : ShardState). m.learned ≤ greatest_number) (sym (shard_push before r)) (step_learned me (shard_state before) r le (image before rs r refl)) in
-    subst (λ (l : List Record). (shard_state l).learned ≤ greatest_number) all (learned_from me (before ++ r ∷ []) rs (subst (IsShardImage me) (sym all) image) next)
+inside_learned : (me : Identity) (i : Inside) (m : ShardState) (r : Record) → m.learned ≤ greatest_number → MayComeInside me i m r → (shard_step m r).learned ≤ greatest_number
+unfolding shard_step
+inside_learned me i m (Prepare w) le may = le
+inside_learned me i m (Learned to ids) le may = may.may.place
+inside_learned me i m (Dropped id) le may = le
+inside_learned me i m (Epoch e a b c) le may = le
+inside_learned me i m (Decision place w) le may = le
+inside_learned me i m (Horizon place) le may = le
+inside_learned me i m (Checkpoint mark) le may = le
 
 least_learned : (me : Identity) (rs : List Record) → IsShardImage me rs → (shard_state rs).learned ≤ greatest_number
-unfolding shard_state
-least_learned me rs image = learned_from me [] rs image (omega arith)
+unfolding shard_state shard_step
+least_learned me rs image =
+    image_keeps me (λ (s : ShardState). s.learned ≤ greatest_number) (λ s r le may. step_learned me s r le may) (λ i s r le may. inside_learned me i s r le may) (λ s mark le. le) [] rs image.each (omega arith)
 
 pub refused_collects_have_cause : (store shards : ℕ) (left : NodeName → List Record → Type 0) {D : Type 0} (state : D → State) (honest : D → Type 0) → RefusedCollectsHaveCause store shards left state honest
 refused_collects_have_cause store shards left state honest now behind old s heads r st seen asked is_up low no_room = inl (full_of shards (shard s) now r r.asked (record {

@@ -5,6 +5,7 @@ use Rattle.std.proofs.lemmas.Bool.{cases_Bool, eq-eqb, eqb-true}
 use Rattle.std.proofs.lemmas.List.Elements.{Contains-append_right}
 use Rattle.turns.proofs.Words.{Decision, Dropped, Entry, Epoch, Horizon, Identity, IsQuietCall, IsShardImage, IsStaging, Learned, Moment, NodeName, NodeState, Nodes, Prepare, Record, ShardIsSeen, ShardKnows, ShardState, ShardView, Stages, StagesAt, Stands, behind_shard, coordinator, empty_shard, leaves, memory, own_part, part, shard, shard_from, shard_from-append, shard_node, shard_push, staged_of, up, with_nodes}
 use Rattle.records.specs.Replays.{shard_state, shard_step}
+use Rattle.records.specs.declared.record.Record.TheVariants.{Checkpoint}
 use Rattle.turns.specs.ShardSeamLaws.{at_shard}
 use Rattle.turns.proofs.FlowBegins.{alone}
 use Rattle.turns.proofs.QuietTurns.{nothing_changes, one_more_staged}
@@ -19,6 +20,7 @@ epoch_from s (Learned to ids ∷ rs) none = epoch_from (shard_step s (Learned to
 epoch_from s (Dropped id ∷ rs) none = epoch_from (shard_step s (Dropped id)) rs (λ e a b c has. none e a b c (Contains-append_right (Dropped id ∷ []) rs (Epoch e a b c) has))
 epoch_from s (Epoch x y z u ∷ rs) none = absurd (none x y z u (alone (Epoch x y z u) rs))
 epoch_from s (Decision place w ∷ rs) none = epoch_from (shard_step s (Decision place w)) rs (λ e a b c has. none e a b c (Contains-append_right (Decision place w ∷ []) rs (Epoch e a b c) has))
+epoch_from s (Checkpoint mark ∷ rs) none = epoch_from (shard_step s (Checkpoint mark)) rs (λ e a b c has. none e a b c (Contains-append_right (Checkpoint mark ∷ []) rs (Epoch e a b c) has))
 epoch_from s (Horizon place ∷ rs) none = epoch_from (shard_step s (Horizon place)) rs (λ e a b c has. none e a b c (Contains-append_right (Horizon place ∷ []) rs (Epoch e a b c) has))
 
 pub same_epoch : (durable staged : List Record) → ((e a b c : ℕ) → Contains staged (Epoch e a b c) → ⊥) → (shard_state (durable ++ staged)).epoch ≡ (shard_state durable).epoch

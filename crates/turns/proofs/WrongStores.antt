@@ -42,7 +42,7 @@ abbrev untouched : State
 untouched = record { seen = []; durable = []; written = []; stopped = false; failures = 0 }
 
 down_for_nothing : HasDeviceCause (λ (s : State). s) (λ s. Unit {0}) (λ s. 0) (λ s t x. x ≡ []) 1 1 (λ n. (untouched, untouched)) (λ n. (untouched, untouched)) coordinator → ⊥
-down_for_nothing cause = ⊎_elim not_failed (λ rest. ⊎_elim not_failed (λ full. ⊎_elim (λ is. omega (arith, is)) (λ is. omega (arith, is)) full) rest) cause
+down_for_nothing cause = ⊎_elim not_failed (λ rest. ⊎_elim not_failed (λ full. ⊎_elim (λ is. omega (arith, is)) (λ more. ⊎_elim (λ is. omega (arith, is)) (λ behind. ⊎_elim (λ is. omega (arith, is)) (λ is. omega (arith, is)) behind) more) full) rest) cause
   where
     not_failed : (untouched.failures < untouched.failures) ⊎ (untouched.failures ≡ 2 ^ 64 - 1) → ⊥
     not_failed failed = ⊎_elim (λ is. omega (arith, is)) (λ is. omega (arith, is)) failed

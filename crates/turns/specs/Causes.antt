@@ -19,6 +19,7 @@ use Rattle.tuples.specs.Parts.{part, shard_of}
 use Rattle.records.specs.declared.record.PlacedId.{PlacedId}
 use Rattle.records.specs.declared.record.Record.{Record}
 use Rattle.records.specs.declared.record.Record.TheVariants.{Decision, Horizon, Learned, Prepare}
+use Rattle.records.specs.Checkpoints.{generation_of}
 use Rattle.records.specs.Coordinators.{CoordinatorState}
 use Rattle.records.specs.Format.{IsRecord}
 use Rattle.records.specs.Replays.{ShardState, is_held, named, greatest_number, shard_state}
@@ -157,9 +158,8 @@ Calls shards asked holds (shard s) = (s < shards) × CallsShard shards asked hol
 abbrev pub IsDown : Nodes → NodeName → Type 0
 IsDown nodes n = (nodes.at n ≡ down) ⊎ (nodes.at n ≡ refused Down)
 
--- a flow takes memory: each but a flush and a collection
+-- a flow takes memory, a flush where it is a checkpoint: each but a collection
 abbrev pub TakesMemory : Asked → Type 0
-TakesMemory (to_flush n) = ⊥
 TakesMemory (to_collect s) = ⊥
 TakesMemory asked = Unit {0}
 
@@ -207,11 +207,20 @@ pub record HasFullBatch (shards : ℕ) (n : NodeName) (now : Moment) (r : Runnin
 abbrev pub HasNoNumber : Moment → Type 0
 HasNoNumber now = (max_open ≤ length now.nodes.open_writes) ⊎ ((greatest_number ≤ now.nodes.given) ⊎ (greatest_number ≤ length now.machine.log))
 
+-- the node that the turn calls is up, and its records begin with the last checkpoint that there may be
+pub record HasLastGeneration (shards : ℕ) (n : NodeName) (now : Moment) (r : Running) : Type 0 where
+  pub durable : List Record
+  pub staged : List Record
+  pub calls : Calls shards r.asked r.holds n
+  pub is_up : now.nodes.at n ≡ up durable staged
+  pub last : greatest_number ≤ generation_of durable
+
 -- Full: a limit is met: of the node that is called, or of the usersets that a check walks at its place
 abbrev pub IsFull : ℕ → NodeName → Moment → Running → Asked → Type 0
 IsFull shards n now r (to_write changes conditions) = HasFullBatch shards n now r ⊎ ((n ≡ coordinator) × HasNoNumber now)
 IsFull shards n now r (to_check fresh x u) = HasFullBatch shards n now r
     ⊎ ((s : ℕ) × (place_of r.holds ≡ Some s) × IsPlaceOf fresh r now.machine s × ReachesMoreThan max_walked (is_at now.machine.log s) x)
+IsFull shards n now r (to_flush m) = HasFullBatch shards n now r ⊎ HasLastGeneration shards n now r
 IsFull shards n now r asked = HasFullBatch shards n now r
 
 -- The cause of a refusal by this node, which the turn calls, and which is open, seen before the call and, of what fails in it, behind it. Requests were

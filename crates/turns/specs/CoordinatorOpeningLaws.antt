@@ -8,7 +8,7 @@ use Rattle.records.specs.declared.record.Record.{Record}
 use Rattle.records.specs.Coordinators.{IsCoordinatorImage, coordinator_state}
 use Rattle.records.specs.Replays.{greatest_number}
 use Rattle.device.specs.Device.{HasFailed, State, left}
-use Rattle.journal.specs.Records.{LeavesBoth, found}
+use Rattle.journal.specs.Records.{LeavesBoth, LeavesEach, found}
 use Rattle.decisions.specs.Coordinators.{CoordinatorView, IsOpenedCoordinator, IsRunning, KeepsOpen, WasLeftOrReopened}
 use Rattle.laws.specs.Nodes.{IsOfRefusedOpening, NodeName, Nodes, StandFor, coordinator, down, epoch_of, refused}
 use Rattle.laws.specs.Worlds.{Rests, coordinator_node}
@@ -63,7 +63,8 @@ module _ {D : Type 0} (state : D → State) (honest : D → Type 0) (moment : D 
   -- and so is one that fails, and takes the coordinator down
   abbrev pub FailsOverDevices : Type 0
   FailsOverDevices = (old new : NodeName → D × D) (now : Moment) (was v : CoordinatorView D) → IsSeen now.nodes was
-      → AreLeft old was.a was.b v.a v.b new (HasOldOrSame coordinator was.durable was.staged)
+      → IsOverDevices old v.a v.b new → honest v.a → honest v.b
+      → LeavesEach moment left_since was.a was.b v.a v.b (HasOldOrSame coordinator was.durable was.staged)
       → FailsFlush (stops state honest store shards old) (stops state honest store shards new) now.nodes (record now.nodes { at = at_coordinator down now.nodes.at })
 
   -- an opening that answers Ok is a step of a run: the coordinator comes up, and the machine is cut to what was found

@@ -38,10 +38,11 @@ module _ {D : Type 0} (state : D → State) (honest : D → Type 0) (moment : D 
         → (rs : List Record) × (found a b ≡ Some rs)
     pub given : (id : WriteId) → IsGivenOut (stops state honest store shards old coordinator) id → IsGivenOut (stops_since old new coordinator) id
 
-  -- a device of the node failed since, or has no room for a batch more
+  -- a device of the node failed since, or has no room for a batch more, before or behind
   abbrev pub HasDeviceCause : (NodeName → D × D) → (NodeName → D × D) → NodeName → Type 0
   HasDeviceCause old new n = HasFailed (state (old n).0) (state (new n).0) ⊎ (HasFailed (state (old n).1) (state (new n).1)
-      ⊎ (IsNearlyFull (state (old n).0) ⊎ IsNearlyFull (state (old n).1)))
+      ⊎ (IsNearlyFull (state (old n).0) ⊎ (IsNearlyFull (state (old n).1)
+      ⊎ (IsNearlyFull (state (new n).0) ⊎ IsNearlyFull (state (new n).1)))))
 
   -- a node came up: with records that a stop could leave of it, and the record of one opening more behind them
   pub record ComesUp (old : NodeName → D × D) (n : NodeName) (now : NodeState) : Type 0 where

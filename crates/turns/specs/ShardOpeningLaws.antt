@@ -5,7 +5,7 @@ use Rattle.refusal.specs.declared.refusal.Refusal.{Refusal}
 use Rattle.records.specs.declared.record.Record.{Record}
 use Rattle.records.specs.Replays.{IsShardImage, greatest_number, shard_state}
 use Rattle.device.specs.Device.{HasFailed, Revived, State, left}
-use Rattle.journal.specs.Records.{LeavesBoth, found}
+use Rattle.journal.specs.Records.{LeavesBoth, LeavesEach, found}
 use Rattle.shard.specs.Shards.{IsOpenedShard, IsUp, ShardView, WasLeftOrOpened}
 use Rattle.laws.specs.Nodes.{IsOfRefusedOpening, NodeName, NodeState, Nodes, StandFor, coordinator, down, epoch_of, refused, shard}
 use Rattle.laws.specs.Worlds.{Rests, shard_node}
@@ -63,10 +63,10 @@ module _ {D : Type 0} (state : D → State) (honest : D → Type 0) (moment : D 
   abbrev pub FailedShardFlushesAreQuiet : Type 0
   FailedShardFlushesAreQuiet = (old new : NodeName → D × D) (now : Moment) (s : ℕ) (was v : ShardView D) → Stands store shards (stops state honest store shards old) now
       → ShardIsSeen store shards s now.nodes was → IsUp state honest was → honest v.a → honest v.b
-      → LeavesBoth moment left_since was.a was.b v.a v.b (HasOldOrSame (shard s) was.durable was.staged) → IsOver old s v.a v.b new
+      → LeavesEach moment left_since was.a was.b v.a v.b (HasOldOrSame (shard s) was.durable was.staged) → IsOver old s v.a v.b new
       → IsQuietCall store shards (stops state honest store shards old) (stops state honest store shards new) now (put_at s down now.nodes) now.machine
 
-  -- An opening that is refused is a step of a run: at every moment of it a stop leaves what it could leave before, or what was found with the opening's
+  -- An opening that is refused is a step of a run: at every moment of it a stop leaves the records of what it could leave before, or what was found with the opening's
   -- record.
   abbrev pub RefusedOpeningsStep : Type 0
   RefusedOpeningsStep = (old new : NodeName → D × D) (now : Moment) (s : ℕ) (a b a' b' : D) (e : Refusal) → Stands store shards (stops state honest store shards old) now

@@ -11,3 +11,4 @@ pub mod Newest
 pub mod Index
 pub mod Counted
 pub mod OfUser
+pub mod Walked

@@ -12,7 +12,7 @@ use tuples::{Change, Tuple, Version};
 
 /// A version of a tuple: the place of the change, and whether it touches the tuple or deletes it.
 #[derive(Clone, Copy, Drop)]
-pub(crate) struct Row {
+pub struct Row {
     pub place: u64,
     pub is_touch: bool,
 }

@@ -21,7 +21,10 @@ mod steps;
 mod table;
 mod uncounted;
 mod versions;
+mod walk;
 
 pub use decided::PlacedChanges;
+pub use history::Row;
 pub use steps::Steps;
 pub use versions::{Versions, newest_is_last, read_alike};
+pub use walk::Walk;

@@ -7,13 +7,14 @@ ghost use Rattle.versions.specs.Alike.{AlikeReadsAlike, AreAlike};
 ghost use Rattle.versions.specs.Index.{count_met};
 ghost use Rattle.versions.specs.Last.{NewestIsLast};
 ghost use Rattle.versions.specs.Placed.{all_placed};
-ghost use Rattle.versions.specs.Rows.{AreRows};
+ghost use Rattle.versions.specs.Rows.{AreRows, listed};
+ghost use Rattle.versions.specs.Walks.{IsInOrder};
 
 use crate::by_user::ByUser;
 use crate::history::{Row, last_place};
 use crate::kept::kept_at;
 use crate::listing::list;
-use crate::{PlacedChanges, Steps, applying, table, uncounted};
+use crate::{PlacedChanges, Steps, Walk, applying, table, uncounted};
 use std::alloc::{AllocError, Global};
 use std::collections::{BTreeMap, BTreeSet};
 use std::marker::{Brand, Model};
@@ -125,6 +126,14 @@ impl Versions {
         ensures { IfOk result (λ tuples. IsCheckSelection (there_at self.now place) userset.now user.now tuples.items) }
     {
         uncounted::asked::<Brand>(&self.rows, alloc, place, userset, user, Blank::new(1))
+    }
+
+    /// All versions, by tuple, each tuple's in the order in which they were applied. Nothing is copied.
+    pub fn walk(&self) -> Walk<'_>
+        ensures all { result ≡ self.now }
+        ensures in_order { IsInOrder self.now }
+    {
+        Walk::new(self.rows.iter())
     }
 
     /// Copies of all versions, by tuple and then by place.

@@ -27,6 +27,7 @@ module _ {D : Type 0} (state : D → State) (honest : D → Type 0) (moment : D 
   all_turn (Coordinator (coordinator_calls.Abort intent)) old new slot is_cancelled v later makes = aborts_turn state honest moment left_since counts_now only_now store shards intent old new slot is_cancelled v later makes
   all_turn (Coordinator (coordinator_calls.Inquire id)) old new slot is_cancelled v later makes = inquiries_turn state honest moment left_since counts_now only_now store shards id old new slot is_cancelled v later makes
   all_turn (Coordinator (coordinator_calls.Raise place settled)) old new slot is_cancelled v later makes = absurd makes.asks.1
+  all_turn (Coordinator coordinator_calls.Checkpoint) old new slot is_cancelled v later makes = absurd makes.asks.1
   all_turn (Coordinator coordinator_calls.Flush) old new slot is_cancelled v later makes = coordinator_flush_turns state honest moment left_since counts_now only_now store shards old new slot is_cancelled v later makes
   all_turn (Shard s shard_calls.Learned) old new slot is_cancelled v later makes = learned_turns state honest moment left_since counts_now only_now store shards s old new slot is_cancelled v later makes
   all_turn (Shard s (shard_calls.Learn batch)) old new slot is_cancelled v later makes = learn_turns state honest moment left_since counts_now only_now store shards s batch old new slot is_cancelled v later makes
@@ -38,4 +39,5 @@ module _ {D : Type 0} (state : D → State) (honest : D → Type 0) (moment : D 
   all_turn (Shard s (shard_calls.ReadForCheck place x u)) old new slot is_cancelled v later makes = absurd makes.asks.1
   all_turn (Shard s shard_calls.Settle) old new slot is_cancelled v later makes = absurd makes.asks.1
   all_turn (Shard s (shard_calls.Collect heads)) old new slot is_cancelled v later makes = absurd makes.asks.1
+  all_turn (Shard s shard_calls.Checkpoint) old new slot is_cancelled v later makes = absurd makes.asks.1
   all_turn (Shard s shard_calls.Flush) old new slot is_cancelled v later makes = shard_flush_turns state honest moment left_since counts_now only_now store shards s old new slot is_cancelled v later makes

@@ -68,3 +68,28 @@ returns-in-ReadForCheck g c = let e = c.read_for_check-answer.ensures in rw c.in
     err = e.err;
   },
 )
+
+pub returns-in-DropWrite : goal.returns-in-DropWrite
+returns-in-DropWrite g c = let e = c.drop_write-answer.ensures in rw c.in-DropWrite.is (
+  refl,
+  record {
+    drops = λ up. record { dropped = e.dropped up; not_here = e.not_here up; full = e.full up };
+    down = e.down;
+    stays = e.kept;
+    err = e.err;
+  },
+)
+
+pub returns-in-Checkpoint : goal.returns-in-Checkpoint
+returns-in-Checkpoint g c = rw c.in-Checkpoint.is (record {
+  still_honest = c.checkpoint.ensures.honest;
+  any_moment = c.checkpoint.ensures.any_moment;
+  ok = c.checkpoint.ensures.ok;
+  me = c.checkpoint.ensures.me;
+  counts = c.checkpoint.ensures.counts;
+  down = c.checkpoint.ensures.down;
+  last = c.checkpoint.ensures.last;
+  full = c.checkpoint.ensures.full;
+  cause = c.checkpoint.ensures.cause;
+  err = c.checkpoint.ensures.err;
+})

@@ -1,10 +1,10 @@
 -- The script is set at the node that stands where the name says.
-use Rattle.std.proofs.Common.{ℕ, ap, set, subst, sym}
+use Rattle.std.proofs.Common.{ℕ, ap, refl, set, subst, sym}
 use Rattle.calls.specs.Failing.{NodeIsSet}
 use Rattle.calls.specs.Views.{NodeView}
 use Rattle.cluster.specs.Worlds.{node_at}
-use Rattle.cluster.proofs.Answering.{there}
-use Rattle.cluster.proofs.Slots.{at_some}
+use Rattle.cluster.proofs.Answering.{away, there}
+use Rattle.cluster.proofs.Slots.{at_none, at_some}
 use Rattle.cluster.proofs.world.set_script.Goals as goal
 
 pub returns : goal.returns
@@ -17,3 +17,6 @@ returns g c =
       is_set = set_one;
       new_is = ap (λ (i : ℕ). set old i c.fail.new.self) c.index_of-index.ensures;
     })
+
+pub returns-then-index-nodes : goal.returns-then-index-nodes
+returns-then-index-nodes g c = at_none (node_at c.args.nodes.now c.args.name) _ _ (away c.args.nodes.now c.args.name c.index_of-index.result c.index_of-index.ensures c.if-index-nodes.true) refl

@@ -1,8 +1,8 @@
 use Rattle.shard.proofs.Openings.{SoFar}
 use Rattle.shard.proofs.opening.replayed.Given as goal
 
-abbrev pub invariant-loop-memory : goal.invariant-loop-memory
-invariant-loop-memory l = SoFar l.me l.fn.unread.records l.unread l.memory
+abbrev pub invariant-loop-replay : goal.invariant-loop-replay
+invariant-loop-replay l = SoFar l.me l.fn.unread.records l.unread l.replay
 
-abbrev pub decreases-loop-memory : goal.decreases-loop-memory
-decreases-loop-memory l = l.unread.steps
+abbrev pub decreases-loop-replay : goal.decreases-loop-replay
+decreases-loop-replay l = l.unread.steps

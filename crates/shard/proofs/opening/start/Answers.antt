@@ -1,7 +1,7 @@
 use Rattle.std.proofs.Common.{inl, inr, ⊎_elim, ◌≡◌, ◌+◌, ℕ, [], ◌∷◌, ap, subst}
 use Rattle.records.specs.declared.record.Record.TheVariants.{Epoch}
 use Rattle.records.specs.Replays.{Identity}
-use Rattle.journal.specs.Records.{LacksRoom}
+use Rattle.journal.specs.Records.{BankLacksRoom}
 use Rattle.shard.proofs.Openings.{leaves_weaker, start_durable, start_found, start_kept, start_up}
 use Rattle.shard.proofs.opening.start.Goals as goal
 
@@ -45,5 +45,5 @@ returns-in-Err-clause-down g c =
     let b = c.refused.ensures.devices.1 in
     ⊎_elim
     (λ in_a. inl (rw a in_a))
-    (λ rest. inr (⊎_elim (λ in_b. inl (rw b in_b)) (λ lacks. inr (subst (λ (n : ℕ). LacksRoom g.D.Device.state g.D.Device.honest j.a j.end (Epoch (n + 1) me.store me.shards me.node ∷ [])) c.epoch-epoch.ensures lacks)) rest))
+    (λ rest. inr (⊎_elim (λ in_b. inl (rw b in_b)) (λ lacks. inr (subst (λ (n : ℕ). BankLacksRoom g.D.Device.state g.D.Device.honest j.a j.b j.end (Epoch (n + 1) me.store me.shards me.node ∷ [])) c.epoch-epoch.ensures lacks)) rest))
     c.in-Err.ensures.cause

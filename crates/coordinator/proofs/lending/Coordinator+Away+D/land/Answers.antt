@@ -1,5 +1,5 @@
 use Rattle.std.proofs.Common.{◌∙◌, sym}
-use Rattle.coordinator.proofs.Landed.{goes_from, goes_to, has_room, kept_as_it_was, kept_up}
+use Rattle.coordinator.proofs.Landed.{goes_from, goes_to, has_room, kept_as_it_was, kept_up, running_again}
 use Rattle.coordinator.proofs.lending.Coordinator+Away+D.land.Goals as goal
 use Rattle.coordinator.proofs.lending.Coordinator+Away+D.land.Goals.{then-not-is_down, else-not-is_down}
 
@@ -33,3 +33,9 @@ invariant_of-back g c =
       | else-not-is_down w ↦ kept_as_it_was g.D.Device.state g.D.Device.honest s.journal c.args.flown c.land-journal.result.0 s.me s.ledger s.epoch s.kept s.horizon s.rising s.open_numbers.items s.given c.args.flying c.args.self
           c.self.invariant c.self.view_is c.land-journal.ensures c.requires.told n.ledger n.kept n.horizon n.rising (sym c.is_down.ensures ∙ w.if-not-is_down.false) w.ledger-is w.kept-is w.horizon-is w.rising-is
     ]
+
+pub returns-clause-running : goal.returns-clause-running
+returns-clause-running g c =
+    let s = c.self.inside in
+    running_again g.D.Device.state g.D.Device.honest s.journal c.args.flown c.land-journal.result.0 s.me s.ledger s.epoch s.kept s.horizon s.rising s.open_numbers.items s.given c.args.flying c.args.self c.self.invariant c.self.view_is
+    c.land-journal.ensures c.requires.told c.requires.flown

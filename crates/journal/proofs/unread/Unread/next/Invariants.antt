@@ -1,5 +1,6 @@
 use Rattle.std.proofs.Common.{◌≡◌, ◌≤◌, length, map}
 use Rattle.std.specs.Vec.Iter.{into_iter_items}
+use Rattle.records.specs.Format.{AreRecords}
 use Rattle.journal.specs.Unread.{Left, left_of}
 use Rattle.journal.proofs.unread.Unread.next.Given as goal
 
@@ -9,6 +10,7 @@ invariant-loop-record l =
     record {
       records : left.records ≡ l.fn.self.records;
       steps : left.steps ≤ l.fn.self.steps;
+      spelled : AreRecords (into_iter_items l.self-inside.batch);
     }
 
 abbrev pub decreases-loop-record : goal.decreases-loop-record

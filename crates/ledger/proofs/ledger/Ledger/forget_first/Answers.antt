@@ -1,10 +1,11 @@
 use Rattle.std.proofs.Common.{◌≡◌, ℕ, ◌∷◌, Bool, List, Option, Some, None, sym, ◌∙◌, ap, subst, if◌then◌else◌, deque_len, deque_capacity, length, refl, arith}
 use Rattle.std.specs.BTreeMap.{get}
+use Rattle.std.proofs.lemmas.List.Elements.{All-rest}
 use Rattle.tuples.specs.declared.entry.Entry.{Entry}
 use Rattle.tuples.specs.declared.entry.WriteId.{WriteId}
 use Rattle.tuples.specs.Log.{same_id}
 use Rattle.holds.proofs.Ids.{id_ties}
-use Rattle.ledger.specs.Ledgers.{AreApart, HasRoomFor, id_cmp, known_ids, place_of}
+use Rattle.ledger.specs.Ledgers.{AreApart, HasRoomFor, IsDecided, id_cmp, known_ids, place_of}
 use Rattle.ledger.proofs.Indexed.{place_dropped}
 use Rattle.ledger.proofs.ledger.Ledger.forget_first.Goals as goal
 
@@ -28,6 +29,7 @@ invariant_of-self c =
         fits = let was = c.self.invariant.0.fits in let len : length (known_ids s.decisions.items s.awaited) ≡ length (w.id ∷ rest) = ap length known in omega (arith, was, len);
       },
       room s.awaited c.self.invariant.1,
+      All-rest IsDecided w c.pop_front.new.self.items s.decisions.items c.in-Some.ensures.items c.self.invariant.2,
     )
   where
     room : (o : Option WriteId) → HasRoomFor o (deque_len c.self.inside.decisions) (deque_capacity c.self.inside.decisions) → HasRoomFor o (deque_len c.pop_front.new.self) (deque_capacity c.pop_front.new.self)

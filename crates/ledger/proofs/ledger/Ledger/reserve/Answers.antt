@@ -1,10 +1,11 @@
 use Rattle.std.proofs.Common.{◌≡◌, ℕ, ◌+◌, ◌++◌, ◌∷◌, [], Bool, List, Option, Some, None, sym, ◌∙◌, ap, subst, if◌then◌else◌, map, length, length-append, arith}
 use Rattle.std.proofs.lemmas.List.{length-map}
 use Rattle.std.specs.BTreeMap.{get}
+use Rattle.std.proofs.lemmas.List.Elements.{All-same}
 use Rattle.tuples.specs.declared.entry.Entry.{Entry}
 use Rattle.tuples.specs.Log.{same_id}
 use Rattle.holds.proofs.Ids.{id_ties}
-use Rattle.ledger.specs.Ledgers.{AreApart, IsOther, LedgerValue, id_cmp, id_of, known_ids, place_of}
+use Rattle.ledger.specs.Ledgers.{AreApart, IsDecided, IsOther, LedgerValue, id_cmp, id_of, known_ids, place_of}
 use Rattle.ledger.proofs.Indexed.{apart_pushed, other_none, place_pushed}
 use Rattle.ledger.proofs.ledger.Ledger.reserve.Goals as goal
 
@@ -35,4 +36,5 @@ invariant_of-self-2 c =
             omega (arith, few, same, len);
       },
       let room = c.in_ok-reserve.ensures.ok in let len = c.in_ok-reserve.ensures.len in omega (arith, room, len),
+      All-same IsDecided c.reserve.new.self.items s.decisions.items items c.self.invariant.2,
     )

@@ -16,8 +16,8 @@ invariant_of-self-2 g c =
       within = omega (arith, c.if-place-learned.false, c.learned.ensures);
     } in
     let opened : 1 ≤ c.collect.new.self.epoch = subst (λ (n : ℕ). 1 ≤ n) (sym c.collect.ensures.epoch) (horizon_epoch s.memory place c.self.invariant.opened) in
-    kept_push g.D.Device.state g.D.Device.honest s.journal c.stage.new.self me s.memory c.collect.new.self s.unflushed s.unflushed s.settled (horizon_record place)
-    c.self.invariant may c.in_ok-stage.ensures.ok c.collect.ensures opened (no_more s.unflushed)
+    kept_push g.D.Device.state g.D.Device.honest s.journal c.stage_horizon.new.journal me s.memory c.collect.new.self s.unflushed s.unflushed s.settled (horizon_record place)
+    c.self.invariant may c.in_ok-stage_horizon.ensures.ok c.collect.ensures opened (no_more s.unflushed)
 
 pub returns-clause-ok : goal.returns-clause-ok
 returns-clause-ok g c = λ up above within.
@@ -25,11 +25,11 @@ returns-clause-ok g c = λ up above within.
     let me : Identity = s.me in
     let place = c.horizon-place.result in
     let v = c.args.self.now in
-    let k = view_of c.stage.new.self me in
+    let k = view_of c.stage_horizon.new.journal me in
     let may : MayCollect s.memory place = record {
       opened = c.self.invariant.opened;
       on = omega (arith, c.if-place-horizon.false, c.horizon.ensures);
       within = omega (arith, c.if-place-learned.false, c.learned.ensures);
     } in
-    let both = staged_up g.D.Device.state g.D.Device.honest s.journal c.stage.new.self me s.memory s.unflushed s.settled (horizon_record place) c.self.invariant may c.in_ok-stage.ensures.ok v c.self.view_is up in
+    let both = staged_up g.D.Device.state g.D.Device.honest s.journal c.stage_horizon.new.journal me s.memory s.unflushed s.settled (horizon_record place) c.self.invariant may c.in_ok-stage_horizon.ensures.ok v c.self.view_is up in
     (subst (λ n. Stages v (horizon_record n) k) c.horizon-place.ensures both.0, both.1)

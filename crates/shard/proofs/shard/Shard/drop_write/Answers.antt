@@ -9,8 +9,8 @@ use Rattle.shard.proofs.Kept.{dropped_epoch, kept_push, no_more, staged_up, view
 use Rattle.shard.proofs.Waiting.{found_one}
 use Rattle.shard.proofs.shard.Shard.drop_write.Goals as goal
 
-pub stage-requires : goal.stage-requires
-stage-requires g c =
+pub stage-requires-clause-spellable : goal.stage-requires-clause-spellable
+stage-requires-clause-spellable g c =
     let s = c.self.inside in
     let me : Identity = s.me in
     let id = c.id-id.result in

@@ -1,0 +1,19 @@
+-- What a coordinator tells in a checkpoint.
+use Rattle.std.specs.Prelude.{◌≡◌, ◌≤◌, ◌<◌, ◌+◌, ◌-◌, ℕ, List, [], ◌∷◌, ◌++◌, drop, length, None}
+use Rattle.records.specs.Checkpoints.{decisions_from}
+use Rattle.records.specs.Identity.{Identity}
+use Rattle.records.specs.declared.record.Record.{Record}
+use Rattle.records.specs.declared.record.Record.TheVariants.{Epoch, Horizon}
+use Rattle.ledger.specs.Ledgers.{LedgerValue}
+
+-- the decisions of a ledger from a place on
+abbrev pub told_from : ℕ → LedgerValue → List Record
+told_from place l = decisions_from place (drop (place - l.base - 1) l.log)
+
+-- before the decisions: the openings so far and the horizon
+abbrev pub heads_of : Identity → ℕ → ℕ → List Record
+heads_of me epoch horizon = Epoch epoch me.store me.shards me.node ∷ Horizon horizon ∷ []
+
+-- the records between the begin and the end of a checkpoint
+abbrev pub told_by : Identity → ℕ → ℕ → LedgerValue → List Record
+told_by me epoch horizon l = heads_of me epoch horizon ++ told_from (horizon + 1) l

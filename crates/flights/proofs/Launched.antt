@@ -1,0 +1,99 @@
+-- What leaves, and what stays behind it.
+use Rattle.std.proofs.Common.{◌≡◌, ◌++◌, ◌+◌, ℕ, zero, suc, true, false, List, [], ◌∷◌, length, Option, Some, None, slice_get, refl, sym, ◌∙◌, ap, subst, arith}
+use Rattle.std.proofs.lemmas.List.{append-nil}
+use mathlib.Core.List.{IsPrefix}
+use Rattle.away.specs.Aways.{lent_honest, lent_state}
+use Rattle.away.specs.declared.away.Away.{Away}
+use Rattle.records.specs.declared.record.Record.{Record}
+use Rattle.records.specs.Replays.{shard_state}
+use Rattle.device.specs.Device.{State}
+use Rattle.journal.specs.Records.{View}
+use Rattle.published.specs.Known.{Known}
+use Rattle.tuples.specs.declared.entry.Entry.{Entry}
+use Rattle.shard.specs.Shards.{ShardView, journal_of, memory}
+use Rattle.shard.specs.declared.lending.Flying.{Flying as OfShard}
+use Rattle.calls.specs.Lending.{ShardLends}
+use Rattle.calls.specs.Views.{NodeView, coordinator, refused, shard}
+use Rattle.calls.specs.declared.lending.Flying.{Flying}
+use Rattle.calls.specs.declared.lending.Flying.TheVariants.{Coordinator, Shard}
+use Rattle.ties.specs.ShardTies.{AreRowsOf}
+use Rattle.sides.specs.Lending.{IsSoundIn, IsSoundShard, IsUpIn, LendsIn}
+use Rattle.sides.specs.Sides.{IsTiedIn}
+use Rattle.flights.specs.Flights.{AreRowsAround, IsReady, IsReadyShard, IsToldAll, StaysIn, launch_of}
+use Rattle.flights.specs.declared.launch.Launch.{Launch}
+
+-- what is added to a list stands at its end
+pub at_the_end : {X : Type 0} (xs : List X) (x : X) (n : ℕ) → n ≡ length xs → slice_get (xs ++ x ∷ []) n ≡ Some x
+at_the_end [] x zero is = refl
+at_the_end [] x (suc n) is = absurd (omega (arith, is))
+at_the_end (y ∷ ys) x zero is = absurd (omega (arith, is))
+at_the_end (y ∷ ys) x (suc n) is = at_the_end ys x n (omega (arith, is))
+
+module _ {D : Type 0} (state : D → State) (honest : D → Type 0) where
+  -- Given a shard that is up, and what stays where its devices leave
+  module _ (v : ShardView D) (u : ShardView (Away D)) (flight : View D) (flying : OfShard) (lends : ShardLends state honest v u flight flying) (sound : IsSoundShard state honest v) (up : v.is_down ≡ false) where
+    ready_shard : IsReadyShard state honest flight flying
+    ready_shard = subst (λ (j : View D). IsReadyShard state honest j flying) (sym lends.flight_is) (record {
+      honest_a = sound.honest_a;
+      honest_b = sound.honest_b;
+      up = up;
+      told = record { sent = lends.sent; all = lends.all; prepares = lends.prepares up; learned = lends.learned up sound.honest_a sound.honest_b };
+    })
+
+    sound_shard : IsSoundShard (lent_state state) (lent_honest honest) u
+    sound_shard = record {
+      running = λ is_up. lends.up (sound.running up);
+      honest_a = subst honest (sym lends.stays.a.was) sound.honest_a;
+      honest_b = subst honest (sym lends.stays.b.was) sound.honest_b;
+    }
+
+    stays_shard : StaysIn (launch_of flight) (Some (shard u))
+    stays_shard = record {
+      durable = lends.stays.durable ∙ ap (λ (j : View D). j.durable) (sym lends.flight_is);
+      staged = ([], append-nil flight.staged ∙ ap (λ (j : View D). j.staged) lends.flight_is ∙ sym lends.stays.staged);
+    }
+
+  pub is_ready : (old : Option (NodeView D)) (new : Option (NodeView (Away D))) (flight : View D) (flying : Flying) → LendsIn state honest old new flight flying → IsSoundIn state honest old → IsUpIn old → IsReady state honest flight flying
+  is_ready (Some (shard v)) (Some (shard u)) flight (Shard flying) lends sound up = ready_shard v u flight flying lends sound up
+  is_ready (Some (shard v)) (Some (shard u)) flight (Coordinator flying) lends sound up = absurd lends
+  is_ready (Some (shard v)) (Some (coordinator u)) flight flying lends sound up = absurd lends
+  is_ready (Some (shard v)) (Some (refused e a b)) flight flying lends sound up = absurd lends
+  is_ready (Some (shard v)) None flight flying lends sound up = absurd lends
+  is_ready (Some (coordinator v)) new flight flying lends sound up = absurd up
+  is_ready (Some (refused e a b)) new flight flying lends sound up = absurd up
+  is_ready None new flight flying lends sound up = absurd up
+
+  pub lent_sound : (old : Option (NodeView D)) (new : Option (NodeView (Away D))) (flight : View D) (flying : Flying) → LendsIn state honest old new flight flying → IsSoundIn state honest old → IsUpIn old
+      → IsSoundIn (lent_state state) (lent_honest honest) new
+  lent_sound (Some (shard v)) (Some (shard u)) flight (Shard flying) lends sound up = sound_shard v u flight flying lends sound up
+  lent_sound (Some (shard v)) (Some (shard u)) flight (Coordinator flying) lends sound up = absurd lends
+  lent_sound (Some (shard v)) (Some (coordinator u)) flight flying lends sound up = absurd lends
+  lent_sound (Some (shard v)) (Some (refused e a b)) flight flying lends sound up = absurd lends
+  lent_sound (Some (shard v)) None flight flying lends sound up = absurd lends
+  lent_sound (Some (coordinator v)) new flight flying lends sound up = absurd up
+  lent_sound (Some (refused e a b)) new flight flying lends sound up = absurd up
+  lent_sound None new flight flying lends sound up = absurd up
+
+  pub left_behind : (old : Option (NodeView D)) (new : Option (NodeView (Away D))) (flight : View D) (flying : Flying) → LendsIn state honest old new flight flying → IsSoundIn state honest old → IsUpIn old → StaysIn (launch_of flight) new
+  left_behind (Some (shard v)) (Some (shard u)) flight (Shard flying) lends sound up = stays_shard v u flight flying lends sound up
+  left_behind (Some (shard v)) (Some (shard u)) flight (Coordinator flying) lends sound up = absurd lends
+  left_behind (Some (shard v)) (Some (coordinator u)) flight flying lends sound up = absurd lends
+  left_behind (Some (shard v)) (Some (refused e a b)) flight flying lends sound up = absurd lends
+  left_behind (Some (shard v)) None flight flying lends sound up = absurd lends
+  left_behind (Some (coordinator v)) new flight flying lends sound up = absurd up
+  left_behind (Some (refused e a b)) new flight flying lends sound up = absurd up
+  left_behind None new flight flying lends sound up = absurd up
+
+  -- the records with what flies and without it are rows of the list
+  pub rows_around : (store shards s : ℕ) (old : Option (NodeView D)) (new : Option (NodeView (Away D))) (flight : View D) (flying : Flying) (pass : Known Entry) → LendsIn state honest old new flight flying → IsUpIn old
+      → IsTiedIn state honest store shards s old pass → AreRowsAround shards s (launch_of flight) pass
+  rows_around store shards s (Some (shard v)) (Some (shard u)) flight (Shard flying) pass lends up tied =
+      let is = tied.up up in
+      subst (λ (j : View D). AreRowsAround shards s (launch_of j) pass) (sym lends.flight_is) (record { without = is.kept; behind = is.now })
+  rows_around store shards s (Some (shard v)) (Some (shard u)) flight (Coordinator flying) pass lends up tied = absurd lends
+  rows_around store shards s (Some (shard v)) (Some (coordinator u)) flight flying pass lends up tied = absurd lends
+  rows_around store shards s (Some (shard v)) (Some (refused e a b)) flight flying pass lends up tied = absurd lends
+  rows_around store shards s (Some (shard v)) None flight flying pass lends up tied = absurd lends
+  rows_around store shards s (Some (coordinator v)) new flight flying pass lends up tied = absurd up
+  rows_around store shards s (Some (refused e a b)) new flight flying pass lends up tied = absurd up
+  rows_around store shards s None new flight flying pass lends up tied = absurd up

@@ -1,0 +1,5 @@
+pub mod Rows
+pub mod Called
+pub mod Opened
+pub mod Launched
+pub mod Landed

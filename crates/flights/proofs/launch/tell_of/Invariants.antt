@@ -1,0 +1,6 @@
+use Rattle.std.specs.Prelude.{[], ◌∷◌}
+use Rattle.flights.specs.Flights.{launch_of}
+use Rattle.flights.proofs.launch.tell_of.Given as goal
+
+abbrev pub ghosts-announce : goal.ghosts-announce
+ghosts-announce g a = record { added = launch_of a.flight.now ∷ [] }

@@ -1,0 +1,95 @@
+-- A shard under its lock, as its callers see it, whether its devices are here or out.
+use Rattle.std.specs.Prelude.{◌≡◌, ℕ, Bool, true, false, List, Option, Some, None, Ok}
+use Rattle.refusal.specs.declared.refusal.Refusal.{Refusal}
+use Rattle.away.specs.Aways.{lent_honest, lent_state}
+use Rattle.away.specs.declared.away.Away.{Away}
+use Rattle.tuples.specs.declared.entry.Entry.{Entry}
+use Rattle.records.specs.Replays.{Identity}
+use Rattle.published.specs.Known.{Known}
+use Rattle.device.specs.Device.{State}
+use Rattle.calls.specs.declared.call.ShardCall.{ShardCall}
+use Rattle.calls.specs.declared.call.ShardCall.TheVariants.{Flush, Checkpoint}
+use Rattle.calls.specs.declared.reply.Reply.{Reply}
+use Rattle.calls.specs.declared.reply.Reply.TheVariants.{Shard as from_shard}
+use Rattle.calls.specs.declared.reply.ShardReply.TheVariants as told_by
+use Rattle.laws.specs.Worlds.{shard_node}
+use Rattle.sides.specs.Lending.{IsSoundIn, IsUpIn, LandsIn, LendsIn}
+use Rattle.sides.specs.Reopening.{OpenedIn, RestartedIn}
+use Rattle.sides.specs.Sides.{Side, SideAnswers}
+use Rattle.flights.specs.Flights.{FlightView, IsOutOn}
+use Rattle.flights.specs.declared.berth.Berth.{Berth}
+use Rattle.flights.specs.declared.berth.Berth.TheVariants.{Here, Out}
+use Rattle.flights.specs.declared.launch.Launch.{Launch}
+use Rattle.flights.specs.declared.returning.Restart.{Restart}
+use Rattle.flights.specs.declared.returning.Restart.TheVariants.{HasToWait, IsRefused, IsUp}
+
+-- A shard with its devices; or without them, and the number of the flight that has them. It is always one or the other, but within a call.
+pub data PlaceView (D : Type 0) : Type 0 where
+  here : Side D → PlaceView D
+  out : Side (Away D) → ℕ → PlaceView D
+  nowhere : PlaceView D
+
+abbrev pub place_of : {D : Type 0} → Option (Berth (Side D) (Side (Away D))) → PlaceView D
+place_of (Some (Here side room)) = here side
+place_of (Some (Out side launch)) = out side launch
+place_of None = nowhere
+
+-- its number among the shards
+abbrev pub number_at : {D : Type 0} → PlaceView D → ℕ
+number_at (here side) = side.number
+number_at (out side launch) = side.number
+number_at nowhere = 0
+
+-- a call that needs the devices
+abbrev pub is_flush : ShardCall → Bool
+is_flush Flush = true
+is_flush Checkpoint = true
+is_flush call = false
+
+-- its devices are out on this flight
+abbrev pub IsOutFor : {D : Type 0} → ℕ → PlaceView D → Type 0
+IsOutFor launch (here side) = ⊥
+IsOutFor launch (out side number) = number ≡ launch
+IsOutFor launch nowhere = ⊥
+
+-- that a flush went well is told of a shard that is up, or whose devices are out
+abbrev pub TellsUp : {D : Type 0} → PlaceView D → Reply → Type 0
+TellsUp (here side) (from_shard (told_by.Flush (Ok done))) = IsUpIn side.node
+TellsUp place reply = Unit {0}
+
+module _ {D : Type 0} (state : D → State) (honest : D → Type 0) where
+  -- the shard is there, and its honest devices have its records, or those that left have them
+  abbrev pub IsBerthed : Type 0 → ℕ → List Launch → Option (Berth (Side D) (Side (Away D))) → Type 0
+  IsBerthed rests shards launches (Some (Here side room)) = IsSoundIn state honest side.node
+  IsBerthed rests shards launches (Some (Out side launch)) = IsOutOn state honest rests shards launches side launch
+  IsBerthed rests shards launches None = ⊥
+
+  -- Its devices have left, with all that was staged; the shard is still tied to what its pass has seen.
+  abbrev pub HasLaunched : PlaceView D → FlightView D → PlaceView D → Type 0
+  HasLaunched (here old) flight (out new launch) = LendsIn state honest old.node new.node flight.journal flight.flying × (new.number ≡ old.number) × (new.pass ≡ old.pass) × (launch ≡ flight.launch)
+  HasLaunched old flight new = ⊥
+
+  -- Its devices are back from this flight: what flew is staged no more, what was staged since is staged still, and it is up where both were.
+  abbrev pub HasLanded : PlaceView D → FlightView D → PlaceView D → Type 0
+  HasLanded (out old launch) flown (here new) = LandsIn state honest old.node flown.journal flown.flying new.node × (new.number ≡ old.number) × (new.pass ≡ old.pass) × (launch ≡ flown.launch)
+  HasLanded old flown new = ⊥
+
+  module _ (moment : D → ℕ) (left_since : D → ℕ → List ℕ → Type 0) where
+    -- the shard has answered the call, over its devices or over what stands in their place
+    abbrev pub PlaceAnswers : PlaceView D → ShardCall → Reply → PlaceView D → Type 0
+    PlaceAnswers (here old) call reply (here new) = SideAnswers state honest moment left_since old call reply new
+    PlaceAnswers (out old launch) call reply (out new number) =
+        SideAnswers (lent_state state) (lent_honest honest) (λ d. moment d.was.value) (λ d t c. left_since d.was.value t c) old call reply new × (number ≡ launch)
+    PlaceAnswers old call reply new = ⊥
+
+    -- it was opened over two devices, which are here
+    abbrev pub HasOpened : Identity → D → D → Known Entry → PlaceView D → Type 0
+    HasOpened me a b pass (here side) = OpenedIn state honest moment left_since me a b side.node × (side.number ≡ me.node) × (side.pass ≡ pass)
+    HasOpened me a b pass place = ⊥
+
+    -- it was opened again, and what its pass has seen is as it was; or its devices are out
+    abbrev pub HasRestarted : ℕ → ℕ → PlaceView D → Restart → PlaceView D → Type 0
+    HasRestarted store shards (here old) IsUp (here new) = RestartedIn state honest moment left_since (shard_node store shards old.number) old.node None new.node × (new.number ≡ old.number) × (new.pass ≡ old.pass)
+    HasRestarted store shards (here old) (IsRefused e) (here new) = RestartedIn state honest moment left_since (shard_node store shards old.number) old.node (Some e) new.node × (new.number ≡ old.number) × (new.pass ≡ old.pass)
+    HasRestarted store shards (out old launch) HasToWait new = new ≡ out old launch
+    HasRestarted store shards old restart new = ⊥

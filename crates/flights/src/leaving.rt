@@ -1,0 +1,177 @@
+// A shard's devices leave.
+ghost use Rattle.std.specs.Prelude.{◌≡◌, ◌<◌, ◌+◌, ◌^◌, IfNone, IfSome, Some, length};
+ghost use Rattle.sides.specs.Lending.{IsSoundIn, IsUpIn};
+ghost use Rattle.flights.specs.Flights.{IsOut, IsReady, launch_of};
+ghost use Rattle.flights.specs.Places.{HasLaunched, IsBerthed, here, out as out_on, place_of};
+
+use crate::berth::Berth;
+use crate::launch::tell_of;
+use crate::{Flight, Launch, LaunchLog, ShardPlace};
+use away::Away;
+use calls::Flying;
+use device::Device;
+use journal::{BatchRoom, Journal};
+use published::{Published, SessionPass};
+use sides::{LentShard, Room, ShardSide};
+use std::marker::PhantomData;
+
+// The flight that leaves now gets its number.
+fn leave<D: Device, B: Room>(
+    launches: &Published<Launch>,
+    log: &mut LaunchLog<B>,
+    pass: &mut SessionPass<Launch>,
+    side: ShardSide<Away<D>, B>,
+    journal: Journal<D>,
+    flying: Flying,
+    number: u64,
+) -> (Berth<ShardSide<D, B>, ShardSide<Away<D>, B>>, Flight<D, B>)
+    requires own { (launches.now ≡ B.launches) × (pass.old.table ≡ B.launches) }
+    requires number { (number ≡ length log.old.seen) × (number + 1 < 2 ^ 64) }
+    requires ready { IsReady D.state D.honest journal flying }
+    requires out { IsOut D.state D.honest B.rests B.shards side (launch_of journal) }
+    ensures own { pass.new.table ≡ B.launches }
+    ensures berth { IsBerthed D.state D.honest B.rests B.shards pass.new.seen (Some result.0) }
+    ensures flight { result.1 ≡ record { journal = journal; flying = flying; launch = number } }
+    ensures place { place_of (Some result.0) ≡ out_on side number }
+{
+    tell_of(launches, &mut log.log, &journal, number + 1);
+    launches.meet(&mut log.log, pass);
+    let known = launches.session(&mut log.log);
+    let flight = Flight {
+        journal,
+        flying,
+        pass: known,
+        launch: number,
+        room: PhantomData,
+    };
+    (Berth::Out(side, number), flight)
+}
+
+// Lends the devices of a shard that is up.
+fn send<D: Device, B: Room>(
+    launches: &Published<Launch>,
+    log: &mut LaunchLog<B>,
+    pass: &mut SessionPass<Launch>,
+    side: ShardSide<D, B>,
+    room: BatchRoom,
+    number: u64,
+) -> (
+    Berth<ShardSide<D, B>, ShardSide<Away<D>, B>>,
+    Option<Flight<D, B>>,
+)
+    requires own { (launches.now ≡ B.launches) × (pass.old.table ≡ B.launches) }
+    requires number { (number ≡ length log.old.seen) × (number + 1 < 2 ^ 64) }
+    requires sound { IsSoundIn D.state D.honest side.node }
+    requires up { IsUpIn side.node }
+    ensures own { pass.new.table ≡ B.launches }
+    ensures berth { IsBerthed D.state D.honest B.rests B.shards pass.new.seen (Some result.0) }
+    ensures launched { IfSome result.1 (λ f. HasLaunched D.state D.honest (here side) f (place_of (Some result.0))) }
+    ensures stays { IfNone result.1 (place_of (Some result.0) ≡ here side) }
+{
+    side.keeps();
+    match side.lend(room) {
+        Ok(
+            LentShard {
+                side,
+                flight,
+                flying,
+            },
+        ) => {
+            let (berth, flight) = leave(launches, log, pass, side, flight, flying, number);
+            (berth, Some(flight))
+        }
+        Err((side, room)) => (Berth::Here(side, room), None),
+    }
+}
+
+// Lends a shard's devices, where it is up.
+fn send_if_up<D: Device, B: Room>(
+    launches: &Published<Launch>,
+    log: &mut LaunchLog<B>,
+    pass: &mut SessionPass<Launch>,
+    mut side: ShardSide<D, B>,
+    room: BatchRoom,
+) -> (
+    Berth<ShardSide<D, B>, ShardSide<Away<D>, B>>,
+    Option<Flight<D, B>>,
+)
+    requires own { (launches.now ≡ B.launches) × (pass.old.table ≡ B.launches) }
+    requires sound { IsSoundIn D.state D.honest side.node }
+    ensures own { pass.new.table ≡ B.launches }
+    ensures berth { IsBerthed D.state D.honest B.rests B.shards pass.new.seen (Some result.0) }
+    ensures launched { IfSome result.1 (λ f. HasLaunched D.state D.honest (here side) f (place_of (Some result.0))) }
+    ensures stays { IfNone result.1 (place_of (Some result.0) ≡ here side) }
+{
+    let number = launches.length(&mut log.log);
+    if number == u64::MAX || !side.is_up() {
+        return (Berth::Here(side, room), None);
+    }
+    send(launches, log, pass, side, room, number)
+}
+
+// Whatever its devices do now.
+fn depart<D: Device, B: Room>(
+    launches: &Published<Launch>,
+    log: &mut LaunchLog<B>,
+    pass: &mut SessionPass<Launch>,
+    berth: Berth<ShardSide<D, B>, ShardSide<Away<D>, B>>,
+) -> (
+    Berth<ShardSide<D, B>, ShardSide<Away<D>, B>>,
+    Option<Flight<D, B>>,
+)
+    requires own { (launches.now ≡ B.launches) × (pass.old.table ≡ B.launches) }
+    requires berth { IsBerthed D.state D.honest B.rests B.shards pass.old.seen (Some berth) }
+    ensures own { pass.new.table ≡ B.launches }
+    ensures berth { IsBerthed D.state D.honest B.rests B.shards pass.new.seen (Some result.0) }
+    ensures launched { IfSome result.1 (λ f. HasLaunched D.state D.honest (place_of (Some berth)) f (place_of (Some result.0))) }
+    ensures stays { IfNone result.1 (place_of (Some result.0) ≡ place_of (Some berth)) }
+{
+    match berth {
+        Berth::Here(side, room) => send_if_up(launches, log, pass, side, room),
+        Berth::Out(side, number) => (Berth::Out(side, number), None),
+    }
+}
+
+impl<D: Device, B: Room> ShardPlace<D, B> {
+    /// Its devices leave on a flight, with all that is staged. None where they are out already, or where it is not up: then all stays as it is.
+    pub fn launch(
+        &mut self,
+        launches: &Published<Launch>,
+        log: &mut LaunchLog<B>,
+    ) -> Option<Flight<D, B>>
+        requires own { launches.now ≡ B.launches }
+        ensures launched { IfSome result (λ f. HasLaunched D.state D.honest self.old f self.new) }
+        ensures stays { IfNone result (self.new ≡ self.old) }
+    {
+        let Some(berth) = self.berth.take() else {
+            unreachable!();
+        };
+        let (berth, flight) = depart(launches, log, &mut self.pass, berth);
+        self.berth = Some(berth);
+        if flight.is_some() {
+            self.flights = self.flights.saturating_add(1);
+        }
+        flight
+    }
+
+    /// The number of the flight that will have carried all that is staged now: the next one that leaves.
+    pub fn ticket(&self) -> u64 {
+        self.flights.saturating_add(1)
+    }
+
+    /// Whether the flight of this number has landed.
+    pub fn has_landed(&self, ticket: u64) -> bool {
+        match &self.berth {
+            Some(Berth::Out(_, _)) => ticket < self.flights,
+            _ => ticket <= self.flights,
+        }
+    }
+
+    /// Whether its devices are out.
+    pub fn is_out(&self) -> bool {
+        match &self.berth {
+            Some(Berth::Out(_, _)) => true,
+            _ => false,
+        }
+    }
+}

@@ -1,0 +1,27 @@
+//! What lies under the lock of a node that callers share, while its devices are elsewhere: a flight makes durable what was staged, outside of the lock.
+//!
+//! Keeps: the node is tied to the list of writes that the pass beside it has seen, whether its devices are here or out; and what flies is the first of what
+//! it has staged.
+//! Never: asks a node for a flush, or opens it again, whose devices are out; holds a node's lock while its devices sync.
+//! Callers rely on: only the flight that took a node's devices brings them back, what it made durable is durable then, and what was staged meanwhile is
+//! staged still.
+//!
+//! Start at `specs/Flights.antt`, and then `ShardPlace`.
+#![tactic(auto)]
+
+mod berth;
+mod closed;
+mod flight;
+mod launch;
+mod leaving;
+mod returning;
+mod serving;
+mod shard_cell;
+mod shard_place;
+
+pub use closed::ClosedShard;
+pub use flight::{Flight, Flown};
+pub use launch::{Launch, LaunchLog, Launches};
+pub use returning::Restart;
+pub use shard_cell::ShardCell;
+pub use shard_place::ShardPlace;

@@ -1,0 +1,112 @@
+// What lies under the lock of a shard.
+ghost use Rattle.std.specs.Prelude.{◌≡◌, ◌<◌, false};
+ghost use Rattle.calls.specs.Asking.{MayAskShard};
+ghost use Rattle.calls.specs.Belonging.{IsReplyTo};
+ghost use Rattle.calls.specs.Refusing.{Notes};
+ghost use Rattle.calls.specs.declared.call.NodeCall.TheVariants.{Shard as of_shard};
+ghost use Rattle.flow_ties.specs.Cares.{HandsOver};
+ghost use Rattle.flow_ties.specs.Telling.{IsTold};
+ghost use Rattle.laws.specs.Worlds.{shard_node};
+ghost use Rattle.sides.specs.Sides.{IsLater};
+ghost use Rattle.ties.specs.ShardTies.{RowsAnywhere};
+ghost use Rattle.flights.specs.Places.{HasOpened, PlaceAnswers, is_flush, number_at};
+
+use crate::Launch;
+use crate::berth::Berth;
+use crate::serving::{serve_here, serve_out};
+use away::Away;
+use calls::{Reply, ShardCall, Told};
+use device::Device;
+use journal::BatchRoom;
+use published::{Published, SessionPass};
+use records::Identity;
+use sides::{Room, ShardSide};
+use std::alloc::Global;
+use std::marker::Model;
+use tuples::Entry;
+
+/// A shard, whose devices are here or on a flight.
+#[derive(Drop)]
+pub struct ShardPlace<D: Device, B: Room> {
+    // moved only within a call
+    pub(crate) berth: Option<Berth<ShardSide<D, B>, ShardSide<Away<D>, B>>>,
+    pub(crate) pass: SessionPass<Launch>,
+    // how many of its flights have left
+    pub(crate) flights: u64,
+}
+
+impl<D: Device, B: Room> Model for ShardPlace<D, B> {
+    ghost use Rattle.std.specs.Prelude.{◌≡◌};
+    ghost use Rattle.flights.specs.Places.{IsBerthed, PlaceView, place_of};
+
+    ghost Value = { PlaceView D };
+
+    ghost view = { λ p. place_of p.berth };
+
+    ghost invariant = { λ p. (p.pass.table ≡ B.launches) × IsBerthed D.state D.honest B.rests B.shards p.pass.seen p.berth };
+}
+
+impl<D: Device, B: Room> ShardPlace<D, B> {
+    /// Opens a shard as `ShardSide::open` does, over honest devices, and has the room for one flight. The pass of launches is of the words that name the
+    /// store's flights.
+    pub fn open(
+        alloc: Global,
+        a: D,
+        b: D,
+        me: Identity,
+        pass: SessionPass<Entry>,
+        room: BatchRoom,
+        launches: SessionPass<Launch>,
+    ) -> ShardPlace<D, B>
+        requires own { (pass.table ≡ B.log) × (launches.table ≡ B.launches) }
+        requires me { me ≡ shard_node B.store B.shards me.node }
+        requires shard { me.node < B.shards }
+        requires honest { D.honest a × D.honest b }
+        requires rows { B.rests → RowsAnywhere D.state D.honest B.shards me.node a b pass.seen pass.horizon }
+        ensures opened { HasOpened D.state D.honest D.moment D.left_since me a b pass result }
+    {
+        let side = ShardSide::open(alloc, a, b, me, pass);
+        ShardPlace {
+            berth: Some(Berth::Here(side, room)),
+            pass: launches,
+            flights: 0,
+        }
+    }
+
+    /// Its number among the shards.
+    pub fn number(&self) -> u8
+        ensures { result ≡ number_at self.now }
+    {
+        match &self.berth {
+            Some(Berth::Here(side, _)) => side.number(),
+            Some(Berth::Out(side, _)) => side.number(),
+            None => unreachable!(),
+        }
+    }
+
+    /// Makes a call that is no flush, wherever its devices are. What it tells of the list is of what the caller's pass has seen then.
+    pub fn ask(
+        &mut self,
+        words: &Published<Entry>,
+        pass: &mut SessionPass<Entry>,
+        told: &mut Told,
+        call: ShardCall,
+    ) -> Reply
+        requires own { (words.now ≡ B.log) × (pass.old.table ≡ B.log) }
+        requires owed { MayAskShard B.shards (number_at self.old) call }
+        requires hands { B.rests → HandsOver pass.old.seen pass.old.horizon (of_shard (number_at self.old) call) }
+        requires no_flush { is_flush call ≡ false }
+        ensures answers { PlaceAnswers D.state D.honest D.moment D.left_since self.old call result self.new }
+        ensures belongs { IsReplyTo (of_shard (number_at self.old) call) result }
+        ensures number { number_at self.new ≡ number_at self.old }
+        ensures caller { IsLater pass.old pass.new }
+        ensures tells { B.rests → IsTold B.shards pass.new.seen (of_shard (number_at self.old) call) result }
+        ensures told { Notes told.old result told.new }
+    {
+        match &mut self.berth {
+            Some(Berth::Here(side, _)) => serve_here(words, side, pass, told, call),
+            Some(Berth::Out(side, _)) => serve_out(words, side, pass, told, call),
+            None => unreachable!(),
+        }
+    }
+}

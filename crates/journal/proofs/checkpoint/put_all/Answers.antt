@@ -1,0 +1,10 @@
+use Rattle.journal.specs.Sources.{record_of}
+use Rattle.journal.proofs.Checkpoints.{one_put}
+use Rattle.journal.proofs.checkpoint.put_all.Goals as goal
+
+pub loop-next-preserved : goal.loop-next-preserved
+loop-next-preserved g c =
+    let got = rw c.in-Some.is at c.next.ensures in
+    one_put g.D.Device.state g.D.Device.honest g.D.Device.moment g.D.Device.left_since c.args.log.now c.loop-next.log c.put.new.log c.args.piece.now c.loop-next.piece c.put.new.piece
+    (g.S.Source.records c.args.source.now) (g.S.Source.records c.loop-next.source) (g.S.Source.records c.next.new.self) (record_of c.in-Some.next) c.loop-next.invariant got.0
+    c.put.ensures.honest c.put.ensures.any_moment c.in_ok-put.ensures.emptied c.in_ok-put.ensures.ok c.put.ensures.end c.put.ensures.counts c.in_ok-put.ensures.none

@@ -1,0 +1,48 @@
+-- A checkpoint that is written ahead of the list of the bank that is not current.
+use Rattle.std.specs.Prelude.{◌≡◌, ◌⊎◌, ℕ, false, List, [], ◌∷◌, ◌++◌, Some}
+use Rattle.records.specs.declared.mark.Mark.TheVariants.{Begins, Ends}
+use Rattle.records.specs.declared.record.Record.{Record}
+use Rattle.records.specs.declared.record.Record.TheVariants.{Checkpoint}
+use Rattle.device.specs.Device.{HasFailed, State}
+use Rattle.gated.specs.Gated.{HasList, IsAhead, gated}
+use Rattle.journal.specs.Records.{BankLacksRoom, HasOldOrNew, LacksRoom, View, bank_records, batches, found}
+
+-- the checkpoint of this generation with these records
+abbrev pub checkpoint_of : ℕ → List Record → List Record
+checkpoint_of generation rs = Checkpoint (Begins generation) ∷ rs ++ Checkpoint (Ends generation) ∷ []
+
+-- a device that has not failed has the empty list, whatever a stop leaves
+pub record IsEmptied (s : State) : Type 0 where
+  pub list : HasList s []
+  pub up : s.stopped ≡ false
+
+-- batches of these records are ahead
+pub record IsWriting (s : State) (end at : ℕ) (rs : List Record) : Type 0 where
+  pub ahead : List (List ℕ)
+  pub is : IsAhead s end at ahead
+  pub read : batches ahead ≡ Some rs
+
+-- these records are ahead, but for the last of them, which are not written yet
+pub record IsPut (s : State) (end at : ℕ) (piece all : List Record) : Type 0 where
+  pub rs : List Record
+  pub writing : IsWriting s end at rs
+  pub all_is : all ≡ rs ++ piece
+
+-- some batch has no room ahead of the list
+pub record LacksRoomAhead {D : Type 0} (state : D → State) (honest : D → Type 0) (bank : D) : Type 0 where
+  pub at : ℕ
+  pub piece : List Record
+  pub lacks : LacksRoom state honest bank at piece
+
+-- what a checkpoint that failed has as a cause
+abbrev pub HasPointCause : {D : Type 0} → (D → State) → (D → Type 0) → View D → View D → Type 0
+HasPointCause state honest old new = HasFailed (state old.a) (state new.a) ⊎ (HasFailed (state old.b) (state new.b)
+    ⊎ (BankLacksRoom state honest old.a old.b old.end old.staged ⊎ (LacksRoomAhead state honest new.a ⊎ LacksRoomAhead state honest new.b)))
+
+-- the list, the empty one, or the records
+abbrev pub IsOldNoneOr : List (List ℕ) → List Record → List ℕ → Type 0
+IsOldNoneOr bodies rs c = (gated c ≡ Some bodies) ⊎ ((gated c ≡ Some []) ⊎ (bank_records c ≡ Some rs))
+
+-- the contents have the old records, or the longer list, or these
+abbrev pub HasOldOrNewOr : List Record → List Record → List Record → List ℕ → List ℕ → Type 0
+HasOldOrNewOr durable staged rs a b = HasOldOrNew durable staged a b ⊎ (found a b ≡ Some rs)

@@ -1,0 +1,101 @@
+-- What lies under the lock of a node may go to another thread with its devices: shown part by part, since a search from above runs out of steps.
+use denote.RattleType.{RattleType}
+use denote.Param.Send.{IsSend, sendable}
+use Rattle.std.proofs.Crossing.{crosses}
+use Rattle.std.proofs.MapsCrossing.{crosses as maps_cross}
+use Rattle.std.proofs.MapsCrossingOver.{crosses as sets_cross}
+use Rattle.atomic_table.proofs.shared.Seat.TheSendSync as seat
+use Rattle.tuples.specs.contracts.entry.Entry as Entry
+use Rattle.tuples.specs.contracts.entry.WriteId as WriteId
+use Rattle.tuples.specs.contracts.tuple.Tuple as Tuple
+use Rattle.device.specs.declared.device.Device as Device
+use Rattle.away.specs.contracts.away.Away as Away
+use Rattle.away.specs.contracts.away.AwayDevice.TheImpl as away
+use Rattle.records.specs.contracts.identity.Identity as Identity
+use Rattle.journal.specs.contracts.journal.Journal as Journal
+use Rattle.versions.specs.contracts.versions.Versions as Versions
+use Rattle.holds.specs.contracts.by_id.ById as ById
+use Rattle.holds.specs.contracts.holds.Holds as Holds
+use Rattle.replay.specs.contracts.memory.Memory as Memory
+use Rattle.ledger.specs.contracts.ledger.Ledger as Ledger
+use Rattle.shard.specs.contracts.staged_ids.StagedIds as StagedIds
+use Rattle.shard.specs.contracts.shard.Shard as Shard
+use Rattle.coordinator.specs.contracts.coordinator.Coordinator as Coordinator
+use Rattle.calls.specs.contracts.node.Node as Node
+use Rattle.published.specs.contracts.pass.SessionPass as SessionPass
+use Rattle.sides.specs.declared.room.Room as Room
+use Rattle.sides.specs.contracts.shard_side.ShardSide as ShardSide
+use Rattle.sides.specs.contracts.coordinator_side.CoordinatorSide as CoordinatorSide
+use Rattle.flights.specs.contracts.berth.Berth as Berth
+use Rattle.flights.specs.contracts.shard_place.ShardPlace as ShardPlace
+
+-- ---- what no device is in
+
+entry : IsSend Entry.the_row
+entry = search (sendable, crosses, maps_cross, sets_cross) depth 400 fits 50000
+
+write_id : IsSend WriteId.the_row
+write_id = search (sendable, crosses, maps_cross, sets_cross) depth 400 fits 50000
+
+tuple : IsSend Tuple.the_row
+tuple = search (sendable, crosses, maps_cross, sets_cross) depth 400 fits 50000
+
+identity : IsSend Identity.the_row
+identity = search (sendable, crosses, maps_cross, sets_cross) depth 400 fits 50000
+
+by_id : IsSend ById.the_row
+by_id = let a = entry in let b = write_id in search (sendable, crosses, maps_cross, sets_cross) depth 400 fits 50000
+
+holds : IsSend Holds.the_row
+holds = let a = by_id in let b = tuple in search (sendable, crosses, maps_cross, sets_cross) depth 400 fits 50000
+
+versions : IsSend Versions.the_row
+versions = search (sendable, crosses, maps_cross, sets_cross) depth 400 fits 50000
+
+memory : IsSend Memory.the_row
+memory = let a = holds in let b = versions in search (sendable, crosses, maps_cross, sets_cross) depth 400 fits 50000
+
+staged : IsSend StagedIds.the_row
+staged = search (sendable, crosses, maps_cross, sets_cross) depth 400 fits 50000
+
+ledger : IsSend Ledger.the_row
+ledger = search (sendable, crosses, maps_cross, sets_cross) depth 400 fits 50000
+
+session : IsSend (SessionPass.the_row Entry.the_row)
+session = search (sendable, crosses, maps_cross, sets_cross, seat.the_send) depth 400 fits 50000
+
+-- ---- nodes
+
+module _ (D : RattleType) (g : Device.Ghosts D.Denot) (d : IsSend D) where
+  journal_send : IsSend (Journal.the_row D g)
+  journal_send = search (sendable, crosses, maps_cross, sets_cross) depth 400 fits 50000
+
+  shard_send : IsSend (Shard.the_row D g)
+  shard_send = let a = journal_send in let b = memory in let e = staged in let f = identity in search (sendable, crosses, maps_cross, sets_cross) depth 400 fits 50000
+
+  coordinator_send : IsSend (Coordinator.the_row D g)
+  coordinator_send = let a = journal_send in let b = ledger in let e = identity in search (sendable, crosses, maps_cross, sets_cross) depth 400 fits 50000
+
+  node_send : IsSend (Node.the_row D g)
+  node_send = let a = shard_send in let b = coordinator_send in let e = identity in search (sendable, crosses, maps_cross, sets_cross) depth 400 fits 50000
+
+-- ---- what lies under a lock
+
+pub side_send : (D B : RattleType) (g : Device.Ghosts D.Denot) (h : Room.Ghosts B.Denot) → IsSend D → IsSend B → IsSend (ShardSide.the_row D B g h)
+side_send D B g h d b = let n = node_send D g d in let e = session in let f = identity in search (sendable, crosses, maps_cross, sets_cross) depth 400 fits 50000
+
+pub log_send : (D B : RattleType) (g : Device.Ghosts D.Denot) (h : Room.Ghosts B.Denot) → IsSend D → IsSend B → IsSend (CoordinatorSide.the_row D B g h)
+log_send D B g h d b = let n = node_send D g d in let e = identity in search (sendable, crosses, maps_cross, sets_cross, seat.the_send) depth 400 fits 50000
+
+away_send : (D : RattleType) → IsSend D → IsSend (Away.the_row D)
+away_send D d = search (sendable, crosses, maps_cross, sets_cross) depth 400 fits 50000
+
+berth_send : (X Y : RattleType) → IsSend X → IsSend Y → IsSend (Berth.the_row X Y)
+berth_send X Y x y = search (sendable, crosses, maps_cross, sets_cross) depth 400 fits 50000
+
+pub place_send : (D B : RattleType) (g : Device.Ghosts D.Denot) (h : Room.Ghosts B.Denot) → IsSend D → IsSend B → IsSend (ShardPlace.the_row D B g h)
+place_send D B g h d b =
+    let here = side_send D B g h d b in
+    let out = side_send (Away.the_row D) B (away.ghosts D g away.no_dict away.no_dict) h (away_send D d) b in
+    let berth = berth_send _ _ here out in
+    search (sendable, crosses, maps_cross, sets_cross, seat.the_send) depth 400 fits 50000

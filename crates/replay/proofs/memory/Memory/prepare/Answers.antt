@@ -1,0 +1,9 @@
+use Rattle.std.proofs.Common.{sym, subst}
+use Rattle.std.specs.List.{AllByRecursion}
+use Rattle.records.specs.Format.{IsPrepared}
+use Rattle.replay.proofs.Doubting.{each_put}
+use Rattle.replay.proofs.memory.Memory.prepare.Goals as goal
+
+pub invariant_of-self-2 : goal.invariant_of-self-2
+invariant_of-self-2 c =
+    subst (AllByRecursion IsPrepared) (sym c.in_ok-take.ensures.ok) (each_put IsPrepared c.args.entry c.self.inside.in_doubt c.requires c.self.invariant)

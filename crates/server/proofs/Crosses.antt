@@ -1,0 +1,81 @@
+-- A store may be used by several threads at once: shown part by part, since a search from above runs out of steps.
+use denote.RattleType.{RattleType}
+use denote.Param.Send.{IsSend, IsSync, sendable}
+use Rattle.std.proofs.Crossing.{crosses}
+use Rattle.std.proofs.MapsCrossing.{crosses as maps_cross}
+use Rattle.std.proofs.MapsCrossingOver.{crosses as sets_cross}
+use Rattle.std.proofs.Crossing.{send as heap_send, frees}
+use Rattle.std_heap.specs.contracts.Global as Heap
+use Rattle.std_heap.specs.contracts.GlobalAllocator.TheImpl.{ghosts}
+use Rattle.std_collections.proofs.ListMemory.Crosses.{Nodes-send, Nodes-sync}
+use Rattle.std_collections.specs.contracts.linked_list.nodes.Nodes as Nodes
+use Rattle.atomic_table.proofs.send_lease.SendLease.TheSendSync as lease
+use Rattle.atomic_table.proofs.shared.Seat.TheSendSync as seat
+use Rattle.atomic_table.proofs.shared.Shared.TheSendSync as shared
+use Rattle.atomic_table.specs.contracts.send_lease.SendLease as SendLease
+use Rattle.tuples.specs.contracts.entry.Entry as Entry
+use Rattle.records.specs.contracts.record.Record as Record
+use Rattle.device.specs.declared.device.Device as Device
+use Rattle.published.specs.contracts.words.Published as Published
+use Rattle.sides.specs.declared.room.Room as Room
+use Rattle.flights.specs.contracts.launch.Launch as Launch
+use Rattle.flights.specs.contracts.launch.LaunchLog as LaunchLog
+use Rattle.flights.specs.contracts.shard_cell.ShardCell as ShardCell
+use Rattle.locked.specs.contracts.caller.Caller as Caller
+use Rattle.locked.specs.contracts.store.Store as Store
+use Rattle.locked.proofs.Crosses.{log_send, place_send}
+
+-- at the heap, since a search finds no allocator's ghost members in a row
+list_send : (T : RattleType) → IsSend T → IsSend (Nodes.the_row T Heap.the_row ghosts)
+list_send T s = Nodes-send T Heap.the_row ghosts s heap_send frees
+
+list_sync : (T : RattleType) → IsSync T → IsSync (Nodes.the_row T Heap.the_row ghosts)
+list_sync T s = Nodes-sync T Heap.the_row ghosts s
+
+pub lease_sync : (T : RattleType) → IsSync (SendLease.the_row T Heap.the_row ghosts)
+lease_sync T = lease.the_sync T Heap.the_row ghosts heap_send frees
+
+pub lease_send : (T : RattleType) → IsSend (SendLease.the_row T Heap.the_row ghosts)
+lease_send T = lease.the_send T Heap.the_row ghosts heap_send frees
+
+record_send : IsSend Record.the_row
+record_send = search (sendable, crosses, maps_cross, sets_cross) depth 400 fits 50000
+
+entry_send : IsSend Entry.the_row
+entry_send = search (sendable, crosses, maps_cross, sets_cross) depth 400 fits 50000
+
+entry_sync : IsSync Entry.the_row
+entry_sync = search (sendable, crosses, maps_cross, sets_cross) depth 400 fits 50000
+
+record_sync : IsSync Record.the_row
+record_sync = search (sendable, crosses, maps_cross, sets_cross) depth 400 fits 50000
+
+launch_send : IsSend Launch.the_row
+launch_send = let a = record_send in search (list_send, sendable, crosses, maps_cross, sets_cross) depth 400 fits 50000
+
+launch_sync : IsSync Launch.the_row
+launch_sync = let a = record_sync in let b = record_send in search (list_sync, sendable, crosses, maps_cross, sets_cross) depth 400 fits 50000
+
+words_sync : IsSync (Published.the_row Entry.the_row)
+words_sync = let a = entry_send in let b = entry_sync in search (lease_sync, shared.the_sync, sendable, crosses, maps_cross, sets_cross) depth 400 fits 50000
+
+launches_sync : IsSync (Published.the_row Launch.the_row)
+launches_sync = let a = launch_send in let b = launch_sync in search (lease_sync, shared.the_sync, sendable, crosses, maps_cross, sets_cross) depth 400 fits 50000
+
+launch_log_send : (B : RattleType) (h : Room.Ghosts B.Denot) → IsSend B → IsSend (LaunchLog.the_row B h)
+launch_log_send B h b = let a = launch_send in search (sendable, crosses, maps_cross, sets_cross, seat.the_send) depth 400 fits 50000
+
+cell_sync : (D B : RattleType) (g : Device.Ghosts D.Denot) (h : Room.Ghosts B.Denot) → IsSend D → IsSend B → IsSync (ShardCell.the_row D B g h)
+cell_sync D B g h d b = let p = place_send D B g h d b in search (sendable, crosses, maps_cross, sets_cross) depth 400 fits 50000
+
+pub store_sync : (D B G : RattleType) (g : Device.Ghosts D.Denot) (h : Room.Ghosts B.Denot) → IsSend D → IsSend B → IsSync G → IsSync (Store.the_row D B G g h)
+store_sync D B G g h d b y =
+    let n = log_send D B g h d b in
+    let p = cell_sync D B g h d b in
+    let l = launch_log_send B h b in
+    let w = words_sync in
+    let v = launches_sync in
+    search (lease_send, lease_sync, shared.the_send, shared.the_sync, sendable, crosses) depth 400 fits 50000
+
+pub caller_send : (B : RattleType) (h : Room.Ghosts B.Denot) → IsSend B → IsSend (Caller.the_row B h)
+caller_send B h b = search (sendable, crosses, maps_cross, sets_cross, seat.the_send) depth 400 fits 50000

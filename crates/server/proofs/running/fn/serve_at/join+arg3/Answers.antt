@@ -1,0 +1,15 @@
+use denote.Param.Send.{sendable}
+use Rattle.std.proofs.Crossing.{crosses}
+use Rattle.std.proofs.MapsCrossing.{crosses as maps_cross}
+use Rattle.std.proofs.MapsCrossingOver.{crosses as sets_cross}
+use Rattle.server.proofs.Crosses.{caller_send, store_sync}
+use Rattle.server.proofs.running.fn.serve_at.join+arg3.Goals as goal
+
+pub serve_on-served-requires-send-A : goal.serve_on-served-requires-send-A
+serve_on-served-requires-send-A g c κs within =
+    let bounds = c.requires.1.1.1.1 in
+    let device = bounds.0 in
+    let room = bounds.1 in
+    let gate = bounds.3 in
+    let runtime = bounds.4 in
+    search (store_sync, caller_send, sendable, crosses, maps_cross, sets_cross) depth 400 fits 50000

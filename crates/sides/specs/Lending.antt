@@ -1,0 +1,52 @@
+-- A shard under its lock whose devices are elsewhere, and what it is once they are back.
+use Rattle.std.specs.Prelude.{◌≡◌, ℕ, false, List, Option, Some, None}
+use Rattle.tuples.specs.declared.entry.Entry.{Entry}
+use Rattle.records.specs.Replays.{shard_state}
+use Rattle.device.specs.Device.{State}
+use Rattle.away.specs.declared.away.Away.{Away}
+use Rattle.journal.specs.Records.{View}
+use Rattle.shard.specs.Shards.{IsUp, ShardView}
+use Rattle.calls.specs.Lending.{NodeLands, NodeLends, NodeMayLand}
+use Rattle.calls.specs.Views.{NodeView, coordinator, refused, shard}
+use Rattle.calls.specs.declared.lending.Flying.{Flying}
+use Rattle.ties.specs.ShardTies.{AreRowsOf, RowsAnywhere}
+
+-- the node is a shard that is up
+abbrev pub IsUpIn : {D : Type 0} → Option (NodeView D) → Type 0
+IsUpIn (Some (shard v)) = v.is_down ≡ false
+IsUpIn (Some (coordinator v)) = ⊥
+IsUpIn (Some (refused e a b)) = ⊥
+IsUpIn None = ⊥
+
+module _ {D : Type 0} (state : D → State) (honest : D → Type 0) where
+  -- while the shard is up its honest devices have its records, whatever list these stand for
+  pub record IsSoundShard (v : ShardView D) : Type 0 where
+    pub running : v.is_down ≡ false → IsUp state honest v
+    pub honest_a : honest v.a
+    pub honest_b : honest v.b
+
+  abbrev pub IsSoundIn : Option (NodeView D) → Type 0
+  IsSoundIn (Some (shard v)) = IsSoundShard v
+  IsSoundIn (Some (refused e a b)) = honest a × honest b
+  IsSoundIn (Some (coordinator v)) = ⊥
+  IsSoundIn None = ⊥
+
+  -- the node is there, and was lent
+  abbrev pub LendsIn : Option (NodeView D) → Option (NodeView (Away D)) → View D → Flying → Type 0
+  LendsIn (Some old) (Some new) flight flying = NodeLends state honest old new flight flying
+  LendsIn old new flight flying = ⊥
+
+  -- the node is there, and this may be its flight
+  abbrev pub MayLandIn : Option (NodeView (Away D)) → View D → Flying → Type 0
+  MayLandIn (Some node) flown flying = NodeMayLand state honest node flown flying
+  MayLandIn None flown flying = ⊥
+
+  -- the node is there, and has its devices again
+  abbrev pub LandsIn : Option (NodeView (Away D)) → View D → Flying → Option (NodeView D) → Type 0
+  LandsIn (Some old) flown flying (Some new) = NodeLands state honest old flown flying new
+  LandsIn old flown flying new = ⊥
+
+  -- What a stop leaves of the devices that come back are the shard's rows of the list, and where all is up those that are durable then.
+  pub record LandsRows (shards s : ℕ) (flown : View D) (seen : List Entry) (low : ℕ) : Type 0 where
+    pub kept : flown.is_down ≡ false → AreRowsOf shards s seen low (shard_state flown.durable)
+    pub anywhere : RowsAnywhere state honest shards s flown.a flown.b seen low

@@ -1,0 +1,23 @@
+-- A walk over versions, by tuple.
+use Rattle.std.specs.Prelude.{◌≤◌, List, [], ◌∷◌, Option, Some, None}
+use Rattle.std.specs.List.Sorted.{IsSorted}
+use Rattle.tuples.specs.declared.tuple.Tuple.{Tuple}
+use Rattle.tuples.specs.declared.version.Version.{Version}
+use Rattle.versions.specs.Alike.{of_tuple}
+use Rattle.versions.specs.Rows.{version_cmp, versions_of}
+use Rattle.versions.specs.declared.walk.Own.{Own}
+
+-- the versions that are left of a tuple
+abbrev pub own_left : Option Own → List Version
+own_left None = []
+own_left (Some own) = versions_of own.tuple.now own.rows.now
+
+-- each place is no lower than the one before
+abbrev pub Rise : List Version → Type 0
+Rise [] = Unit {0}
+Rise (v ∷ []) = Unit {0}
+Rise (v ∷ u ∷ vs) = (v.place ≤ u.place) × Rise (u ∷ vs)
+
+-- where the places of each tuple rise, the versions are listed by tuple and then by place
+abbrev pub IsInOrder : List Version → Type 0
+IsInOrder vs = ((t : Tuple) → Rise (of_tuple t vs)) → IsSorted version_cmp vs
