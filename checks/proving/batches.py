@@ -21,6 +21,8 @@ Placed = collections.namedtuple("Placed", "edit function")
 # That a callee's proof is not there is no error of the function's own. That a proof file names what the edit took away is one, if a
 # weak one, and is told with rt's own remark.
 OF_CALLEE = re.compile(r"was not admitted")
+# All that the line of a function may say that no edit changes, and that is not proved.
+FOR_CALLEES_SAKE = re.compile(r"(no proof: |not proved; )it calls [^;]*, which (is|are) not proved")
 NAMES_ALONE = re.compile(r"has no field|is not in scope|has no `")
 WEAK = "(only because a proof file names what the edit took away, so this says little of the contract: change a value and keep the names) "
 AT = re.compile(r"(?:note: )?(?:\./)?((?:src|proofs|specs)/\S+?):(\d+):\d+:? (.*)")
@@ -143,6 +145,12 @@ def refusal_of(source, function, symbol, words, notes, said):
 
 def judged(crate, batch, said):
     """Of each edit of the batch why it is refused, or None."""
+    return judged_with_others(crate, batch, said)[0]
+
+
+def judged_with_others(crate, batch, said):
+    """The same, and whether each function that no edit changes is proved, or is not for its callees' sake alone: so what was kept is enough for the crate
+    as it is."""
     source, lines, told, taken = source_of(crate), lines_of(said), {}, {}
     for edit, function in batch:
         told[edit] = None
@@ -154,12 +162,18 @@ def judged(crate, batch, said):
             continue
         taken[found[0]] = edit
         told[edit] = refusal_of(source, function, found[0], *lines[found[0]], said)
-    return told
+    others = [words for symbol, (words, _) in lines.items() if symbol not in taken]
+    return told, bool(others) and all(it.startswith("proved") or FOR_CALLEES_SAKE.fullmatch(it) for it in others)
 
 
 def try_batch(crate, batch, kept, flags):
     """Checks the crate with all edits of the batch over what is kept, and returns of each why it is refused, or None."""
-    nothing = {it.edit: None for it in batch}
+    return try_with_others(crate, batch, kept, flags)[0]
+
+
+def try_with_others(crate, batch, kept, flags):
+    """The same, and whether the check shows that what is kept is enough for the crate as it is."""
+    nothing = {it.edit: None for it in batch}, False
     texts = texts_of(crate, batch)
     if texts is None:
         return nothing
@@ -169,4 +183,4 @@ def try_batch(crate, batch, kept, flags):
         return nothing
     if ran.returncode != 1 or not lines[-1].startswith("logic=not-proved"):
         return nothing
-    return judged(crate, batch, ran.stdout)
+    return judged_with_others(crate, batch, ran.stdout)

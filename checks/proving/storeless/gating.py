@@ -103,13 +103,18 @@ def try_alone(crate, edit):
 
 def try_together(crate, batch):
     """Of each edit of the batch whether it is refused, and what to say, as rt's must_fail does."""
+    return try_with_others(crate, batch)[0]
+
+
+def try_with_others(crate, batch):
+    """The same, and whether its check shows that the kept work is enough for the crate as it is."""
     with Copy(crate) as kept:
-        told = batches.try_batch(crate, batch, kept, ONE_JOB)
+        told, is_enough = batches.try_with_others(crate, batch, kept, ONE_JOB)
     said = {}
     for edit, why in told.items():
         label = f"must-fail {crate.name}/{os.path.basename(edit)}"
         said[edit] = (True, f"{label}: refused, as it must be: {why}") if why else try_alone(crate, edit)
-    return said
+    return said, is_enough
 
 
 class Edits:
@@ -145,19 +150,29 @@ class Edits:
         made, alone = batches.batches_of(crate, self.good, self.most())
         whole = len(self.good) + 1
         for at, batch in enumerate(made):
-            self.add(tasks, at, len(batch) / whole, lambda batch=batch: try_together(crate, batch))
+            self.add(tasks, at, len(batch) / whole, lambda batch=batch: try_with_others(crate, batch))
+        self.batches = [*self.keys]
         for edit in alone:
-            self.add(tasks, os.path.basename(edit), 1 / whole, lambda edit=edit: {edit: try_alone(crate, edit)})
-        self.add(tasks, "none", 1 / whole, lambda: is_proved(crate))
-        tasks[last] = Task([(self.name, "proof"), (self.name, "tests"), *self.keys], 0, 0, 1, self.gathered)
+            self.add(tasks, os.path.basename(edit), 1 / whole, lambda edit=edit: ({edit: try_alone(crate, edit)}, False))
+        self.sound = (self.name, "edits none")
+        tasks[self.sound] = Task([(self.name, "proof"), *self.batches], self.weight / whole * (not made), self.old[2], 1, self.is_sound)
+        tasks[last] = Task([(self.name, "proof"), (self.name, "tests"), *self.keys, self.sound], 0, 0, 1, self.gathered)
+
+    def is_sound(self, given, jobs):
+        """Whether the crate as it is is proved over what its edits are tried over. Each batch shows that by the functions that it leaves as they are; where
+        one does not, and where there is none, the crate is checked once more."""
+        if not given[self.name, "proof"]:
+            return False
+        shown = [given[key] and given[key][1] for key in self.batches]
+        return bool(shown) and all(shown) or is_proved(self.crate)
 
     def gathered(self, given, jobs):
         """The files that are no edits, the edits, and what each came to, as rt wants them."""
         if not (given[self.name, "proof"] and given[self.name, "tests"]):
             return self.bad, self.good, []
-        if not given[self.keys[-1]]:
+        if not given[self.sound]:
             return self.bad, self.good, [rt.must_fail(self.crate, it, ONE_JOB) for it in self.good]
-        tried = {edit: it for key in self.keys[:-1] for edit, it in (given[key] or {}).items()}
+        tried = {edit: it for key in self.keys for edit, it in (given[key] or ({},))[0].items()}
         return self.bad, self.good, [tried.get(it) or rt.must_fail(self.crate, it, ONE_JOB) for it in self.good]
 
 

@@ -7,4 +7,3 @@ pub mod Openings
 pub mod CountedVotes
 pub mod Staged
 pub mod Landed
-pub mod Still

@@ -11,4 +11,3 @@ pub mod Parts
 mod Openings
 pub mod Told
 pub mod Landed
-pub mod Still
