@@ -149,6 +149,11 @@ follows_nothing : (me : Identity) (rs : List Record) → FollowAll me None empty
 unfolding inside_of shard_state
 follows_nothing me rs follow = follow
 
+-- what a checkpoint of the records of a shard stands for: the versions in its order, and all else as it was
+pub checkpoint_of_image : (me : Identity) (rs : List Record) (generation : ℕ) (listed : List Version) → IsShardImage me rs
+    → shard_state (shard_checkpoint me generation (shard_state rs) listed) ≡ record (shard_state rs) { rows = listed }
+checkpoint_of_image me rs generation listed image = checkpoint_state me generation (shard_state rs) listed (image_fit me rs image).order
+
 pub checkpoints_stand : ShardCheckpointsStand
 checkpoints_stand me rs generation listed image opened some greatest alike =
     let s = shard_state rs in
@@ -157,5 +162,5 @@ checkpoints_stand me rs generation listed image opened some greatest alike =
     let cs = shard_checkpoint me generation s listed in
     let follow = follow_checkpoint me generation s listed some greatest opened fit (image_apart me rs image) kept in record {
       image = record { each = begins_from me [] cs (image_empty me).each (follows_nothing me cs follow); whole = checkpoint_ends me generation s listed };
-      alike = subst (IsAlike s) (sym (checkpoint_state me generation s listed fit.order)) (record { in_doubt = refl; learned = refl; horizon = refl; epoch = refl; rows = alike });
+      alike = subst (IsAlike s) (sym (checkpoint_of_image me rs generation listed image)) (record { in_doubt = refl; learned = refl; horizon = refl; epoch = refl; rows = alike });
     }

@@ -16,13 +16,14 @@ use Rattle.calls.specs.declared.reply.Reply.TheVariants.{Shard as from_shard}
 use Rattle.calls.specs.declared.reply.ShardReply.{ShardReply}
 use Rattle.calls.specs.declared.reply.ShardReply.TheVariants as told_by
 use Rattle.calls.specs.Asking.{Answered, ShardAnswers}
-use Rattle.calls.specs.ShardAnswers.{CollectAnswers, DropAnswers, FlushAnswers, LearnAnswers, PrepareAnswers}
+use Rattle.calls.specs.ShardAnswers.{CheckpointAnswers, CollectAnswers, DropAnswers, FlushAnswers, LearnAnswers, PrepareAnswers}
 use Rattle.calls.specs.Views.{NodeView, shard, refused}
 use Rattle.laws.specs.ShardLaws.{AreOfLog}
 use Rattle.ties.specs.ShardTies.{IsOpenedShardTied, IsShardTied}
 use Rattle.ties.specs.TellingLaws.{IsBatchOf}
 use Rattle.ties.proofs.ShardCalls.{collections_stay_tied, drops_stay_tied, learnings_stay_tied, prepares_stay_tied, shard_flushes_stay_tied}
 use Rattle.ties.proofs.ShardOpening.{failed_shard_flushes_stay_tied, longer_lists_stay_tied, shard_tied_up_is_tied}
+use Rattle.ties.proofs.ShardPoints.{failed_shard_checkpoints_stay_tied, shard_checkpoints_stay_tied}
 use Rattle.sides.specs.Sides.{AnsweredIn, IsLater, IsTiedIn}
 
 pub is_up : (b : Bool) → (b ≡ true → ⊥) → b ≡ false
@@ -89,6 +90,21 @@ module _ {D : Type 0} (state : D → State) (honest : D → Type 0) (store shard
         let up = tied.up is_up in
         failed_shard_flushes_stay_tied state honest moment left_since counts_now store shards s old new seen low up a.me (a.still_honest.0.0 up.up.honest_a) (a.still_honest.1.0 up.up.honest_b) a.err.1 (a.any_moment up.up))
         (λ is_down. unchanged (a.quiet (inl is_down)))
+        (up_or_down old.is_down)
+
+    checkpointed : (moment : D → ℕ) (left_since : D → ℕ → List ℕ → Type 0) → ((d : D) (t : ℕ) (c : List ℕ) → honest d → t ≤ moment d → left (state d) c → left_since d t c)
+        → (r : Result (Unit {0}) Refusal) → CheckpointAnswers state honest moment left_since old r new → IsOpenedShardTied state honest store shards s new seen low
+    checkpointed moment left_since counts_now (Ok done) a =
+        let up = tied.up (is_up old.is_down (λ down. cc (a.down down).0)) in
+        shard_tied_up_is_tied state honest store shards s new seen low (shard_checkpoints_stay_tied state honest store shards s old new seen low up (a.ok up.up) a.me)
+    checkpointed moment left_since counts_now (Err e) a = ⊎_elim
+        (λ is_up.
+        let up = tied.up is_up in
+        ⊎_elim
+        (λ failed. failed_shard_checkpoints_stay_tied state honest moment left_since counts_now store shards s old new seen low up a.me (a.still_honest.0.0 up.up.honest_a) (a.still_honest.1.0 up.up.honest_b) failed.1 (a.any_moment up.up))
+        (λ same. unchanged same.0)
+        a.err)
+        (λ is_down. unchanged (a.down is_down).1)
         (up_or_down old.is_down)
 
 -- a call that changes nothing
@@ -176,3 +192,10 @@ module _ {D : Type 0} (state : D → State) (honest : D → Type 0) (moment : D 
 
     pub flush_stays : (pass : Known Entry) → Stays Flush pass
     flush_stays pass = stays Flush pass (keeps_flush pass)
+
+    keeps_checkpoint : (pass : Known Entry) → Keeps Checkpoint pass
+    keeps_checkpoint pass old new (told_by.Checkpoint r) tied a = checkpointed state honest store shards s old new pass.seen pass.horizon tied moment left_since counts_now r a
+    keeps_checkpoint pass old new reply tied a = absurd a
+
+    pub checkpoint_stays : (pass : Known Entry) → Stays Checkpoint pass
+    checkpoint_stays pass = stays Checkpoint pass (keeps_checkpoint pass)

@@ -11,6 +11,7 @@
 #![tactic(auto)]
 
 mod checking;
+mod checkpointing;
 mod collecting;
 mod coordinator_side;
 mod joining;

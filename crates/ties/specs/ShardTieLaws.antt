@@ -11,8 +11,9 @@ use Rattle.tuples.specs.declared.user.User.{User}
 use Rattle.tuples.specs.Reads.{IsSelection}
 use Rattle.tuples.specs.Walking.{IsCheckSelection}
 use Rattle.device.specs.Device.{State, left}
-use Rattle.journal.specs.Records.{HasOldOrNew, LeavesBoth}
+use Rattle.journal.specs.Records.{HasOldOrNew, LeavesBoth, LeavesEach}
 use Rattle.decisions.specs.Values.{BatchValue, TicketValue}
+use Rattle.shard.specs.Checkpoints.{ChecksPointAt, HasOldNewOrPoint}
 use Rattle.shard.specs.Calls.{CollectsAt, DropsAt, FlushesAt, LearnsAt, PreparesAt, ReadsAt, ReadsForCheckAt}
 use Rattle.shard.specs.Shards.{ShardView, memory}
 use Rattle.calls.specs.Opening.{ShardComesUp, ShardStaysOut}
@@ -58,6 +59,11 @@ module _ {D : Type 0} (state : D → State) (honest : D → Type 0) (store shard
   ShardFlushesStayTied = (old new : ShardView D) (seen : List Entry) (low : ℕ) → IsShardTiedUp state honest store shards s old seen low
       → FlushesAt state honest old new → new.me ≡ old.me → IsShardTiedUp state honest store shards s new seen low
 
+  -- a checkpoint has what the shard knows, and so the same rows of the list
+  abbrev pub ShardCheckpointsStayTied : Type 0
+  ShardCheckpointsStayTied = (old new : ShardView D) (seen : List Entry) (low : ℕ) → IsShardTiedUp state honest store shards s old seen low
+      → ChecksPointAt state honest old new → new.me ≡ old.me → IsShardTiedUp state honest store shards s new seen low
+
   -- what is read is selected of the list at the place, of the tuples of this shard
   abbrev pub ReadsAreSeen : Type 0
   ReadsAreSeen = (v : ShardView D) (place : ℕ) (q : Tupleset) (rows : List Tuple) (seen : List Entry) (low : ℕ) → IsShardTiedUp state honest store shards s v seen low
@@ -73,6 +79,12 @@ module _ {D : Type 0} (state : D → State) (honest : D → Type 0) (moment : D 
   abbrev pub FailedShardFlushesStayTied : Type 0
   FailedShardFlushesStayTied = (old new : ShardView D) (seen : List Entry) (low : ℕ) → IsShardTiedUp state honest store shards s old seen low
       → new.me ≡ old.me → honest new.a → honest new.b → new.is_down ≡ true → LeavesBoth moment left_since old.a old.b new.a new.b (HasOldOrNew old.durable old.staged)
+      → IsOpenedShardTied state honest store shards s new seen low
+
+  -- a checkpoint in which a device failed leaves them too: by the old records, or by its own
+  abbrev pub FailedShardCheckpointsStayTied : Type 0
+  FailedShardCheckpointsStayTied = (old new : ShardView D) (seen : List Entry) (low : ℕ) → IsShardTiedUp state honest store shards s old seen low
+      → new.me ≡ old.me → honest new.a → honest new.b → new.is_down ≡ true → LeavesEach moment left_since old.a old.b new.a new.b (HasOldNewOrPoint old)
       → IsOpenedShardTied state honest store shards s new seen low
 
   -- an opening over devices that read what a stop may leave of them finds rows of the list

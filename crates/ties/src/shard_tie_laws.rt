@@ -1,6 +1,6 @@
 // Laws of a shard that is tied, each the clause of a function with an empty body.
 ghost use Rattle.std.specs.Prelude.{ℕ};
-ghost use Rattle.ties.specs.ShardTieLaws.{CheckReadsAreSeen, CollectionsStayTied, DropsStayTied, FailedShardFlushesStayTied, LearningsStayTied, LongerListsStayTied, PreparesStayTied, ReadsAreSeen, RefusedShardOpeningsStayTied, ShardFlushesStayTied, ShardOpeningsStayTied, ShardTiedUpIsTied};
+ghost use Rattle.ties.specs.ShardTieLaws.{CheckReadsAreSeen, CollectionsStayTied, DropsStayTied, FailedShardCheckpointsStayTied, FailedShardFlushesStayTied, LearningsStayTied, LongerListsStayTied, PreparesStayTied, ReadsAreSeen, RefusedShardOpeningsStayTied, ShardCheckpointsStayTied, ShardFlushesStayTied, ShardOpeningsStayTied, ShardTiedUpIsTied};
 
 use device::Device;
 
@@ -42,6 +42,16 @@ pub fn shard_flushes_stay_tied<D: Device>()
 /// Where a device failed in a flush, a stop leaves the shard's part of the list.
 pub fn failed_shard_flushes_stay_tied<D: Device>()
     ensures { (store shards s : ℕ) → FailedShardFlushesStayTied D.state D.honest D.moment D.left_since store shards s }
+{}
+
+/// A checkpoint leaves the shard tied: other records stand for the same rows.
+pub fn shard_checkpoints_stay_tied<D: Device>()
+    ensures { (store shards s : ℕ) → ShardCheckpointsStayTied D.state D.honest store shards s }
+{}
+
+/// Where a device failed in a checkpoint, a stop leaves the shard's part of the list.
+pub fn failed_shard_checkpoints_stay_tied<D: Device>()
+    ensures { (store shards s : ℕ) → FailedShardCheckpointsStayTied D.state D.honest D.moment D.left_since store shards s }
 {}
 
 /// A shard that is opened again has its part of the list.
