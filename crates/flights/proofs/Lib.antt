@@ -1,5 +1,6 @@
 pub mod Rows
 pub mod Called
+pub mod Pointed
 pub mod Opened
 pub mod Launched
 pub mod Landed

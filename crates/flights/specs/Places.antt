@@ -15,7 +15,7 @@ use Rattle.calls.specs.declared.reply.ShardReply.TheVariants as told_by
 use Rattle.laws.specs.Worlds.{shard_node}
 use Rattle.sides.specs.Lending.{IsSoundIn, IsUpIn, LandsIn, LendsIn}
 use Rattle.sides.specs.Reopening.{OpenedIn, RestartedIn}
-use Rattle.sides.specs.Sides.{Side, SideAnswers}
+use Rattle.sides.specs.Sides.{Side, SideAnswers, bank_len_in}
 use Rattle.flights.specs.Flights.{FlightView, IsOutOn}
 use Rattle.flights.specs.declared.berth.Berth.{Berth}
 use Rattle.flights.specs.declared.berth.Berth.TheVariants.{Here, Out}
@@ -39,6 +39,18 @@ abbrev pub number_at : {D : Type 0} → PlaceView D → ℕ
 number_at (here side) = side.number
 number_at (out side launch) = side.number
 number_at nowhere = 0
+
+-- how many bytes its current bank has
+abbrev pub bank_len_at : {D : Type 0} → PlaceView D → ℕ
+bank_len_at (here side) = bank_len_in side.node
+bank_len_at (out side launch) = bank_len_in side.node
+bank_len_at nowhere = 0
+
+-- its devices are out
+abbrev pub IsOutThere : {D : Type 0} → PlaceView D → Type 0
+IsOutThere (here side) = ⊥
+IsOutThere (out side number) = Unit {0}
+IsOutThere nowhere = ⊥
 
 -- a call that needs the devices
 abbrev pub is_flush : ShardCall → Bool
@@ -81,6 +93,11 @@ module _ {D : Type 0} (state : D → State) (honest : D → Type 0) where
     PlaceAnswers (out old launch) call reply (out new number) =
         SideAnswers (lent_state state) (lent_honest honest) (λ d. moment d.was.value) (λ d t c. left_since d.was.value t c) old call reply new × (number ≡ launch)
     PlaceAnswers old call reply new = ⊥
+
+    -- it has its devices, and has answered to a checkpoint; what its pass has seen is as it was
+    abbrev pub ChecksPointThere : PlaceView D → Reply → PlaceView D → Type 0
+    ChecksPointThere (here old) reply (here new) = SideAnswers state honest moment left_since old Checkpoint reply new × (new.pass ≡ old.pass)
+    ChecksPointThere old reply new = ⊥
 
     -- it was opened over two devices, which are here
     abbrev pub HasOpened : Identity → D → D → Known Entry → PlaceView D → Type 0

@@ -10,6 +10,7 @@
 #![tactic(auto)]
 
 mod berth;
+mod checkpointing;
 mod closed;
 mod flight;
 mod launch;

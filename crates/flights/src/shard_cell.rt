@@ -3,7 +3,7 @@ ghost use Rattle.std.specs.Prelude.{◌≡◌, ℕ};
 ghost use Rattle.calls.specs.Belonging.{IsReplyTo};
 ghost use Rattle.calls.specs.Refusing.{Notes};
 ghost use Rattle.calls.specs.declared.call.NodeCall.TheVariants.{Shard as of_shard};
-ghost use Rattle.calls.specs.declared.call.ShardCall.TheVariants.{Flush as flush_call};
+ghost use Rattle.calls.specs.declared.call.ShardCall.TheVariants.{Checkpoint as checkpoint_call, Flush as flush_call};
 
 use crate::{Flight, Launch, LaunchLog, Restart, ShardPlace};
 use calls::{Reply, Told};
@@ -84,6 +84,22 @@ impl<D: Device, B: Room> ShardCell<D, B> {
             self.fly(rt, launches, flight);
         }
         self.place.lock(rt).tell_flushed(told)
+    }
+
+    /// Replaces the records of the shard by a checkpoint of what it knows, once its devices are here. Nobody else asks the shard meanwhile.
+    pub fn checkpoint<R: Wait>(&self, rt: &R, told: &mut Told) -> Reply
+        ensures belongs { (number : ℕ) → IsReplyTo (of_shard number checkpoint_call) result }
+        ensures told { Notes told.old result told.new }
+    {
+        for _ in rt.forever() {
+            let mut place = self
+                .landed
+                .wait_while(rt, self.place.lock(rt), |place| place.is_out());
+            if let Some(reply) = place.checkpoint(told) {
+                return reply;
+            }
+        }
+        unreachable!()
     }
 
     /// Opens it again, once its devices are here. The refusal of its opening, where that was refused.

@@ -9,7 +9,7 @@ ghost use Rattle.flow_ties.specs.Telling.{IsTold};
 ghost use Rattle.laws.specs.Worlds.{shard_node};
 ghost use Rattle.sides.specs.Sides.{IsLater};
 ghost use Rattle.ties.specs.ShardTies.{RowsAnywhere};
-ghost use Rattle.flights.specs.Places.{HasOpened, PlaceAnswers, is_flush, number_at};
+ghost use Rattle.flights.specs.Places.{HasOpened, PlaceAnswers, bank_len_at, is_flush, number_at};
 
 use crate::Launch;
 use crate::berth::Berth;
@@ -80,6 +80,17 @@ impl<D: Device, B: Room> ShardPlace<D, B> {
         match &self.berth {
             Some(Berth::Here(side, _)) => side.number(),
             Some(Berth::Out(side, _)) => side.number(),
+            None => unreachable!(),
+        }
+    }
+
+    /// How many bytes its current bank has; 0 where its opening was refused. While its devices are out, those before they left.
+    pub fn bank_len(&self) -> u64
+        ensures { result ≡ bank_len_at self.now }
+    {
+        match &self.berth {
+            Some(Berth::Here(side, _)) => side.bank_len(),
+            Some(Berth::Out(side, _)) => side.bank_len(),
             None => unreachable!(),
         }
     }

@@ -18,7 +18,7 @@ use Rattle.calls.specs.declared.reply.Reply.TheVariants.{Shard as from_shard}
 use Rattle.calls.specs.declared.reply.ShardReply.TheVariants as told_by
 use Rattle.calls.specs.Asking.{Answered, MayAsk}
 use Rattle.calls.specs.Belonging.{IsReplyTo}
-use Rattle.calls.specs.Views.{NodeView, coordinator, refused, shard}
+use Rattle.calls.specs.Views.{NodeView, bank_len_of, coordinator, refused, shard}
 use Rattle.laws.specs.Shards.{there_of}
 use Rattle.laws.specs.Worlds.{shard_node}
 use Rattle.ties.specs.ShardTies.{IsShardTied}
@@ -55,6 +55,11 @@ IsOfShard store shards s (Some (shard v)) = v.me ≡ shard_node store shards s
 IsOfShard store shards s (Some (refused e a b)) = Unit {0}
 IsOfShard store shards s (Some (coordinator v)) = ⊥
 IsOfShard store shards s None = ⊥
+
+-- how many bytes the current bank of the node has
+abbrev pub bank_len_in : {D : Type 0} → Option (NodeView D) → ℕ
+bank_len_in (Some node) = bank_len_of node
+bank_len_in None = 0
 
 -- the node of shard s is there, and may be asked this
 abbrev pub MayAskIn : {D : Type 0} → ℕ → Option (NodeView D) → ShardCall → Type 0

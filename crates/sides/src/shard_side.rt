@@ -3,7 +3,7 @@ ghost use Rattle.std.specs.Prelude.{◌≡◌, ◌<◌};
 ghost use Rattle.calls.specs.Belonging.{IsReplyTo};
 ghost use Rattle.calls.specs.Refusing.{Notes};
 ghost use Rattle.calls.specs.declared.call.NodeCall.TheVariants.{Shard as of_shard};
-ghost use Rattle.sides.specs.Sides.{AnsweredIn, IsTiedIn, KnowsBoth, MayAskIn};
+ghost use Rattle.sides.specs.Sides.{AnsweredIn, IsTiedIn, KnowsBoth, MayAskIn, bank_len_in};
 
 use crate::Room;
 use calls::{Node, NodeCall, Reply, ShardCall, Told, ask};
@@ -62,6 +62,16 @@ impl<D: Device, B: Room> ShardSide<D, B> {
         ensures { result ≡ self.now.number }
     {
         self.me.node()
+    }
+
+    /// How many bytes the current bank of its node has; 0 where its opening was refused.
+    pub fn bank_len(&self) -> u64
+        ensures { result ≡ bank_len_in self.now.node }
+    {
+        match &self.node {
+            Some(node) => node.bank_len(),
+            None => 0,
+        }
     }
 
     /// What it keeps whatever is called: it is a shard of the room's store, beside a pass of the room's words, and tied to what that knows where its devices rested.

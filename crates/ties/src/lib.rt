@@ -22,9 +22,10 @@ pub use joining_laws::{
 };
 pub use resting_laws::{resting_nodes_are_tied, unmade_nodes_are_tied};
 pub use shard_tie_laws::{
-    check_reads_are_seen, collections_stay_tied, drops_stay_tied, failed_shard_checkpoints_stay_tied, failed_shard_flushes_stay_tied,
-    learnings_stay_tied, longer_lists_stay_tied, prepares_stay_tied, reads_are_seen,
-    refused_shard_openings_stay_tied, shard_checkpoints_stay_tied, shard_flushes_stay_tied, shard_openings_stay_tied,
+    check_reads_are_seen, collections_stay_tied, drops_stay_tied,
+    failed_shard_checkpoints_stay_tied, failed_shard_flushes_stay_tied, learnings_stay_tied,
+    longer_lists_stay_tied, prepares_stay_tied, reads_are_seen, refused_shard_openings_stay_tied,
+    shard_checkpoints_stay_tied, shard_flushes_stay_tied, shard_openings_stay_tied,
     shard_tied_up_is_tied,
 };
 pub use telling_laws::{batches_are_seen, found_writes_stand, heads_are_seen};

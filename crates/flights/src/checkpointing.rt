@@ -1,0 +1,41 @@
+// A shard that has its devices gets a checkpoint in the place of its records.
+ghost use Rattle.std.specs.Prelude.{◌≡◌, IfNone, IfSome};
+ghost use Rattle.calls.specs.Belonging.{IsReplyTo};
+ghost use Rattle.calls.specs.Refusing.{Notes};
+ghost use Rattle.calls.specs.declared.call.NodeCall.TheVariants.{Shard as of_shard};
+ghost use Rattle.calls.specs.declared.call.ShardCall.TheVariants.{Checkpoint as checkpoint_call};
+ghost use Rattle.sides.specs.Lending.{IsSoundIn};
+ghost use Rattle.sides.specs.Sides.{SideAnswers};
+ghost use Rattle.flights.specs.Places.{ChecksPointThere, IsOutThere, number_at};
+
+use crate::ShardPlace;
+use crate::berth::Berth;
+use calls::{Reply, Told};
+use device::Device;
+use sides::{Room, ShardSide};
+
+// The checkpoint of a shard that has its devices. It is as sound as before.
+fn checkpoint_here<D: Device, B: Room>(side: &mut ShardSide<D, B>, told: &mut Told) -> Reply
+    ensures answers { SideAnswers D.state D.honest D.moment D.left_since side.old checkpoint_call result side.new }
+    ensures pass { side.new.pass ≡ side.old.pass }
+    ensures sound { IsSoundIn D.state D.honest side.old.node → IsSoundIn D.state D.honest side.new.node }
+    ensures told { Notes told.old result told.new }
+{
+    side.checkpoint(told)
+}
+
+impl<D: Device, B: Room> ShardPlace<D, B> {
+    /// Replaces the records of the shard by a checkpoint of what it knows. None where its devices are out: then all stays as it is.
+    pub fn checkpoint(&mut self, told: &mut Told) -> Option<Reply>
+        ensures made { IfSome result (λ reply. ChecksPointThere D.state D.honest D.moment D.left_since self.old reply self.new) }
+        ensures belongs { IfSome result (λ reply. IsReplyTo (of_shard (number_at self.old) checkpoint_call) reply) }
+        ensures told { IfSome result (λ reply. Notes told.old reply told.new) }
+        ensures out { IfNone result (IsOutThere self.old × (self.new ≡ self.old) × (told.new ≡ told.old)) }
+    {
+        match &mut self.berth {
+            Some(Berth::Here(side, _)) => Some(checkpoint_here(side, told)),
+            Some(Berth::Out(_, _)) => None,
+            None => unreachable!(),
+        }
+    }
+}
