@@ -7,7 +7,7 @@ use Rattle.refusal.specs.declared.refusal.Refusal.{Refusal}
 use Rattle.calls.specs.Asking.{Refuses}
 use Rattle.calls.specs.Belonging.{IsReplyTo}
 use Rattle.calls.specs.declared.call.ShardCall.{ShardCall}
-use Rattle.calls.specs.declared.call.ShardCall.TheVariants.{Flush}
+use Rattle.calls.specs.declared.call.ShardCall.TheVariants.{Checkpoint, Flush}
 use Rattle.calls.specs.declared.reply.Reply.{Reply}
 use Rattle.flow_ties.specs.Refusing.{Notices}
 use Rattle.locked.specs.Serving.{Serves}
@@ -21,6 +21,18 @@ absent_is_noticed marks shards s call reply le = record { kept = λ e has. has; 
 -- a flush tells nothing of the list
 pub flush_serves : (rests : Type 0) (shards s : ℕ) (pass : Known Entry) (reply : Reply) → IsReplyTo (Shard s Flush) reply → Serves rests shards pass pass (Shard s Flush) reply
 flush_serves rests shards s pass reply belongs = record {
+  later = later_self pass;
+  belongs = belongs;
+  told = λ at. tt;
+  reach = λ at. tt;
+  watcher = λ at. tt;
+  care = λ at. tt;
+  intent = λ at. tt;
+}
+
+-- nor does a checkpoint
+pub checkpoint_serves : (rests : Type 0) (shards s : ℕ) (pass : Known Entry) (reply : Reply) → IsReplyTo (Shard s Checkpoint) reply → Serves rests shards pass pass (Shard s Checkpoint) reply
+checkpoint_serves rests shards s pass reply belongs = record {
   later = later_self pass;
   belongs = belongs;
   told = λ at. tt;

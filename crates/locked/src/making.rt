@@ -1,4 +1,4 @@
-// One call of one node, under one hold of its lock; a flush of a shard is made without it.
+// One call of one node, under one hold of its lock; a flush of a shard is made without it, and a checkpoint once its devices are here.
 ghost use Rattle.std.specs.Prelude.{◌≡◌, ◌≤◌, ℕ, false, length};
 ghost use Rattle.calls.specs.Asking.{MayAskCoordinator, MayAskShard};
 ghost use Rattle.calls.specs.Belonging.{IsOwed};
@@ -45,7 +45,7 @@ pub(crate) fn serve_coordinator<D: Device, B: Room>(
         CoordinatorCall::Inquire(id) => side.inquire(words, pass, told, id),
         CoordinatorCall::Raise(place, settled) => side.raise(told, place, settled),
         CoordinatorCall::Flush => side.flush(words, pass, told),
-        // A store that callers share makes no checkpoint.
+        // What is said of a store's list as it is opened is said of the decisions that its coordinator has, from the first on: so that one forgets none here.
         CoordinatorCall::Checkpoint => refuse_aloud(
             Refusal::BadRequest,
             NodeCall::Coordinator(CoordinatorCall::Checkpoint),
@@ -89,7 +89,8 @@ impl<D: Device, B: Room, G: Gate> Store<D, B, G> {
         serve_coordinator(&self.words, &mut side, &mut caller.pass, told, call)
     }
 
-    // Makes the call of this shard: a flush without its lock. One that is not there answers that the caller is damaged.
+    // Makes the call of this shard: a flush without its lock, a checkpoint once its devices are here. One that is not there answers that the caller is
+    // damaged.
     fn make_at<R: Wait>(
         &self,
         rt: &R,
@@ -110,12 +111,7 @@ impl<D: Device, B: Room, G: Gate> Store<D, B, G> {
             ShardCall::Flush => {
                 self.shards[shard as usize].flush(rt, &self.launches, &self.launch_log, told)
             }
-            // A store that callers share makes no checkpoint.
-            ShardCall::Checkpoint => refuse_aloud(
-                Refusal::BadRequest,
-                NodeCall::Shard(shard, ShardCall::Checkpoint),
-                told,
-            ),
+            ShardCall::Checkpoint => self.shards[shard as usize].checkpoint(rt, told),
             call => {
                 let mut place = self.side(rt, shard);
                 serve_shard(&self.words, &mut place, &mut caller.pass, told, call)

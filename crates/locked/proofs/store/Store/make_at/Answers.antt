@@ -3,7 +3,7 @@ use Rattle.refusal.specs.declared.refusal.Refusal.TheVariants.{Damaged}
 use Rattle.calls.specs.declared.call.NodeCall.TheVariants.{Shard}
 use Rattle.calls.specs.declared.call.ShardCall.{ShardCall}
 use Rattle.locked.specs.Serving.{Serves}
-use Rattle.locked.proofs.Served.{absent_is_noticed, absent_serves, flush_serves}
+use Rattle.locked.proofs.Served.{absent_is_noticed, absent_serves, checkpoint_serves, flush_serves}
 use Rattle.locked.proofs.store.Store.make_at.Goals as goal
 
 pub returns-then-shard-self-clause-told : goal.returns-then-shard-self-clause-told
@@ -13,6 +13,11 @@ pub returns-in-Flush-clause-serves : goal.returns-in-Flush-clause-serves
 returns-in-Flush-clause-serves g c =
     subst (λ (call : ShardCall). Serves g.B.Room.rests g.B.Room.shards c.args.caller.now c.args.caller.now (Shard c.args.shard call) c.flush.result) (sym c.in-Flush.is)
     (flush_serves g.B.Room.rests g.B.Room.shards c.args.shard c.args.caller.now c.flush.result (c.flush.ensures.belongs c.args.shard))
+
+pub returns-in-Checkpoint-clause-serves : goal.returns-in-Checkpoint-clause-serves
+returns-in-Checkpoint-clause-serves g c =
+    subst (λ (call : ShardCall). Serves g.B.Room.rests g.B.Room.shards c.args.caller.now c.args.caller.now (Shard c.args.shard call) c.checkpoint.result) (sym c.in-Checkpoint.is)
+    (checkpoint_serves g.B.Room.rests g.B.Room.shards c.args.shard c.args.caller.now c.checkpoint.result (c.checkpoint.ensures.belongs c.args.shard))
 
 pub returns-then-shard-self-clause-serves : goal.returns-then-shard-self-clause-serves
 returns-then-shard-self-clause-serves g c =
