@@ -69,7 +69,7 @@ SCRIPTS = {
         *("start v write +doc:a#viewer@u1 +doc:b#viewer@u1", "until v vote", "checkpoint 1", "until v outcome", "checkpoint c", "run v"),
         *("write -doc:a#viewer@u1", "learn 1", "raise 1", "checkpoint c", "checkpoint 1", "write +doc:a#viewer@u2"),
     ],
-    # A whole checkpoint stands behind a gate that was never opened, and must not be met again once a write was told behind it.
+    # What a stopped checkpoint left stands behind a closed gate, and must not be met again once a write was told since.
     "stopped-checkpoint": [
         *("write +doc:a#viewer@u1", "fail 1b 5 old", "checkpoint 1", "restart 1", "write +doc:a#viewer@u2", FROM_HERE),
         *("checkpoint 1", "restart 1", "write -doc:a#viewer@u1"),
