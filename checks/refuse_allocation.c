@@ -1,7 +1,7 @@
 // Refuses one allocation of a program: the one whose number, from 1 on, the environment names in REFUSE_ALLOCATION.
 // Where it names a file in REFUSE_SHARED, three numbers of 8 bytes there say it while the program runs: which is to be refused, and none where it is 0, how
 // many there were since, and how many were refused.
-// Loaded before the C library, for the checks `refused_memory`, `refused_session` and `refused_serving` alone; no part of the program.
+// Loaded before the C library, for the checks `refused_memory`, `refused_session`, `refused_serving` and `refused_dump` alone; no part of the program.
 #define _GNU_SOURCE
 #include <dlfcn.h>
 #include <errno.h>

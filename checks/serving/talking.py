@@ -169,7 +169,7 @@ def slow_lines(folder):
 
 
 def long_lines(folder):
-    """a line of 262,144 bytes is answered, one of a byte more is refused, and the session goes on"""
+    """a line of 262,144 bytes is answered, bare spaces too, one of a byte more is refused, and the session goes on"""
     line = spelled(check("doc:a#viewer@ann"))[:-1]
     whole = {"member": False, "zookie": token_of(0)}
     with Server(folder) as server, Session(server.port) as session:
@@ -177,6 +177,10 @@ def long_lines(folder):
             session.send(line + b" " * (length - len(line)) + b"\n")
             answer = session.answer()
             must(answer == wanted, f"answers {answer} to a line of {length} bytes, and not {wanted}")
+        for length, wanted in ((MAX_LINE, refusal(1, "BadRequest")), (MAX_LINE + 1, TOO_LARGE)):
+            session.send(b" " * length + b"\n")
+            answer = session.answer()
+            must(answer == wanted, f"answers {answer} to {length} spaces, and not {wanted}")
         is_told(session, check("doc:a#viewer@ann"), whole)
 
 

@@ -4,7 +4,7 @@ from judge.reading import Failed, judged
 from judge.told import place_of
 from judge.worlds import Wrong, must
 from sweeping.asking import Sim
-from sweeping.scripts import NODES, SCRIPTS, SHARDS, STORE, namespaces, objects, requests, texts
+from sweeping.scripts import NODES, SCRIPTS, SHARDS, STORE, halves, namespaces, objects, requests, texts
 
 COLLECTED = ["refused 8 Collected"]
 DOWN = ["refused 13 Down"]
@@ -52,6 +52,7 @@ class Look:
 def gather(name, fails):
     """Runs a script with these failing calls, each a bank, its number and what a stop leaves, and looks at the store behind it."""
     look, script = Look(name, fails), SCRIPTS[name]
+    before, swept = halves(script)
     watch = lambda place: f"watch {token(STORE, place)} 256 {' '.join(namespaces(script))}"
 
     def ask(*parts):
@@ -63,7 +64,8 @@ def gather(name, fails):
 
     try:
         with Sim() as sim:
-            ask(("fails", [f"fail {bank} {n} {tear}" for bank, n, tear in fails]), ("script", script), ("restarts", [f"restart {node}" for node in NODES]))
+            failing = [f"fail {bank} {n} {tear}" for bank, n, tear in fails]
+            ask(("script", before), ("fails", failing), ("script", swept), ("restarts", [f"restart {node}" for node in NODES]))
             again = [f"restart {node}" for node in look.waiting()]
             resolved = [f"resolve {shard}" for shard in range(SHARDS)]
             read = " ".join(objects(script))

@@ -10,6 +10,9 @@ BANKS = [node + side for node in NODES for side in "ab"]
 # Behind each `rows`, whose refusal could else be taken for that of the line behind it.
 NO_LINE = "?"
 
+# Calls are swept from here on, and where a script does not have it from its beginning: what stands before may have a failure of its own.
+FROM_HERE = "from here"
+
 
 def at(place):
     return "=" + token(STORE, place)
@@ -66,7 +69,18 @@ SCRIPTS = {
         *("start v write +doc:a#viewer@u1 +doc:b#viewer@u1", "until v vote", "checkpoint 1", "until v outcome", "checkpoint c", "run v"),
         *("write -doc:a#viewer@u1", "learn 1", "raise 1", "checkpoint c", "checkpoint 1", "write +doc:a#viewer@u2"),
     ],
+    # What a stopped checkpoint left stands behind a closed gate, and must not be met again once a write was told since.
+    "stopped-checkpoint": [
+        *("write +doc:a#viewer@u1", "fail 1b 6 old", "checkpoint 1", "restart 1", "write +doc:a#viewer@u2", FROM_HERE),
+        *("checkpoint 1", "restart 1", "write -doc:a#viewer@u1"),
+    ],
 }
+
+
+def halves(script):
+    """What stands before the failing calls, and what is swept."""
+    at = script.index(FROM_HERE) if FROM_HERE in script else -1
+    return script[: max(at, 0)], script[at + 1 :]
 
 
 def requests(script):

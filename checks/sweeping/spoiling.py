@@ -14,6 +14,8 @@ RUNS = [
     ("learned-record-lost", [("1a", 15, "old")]),
     ("two-decisions-in-one-flush", []),
     ("two-decisions-in-one-flush", [("0a", 30, "new")]),
+    ("two-checkpoints", [("cb", 4, "a5")]),
+    ("stopped-checkpoint", []),
 ]
 
 

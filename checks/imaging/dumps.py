@@ -1,0 +1,125 @@
+"""What `zanstore dump` prints of a store whose files are the images of its nodes, one of them changed, and what it has to print."""
+import os
+import subprocess
+import tempfile
+from collections import Counter
+from random import Random
+
+from imaging.changing import changed
+from imaging.format import GREATEST, Damaged, Rules
+from imaging.making import TOP, has_no_checkpoint, with_checkpoints
+from imaging.replaying import COORDINATOR, found, named_of, shard_of, tuple_text
+from judge.lines import token
+
+LIMIT = 60
+DAMAGED, FULL = "16 Damaged", "15 Full"
+
+
+class Refused(Exception):
+    """A dump that prints nothing."""
+
+
+def must(is_so, refusal=DAMAGED):
+    if not is_so:
+        raise Refused(refusal)
+
+
+def program():
+    return os.environ.get("ZANSTORE", os.path.join(TOP, "crates", "zanstore", "out", "zanstore"))
+
+
+def opened(image):
+    """What the node has, where its opening is not refused."""
+    try:
+        node, _ = found(Rules(), image)
+    except Damaged:
+        raise Refused(DAMAGED) from None
+    must(node.epoch < GREATEST, FULL)
+    return node
+
+
+def part_of(shard, made):
+    """The changes and the conditions of a write that are a shard's."""
+    changes = [change for change in made.changes if shard_of(change[1], shard.shards) == shard.node]
+    return changes, [condition for condition in made.conditions if shard_of(condition[0], shard.shards) == shard.node]
+
+
+def learned(coordinator, shard):
+    """The versions of a shard that has learned all that is kept."""
+    rows, doubt = list(shard.rows), dict(shard.in_doubt)
+    for made in coordinator.log:
+        if made.place > shard.learned and any(shard_of(named, shard.shards) == shard.node for named in named_of(made)):
+            prepared = doubt.pop(made.id, None)
+            must(prepared and part_of(shard, prepared) == part_of(shard, made))
+            rows += [(named, made.place, is_touch) for is_touch, named in prepared.changes]
+    return rows
+
+
+def is_astray(images):
+    """Whether a shard has learned less than the horizon, or more than was kept: a dump does not look for that, as a server's start does."""
+    try:
+        coordinator, *shards = [opened(image) for image in images]
+    except Refused:
+        return False
+    return any(not coordinator.horizon <= shard.learned <= coordinator.end() for shard in shards)
+
+
+def order(named):
+    namespace, name, relation, user = named
+    return namespace, name, relation, user
+
+
+def answer(images):
+    """The status, the text and the words on standard error of a dump of these nodes, the coordinator first."""
+    try:
+        coordinator, *shards = [opened(image) for image in images]
+        rows = [row for shard in shards for row in learned(coordinator, shard)]
+    except Refused as refused:
+        return 1, "", f"zanstore: {refused}\n"
+    newest = {}
+    for named, place, is_touch in rows:
+        newest[named] = max(newest.get(named, (0, False)), (place, is_touch))
+    there = [tuple_text(named) for named in sorted(newest, key=order) if newest[named][1]]
+    return 0, "".join(f"{line}\n" for line in [f"at {token(images[0].store, coordinator.end())}", *there]), ""
+
+
+def dumped(images):
+    """The same of the program."""
+    with tempfile.TemporaryDirectory(prefix="images-") as folder:
+        for image in images:
+            node = "c" if image.node == COORDINATOR else image.node
+            for bank in "ab":
+                with open(f"{folder}/{node}.{bank}", "wb") as it:
+                    it.write(getattr(image, bank))
+        words = [program(), "dump", "--dir", folder, "--store", str(images[0].store), "--shards", str(images[0].shards)]
+        ran = subprocess.run(words, capture_output=True, text=True, timeout=LIMIT)
+    return ran.returncode, ran.stdout, ran.stderr
+
+
+def with_change(random, store, images):
+    """What was done to a node of the store, and all of them; the node may have made checkpoints before."""
+    at = random.randrange(len(store))
+    node = store[at]
+    if has_no_checkpoint(node) and random.random() < 0.5:
+        node = with_checkpoints(random, node)
+    what, other = changed(random, node, images)
+    return what, [*store[:at], other, *store[at + 1 :]]
+
+
+def judged(seed, count, stores):
+    """So many changes by a seed: how many dumps ended with each status, and what was answered wrongly."""
+    random, statuses, faults = Random(seed), Counter(), []
+    images = [image for store in stores for image in store]
+    given = [("as it is", store) for store in stores]
+    while len(given) < count:
+        store = random.choice(stores)
+        what, other = with_change(random, store, images)
+        if not is_astray(other) and [image[:3] for image in other] == [image[:3] for image in store]:
+            given.append((what, other))
+    for what, store in given[:count]:
+        wanted, found = answer(store), dumped(store)
+        statuses[wanted[0]] += 1
+        if found != wanted:
+            files = "\n".join(f"  node {image.node}: {image.a.hex() or '-'} {image.b.hex() or '-'}" for image in store)
+            faults.append(f"seed {seed}, a dump, {what}:\n{files}\n  prints {found}\n  and has to print {wanted}")
+    return statuses, faults
