@@ -55,13 +55,13 @@ def learned(coordinator, shard):
     return rows
 
 
-def is_astray(images):
-    """Whether a shard has learned less than the horizon, or more than was kept: a dump does not look for that, as a server's start does."""
+def is_ahead(images):
+    """Whether a shard has learned more than was kept: a dump looks for that in its versions alone, and a server's start in what it has learned."""
     try:
         coordinator, *shards = [opened(image) for image in images]
     except Refused:
         return False
-    return any(not coordinator.horizon <= shard.learned <= coordinator.end() for shard in shards)
+    return any(shard.learned > coordinator.end() for shard in shards)
 
 
 def order(named):
@@ -73,6 +73,8 @@ def answer(images):
     """The status, the text and the words on standard error of a dump of these nodes, the coordinator first."""
     try:
         coordinator, *shards = [opened(image) for image in images]
+        for shard in shards:
+            must(coordinator.horizon <= shard.learned)
         rows = [row for shard in shards for row in learned(coordinator, shard)]
     except Refused as refused:
         return 1, "", f"zanstore: {refused}\n"
@@ -114,7 +116,7 @@ def judged(seed, count, stores):
     while len(given) < count:
         store = random.choice(stores)
         what, other = with_change(random, store, images)
-        if not is_astray(other) and [image[:3] for image in other] == [image[:3] for image in store]:
+        if not is_ahead(other) and [image[:3] for image in other] == [image[:3] for image in store]:
             given.append((what, other))
     for what, store in given[:count]:
         wanted, found = answer(store), dumped(store)

@@ -123,7 +123,7 @@ fn find_all<S: Store>(
 
 /// All tuples that are there at a place, or at the latest. `Future` where the place is above what is kept, `Collected` where it is below the horizon, and
 /// before that what a node was refused with, the coordinator first and then the shards by rising number. `Damaged` where a shard has a version above what
-/// the coordinator has kept: the files are not all of one moment.
+/// the coordinator has kept, or has learned less than that has forgotten: the files are not all of one moment.
 pub fn take_dump<S: Store>(
     alloc: Global,
     store: &mut S,
