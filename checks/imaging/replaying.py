@@ -184,7 +184,7 @@ class Shard(Node):
 
     def told(self):
         doubt = [f"undecided {epoch}.{number}" for epoch, number in sorted(self.in_doubt)]
-        rows = [f"{place} {'+' if is_touch else '-'}{tuple_text(named)}" for named, place, is_touch in sorted(self.rows)]
+        rows = [f"{place} {'+' if is_touch else '-'}{tuple_text(named)}" for named, place, is_touch in sorted(self.rows, key=lambda row: row[:2])]
         return [f"learned {self.learned}", *doubt, *rows]
 
 
@@ -261,7 +261,7 @@ def is_found_without(rule, image):
     """Whether the image would be found if there were no such rule. Where a reader without it gets lost, it would not."""
     try:
         return not answer(Rules(rule), image)[0].startswith("refused")
-    except (LookupError, TypeError, ValueError):
+    except (LookupError, TypeError, ValueError, OverflowError):
         return False
 
 
