@@ -3,8 +3,6 @@
 //! Keeps: nothing at run time; each law is the contract of a function with an empty body.
 //! Callers rely on: where each reply tells what is of the list, what a flow answers is of the list, and it is refused only for a reason.
 //!
-//! Of all programs only the check of threads uses these words yet, by way of `locked`.
-//!
 //! Start at `specs/Telling.antt`, what a reply tells of the list, and `specs/Reads.antt`.
 #![tactic(auto)]
 

@@ -7,7 +7,7 @@
 //! Many bodies may be written ahead of a list, behind its closed gate, and become its end by one byte (`write_ahead`, `publish`); `clear`
 //! empties a list by one byte. A checkpoint of a journal is written by these three.
 //!
-//! `lend` gives the log with its device away, and leaves one that knows where the list ends; no program calls it yet.
+//! `lend` gives the log with its device away, and leaves one that knows where the list ends.
 //!
 //! Start at `specs/Gated.antt`, what bytes stand for which list, and then `append`, its four calls.
 #![tactic(auto)]

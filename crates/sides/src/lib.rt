@@ -5,8 +5,6 @@
 //! Callers rely on: what a pass had seen it sees behind each call, what is told of the list is of what it has seen then, and a decision that is told as
 //! kept stands in the list there, above all that the caller had seen when it was made.
 //!
-//! Of all programs only the check of threads uses this yet, by way of `locked`.
-//!
 //! Start at `specs/Sides.antt`, and then `ShardSide`; at `specs/CoordinatorSides.antt`, and then `CoordinatorSide`.
 #![tactic(auto)]
 

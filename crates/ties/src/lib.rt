@@ -3,7 +3,7 @@
 //! Keeps: nothing at run time; each law is the contract of a function with an empty body.
 //! Callers rely on: each call of a node leaves it tied, and tells its caller what stands in the list from then on.
 //!
-//! Of all programs only the check of threads uses these words yet, by way of `locked`. Start at `specs/Ties.antt`.
+//! Start at `specs/Ties.antt`.
 #![tactic(auto)]
 
 mod deciding_laws;
