@@ -37,6 +37,13 @@ impl Name {
     }
 }
 
+// Names are short and most differ early, so they are compared byte by byte: a slice's own order would look for long equal beginnings first.
+fn compare(a: &[u8], b: &[u8]) -> Ordering
+    ensures { result ≡ slice_cmp nat_cmp a.now b.now }
+{
+    a.iter().cmp(b.iter())
+}
+
 impl PartialEq for Name {
     ghost eq = { pointwise ◌==◌ };
 
@@ -61,7 +68,7 @@ impl Ord for Name {
     ghost matches_eq = { Prim.search (comparing, rules) };
 
     fn cmp(&self, other: &Name) -> Ordering {
-        self.as_bytes().cmp(other.as_bytes())
+        compare(self.as_bytes(), other.as_bytes())
     }
 }
 
