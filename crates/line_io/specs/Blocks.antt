@@ -1,5 +1,5 @@
 -- Bytes that were read, and what is taken of them.
-use Rattle.std.specs.Prelude.{◌≡◌, ℕ, Bool, true, false, List, [], ◌∷◌, ◌++◌, drop, Option}
+use Rattle.std.specs.Prelude.{◌≡◌, ℕ, Bool, true, false, List, [], ◌∷◌, ◌++◌, ◌-◌, take, drop, Option}
 use Rattle.std.specs.Io.KnownBytes.{Consumes, IsAtEnd}
 use Rattle.line_io.specs.declared.held.Block.{Block}
 use Rattle.line_io.specs.declared.line.Line.{Line}
@@ -7,9 +7,9 @@ use Rattle.line_io.specs.declared.input.Ending.{Ending}
 use Rattle.line_io.specs.declared.input.Ending.TheVariants.{Feed, Input}
 use Rattle.line_io.specs.Lines.{HasNoFeed, Holds}
 
--- what is not taken yet
+-- what was read and is not taken yet
 abbrev pub unread : Block → List ℕ
-unread b = drop b.taken b.bytes.items
+unread b = take (b.filled - b.taken) (drop b.taken b.bytes.items)
 
 -- What is taken of these bytes, to a line with this front: up to the line feed, which is taken too, or all, which have none.
 pub record TakesPart (has_feed : Bool) (old new front : List ℕ) (line : Line) : Type 0 where

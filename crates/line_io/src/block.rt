@@ -14,14 +14,17 @@ impl Block {
     pub fn new(alloc: Global) -> Result<Block, AllocError>
         ensures { IfOk result (λ b. unread_of b ≡ []) }
     {
-        let bytes = Vec::with_capacity(alloc, BLOCK)?;
-        Ok(Block { bytes, taken: 0 })
+        Ok(Block {
+            bytes: vec![in alloc; 0; BLOCK]?,
+            filled: 0,
+            taken: 0,
+        })
     }
 
     fn unread(&self) -> &[u8]
         ensures { result.now ≡ unread_of self.now }
     {
-        &self.bytes[self.taken..]
+        &self.bytes[self.taken..self.filled]
     }
 
     fn is_empty(&self) -> bool
@@ -47,9 +50,8 @@ impl Block {
         ensures err { OnErr result (Keeps (R.remaining input.old) (R.remaining input.new)) }
     {
         self.taken = 0;
-        self.bytes.resize(BLOCK, 0)?;
-        let count = input.read(&mut self.bytes)?;
-        self.bytes.truncate(count);
+        self.filled = 0;
+        self.filled = input.read(&mut self.bytes)?;
         Ok(())
     }
 
@@ -71,13 +73,13 @@ impl Block {
     {
         match memchr(b'\n', self.unread()) {
             Some(count) => {
-                line.add(&self.bytes[self.taken..self.taken + count]);
+                line.add(&self.unread()[..count]);
                 self.taken += count + 1;
                 true
             }
             None => {
-                line.add(&self.bytes[self.taken..]);
-                self.taken = self.bytes.len();
+                line.add(self.unread());
+                self.taken = self.filled;
                 false
             }
         }
