@@ -7,9 +7,9 @@ ghost use Rattle.coordinator.specs.Ranges.{HasSettled};
 ghost use Rattle.decisions.specs.Coordinators.{HaveSettled, IsRising, IsRunning, RaisesAt, kept_of};
 
 use crate::Coordinator;
+use crate::staging::stage_horizon;
 use decisions::Settled;
 use device::Device;
-use records::Record;
 use tuples::Refusal;
 
 /// Why the horizon was not raised, with the values that were handed in.
@@ -91,7 +91,7 @@ impl<D: Device> Coordinator<D> {
         if rises_to(self.rising, place) {
             return Ok(());
         }
-        self.journal.stage(&Record::Horizon(place))?;
+        stage_horizon(&mut self.journal, place)?;
         self.rising = Some(place);
         Ok(())
     }

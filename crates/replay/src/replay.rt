@@ -234,7 +234,11 @@ impl Replay {
         match mark {
             // One checkpoint stands in no other.
             Mark::Begins(_) => Err(Refusal::Damaged),
-            Mark::Row { place, change } => self.take_row(me, inside, place, change),
+            Mark::Row { place, change } => {
+                let taken = self.take_row(me, inside, place, &change);
+                drop(change);
+                taken
+            }
             Mark::Ends(generation) => self.end(inside, generation),
         }
     }
@@ -245,17 +249,17 @@ impl Replay {
         me: Identity,
         inside: Inside,
         place: u64,
-        change: Change,
+        change: &Change,
     ) -> Result<(), Refusal>
         requires { self.old.inside ≡ Some inside }
-        ensures ok { OnOk result (MayTakeRow me inside self.old.state place change × TakesRecord self.old (checkpoint_record (row_mark place change)) self.new) }
-        ensures damaged { IsErrOf result Refusal.Damaged → MayTakeRow me inside self.old.state place change → ⊥ }
+        ensures ok { OnOk result (MayTakeRow me inside self.old.state place change.now × TakesRecord self.old (checkpoint_record (row_mark place change.now)) self.new) }
+        ensures damaged { IsErrOf result Refusal.Damaged → MayTakeRow me inside self.old.state place change.now → ⊥ }
         ensures err { IfErr result (λ e. (e ≡ Refusal.Damaged) ⊎ (e ≡ Refusal.NoMemory)) }
     {
-        if !may_take_row(me, inside, &self.memory, place, &change) {
+        if !may_take_row(me, inside, &self.memory, place, change) {
             return Err(Refusal::Damaged);
         }
-        self.memory.add_version(place, &change)?;
+        self.memory.add_version(place, change)?;
         Ok(())
     }
 

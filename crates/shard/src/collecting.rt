@@ -18,7 +18,10 @@ fn stage_horizon<D: Device>(journal: &mut Journal<D>, place: u64) -> Result<(), 
     ensures full { IsErrOf result Refusal.Full → HasNoRoom journal.old.staged (horizon_record place) }
     ensures err { IfErr result (λ e. (e ≡ Refusal.Full) × (journal.new ≡ journal.old)) }
 {
-    journal.stage(&Record::Horizon(place))
+    let next = Record::Horizon(place);
+    let staged = journal.stage(&next);
+    drop(next);
+    staged
 }
 
 impl<D: Device> Shard<D> {

@@ -1,6 +1,7 @@
 // Dropping a write that was aborted.
-ghost use Rattle.std.specs.Prelude.{◌≡◌, ◌↔◌, true, None, IfErr, IsErr, is_some};
+ghost use Rattle.std.specs.Prelude.{◌≡◌, ◌↔◌, ◌++◌, ◌∷◌, [], true, None, IfErr, IsErr, IsErrOf, OnOk, is_some};
 ghost use Rattle.journal.specs.Records.{HasNoRoom};
+ghost use Rattle.records.specs.Format.{IsWriteId};
 ghost use Rattle.records.specs.Replays.{find_in_doubt};
 ghost use Rattle.records.specs.declared.record.Record.TheVariants.{Dropped as dropped_record};
 ghost use Rattle.shard.specs.Shards.{IsUp, Stages, memory as memory_of};
@@ -8,13 +9,28 @@ ghost use Rattle.shard.specs.Shards.{IsUp, Stages, memory as memory_of};
 use crate::Shard;
 use decisions::{Held, Verdict};
 use device::Device;
+use journal::Journal;
 use records::Record;
-use tuples::Refusal;
+use tuples::{Refusal, WriteId};
 
 fn spend(held: Option<Held>) {
     if let Some(held) = held {
         held.leave();
     }
+}
+
+// Stages that a write is dropped.
+fn stage_dropped<D: Device>(journal: &mut Journal<D>, id: WriteId) -> Result<(), Refusal>
+    requires { IsWriteId id }
+    ensures ok { OnOk result (journal.new ≡ record journal.old { staged = journal.old.staged ++ dropped_record id ∷ [] }) }
+    ensures room { OnOk result (HasNoRoom journal.old.staged (dropped_record id) → ⊥) }
+    ensures full { IsErrOf result Refusal.Full → HasNoRoom journal.old.staged (dropped_record id) }
+    ensures err { IfErr result (λ e. (e ≡ Refusal.Full) × (journal.new ≡ journal.old)) }
+{
+    let next = Record::Dropped(id);
+    let staged = journal.stage(&next);
+    drop(next);
+    staged
 }
 
 impl<D: Device> Shard<D> {
@@ -38,7 +54,7 @@ impl<D: Device> Shard<D> {
         if self.memory.find(id).is_none() {
             return Ok(());
         }
-        match self.journal.stage(&Record::Dropped(id)) {
+        match stage_dropped(&mut self.journal, id) {
             Ok(()) => {
                 self.memory.drop_write(id);
                 Ok(())

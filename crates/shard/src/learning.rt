@@ -149,11 +149,33 @@ fn apply<D: Device>(
         to,
         placed_ids: PlacedIds::from_vec(copies),
     };
-    if !journal.has_room(&next) {
+    let applied = apply_record(journal, memory, alloc, to, &placed_ids, &next);
+    drop(next);
+    applied
+}
+
+// The same, of a record that has them.
+fn apply_record<D: Device>(
+    journal: &mut Journal<D>,
+    memory: &mut Memory,
+    alloc: Global,
+    to: u64,
+    placed_ids: &[PlacedId],
+    next: &Record,
+) -> Result<(), Refusal>
+    requires spelled { IsLearned to placed_ids.now }
+    requires may { MayLearn memory.old to placed_ids.now }
+    requires names { next.now ≡ learned_record to placed_ids.now }
+    ensures staged { OnOk result (journal.new ≡ record journal.old { staged = journal.old.staged ++ learned_record to placed_ids.now ∷ [] }) }
+    ensures applied { OnOk result (IsAlike memory.new (shard_step memory.old (learned_record to placed_ids.now))) }
+    ensures full { IsErrOf result Refusal.Full → HasNoRoom journal.old.staged (learned_record to placed_ids.now) }
+    ensures err { IfErr result (λ e. ((e ≡ Refusal.Full) ⊎ (e ≡ Refusal.NoMemory)) × (journal.new ≡ journal.old) × (memory.new ≡ memory.old)) }
+{
+    if !journal.has_room(next) {
         return Err(Refusal::Full);
     }
-    memory.learn(alloc, to, &placed_ids)?;
-    stage_fitting(journal, &next);
+    memory.learn(alloc, to, placed_ids)?;
+    stage_fitting(journal, next);
     Ok(())
 }
 

@@ -80,6 +80,7 @@ fn stage_opening<D: Device>(journal: &mut Journal<D>, epoch: u64, me: Identity)
         node: me.node(),
     };
     stage_fitting(journal, &next);
+    drop(next);
 }
 
 fn refused<D: Device>(refusal: Refusal, journal: Journal<D>) -> Refused<D>

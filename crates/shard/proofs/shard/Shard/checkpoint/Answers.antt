@@ -1,4 +1,4 @@
-use Rattle.std.proofs.Common.{[], ℕ, List, sym, subst}
+use Rattle.std.proofs.Common.{ℕ, List, sym, subst}
 use Rattle.tuples.specs.declared.entry.WriteId.{WriteId}
 use Rattle.shard.specs.Keeping.{IsKept}
 use Rattle.shard.proofs.Checkpointed.{kept_checkpointed, point_checked, point_moments}
