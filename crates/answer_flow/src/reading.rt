@@ -123,7 +123,11 @@ pub(crate) fn caught_up(
     match call.give(reply) {
         Progress::Next(catch_up) => Phase::Ready(Ready::CatchUp(gathered, set, catch_up)),
         Progress::There => Phase::Ready(Ready::Read(gathered, set)),
-        Progress::Refused(refusal) => refused(refusal),
+        Progress::Refused(refusal) => {
+            drop(gathered);
+            drop(set);
+            refused(refusal)
+        }
     }
 }
 
@@ -160,6 +164,8 @@ fn gather_more(asked: &AskedRead, gathered: Gathered, set: Tupleset, more: Vec<T
         rows,
     } = gathered;
     let Ok(rows) = merge(asked.alloc, rows, more) else {
+        drop(done);
+        drop(set);
         return refused(Refusal::NoMemory);
     };
     let below = below + 1;
@@ -172,6 +178,7 @@ fn gather_more(asked: &AskedRead, gathered: Gathered, set: Tupleset, more: Vec<T
         };
         return bring_up(asked, gathered, set);
     }
+    drop(set);
     finish_one(asked, place, done, rows)
 }
 
@@ -188,8 +195,10 @@ fn gather(asked: &AskedRead, gathered: Gathered, set: Tupleset, more: Vec<Tuple>
         place,
         done,
         below: _,
-        rows: _,
+        rows,
     } = gathered;
+    drop(rows);
+    drop(set);
     finish_one(asked, place, done, more)
 }
 
