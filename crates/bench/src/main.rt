@@ -8,6 +8,7 @@
 #![tactic(auto)]
 
 mod appends;
+mod checkpoints;
 mod deciding;
 mod flush;
 mod measure;
@@ -61,7 +62,7 @@ fn run<R: Runtime + Threads + Wait + Sync>(
 ) -> anyhow::Result<()> {
     if words.len() <= 1 {
         println!(rt;
-            "measures: texts COUNT, codec ROUNDS, flush RECORDS, versions ROWS, holds WRITES, prepares WRITES, write-path WRITES, crowd USERS, decisions GROUPS, log DECISIONS, opening DECISIONS, records WRITES, shard-opening WRITES, lines-write COUNT, lines-read COUNT, lines-check COUNT, lines-watch COUNT, appends COUNT, pairs-by-one COUNT, pairs-by-two COUNT, latest-by-one, latest-by-four, called-by-one, called-by-four"
+            "measures: texts COUNT, codec ROUNDS, flush RECORDS, versions ROWS, holds WRITES, prepares WRITES, write-path WRITES, crowd USERS, decisions GROUPS, log DECISIONS, opening DECISIONS, records WRITES, shard-opening WRITES, checkpoint ROWS, lines-write COUNT, lines-read COUNT, lines-check COUNT, lines-watch COUNT, appends COUNT, pairs-by-one COUNT, pairs-by-two COUNT, latest-by-one, latest-by-four, called-by-one, called-by-four"
         )?;
         return Ok(());
     }

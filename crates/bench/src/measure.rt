@@ -1,5 +1,5 @@
 // What can be measured.
-use crate::{deciding, flush, openings, prepares, shard_openings};
+use crate::{checkpoints, deciding, flush, openings, prepares, shard_openings};
 use measures::latest::Way;
 use measures::lines::Kind;
 use measures::{codec, crowd, doubts, latest, lines, pairs, rows, texts};
@@ -37,6 +37,8 @@ pub(crate) enum Measure {
     Records(u32),
     /// The same, and a shard opened over them.
     ShardOpening(u32),
+    /// A shard with so many rows, which makes checkpoints.
+    Checkpoint(u32),
     /// So many lines of a session, of one kind, answered over memory.
     Lines(Kind, u32),
     /// Looks at the safe place.
@@ -103,6 +105,7 @@ impl Measure {
             "opening" => Some(Measure::Opening(count)),
             "records" => Some(Measure::Records(count)),
             "shard-opening" => Some(Measure::ShardOpening(count)),
+            "checkpoint" => Some(Measure::Checkpoint(count)),
             _ => None,
         }
     }
@@ -127,6 +130,7 @@ impl Measure {
             Measure::Opening(decisions) => openings::opening(rt, alloc, decisions),
             Measure::Records(writes) => shard_openings::records(rt, alloc, writes),
             Measure::ShardOpening(writes) => shard_openings::opening(rt, alloc, writes),
+            Measure::Checkpoint(rows) => checkpoints::measure(rt, alloc, rows),
             Measure::Lines(kind, count) => lines::measure(rt, alloc, kind, count),
             Measure::LatestByOne(way) => latest::by_one(rt, alloc, way),
             Measure::LatestByFour(way) => latest::by_four(rt, alloc, way),

@@ -71,8 +71,8 @@ fn print_opened<D: Device>(
     print(rt, "shard-opening", elapsed, done)
 }
 
-// Devices with the records of so many writes.
-fn made<D: Device>(alloc: Global, a: D, b: D, writes: u32) -> Result<(D, D), Refusal> {
+/// Devices with the records of so many writes.
+pub(crate) fn made<D: Device>(alloc: Global, a: D, b: D, writes: u32) -> Result<(D, D), Refusal> {
     let mut journal = new_journal(alloc, a, b)?;
     stage_all(alloc, &mut journal, writes)?;
     Ok(journal.into_devices())

@@ -1,4 +1,6 @@
 // What a row does with a store, and what comes of it.
+ghost use Rattle.care_flow.specs.Cares.{IsThere};
+
 use crate::asking::Asking;
 use crate::caring::{self, begin_care};
 use crate::logging::{log_care, log_write};
@@ -7,11 +9,12 @@ use crate::stores::Store;
 use crate::texts::command;
 use crate::turning::Turning;
 use calls::{CoordinatorCall, NodeCall, ShardCall, Told};
+use care_flow::CareFlow;
 use commit_flow::WriteEnd;
 use device::{Device, Tear};
 use lines::Command;
 use names::{Care, NodeName};
-use std::alloc::Global;
+use std::alloc::{AllocError, Global};
 use tuples::{Refusal, Request, Write};
 
 /// A store, its flows, and what they did.
@@ -98,14 +101,10 @@ impl<D: Device> Playing<D> {
         let Some(mut flow) = begin_care(alloc, care) else {
             return Err(Refusal::BadRequest);
         };
-        caring::turn_all(
-            &mut flow,
-            MOST_TURNS,
-            &mut self.store,
-            &mut self.told,
-            &mut self.log,
-        )?;
-        log_care(&mut self.log, flow.finish())
+        let turned = self.turn_care(&mut flow, MOST_TURNS);
+        let end = flow.finish();
+        turned?;
+        log_care(&mut self.log, end)
     }
 
     /// A care makes so many calls; then the node is opened again, and the care goes to its end.
@@ -119,22 +118,31 @@ impl<D: Device> Playing<D> {
         let Some(mut flow) = begin_care(alloc, care) else {
             return Err(Refusal::BadRequest);
         };
-        caring::turn_all(
-            &mut flow,
-            turns,
-            &mut self.store,
-            &mut self.told,
-            &mut self.log,
-        )?;
+        let turned = self.turn_across(&mut flow, turns, node);
+        let end = flow.finish();
+        turned?;
+        log_care(&mut self.log, end)
+    }
+
+    fn turn_across(
+        &mut self,
+        flow: &mut CareFlow,
+        turns: usize,
+        node: NodeName,
+    ) -> Result<(), AllocError>
+        requires { IsThere 2 flow.old }
+        ensures { IsThere 2 flow.new }
+    {
+        self.turn_care(flow, turns)?;
         self.store.restart(node);
-        caring::turn_all(
-            &mut flow,
-            MOST_TURNS,
-            &mut self.store,
-            &mut self.told,
-            &mut self.log,
-        )?;
-        log_care(&mut self.log, flow.finish())
+        self.turn_care(flow, MOST_TURNS)
+    }
+
+    fn turn_care(&mut self, flow: &mut CareFlow, turns: usize) -> Result<(), AllocError>
+        requires { IsThere 2 flow.old }
+        ensures { IsThere 2 flow.new }
+    {
+        caring::turn_all(flow, turns, &mut self.store, &mut self.told, &mut self.log)
     }
 
     /// Begins a read, a check or a watch, which makes no call yet.

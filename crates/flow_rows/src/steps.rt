@@ -4,11 +4,20 @@ use crate::plays::Playing;
 use crate::texts::{care, command, number, refusal, two_numbers};
 use device::Device;
 use lines::Command;
+use names::NodeName;
 use std::alloc::Global;
 use tuples::{Refusal, Request};
 
 /// More turns than any flow of a row makes, so that one that is not at its end behind them has none.
 pub(crate) const MOST_TURNS: usize = 20_000;
+
+// The node that a line of a script opens again.
+fn restarted(alloc: Global, line: &str) -> Result<NodeName, Refusal> {
+    match command(alloc, line)? {
+        Command::Restart(node) => Ok(node),
+        _ => Err(Refusal::BadRequest),
+    }
+}
 
 impl<D: Device> Playing<D> {
     /// Does what the line says; `BadRequest` where it says nothing.
@@ -124,12 +133,8 @@ impl<D: Device> Playing<D> {
     fn across_by(&mut self, alloc: Global, rest: &str) -> Result<(), Refusal> {
         let (turns, rest) = rest.split_once(' ').ok_or(Refusal::BadRequest)?;
         let (restart, rest) = rest.split_once(", ").ok_or(Refusal::BadRequest)?;
-        match command(alloc, restart)? {
-            Command::Restart(node) => {
-                self.care_across(alloc, care(alloc, rest)?, number(turns)?, node)
-            }
-            _ => Err(Refusal::BadRequest),
-        }
+        let node = restarted(alloc, restart)?;
+        self.care_across(alloc, care(alloc, rest)?, number(turns)?, node)
     }
 
     fn refuse_by(&mut self, rest: &str) -> Result<(), Refusal> {

@@ -106,6 +106,20 @@ pub(crate) fn ask_at<D: Device>(
     }
 }
 
+// The node in this place is opened again, where one is there.
+fn open_again<D: Device>(alloc: Global, place: &mut Option<Node<D>>, name: NodeName) {
+    let Some(node) = place.take() else {
+        return;
+    };
+    let (a, b) = revived(node);
+    let opened = match name {
+        NodeName::Coordinator => open_coordinator(alloc, a, b, SHARDS),
+        NodeName::Shard(0) => open_shard(alloc, a, b, SHARDS, 0),
+        NodeName::Shard(_) => open_shard(alloc, a, b, SHARDS, 1),
+    };
+    drop(place.replace(opened));
+}
+
 impl<D: Device> Store<D> {
     /// Over these devices, two for each node; a node without two is not there.
     pub(crate) fn open(alloc: Global, mut devices: Vec<D>) -> Store<D> {
@@ -157,25 +171,11 @@ impl<D: Device> Store<D> {
 
     /// Opens a node again, over what its devices are found with.
     pub(crate) fn restart(&mut self, name: NodeName) {
+        let alloc = self.alloc;
         match name {
-            NodeName::Coordinator => {
-                if let Some(node) = self.coordinator.take() {
-                    let (a, b) = revived(node);
-                    self.coordinator = Some(open_coordinator(self.alloc, a, b, SHARDS));
-                }
-            }
-            NodeName::Shard(0) => {
-                if let Some(node) = self.first.take() {
-                    let (a, b) = revived(node);
-                    self.first = Some(open_shard(self.alloc, a, b, SHARDS, 0));
-                }
-            }
-            NodeName::Shard(_) => {
-                if let Some(node) = self.second.take() {
-                    let (a, b) = revived(node);
-                    self.second = Some(open_shard(self.alloc, a, b, SHARDS, 1));
-                }
-            }
+            NodeName::Coordinator => open_again(alloc, &mut self.coordinator, name),
+            NodeName::Shard(0) => open_again(alloc, &mut self.first, name),
+            NodeName::Shard(_) => open_again(alloc, &mut self.second, name),
         }
     }
 }
