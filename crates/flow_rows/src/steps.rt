@@ -13,10 +13,13 @@ pub(crate) const MOST_TURNS: usize = 20_000;
 
 // The node that a line of a script opens again.
 fn restarted(alloc: Global, line: &str) -> Result<NodeName, Refusal> {
-    match command(alloc, line)? {
-        Command::Restart(node) => Ok(node),
+    let command = command(alloc, line)?;
+    let node = match &command {
+        Command::Restart(node) => Ok(*node),
         _ => Err(Refusal::BadRequest),
-    }
+    };
+    drop(command);
+    node
 }
 
 impl<D: Device> Playing<D> {

@@ -22,10 +22,13 @@ pub(crate) fn command(alloc: Global, line: &str) -> Result<Command, Refusal> {
 
 /// A care, as a script spells it.
 pub(crate) fn care(alloc: Global, line: &str) -> Result<Care, Refusal> {
-    match command(alloc, line)? {
-        Command::Care(care) => Ok(care),
+    let command = command(alloc, line)?;
+    let care = match &command {
+        Command::Care(care) => Ok(*care),
         _ => Err(Refusal::BadRequest),
-    }
+    };
+    drop(command);
+    care
 }
 
 /// A refusal by its name; those that a node answers.
