@@ -1,5 +1,5 @@
 -- How far a node reaches, and what of it is carried over to a store of another number of shards.
-use Rattle.std.specs.Prelude.{◌≡◌, ◌↔◌, ℕ, Unit, true, Result, Err, IfErr, IfOk, IsErr, OnOk}
+use Rattle.std.specs.Prelude.{◌≡◌, ◌↔◌, ℕ, List, true, Result, Err, IfErr, IfOk, IsErr, OnOk}
 use Rattle.refusal.specs.declared.refusal.Refusal.{Refusal}
 use Rattle.refusal.specs.declared.refusal.Refusal.TheVariants.{BadRequest, Down}
 use Rattle.records.specs.Coordinators.{end_of}
@@ -33,7 +33,7 @@ module _ {D : Type 0} (state : D → State) (honest : D → Type 0) where
 
 module _ {D : Type 0} (state : D → State) (honest : D → Type 0) (moment : D → ℕ) (left_since : D → ℕ → List ℕ → Type 0) where
   -- What the coordinator knows is written behind the begin of a checkpoint of the coordinator of so many shards.
-  pub record IsCarried (shards : ℕ) (v : CoordinatorView D) (old : BegunView D) (r : Result Unit Refusal) (new : BegunView D) : Type 0 where
+  pub record IsCarried (shards : ℕ) (v : CoordinatorView D) (old : BegunView D) (r : Result (Unit {0}) Refusal) (new : BegunView D) : Type 0 where
     pub still_honest : (honest old.a ↔ honest new.a) × (honest old.b ↔ honest new.b)
     pub ok : IsRunning state honest v → honest old.a → honest old.b → OnOk r (HasRecords (state new.a) (state new.b) (carried_checkpoint shards v))
     pub moments : IsRunning state honest v → old.is_open ≡ true → honest old.a → LeavesOnly moment left_since old.a new.a (HasBeginsOr (carried_checkpoint shards v))
@@ -41,7 +41,7 @@ module _ {D : Type 0} (state : D → State) (honest : D → Type 0) (moment : D 
     pub err : IfErr r (λ e. e ≡ Down)
 
   -- A shard has nothing of the kind, and a node whose opening was refused answers that refusal.
-  abbrev pub Carries : ℕ → NodeView D → BegunView D → Result Unit Refusal → BegunView D → Type 0
+  abbrev pub Carries : ℕ → NodeView D → BegunView D → Result (Unit {0}) Refusal → BegunView D → Type 0
   Carries shards (coordinator v) old r new = IsCarried shards v old r new
   Carries shards (shard v) old r new = (r ≡ Err BadRequest) × (new ≡ old)
   Carries shards (refused e a b) old r new = (r ≡ Err e) × (new ≡ old)
