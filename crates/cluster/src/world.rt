@@ -41,6 +41,17 @@ impl<D: Device> Model for World<D> {
     ghost invariant = { λ w. IsWorld (record { store = w.store; shards = w.shards; nodes = w.nodes.items; flows = w.flows.slots }) };
 }
 
+// The node of this name, if it is there.
+fn node_of<D: Device>(nodes: &[Node<D>], name: NodeName) -> Option<&Node<D>>
+    ensures { MatchOption result (node_at nodes.now name ≡ None) (λ node. node_at nodes.now name ≡ Some node.now) }
+{
+    let index = index_of(name);
+    if index >= nodes.len() {
+        return None;
+    }
+    Some(&nodes[index])
+}
+
 // The versions that the shard of this number has learned.
 fn rows_of<D: Device>(nodes: &[Node<D>], shard: u8) -> Result<Vec<Version>, Refusal>
     ensures { MatchOption (node_at nodes.now (shard_name shard)) (result ≡ Err Refusal.BadRequest) (λ node. RowsOf D.state D.honest node result) }
@@ -98,7 +109,7 @@ impl<D: Device> World<D> {
     pub fn node(&self, name: NodeName) -> Option<&Node<D>>
         ensures { MatchOption result (node_at self.now.nodes name ≡ None) (λ node. node_at self.now.nodes name ≡ Some node.now) }
     {
-        self.nodes.get(index_of(name))
+        node_of(&self.nodes, name)
     }
 
     /// The versions that the shard has learned, by tuple and then by place. It is refused with `NoMemory`, and where the shard is down or its opening was

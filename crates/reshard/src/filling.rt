@@ -1,6 +1,6 @@
 // What the old store knows is written to the devices of the new nodes, on which a checkpoint has begun.
-ghost use Rattle.std.specs.Prelude.{◌≡◌, ◌≤◌, ◌<◌, ◌+◌, ◌↔◌, ℕ, OnOk, slice_get};
-ghost use Rattle.std.specs.Vec.{vec_len};
+ghost use Rattle.std.specs.Prelude.{◌≡◌, ◌≤◌, ◌<◌, ◌+◌, ◌↔◌, ℕ, OnOk, Some, length, slice_get};
+ghost use Rattle.journal.specs.Beginnings.{BegunView};
 ghost use Rattle.journal.specs.Records.{HasRecords};
 ghost use Rattle.records.specs.Format.{AreRecords};
 ghost use Rattle.records.specs.Identity.{max_shards};
@@ -57,13 +57,12 @@ fn fill_shards<D: Device>(
     shards: u8,
     reach: Reach,
     rows: &[Version],
-    begun: &mut Vec<Begun<D>>,
+    begun: &mut [Begun<D>],
 ) -> Result<(), Refusal>
     requires few { shards ≤ max_shards }
-    requires count { vec_len begun.old ≡ shards + 1 }
-    ensures count { vec_len begun.new ≡ vec_len begun.old }
-    ensures honest { AreHonest D.honest begun.old.items → AreHonest D.honest begun.new.items }
-    ensures ok { AreHonest D.honest begun.old.items → OnOk result (HaveShards D.state store shards reach rows.now shards begun.new.items) }
+    requires count { length begun.old ≡ shards + 1 }
+    ensures honest { AreHonest D.honest begun.old → AreHonest D.honest begun.new }
+    ensures ok { AreHonest D.honest begun.old → OnOk result (HaveShards D.state store shards reach rows.now shards begun.new) }
 {
     for shard in 0..shards {
         let me = Identity::shard(store, shards, shard);
@@ -73,18 +72,13 @@ fn fill_shards<D: Device>(
 }
 
 // Ends the checkpoint of the coordinator.
-fn fill_log<D: Device>(
-    old: &World<D>,
-    shards: u8,
-    begun: &mut Vec<Begun<D>>,
-) -> Result<(), Refusal>
+fn fill_log<D: Device>(old: &World<D>, shards: u8, begun: &mut [Begun<D>]) -> Result<(), Refusal>
     requires some { 1 ≤ shards }
     requires few { shards ≤ max_shards }
-    requires there { 1 ≤ vec_len begun.old }
-    ensures count { vec_len begun.new ≡ vec_len begun.old }
-    ensures honest { AreHonest D.honest begun.old.items → AreHonest D.honest begun.new.items }
-    ensures ok { AreHonest D.honest begun.old.items → OnOk result (HasLog D.state D.honest old.now shards begun.new.items) }
-    ensures others { (s : ℕ) → slice_get begun.new.items (s + 1) ≡ slice_get begun.old.items (s + 1) }
+    requires there { 1 ≤ length begun.old }
+    ensures honest { AreHonest D.honest begun.old → AreHonest D.honest begun.new }
+    ensures ok { AreHonest D.honest begun.old → OnOk result (HasLog D.state D.honest old.now shards begun.new) }
+    ensures others { (s : ℕ) (n : BegunView D) → slice_get begun.new (s + 1) ≡ Some n → slice_get begun.old (s + 1) ≡ Some n }
 {
     match old.node(NodeName::Coordinator) {
         Some(node) => node.carry(shards, &mut begun[0]),
@@ -99,15 +93,14 @@ pub(crate) fn fill<D: Device>(
     shards: u8,
     reach: Reach,
     rows: &[Version],
-    begun: &mut Vec<Begun<D>>,
+    begun: &mut [Begun<D>],
 ) -> Result<(), Refusal>
     requires some { 1 ≤ shards }
     requires few { shards ≤ max_shards }
-    requires count { vec_len begun.old ≡ shards + 1 }
-    ensures count { vec_len begun.new ≡ vec_len begun.old }
-    ensures honest { AreHonest D.honest begun.old.items → AreHonest D.honest begun.new.items }
-    ensures each { AreHonest D.honest begun.old.items → OnOk result (HaveShards D.state old.now.store shards reach rows.now shards begun.new.items) }
-    ensures log { AreHonest D.honest begun.old.items → OnOk result (HasLog D.state D.honest old.now shards begun.new.items) }
+    requires count { length begun.old ≡ shards + 1 }
+    ensures honest { AreHonest D.honest begun.old → AreHonest D.honest begun.new }
+    ensures each { AreHonest D.honest begun.old → OnOk result (HaveShards D.state old.now.store shards reach rows.now shards begun.new) }
+    ensures log { AreHonest D.honest begun.old → OnOk result (HasLog D.state D.honest old.now shards begun.new) }
 {
     fill_shards(alloc, old.store(), shards, reach, rows, begun)?;
     fill_log(old, shards, begun)

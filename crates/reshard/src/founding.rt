@@ -9,7 +9,7 @@ use std::alloc::Global;
 use tuples::Refusal;
 
 // The two devices of the next node.
-fn take_two<D>(devices: &mut Vec<D>) -> (D, D)
+fn take_two<D: Device>(devices: &mut Vec<D>) -> (D, D)
     requires { 2 ≤ vec_len devices.old }
     ensures items { devices.old.items ≡ result.0 ∷ result.1 ∷ devices.new.items }
     ensures len { vec_len devices.new + 2 ≡ vec_len devices.old }
@@ -21,7 +21,7 @@ fn take_two<D>(devices: &mut Vec<D>) -> (D, D)
 }
 
 // Two devices go before the others, for which there is room.
-fn put_two<D>(devices: &mut Vec<D>, a: D, b: D)
+fn put_two<D: Device>(devices: &mut Vec<D>, a: D, b: D)
     requires { vec_len devices.old + 2 ≤ vec_capacity devices.old }
     ensures items { devices.new.items ≡ a ∷ b ∷ devices.old.items }
     ensures len { vec_len devices.new ≡ vec_len devices.old + 2 }
@@ -76,7 +76,7 @@ pub(crate) fn begin_all<D: Device>(
     ensures honest { All D.honest devices.old.items → OnOk result (AreHonest D.honest begun.new.items) }
     ensures capacity { vec_capacity devices.new ≡ vec_capacity devices.old }
 {
-    for _ in 0..count {
+    while begun.len() < count {
         begin_next(alloc, devices, begun)?;
     }
     Ok(())

@@ -11,11 +11,7 @@ use std::alloc::Global;
 use std::cmp::Ordering;
 use tuples::{Refusal, Version};
 
-fn append<D: Device>(
-    world: &World<D>,
-    shard: u8,
-    rows: &mut Vec<Version>,
-) -> Result<(), Refusal>
+fn append<D: Device>(world: &World<D>, shard: u8, rows: &mut Vec<Version>) -> Result<(), Refusal>
     ensures { OnOk result ((more : List AnyVersion) × TellsShard D.state D.honest world.now.nodes shard more × (rows.new.items ≡ rows.old.items ++ more)) }
 {
     let mut more = world.rows(shard)?;
@@ -60,10 +56,7 @@ fn gather_in<D: Device>(world: &World<D>, rows: &mut Vec<Version>) -> Result<(),
 }
 
 /// The versions of all shards, by tuple and then by place. It takes the memory of copies of them.
-pub(crate) fn gather<D: Device>(
-    alloc: Global,
-    world: &World<D>,
-) -> Result<Vec<Version>, Refusal>
+pub(crate) fn gather<D: Device>(alloc: Global, world: &World<D>) -> Result<Vec<Version>, Refusal>
     ensures { IfOk result (λ rows. AreGathered D.state D.honest world.now.nodes world.now.shards rows.items) }
 {
     let mut rows = Vec::new(alloc);

@@ -2,6 +2,7 @@
 ghost use Rattle.std.specs.Prelude.{◌≡◌, ◌++◌, ◌∷◌, [], map, MatchOption};
 ghost use Rattle.journal.specs.Sources.{record_of};
 ghost use Rattle.records.specs.Format.{AreRecords, IsRecord};
+ghost use Rattle.records.specs.Checkpoints.{row_record};
 ghost use Rattle.replay.specs.Checkpoints.{row_of};
 ghost use Rattle.reshard.specs.Made.{of_shard};
 ghost use Rattle.tuples.specs.Changes.{tuple_of};
@@ -10,14 +11,51 @@ ghost use Rattle.tuples.specs.Parts.{is_of};
 use journal::{RecordRef, Source};
 use records::{Identity, Record};
 use std::marker::Model;
-use tuples::{Change, Version, shard_of};
+use tuples::{Change, Tuple, Version, shard_of};
 
-/// The records that are left: those before the versions, and those of the versions that are the shard's. Nothing is copied for them.
+// The versions of a list that are a node's, which contracts see as those that are left.
+#[derive(Drop)]
+struct Own<'a> {
+    versions: &'a [Version],
+    me: Identity,
+}
+
+impl<'a> Model for Own<'a> {
+    ghost use Rattle.std.specs.Prelude.{List};
+    ghost use Rattle.reshard.specs.Made.{of_shard};
+    ghost use Rattle.tuples.specs.declared.version.Version.{Version as AnyVersion};
+
+    ghost Value = { List AnyVersion };
+
+    ghost view = { λ o. of_shard o.me.shards o.me.node o.versions.now };
+}
+
+// Whether the version is of the node.
+fn is_own(version: &Version, me: Identity) -> bool
+    ensures { result ≡ is_of me.shards me.node (tuple_of version.now.change) }
+{
+    shard_of(&version.change.tuple().object, me.shards()) == me.node()
+}
+
+impl<'a> Own<'a> {
+    fn next(&mut self) -> Option<&'a Version>
+        ensures { MatchOption result ((self.old ≡ []) × (self.new ≡ [])) (λ v. self.old ≡ v.now ∷ self.new) }
+    {
+        while let Some((version, rest)) = self.versions.split_first() {
+            self.versions = rest;
+            if is_own(version, self.me) {
+                return Some(version);
+            }
+        }
+        None
+    }
+}
+
+/// The records that are left: those before the versions, and those of the versions that are the node's. Nothing is copied for them.
 #[derive(Drop)]
 pub(crate) struct Told<'a> {
     heads: &'a [Record],
-    versions: &'a [Version],
-    me: Identity,
+    own: Own<'a>,
 }
 
 impl<'a> Model for Told<'a> {
@@ -25,11 +63,10 @@ impl<'a> Model for Told<'a> {
     ghost use Rattle.records.specs.Format.{AreRecords};
     ghost use Rattle.records.specs.declared.record.Record.{Record as AnyRecord};
     ghost use Rattle.replay.specs.Checkpoints.{row_of};
-    ghost use Rattle.reshard.specs.Made.{of_shard};
 
     ghost Value = { List AnyRecord };
 
-    ghost view = { λ t. t.heads.now ++ map row_of (of_shard t.me.shards t.me.node t.versions.now) };
+    ghost view = { λ t. t.heads.now ++ map row_of t.own };
 
     ghost invariant = { λ t. AreRecords t.heads.now };
 }
@@ -42,50 +79,33 @@ impl<'a> Told<'a> {
     {
         Told {
             heads,
-            versions,
-            me,
+            own: Own { versions, me },
         }
     }
 }
 
+// The record of a version, told from where it lies.
 fn row(version: &Version) -> RecordRef<'_>
     ensures is { record_of result ≡ row_of version.now }
     ensures spelled { IsRecord (record_of result) }
 {
-    // The record has a tuple in its grammar.
-    version.change.tuple().keeps_grammar();
     match &version.change {
-        Change::Touch(tuple) => RecordRef::Row {
-            place: version.place,
-            tuple,
-            is_touch: true,
-        },
-        Change::Delete(tuple) => RecordRef::Row {
-            place: version.place,
-            tuple,
-            is_touch: false,
-        },
+        Change::Touch(tuple) => row_at(version.place, tuple, true),
+        Change::Delete(tuple) => row_at(version.place, tuple, false),
     }
 }
 
-// Whether the version is of the node.
-fn is_own(version: &Version, me: Identity) -> bool
-    ensures { result ≡ is_of me.shards me.node (tuple_of version.now.change) }
+fn row_at(place: u64, tuple: &Tuple, is_touch: bool) -> RecordRef<'_>
+    ensures is { record_of result ≡ row_record place is_touch tuple.now }
+    ensures spelled { IsRecord (record_of result) }
 {
-    shard_of(&version.change.tuple().object, me.shards()) == me.node()
-}
-
-// The next version that is the node's.
-fn next_own<'a>(versions: &mut &'a [Version], me: Identity) -> Option<&'a Version>
-    ensures { MatchOption result (of_shard me.shards me.node versions.old.now ≡ []) (λ v. of_shard me.shards me.node versions.old.now ≡ v.now ∷ of_shard me.shards me.node versions.new.now) }
-{
-    while let Some((version, rest)) = versions.split_first() {
-        *versions = rest;
-        if is_own(version, me) {
-            return Some(version);
-        }
+    // The record has a tuple in its grammar.
+    tuple.keeps_grammar();
+    RecordRef::Row {
+        place,
+        tuple,
+        is_touch,
     }
-    None
 }
 
 impl<'a> Source<'a> for Told<'a> {
@@ -96,7 +116,7 @@ impl<'a> Source<'a> for Told<'a> {
             self.heads = rest;
             return Some(RecordRef::Whole(head));
         }
-        match next_own(&mut self.versions, self.me) {
+        match self.own.next() {
             Some(version) => Some(row(version)),
             None => None,
         }

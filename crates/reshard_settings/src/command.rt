@@ -54,11 +54,17 @@ fn with_folders<'a>(alloc: Global, command: Command<'a>) -> Result<Command<'a>, 
 
 fn with_shards<'a>(alloc: Global, command: Command<'a>) -> Result<Command<'a>, Error> {
     let shards = few_argument(alloc, "shards", "The number of shards, from 1 to 64");
-    let new_shards = few_argument(alloc, "new-shards", "The new number of shards, from 1 to 64");
-    Ok(command
-        .arg(store_argument(alloc))?
-        .arg(shards)?
-        .arg(new_shards)?)
+    let new_shards = few_argument(
+        alloc,
+        "new-shards",
+        "The new number of shards, from 1 to 64",
+    );
+    Ok(
+        command
+            .arg(store_argument(alloc))?
+            .arg(shards)?
+            .arg(new_shards)?,
+    )
 }
 
 /// The program, with this one command.

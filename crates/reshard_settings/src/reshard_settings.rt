@@ -99,26 +99,14 @@ fn numbers_of(reshard: &ArgMatches) -> Option<Numbers> {
     })
 }
 
-// The folders of before and behind.
-#[derive(Clone, Copy)]
-struct Folders<'a> {
-    dir: &'a str,
-    to: &'a str,
-}
-
-fn folders_of(reshard: &ArgMatches) -> Option<Folders<'_>> {
-    let dir = reshard.get_str("dir")?;
-    let to = reshard.get_str("to")?;
-    Some(Folders { dir, to })
-}
-
 fn settings_in(
     alloc: Global,
-    folders: Folders<'_>,
+    dir: &str,
+    to: &str,
     numbers: Numbers,
 ) -> Result<ReshardSettings, AllocError> {
-    let dir = String::from_str(alloc, folders.dir)?;
-    match String::from_str(alloc, folders.to) {
+    let dir = String::from_str(alloc, dir)?;
+    match String::from_str(alloc, to) {
         Ok(to) => Ok(ReshardSettings {
             dir,
             to,
@@ -131,10 +119,14 @@ fn settings_in(
 }
 
 fn settings_of(alloc: Global, reshard: &ArgMatches) -> Result<Option<ReshardSettings>, AllocError> {
-    let (Some(folders), Some(numbers)) = (folders_of(reshard), numbers_of(reshard)) else {
+    let (Some(dir), Some(to), Some(numbers)) = (
+        reshard.get_str("dir"),
+        reshard.get_str("to"),
+        numbers_of(reshard),
+    ) else {
         return Ok(None);
     };
-    let settings = settings_in(alloc, folders, numbers)?;
+    let settings = settings_in(alloc, dir, to, numbers)?;
     Ok(Some(settings))
 }
 

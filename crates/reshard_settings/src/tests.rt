@@ -33,7 +33,10 @@ fn what_the_words_ask_for_is_read(rt: HostRuntime) -> Result<(), Fail> {
     if let Ok(settings) = read {
         assert_eq!(rt; settings.dir.as_str(), "data");
         assert_eq!(rt; settings.to.as_str(), "wider");
-        assert_eq!(rt; (settings.store, settings.shards, settings.new_shards), (7, 2, 64));
+        assert_eq!(rt;
+            (settings.store, settings.shards, settings.new_shards),
+            (7, 2, 64)
+        );
     }
     Ok(())
 }
