@@ -1,5 +1,5 @@
 -- What one node more has.
-use Rattle.std.proofs.Common.{◌≡◌, ◌≢◌, ◌⊎◌, ◌<◌, ◌≤◌, ◌+◌, ◌↔◌, ℕ, List, All, Some, inl, inr, ⊎_elim, length, get_or, set, slice_get, length-set, refl, sym, ◌∙◌, ap, subst, arith}
+use Rattle.std.proofs.Common.{◌≡◌, ◌≢◌, ◌⊎◌, ◌<◌, ◌+◌, ◌↔◌, ℕ, List, Some, ⊎_elim, length, get_or, set, slice_get, length-set, refl, sym, ◌∙◌, ap, subst, arith}
 use Rattle.std.proofs.lemmas.List.{get_or-set_other, get_or-set_same}
 use Rattle.std.proofs.lemmas.List.Elements.{All-set}
 use Rattle.std.proofs.lemmas.Option.{get_or_from_slice_get, slice_get-get_or, slice_get_within}
@@ -7,9 +7,8 @@ use Rattle.calls.specs.declared.carrying.Reach.{Reach}
 use Rattle.device.specs.Device.{State}
 use Rattle.journal.specs.Beginnings.{BegunView}
 use Rattle.journal.specs.Records.{HasRecords}
-use Rattle.records.specs.declared.record.Record.{Record}
 use Rattle.tuples.specs.declared.version.Version.{Version}
-use Rattle.reshard.specs.Made.{AreHonest, HasAt, HaveShards, shard_first, shard_of_store}
+use Rattle.reshard.specs.Made.{AreHonest, HaveShards, shard_first, shard_of_store}
 
 module _ {X : Type 0} where
   -- what stands at another place stood there before

@@ -1,5 +1,5 @@
 -- What is done of the old store: cares of its nodes, and nothing else.
-use Rattle.std.specs.Prelude.{◌<◌, ℕ, List, Result, Ok, MatchOption}
+use Rattle.std.specs.Prelude.{◌<◌, ℕ, List, Ok, MatchOption}
 use Rattle.std.specs.List.{AllByRecursion}
 use Rattle.calls.specs.Carrying.{Reaches}
 use Rattle.calls.specs.Views.{NodeView}

@@ -1,5 +1,5 @@
 -- What the new devices have.
-use Rattle.std.specs.Prelude.{◌≡◌, ◌<◌, ◌+◌, ℕ, Bool, List, [], ◌∷◌, ◌++◌, length, map, filter, Some, slice_get, All}
+use Rattle.std.specs.Prelude.{◌≡◌, ◌<◌, ◌+◌, ℕ, List, [], ◌∷◌, ◌++◌, length, map, filter, Some, slice_get, All}
 use Rattle.calls.specs.Views.{coordinator}
 use Rattle.calls.specs.declared.carrying.Reach.{Reach}
 use Rattle.cluster.specs.Worlds.{WorldView, node_at}
