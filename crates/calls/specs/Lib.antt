@@ -11,3 +11,4 @@ pub mod Failing
 pub mod Rows
 pub mod Fitting
 pub mod Lending
+pub mod Carrying

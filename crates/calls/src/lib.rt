@@ -14,6 +14,7 @@
 
 mod asking;
 mod call;
+mod carrying;
 mod fitting;
 mod lending;
 mod node;
@@ -23,6 +24,7 @@ mod told;
 
 pub use asking::{ask, refuse, refuse_aloud};
 pub use call::{CoordinatorCall, NodeCall, ShardCall};
+pub use carrying::Reach;
 pub use lending::{Flying, Lent};
 pub use node::Node;
 pub use reply::{CoordinatorReply, Reply, ShardReply};

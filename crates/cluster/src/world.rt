@@ -1,10 +1,11 @@
 // A store with its nodes and flows.
-ghost use Rattle.std.specs.Prelude.{◌≡◌, Err, None, MatchOption};
+ghost use Rattle.std.specs.Prelude.{◌≡◌, ◌≤◌, ◌↔◌, Err, IsTrue, None, MatchOption, Some};
 ghost use Rattle.calls.specs.Rows.{RowsOf};
 ghost use Rattle.names.specs.declared.node_name.NodeName.TheVariants.{Shard as shard_name};
 ghost use Rattle.cluster.specs.Flows.{next_name_of};
 ghost use Rattle.cluster.specs.Nodes.{IsSetIn};
-ghost use Rattle.cluster.specs.Worlds.{flow_at, node_at};
+ghost use Rattle.cluster.specs.Worlds.{flow_at, flow_count, node_at};
+ghost use Rattle.records.specs.Identity.{max_shards};
 
 use crate::Flow;
 use crate::naming::index_of;
@@ -40,6 +41,17 @@ impl<D: Device> Model for World<D> {
     ghost invariant = { λ w. IsWorld (record { store = w.store; shards = w.shards; nodes = w.nodes.items; flows = w.flows.slots }) };
 }
 
+// The node of this name, if it is there.
+fn node_of<D: Device>(nodes: &[Node<D>], name: NodeName) -> Option<&Node<D>>
+    ensures { MatchOption result (node_at nodes.now name ≡ None) (λ node. node_at nodes.now name ≡ Some node.now) }
+{
+    let index = index_of(name);
+    if index >= nodes.len() {
+        return None;
+    }
+    Some(&nodes[index])
+}
+
 // The versions that the shard of this number has learned.
 fn rows_of<D: Device>(nodes: &[Node<D>], shard: u8) -> Result<Vec<Version>, Refusal>
     ensures { MatchOption (node_at nodes.now (shard_name shard)) (result ≡ Err Refusal.BadRequest) (λ node. RowsOf D.state D.honest node result) }
@@ -68,6 +80,36 @@ impl<D: Device> World<D> {
         ensures { MatchOption (flow_at self.now.flows slot) (result ≡ None) (λ flow. result ≡ next_name_of flow) }
     {
         self.flows.get(slot)?.next_name()
+    }
+
+    /// Whether no flow runs.
+    pub fn is_quiet(&self) -> bool
+        ensures { IsTrue result ↔ (flow_count self.now.flows ≡ 0) }
+    {
+        self.flows.is_empty()
+    }
+
+    /// The number of the store.
+    pub fn store(&self) -> u64
+        ensures { result ≡ self.now.store }
+    {
+        self.store
+    }
+
+    /// How many shards it has.
+    pub fn shards(&self) -> u8
+        ensures value { result ≡ self.now.shards }
+        ensures some { 1 ≤ result }
+        ensures few { result ≤ max_shards }
+    {
+        self.shards
+    }
+
+    /// The node of this name, if it is there.
+    pub fn node(&self, name: NodeName) -> Option<&Node<D>>
+        ensures { MatchOption result (node_at self.now.nodes name ≡ None) (λ node. node_at self.now.nodes name ≡ Some node.now) }
+    {
+        node_of(&self.nodes, name)
     }
 
     /// The versions that the shard has learned, by tuple and then by place. It is refused with `NoMemory`, and where the shard is down or its opening was

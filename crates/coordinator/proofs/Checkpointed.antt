@@ -1,5 +1,5 @@
 -- A checkpoint of what the memory has: it is that of what the coordinator knows, and the memory is what it stands for.
-use Rattle.std.proofs.Common.{◌≡◌, ◌≤◌, ◌+◌, ◌-◌, ◌⊎◌, inl, inr, ⊎_elim, ◌++◌, ◌∷◌, [], ℕ, List, Option, None, drop, length, length-drop, false, refl, sym, ◌∙◌, ap, subst, arith}
+use Rattle.std.proofs.Common.{◌≡◌, ◌≤◌, ◌+◌, ◌-◌, ◌++◌, ◌∷◌, [], ℕ, List, Option, None, drop, length, length-drop, false, refl, sym, ◌∙◌, ap, subst, arith}
 use Rattle.std.proofs.lemmas.List.{append-nil, drop-drop}
 use Rattle.tuples.specs.declared.entry.Entry.{Entry}
 use Rattle.tuples.specs.declared.entry.WriteId.{WriteId}
@@ -16,10 +16,10 @@ use Rattle.device.specs.Device.{State}
 use Rattle.journal.specs.Ahead.{HasOldOrNewOr, checkpoint_of}
 use Rattle.journal.specs.Records.{HasRecords, LeavesEach, View}
 use Rattle.ledger.specs.Ledgers.{LedgerValue}
-use Rattle.decisions.specs.Checkpoints.{HasOldNewOrPoint, next_checkpoint}
+use Rattle.decisions.specs.Checkpoints.{HasOldNewOrPoint, carried_checkpoint, coordinator_of, next_checkpoint}
 use Rattle.decisions.specs.Coordinators.{CoordinatorView, IsRunning, memory_of}
 use Rattle.coordinator.specs.Checkpoints.{told_by}
-use Rattle.coordinator.specs.Keeping.{AreDurable, IsKept, Remembers, risen}
+use Rattle.coordinator.specs.Keeping.{IsKept, Remembers, risen}
 use Rattle.coordinator.proofs.Kept.{remembers_flushed}
 
 -- ---- what is told is the checkpoint
@@ -105,6 +105,15 @@ module _ {D : Type 0} (state : D → State) (honest : D → Type 0) (j k : View 
             record { rest = both.1; same = sym (both.0 ∙ cs_is (generation_of j.durable + 1)) };
       }
 
+  -- what it is to a coordinator of the same memory, whichever node that is
+  pub carried_is : (v : CoordinatorView D) (g : ℕ) → v.durable ≡ j.durable → v.staged ≡ j.staged → v.is_down ≡ j.is_down → v.a ≡ j.a → v.b ≡ j.b → IsRunning state honest v
+      → checkpoint_of g (told_by me epoch h l) ≡ coordinator_checkpoint me g (memory_of v)
+  carried_is v g durable_is staged_is down_is a_is b_is run =
+      let durable = (was.backed (sym down_is ∙ run.up) (subst honest a_is run.honest_a) (subst honest b_is run.honest_b)).same in
+      let staged = was.staged_is (sym down_is ∙ run.up) in
+      cs_is g
+      ∙ ap (λ (rs : List Record). coordinator_checkpoint me g (coordinator_state rs)) (ap (λ (rs : List Record). rs ++ was.staged) (durable ∙ sym durable_is) ∙ ap (λ (rs : List Record). v.durable ++ rs) (staged ∙ sym staged_is))
+
   -- what is told of the coordinator
   module _ (open_ids : List WriteId) where
     abbrev seen : View D → CoordinatorView D
@@ -136,3 +145,18 @@ module _ {D : Type 0} (state : D → State) (honest : D → Type 0) (j k : View 
         (λ run.
         let new = written run.honest_a run.honest_b in
         (record { honest_a = on_a run.honest_a; honest_b = on_b run.honest_b; up = now_up; rest = new.1 }, new.0 ∙ point_here run))
+
+-- What it tells to the coordinator of another number of shards
+abbrev pub as_seen : {D : Type 0} → View D → Identity → List WriteId → ℕ → CoordinatorView D
+as_seen j me open_ids given = record { a = j.a; b = j.b; end = j.end; durable = j.durable; staged = j.staged; is_down = j.is_down; me = me; open_ids = open_ids; given = given }
+
+pub carried_told : {D : Type 0} (state : D → State) (honest : D → Type 0) (j : View D) (me new : Identity) (l : LedgerValue) (epoch kept horizon : ℕ) (rising : Option ℕ) (numbers : List ℕ) (given : ℕ)
+    → IsKept state honest j l epoch kept horizon rising numbers given → (h : ℕ) → h ≡ risen horizon rising → (open_ids : List WriteId) (shards : ℕ) → new ≡ coordinator_of me.store shards
+    → (v : CoordinatorView D) → as_seen j me open_ids given ≡ v → IsRunning state honest v
+    → checkpoint_of 1 (told_by new epoch h l) ≡ carried_checkpoint shards v
+carried_told {D = D} state honest j me new l epoch kept horizon rising numbers given was h h_is open_ids shards new_is v is =
+    subst (λ (w : CoordinatorView D). IsRunning state honest w → checkpoint_of 1 (told_by new epoch h l) ≡ carried_checkpoint shards w) is
+    (λ run.
+    let w = as_seen j me open_ids given in
+    carried_is state honest j j new l l epoch kept horizon kept rising numbers given was h h_is w 1 refl refl refl refl refl run
+    ∙ ap (λ (i : Identity). coordinator_checkpoint i 1 (memory_of w)) new_is)

@@ -1,5 +1,5 @@
 -- What a coordinator tells in a checkpoint.
-use Rattle.std.specs.Prelude.{◌≡◌, ◌≤◌, ◌<◌, ◌+◌, ◌-◌, ℕ, List, [], ◌∷◌, ◌++◌, drop, length, None}
+use Rattle.std.specs.Prelude.{◌+◌, ◌-◌, ℕ, List, [], ◌∷◌, ◌++◌, drop}
 use Rattle.records.specs.Checkpoints.{decisions_from}
 use Rattle.records.specs.Identity.{Identity}
 use Rattle.records.specs.declared.record.Record.{Record}

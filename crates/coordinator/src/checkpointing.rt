@@ -21,7 +21,7 @@ use std::alloc::Global;
 use tuples::Refusal;
 
 // The horizon once what is staged is durable.
-fn risen(horizon: u64, rising: Option<u64>) -> u64
+pub(crate) fn risen(horizon: u64, rising: Option<u64>) -> u64
     ensures { result ≡ risen_horizon horizon rising }
 {
     match rising {
@@ -31,7 +31,7 @@ fn risen(horizon: u64, rising: Option<u64>) -> u64
 }
 
 // The records before the decisions.
-fn heads(me: Identity, epoch: u64, horizon: u64) -> [Record; 2]
+pub(crate) fn heads(me: Identity, epoch: u64, horizon: u64) -> [Record; 2]
     ensures are { AreRecords result }
     ensures value { result ≡ heads_of me epoch horizon }
 {

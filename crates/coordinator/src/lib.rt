@@ -13,6 +13,7 @@
 
 mod aborting;
 mod beginning;
+mod carrying;
 mod checkpointing;
 mod coordinator;
 mod decided;

@@ -1,5 +1,5 @@
 -- What a stop leaves during one call and then another.
-use Rattle.std.proofs.Common.{◌≡◌, ◌≤◌, ◌⊎◌, inl, inr, ⊎_elim, ℕ, Bool, true, false, List, Result, Ok, Err, MatchResult, refl, sym, ◌∙◌, arith}
+use Rattle.std.proofs.Common.{◌≡◌, inl, inr, ⊎_elim, ℕ, Bool, true, false, List, Result, Ok, Err, MatchResult, refl, sym, ◌∙◌, arith}
 use Rattle.journal.specs.Records.{LeavesBoth, found}
 
 -- one call, and then another

@@ -5,18 +5,25 @@ use Rattle.device.proofs.Moments.{leaves_map, leaves_then}
 use Rattle.gated.specs.Gated.{HasList, IsAhead, IsOldOrLonger, IsOldOrNone, LogView, gated}
 use Rattle.std.specs.Result.{OnOk}
 use Rattle.records.specs.declared.record.Record.{Record}
-use Rattle.journal.specs.Ahead.{IsEmptied, IsOldNoneOr, IsPut, IsWriting}
+use Rattle.journal.specs.Ahead.{IsOldNoneOr, IsPut, IsWriting, KeepsLists}
 use Rattle.journal.specs.Rest.{BankHas, IsAtRest}
 use Rattle.journal.proofs.Flushes.{listed_records}
 
 abbrev pub LeavesNone : {D : Type 0} → (D → ℕ) → (D → ℕ → List ℕ → Type 0) → D → D → Type 0
 LeavesNone moment left_since old new = LeavesOnly moment left_since old new (λ c. gated c ≡ Some [])
 
+pub lists_then : {D : Type 0} (state : D → State) (moment : D → ℕ) (left_since : D → ℕ → List ℕ → Type 0) (old mid new : D) → KeepsLists state moment left_since old mid → KeepsLists state moment left_since mid new
+    → KeepsLists state moment left_since old new
+lists_then state moment left_since old mid new first second = record {
+  moments = λ bodies list. leaves_then moment left_since old mid new (λ c. gated c ≡ Some bodies) (first.moments bodies list) (second.moments bodies (first.list bodies list));
+  list = λ bodies list. second.list bodies (first.list bodies list);
+}
+
 -- what was put so far, and what the source still has
 pub record SoFar {D : Type 0} (state : D → State) (honest : D → Type 0) (moment : D → ℕ) (left_since : D → ℕ → List ℕ → Type 0) (old new : LogView D) (piece_then piece had has : List Record) : Type 0 where
   pub still_honest : honest old.device ↔ honest new.device
-  pub moments : honest old.device → LeavesNone moment left_since old.device new.device
-  pub emptied : honest old.device → IsEmptied (state new.device)
+  pub lists : honest old.device → KeepsLists state moment left_since old.device new.device
+  pub up : honest old.device → (state new.device).stopped ≡ false
   pub put : (all : List Record) → honest old.device → IsPut (state old.device) old.end old.at piece_then all
       → (done : List Record) × (done ++ has ≡ all ++ had) × IsPut (state new.device) new.end new.at piece done
   pub end : new.end ≡ old.end
@@ -24,12 +31,15 @@ pub record SoFar {D : Type 0} (state : D → State) (honest : D → Type 0) (mom
   pub none : (state new.device).failures ≡ (state old.device).failures
 
 module _ {D : Type 0} (state : D → State) (honest : D → Type 0) (moment : D → ℕ) (left_since : D → ℕ → List ℕ → Type 0) where
-  pub nothing_put : (log : LogView D) (piece had : List Record) → (honest log.device → IsEmptied (state log.device)) → (honest log.device → (c : List ℕ) → left_since log.device (moment log.device) c → left (state log.device) c)
+  pub nothing_put : (log : LogView D) (piece had : List Record) → (honest log.device → (state log.device).stopped ≡ false) → (honest log.device → (c : List ℕ) → left_since log.device (moment log.device) c → left (state log.device) c)
       → SoFar state honest moment left_since log log piece piece had had
-  nothing_put log piece had emptied only = record {
+  nothing_put log piece had up only = record {
     still_honest = (λ h. h, λ h. h);
-    moments = λ hon. record { later = omega arith; each = λ c is. (emptied hon).list c (only hon c is); before = λ t c le is. inl is };
-    emptied = emptied;
+    lists = λ hon. record {
+      moments = λ bodies list. record { later = omega arith; each = λ c is. list c (only hon c is); before = λ t c le is. inl is };
+      list = λ bodies list. list;
+    };
+    up = up;
     put = λ all hon is. (all, refl, is);
     end = refl;
     counts = omega arith;
@@ -37,14 +47,14 @@ module _ {D : Type 0} (state : D → State) (honest : D → Type 0) (moment : D 
   }
 
   module _ (old mid new : LogView D) (piece_then piece now had has rest : List Record) (r : Record) (so_far : SoFar state honest moment left_since old mid piece_then piece had has) (took : has ≡ r ∷ rest)
-      (still : honest mid.device ↔ honest new.device) (moments : honest mid.device → LeavesNone moment left_since mid.device new.device) (emptied : honest mid.device → IsEmptied (state new.device))
+      (still : honest mid.device ↔ honest new.device) (lists : honest mid.device → KeepsLists state moment left_since mid.device new.device) (up : honest mid.device → (state new.device).stopped ≡ false)
       (put : (all : List Record) → honest mid.device → IsPut (state mid.device) mid.end mid.at piece all → IsPut (state new.device) new.end new.at now (all ++ r ∷ []))
       (end : new.end ≡ mid.end) (counts : (state mid.device).failures ≤ (state new.device).failures) (none : (state new.device).failures ≡ (state mid.device).failures) where
     pub one_put : SoFar state honest moment left_since old new piece_then now had rest
     one_put = record {
       still_honest = (λ h. still.0 (so_far.still_honest.0 h), λ h. so_far.still_honest.1 (still.1 h));
-      moments = λ hon. leaves_then moment left_since old.device mid.device new.device (λ c. gated c ≡ Some []) (so_far.moments hon) (moments (so_far.still_honest.0 hon));
-      emptied = λ hon. emptied (so_far.still_honest.0 hon);
+      lists = λ hon. lists_then state moment left_since old.device mid.device new.device (so_far.lists hon) (lists (so_far.still_honest.0 hon));
+      up = λ hon. up (so_far.still_honest.0 hon);
       put = λ all hon is.
           let before = so_far.put all hon is in (
             before.0 ++ r ∷ [],

@@ -1,10 +1,10 @@
 -- What an opening finds.
 use Rattle.std.proofs.Common.{◌≡◌, Bool, List, ℕ, Option, Some, None, refl, sym, ◌∙◌, ap}
 use Rattle.records.specs.declared.record.Record.{Record}
-use Rattle.device.specs.Device.{State, left}
-use Rattle.gated.specs.Gated.{gated, HasList, IsFoundList}
+use Rattle.device.specs.Device.{State}
+use Rattle.gated.specs.Gated.{gated, IsFoundList}
 use Rattle.journal.specs.Records.{HasRecords, IsOpened, bank_records, batches, found, of_current, or_none, then_batches}
-use Rattle.journal.specs.Rest.{AreLed, BankHas, IsAtRest, bank_of}
+use Rattle.journal.specs.Rest.{AreLed, IsAtRest}
 use Rattle.journal.specs.Summaries.{IsChosen}
 use Rattle.journal.specs.Unread.{OpeningView, journal_of}
 use Rattle.journal.proofs.Flushes.{durable_left, led_records, listed_records}

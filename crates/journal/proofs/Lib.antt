@@ -11,3 +11,4 @@ pub mod Checkpoints
 pub mod Replaced
 pub mod Short
 pub mod Calls
+pub mod Beginnings

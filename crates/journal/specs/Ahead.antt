@@ -1,9 +1,9 @@
 -- A checkpoint that is written ahead of the list of the bank that is not current.
-use Rattle.std.specs.Prelude.{◌≡◌, ◌⊎◌, ℕ, false, List, [], ◌∷◌, ◌++◌, Some}
+use Rattle.std.specs.Prelude.{◌≡◌, ◌⊎◌, ℕ, List, [], ◌∷◌, ◌++◌, Some}
 use Rattle.records.specs.declared.mark.Mark.TheVariants.{Begins, Ends}
 use Rattle.records.specs.declared.record.Record.{Record}
 use Rattle.records.specs.declared.record.Record.TheVariants.{Checkpoint}
-use Rattle.device.specs.Device.{HasFailed, State}
+use Rattle.device.specs.Device.{HasFailed, LeavesOnly, State}
 use Rattle.gated.specs.Gated.{HasList, IsAhead, gated}
 use Rattle.journal.specs.Records.{BankLacksRoom, HasOldOrNew, LacksRoom, View, bank_records, batches, found}
 
@@ -11,10 +11,10 @@ use Rattle.journal.specs.Records.{BankLacksRoom, HasOldOrNew, LacksRoom, View, b
 abbrev pub checkpoint_of : ℕ → List Record → List Record
 checkpoint_of generation rs = Checkpoint (Begins generation) ∷ rs ++ Checkpoint (Ends generation) ∷ []
 
--- a device that has not failed has the empty list, whatever a stop leaves
-pub record IsEmptied (s : State) : Type 0 where
-  pub list : HasList s []
-  pub up : s.stopped ≡ false
+-- whatever list a device has, a stop leaves it at every moment of a call and behind it
+pub record KeepsLists {D : Type 0} (state : D → State) (moment : D → ℕ) (left_since : D → ℕ → List ℕ → Type 0) (old new : D) : Type 0 where
+  pub moments : (bodies : List (List ℕ)) → HasList (state old) bodies → LeavesOnly moment left_since old new (λ c. gated c ≡ Some bodies)
+  pub list : (bodies : List (List ℕ)) → HasList (state old) bodies → HasList (state new) bodies
 
 -- batches of these records are ahead
 pub record IsWriting (s : State) (end at : ℕ) (rs : List Record) : Type 0 where

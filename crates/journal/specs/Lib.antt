@@ -6,3 +6,4 @@ pub mod Lending
 pub mod Summaries
 pub mod Ahead
 pub mod Sources
+pub mod Beginnings

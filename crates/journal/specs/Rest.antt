@@ -1,5 +1,5 @@
 -- What the banks have between two flushes.
-use Rattle.std.specs.Prelude.{◌≡◌, ℕ, Bool, true, false, List, Option, Some, None}
+use Rattle.std.specs.Prelude.{◌≡◌, ℕ, Bool, true, false, List, Some, None}
 use Rattle.records.specs.declared.record.Record.{Record}
 use Rattle.device.specs.Device.{State, left}
 use Rattle.gated.specs.Gated.{HasList}

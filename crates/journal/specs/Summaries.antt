@@ -4,7 +4,7 @@ use Rattle.records.specs.declared.record.Record.{Record}
 use Rattle.records.specs.Checkpoints.{generation_of, is_end}
 use Rattle.records.specs.Inside.{begun_by}
 use Rattle.records.specs.declared.mark.Inside.{Inside}
-use Rattle.journal.specs.Records.{batches, bank_records, current_bank, is_behind_checkpoint, later_bank, of_bank, of_current}
+use Rattle.journal.specs.Records.{batches, current_bank, later_bank}
 use Rattle.journal.specs.Rest.{bank_of}
 use Rattle.journal.specs.declared.summary.Summary.{Summary}
 

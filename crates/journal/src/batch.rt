@@ -147,6 +147,7 @@ impl Batch {
         ensures up { D.honest log.old.device → OnOk result ((D.state log.new.device).stopped ≡ false) }
         ensures counts { (D.state log.old.device).failures ≤ (D.state log.new.device).failures }
         ensures none { OnOk result ((D.state log.new.device).failures ≡ (D.state log.old.device).failures) }
+        ensures ahead { D.honest log.old.device → OnOk result (IsAhead (D.state log.new.device) log.new.end log.new.at []) }
         ensures end { OnOk result (log.new.end ≡ log.old.end + batch_size self.old + record_head) }
         ensures cause { OnErr result (HasFailed (D.state log.old.device) (D.state log.new.device) ⊎ LacksRoom D.state D.honest log.old.device log.old.end self.old) }
     {

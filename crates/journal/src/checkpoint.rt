@@ -1,8 +1,8 @@
 // A checkpoint: one list of records takes the place of all that the journal has, on the other bank.
 ghost use Rattle.std.specs.Prelude.{◌≡◌, ◌⊎◌, ◌↔◌, ◌≤◌, ◌<◌, ◌+◌, ◌++◌, ◌∷◌, [], List, ℕ, Some, OnOk, OnErr, IfOk, IfErr, IsErrOf, MatchOption, All, Contains, Err, length, not, true, false};
 ghost use Rattle.device.specs.Device.{HasFailed, LeavesOnly};
-ghost use Rattle.gated.specs.Gated.{HasList, IsAhead, gated};
-ghost use Rattle.journal.specs.Ahead.{HasOldOrNewOr, IsEmptied, IsOldNoneOr, IsPut, IsWriting, HasPointCause, LacksRoomAhead, checkpoint_of};
+ghost use Rattle.gated.specs.Gated.{HasList, IsAhead};
+ghost use Rattle.journal.specs.Ahead.{HasOldOrNewOr, IsOldNoneOr, IsPut, IsWriting, KeepsLists, HasPointCause, LacksRoomAhead, checkpoint_of};
 ghost use Rattle.gated.specs.Gated.{record_head};
 ghost use Rattle.journal.specs.Records.{BankLacksRoom, HasNoRoom, HasRecords, LacksRoom, bank_records, batch_size, durable_of, LeavesEach};
 ghost use Rattle.journal.specs.Sources.{record_of};
@@ -33,17 +33,17 @@ pub trait Source<'a> {
         ensures { MatchOption result (records self.old ≡ []) (λ r. (records self.old ≡ record_of r ∷ records self.new) × IsRecord (record_of r)) };
 }
 
-// Writes a batch ahead of the empty list of a log.
+// Writes a batch ahead of the list of a log.
 pub(crate) fn write_piece<D: Device>(
     log: &mut GatedLog<D>,
     piece: &mut Batch,
 ) -> Result<(), Refusal>
     requires some { 1 ≤ length piece.old }
-    requires emptied { D.honest log.old.device → IsEmptied (D.state log.old.device) }
+    requires up { D.honest log.old.device → (D.state log.old.device).stopped ≡ false }
     ensures honest { D.honest log.old.device ↔ D.honest log.new.device }
     ensures empty { piece.new ≡ [] }
-    ensures any_moment { D.honest log.old.device → LeavesOnly D.moment D.left_since log.old.device log.new.device (λ c. gated c ≡ Some []) }
-    ensures emptied { D.honest log.old.device → OnOk result (IsEmptied (D.state log.new.device)) }
+    ensures lists { D.honest log.old.device → KeepsLists D.state D.moment D.left_since log.old.device log.new.device }
+    ensures up { D.honest log.old.device → OnOk result ((D.state log.new.device).stopped ≡ false) }
     ensures ok { (rs : List AnyRecord) → D.honest log.old.device → IsWriting (D.state log.old.device) log.old.end log.old.at rs
         → OnOk result (IsWriting (D.state log.new.device) log.new.end log.new.at (rs ++ piece.old)) }
     ensures ahead { OnOk result (log.new.end < log.new.at) }
@@ -60,7 +60,7 @@ pub(crate) fn write_piece<D: Device>(
 }
 
 // Begins a batch with a record, which fits.
-fn put_first(piece: &mut Batch, next: RecordRef<'_>)
+pub(crate) fn put_first(piece: &mut Batch, next: RecordRef<'_>)
     requires spelled { IsRecord (record_of next) }
     requires empty { piece.old ≡ [] }
     ensures { piece.new ≡ record_of next.entry ∷ [] }
@@ -78,10 +78,10 @@ fn put<D: Device>(
     next: RecordRef<'_>,
 ) -> Result<(), Refusal>
     requires spelled { IsRecord (record_of next) }
-    requires emptied { D.honest log.old.device → IsEmptied (D.state log.old.device) }
+    requires up { D.honest log.old.device → (D.state log.old.device).stopped ≡ false }
     ensures honest { D.honest log.old.device ↔ D.honest log.new.device }
-    ensures any_moment { D.honest log.old.device → LeavesOnly D.moment D.left_since log.old.device log.new.device (λ c. gated c ≡ Some []) }
-    ensures emptied { D.honest log.old.device → OnOk result (IsEmptied (D.state log.new.device)) }
+    ensures lists { D.honest log.old.device → KeepsLists D.state D.moment D.left_since log.old.device log.new.device }
+    ensures up { D.honest log.old.device → OnOk result ((D.state log.new.device).stopped ≡ false) }
     ensures ok { (all : List AnyRecord) → D.honest log.old.device → IsPut (D.state log.old.device) log.old.end log.old.at piece.old all
         → OnOk result (IsPut (D.state log.new.device) log.new.end log.new.at piece.new (all ++ record_of next.entry ∷ [])) }
     ensures some { OnOk result (1 ≤ length piece.new) }
@@ -108,10 +108,10 @@ fn put_next<D: Device>(
     next: Record,
 ) -> Result<(), Refusal>
     requires spelled { IsRecord next }
-    requires emptied { D.honest log.old.device → IsEmptied (D.state log.old.device) }
+    requires up { D.honest log.old.device → (D.state log.old.device).stopped ≡ false }
     ensures honest { D.honest log.old.device ↔ D.honest log.new.device }
-    ensures any_moment { D.honest log.old.device → LeavesOnly D.moment D.left_since log.old.device log.new.device (λ c. gated c ≡ Some []) }
-    ensures emptied { D.honest log.old.device → OnOk result (IsEmptied (D.state log.new.device)) }
+    ensures lists { D.honest log.old.device → KeepsLists D.state D.moment D.left_since log.old.device log.new.device }
+    ensures up { D.honest log.old.device → OnOk result ((D.state log.new.device).stopped ≡ false) }
     ensures ok { (all : List AnyRecord) → D.honest log.old.device → IsPut (D.state log.old.device) log.old.end log.old.at piece.old all
         → OnOk result (IsPut (D.state log.new.device) log.new.end log.new.at piece.new (all ++ next ∷ [])) }
     ensures some { OnOk result (1 ≤ length piece.new) }
@@ -130,10 +130,10 @@ fn put_all<'a, D: Device, S: Source<'a>>(
     piece: &mut Batch,
     source: &mut S,
 ) -> Result<(), Refusal>
-    requires emptied { D.honest log.old.device → IsEmptied (D.state log.old.device) }
+    requires up { D.honest log.old.device → (D.state log.old.device).stopped ≡ false }
     ensures honest { D.honest log.old.device ↔ D.honest log.new.device }
-    ensures any_moment { D.honest log.old.device → LeavesOnly D.moment D.left_since log.old.device log.new.device (λ c. gated c ≡ Some []) }
-    ensures emptied { D.honest log.old.device → OnOk result (IsEmptied (D.state log.new.device)) }
+    ensures lists { D.honest log.old.device → KeepsLists D.state D.moment D.left_since log.old.device log.new.device }
+    ensures up { D.honest log.old.device → OnOk result ((D.state log.new.device).stopped ≡ false) }
     ensures ok { (all : List AnyRecord) → D.honest log.old.device → IsPut (D.state log.old.device) log.old.end log.old.at piece.old all
         → OnOk result (IsPut (D.state log.new.device) log.new.end log.new.at piece.new (all ++ S.records source.old)) }
     ensures end { log.new.end ≡ log.old.end }
@@ -148,7 +148,31 @@ fn put_all<'a, D: Device, S: Source<'a>>(
     Ok(())
 }
 
-// Writes a whole checkpoint ahead of the empty list.
+// Puts the rest of a checkpoint that has begun, and writes all of it ahead.
+pub(crate) fn write_rest<'a, D: Device, S: Source<'a>>(
+    log: &mut GatedLog<D>,
+    piece: &mut Batch,
+    generation: u64,
+    source: &mut S,
+) -> Result<(), Refusal>
+    requires up { D.honest log.old.device → (D.state log.old.device).stopped ≡ false }
+    ensures honest { D.honest log.old.device ↔ D.honest log.new.device }
+    ensures lists { D.honest log.old.device → KeepsLists D.state D.moment D.left_since log.old.device log.new.device }
+    ensures up { D.honest log.old.device → OnOk result ((D.state log.new.device).stopped ≡ false) }
+    ensures ok { (all : List AnyRecord) → D.honest log.old.device → IsPut (D.state log.old.device) log.old.end log.old.at piece.old all
+        → OnOk result (IsWriting (D.state log.new.device) log.new.end log.new.at (all ++ S.records source.old ++ checkpoint_record (ends_mark generation) ∷ [])) }
+    ensures ahead { OnOk result (log.new.end < log.new.at) }
+    ensures err { IfErr result (λ e. e ≡ Refusal.Down) }
+    ensures cause { OnErr result (HasFailed (D.state log.old.device) (D.state log.new.device) ⊎ LacksRoomAhead D.state D.honest log.new.device) }
+    ensures counts { (D.state log.old.device).failures ≤ (D.state log.new.device).failures }
+    ensures none { OnOk result ((D.state log.new.device).failures ≡ (D.state log.old.device).failures) }
+{
+    put_all(log, piece, source)?;
+    put_next(log, piece, Record::Checkpoint(Mark::Ends(generation)))?;
+    write_piece(log, piece)
+}
+
+// Writes a whole checkpoint ahead of the list.
 fn write_all<'a, D: Device, S: Source<'a>>(
     log: &mut GatedLog<D>,
     piece: &mut Batch,
@@ -156,11 +180,10 @@ fn write_all<'a, D: Device, S: Source<'a>>(
     source: &mut S,
 ) -> Result<(), Refusal>
     requires empty { piece.old ≡ [] }
-    requires emptied { D.honest log.old.device → IsEmptied (D.state log.old.device) }
+    requires up { D.honest log.old.device → (D.state log.old.device).stopped ≡ false }
     requires none { D.honest log.old.device → IsAhead (D.state log.old.device) log.old.end log.old.at [] }
     ensures honest { D.honest log.old.device ↔ D.honest log.new.device }
-    ensures any_moment { D.honest log.old.device → LeavesOnly D.moment D.left_since log.old.device log.new.device (λ c. gated c ≡ Some []) }
-    ensures emptied { D.honest log.old.device → OnOk result (IsEmptied (D.state log.new.device)) }
+    ensures lists { D.honest log.old.device → KeepsLists D.state D.moment D.left_since log.old.device log.new.device }
     ensures ok { D.honest log.old.device → OnOk result (IsWriting (D.state log.new.device) log.new.end log.new.at (checkpoint_of generation (S.records source.old))) }
     ensures ahead { OnOk result (log.new.end < log.new.at) }
     ensures err { IfErr result (λ e. e ≡ Refusal.Down) }
@@ -169,9 +192,7 @@ fn write_all<'a, D: Device, S: Source<'a>>(
     ensures none { OnOk result ((D.state log.new.device).failures ≡ (D.state log.old.device).failures) }
 {
     put_next(log, piece, Record::Checkpoint(Mark::Begins(generation)))?;
-    put_all(log, piece, source)?;
-    put_next(log, piece, Record::Checkpoint(Mark::Ends(generation)))?;
-    write_piece(log, piece)
+    write_rest(log, piece, generation, source)
 }
 
 // Empties the list of a log, and makes the checkpoint its list by one byte.

@@ -7,6 +7,9 @@
 //!
 //! A bank b that has records without a checkpoint is damage.
 //!
+//! Devices without a record may get a first checkpoint, of what another store knows (`Begun`): that it begins is durable before anything else, so that
+//! half of one is damage and no store.
+//!
 //! A journal may lend its devices: a flight is a journal with them, to be flushed, while records are staged to what stays, and `land` brings
 //! them back. The shards of a server are flushed so.
 //!
@@ -14,6 +17,7 @@
 #![tactic(auto)]
 
 mod batch;
+mod begun;
 mod checkpoint;
 mod journal;
 mod lending;
@@ -24,6 +28,7 @@ mod room;
 mod summary;
 mod unread;
 
+pub use begun::Begun;
 pub use checkpoint::Source;
 pub use journal::Journal;
 pub use lending::{BatchRoom, Sent};

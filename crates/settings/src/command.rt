@@ -22,6 +22,7 @@ The lines of a script: zanstore sim --help
 
 A store in files, served over TCP: zanstore serve --help
 All tuples of such a store: zanstore dump --help
+Such a store with another number of shards: zanstore reshard --help
 Requests to such a server: zanstore call --help";
 
 const SIM: &str =

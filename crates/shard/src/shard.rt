@@ -62,6 +62,18 @@ impl<D: Device> Shard<D> {
         Ok(self.memory.learned())
     }
 
+    /// The place below which it forgot what nobody reads any more.
+    pub fn horizon(&self) -> Result<u64, Refusal>
+        ensures ok { IsUp D.state D.honest self.now → IfOk result (λ n. n ≡ (memory self.now).horizon) }
+        ensures down { IsErr result ↔ (self.now.is_down ≡ true) }
+        ensures err { IfErr result (λ e. e ≡ Refusal.Down) }
+    {
+        if self.journal.is_down() {
+            return Err(Refusal::Down);
+        }
+        Ok(self.memory.horizon())
+    }
+
     /// Makes durable what is staged, all of it or nothing; it takes no memory. After `Down` it may be durable or not, and the shard has to be
     /// opened again.
     pub fn flush(&mut self) -> Result<(), Refusal>

@@ -1,14 +1,14 @@
-//! The program: a store over files that is served to those who connect, or dumped, a client of such a server, and a store over disks in memory which runs
-//! scripts.
+//! The program: a store over files that is served to those who connect, dumped, or carried over to another number of shards, a client of such a server, and a
+//! store over disks in memory which runs scripts.
 //!
-//! Keeps: the first word says what is done: `serve`, `dump`, `call` or `sim`. Status 0 means that all was done and that what was asked for was written.
-//! Never: looks at a request or a line, and owns no store: `server` serves one over files, `dumping` writes all tuples of one, `calling` asks a server, and
+//! Keeps: the first word says what is done: `serve`, `dump`, `reshard`, `call` or `sim`. Status 0 means that all was done and that what was asked for was written.
+//! Never: looks at a request or a line, and owns no store: `server` serves one over files, `dumping` writes all tuples of one, `reshard` carries one over, `calling` asks a server, and
 //! `life` has a script carried out over a store of its own, and promises that this is one life of it.
 //! Callers rely on: the status, 0 at the end of the script, of the requests or of the last connection, 1 where files, nodes, the address, a request, a read
 //! or a write failed or there was no memory, 2 for a command line that can't be read.
 //!
-//! Start at `serve` of `server`, `dump_folder` of `dumping`, `call` of `calling` and `sim` of `life`; `serve_settings`, `dump_settings`, `call_settings` and
-//! `settings` read the command line.
+//! Start at `serve` of `server`, `dump_folder` of `dumping`, `reshard_folder` of `reshard`, `call` of `calling` and `sim` of `life`; `serve_settings`,
+//! `dump_settings`, `reshard_settings`, `call_settings` and `settings` read the command line.
 #![tactic(auto)]
 
 use call_settings::CallSettings;
@@ -16,6 +16,8 @@ use calling::call;
 use dump_settings::DumpSettings;
 use dumping::dump_folder;
 use life::sim;
+use reshard::{Folders, reshard_folder};
+use reshard_settings::ReshardSettings;
 use serve_settings::ServeSettings;
 use server::serve;
 use settings::Settings;
@@ -41,6 +43,9 @@ fn main(rt: HostRuntime) -> ExitCode {
     }
     if DumpSettings::are_for(&words) {
         return ExitCode::from(run_dump(&rt, &words));
+    }
+    if ReshardSettings::are_for(&words) {
+        return ExitCode::from(run_reshard(&rt, &words));
     }
     if CallSettings::are_for(&words) {
         return ExitCode::from(run_call(&rt, &rt, &words));
@@ -71,6 +76,28 @@ fn run_dump(rt: &HostRuntime, words: &[String]) -> u8 {
         ),
         Err(status) => status,
     }
+}
+
+// Carries the store over that the words ask for.
+fn run_reshard(rt: &HostRuntime, words: &[String]) -> u8 {
+    match ReshardSettings::read(rt, words) {
+        Ok(settings) => reshard_to(rt, &settings),
+        Err(status) => status,
+    }
+}
+
+fn reshard_to(rt: &HostRuntime, settings: &ReshardSettings) -> u8 {
+    let folders = Folders {
+        dir: settings.dir.as_str(),
+        to: settings.to.as_str(),
+    };
+    reshard_folder(
+        rt,
+        folders,
+        settings.store,
+        settings.shards,
+        settings.new_shards,
+    )
 }
 
 // Asks a server what the words ask for.

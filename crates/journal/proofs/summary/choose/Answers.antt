@@ -1,4 +1,4 @@
-use Rattle.std.proofs.Common.{Bool, ℕ, List, Option, Some, Vec, Global, map, sym, ◌∙◌, ap, subst}
+use Rattle.std.proofs.Common.{Bool, ℕ, Some, Vec, Global, map, sym, ◌∙◌, ap, subst}
 use Rattle.journal.specs.Summaries.{IsChosen}
 use Rattle.journal.proofs.Summaries.{chosen_a, chosen_b}
 use Rattle.journal.proofs.summary.choose.Goals as goal

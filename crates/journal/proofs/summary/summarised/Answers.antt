@@ -1,4 +1,4 @@
-use Rattle.std.proofs.Common.{sym, ◌∙◌, ap, subst}
+use Rattle.std.proofs.Common.{sym, ◌∙◌}
 use Rattle.journal.proofs.Summaries.{bodies_more}
 use Rattle.journal.proofs.summary.summarised.Goals as goal
 

@@ -1,7 +1,7 @@
 use Rattle.std.proofs.Common.{Err, refl, sym, ◌∙◌, ap, subst, true≢false}
 use Rattle.journal.specs.Records.{LeavesBoth, WasLeftOrFound}
 use Rattle.journal.proofs.Flushes.{as_it_was, as_left, both_opened}
-use Rattle.journal.proofs.Found.{are_led, at_rest, found_bodies, found_durable, found_seen, none_in_a, none_in_b, opened_at}
+use Rattle.journal.proofs.Found.{found_bodies, found_durable, found_seen, none_in_a, none_in_b, opened_at}
 use Rattle.journal.proofs.opening.Opening.find.Goals as goal
 
 pub returns-in-Err-clause-damaged : goal.returns-in-Err-clause-damaged

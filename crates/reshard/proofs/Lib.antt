@@ -1,0 +1,4 @@
+pub mod Caring
+pub mod Gathered
+pub mod Filled
+pub mod Founded

@@ -1,0 +1,5 @@
+use Rattle.reshard.specs.Caring.{CaresOn}
+use Rattle.reshard.proofs.playing.run_out.Given as goal
+
+abbrev pub invariant-loop : goal.invariant-loop
+invariant-loop g l = CaresOn g.D.Device.state g.D.Device.honest g.D.Device.moment g.D.Device.left_since l.fn.world l.world

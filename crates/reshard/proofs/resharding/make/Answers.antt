@@ -1,0 +1,16 @@
+use Rattle.std.proofs.Common.{arith}
+use Rattle.std.proofs.lemmas.Result.{on_ok_weaker}
+use Rattle.std.proofs.lemmas.List.{nil_from_length}
+use Rattle.reshard.proofs.Founded.{made}
+use Rattle.reshard.proofs.resharding.make.Goals as goal
+
+pub returns-clause-ok : goal.returns-clause-ok
+returns-clause-ok g c =
+    let w = c.write-made.ensures in
+    let begun = c.write-made.new.begun in
+    let left = c.write-made.new.devices in
+    made g.D.Device.state g.D.Device.honest c.args.old.now c.args.shards c.args.known.now.reach c.args.known.now.rows.items c.args.devices.now.items c.give_back.new.devices.items left.items begun.items c.give_back.ensures.items
+    c.write-made.result
+    (on_ok_weaker c.write-made.result (λ n. omega (arith, n, begun.ok.0)) w.count)
+    (on_ok_weaker c.write-made.result (λ n. nil_from_length left.items (omega (arith, n, w.left, c.requires.count, left.ok.0))) w.count)
+    w.honest w.each w.log

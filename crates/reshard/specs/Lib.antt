@@ -1,0 +1,3 @@
+pub mod Caring
+pub mod Gathering
+pub mod Made

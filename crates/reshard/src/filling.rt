@@ -1,0 +1,107 @@
+// What the old store knows is written to the devices of the new nodes, on which a checkpoint has begun.
+ghost use Rattle.std.specs.Prelude.{◌≡◌, ◌≤◌, ◌<◌, ◌+◌, ◌↔◌, ℕ, OnOk, Some, length, slice_get};
+ghost use Rattle.journal.specs.Beginnings.{BegunView};
+ghost use Rattle.journal.specs.Records.{HasRecords};
+ghost use Rattle.records.specs.Format.{AreRecords};
+ghost use Rattle.records.specs.Identity.{max_shards};
+ghost use Rattle.reshard.specs.Made.{AreHonest, HasLog, HaveShards, heads_of, shard_first};
+
+use crate::telling::Told;
+use calls::Reach;
+use cluster::World;
+use device::Device;
+use journal::Begun;
+use names::NodeName;
+use records::{Identity, PlacedIds, Record};
+use std::alloc::Global;
+use tuples::{Refusal, Version};
+
+// The records before the versions, which take no memory.
+fn heads(alloc: Global, me: Identity, reach: Reach) -> [Record; 3]
+    ensures are { AreRecords result }
+    ensures value { result ≡ heads_of me reach }
+{
+    let epoch = Record::Epoch {
+        epoch: 1,
+        store: me.store(),
+        shards: me.shards(),
+        node: me.node(),
+    };
+    let learned = Record::Learned {
+        to: reach.place,
+        placed_ids: PlacedIds::from_vec(Vec::new(alloc)),
+    };
+    [epoch, Record::Horizon(reach.horizon), learned]
+}
+
+// Ends the checkpoint of a shard.
+fn fill_shard<D: Device>(
+    alloc: Global,
+    begun: &mut Begun<D>,
+    me: Identity,
+    reach: Reach,
+    rows: &[Version],
+) -> Result<(), Refusal>
+    ensures honest { (D.honest begun.old.a ↔ D.honest begun.new.a) × (D.honest begun.old.b ↔ D.honest begun.new.b) }
+    ensures ok { D.honest begun.old.a → D.honest begun.old.b → OnOk result (HasRecords (D.state begun.new.a) (D.state begun.new.b) (shard_first me reach rows.now)) }
+{
+    let heads = heads(alloc, me, reach);
+    let mut told = Told::new(&heads, rows, me);
+    begun.finish(&mut told)
+}
+
+// Ends the checkpoint of each shard.
+fn fill_shards<D: Device>(
+    alloc: Global,
+    store: u64,
+    shards: u8,
+    reach: Reach,
+    rows: &[Version],
+    begun: &mut [Begun<D>],
+) -> Result<(), Refusal>
+    requires few { shards ≤ max_shards }
+    requires count { length begun.old ≡ shards + 1 }
+    ensures honest { AreHonest D.honest begun.old → AreHonest D.honest begun.new }
+    ensures ok { AreHonest D.honest begun.old → OnOk result (HaveShards D.state store shards reach rows.now shards begun.new) }
+{
+    for shard in 0..shards {
+        let me = Identity::shard(store, shards, shard);
+        fill_shard(alloc, &mut begun[shard as usize + 1], me, reach, rows)?;
+    }
+    Ok(())
+}
+
+// Ends the checkpoint of the coordinator.
+fn fill_log<D: Device>(old: &World<D>, shards: u8, begun: &mut [Begun<D>]) -> Result<(), Refusal>
+    requires some { 1 ≤ shards }
+    requires few { shards ≤ max_shards }
+    requires there { 1 ≤ length begun.old }
+    ensures honest { AreHonest D.honest begun.old → AreHonest D.honest begun.new }
+    ensures ok { AreHonest D.honest begun.old → OnOk result (HasLog D.state D.honest old.now shards begun.new) }
+    ensures others { (s : ℕ) (n : BegunView D) → slice_get begun.new (s + 1) ≡ Some n → slice_get begun.old (s + 1) ≡ Some n }
+{
+    match old.node(NodeName::Coordinator) {
+        Some(node) => node.carry(shards, &mut begun[0]),
+        None => Err(Refusal::BadRequest),
+    }
+}
+
+/// Ends the checkpoint of each node, that of the coordinator last.
+pub(crate) fn fill<D: Device>(
+    alloc: Global,
+    old: &World<D>,
+    shards: u8,
+    reach: Reach,
+    rows: &[Version],
+    begun: &mut [Begun<D>],
+) -> Result<(), Refusal>
+    requires some { 1 ≤ shards }
+    requires few { shards ≤ max_shards }
+    requires count { length begun.old ≡ shards + 1 }
+    ensures honest { AreHonest D.honest begun.old → AreHonest D.honest begun.new }
+    ensures each { AreHonest D.honest begun.old → OnOk result (HaveShards D.state old.now.store shards reach rows.now shards begun.new) }
+    ensures log { AreHonest D.honest begun.old → OnOk result (HasLog D.state D.honest old.now shards begun.new) }
+{
+    fill_shards(alloc, old.store(), shards, reach, rows, begun)?;
+    fill_log(old, shards, begun)
+}

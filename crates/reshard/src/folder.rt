@@ -1,0 +1,182 @@
+// A store that a folder keeps is carried over to another folder.
+ghost use Rattle.std.specs.Prelude.{◌≤◌, ◌≡◌, ◌+◌, ◌*◌, IfOk, vec_len};
+ghost use Rattle.cluster.specs.Worlds.{flow_count};
+ghost use Rattle.tuples.specs.Limits.{max_shards};
+
+use crate::carry_over;
+use cluster::{World, reopen};
+use device::Device;
+use files::{FileDevice, HostFile};
+use node_files::open_all;
+use std::alloc::Global;
+use std::fs;
+use std::io::ErrorKind;
+use tuples::{MAX_SHARDS, Refusal};
+
+// The status of a resharding that was not done.
+const FAILED: u8 = 1;
+
+/// Where a store is, and where it is to go.
+#[derive(Clone, Copy)]
+pub struct Folders<'a> {
+    /// The folder that keeps it.
+    pub dir: &'a str,
+    /// The folder that is to keep it, which has no file of a store yet.
+    pub to: &'a str,
+}
+
+/// Carries the store that one folder keeps over to the other one, with so many shards, and prints `done`. On standard error it says why it did not:
+/// `zanstore: 13 Down` where a file of the store can't be opened, or another process has it, `zanstore: 16 Damaged` where the other folder has a file of a
+/// store, and else the refusal. The status is 0 or 1.
+///
+/// The old folder keeps the store as it was, but for what each opening adds to its files and what its shards have learned. Where the status is not 0 the
+/// files of the new one are to be deleted.
+pub fn reshard_folder(
+    rt: &HostRuntime,
+    folders: Folders<'_>,
+    store: u64,
+    shards: u8,
+    new_shards: u8,
+) -> u8
+    requires some { 1 ≤ shards }
+    requires few { shards ≤ max_shards }
+    requires some_new { 1 ≤ new_shards }
+    requires few_new { new_shards ≤ max_shards }
+{
+    match carry_folder(rt, folders, store, shards, new_shards) {
+        Ok(()) => tell_done(rt),
+        Err(refusal) => tell(rt, refusal),
+    }
+}
+
+fn carry_folder(
+    rt: &HostRuntime,
+    folders: Folders<'_>,
+    store: u64,
+    shards: u8,
+    new_shards: u8,
+) -> Result<(), Refusal>
+    requires some { 1 ≤ shards }
+    requires few { shards ≤ max_shards }
+    requires some_new { 1 ≤ new_shards }
+    requires few_new { new_shards ≤ max_shards }
+{
+    let devices = open_all(rt, folders.dir, shards)?;
+    match open_new(rt, folders.to, new_shards) {
+        Ok(new_devices) => carry_devices(
+            rt.alloc(),
+            devices,
+            store,
+            shards,
+            new_devices,
+            new_shards,
+        ),
+        Err(refusal) => Err(refusal),
+    }
+}
+
+// Opens a closed store over its devices, and carries it over to new ones.
+fn carry_devices<D: Device>(
+    alloc: Global,
+    devices: Vec<D>,
+    store: u64,
+    shards: u8,
+    new_devices: Vec<D>,
+    new_shards: u8,
+) -> Result<(), Refusal>
+    requires some { 1 ≤ shards }
+    requires few { shards ≤ max_shards }
+    requires count { vec_len devices ≡ 2 * (shards + 1) }
+    requires some_new { 1 ≤ new_shards }
+    requires few_new { new_shards ≤ max_shards }
+    requires count_new { vec_len new_devices ≡ 2 * (new_shards + 1) }
+{
+    match reopen(alloc, devices, store, shards) {
+        Ok(world) => carry_world(alloc, world, new_devices, new_shards),
+        Err(_) => Err(Refusal::NoMemory),
+    }
+}
+
+fn carry_world<D: Device>(
+    alloc: Global,
+    mut world: World<D>,
+    new_devices: Vec<D>,
+    new_shards: u8,
+) -> Result<(), Refusal>
+    requires quiet { flow_count world.flows ≡ 0 }
+    requires some_new { 1 ≤ new_shards }
+    requires few_new { new_shards ≤ max_shards }
+    requires count_new { vec_len new_devices ≡ 2 * (new_shards + 1) }
+{
+    match carry_over(alloc, &mut world, new_devices, new_shards) {
+        Ok(_) => Ok(()),
+        Err((refusal, _)) => Err(refusal),
+    }
+}
+
+// Whether the folder has this file of a node.
+fn has_file(rt: &HostRuntime, folder: &str, node: &str, bank: char) -> Result<bool, Refusal> {
+    let path = format!(in rt.alloc(); "{folder}/{node}.{bank}")?;
+    match fs::symlink_metadata(rt, path.as_str()) {
+        Ok(_) => Ok(true),
+        Err(error) => {
+            if error.kind() == ErrorKind::NotFound {
+                Ok(false)
+            } else {
+                Err(Refusal::Down)
+            }
+        }
+    }
+}
+
+fn has_node(rt: &HostRuntime, folder: &str, node: &str) -> Result<bool, Refusal> {
+    Ok(has_file(rt, folder, node, 'a')? || has_file(rt, folder, node, 'b')?)
+}
+
+fn has_shard(rt: &HostRuntime, folder: &str, shard: u8) -> Result<bool, Refusal> {
+    let node = format!(in rt.alloc(); "{shard}")?;
+    has_node(rt, folder, node.as_str())
+}
+
+// Whether the folder has a file of a store of any number of shards.
+fn has_store(rt: &HostRuntime, folder: &str) -> Result<bool, Refusal> {
+    if has_node(rt, folder, "c")? {
+        return Ok(true);
+    }
+    for shard in 0..MAX_SHARDS {
+        if has_shard(rt, folder, shard)? {
+            return Ok(true);
+        }
+    }
+    Ok(false)
+}
+
+// Makes the files of the new store, in a folder that has none of any store.
+fn open_new(
+    rt: &HostRuntime,
+    folder: &str,
+    shards: u8,
+) -> Result<Vec<FileDevice<HostFile>>, Refusal>
+    ensures { IfOk result (λ devices. vec_len devices ≡ 2 * (shards + 1)) }
+{
+    if has_store(rt, folder)? {
+        return Err(Refusal::Damaged);
+    }
+    open_all(rt, folder, shards)
+}
+
+fn tell(rt: &HostRuntime, refusal: Refusal) -> u8 {
+    // A text that can't be printed changes nothing of the status.
+    let _ = eprintln!(rt; "zanstore: {refusal}");
+    FAILED
+}
+
+fn tell_done(rt: &HostRuntime) -> u8 {
+    match println!(rt; "done") {
+        Ok(()) => 0,
+        Err(_) => {
+            let _ = eprintln!(rt; "zanstore: output");
+            FAILED
+        }
+    }
+}

@@ -1,0 +1,23 @@
+//! A store of one number of shards is carried over to one of another, on devices of its own, while no flow runs.
+//!
+//! Keeps: of the old store only cares of its nodes are done, which leave its log as it is; the new one has the same id and log, how often the
+//! coordinator was opened, and its horizon, and each version that an old shard has is at the new shard of its tuple.
+//! Never: carries over a write in doubt, or writes anything of the log before the devices of each new node say that a checkpoint has begun on them.
+//! Callers rely on: behind `Ok` each new node's devices have exactly the checkpoint of what it is to know, whatever a stop leaves.
+//! Only tested: that the answers of the new store are those of the old one, and what two folders then hold. That the coordinator's checkpoint is ended last no
+//! contract says; what a stop leaves of each node's devices is told by those of `Begun`.
+//!
+//! Start at `specs/Made.antt`, what the new devices have, and `resharding.rt`.
+#![tactic(auto)]
+
+mod filling;
+mod folder;
+mod founding;
+mod gathering;
+mod playing;
+mod resharding;
+mod settling;
+mod telling;
+
+pub use folder::{Folders, reshard_folder};
+pub use resharding::{carry_over, reshard};

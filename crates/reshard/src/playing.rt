@@ -1,0 +1,74 @@
+// A care of a node of the old store, from its beginning to its end.
+ghost use Rattle.std.specs.Prelude.{◌≡◌, OnErr, OnOk, Some};
+ghost use Rattle.reshard.specs.Caring.{CaresOn};
+
+use cluster::{Step, What, World};
+use device::Device;
+use names::{CallName, Care};
+use tuples::Refusal;
+
+// What it has come to where a turn told this and no call comes next.
+fn outcome_of(told: Option<What>) -> Result<(), Refusal> {
+    match told {
+        Some(What::Ended(_)) => Ok(()),
+        Some(What::Refused(refusal)) => Err(refusal),
+        // No care ends so.
+        _ => Err(Refusal::Damaged),
+    }
+}
+
+// The flow in the slot makes its turn.
+fn turn<D: Device>(world: &mut World<D>, slot: usize) -> Result<(), Refusal>
+    ensures { CaresOn D.state D.honest D.moment D.left_since world.old world.new }
+{
+    match world.take(&Step::Turn(slot)) {
+        Ok(told) => outcome_of(told),
+        Err(_) => Err(Refusal::NoMemory),
+    }
+}
+
+// Whether a shard is asked once more how far it has learned, right behind a batch: what it is to learn the coordinator has forgotten. Nobody else lets a
+// shard learn here, so it would be asked for ever.
+fn is_left_behind(made: Option<CallName>, next: CallName) -> bool {
+    matches!(made, Some(CallName::Batch)) && matches!(next, CallName::Learned)
+}
+
+// The calls of the flow in the slot, one after another, to its end.
+fn run_out<D: Device>(world: &mut World<D>, slot: usize) -> Result<(), Refusal>
+    ensures { CaresOn D.state D.honest D.moment D.left_since world.old world.new }
+{
+    let mut outcome = Err(Refusal::Damaged);
+    let mut made = None;
+    for _ in 0..u64::MAX {
+        let Some(name) = world.next(slot) else {
+            return outcome;
+        };
+        if is_left_behind(made, name) {
+            return Err(Refusal::Damaged);
+        }
+        outcome = turn(world, slot);
+        made = Some(name);
+    }
+    // It has made more calls than can be counted.
+    Err(Refusal::NoMemory)
+}
+
+fn begin<D: Device>(world: &mut World<D>, care: Care) -> Result<usize, Refusal>
+    ensures { CaresOn D.state D.honest D.moment D.left_since world.old world.new }
+{
+    match world.take(&Step::Care(care)) {
+        Ok(Some(What::Began(slot))) => Ok(slot),
+        Ok(Some(What::Refused(refusal))) => Err(refusal),
+        // There is no such node.
+        Ok(_) => Err(Refusal::BadRequest),
+        Err(_) => Err(Refusal::NoMemory),
+    }
+}
+
+/// The care is done, or refused.
+pub(crate) fn serve<D: Device>(world: &mut World<D>, care: Care) -> Result<(), Refusal>
+    ensures { CaresOn D.state D.honest D.moment D.left_since world.old world.new }
+{
+    let slot = begin(world, care)?;
+    run_out(world, slot)
+}

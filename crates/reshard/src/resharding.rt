@@ -1,0 +1,189 @@
+// A store is carried over to one of another number of shards.
+ghost use Rattle.std.specs.Prelude.{◌≡◌, ◌≤◌, ◌+◌, ◌*◌, [], All, List, IfErr, IfOk, OnErr, OnOk, length};
+ghost use Rattle.std.specs.Vec.{vec_capacity, vec_len};
+ghost use Rattle.cluster.specs.Openings.{IsOpenedOver};
+ghost use Rattle.cluster.specs.Worlds.{flow_count};
+ghost use Rattle.records.specs.Identity.{max_shards};
+ghost use Rattle.reshard.specs.Caring.{Cares, HaveReached};
+ghost use Rattle.reshard.specs.Gathering.{AreGathered};
+ghost use Rattle.reshard.specs.Made.{AreHonest, AreMade, HasLog, HaveShards, IsCarriedOver};
+
+use crate::filling::fill;
+use crate::founding::{begin_all, give_back};
+use crate::gathering::gather;
+use crate::settling::{are_up, reach, settle};
+use calls::Reach;
+use cluster::{World, reopen};
+use device::Device;
+use journal::Begun;
+use std::alloc::Global;
+use tuples::{Refusal, Version};
+
+// What the shards of a store know, which is to be known by others.
+#[derive(Drop)]
+struct Known {
+    reach: Reach,
+    rows: Vec<Version>,
+}
+
+fn know<D: Device>(alloc: Global, old: &World<D>) -> Result<Known, Refusal>
+    ensures { IfOk result (λ known. HaveReached D.state D.honest old.now.nodes old.now.shards known.reach × AreGathered D.state D.honest old.now.nodes old.now.shards known.rows.items) }
+{
+    let reach = reach(old)?;
+    match gather(alloc, old) {
+        Ok(rows) => Ok(Known { reach, rows }),
+        Err(refusal) => Err(refusal),
+    }
+}
+
+// The cares of the old store, and what its shards know then.
+fn close<D: Device>(alloc: Global, old: &mut World<D>) -> Result<Known, Refusal>
+    ensures cares { Cares D.state D.honest D.moment D.left_since old.old old.new }
+    ensures ok { IfOk result (λ known. HaveReached D.state D.honest old.new.nodes old.new.shards known.reach × AreGathered D.state D.honest old.new.nodes old.new.shards known.rows.items) }
+{
+    are_up(old)?;
+    settle(old)?;
+    know(alloc, old)
+}
+
+// A checkpoint begins on the devices of each new node, and then each has its own.
+fn write<D: Device>(
+    alloc: Global,
+    old: &World<D>,
+    shards: u8,
+    known: &Known,
+    devices: &mut Vec<D>,
+    begun: &mut Vec<Begun<D>>,
+) -> Result<(), Refusal>
+    requires some { 1 ≤ shards }
+    requires few { shards ≤ max_shards }
+    requires count { vec_len devices.old ≡ 2 * (shards + 1) }
+    requires within { vec_len devices.old ≤ vec_capacity devices.old }
+    requires none { begun.old.items ≡ [] }
+    requires empty { vec_len begun.old ≡ 0 }
+    requires room { shards + 1 ≤ vec_capacity begun.old }
+    ensures left { vec_len devices.new + 2 * vec_len begun.new ≡ vec_len devices.old }
+    ensures capacity { vec_capacity devices.new ≡ vec_capacity devices.old }
+    ensures count { OnOk result (vec_len begun.new ≡ shards + 1) }
+    ensures honest { All D.honest devices.old.items → OnOk result (AreHonest D.honest begun.new.items) }
+    ensures each { All D.honest devices.old.items → OnOk result (HaveShards D.state old.now.store shards known.now.reach known.now.rows.items shards begun.new.items) }
+    ensures log { All D.honest devices.old.items → OnOk result (HasLog D.state D.honest old.now shards begun.new.items) }
+{
+    begin_all(alloc, shards as usize + 1, devices, begun)?;
+    fill(alloc, old, shards, known.reach, &known.rows, begun)
+}
+
+// The devices become those of the new store.
+fn make<D: Device>(
+    alloc: Global,
+    old: &World<D>,
+    shards: u8,
+    known: &Known,
+    devices: &mut Vec<D>,
+) -> Result<(), Refusal>
+    requires some { 1 ≤ shards }
+    requires few { shards ≤ max_shards }
+    requires count { vec_len devices.old ≡ 2 * (shards + 1) }
+    ensures count { vec_len devices.new ≡ vec_len devices.old }
+    ensures ok { OnOk result (AreMade D.state D.honest old.now shards known.now.reach known.now.rows.items devices.old.items devices.new.items) }
+{
+    let Ok(mut begun) = Vec::with_capacity(alloc, shards as usize + 1) else {
+        return Err(Refusal::NoMemory);
+    };
+    let made = write(alloc, old, shards, known, devices, &mut begun);
+    give_back(begun, devices);
+    made
+}
+
+// What the shards of the old store know becomes that of the new devices, and the log beside it.
+fn carry<D: Device>(
+    alloc: Global,
+    old: &World<D>,
+    shards: u8,
+    known: &Known,
+    mut devices: Vec<D>,
+) -> Result<Vec<D>, (Refusal, Vec<D>)>
+    requires some { 1 ≤ shards }
+    requires few { shards ≤ max_shards }
+    requires count { vec_len devices ≡ 2 * (shards + 1) }
+    ensures ok { IfOk result (λ made. AreMade D.state D.honest old.now shards known.now.reach known.now.rows.items devices.items made.items) }
+    ensures count { IfOk result (λ made. vec_len made ≡ vec_len devices) }
+    ensures back { IfErr result (λ e. vec_len e.1 ≡ vec_len devices) }
+{
+    match make(alloc, old, shards, known, &mut devices) {
+        Ok(()) => Ok(devices),
+        Err(refusal) => Err((refusal, devices)),
+    }
+}
+
+/// Carries a store over to one of so many shards, on new devices: those of its coordinator, and then those of each shard, by rising number, bank a before
+/// bank b, each without a byte. They come back with all that the new nodes are to know, to be opened as a store with the same id.
+///
+/// The old store is cared for first: all that its coordinator has staged becomes durable, and each shard finds out what became of its writes in doubt, learns
+/// what is kept, and forgets what lies below the horizon. Its log stays as it is, and it can be gone on with wherever this ends. A write that is in doubt
+/// still is not carried over: it has no place in the log, and the new coordinator, which is opened once more than the old one, tells that it is aborted.
+///
+/// Where a node is not up it is refused as that one, the coordinator before the shards; as a care was, or with `Down` where a call of a device failed,
+/// `NoMemory` or `Full`. `Damaged` where the old devices are not all of one moment, or a new one has something. Then the new devices come back to be emptied:
+/// unless the very last call failed, they are no store.
+pub fn carry_over<D: Device>(
+    alloc: Global,
+    old: &mut World<D>,
+    devices: Vec<D>,
+    shards: u8,
+) -> Result<Vec<D>, (Refusal, Vec<D>)>
+    requires some { 1 ≤ shards }
+    requires few { shards ≤ max_shards }
+    requires quiet { flow_count old.old.flows ≡ 0 }
+    requires count { vec_len devices ≡ 2 * (shards + 1) }
+    ensures cares { Cares D.state D.honest D.moment D.left_since old.old old.new }
+    ensures ok { IfOk result (λ made. IsCarriedOver D.state D.honest old.new shards devices.items made.items) }
+    ensures count { IfOk result (λ made. vec_len made ≡ vec_len devices) }
+    ensures back { IfErr result (λ e. vec_len e.1 ≡ vec_len devices) }
+{
+    match close(alloc, old) {
+        Ok(known) => carry(alloc, old, shards, &known, devices),
+        Err(refusal) => Err((refusal, devices)),
+    }
+}
+
+/// As `carry_over`, and the new store is opened over the devices, as `reopen` does.
+pub fn reshard<D: Device>(
+    alloc: Global,
+    old: &mut World<D>,
+    devices: Vec<D>,
+    shards: u8,
+) -> Result<World<D>, (Refusal, Vec<D>)>
+    requires some { 1 ≤ shards }
+    requires few { shards ≤ max_shards }
+    requires quiet { flow_count old.old.flows ≡ 0 }
+    requires count { vec_len devices ≡ 2 * (shards + 1) }
+    ensures cares { Cares D.state D.honest D.moment D.left_since old.old old.new }
+    ensures ok { IfOk result (λ w. (made : List D) × IsCarriedOver D.state D.honest old.new shards devices.items made
+        × IsOpenedOver D.state D.honest D.moment D.left_since old.new.store shards made w) }
+    ensures back { IfErr result (λ e. vec_len e.1 ≡ vec_len devices) }
+{
+    match carry_over(alloc, old, devices, shards) {
+        Ok(made) => open(alloc, old.store(), shards, made),
+        Err(refused) => Err(refused),
+    }
+}
+
+// Opens the new store.
+fn open<D: Device>(
+    alloc: Global,
+    store: u64,
+    shards: u8,
+    devices: Vec<D>,
+) -> Result<World<D>, (Refusal, Vec<D>)>
+    requires some { 1 ≤ shards }
+    requires few { shards ≤ max_shards }
+    requires count { vec_len devices ≡ 2 * (shards + 1) }
+    ensures ok { IfOk result (IsOpenedOver D.state D.honest D.moment D.left_since store shards devices.items) }
+    ensures back { IfErr result (λ e. vec_len e.1 ≡ vec_len devices) }
+{
+    match reopen(alloc, devices, store, shards) {
+        Ok(world) => Ok(world),
+        Err(devices) => Err((Refusal::NoMemory, devices)),
+    }
+}

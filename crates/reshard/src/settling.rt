@@ -1,0 +1,68 @@
+// The old store: what its shards have yet to learn is learned, and what nobody reads any more is forgotten.
+ghost use Rattle.std.specs.Prelude.{◌≡◌, IfOk};
+ghost use Rattle.reshard.specs.Caring.{CaresOn, HaveReached, ReachesAt};
+
+use crate::playing::serve;
+use calls::Reach;
+use cluster::World;
+use device::Device;
+use names::{Care, NodeName};
+use tuples::Refusal;
+
+fn reach_of<D: Device>(world: &World<D>, name: NodeName) -> Result<Reach, Refusal>
+    ensures { IfOk result (ReachesAt D.state D.honest world.now.nodes name) }
+{
+    match world.node(name) {
+        Some(node) => node.reach(),
+        None => Err(Refusal::BadRequest),
+    }
+}
+
+/// Whether each node is up: else the refusal of the first that is not, the coordinator before the shards.
+pub(crate) fn are_up<D: Device>(world: &World<D>) -> Result<(), Refusal> {
+    let _log = reach_of(world, NodeName::Coordinator)?;
+    for shard in 0..world.shards() {
+        let _shard = reach_of(world, NodeName::Shard(shard))?;
+    }
+    Ok(())
+}
+
+// What each write in doubt has become is found out and done, what is kept is learned, and what lies below the horizon is forgotten.
+fn care_for<D: Device>(world: &mut World<D>, shard: u8) -> Result<(), Refusal>
+    ensures { CaresOn D.state D.honest D.moment D.left_since world.old world.new }
+{
+    serve(world, Care::Resolve(shard))?;
+    serve(world, Care::Learn(shard))?;
+    serve(world, Care::Collect(shard))
+}
+
+fn care_for_all<D: Device>(world: &mut World<D>, shards: u8) -> Result<(), Refusal>
+    ensures { CaresOn D.state D.honest D.moment D.left_since world.old world.new }
+{
+    for shard in 0..shards {
+        care_for(world, shard)?;
+    }
+    Ok(())
+}
+
+/// All that the coordinator has staged becomes durable, and then each shard is cared for.
+pub(crate) fn settle<D: Device>(world: &mut World<D>) -> Result<(), Refusal>
+    ensures { CaresOn D.state D.honest D.moment D.left_since world.old world.new }
+{
+    let shards = world.shards();
+    serve(world, Care::Flush(NodeName::Coordinator))?;
+    care_for_all(world, shards)
+}
+
+/// How far all nodes reach. `Damaged` where one reaches further than another: the devices are not all of one moment.
+pub(crate) fn reach<D: Device>(world: &World<D>) -> Result<Reach, Refusal>
+    ensures { IfOk result (HaveReached D.state D.honest world.now.nodes world.now.shards) }
+{
+    let reach = reach_of(world, NodeName::Coordinator)?;
+    for shard in 0..world.shards() {
+        if reach_of(world, NodeName::Shard(shard))? != reach {
+            return Err(Refusal::Damaged);
+        }
+    }
+    Ok(reach)
+}
