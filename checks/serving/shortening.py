@@ -1,4 +1,4 @@
-"""A server whose shards write checkpoints as they grow."""
+"""A server whose nodes write checkpoints as they grow."""
 import os
 import time
 
@@ -6,13 +6,14 @@ from judge.definitions import shard_of
 from judge.worlds import must
 from serving.server import SHARDS, Server
 from serving.talking import is_told
-from serving.wire import Session, read, refusal, token, write
+from serving.wire import Session, check, delete, read, refusal, token, touch, watch, write
 
-# Each write touches, or deletes and touches, as many tuples of the greatest length as it may, all of one object; so its shard has some 25 kB more.
+# Each write touches, or deletes and touches, as many tuples of the greatest length as it may, all of one object; so its shard and the coordinator have some
+# 25 kB more.
 NAME, CHANGES = "d" * 128, 64
-# What a shard's bank is let grow to, and how many places there are from one round of cares to the next.
+# What a node's bank is let grow to, and how many places there are from one round of cares to the next.
 LIMIT, ROUND = 67108864, 1024
-# What a checkpoint of so few tuples takes at most, with the records behind it.
+# What a checkpoint of so few tuples, or of so few writes, takes at most, with the records behind it.
 SHORT = 4 << 20
 # Places that can still be read; the others are let go, and so are not in a checkpoint.
 WINDOW = 8
@@ -25,12 +26,13 @@ def tuples():
     return [f"doc:{NAME}#{relation}@{user}{number:03}" for number in range(CHANGES)]
 
 
-def bank(folder, name):
-    return os.path.join(folder, f"{shard_of('doc', NAME, SHARDS)}.{name}")
+def banks(folder, name):
+    """The file of this name of the shard that is written to, and of the coordinator."""
+    return [os.path.join(folder, f"{node}.{name}") for node in (shard_of("doc", NAME, SHARDS), "c")]
 
 
-def length(folder, name):
-    return os.path.getsize(bank(folder, name))
+def lengths(folder, name):
+    return [os.path.getsize(bank) for bank in banks(folder, name)]
 
 
 def begins_checkpoint(path):
@@ -43,34 +45,47 @@ def begins_checkpoint(path):
 def write_until(session, folder, place):
     """Writes until a round of cares comes behind the limit. The last place."""
     all_of = tuples()
-    while length(folder, "a") <= LIMIT or place % ROUND:
+    while min(lengths(folder, "a")) <= LIMIT or place % ROUND:
         place += 1
         is_told(session, write(*("+" + tuple for tuple in all_of)), {"zookie": token(place)})
     return place
 
 
-def is_shortened(folder):
+def are_shortened(folder):
     late = time.monotonic() + LATE
     while time.monotonic() < late:
-        if begins_checkpoint(bank(folder, "b")):
+        if all(map(begins_checkpoint, banks(folder, "b"))):
             return True
         time.sleep(0.05)
     return False
 
 
+def listed(first, last, *changes):
+    """What a watch tells of places at each of which the same was changed."""
+    return [{"change": change["op"], "place": place, "tuple": change["tuple"]} for place in range(first, last + 1) for change in changes]
+
+
 def shortened(folder):
-    """a shard that has grown past 64 MiB goes on in its other file, from a checkpoint; what was told is there behind a kill, and collected places are gone"""
+    """a shard and the coordinator go on in their other files, from checkpoints, past 64 MiB; behind a kill what was told is there, and what was collected gone"""
     rows = sorted(tuples())
+    changes = (touch(rows[0]), delete(rows[1]))
     with Server(folder, window=WINDOW) as first, Session(first.port) as session:
-        place = write_until(session, folder, 0)
-        must(is_shortened(folder), f"no checkpoint {LATE} seconds after {length(folder, 'a')} bytes")
+        before = write_until(session, folder, 0)
+        must(are_shortened(folder), f"no checkpoints {LATE} seconds after {lengths(folder, 'a')} bytes")
+        place = before
         for _ in range(10):
             place += 1
             is_told(session, write("+" + rows[0], "-" + rows[1]), {"zookie": token(place)})
-        must(length(folder, "b") < SHORT, f"a checkpoint of {CHANGES} tuples and 10 writes have {length(folder, 'b')} bytes")
+        must(max(lengths(folder, "b")) < SHORT, f"checkpoints of {CHANGES} tuples and {WINDOW} writes, and 10 writes, have {lengths(folder, 'b')} bytes")
+        told = session.ask(watch(token(before), "doc"))
+        must(told == {"events": listed(before + 1, place, *changes), "heartbeat": token(place)}, f"a watch tells {str(told)[:300]}")
         first.kill()
-    with Server(folder, window=WINDOW) as second, Session(second.port) as session:
+    # With a window so wide its first round lets nothing more go.
+    with Server(folder, window=ROUND) as second, Session(second.port) as session:
         is_told(session, read(f"doc:{NAME}"), {"sets": [[row for row in rows if row != rows[1]]], "zookie": token(place)})
+        is_told(session, check(rows[1], exact=token(before)), {"member": True, "zookie": token(before)})
+        is_told(session, watch(token(before), "doc"), told)
+        is_told(session, watch(token(1), "doc"), refusal(8, "Collected"))
         is_told(session, read(f"doc:{NAME}", exact=token(1)), refusal(8, "Collected"))
         is_told(session, write("+" + rows[1]), {"zookie": token(place + 1)})
         second.kill()

@@ -12,7 +12,7 @@ use Rattle.records.specs.Coordinators.{CoordinatorState, coordinator_state, empt
 use Rattle.ties.specs.ShardTies.{RowsAnywhere}
 use Rattle.ties.specs.Ties.{Anywhere, IsLonger}
 use Rattle.tuples.specs.declared.entry.Entry.{Entry}
-use Rattle.at_rest.specs.AtRest.{AreAtRest, RestsAtOne, found_coordinator}
+use Rattle.at_rest.specs.AtRest.{IsAtRest, RestsWith, found_coordinator}
 
 -- a stop leaves what was found, and nothing else
 pub leaves_seen : (s : State) → IsFresh s.seen s → left s s.seen
@@ -30,7 +30,7 @@ found_is state (a ∷ []) any le = absurd (omega (arith, le))
 found_is state (a ∷ b ∷ rest) any le = refl
 
 -- Of two devices that were just opened no other records are found than those that they read.
-found_again : {D : Type 0} (state : D → State) (a b : D) (rs : List Record) → IsFresh (state a).seen (state a) → IsFresh (state b).seen (state b)
+pub found_again : {D : Type 0} (state : D → State) (a b : D) (rs : List Record) → IsFresh (state a).seen (state a) → IsFresh (state b).seen (state b)
     → found (state a).seen (state b).seen ≡ Some rs → (other : List Record) → Finds (left (state a)) (left (state b)) other → rs ≡ other
 found_again state a b rs fresh_a fresh_b is other finds =
     let first : finds.0 ≡ (state a).seen = leaves_only (state a) fresh_a finds.0 finds.2 in
@@ -55,7 +55,7 @@ module _ {D : Type 0} (state : D → State) (honest : D → Type 0) (shards : �
       → found (state coordinator_a).seen (state coordinator_b).seen ≡ Some rs → honest coordinator_a → honest coordinator_b
       → (coordinator_state rs).log ≡ drop (coordinator_state rs).base whole → IsLonger whole (coordinator_state rs).horizon [] (coordinator_state rs)
       → ((k : ℕ) → k < shards → RowsAnywhere state honest shards k (slice_index_or devices (2 * k + 2) any) (slice_index_or devices (2 * k + 3) any) whole (coordinator_state rs).horizon)
-      → AreAtRest state honest shards devices
+      → IsAtRest state honest shards whole devices
   at_rest_with rs whole fresh_a fresh_b is honest_a honest_b log_is longer rows =
       let low : ℕ = (coordinator_state rs).horizon in
       let here : Anywhere state honest coordinator_a coordinator_b whole low [] = record {
@@ -72,9 +72,4 @@ module _ {D : Type 0} (state : D → State) (honest : D → Type 0) (shards : �
             (subst (λ (y : D). RowsAnywhere state honest shards k (slice_index_or devices (2 * k + 2) any) y whole low) (same_device (2 * k + 3) other (omega (arith, count, lt))) (rows k lt));
       } in
       let read : found_coordinator state devices ≡ coordinator_state rs = found_is state devices any (omega (arith, count)) ∙ ap (λ o. coordinator_state (or_none o)) is in
-      subst (λ (c : CoordinatorState). RestsAtOne state honest shards devices c) (sym read) (record {
-        first = whole;
-        known = log_is;
-        rests = rest;
-        whole = λ zero. subst (λ (l : List Entry). RestAt state honest shards l low devices) (sym (log_is ∙ ap (λ (b : ℕ). drop b whole) zero)) rest;
-      })
+      subst (λ (c : CoordinatorState). RestsWith state honest shards whole devices c) (sym read) (record { decisions = log_is; rests = rest })

@@ -96,8 +96,11 @@ module _ {D : Type 0} (state : D → State) (honest : D → Type 0) (store shard
       (subst (λ (i : ℕ). RowsAnywhere state honest shards k (slice_index_or devices i any) (slice_index_or devices (2 * (k + 1) + 1) any) whole s.horizon) one here)
 
   rested : AreAtRest state honest shards devices
-  rested = at_rest_with state honest shards devices any count read.0 whole fresh_a fresh_b read.1 (rests.sound.honest_a coordinator tt) (rests.sound.honest_b coordinator tt)
-      means.decided.decisions longer rows
+  rested = (
+    whole,
+    at_rest_with state honest shards devices any count read.0 whole fresh_a fresh_b read.1 (rests.sound.honest_a coordinator tt) (rests.sound.honest_b coordinator tt)
+        means.decided.decisions longer rows,
+  )
 
 pub what_rests_is_at_rest : {D : Type 0} (state : D → State) (honest : D → Type 0) → WhatRestsIsAtRest state honest
 what_rests_is_at_rest state honest store shards any devices m count fresh rests = rested state honest store shards any devices m count fresh rests
@@ -159,8 +162,11 @@ module _ {D : Type 0} (state : D → State) (honest : D → Type 0) (shards : �
       }
 
   found_at_rest : AreAtRest state honest shards news
-  found_at_rest = at_rest_with state honest shards news any (same_count ∙ count) read_anew.0 all of_a.opened of_b.opened read_anew.1 of_a.is_honest of_b.is_honest
-      was_longer.are.decisions no_longer rows_found
+  found_at_rest = (
+    all,
+    at_rest_with state honest shards news any (same_count ∙ count) read_anew.0 all of_a.opened of_b.opened read_anew.1 of_a.is_honest of_b.is_honest
+        was_longer.are.decisions no_longer rows_found,
+  )
 
 pub what_is_found_is_at_rest : {D : Type 0} (state : D → State) (honest : D → Type 0) → WhatIsFoundIsAtRest state honest
 what_is_found_is_at_rest state honest shards any first low olds news count same_count rests readable found_of =

@@ -12,19 +12,16 @@ found_coordinator state [] = empty_coordinator
 found_coordinator state (a ∷ []) = empty_coordinator
 found_coordinator state (a ∷ b ∷ rest) = coordinator_state (or_none (found (state a).seen (state b).seen))
 
--- The devices rest at the list of the coordinator's decisions: a stop leaves of the coordinator's that list, and perhaps more, and of each shard's its rows
--- of it.
-abbrev pub IsAtRest : {D : Type 0} → (D → State) → (D → Type 0) → ℕ → List D → Type 0
-IsAtRest state honest shards devices = RestAt state honest shards (found_coordinator state devices).log (found_coordinator state devices).horizon devices
+-- The devices of a coordinator that knows this rest at the list, of which it knows what is behind its base: a stop leaves of the coordinator's that list, and
+-- perhaps more, and of each shard's its rows of it.
+pub record RestsWith {D : Type 0} (state : D → State) (honest : D → Type 0) (shards : ℕ) (first : List Entry) (devices : List D) (known : CoordinatorState) : Type 0 where
+  pub decisions : known.log ≡ drop known.base first
+  pub rests : RestAt state honest shards first known.horizon devices
 
--- The devices of a coordinator that knows this rest at one list, of which it knows what is behind its base. Where nothing is forgotten, that is the list that
--- they have.
-pub record RestsAtOne {D : Type 0} (state : D → State) (honest : D → Type 0) (shards : ℕ) (devices : List D) (found : CoordinatorState) : Type 0 where
-  pub first : List Entry
-  pub known : found.log ≡ drop found.base first
-  pub rests : RestAt state honest shards first found.horizon devices
-  pub whole : found.base ≡ 0 → RestAt state honest shards found.log found.horizon devices
+-- The devices rest at the list, as they read. Where the coordinator has forgotten nothing, as before its first checkpoint, that is the list of its decisions.
+abbrev pub IsAtRest : {D : Type 0} → (D → State) → (D → Type 0) → ℕ → List Entry → List D → Type 0
+IsAtRest state honest shards first devices = RestsWith state honest shards first devices (found_coordinator state devices)
 
--- the devices rest at one list, as they read
+-- the devices rest at some list
 abbrev pub AreAtRest : {D : Type 0} → (D → State) → (D → Type 0) → ℕ → List D → Type 0
-AreAtRest state honest shards devices = RestsAtOne state honest shards devices (found_coordinator state devices)
+AreAtRest state honest shards devices = (first : List Entry) × IsAtRest state honest shards first devices

@@ -23,6 +23,7 @@ mod opening;
 mod opening_laws;
 mod placing;
 mod reading;
+mod shortening;
 mod store;
 mod tending;
 mod watching;

@@ -12,7 +12,7 @@ ghost use Rattle.locked.specs.Holding.{KeepsTried, TellsInHold};
 ghost use Rattle.locked.specs.Serving.{Serves};
 
 use crate::{Caller, Gate, Store};
-use calls::{CoordinatorCall, NodeCall, Reply, ShardCall, Told, refuse, refuse_aloud};
+use calls::{CoordinatorCall, NodeCall, Reply, ShardCall, Told, refuse};
 use device::Device;
 use flights::ShardPlace;
 use published::{Published, SessionPass};
@@ -45,12 +45,7 @@ pub(crate) fn serve_coordinator<D: Device, B: Room>(
         CoordinatorCall::Inquire(id) => side.inquire(words, pass, told, id),
         CoordinatorCall::Raise(place, settled) => side.raise(told, place, settled),
         CoordinatorCall::Flush => side.flush(words, pass, told),
-        // What is said of a store's list as it is opened is said of the decisions that its coordinator has, from the first on: so that one forgets none here.
-        CoordinatorCall::Checkpoint => refuse_aloud(
-            Refusal::BadRequest,
-            NodeCall::Coordinator(CoordinatorCall::Checkpoint),
-            told,
-        ),
+        CoordinatorCall::Checkpoint => side.checkpoint(words, pass, told),
     }
 }
 

@@ -1,9 +1,9 @@
 // A store is tended beside its callers: what waits at its nodes is carried on.
-ghost use Rattle.std.specs.Prelude.{◌≡◌, ◌<◌};
 ghost use Rattle.care_flow.specs.Cares.{IsThere, begun};
 ghost use Rattle.names.specs.declared.care.Care.TheVariants.{Flush as flush_of};
 ghost use Rattle.sides.specs.Sides.{IsLater};
 
+use crate::shortening::Limits;
 use crate::{Caller, Gate, Notice, Store};
 use calls::Told;
 use care_flow::CareEnd;
@@ -16,9 +16,6 @@ use std::sync::Wait;
 use std::sync::atomic::Ordering;
 use tuples::Refusal;
 
-// How many bytes the bank of a shard may have until it makes a checkpoint, at least.
-const LEAST_LIMIT: u64 = 67_108_864;
-
 /// What wakes whoever tends a store, and what sleeps there: the bell is for `Store::open`, and the parker for `Store::keep`.
 pub fn new_bell(alloc: Global) -> Result<(Parker, Unparker), AllocError> {
     let parker = Parker::new(alloc)?;
@@ -28,7 +25,13 @@ pub fn new_bell(alloc: Global) -> Result<(Parker, Unparker), AllocError> {
 
 impl<D: Device, B: Room, G: Gate> Store<D, B, G> {
     // Cares for a node. A care that is refused is tried again in the next round.
-    fn try_care<R: Wait>(&self, rt: &R, alloc: Global, caller: &mut Caller<B>, care: Care)
+    pub(crate) fn try_care<R: Wait>(
+        &self,
+        rt: &R,
+        alloc: Global,
+        caller: &mut Caller<B>,
+        care: Care,
+    )
         requires there { IsThere B.shards (begun B.shards care) }
         ensures caller { IsLater caller.old caller.new }
     {
@@ -102,49 +105,6 @@ impl<D: Device, B: Room, G: Gate> Store<D, B, G> {
         }
     }
 
-    // How many bytes the bank of the shard has.
-    fn bank_len<R: Wait>(&self, rt: &R, shard: u8) -> u64
-        requires there { shard < self.now.count }
-    {
-        self.side(rt, shard).bank_len()
-    }
-
-    // The shard makes a checkpoint where its bank is longer than its limit. The limit from then on: twice what its bank has, and no less than the least.
-    fn shorten<R: Wait>(
-        &self,
-        rt: &R,
-        alloc: Global,
-        caller: &mut Caller<B>,
-        shard: u8,
-        limit: u64,
-    ) -> u64
-        requires there { shard < self.now.count }
-        ensures caller { IsLater caller.old caller.new }
-    {
-        if self.bank_len(rt, shard) <= limit {
-            return limit;
-        }
-        let node = NodeName::Shard(shard);
-        self.try_care(rt, alloc, caller, Care::Checkpoint(node));
-        LEAST_LIMIT.max(self.bank_len(rt, shard).saturating_mul(2))
-    }
-
-    // The same at each shard, each with a limit of its own.
-    fn shorten_all<R: Wait>(
-        &self,
-        rt: &R,
-        alloc: Global,
-        caller: &mut Caller<B>,
-        limits: &mut [u64; 256],
-    )
-        ensures caller { IsLater caller.old caller.new }
-    {
-        for shard in 0..self.count {
-            let at = shard as usize;
-            limits[at] = self.shorten(rt, alloc, caller, shard, limits[at]);
-        }
-    }
-
     /// One round: at each shard writes in doubt are resolved and what is kept is learned; the horizon follows the latest place, so many places behind it,
     /// and shards forget what lies below; and what is staged becomes durable. What is refused waits for another round.
     pub fn tend<R: Wait, N: Notice>(
@@ -163,7 +123,7 @@ impl<D: Device, B: Room, G: Gate> Store<D, B, G> {
     }
 
     /// Tends the store until it is closed: a round whenever the bell rings, and a last one once it is closed. It rings where a write left something behind,
-    /// where a node was opened again, and at every 1,024th place. Behind each round a shard whose bank has more than 64 MiB, and more than twice what its
+    /// where a node was opened again, and at every 1,024th place. Behind each round a node whose bank has more than 64 MiB, and more than twice what its
     /// last checkpoint left it with, makes one; it answers nobody meanwhile.
     pub fn keep<R: Wait, N: Notice>(
         &self,
@@ -176,7 +136,7 @@ impl<D: Device, B: Room, G: Gate> Store<D, B, G> {
     )
         ensures caller { IsLater caller.old caller.new }
     {
-        let mut limits = [LEAST_LIMIT; 256];
+        let mut limits = Limits::new();
         for _ in rt.forever() {
             // Before the round, so that what was done before the close is tended once more.
             let is_closed = self.closed.load(Ordering::SeqCst);

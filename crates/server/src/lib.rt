@@ -1,12 +1,13 @@
 //! A server: a store over the files of a folder, and sessions over TCP.
 //!
-//! Keeps: nobody is served before each node was opened and looked over and the address was bound; then, and not before, `ready` is printed.
+//! Keeps: nobody is served before each node was opened and looked over and the address was bound; `ready` is printed once all its threads run behind that,
+//! and not before.
 //! Never: keeps a fact of an answer in memory of its own: each worker answers by a session over the one store (`store_sessions`).
 //! Callers rely on: the status, 0 where as many connections as were asked for came and were served, and 1 behind a fault, once standard error is told of it.
 //!
 //! What each answer line says is the contract of `serve_one` (`serving`) at a session of the store (`store_sessions`): the definition's value on the list that
-//! its caller has then seen. It has one premise, the only one of `serve_over`: that what was found in the files rests at the list that the coordinator's
-//! files have (`IsAtRest`, whose laws say that what a stop leaves meets it).
+//! its caller has then seen. It has one premise, the only one of `serve_over`: that what was found in the files rests at one list, of which the
+//! coordinator's files have what is behind its base (`IsAtRest`, whose laws say that what a stop leaves meets it, behind checkpoints too).
 //!
 //! Only tested: which fault is told, what is told of a start, that `ready` is printed and when, and that the server ends.
 //!
@@ -16,6 +17,7 @@
 mod down;
 mod fault;
 mod opening;
+mod readiness;
 mod running;
 mod start;
 

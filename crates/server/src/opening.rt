@@ -1,6 +1,7 @@
 // A store is opened over the files of a folder, and served.
-ghost use Rattle.std.specs.Prelude.{◌≡◌, ◌⊎◌, ◌↔◌, ◌*◌, ◌+◌, [], All, vec_len};
+ghost use Rattle.std.specs.Prelude.{◌≡◌, ◌⊎◌, ◌↔◌, ◌*◌, ◌+◌, List, [], All, vec_len};
 ghost use Rattle.at_rest.specs.AtRest.{IsAtRest, found_coordinator};
+ghost use Rattle.tuples.specs.declared.entry.Entry.{Entry as AnyEntry};
 
 use crate::fault::{Fault, tell};
 use crate::running::serve_store;
@@ -34,9 +35,12 @@ use tuples::Entry;
 /// | `zanstore: listen` | the address can't be bound |
 ///
 /// They are looked for in the order files, nodes (the coordinator, and then the shards by rising number), address; `ready` is printed behind them.
+///
+/// What sessions answer is said of any list at which the files rest: no code has it, so this holds whichever it is.
 pub fn serve<R>(rt: &R, files: &HostRuntime, settings: &ServeSettings) -> u8
 where
     R: Runtime + Net<Listener = TcpListener, Stream = TcpStream> + Threads + Wait + Sync,
+    ghost first: { List AnyEntry }
     ensures { (result ≡ 0) ⊎ (result ≡ 1) }
 {
     match new_bell(files.alloc()) {
@@ -54,6 +58,7 @@ fn serve_with_bell<R>(
 ) -> u8
 where
     R: Runtime + Net<Listener = TcpListener, Stream = TcpStream> + Threads + Wait + Sync,
+    ghost first: { List AnyEntry }
     ensures { (result ≡ 0) ⊎ (result ≡ 1) }
 {
     let Ok(launches) = Launches::new(files.alloc()) else {
@@ -77,6 +82,7 @@ fn serve_files<R>(
 ) -> u8
 where
     R: Runtime + Net<Listener = TcpListener, Stream = TcpStream> + Threads + Wait + Sync,
+    ghost first: { List AnyEntry }
     requires own { log.table ≡ words }
     requires empty { (log.seen ≡ []) × (log.horizon ≡ 0) }
     ensures { (result ≡ 0) ⊎ (result ≡ 1) }
@@ -98,8 +104,9 @@ where
     }
 }
 
-/// Opens the store over its devices, and serves it as `serve` does. Where the devices rest at the list that the coordinator's have, all that sessions answer
-/// is said of that list and of what joins it; no other premise is taken.
+/// Opens the store over its devices, and serves it as `serve` does. Where the devices rest at the room's first list, all that sessions answer is said of that
+/// list and of what joins it; no other premise is taken. Of a list at which they rest the coordinator's devices have what is behind its base, which is the
+/// whole of it before its first checkpoint.
 pub fn serve_over<D: Device + Send, B: Room + Send + Sync, G: Gate + Sync, R>(
     rt: &R,
     alloc: Global,
@@ -119,8 +126,8 @@ where
     requires of { (B.store ≡ settings.now.store) × (B.shards ≡ settings.now.shards) }
     requires count { vec_len devices ≡ 2 * (settings.now.shards + 1) }
     requires honest { All D.honest devices.items }
-    requires first { (B.first ≡ (found_coordinator D.state devices.items).log) × (B.low ≡ (found_coordinator D.state devices.items).horizon) }
-    requires rests { B.rests ↔ IsAtRest D.state D.honest B.shards devices.items }
+    requires low { B.low ≡ (found_coordinator D.state devices.items).horizon }
+    requires rests { B.rests ↔ IsAtRest D.state D.honest B.shards B.first devices.items }
     ensures { (result ≡ 0) ⊎ (result ≡ 1) }
 {
     let began = Instant::now(rt).ok();

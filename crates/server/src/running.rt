@@ -4,16 +4,17 @@ ghost use Rattle.std.specs.Prelude.{◌≡◌, ◌⊎◌, ◌≤◌, None, Some,
 
 use crate::down::DownLines;
 use crate::fault::{Fault, tell};
+use crate::readiness::Readiness;
 use crate::start::{Start, tell_start};
 use calls::Told;
 use crossbeam_utils::sync::Parker;
 use device::Device;
 use locked::{Gate, Store};
 use serve_settings::ServeSettings;
-use serving::{Serving, serve_on};
+use serving::{Begun, Serving, serve_on};
 use sides::Room;
 use std::alloc::{AllocError, Global};
-use std::io::{self, Write};
+use std::io;
 use std::net::{Net, TcpListener, TcpStream};
 use std::rt::Runtime;
 use std::sync::Wait;
@@ -119,13 +120,7 @@ fn serving_of(settings: &ServeSettings) -> Serving
     }
 }
 
-// Who waits for the line may be gone, which keeps nobody from being served.
-fn announce(rt: &impl Print) {
-    let _ = println!(rt; "ready");
-    let _ = io::writer(rt).flush();
-}
-
-// Serves those who connect, while another thread tends the store.
+// Serves those who connect, while another thread tends the store. Where a thread can't be made the server ends, and has not said that it is ready.
 fn serve_at<D: Device + Send, B: Room + Send + Sync, G: Gate + Sync, R>(
     rt: &R,
     alloc: Global,
@@ -142,15 +137,18 @@ where
     let window = settings.window;
     let mut keeper = store.session(rt);
     let mut notice = DownLines::new(rt);
-    announce(rt);
-    let (_, served) = thread::join(
-        rt,
-        move || store.keep(rt, alloc, &mut keeper, window, &parker, &mut notice),
-        move || {
-            let served = serve_on(rt, alloc, listener, &serving, sessions);
-            store.close();
-            served
-        },
-    );
-    served
+    let readiness = Readiness::new(rt, u64::from(settings.workers) + 1);
+    let readiness = &readiness;
+    thread::scope(thread::scope_env(), rt, move |scope| -> io::Result<()> {
+        let kept = scope.spawn(move || {
+            readiness.note();
+            store.keep(rt, alloc, &mut keeper, window, &parker, &mut notice)
+        });
+        if kept.is_err() {
+            return Err(io::Error::other("could not start a thread"));
+        }
+        let served = serve_on(rt, alloc, listener, &serving, sessions, readiness);
+        store.close();
+        served
+    })
 }

@@ -11,6 +11,7 @@
 #![tactic(auto)]
 
 mod accepting;
+mod begun;
 mod hall;
 mod patience;
 mod patient;
@@ -21,6 +22,7 @@ mod signs;
 mod tests;
 mod working;
 
+pub use begun::Begun;
 pub use patience::Patience;
 pub use patient::Patient;
 pub use serving::{Serving, serve_on};

@@ -2,6 +2,7 @@
 ghost use Rattle.std.specs.Prelude.{◌≡◌, All};
 
 use crate::accepting::Acceptor;
+use crate::begun::Begun;
 use crate::hall::Hall;
 use crate::signs::Signs;
 use crate::working::Worker;
@@ -26,13 +27,15 @@ pub struct Serving {
     pub connections: Option<u64>,
 }
 
-/// Serves connections of the listener, by a thread for each worker, until so many have come and are served.
-pub fn serve_on<R: Threads + Wait + Clock + Sync, A: Answers + Send + Drop>(
+/// Serves connections of the listener, by a thread for each worker, until so many have come and are served. Each thread tells that it runs before it looks
+/// for a connection; where one cannot be made, the server ends with an error, and not all have told so.
+pub fn serve_on<R: Threads + Wait + Clock + Sync, A: Answers + Send + Drop, T: Begun + Sync>(
     rt: &R,
     alloc: Global,
     listener: &TcpListener,
     serving: &Serving,
     workers: Vec<A>,
+    begun: &T,
 ) -> io::Result<()> {
     let (queue, pass, passes) = Connections::new(alloc, workers.len())?;
     let hall = Hall {
@@ -47,7 +50,7 @@ pub fn serve_on<R: Threads + Wait + Clock + Sync, A: Answers + Send + Drop>(
         pass,
         bells,
     };
-    run(rt, alloc, serving, &mut acceptor, workers)
+    run(rt, alloc, serving, &mut acceptor, workers, begun)
 }
 
 // The workers with their passes, and what wakes each of them.
@@ -78,12 +81,13 @@ fn equipped<'a, A: Answers + Drop>(
 }
 
 // Runs the workers beside the acceptor. Where a thread cannot be made, the server closes at once.
-fn run<R: Threads + Wait + Clock + Sync, A: Answers + Send + Drop>(
+fn run<R: Threads + Wait + Clock + Sync, A: Answers + Send + Drop, T: Begun + Sync>(
     rt: &R,
     alloc: Global,
     serving: &Serving,
     acceptor: &mut Acceptor<'_>,
     workers: Vec<Worker<'_, A>>,
+    begun: &T,
 ) -> io::Result<()>
     requires { acceptor.old.pass.put ≡ 0 }
 {
@@ -98,10 +102,11 @@ fn run<R: Threads + Wait + Clock + Sync, A: Answers + Send + Drop>(
         {
             for worker in workers {
                 let mut worker = worker;
-                if scope
-                    .spawn(move || worker.work(rt, alloc, serving))
-                    .is_err()
-                {
+                let made = scope.spawn(move || {
+                    begun.note();
+                    worker.work(rt, alloc, serving)
+                });
+                if made.is_err() {
                     acceptor.close();
                     return Err(io::Error::other("could not start a thread"));
                 }

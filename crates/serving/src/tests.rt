@@ -56,6 +56,14 @@ fn is_over(mut stream: &TcpStream) -> io::Result<bool> {
     Ok(stream.read(&mut rest)? == 0)
 }
 
+// Nobody who listens for threads that begin.
+#[derive(Drop)]
+struct Unnoted;
+
+impl Begun for Unnoted {
+    fn note(&self) {}
+}
+
 // What the callers of a server do.
 #[derive(Clone, Copy)]
 enum Callers {
@@ -132,7 +140,7 @@ where
     }
     let (served, called) = join(
         rt,
-        || serve_on(rt, rt.alloc(), &listener, &serving, downs),
+        || serve_on(rt, rt.alloc(), &listener, &serving, downs, &Unnoted),
         || callers.call(rt, address),
     );
     Ok(called? && served.is_ok())

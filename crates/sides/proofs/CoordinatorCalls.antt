@@ -1,5 +1,6 @@
 -- The calls of the coordinator under its lock leave it tied.
-use Rattle.std.proofs.Common.{◌≡◌, ◌≤◌, ◌<◌, ⊎_elim, ℕ, true≢false, List, [], ◌∷◌, ◌++◌, length, Result, Option, Some, Ok, Err, sym, ◌∙◌, subst, ap}
+use Rattle.std.proofs.Common.{◌≡◌, ◌≤◌, ◌<◌, ⊎_elim, ℕ, true≢false, List, [], ◌∷◌, ◌++◌, length, Result, Option, Some, Ok, Err, refl, sym, ◌∙◌, subst, ap}
+use Rattle.std.proofs.lemmas.List.{append-nil}
 use Rattle.refusal.specs.declared.refusal.Refusal.{Refusal}
 use Rattle.tuples.specs.declared.entry.Entry.{Entry}
 use Rattle.tuples.specs.Writes.{WriteValue}
@@ -17,13 +18,14 @@ use Rattle.calls.specs.declared.reply.Reply.TheVariants.{Coordinator as from_coo
 use Rattle.calls.specs.declared.reply.CoordinatorReply.{CoordinatorReply}
 use Rattle.calls.specs.declared.reply.CoordinatorReply.TheVariants as told
 use Rattle.calls.specs.Asking.{Answered, CoordinatorAnswers}
-use Rattle.calls.specs.CoordinatorAnswers.{AbortAnswers, BeginAnswers, DecideAnswers, FlushAnswers, RaiseAnswers}
+use Rattle.calls.specs.CoordinatorAnswers.{AbortAnswers, BeginAnswers, CheckpointAnswers, DecideAnswers, FlushAnswers, RaiseAnswers}
 use Rattle.calls.specs.Views.{NodeView, coordinator, refused}
 use Rattle.ties.specs.DecidingLaws.{attempt}
 use Rattle.ties.specs.Ties.{Attempt, IsOpenedTied, IsTied, IsTiedUp}
 use Rattle.ties.proofs.Deciding.{aborts_stay_tied, beginnings_stay_tied, decisions_stay_tied, raises_stay_tied}
-use Rattle.ties.proofs.Landing.{flushes_stay_tied}
+use Rattle.ties.proofs.Landing.{flushes_stay_tied, landings_stay_tied}
 use Rattle.ties.proofs.Opening.{failed_flushes_stay_tied, tied_up_is_tied, untried}
+use Rattle.ties.proofs.Points.{checkpoints_stay_tied, failed_checkpoints_stay_tied}
 use Rattle.sides.specs.CoordinatorSides.{AnsweredThere, IsTiedThere}
 use Rattle.sides.specs.Joining.{CoordinatorMayJoin, MayJoin}
 use Rattle.sides.proofs.ShardCalls.{is_up, up_or_down}
@@ -95,6 +97,41 @@ module _ {D : Type 0} (state : D → State) (honest : D → Type 0) (store shard
           (up_or_down old.is_down);
       me = a.keeps.me ∙ tied.me;
     }
+
+    -- one that is as it was may join as it is
+    stays_joined : new ≡ old → CoordinatorMayJoin state honest store shards new seen low tried
+    stays_joined same = subst (λ (v : CoordinatorView D). CoordinatorMayJoin state honest store shards v seen low tried) (sym same) (record {
+      up = λ up.
+          let was = tied.up up in
+          landings_stay_tied state honest state honest old old 0 seen low tried was (record { durable = sym (append-nil old.durable); staged = refl; open_ids = refl; given = refl }) was.running;
+      down = λ down. tied.anywhere;
+      me = tied.me;
+    })
+
+    -- and so may what was replaced by a checkpoint
+    pub checkpointed : (moment : D → ℕ) (left_since : D → ℕ → List ℕ → Type 0) → ((d : D) (t : ℕ) (c : List ℕ) → honest d → t ≤ moment d → left (state d) c → left_since d t c)
+        → (r : Result (Unit {0}) Refusal) → CheckpointAnswers state honest moment left_since old r new → CoordinatorMayJoin state honest store shards new seen low tried
+    checkpointed moment left_since counts_now (Ok done) a =
+        let up = tied.up (is_up old.is_down (λ down. cc (a.down down).0)) in
+        let ok = a.ok up.running in
+        record {
+          up = λ is_up. checkpoints_stay_tied state honest old new seen low tried up (record { durable = ok.1; staged = ok.2 }) a.keeps ok.0;
+          down = λ down. absurd (true≢false (sym down ∙ ok.3));
+          me = a.keeps.me ∙ tied.me;
+        }
+    checkpointed moment left_since counts_now (Err e) a = ⊎_elim
+        (λ was_up. ⊎_elim
+        (λ failed.
+        let up = tied.up was_up in
+        record {
+          up = λ is_up. absurd (true≢false (sym failed.1 ∙ is_up));
+          down = λ down. (failed_checkpoints_stay_tied state honest moment left_since counts_now store shards old new seen low tried up tied.me a.keeps (a.still_honest.0.0 up.running.honest_a) (a.still_honest.1.0 up.running.honest_b) failed.1 (a.any_moment up.running)).anywhere;
+          me = a.keeps.me ∙ tied.me;
+        })
+        (λ same. stays_joined same.0)
+        a.err)
+        (λ was_down. stays_joined (a.down was_down).1)
+        (up_or_down old.is_down)
 
   forgotten : (old new : CoordinatorView D) (seen : List Entry) (low : ℕ) (intent : IntentValue) (votes : List VoteValue) (r : Result DecidedValue NotDecided)
       → IsOpenedTied state honest store shards old seen low [] → DecideAnswers state honest old intent votes r new → IsOpenedTied state honest store shards new seen low []
@@ -181,6 +218,23 @@ module _ {D : Type 0} (state : D → State) (honest : D → Type 0) (moment : D 
         → CoordinatorAnswers state honest moment left_since old Flush reply new → CoordinatorMayJoin state honest store shards new seen low tried
     coordinator_flushed old new (told.Flush r) seen low tried tied a = flushed state honest store shards old new seen low tried tied moment left_since counts_now r a
     coordinator_flushed old new reply seen low tried tied a = absurd a
+
+    coordinator_checkpointed : (old new : CoordinatorView D) (reply : CoordinatorReply) (seen : List Entry) (low : ℕ) (tried : List Attempt) → IsOpenedTied state honest store shards old seen low tried
+        → CoordinatorAnswers state honest moment left_since old Checkpoint reply new → CoordinatorMayJoin state honest store shards new seen low tried
+    coordinator_checkpointed old new (told.Checkpoint r) seen low tried tied a = checkpointed state honest store shards old new seen low tried tied moment left_since counts_now r a
+    coordinator_checkpointed old new reply seen low tried tied a = absurd a
+
+    node_checkpointed : (old : NodeView D) (reply : Reply) (new : NodeView D) (seen : List Entry) (low : ℕ) (tried : List Attempt) → IsTied state honest store shards old seen low tried
+        → Answered state honest moment left_since old (Coordinator Checkpoint) reply new → MayJoin state honest store shards (Some new) seen low tried
+    node_checkpointed (coordinator old) (from_coordinator reply) (coordinator new) seen low tried tied a = coordinator_checkpointed old new reply seen low tried tied a
+    node_checkpointed (refused e x y) reply new seen low tried tied a = subst (λ (n : NodeView D). MayJoin state honest store shards (Some n) seen low tried) (sym a.0) tied
+    node_checkpointed old reply new seen low tried tied a = absurd a
+
+    -- what was replaced by a checkpoint may join the list
+    pub checkpoint_may_join : (old new : Option (NodeView D)) (reply : Reply) (seen : List Entry) (low : ℕ) (tried : List Attempt) → IsTiedThere state honest store shards old seen low tried
+        → AnsweredThere state honest moment left_since old Checkpoint reply new → MayJoin state honest store shards new seen low tried
+    checkpoint_may_join (Some old) (Some new) reply seen low tried tied a = node_checkpointed old reply new seen low tried tied a
+    checkpoint_may_join old new reply seen low tried tied a = absurd a
 
     node_flushed : (old : NodeView D) (reply : Reply) (new : NodeView D) (seen : List Entry) (low : ℕ) (tried : List Attempt) → IsTied state honest store shards old seen low tried
         → Answered state honest moment left_since old (Coordinator Flush) reply new → MayJoin state honest store shards (Some new) seen low tried

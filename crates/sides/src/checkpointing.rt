@@ -1,13 +1,20 @@
-// A shard's records are replaced by a checkpoint of what it knows.
-ghost use Rattle.std.specs.Prelude.{◌≡◌};
+// A node's records are replaced by a checkpoint of what it knows.
+ghost use Rattle.std.specs.Prelude.{◌≡◌, List};
 ghost use Rattle.calls.specs.Refusing.{Notes};
+ghost use Rattle.calls.specs.declared.call.CoordinatorCall.TheVariants.{Checkpoint as log_checkpoint_call};
 ghost use Rattle.calls.specs.declared.call.ShardCall.TheVariants.{Checkpoint as checkpoint_call};
+ghost use Rattle.sides.specs.CoordinatorSides.{CoordinatorSideAnswers, HasLaterList, HasTried, KnowsAll};
 ghost use Rattle.sides.specs.Sides.{SideAnswers};
+ghost use Rattle.ties.specs.Ties.{Attempt};
 
+use crate::coordinator_side::ask_coordinator;
+use crate::joining::join;
 use crate::shard_side::ask_shard;
-use crate::{Room, ShardSide};
-use calls::{Reply, ShardCall, Told};
+use crate::{CoordinatorSide, Room, ShardSide};
+use calls::{CoordinatorCall, Reply, ShardCall, Told};
 use device::Device;
+use published::{Published, SessionPass};
+use tuples::Entry;
 
 impl<D: Device, B: Room> ShardSide<D, B> {
     /// Replaces the records of the node by a checkpoint of what it knows, so that its device and its next opening are as small as that. What is staged is
@@ -19,5 +26,28 @@ impl<D: Device, B: Room> ShardSide<D, B> {
     {
         let number = self.me.node();
         ask_shard(&mut self.node, number, ShardCall::Checkpoint, told)
+    }
+}
+
+impl<D: Device, B: Room> CoordinatorSide<D, B> {
+    /// The same of the coordinator: the decisions at or below the horizon are in its records no more, and the list stays whole. What was staged joins it, as
+    /// behind a flush. Where a device fails the list stays as it is, until the node is opened again.
+    pub fn checkpoint(
+        &mut self,
+        words: &Published<Entry>,
+        pass: &mut SessionPass<Entry>,
+        told: &mut Told,
+    ) -> Reply
+        requires own { (words.now ≡ B.log) × (pass.old.table ≡ B.log) }
+        ensures answers { CoordinatorSideAnswers D.state D.honest D.moment D.left_since self.old log_checkpoint_call result self.new }
+        ensures list { HasLaterList self.old self.new }
+        ensures caller { KnowsAll pass.old self.new pass.new }
+        ensures tried { B.rests → (tried : List Attempt) → HasTried D.state D.honest B.store B.shards self.old tried → HasTried D.state D.honest B.store B.shards self.new tried }
+        ensures told { Notes told.old result told.new }
+    {
+        let reply = ask_coordinator(&mut self.node, CoordinatorCall::Checkpoint, told);
+        join::<D, B>(words, &mut self.log, &mut self.node);
+        words.meet(&mut self.log, pass);
+        reply
     }
 }

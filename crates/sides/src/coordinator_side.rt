@@ -4,6 +4,7 @@ ghost use Rattle.calls.specs.Belonging.{IsReplyTo};
 ghost use Rattle.calls.specs.Refusing.{Notes};
 ghost use Rattle.calls.specs.declared.call.NodeCall.TheVariants.{Coordinator as of_coordinator};
 ghost use Rattle.sides.specs.CoordinatorSides.{AnsweredThere, HasTried, MayAskThere};
+ghost use Rattle.sides.specs.Sides.{bank_len_in};
 
 use crate::Room;
 use calls::{CoordinatorCall, Node, NodeCall, Reply, Told, ask};
@@ -61,6 +62,16 @@ impl<D: Device, B: Room> CoordinatorSide<D, B> {
         ensures tied { B.rests → HasTried D.state D.honest B.store B.shards self.now [] }
     {
         let _me = self.me.node();
+    }
+
+    /// How many bytes the current bank of its node has; 0 where its opening was refused.
+    pub fn bank_len(&self) -> u64
+        ensures { result ≡ bank_len_in self.now.node }
+    {
+        match &self.node {
+            Some(node) => node.bank_len(),
+            None => 0,
+        }
     }
 
     /// A new pass for a caller, which knows all that there is.

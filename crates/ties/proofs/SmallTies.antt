@@ -91,7 +91,7 @@ numbered_so (suc zero) w is = let same : second_write ≡ w = cc in (ap (λ (e :
 numbered_so (suc (suc zero)) w is = let same : third_write ≡ w = cc in (ap (λ (e : Entry). e.id.epoch) (sym same), ap (λ (e : Entry). e.id.number) (sym same), omega arith)
 numbered_so (suc (suc (suc j))) w is = absurd cc
 
-three_listed : AreListed 1 three
+pub three_listed : AreListed 1 three
 three_listed = record {
   whole = three_whole;
   new = λ i j v w at_i at_j same.
@@ -233,14 +233,14 @@ unfolding coordinator_state coordinator_step
 a_seen_write_is_cut longer = let cut : first_write ∷ [] ≡ two ++ longer.more = longer.are.decisions in absurd cc
 
 -- the rows of a store's only shard, which has learned two writes
-abbrev learned : ℕ → ℕ → ShardState
+abbrev pub learned : ℕ → ℕ → ShardState
 learned place horizon = record { in_doubt = []; learned = 2; horizon = horizon; rows = record { place = 1; change = Touch (viewed 97) } ∷ record { place = place; change = Delete (viewed 97) } ∷ []; epoch = 1 }
 
 rows_of_two : of_shard 1 0 (versions three 2 0) ≡ record { place = 1; change = Touch (viewed 97) } ∷ record { place = 2; change = Delete (viewed 97) } ∷ []
 unfolding versions collected shard_of tuple_eq
 rows_of_two = refl
 
-two_are_learned : AreRowsOf 1 0 three 0 (learned 2 0)
+pub two_are_learned : AreRowsOf 1 0 three 0 (learned 2 0)
 two_are_learned = record {
   learned = omega arith;
   horizon = omega arith;

@@ -1,9 +1,10 @@
--- Laws of the flush and the opening of a coordinator: what joins the list, and what is known where a device failed.
-use Rattle.std.specs.Prelude.{◌≡◌, ◌≤◌, true, ℕ, List, ◌++◌, take, drop}
+-- Laws of the flush, the checkpoint and the opening of a coordinator: what joins the list, and what is known where a device failed.
+use Rattle.std.specs.Prelude.{◌≡◌, ◌≤◌, true, ℕ, List, [], ◌++◌, take, drop}
 use Rattle.refusal.specs.declared.refusal.Refusal.{Refusal}
 use Rattle.tuples.specs.declared.entry.Entry.{Entry}
 use Rattle.device.specs.Device.{State, left}
-use Rattle.journal.specs.Records.{HasOldOrNew, LeavesBoth}
+use Rattle.journal.specs.Records.{HasOldOrNew, LeavesBoth, LeavesEach}
+use Rattle.decisions.specs.Checkpoints.{HasOldNewOrPoint, next_checkpoint}
 use Rattle.decisions.specs.Coordinators.{CoordinatorView, FlushesAll, IsRunning, KeepsOpen, kept_of}
 use Rattle.calls.specs.Opening.{CoordinatorComesUp, CoordinatorStaysOut}
 use Rattle.laws.specs.Worlds.{coordinator_node}
@@ -15,6 +16,11 @@ pub record LandsFirst {D E : Type 0} (count : ℕ) (old : CoordinatorView E) (ne
   pub staged : new.staged ≡ drop count old.staged
   pub open_ids : new.open_ids ≡ old.open_ids
   pub given : new.given ≡ old.given
+
+-- a checkpoint of what was known, with what was staged, is all that is durable
+pub record ChecksPoint {D : Type 0} (old new : CoordinatorView D) : Type 0 where
+  pub durable : new.durable ≡ next_checkpoint old
+  pub staged : new.staged ≡ []
 
 -- the list with what is kept behind it, and the horizon that is kept
 pub record Joins {D : Type 0} (state : D → State) (honest : D → Type 0) (new : CoordinatorView D) (seen : List Entry) (low : ℕ) (tried : List Attempt) : Type 0 where
@@ -35,6 +41,12 @@ module _ {D : Type 0} (state : D → State) (honest : D → Type 0) where
       → IsTiedUp state honest old seen low tried → FlushesAll old new → KeepsOpen old new → IsRunning state honest new
       → Joins state honest new seen low tried
 
+  -- A checkpoint: the list is longer by all that was staged, as behind a flush. What lies below the horizon stays in it, though no record has it.
+  abbrev pub CheckpointsStayTied : Type 0
+  CheckpointsStayTied = (old new : CoordinatorView D) (seen : List Entry) (low : ℕ) (tried : List Attempt)
+      → IsTiedUp state honest old seen low tried → ChecksPoint old new → KeepsOpen old new → IsRunning state honest new
+      → Joins state honest new seen low tried
+
   -- a coordinator that is up has devices of which every stop leaves the list
   abbrev pub TiedUpIsTied : Type 0
   TiedUpIsTied = (store shards : ℕ) (v : CoordinatorView D) (seen : List Entry) (low : ℕ) (tried : List Attempt)
@@ -46,6 +58,13 @@ module _ {D : Type 0} (state : D → State) (honest : D → Type 0) (moment : D 
   FailedFlushesStayTied = (old new : CoordinatorView D) (seen : List Entry) (low : ℕ) (tried : List Attempt)
       → IsTiedUp state honest old seen low tried → old.me ≡ coordinator_node store shards → KeepsOpen old new → honest new.a → honest new.b → new.is_down ≡ true
       → LeavesBoth moment left_since old.a old.b new.a new.b (HasOldOrNew old.durable old.staged)
+      → IsOpenedTied state honest store shards new seen low tried
+
+  -- a checkpoint in which a device failed leaves it too: by the old records, with what was staged or without, or by its own
+  abbrev pub FailedCheckpointsStayTied : Type 0
+  FailedCheckpointsStayTied = (old new : CoordinatorView D) (seen : List Entry) (low : ℕ) (tried : List Attempt)
+      → IsTiedUp state honest old seen low tried → old.me ≡ coordinator_node store shards → KeepsOpen old new → honest new.a → honest new.b → new.is_down ≡ true
+      → LeavesEach moment left_since old.a old.b new.a new.b (HasOldNewOrPoint old)
       → IsOpenedTied state honest store shards new seen low tried
 
   -- An opening over devices that read what a stop may leave of them cuts nothing that was seen: the list is longer by what was found behind it.

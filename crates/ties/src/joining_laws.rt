@@ -1,6 +1,6 @@
-// Laws of the flush and the opening of a coordinator that is tied, each the clause of a function with an empty body.
+// Laws of the flush, the checkpoint and the opening of a coordinator that is tied, each the clause of a function with an empty body.
 ghost use Rattle.std.specs.Prelude.{ℕ};
-ghost use Rattle.ties.specs.JoiningLaws.{FailedFlushesStayTied, FlushesStayTied, LandingsStayTied, OpeningsStayTied, RefusedOpeningsStayTied, TiedUpIsTied};
+ghost use Rattle.ties.specs.JoiningLaws.{CheckpointsStayTied, FailedCheckpointsStayTied, FailedFlushesStayTied, FlushesStayTied, LandingsStayTied, OpeningsStayTied, RefusedOpeningsStayTied, TiedUpIsTied};
 
 use device::Device;
 
@@ -22,6 +22,16 @@ pub fn flushes_stay_tied<D: Device>()
 /// Where a device failed in a flush, a stop leaves the list, and perhaps what was staged behind it.
 pub fn failed_flushes_stay_tied<D: Device>()
     ensures { (store shards : ℕ) → FailedFlushesStayTied D.state D.honest D.moment D.left_since store shards }
+{}
+
+/// A checkpoint leaves the coordinator tied to the whole list, also to what lies below the horizon and is in its records no more.
+pub fn checkpoints_stay_tied<D: Device>()
+    ensures { CheckpointsStayTied D.state D.honest }
+{}
+
+/// Where a device failed in a checkpoint, a stop leaves the list, and perhaps what was staged behind it.
+pub fn failed_checkpoints_stay_tied<D: Device>()
+    ensures { (store shards : ℕ) → FailedCheckpointsStayTied D.state D.honest D.moment D.left_since store shards }
 {}
 
 /// An opening cuts nothing that was seen: the list is longer by what it found behind it.

@@ -17,8 +17,9 @@ pub use deciding_laws::{
     raises_stay_tied,
 };
 pub use joining_laws::{
-    failed_flushes_stay_tied, flushes_stay_tied, landings_stay_tied, openings_stay_tied,
-    refused_openings_stay_tied, tied_up_is_tied,
+    checkpoints_stay_tied, failed_checkpoints_stay_tied, failed_flushes_stay_tied,
+    flushes_stay_tied, landings_stay_tied, openings_stay_tied, refused_openings_stay_tied,
+    tied_up_is_tied,
 };
 pub use resting_laws::{resting_nodes_are_tied, unmade_nodes_are_tied};
 pub use shard_tie_laws::{

@@ -1,5 +1,5 @@
 use Rattle.sides.specs.Sides.{IsLater}
-use Rattle.locked.proofs.store.Store.shorten_all.Given as goal
+use Rattle.locked.proofs.store.Store.shorten_shards.Given as goal
 
 abbrev pub invariant-loop-shard : goal.invariant-loop-shard
 invariant-loop-shard g l = record { later : IsLater l.fn.caller l.caller }
