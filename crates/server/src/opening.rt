@@ -13,7 +13,7 @@ use node_files::open_all;
 use published::{LogPass, Published};
 use refusal::Refusal;
 use serve_settings::ServeSettings;
-use sides::Room;
+use sides::{Attempts, Room};
 use std::alloc::Global;
 use std::marker::Brand;
 use std::net::{Net, TcpListener, TcpStream};
@@ -59,8 +59,13 @@ where
     let Ok(launches) = Launches::new(files.alloc()) else {
         return tell(rt, &Fault::Refused(Refusal::NoMemory));
     };
+    let Ok(attempts) = Attempts::new(files.alloc()) else {
+        return tell(rt, &Fault::Refused(Refusal::NoMemory));
+    };
     match Published::new(files.alloc()) {
-        Ok((words, log)) => serve_files(rt, files, settings, parker, bell, words, log, launches),
+        Ok((words, log)) => serve_files(
+            rt, files, settings, parker, bell, words, log, attempts, launches,
+        ),
         Err(_) => tell(rt, &Fault::Refused(Refusal::NoMemory)),
     }
 }
@@ -73,6 +78,7 @@ fn serve_files<R>(
     bell: Unparker,
     words: Published<Entry>,
     log: LogPass<Entry>,
+    attempts: Attempts,
     launches: Launches,
 ) -> u8
 where
@@ -91,6 +97,7 @@ where
             bell,
             words,
             log,
+            attempts,
             launches,
             devices,
         ),
@@ -109,12 +116,13 @@ pub fn serve_over<D: Device + Send, B: Room + Send + Sync, G: Gate + Sync, R>(
     bell: Unparker,
     words: Published<Entry>,
     log: LogPass<Entry>,
+    attempts: Attempts,
     launches: Launches,
     devices: Vec<D>,
 ) -> u8
 where
     R: Runtime + Net<Listener = TcpListener, Stream = TcpStream> + Threads + Wait + Sync,
-    requires own { (words ≡ B.log) × (log.table ≡ B.log) × (launches ≡ B.launches) }
+    requires own { (words ≡ B.log) × (log.table ≡ B.log) × (attempts ≡ B.attempts) × (launches ≡ B.launches) }
     requires empty { (log.seen ≡ []) × (log.horizon ≡ 0) }
     requires of { (B.store ≡ settings.now.store) × (B.shards ≡ settings.now.shards) }
     requires count { vec_len devices ≡ 2 * (settings.now.shards + 1) }
@@ -131,6 +139,7 @@ where
         bell,
         words,
         log,
+        attempts,
         launches,
         devices,
         settings.store,

@@ -16,6 +16,7 @@ rests_in shards devices state = IsAtRest state (λ d. Unit {0}) shards devices
 abbrev pub ghosts-serve_over : goal.ghosts-serve_over
 ghosts-serve_over g a = record {
   log = a.words;
+  attempts = a.attempts;
   launches = a.launches;
   store = a.settings.now.store;
   shards = a.settings.now.shards;
