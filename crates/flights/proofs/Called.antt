@@ -139,7 +139,7 @@ module _ {D : Type 0} (state : Away D → State) (honest : Away D → Type 0) (m
       → StaysIn x (Some old) → StaysIn x (Some new)
   behind_still call (shard old) (from_shard reply) (shard new) calm sound a stays =
       let goes = goes_on state honest moment left_since old new call reply calm sound a in
-      record { durable = goes.durable ∙ stays.durable; staged = prefix_trans x.staged old.staged new.staged stays.staged goes.staged }
+      record { of = stays.of; durable = goes.durable ∙ stays.durable; staged = prefix_trans x.staged old.staged new.staged stays.staged goes.staged }
   behind_still call (refused e y z) reply new calm sound a stays = absurd stays
   behind_still call old reply new calm sound a stays = absurd a
 

@@ -22,7 +22,7 @@ use Rattle.calls.specs.declared.lending.Flying.{Flying}
 use Rattle.calls.specs.declared.lending.Flying.TheVariants.{Coordinator, Shard}
 use Rattle.ties.specs.ShardTies.{AreRowsOf}
 use Rattle.sides.specs.Lending.{IsSoundIn, IsSoundShard, LandsIn, LandsRows, MayLandIn}
-use Rattle.flights.specs.Flights.{AreRowsAround, HasFlown, HasFlownShard, IsReady, IsReadyShard, IsToldAll, StaysBehind, StaysIn, launch_of}
+use Rattle.flights.specs.Flights.{AreRowsAround, HasFlown, IsReady, IsToldAll, StaysBehind, StaysIn, launch_of}
 use Rattle.flights.specs.declared.launch.Launch.{Launch}
 
 went_well : {T E P : Type 0} (Q : E → Type 0) (r : Result T E) (down : Bool) → IfErr r (λ e. Q e × (down ≡ true)) → down ≡ false → OnOk r P → P
@@ -33,14 +33,14 @@ either_down : (a b : Bool) → (a || b) ≡ false → (a ≡ false) × (b ≡ fa
 either_down true b e = absurd (true≢false e)
 either_down false b e = (refl, e)
 
-taken : {X : Type 0} (xs ys : List X) (n : ℕ) → IsPrefix xs ys → n ≡ length xs → take n ys ≡ xs
+pub taken : {X : Type 0} (xs ys : List X) (n : ℕ) → IsPrefix xs ys → n ≡ length xs → take n ys ≡ xs
 taken [] ys zero pre is = refl
 taken [] ys (suc n) pre is = absurd (omega (arith, is))
 taken (x ∷ xs) ys zero pre is = absurd (omega (arith, is))
 taken (x ∷ xs) [] (suc n) pre is = absurd (cc (pre.1))
 taken (x ∷ xs) (y ∷ ys) (suc n) pre is = let rest = taken xs ys n (pre.0, cc (pre.1)) (omega (arith, is)) in cc (pre.1, rest)
 
-no_longer : {X : Type 0} (xs ys : List X) → IsPrefix xs ys → length xs ≤ length ys
+pub no_longer : {X : Type 0} (xs ys : List X) → IsPrefix xs ys → length xs ≤ length ys
 no_longer [] ys pre = omega arith
 no_longer (x ∷ xs) [] pre = absurd (cc (pre.1))
 no_longer (x ∷ xs) (y ∷ ys) pre = let rest = no_longer xs ys (pre.0, cc (pre.1)) in omega (arith, rest)
@@ -65,9 +65,8 @@ module _ {D : Type 0} (state : D → State) (honest : D → Type 0) where
   module _ (moment : D → ℕ) (left_since : D → ℕ → List ℕ → Type 0) (counts_now : (d : D) (t : ℕ) (c : List ℕ) → honest d → t ≤ moment d → left (state d) c → left_since d t c)
       (old new : View D) (honest_a : honest new.a) (honest_b : honest new.b) (leaves : LeavesBoth moment left_since old.a old.b new.a new.b (HasOldOrNew old.durable old.staged))
       (kept : new.is_down ≡ false → (new.durable ≡ old.durable ++ old.staged) × HasRecords (state new.a) (state new.b) new.durable) where
-    pub has_flown : (flying : Flying) → IsReady state honest old flying → HasFlown state honest (launch_of old) new flying
-    has_flown (Coordinator flying) ready = absurd ready
-    has_flown (Shard flying) ready = record {
+    pub has_flown : (flying : Flying) → IsReady state honest old flying → HasFlown state honest (launch_of old flying) new flying
+    has_flown flying ready = record {
       honest_a = honest_a;
       honest_b = honest_b;
       told = ready.told;
@@ -79,7 +78,7 @@ module _ {D : Type 0} (state : D → State) (honest : D → Type 0) where
     }
 
   -- Given a shard without its devices, and what comes back of the launch with which they left
-  module _ (v : ShardView (Away D)) (x : Launch) (flown : View D) (flying : OfShard) (sound : IsSoundShard (lent_state state) (lent_honest honest) v) (stays : StaysBehind x v) (came : HasFlownShard state honest x flown flying) where
+  module _ (v : ShardView (Away D)) (x : Launch) (flown : View D) (flying : OfShard) (sound : IsSoundShard (lent_state state) (lent_honest honest) v) (stays : StaysBehind x v) (came : HasFlown state honest x flown (Shard flying)) where
     first : take flying.sent.count v.staged ≡ x.staged
     first = taken x.staged v.staged flying.sent.count stays.staged came.told.all
 
@@ -110,7 +109,7 @@ module _ {D : Type 0} (state : D → State) (honest : D → Type 0) where
 
   pub may_land : (node : Option (NodeView (Away D))) (x : Launch) (flown : View D) (flying : Flying) → IsSoundIn (lent_state state) (lent_honest honest) node → StaysIn x node → HasFlown state honest x flown flying → MayLandIn state honest node flown flying
   may_land (Some (shard v)) x flown (Shard flying) sound stays came = may_land_shard v x flown flying sound stays came
-  may_land (Some (shard v)) x flown (Coordinator flying) sound stays came = absurd came
+  may_land (Some (shard v)) x flown (Coordinator flying) sound stays came = absurd (true≢false (sym came.told.of ∙ stays.of))
   may_land (Some (coordinator v)) x flown flying sound stays came = absurd stays
   may_land (Some (refused e a b)) x flown flying sound stays came = absurd stays
   may_land None x flown flying sound stays came = absurd stays
@@ -121,15 +120,14 @@ module _ {D : Type 0} (state : D → State) (honest : D → Type 0) where
   landed_sound (Some (shard v)) x flown (Shard flying) (Some (coordinator new)) sound stays came lands = absurd lands
   landed_sound (Some (shard v)) x flown (Shard flying) (Some (refused e a b)) sound stays came lands = absurd lands
   landed_sound (Some (shard v)) x flown (Shard flying) None sound stays came lands = absurd lands
-  landed_sound (Some (shard v)) x flown (Coordinator flying) new sound stays came lands = absurd came
+  landed_sound (Some (shard v)) x flown (Coordinator flying) new sound stays came lands = absurd (true≢false (sym came.told.of ∙ stays.of))
   landed_sound (Some (coordinator v)) x flown flying new sound stays came lands = absurd stays
   landed_sound (Some (refused e a b)) x flown flying new sound stays came lands = absurd stays
   landed_sound None x flown flying new sound stays came lands = absurd stays
 
   -- what comes back are rows of the list
   pub lands_rows : (shards s : ℕ) (x : Launch) (flown : View D) (flying : Flying) (pass : Known Entry) → HasFlown state honest x flown flying → AreRowsAround shards s x pass → LandsRows state honest shards s flown pass.seen pass.horizon
-  lands_rows shards s x flown (Coordinator flying) pass came rows = absurd came
-  lands_rows shards s x flown (Shard flying) pass came rows = record {
+  lands_rows shards s x flown flying pass came rows = record {
     kept = λ flew. subst (λ (l : List Record). AreRowsOf shards s pass.seen pass.horizon (shard_state l)) (sym (came.kept flew).0) rows.behind;
     anywhere = record {
       honest_a = came.honest_a;

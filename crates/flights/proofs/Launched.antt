@@ -19,7 +19,7 @@ use Rattle.calls.specs.declared.lending.Flying.TheVariants.{Coordinator, Shard}
 use Rattle.ties.specs.ShardTies.{AreRowsOf}
 use Rattle.sides.specs.Lending.{IsSoundIn, IsSoundShard, IsUpIn, LendsIn}
 use Rattle.sides.specs.Sides.{IsTiedIn}
-use Rattle.flights.specs.Flights.{AreRowsAround, IsReady, IsReadyShard, IsToldAll, StaysIn, launch_of}
+use Rattle.flights.specs.Flights.{AreRowsAround, IsReady, IsToldAll, StaysIn, launch_of}
 use Rattle.flights.specs.declared.launch.Launch.{Launch}
 
 -- what is added to a list stands at its end
@@ -32,12 +32,12 @@ at_the_end (y ∷ ys) x (suc n) is = at_the_end ys x n (omega (arith, is))
 module _ {D : Type 0} (state : D → State) (honest : D → Type 0) where
   -- Given a shard that is up, and what stays where its devices leave
   module _ (v : ShardView D) (u : ShardView (Away D)) (flight : View D) (flying : OfShard) (lends : ShardLends state honest v u flight flying) (sound : IsSoundShard state honest v) (up : v.is_down ≡ false) where
-    ready_shard : IsReadyShard state honest flight flying
-    ready_shard = subst (λ (j : View D). IsReadyShard state honest j flying) (sym lends.flight_is) (record {
+    ready_shard : IsReady state honest flight (Shard flying)
+    ready_shard = subst (λ (j : View D). IsReady state honest j (Shard flying)) (sym lends.flight_is) (record {
       honest_a = sound.honest_a;
       honest_b = sound.honest_b;
       up = up;
-      told = record { sent = lends.sent; all = lends.all; prepares = lends.prepares up; learned = lends.learned up sound.honest_a sound.honest_b };
+      told = record { of = refl; sent = lends.sent; all = lends.all; prepares = lends.prepares up; learned = lends.learned up sound.honest_a sound.honest_b };
     })
 
     sound_shard : IsSoundShard (lent_state state) (lent_honest honest) u
@@ -47,8 +47,9 @@ module _ {D : Type 0} (state : D → State) (honest : D → Type 0) where
       honest_b = subst honest (sym lends.stays.b.was) sound.honest_b;
     }
 
-    stays_shard : StaysIn (launch_of flight) (Some (shard u))
+    stays_shard : StaysIn (launch_of flight (Shard flying)) (Some (shard u))
     stays_shard = record {
+      of = refl;
       durable = lends.stays.durable ∙ ap (λ (j : View D). j.durable) (sym lends.flight_is);
       staged = ([], append-nil flight.staged ∙ ap (λ (j : View D). j.staged) lends.flight_is ∙ sym lends.stays.staged);
     }
@@ -74,7 +75,7 @@ module _ {D : Type 0} (state : D → State) (honest : D → Type 0) where
   lent_sound (Some (refused e a b)) new flight flying lends sound up = absurd up
   lent_sound None new flight flying lends sound up = absurd up
 
-  pub left_behind : (old : Option (NodeView D)) (new : Option (NodeView (Away D))) (flight : View D) (flying : Flying) → LendsIn state honest old new flight flying → IsSoundIn state honest old → IsUpIn old → StaysIn (launch_of flight) new
+  pub left_behind : (old : Option (NodeView D)) (new : Option (NodeView (Away D))) (flight : View D) (flying : Flying) → LendsIn state honest old new flight flying → IsSoundIn state honest old → IsUpIn old → StaysIn (launch_of flight flying) new
   left_behind (Some (shard v)) (Some (shard u)) flight (Shard flying) lends sound up = stays_shard v u flight flying lends sound up
   left_behind (Some (shard v)) (Some (shard u)) flight (Coordinator flying) lends sound up = absurd lends
   left_behind (Some (shard v)) (Some (coordinator u)) flight flying lends sound up = absurd lends
@@ -86,10 +87,10 @@ module _ {D : Type 0} (state : D → State) (honest : D → Type 0) where
 
   -- the records with what flies and without it are rows of the list
   pub rows_around : (store shards s : ℕ) (old : Option (NodeView D)) (new : Option (NodeView (Away D))) (flight : View D) (flying : Flying) (pass : Known Entry) → LendsIn state honest old new flight flying → IsUpIn old
-      → IsTiedIn state honest store shards s old pass → AreRowsAround shards s (launch_of flight) pass
+      → IsTiedIn state honest store shards s old pass → AreRowsAround shards s (launch_of flight flying) pass
   rows_around store shards s (Some (shard v)) (Some (shard u)) flight (Shard flying) pass lends up tied =
       let is = tied.up up in
-      subst (λ (j : View D). AreRowsAround shards s (launch_of j) pass) (sym lends.flight_is) (record { without = is.kept; behind = is.now })
+      subst (λ (j : View D). AreRowsAround shards s (launch_of j (Shard flying)) pass) (sym lends.flight_is) (record { without = is.kept; behind = is.now })
   rows_around store shards s (Some (shard v)) (Some (shard u)) flight (Coordinator flying) pass lends up tied = absurd lends
   rows_around store shards s (Some (shard v)) (Some (coordinator u)) flight flying pass lends up tied = absurd lends
   rows_around store shards s (Some (shard v)) (Some (refused e a b)) flight flying pass lends up tied = absurd lends

@@ -4,3 +4,6 @@ pub mod Pointed
 pub mod Opened
 pub mod Launched
 pub mod Landed
+pub mod LogLaunched
+pub mod LogLanded
+pub mod LogCalled

@@ -1,2 +1,4 @@
 pub mod Flights
 pub mod Places
+pub mod Serving
+pub mod LogPlaces

@@ -1,4 +1,4 @@
--- A shard under its lock, as its callers see it, whether its devices are here or out.
+-- A node under its lock, whether its devices are here or out; and a shard there, as its callers see it.
 use Rattle.std.specs.Prelude.{◌≡◌, ℕ, Bool, true, false, List, Option, Some, None, Ok}
 use Rattle.refusal.specs.declared.refusal.Refusal.{Refusal}
 use Rattle.away.specs.Aways.{lent_honest, lent_state}
@@ -23,16 +23,33 @@ use Rattle.flights.specs.declared.launch.Launch.{Launch}
 use Rattle.flights.specs.declared.returning.Restart.{Restart}
 use Rattle.flights.specs.declared.returning.Restart.TheVariants.{HasToWait, IsRefused, IsUp}
 
--- A shard with its devices; or without them, and the number of the flight that has them. It is always one or the other, but within a call.
-pub data PlaceView (D : Type 0) : Type 0 where
-  here : Side D → PlaceView D
-  out : Side (Away D) → ℕ → PlaceView D
-  nowhere : PlaceView D
+-- What lies under the lock of a node: it with its devices; or without them, and the number of the flight that has them. It is always one or the other, but within
+-- a call.
+pub data Whereabouts (H O : Type 0) : Type 0 where
+  here : H → Whereabouts H O
+  out : O → ℕ → Whereabouts H O
+  nowhere : Whereabouts H O
 
-abbrev pub place_of : {D : Type 0} → Option (Berth (Side D) (Side (Away D))) → PlaceView D
+abbrev pub place_of : {H O : Type 0} → Option (Berth H O) → Whereabouts H O
 place_of (Some (Here side room)) = here side
 place_of (Some (Out side launch)) = out side launch
 place_of None = nowhere
+
+-- its devices are out
+abbrev pub IsOutThere : {H O : Type 0} → Whereabouts H O → Type 0
+IsOutThere (here side) = ⊥
+IsOutThere (out side number) = Unit {0}
+IsOutThere nowhere = ⊥
+
+-- its devices are out on this flight
+abbrev pub IsOutFor : {H O : Type 0} → ℕ → Whereabouts H O → Type 0
+IsOutFor launch (here side) = ⊥
+IsOutFor launch (out side number) = number ≡ launch
+IsOutFor launch nowhere = ⊥
+
+-- a shard
+abbrev pub PlaceView : Type 0 → Type 0
+PlaceView D = Whereabouts (Side D) (Side (Away D))
 
 -- its number among the shards
 abbrev pub number_at : {D : Type 0} → PlaceView D → ℕ
@@ -46,23 +63,11 @@ bank_len_at (here side) = bank_len_in side.node
 bank_len_at (out side launch) = bank_len_in side.node
 bank_len_at nowhere = 0
 
--- its devices are out
-abbrev pub IsOutThere : {D : Type 0} → PlaceView D → Type 0
-IsOutThere (here side) = ⊥
-IsOutThere (out side number) = Unit {0}
-IsOutThere nowhere = ⊥
-
 -- a call that needs the devices
 abbrev pub is_flush : ShardCall → Bool
 is_flush Flush = true
 is_flush Checkpoint = true
 is_flush call = false
-
--- its devices are out on this flight
-abbrev pub IsOutFor : {D : Type 0} → ℕ → PlaceView D → Type 0
-IsOutFor launch (here side) = ⊥
-IsOutFor launch (out side number) = number ≡ launch
-IsOutFor launch nowhere = ⊥
 
 -- that a flush went well is told of a shard that is up, or whose devices are out
 abbrev pub TellsUp : {D : Type 0} → PlaceView D → Reply → Type 0

@@ -1,18 +1,22 @@
-// A shard that has its devices gets a checkpoint in the place of its records.
+// A node that has its devices gets a checkpoint in the place of its records.
 ghost use Rattle.std.specs.Prelude.{◌≡◌, IfNone, IfSome};
 ghost use Rattle.calls.specs.Belonging.{IsReplyTo};
 ghost use Rattle.calls.specs.Refusing.{Notes};
-ghost use Rattle.calls.specs.declared.call.NodeCall.TheVariants.{Shard as of_shard};
+ghost use Rattle.calls.specs.declared.call.CoordinatorCall.TheVariants.{Checkpoint as log_checkpoint_call};
+ghost use Rattle.calls.specs.declared.call.NodeCall.TheVariants.{Coordinator as of_coordinator, Shard as of_shard};
 ghost use Rattle.calls.specs.declared.call.ShardCall.TheVariants.{Checkpoint as checkpoint_call};
 ghost use Rattle.sides.specs.Lending.{IsSoundIn};
-ghost use Rattle.sides.specs.Sides.{SideAnswers};
+ghost use Rattle.sides.specs.Sides.{IsLater, SideAnswers};
+ghost use Rattle.flights.specs.LogPlaces.{ChecksLogPointThere};
 ghost use Rattle.flights.specs.Places.{ChecksPointThere, IsOutThere, number_at};
 
-use crate::ShardPlace;
 use crate::berth::Berth;
+use crate::{CoordinatorPlace, ShardPlace};
 use calls::{Reply, Told};
 use device::Device;
+use published::{Published, SessionPass};
 use sides::{Room, ShardSide};
+use tuples::Entry;
 
 // The checkpoint of a shard that has its devices. It is as sound as before.
 fn checkpoint_here<D: Device, B: Room>(side: &mut ShardSide<D, B>, told: &mut Told) -> Reply
@@ -34,6 +38,39 @@ impl<D: Device, B: Room> ShardPlace<D, B> {
     {
         match &mut self.berth {
             Some(Berth::Here(side, _)) => Some(checkpoint_here(side, told)),
+            Some(Berth::Out(_, _)) => None,
+            None => unreachable!(),
+        }
+    }
+}
+
+impl<D: Device, B: Room> CoordinatorPlace<D, B> {
+    /// How many bytes its current bank has; 0 where its opening was refused.
+    pub fn bank_len(&self) -> u64 {
+        match &self.berth {
+            Some(Berth::Here(side, _)) => side.bank_len(),
+            Some(Berth::Out(side, _)) => side.bank_len(),
+            None => unreachable!(),
+        }
+    }
+
+    /// Replaces the records of the coordinator by a checkpoint of what it knows, behind which all that was staged has joined the list. None where its devices
+    /// are out: then all stays as it is.
+    pub fn checkpoint(
+        &mut self,
+        words: &Published<Entry>,
+        pass: &mut SessionPass<Entry>,
+        told: &mut Told,
+    ) -> Option<Reply>
+        requires own { (words.now ≡ B.log) × (pass.old.table ≡ B.log) }
+        ensures made { IfSome result (λ reply. ChecksLogPointThere D.state D.honest D.moment D.left_since self.old reply self.new) }
+        ensures caller { IfSome result (λ reply. IsLater pass.old pass.new) }
+        ensures belongs { IfSome result (λ reply. IsReplyTo (of_coordinator log_checkpoint_call) reply) }
+        ensures told { IfSome result (λ reply. Notes told.old reply told.new) }
+        ensures out { IfNone result (IsOutThere self.old × (self.new ≡ self.old) × (told.new ≡ told.old) × (pass.new ≡ pass.old)) }
+    {
+        match &mut self.berth {
+            Some(Berth::Here(side, _)) => Some(side.checkpoint(words, pass, told)),
             Some(Berth::Out(_, _)) => None,
             None => unreachable!(),
         }

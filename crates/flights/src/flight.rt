@@ -28,7 +28,7 @@ impl<D: Device, B: Room> Model for Flight<D, B> {
 
     ghost view = { λ f. record { journal = f.journal; flying = f.flying; launch = f.launch } };
 
-    ghost invariant = { λ f. (f.pass.table ≡ B.launches) × IsReady D.state D.honest f.journal f.flying × (slice_get f.pass.seen f.launch ≡ Some (launch_of f.journal)) };
+    ghost invariant = { λ f. (f.pass.table ≡ B.launches) × IsReady D.state D.honest f.journal f.flying × (slice_get f.pass.seen f.launch ≡ Some (launch_of f.journal f.flying)) };
 }
 
 /// A flight that was flown: its records are durable, or a device failed.

@@ -2,6 +2,7 @@
 ghost use Rattle.std.specs.Prelude.{◌≡◌, ◌+◌, ◌++◌, ◌∷◌, [], length};
 ghost use Rattle.flights.specs.Flights.{launch_of};
 
+use calls::Flying;
 use device::Device;
 use journal::Journal;
 use published::{Adds, LogPass, Published, SessionPass};
@@ -11,8 +12,9 @@ use std::alloc::{AllocError, Global};
 use std::collections::LinkedList;
 use std::marker::{Brand, Model, PhantomData};
 
-/// The records of a node as its devices are lent: those that are durable, and those that fly. No value of it is made.
+/// Which kind of node it is whose devices are lent, and its records then: those that are durable, and those that fly. No value of it is made.
 pub struct Launch {
+    pub of_coordinator: bool,
     pub durable: LinkedList<Record>,
     pub staged: LinkedList<Record>,
 }
@@ -90,13 +92,14 @@ fn announce<D: Device, A: Adds<Launch>>(
     launches: &Published<Launch>,
     log: &mut LogPass<Launch>,
     flight: &Journal<D>,
+    flying: Flying,
     count: u64,
 )
     requires own { log.old.table ≡ launches.now }
     requires count { count ≡ length log.old.seen + 1 }
-    requires added { A.added ≡ launch_of flight.now ∷ [] }
+    requires added { A.added ≡ launch_of flight.now flying ∷ [] }
     ensures same { log.new.table ≡ log.old.table }
-    ensures added { log.new.seen ≡ log.old.seen ++ launch_of flight.now ∷ [] }
+    ensures added { log.new.seen ≡ log.old.seen ++ launch_of flight.now flying ∷ [] }
 {
     launches.advance::<A>(log, count);
 }
@@ -106,12 +109,13 @@ pub(crate) fn tell_of<D: Device>(
     launches: &Published<Launch>,
     log: &mut LogPass<Launch>,
     flight: &Journal<D>,
+    flying: Flying,
     count: u64,
 )
     requires own { log.old.table ≡ launches.now }
     requires count { count ≡ length log.old.seen + 1 }
     ensures same { log.new.table ≡ log.old.table }
-    ensures added { log.new.seen ≡ log.old.seen ++ launch_of flight.now ∷ [] }
+    ensures added { log.new.seen ≡ log.old.seen ++ launch_of flight.now flying ∷ [] }
 {
-    announce::<D, Brand>(launches, log, flight, count);
+    announce::<D, Brand>(launches, log, flight, flying, count);
 }

@@ -5,7 +5,7 @@ ghost use Rattle.flights.specs.Flights.{IsOut, IsReady, launch_of};
 ghost use Rattle.flights.specs.Places.{HasLaunched, IsBerthed, here, out as out_on, place_of};
 
 use crate::berth::Berth;
-use crate::launch::tell_of;
+use crate::taking_off::take_off;
 use crate::{Flight, Launch, LaunchLog, ShardPlace};
 use away::Away;
 use calls::Flying;
@@ -13,7 +13,6 @@ use device::Device;
 use journal::{BatchRoom, Journal};
 use published::{Published, SessionPass};
 use sides::{LentShard, Room, ShardSide};
-use std::marker::PhantomData;
 
 // The flight that leaves now gets its number.
 fn leave<D: Device, B: Room>(
@@ -28,22 +27,13 @@ fn leave<D: Device, B: Room>(
     requires own { (launches.now ≡ B.launches) × (pass.old.table ≡ B.launches) }
     requires number { (number ≡ length log.old.seen) × (number + 1 < 2 ^ 64) }
     requires ready { IsReady D.state D.honest journal flying }
-    requires out { IsOut D.state D.honest B.rests B.shards side (launch_of journal) }
+    requires out { IsOut D.state D.honest B.rests B.shards side (launch_of journal flying) }
     ensures own { pass.new.table ≡ B.launches }
     ensures berth { IsBerthed D.state D.honest B.rests B.shards pass.new.seen (Some result.0) }
     ensures flight { result.1 ≡ record { journal = journal; flying = flying; launch = number } }
     ensures place { place_of (Some result.0) ≡ out_on side number }
 {
-    tell_of(launches, &mut log.log, &journal, number + 1);
-    launches.meet(&mut log.log, pass);
-    let known = launches.session(&mut log.log);
-    let flight = Flight {
-        journal,
-        flying,
-        pass: known,
-        launch: number,
-        room: PhantomData,
-    };
+    let flight = take_off(launches, log, pass, journal, flying, number);
     (Berth::Out(side, number), flight)
 }
 

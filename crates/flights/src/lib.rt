@@ -1,17 +1,22 @@
 //! What lies under the lock of a node that callers share, while its devices are elsewhere: a flight makes durable what was staged, outside of the lock.
 //!
 //! Keeps: the node is tied to the list of writes that the pass beside it has seen, whether its devices are here or out; and what flies is the first of what
-//! it has staged.
+//! it has staged. What the coordinator's flight made durable joins the list as it lands, and not before.
 //! Never: asks a node for a flush or a checkpoint, or opens it again, whose devices are out; holds a node's lock while its devices sync.
 //! Callers rely on: only the flight that took a node's devices brings them back, what it made durable is durable then, and what was staged meanwhile is
 //! staged still.
 //!
-//! Start at `specs/Flights.antt`, and then `ShardPlace`.
+//! Start at `specs/Flights.antt`, and then `ShardPlace`; at `specs/LogPlaces.antt`, and then `CoordinatorPlace`.
 #![tactic(auto)]
 
 mod berth;
 mod checkpointing;
 mod closed;
+mod coordinator_cell;
+mod coordinator_leaving;
+mod coordinator_place;
+mod coordinator_returning;
+mod coordinator_serving;
 mod flight;
 mod launch;
 mod leaving;
@@ -19,10 +24,15 @@ mod returning;
 mod serving;
 mod shard_cell;
 mod shard_place;
+mod taking_off;
+mod tried;
 
 pub use closed::ClosedShard;
+pub use coordinator_cell::CoordinatorCell;
+pub use coordinator_place::CoordinatorPlace;
 pub use flight::{Flight, Flown};
 pub use launch::{Launch, LaunchLog, Launches};
 pub use returning::Restart;
 pub use shard_cell::ShardCell;
 pub use shard_place::ShardPlace;
+pub use tried::Tried;

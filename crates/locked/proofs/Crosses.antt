@@ -27,6 +27,7 @@ use Rattle.sides.specs.declared.room.Room as Room
 use Rattle.sides.specs.contracts.shard_side.ShardSide as ShardSide
 use Rattle.sides.specs.contracts.coordinator_side.CoordinatorSide as CoordinatorSide
 use Rattle.flights.specs.contracts.berth.Berth as Berth
+use Rattle.flights.specs.contracts.coordinator_place.CoordinatorPlace as CoordinatorPlace
 use Rattle.flights.specs.contracts.shard_place.ShardPlace as ShardPlace
 
 -- ---- what no device is in
@@ -84,7 +85,7 @@ module _ (D : RattleType) (g : Device.Ghosts D.Denot) (d : IsSend D) where
 pub side_send : (D B : RattleType) (g : Device.Ghosts D.Denot) (h : Room.Ghosts B.Denot) → IsSend D → IsSend B → IsSend (ShardSide.the_row D B g h)
 side_send D B g h d b = let n = node_send D g d in let e = session in let f = identity in search (sendable, crosses, maps_cross, sets_cross) depth 400 fits 50000
 
-pub log_send : (D B : RattleType) (g : Device.Ghosts D.Denot) (h : Room.Ghosts B.Denot) → IsSend D → IsSend B → IsSend (CoordinatorSide.the_row D B g h)
+log_send : (D B : RattleType) (g : Device.Ghosts D.Denot) (h : Room.Ghosts B.Denot) → IsSend D → IsSend B → IsSend (CoordinatorSide.the_row D B g h)
 log_send D B g h d b = let n = node_send D g d in let e = identity in search (sendable, crosses, maps_cross, sets_cross, seat.the_send) depth 400 fits 50000
 
 away_send : (D : RattleType) → IsSend D → IsSend (Away.the_row D)
@@ -97,5 +98,12 @@ pub place_send : (D B : RattleType) (g : Device.Ghosts D.Denot) (h : Room.Ghosts
 place_send D B g h d b =
     let here = side_send D B g h d b in
     let out = side_send (Away.the_row D) B (away.ghosts D g away.no_dict away.no_dict) h (away_send D d) b in
+    let berth = berth_send _ _ here out in
+    search (sendable, crosses, maps_cross, sets_cross, seat.the_send) depth 400 fits 50000
+
+pub log_place_send : (D B : RattleType) (g : Device.Ghosts D.Denot) (h : Room.Ghosts B.Denot) → IsSend D → IsSend B → IsSend (CoordinatorPlace.the_row D B g h)
+log_place_send D B g h d b =
+    let here = log_send D B g h d b in
+    let out = log_send (Away.the_row D) B (away.ghosts D g away.no_dict away.no_dict) h (away_send D d) b in
     let berth = berth_send _ _ here out in
     search (sendable, crosses, maps_cross, sets_cross, seat.the_send) depth 400 fits 50000

@@ -3,7 +3,9 @@ use Rattle.std.proofs.Common.{◌∙◌, arith, refl}
 use Rattle.tuples.specs.declared.entry.Entry.{Entry}
 use Rattle.published.specs.Known.{Known}
 use Rattle.published.proofs.Prefixes.{prefix_self, prefix_trans}
+use Rattle.ties.specs.Ties.{Attempt}
 use Rattle.sides.specs.Sides.{IsLater}
+use Rattle.flights.specs.Serving.{KnowsMore}
 
 pub later_on : (one two three : Known Entry) → IsLater one two → IsLater two three → IsLater one three
 later_on one two three first then = record {
@@ -14,3 +16,12 @@ later_on one two three first then = record {
 
 pub later_self : (one : Known Entry) → IsLater one one
 later_self one = record { table = refl; seen = prefix_self one.seen; horizon = omega (arith) }
+
+pub more_on : (one two three : Known Attempt) → KnowsMore one two → KnowsMore two three → KnowsMore one three
+more_on one two three first then = record {
+  table = then.table ∙ first.table;
+  seen = prefix_trans one.seen two.seen three.seen first.seen then.seen;
+}
+
+pub more_self : (one : Known Attempt) → KnowsMore one one
+more_self one = record { table = refl; seen = prefix_self one.seen }

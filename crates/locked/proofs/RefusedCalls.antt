@@ -2,9 +2,6 @@
 use Rattle.std.proofs.Common.{ℕ, List, Ok}
 use Rattle.refusal.specs.declared.refusal.Refusal.{Refusal}
 use Rattle.tuples.specs.declared.entry.Entry.{Entry}
-use Rattle.tuples.specs.Writes.{WriteValue}
-use Rattle.device.specs.Device.{State}
-use Rattle.coordinator.specs.declared.telling.Outcome.TheVariants.{Kept, Later}
 use Rattle.calls.specs.Asking.{Refuses}
 use Rattle.calls.specs.declared.call.NodeCall.{NodeCall}
 use Rattle.calls.specs.declared.call.NodeCall.TheVariants.{Coordinator, Shard}
@@ -14,9 +11,7 @@ use Rattle.calls.specs.declared.reply.Reply.{Reply}
 use Rattle.calls.specs.declared.reply.Reply.TheVariants.{Coordinator as from_coordinator, Shard as from_shard}
 use Rattle.calls.specs.declared.reply.CoordinatorReply.TheVariants as told
 use Rattle.calls.specs.declared.reply.ShardReply.TheVariants as told_by
-use Rattle.sides.specs.CoordinatorSides.{LogSide}
 use Rattle.flow_ties.specs.Telling.{IsTold}
-use Rattle.locked.specs.Holding.{TellsInHold}
 
 pub refused_is_told : (e : Refusal) (shards : ℕ) (seen : List Entry) (call : NodeCall) (reply : Reply) → Refuses e call reply → IsTold shards seen call reply
 refused_is_told e shards seen (Coordinator calls.Heads) (from_coordinator (told.Heads (Ok h))) refuses = absurd (cc refuses)
@@ -24,10 +19,3 @@ refused_is_told e shards seen (Coordinator (calls.Batch from to)) (from_coordina
 refused_is_told e shards seen (Shard s (shard_calls.Read place set)) (from_shard (told_by.Read back (Ok rows))) refuses = absurd (cc refuses.1)
 refused_is_told e shards seen (Shard s (shard_calls.ReadForCheck place x u)) (from_shard (told_by.ReadForCheck back_x back_u (Ok rows))) refuses = absurd (cc refuses.2)
 refused_is_told e shards seen call reply refuses = tt
-
-module _ {D : Type 0} (state : D → State) (honest : D → Type 0) (store shards : ℕ) where
-  pub refused_in_hold : (e : Refusal) (asked : WriteValue) (above : ℕ) (old new : LogSide D) (seen : List Entry) (call : NodeCall) (reply : Reply) → Refuses e call reply → TellsInHold state honest store shards asked above old new seen call reply
-  refused_in_hold e asked above old new seen (Coordinator (calls.Decide intent votes)) (from_coordinator (told.Decide (Ok d))) refuses = absurd refuses
-  refused_in_hold e asked above old new seen (Coordinator (calls.Outcome d)) (from_coordinator (told.Outcome (Kept place))) refuses = absurd (cc refuses)
-  refused_in_hold e asked above old new seen (Coordinator (calls.Outcome d)) (from_coordinator (told.Outcome (Later back))) refuses = absurd (cc refuses)
-  refused_in_hold e asked above old new seen call reply refuses = tt

@@ -1,6 +1,7 @@
 -- What is answered for a shard that is not there, and to a flush of one that is.
 use Rattle.std.proofs.Common.{ℕ, ◌≤◌, List, Bool, arith}
-use Rattle.calls.specs.declared.call.NodeCall.TheVariants.{Shard}
+use Rattle.calls.specs.declared.call.NodeCall.TheVariants.{Coordinator, Shard}
+use Rattle.calls.specs.declared.call.CoordinatorCall.TheVariants.{Flush as LogFlush}
 use Rattle.published.specs.Known.{Known}
 use Rattle.tuples.specs.declared.entry.Entry.{Entry}
 use Rattle.refusal.specs.declared.refusal.Refusal.{Refusal}
@@ -10,7 +11,8 @@ use Rattle.calls.specs.declared.call.ShardCall.{ShardCall}
 use Rattle.calls.specs.declared.call.ShardCall.TheVariants.{Checkpoint, Flush}
 use Rattle.calls.specs.declared.reply.Reply.{Reply}
 use Rattle.flow_ties.specs.Refusing.{Notices}
-use Rattle.locked.specs.Serving.{Serves}
+use Rattle.sides.specs.Sides.{IsLater}
+use Rattle.flights.specs.Serving.{Serves}
 use Rattle.locked.proofs.Passes.{later_self}
 use Rattle.locked.proofs.RefusedCalls.{refused_is_told}
 
@@ -49,6 +51,18 @@ absent_serves rests shards s pass e call reply refuses belongs = record {
   later = later_self pass;
   belongs = belongs;
   told = λ at. refused_is_told e shards pass.seen (Shard s call) reply refuses;
+  reach = λ at. tt;
+  watcher = λ at. tt;
+  care = λ at. tt;
+  intent = λ at. tt;
+}
+
+-- a flush of the coordinator tells nothing of the list
+pub log_flush_serves : (rests : Type 0) (shards : ℕ) (old new : Known Entry) (reply : Reply) → IsLater old new → IsReplyTo (Coordinator LogFlush) reply → Serves rests shards old new (Coordinator LogFlush) reply
+log_flush_serves rests shards old new reply later belongs = record {
+  later = later;
+  belongs = belongs;
+  told = λ at. tt;
   reach = λ at. tt;
   watcher = λ at. tt;
   care = λ at. tt;

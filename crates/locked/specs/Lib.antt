@@ -1,6 +1,6 @@
 pub mod Serving
 pub mod Turning
 pub mod Answering
-pub mod Holding
+pub mod Writing
 pub mod Opening
 pub mod Looking

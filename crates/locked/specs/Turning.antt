@@ -6,7 +6,7 @@ use Rattle.calls.specs.declared.call.NodeCall.{NodeCall}
 use Rattle.calls.specs.declared.reply.Reply.{Reply}
 use Rattle.flow_ties.specs.Cares.{HandsOver}
 use Rattle.flow_ties.specs.Refusing.{Notices}
-use Rattle.locked.specs.Serving.{Serves}
+use Rattle.flights.specs.Serving.{Serves}
 
 module _ {F : Type 0} (asks : F → NodeCall → F → Type 0) where
   -- whichever call it makes, what it hands to a shard is of what the caller has seen

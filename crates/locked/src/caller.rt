@@ -1,16 +1,18 @@
 // Who asks a store.
 ghost use Rattle.std.specs.Prelude.{◌≡◌};
 
+use flights::Tried;
 use published::SessionPass;
 use sides::Room;
-use std::marker::{Model, PhantomData};
+use std::marker::Model;
 use tuples::Entry;
 
 /// One that asks a store, as a connection or a thread. It stands for the list of writes that was seen by it, or by one that told it.
 #[derive(Drop)]
 pub struct Caller<B: Room> {
     pub(crate) pass: SessionPass<Entry>,
-    room: PhantomData<B>,
+    // what it knows of decisions, its own among them
+    pub(crate) tried: Tried<B>,
 }
 
 impl<B: Room> Model for Caller<B> {
@@ -26,14 +28,11 @@ impl<B: Room> Model for Caller<B> {
 }
 
 impl<B: Room> Caller<B> {
-    // Of a pass of the store's words.
-    pub(crate) fn new(pass: SessionPass<Entry>) -> Caller<B>
+    // Of a pass of the store's words, and of what it knows of decisions.
+    pub(crate) fn new(pass: SessionPass<Entry>, tried: Tried<B>) -> Caller<B>
         requires { pass.table ≡ B.log }
         ensures { result ≡ pass }
     {
-        Caller {
-            pass,
-            room: PhantomData,
-        }
+        Caller { pass, tried }
     }
 }

@@ -26,7 +26,7 @@ impl<D: Device, B: Room, G: Gate> Store<D, B, G> {
         let Some(call) = flow.next_call() else {
             return;
         };
-        let reply = self.make(rt, caller, told, call);
+        let reply = self.make(rt, &mut caller.pass, &mut caller.tried, told, call);
         flow.give(reply);
     }
 }

@@ -1,8 +1,7 @@
 // Who is told of the calls of a store's nodes.
 use names::{CallName, NodeName};
 
-/// Is told of each call of a node that a caller makes, outside of all locks: before the call, which may have to wait for the node, and behind it. Of a write
-/// from its decision on it is told before the decision, and behind the last question what became of it, and of nothing between the two.
+/// Is told of each call of a node that a caller makes, outside of all locks: before the call, which may have to wait for the node, and behind it.
 pub trait Gate: Drop {
     /// A call is about to be made.
     fn before(&self, node: NodeName, call: CallName);

@@ -1,13 +1,13 @@
-//! A store that callers share: each of its nodes under a lock of its own, and one call of a node under one hold, but for a writer's from its decision to the
-//! outcome, and for a flush of a shard, whose devices sync without its lock.
+//! A store that callers share: each of its nodes under a lock of its own, and one call of a node under one hold, but for a flush, whose devices sync without
+//! the lock.
 //!
-//! Keeps: what a caller has seen of the list it sees behind each call, and so do all whom it tells.
-//! Never: holds two nodes' locks at once, a shard's while its devices sync, or a lock between two calls of a node, but the coordinator's from a decision to
-//! its outcome.
+//! Keeps: what a caller has seen of the list it sees behind each call, and so do all whom it tells; and which decisions are its own it knows from one call to
+//! the next, whoever is let in between.
+//! Never: holds two nodes' locks at once, a node's while its devices sync, or a lock between two calls of a node.
 //! Callers rely on: a read, a check and a watch answer what is so of the list that the caller has then seen, at a place as fresh as asked; and a write that
 //! is told a place stands there in that list, above all that the caller had seen.
 //!
-//! The server and the check of threads use it. Start at `specs/Serving.antt`, what a call leaves a caller with, and then `Store`.
+//! The server and the check of threads use it. Start at `specs/Answering.antt`, how an answer ends, and then `Store`.
 #![tactic(auto)]
 
 mod caller;
@@ -15,7 +15,6 @@ mod calling;
 mod caring;
 mod checking;
 mod gate;
-mod holding;
 mod looking;
 mod making;
 mod notice;

@@ -50,7 +50,7 @@ impl<D: Device, B: Room, G: Gate> Store<D, B, G> {
         ensures refused { IfErr result (λ e. HasTold told.new e) }
     {
         let call = NodeCall::Shard(shard, ShardCall::Learned);
-        match self.make(rt, caller, told, call) {
+        match self.make(rt, &mut caller.pass, &mut caller.tried, told, call) {
             Reply::Shard(ShardReply::Learned(answer)) => answer,
             _ => unreachable!(),
         }

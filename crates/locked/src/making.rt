@@ -1,52 +1,44 @@
-// One call of one node, under one hold of its lock; a flush of a shard is made without it, and a checkpoint once its devices are here.
-ghost use Rattle.std.specs.Prelude.{◌≡◌, ◌≤◌, ℕ, false, length};
+// One call of one node, under one hold of its lock; a flush is made without it, and a checkpoint once its devices are here.
+ghost use Rattle.std.specs.Prelude.{◌≡◌, false};
 ghost use Rattle.calls.specs.Asking.{MayAskCoordinator, MayAskShard};
 ghost use Rattle.calls.specs.Belonging.{IsOwed};
 ghost use Rattle.calls.specs.Refusing.{Notes};
 ghost use Rattle.calls.specs.declared.call.NodeCall.TheVariants.{Coordinator as of_coordinator, Shard as of_shard};
+ghost use Rattle.flights.specs.LogPlaces.{HasCount, TellsWriters, is_log_flush, tried_at};
 ghost use Rattle.flights.specs.Places.{is_flush, number_at};
+ghost use Rattle.flights.specs.Serving.{KnowsMore, Serves};
 ghost use Rattle.flow_ties.specs.Cares.{HandsOver};
 ghost use Rattle.flow_ties.specs.Refusing.{Notices};
-ghost use Rattle.tuples.specs.Writes.{WriteValue};
-ghost use Rattle.locked.specs.Holding.{KeepsTried, TellsInHold};
-ghost use Rattle.locked.specs.Serving.{Serves};
 
-use crate::{Caller, Gate, Store};
+use crate::{Gate, Store};
 use calls::{CoordinatorCall, NodeCall, Reply, ShardCall, Told, refuse};
 use device::Device;
-use flights::ShardPlace;
+use flights::{CoordinatorPlace, ShardPlace, Tried};
 use published::{Published, SessionPass};
-use sides::{CoordinatorSide, Room};
+use sides::{Attempt, Room};
 use std::sync::Wait;
 use tuples::{Entry, Refusal};
 
-/// Makes the call of the coordinator, under its lock.
-pub(crate) fn serve_coordinator<D: Device, B: Room>(
+// Makes a call of the coordinator that is no flush, under its lock.
+fn serve_coordinator<D: Device, B: Room>(
     words: &Published<Entry>,
-    side: &mut CoordinatorSide<D, B>,
+    attempts: &Published<Attempt>,
+    place: &mut CoordinatorPlace<D, B>,
     pass: &mut SessionPass<Entry>,
+    tried: &mut Tried<B>,
     told: &mut Told,
     call: CoordinatorCall,
 ) -> Reply
-    requires own { (words.now ≡ B.log) × (pass.old.table ≡ B.log) }
+    requires own { (words.now ≡ B.log) × (pass.old.table ≡ B.log) × (attempts.now ≡ B.attempts) }
     requires owed { MayAskCoordinator B.shards call }
+    requires counted { HasCount (tried_at place.old) }
+    requires no_flush { is_log_flush call ≡ false }
     ensures serves { Serves B.rests B.shards pass.old pass.new (of_coordinator call) result }
-    ensures tells { B.rests → (asked : WriteValue) (above : ℕ) → above ≤ length pass.old.seen → TellsInHold D.state D.honest B.store B.shards asked above side.old side.new pass.new.seen (of_coordinator call) result }
-    ensures kept { B.rests → KeepsTried D.state D.honest B.store B.shards side.old side.new (of_coordinator call) }
+    ensures tried { KnowsMore tried.old tried.new }
+    ensures tells { B.rests → TellsWriters pass.old.seen tried.new.seen pass.new.seen (of_coordinator call) result }
     ensures told { Notes told.old result told.new }
 {
-    match call {
-        CoordinatorCall::Begin(write) => side.begin(told, write),
-        CoordinatorCall::Heads => side.heads(words, pass, told),
-        CoordinatorCall::Batch(from, to) => side.batch(words, pass, told, from, to),
-        CoordinatorCall::Decide(intent, votes) => side.decide(words, pass, told, intent, votes),
-        CoordinatorCall::Outcome(decided) => side.outcome(words, pass, told, decided),
-        CoordinatorCall::Abort(intent) => side.abort(told, intent),
-        CoordinatorCall::Inquire(id) => side.inquire(words, pass, told, id),
-        CoordinatorCall::Raise(place, settled) => side.raise(told, place, settled),
-        CoordinatorCall::Flush => side.flush(words, pass, told),
-        CoordinatorCall::Checkpoint => side.checkpoint(words, pass, told),
-    }
+    place.ask(words, attempts, pass, tried, told, call)
 }
 
 // Makes a call of the shard that is no flush, under its lock.
@@ -68,20 +60,46 @@ fn serve_shard<D: Device, B: Room>(
 }
 
 impl<D: Device, B: Room, G: Gate> Store<D, B, G> {
-    // Makes the call of the coordinator.
+    // Makes the call of the coordinator: a flush without its lock, a checkpoint once its devices are here.
     fn make_there<R: Wait>(
         &self,
         rt: &R,
-        caller: &mut Caller<B>,
+        pass: &mut SessionPass<Entry>,
+        tried: &mut Tried<B>,
         told: &mut Told,
         call: CoordinatorCall,
     ) -> Reply
+        requires own { pass.old.table ≡ B.log }
         requires owed { MayAskCoordinator B.shards call }
-        ensures serves { Serves B.rests B.shards caller.old caller.new (of_coordinator call) result }
+        ensures serves { Serves B.rests B.shards pass.old pass.new (of_coordinator call) result }
+        ensures tried { KnowsMore tried.old tried.new }
+        ensures tells { B.rests → TellsWriters pass.old.seen tried.new.seen pass.new.seen (of_coordinator call) result }
         ensures told { Notices B.shards told.old (of_coordinator call) result told.new }
     {
-        let mut side = self.coordinator.lock(rt);
-        serve_coordinator(&self.words, &mut side, &mut caller.pass, told, call)
+        match call {
+            CoordinatorCall::Flush => self.coordinator.flush(
+                rt,
+                &self.words,
+                &self.launches,
+                &self.launch_log,
+                pass,
+                tried,
+                told,
+            ),
+            CoordinatorCall::Checkpoint => self.coordinator.checkpoint(rt, &self.words, pass, told),
+            call => {
+                let mut place = self.coordinator.lock_to_ask(rt, &self.attempts);
+                serve_coordinator(
+                    &self.words,
+                    &self.attempts,
+                    &mut place,
+                    pass,
+                    tried,
+                    told,
+                    call,
+                )
+            }
+        }
     }
 
     // Makes the call of this shard: a flush without its lock, a checkpoint once its devices are here. One that is not there answers that the caller is
@@ -89,14 +107,15 @@ impl<D: Device, B: Room, G: Gate> Store<D, B, G> {
     fn make_at<R: Wait>(
         &self,
         rt: &R,
-        caller: &mut Caller<B>,
+        pass: &mut SessionPass<Entry>,
         told: &mut Told,
         shard: u8,
         call: ShardCall,
     ) -> Reply
+        requires own { pass.old.table ≡ B.log }
         requires owed { MayAskShard B.shards shard call }
-        requires hands { B.rests → HandsOver caller.old.seen caller.old.horizon (of_shard shard call) }
-        ensures serves { Serves B.rests B.shards caller.old caller.new (of_shard shard call) result }
+        requires hands { B.rests → HandsOver pass.old.seen pass.old.horizon (of_shard shard call) }
+        ensures serves { Serves B.rests B.shards pass.old pass.new (of_shard shard call) result }
         ensures told { Notices B.shards told.old (of_shard shard call) result told.new }
     {
         if shard >= self.count {
@@ -109,7 +128,7 @@ impl<D: Device, B: Room, G: Gate> Store<D, B, G> {
             ShardCall::Checkpoint => self.shards[shard as usize].checkpoint(rt, told),
             call => {
                 let mut place = self.side(rt, shard);
-                serve_shard(&self.words, &mut place, &mut caller.pass, told, call)
+                serve_shard(&self.words, &mut place, pass, told, call)
             }
         }
     }
@@ -118,37 +137,46 @@ impl<D: Device, B: Room, G: Gate> Store<D, B, G> {
     fn make_of_node<R: Wait>(
         &self,
         rt: &R,
-        caller: &mut Caller<B>,
+        pass: &mut SessionPass<Entry>,
+        tried: &mut Tried<B>,
         told: &mut Told,
         call: NodeCall,
     ) -> Reply
+        requires own { pass.old.table ≡ B.log }
         requires owed { IsOwed B.shards call }
-        requires hands { B.rests → HandsOver caller.old.seen caller.old.horizon call }
-        ensures serves { Serves B.rests B.shards caller.old caller.new call result }
+        requires hands { B.rests → HandsOver pass.old.seen pass.old.horizon call }
+        ensures serves { Serves B.rests B.shards pass.old pass.new call result }
+        ensures tried { KnowsMore tried.old tried.new }
+        ensures tells { B.rests → TellsWriters pass.old.seen tried.new.seen pass.new.seen call result }
         ensures told { Notices B.shards told.old call result told.new }
     {
         match call {
-            NodeCall::Coordinator(call) => self.make_there(rt, caller, told, call),
-            NodeCall::Shard(shard, call) => self.make_at(rt, caller, told, shard, call),
+            NodeCall::Coordinator(call) => self.make_there(rt, pass, tried, told, call),
+            NodeCall::Shard(shard, call) => self.make_at(rt, pass, told, shard, call),
         }
     }
 
-    /// Makes the call, of the node that it names, and tells the gate of it.
+    /// Makes the call, of the node that it names, and tells the gate of it. What a decision is of that it tells, and what became of one, is by what the caller
+    /// knows of all that were staged.
     pub(crate) fn make<R: Wait>(
         &self,
         rt: &R,
-        caller: &mut Caller<B>,
+        pass: &mut SessionPass<Entry>,
+        tried: &mut Tried<B>,
         told: &mut Told,
         call: NodeCall,
     ) -> Reply
+        requires own { pass.old.table ≡ B.log }
         requires owed { IsOwed B.shards call }
-        requires hands { B.rests → HandsOver caller.old.seen caller.old.horizon call }
-        ensures serves { Serves B.rests B.shards caller.old caller.new call result }
+        requires hands { B.rests → HandsOver pass.old.seen pass.old.horizon call }
+        ensures serves { Serves B.rests B.shards pass.old pass.new call result }
+        ensures tried { KnowsMore tried.old tried.new }
+        ensures tells { B.rests → TellsWriters pass.old.seen tried.new.seen pass.new.seen call result }
         ensures told { Notices B.shards told.old call result told.new }
     {
         let (node, name) = (call.node(), call.name());
         self.gate.before(node, name);
-        let reply = self.make_of_node(rt, caller, told, call);
+        let reply = self.make_of_node(rt, pass, tried, told, call);
         self.gate.after(node, name);
         reply
     }

@@ -8,11 +8,13 @@ ghost use Rattle.locked.specs.Opening.{RestAt, ShardsRest};
 use crate::{Gate, Store};
 use crossbeam_utils::sync::Unparker;
 use device::Device;
-use flights::{ClosedShard, Launch, LaunchLog, Launches, ShardCell};
+use flights::{
+    ClosedShard, CoordinatorCell, CoordinatorPlace, Launch, LaunchLog, Launches, ShardCell,
+};
 use journal::BatchRoom;
 use published::{LogPass, Published};
 use records::Identity;
-use sides::{CoordinatorSide, Room};
+use sides::{Attempt, Attempts, CoordinatorSide, Room};
 use std::alloc::{AllocError, Global};
 use std::thread::{self, Threads};
 use tuples::{Entry, Refusal};
@@ -33,12 +35,13 @@ fn open_coordinator<D: Device, B: Room>(
     alloc: Global,
     words: &Published<Entry>,
     log: LogPass<Entry>,
+    attempts: LogPass<Attempt>,
     store: u64,
     shards: u8,
     devices: &mut Vec<D>,
 ) -> Result<CoordinatorSide<D, B>, Refusal>
-    requires own { (words.now ≡ B.log) × (log.table ≡ B.log) }
-    requires empty { (log.seen ≡ []) × (log.horizon ≡ 0) }
+    requires own { (words.now ≡ B.log) × (log.table ≡ B.log) × (attempts.table ≡ B.attempts) }
+    requires empty { (log.seen ≡ []) × (log.horizon ≡ 0) × (attempts.seen ≡ []) }
     requires of { (store ≡ B.store) × (shards ≡ B.shards) }
     requires some { 1 ≤ shards }
     requires few { shards ≤ max_shards }
@@ -58,6 +61,7 @@ fn open_coordinator<D: Device, B: Room>(
         b,
         Identity::coordinator(store, shards),
         log,
+        attempts,
     )
 }
 
@@ -134,6 +138,20 @@ fn closed_shards<D: Device, B: Room>(
     Ok(closed)
 }
 
+// The coordinator in its cell, with the memory for one flight.
+fn coordinator_cell<D: Device, B: Room>(
+    alloc: Global,
+    launches: &Published<Launch>,
+    launch_log: &mut LaunchLog<B>,
+    side: CoordinatorSide<D, B>,
+) -> Result<CoordinatorCell<D, B>, AllocError>
+    requires own { launches.now ≡ B.launches }
+{
+    let room = BatchRoom::new(alloc)?;
+    let known = launch_log.session(launches);
+    Ok(CoordinatorCell::new(CoordinatorPlace::new(side, room, known)))
+}
+
 // Opens them, each by a thread of its own, since each reads its own devices alone.
 fn open_shards<D: Device + Send, B: Room + Send, R: Threads + Sync>(
     rt: &R,
@@ -152,7 +170,8 @@ impl<D: Device, B: Room, G: Gate> Store<D, B, G> {
     /// Opens the store with this id and of 1 to 64 shards over its devices: those of the coordinator, and then those of each shard, by rising number, bank a
     /// before bank b. Where they rest at a list, all that is said of the list is said of that one and of what joins it. A shard whose opening is refused
     /// holds that refusal, and can be restarted; the coordinator's, or memory for the shards, refuses the store. Whoever tends the store is woken by the
-    /// bell. The launches name the flights of its nodes, so that a flush holds no lock while devices sync. Shards are opened side by side.
+    /// bell. The attempts name the decisions that its coordinator stages, and the launches the flights of its nodes, so that a flush holds no lock while devices sync.
+    /// Shards are opened side by side.
     pub fn open<R: Threads + Sync>(
         rt: &R,
         alloc: Global,
@@ -160,6 +179,7 @@ impl<D: Device, B: Room, G: Gate> Store<D, B, G> {
         bell: Unparker,
         words: Published<Entry>,
         log: LogPass<Entry>,
+        attempts: Attempts,
         launches: Launches,
         mut devices: Vec<D>,
         store: u64,
@@ -170,6 +190,7 @@ impl<D: Device, B: Room, G: Gate> Store<D, B, G> {
         B: Send,
         requires own { (words ≡ B.log) × (log.table ≡ B.log) }
         requires empty { (log.seen ≡ []) × (log.horizon ≡ 0) }
+        requires tried { attempts ≡ B.attempts }
         requires flights { launches ≡ B.launches }
         requires of { (store ≡ B.store) × (shards ≡ B.shards) }
         requires some { 1 ≤ shards }
@@ -178,23 +199,26 @@ impl<D: Device, B: Room, G: Gate> Store<D, B, G> {
         requires honest { All D.honest devices.items }
         requires rests { B.rests → RestAt D.state D.honest B.shards B.first B.low devices.items }
     {
-        let mut coordinator = open_coordinator(alloc, &words, log, store, shards, &mut devices)?;
+        let (attempts, tried) = attempts.into_parts();
+        let mut side = open_coordinator(alloc, &words, log, tried, store, shards, &mut devices)?;
         let (launches, mut launch_log) = launches.into_parts();
         let closed = closed_shards(
             alloc,
             &words,
             &launches,
             &mut launch_log,
-            &mut coordinator,
+            &mut side,
             store,
             shards,
             &mut devices,
         )?;
+        let coordinator = coordinator_cell(alloc, &launches, &mut launch_log, side)?;
         let cells = open_shards(rt, closed)?;
         Ok(Store::new(
             gate,
             bell,
             words,
+            attempts,
             launches,
             launch_log,
             coordinator,

@@ -10,9 +10,9 @@ ghost use Rattle.locked.specs.Serving.{KnowsOf};
 use crate::{Caller, Gate};
 use crossbeam_utils::sync::Unparker;
 use device::Device;
-use flights::{Launch, LaunchLog, ShardCell, ShardPlace};
+use flights::{CoordinatorCell, Launch, LaunchLog, ShardCell, ShardPlace};
 use published::Published;
-use sides::{CoordinatorSide, Room};
+use sides::{Attempt, Room};
 use std::alloc::Global;
 use std::sync::atomic::AtomicBool;
 use std::sync::{Mutex, MutexGuard, Wait};
@@ -26,7 +26,9 @@ pub struct Store<D: Device, B: Room, G: Gate> {
     pub(crate) bell: Unparker,
     pub(crate) closed: AtomicBool,
     pub(crate) words: Published<Entry>,
-    pub(crate) coordinator: Mutex<CoordinatorSide<D, B>>,
+    // all decisions that were ever staged
+    pub(crate) attempts: Published<Attempt>,
+    pub(crate) coordinator: CoordinatorCell<D, B>,
     // which flights there were; a node's lock may be held around that of the log, and never the other way round
     pub(crate) launches: Published<Launch>,
     pub(crate) launch_log: Mutex<LaunchLog<B>>,
@@ -34,6 +36,7 @@ pub struct Store<D: Device, B: Room, G: Gate> {
     pub(crate) shards: Vec<ShardCell<D, B>>,
     pub(crate) count: u8,
     ghost own: { words ≡ B.log },
+    ghost tried: { attempts ≡ B.attempts },
     ghost flights: { launches ≡ B.launches },
     ghost of: { count ≡ B.shards },
     ghost all: { vec_len shards ≡ count },
@@ -47,13 +50,15 @@ impl<D: Device, B: Room, G: Gate> Store<D, B, G> {
         gate: G,
         bell: Unparker,
         words: Published<Entry>,
+        attempts: Published<Attempt>,
         launches: Published<Launch>,
         launch_log: LaunchLog<B>,
-        coordinator: CoordinatorSide<D, B>,
+        coordinator: CoordinatorCell<D, B>,
         shards: Vec<ShardCell<D, B>>,
         count: u8,
     ) -> Store<D, B, G>
         requires own { words ≡ B.log }
+        requires tried { attempts ≡ B.attempts }
         requires flights { launches ≡ B.launches }
         requires of { count ≡ B.shards }
         requires all { vec_len shards ≡ count }
@@ -65,7 +70,8 @@ impl<D: Device, B: Room, G: Gate> Store<D, B, G> {
             bell,
             closed: AtomicBool::new(false),
             words,
-            coordinator: Mutex::new(coordinator),
+            attempts,
+            coordinator,
             launches,
             launch_log: Mutex::new(launch_log),
             shards,
@@ -84,8 +90,10 @@ impl<D: Device, B: Room, G: Gate> Store<D, B, G> {
 
     /// A new caller, which has seen all that there is.
     pub fn session<R: Wait>(&self, rt: &R) -> Caller<B> {
-        let mut side = self.coordinator.lock(rt);
-        Caller::new(side.session(&self.words))
+        let mut place = self.coordinator.lock(rt);
+        let pass = place.session(&self.words);
+        let tried = place.attempts(&self.attempts);
+        Caller::new(pass, tried)
     }
 
     /// The place of the last write, by one load. The caller has then seen as many writes. It takes no lock.
@@ -129,9 +137,10 @@ impl<D: Device, B: Room, G: Gate> Store<D, B, G> {
         unreachable!()
     }
 
-    /// Opens the coordinator again, with what its devices hold; what was kept joins the list. The refusal of its opening, where that was refused.
+    /// Opens the coordinator again, with what its devices hold, once these are back from a flush; what was kept joins the list. The refusal of its opening, where
+    /// that was refused.
     pub fn restart_coordinator<R: Wait>(&self, rt: &R, alloc: Global) -> Option<Refusal> {
-        let refusal = self.coordinator.lock(rt).restart(&self.words, alloc);
+        let refusal = self.coordinator.restart(rt, &self.words, alloc);
         self.ring();
         refusal
     }

@@ -18,12 +18,14 @@ use Rattle.records.specs.contracts.record.Record as Record
 use Rattle.device.specs.declared.device.Device as Device
 use Rattle.published.specs.contracts.words.Published as Published
 use Rattle.sides.specs.declared.room.Room as Room
+use Rattle.sides.specs.contracts.attempts.Attempt as Attempt
 use Rattle.flights.specs.contracts.launch.Launch as Launch
 use Rattle.flights.specs.contracts.launch.LaunchLog as LaunchLog
+use Rattle.flights.specs.contracts.coordinator_cell.CoordinatorCell as CoordinatorCell
 use Rattle.flights.specs.contracts.shard_cell.ShardCell as ShardCell
 use Rattle.locked.specs.contracts.caller.Caller as Caller
 use Rattle.locked.specs.contracts.store.Store as Store
-use Rattle.locked.proofs.Crosses.{log_send, place_send}
+use Rattle.locked.proofs.Crosses.{log_place_send, place_send}
 
 -- at the heap, since a search finds no allocator's ghost members in a row
 list_send : (T : RattleType) → IsSend T → IsSend (Nodes.the_row T Heap.the_row ghosts)
@@ -62,19 +64,32 @@ words_sync = let a = entry_send in let b = entry_sync in search (lease_sync, sha
 launches_sync : IsSync (Published.the_row Launch.the_row)
 launches_sync = let a = launch_send in let b = launch_sync in search (lease_sync, shared.the_sync, sendable, crosses, maps_cross, sets_cross) depth 400 fits 50000
 
+attempt_send : IsSend Attempt.the_row
+attempt_send = let a = entry_send in search (sendable, crosses, maps_cross, sets_cross) depth 400 fits 50000
+
+attempt_sync : IsSync Attempt.the_row
+attempt_sync = let a = entry_sync in search (sendable, crosses, maps_cross, sets_cross) depth 400 fits 50000
+
+attempts_sync : IsSync (Published.the_row Attempt.the_row)
+attempts_sync = let a = attempt_send in let b = attempt_sync in search (lease_sync, shared.the_sync, sendable, crosses, maps_cross, sets_cross) depth 400 fits 50000
+
 launch_log_send : (B : RattleType) (h : Room.Ghosts B.Denot) → IsSend B → IsSend (LaunchLog.the_row B h)
 launch_log_send B h b = let a = launch_send in search (sendable, crosses, maps_cross, sets_cross, seat.the_send) depth 400 fits 50000
 
 cell_sync : (D B : RattleType) (g : Device.Ghosts D.Denot) (h : Room.Ghosts B.Denot) → IsSend D → IsSend B → IsSync (ShardCell.the_row D B g h)
 cell_sync D B g h d b = let p = place_send D B g h d b in search (sendable, crosses, maps_cross, sets_cross) depth 400 fits 50000
 
+log_cell_sync : (D B : RattleType) (g : Device.Ghosts D.Denot) (h : Room.Ghosts B.Denot) → IsSend D → IsSend B → IsSync (CoordinatorCell.the_row D B g h)
+log_cell_sync D B g h d b = let p = log_place_send D B g h d b in search (sendable, crosses, maps_cross, sets_cross) depth 400 fits 50000
+
 pub store_sync : (D B G : RattleType) (g : Device.Ghosts D.Denot) (h : Room.Ghosts B.Denot) → IsSend D → IsSend B → IsSync G → IsSync (Store.the_row D B G g h)
 store_sync D B G g h d b y =
-    let n = log_send D B g h d b in
+    let n = log_cell_sync D B g h d b in
     let p = cell_sync D B g h d b in
     let l = launch_log_send B h b in
     let w = words_sync in
     let v = launches_sync in
+    let t = attempts_sync in
     search (lease_send, lease_sync, shared.the_send, shared.the_sync, sendable, crosses) depth 400 fits 50000
 
 pub caller_send : (B : RattleType) (h : Room.Ghosts B.Denot) → IsSend B → IsSend (Caller.the_row B h)

@@ -14,7 +14,7 @@ use node_files::open_all;
 use published::{LogPass, Published};
 use refusal::Refusal;
 use serve_settings::ServeSettings;
-use sides::Room;
+use sides::{Attempts, Room};
 use std::alloc::Global;
 use std::marker::Brand;
 use std::net::{Net, TcpListener, TcpStream};
@@ -64,8 +64,13 @@ where
     let Ok(launches) = Launches::new(files.alloc()) else {
         return tell(rt, &Fault::Refused(Refusal::NoMemory));
     };
+    let Ok(attempts) = Attempts::new(files.alloc()) else {
+        return tell(rt, &Fault::Refused(Refusal::NoMemory));
+    };
     match Published::new(files.alloc()) {
-        Ok((words, log)) => serve_files(rt, files, settings, parker, bell, words, log, launches),
+        Ok((words, log)) => serve_files(
+            rt, files, settings, parker, bell, words, log, attempts, launches,
+        ),
         Err(_) => tell(rt, &Fault::Refused(Refusal::NoMemory)),
     }
 }
@@ -78,6 +83,7 @@ fn serve_files<R>(
     bell: Unparker,
     words: Published<Entry>,
     log: LogPass<Entry>,
+    attempts: Attempts,
     launches: Launches,
 ) -> u8
 where
@@ -97,6 +103,7 @@ where
             bell,
             words,
             log,
+            attempts,
             launches,
             devices,
         ),
@@ -116,12 +123,13 @@ pub fn serve_over<D: Device + Send, B: Room + Send + Sync, G: Gate + Sync, R>(
     bell: Unparker,
     words: Published<Entry>,
     log: LogPass<Entry>,
+    attempts: Attempts,
     launches: Launches,
     devices: Vec<D>,
 ) -> u8
 where
     R: Runtime + Net<Listener = TcpListener, Stream = TcpStream> + Threads + Wait + Sync,
-    requires own { (words ≡ B.log) × (log.table ≡ B.log) × (launches ≡ B.launches) }
+    requires own { (words ≡ B.log) × (log.table ≡ B.log) × (attempts ≡ B.attempts) × (launches ≡ B.launches) }
     requires empty { (log.seen ≡ []) × (log.horizon ≡ 0) }
     requires of { (B.store ≡ settings.now.store) × (B.shards ≡ settings.now.shards) }
     requires count { vec_len devices ≡ 2 * (settings.now.shards + 1) }
@@ -138,6 +146,7 @@ where
         bell,
         words,
         log,
+        attempts,
         launches,
         devices,
         settings.store,

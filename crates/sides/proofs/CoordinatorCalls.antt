@@ -1,5 +1,6 @@
 -- The calls of the coordinator under its lock leave it tied.
 use Rattle.std.proofs.Common.{◌≡◌, ◌≤◌, ◌<◌, ⊎_elim, ℕ, true≢false, List, [], ◌∷◌, ◌++◌, length, Result, Option, Some, Ok, Err, refl, sym, ◌∙◌, subst, ap}
+use Rattle.std.specs.Global.{Vec}
 use Rattle.std.proofs.lemmas.List.{append-nil}
 use Rattle.refusal.specs.declared.refusal.Refusal.{Refusal}
 use Rattle.tuples.specs.declared.entry.Entry.{Entry}
@@ -8,7 +9,6 @@ use Rattle.device.specs.Device.{State, left}
 use Rattle.decisions.specs.Coordinators.{CoordinatorView}
 use Rattle.decisions.specs.Standing.{DecidedValue}
 use Rattle.decisions.specs.Values.{IntentValue, SettledValue, VerdictValue, VoteValue}
-use Rattle.coordinator.specs.declared.decided.NotDecided.{NotDecided}
 use Rattle.coordinator.specs.declared.raising.NotRaised.{NotRaised}
 use Rattle.calls.specs.declared.call.NodeCall.TheVariants.{Coordinator}
 use Rattle.calls.specs.declared.call.CoordinatorCall.{CoordinatorCall}
@@ -17,16 +17,16 @@ use Rattle.calls.specs.declared.reply.Reply.{Reply}
 use Rattle.calls.specs.declared.reply.Reply.TheVariants.{Coordinator as from_coordinator}
 use Rattle.calls.specs.declared.reply.CoordinatorReply.{CoordinatorReply}
 use Rattle.calls.specs.declared.reply.CoordinatorReply.TheVariants as told
-use Rattle.calls.specs.Asking.{Answered, CoordinatorAnswers}
+use Rattle.calls.specs.Asking.{Answered, CoordinatorAnswers, Refuses}
 use Rattle.calls.specs.CoordinatorAnswers.{AbortAnswers, BeginAnswers, CheckpointAnswers, DecideAnswers, FlushAnswers, RaiseAnswers}
 use Rattle.calls.specs.Views.{NodeView, coordinator, refused}
 use Rattle.ties.specs.DecidingLaws.{attempt}
 use Rattle.ties.specs.Ties.{Attempt, IsOpenedTied, IsTied, IsTiedUp}
 use Rattle.ties.proofs.Deciding.{aborts_stay_tied, beginnings_stay_tied, decisions_stay_tied, raises_stay_tied}
 use Rattle.ties.proofs.Landing.{flushes_stay_tied, landings_stay_tied}
-use Rattle.ties.proofs.Opening.{failed_flushes_stay_tied, tied_up_is_tied, untried}
+use Rattle.ties.proofs.Opening.{failed_flushes_stay_tied, tied_up_is_tied}
 use Rattle.ties.proofs.Points.{checkpoints_stay_tied, failed_checkpoints_stay_tied}
-use Rattle.sides.specs.CoordinatorSides.{AnsweredThere, IsTiedThere}
+use Rattle.sides.specs.CoordinatorSides.{AnsweredThere, IsTiedThere, tried_by}
 use Rattle.sides.specs.Joining.{CoordinatorMayJoin, MayJoin}
 use Rattle.sides.proofs.ShardCalls.{is_up, up_or_down}
 
@@ -133,11 +133,6 @@ module _ {D : Type 0} (state : D → State) (honest : D → Type 0) (store shard
         (λ was_down. stays_joined (a.down was_down).1)
         (up_or_down old.is_down)
 
-  forgotten : (old new : CoordinatorView D) (seen : List Entry) (low : ℕ) (intent : IntentValue) (votes : List VoteValue) (r : Result DecidedValue NotDecided)
-      → IsOpenedTied state honest store shards old seen low [] → DecideAnswers state honest old intent votes r new → IsOpenedTied state honest store shards new seen low []
-  forgotten old new seen low intent votes (Ok d) tied a = untried state honest store shards new seen low (attempt d intent.write ∷ []) (decided old new seen low [] tied intent votes d a).0
-  forgotten old new seen low intent votes (Err e) tied a = unchanged old new seen low [] tied a.same
-
 -- a call that changes nothing
 abbrev pub IsQuietThere : CoordinatorCall → Type 0
 IsQuietThere Heads = Unit {0}
@@ -205,12 +200,32 @@ module _ {D : Type 0} (state : D → State) (honest : D → Type 0) (moment : D 
   pub raise_stays : (place : ℕ) (settled : _) (seen : List Entry) (low : ℕ) (tried : List Attempt) → StaysThere (Raise place settled) seen low tried
   raise_stays place settled seen low tried = stays (Raise place settled) seen low tried (keeps_raise place settled seen low tried)
 
-  keeps_decide : (intent : IntentValue) (votes : _) (seen : List Entry) (low : ℕ) → KeepsTied (Decide intent votes) seen low []
-  keeps_decide intent votes seen low old new (told.Decide r) tied a = forgotten state honest store shards old new seen low intent votes.items r tied a
-  keeps_decide intent votes seen low old new reply tied a = absurd a
+  -- Given a write that is decided, with its votes
+  module _ (intent : IntentValue) (votes : Vec VoteValue) (seen : List Entry) (low : ℕ) (tried : List Attempt) where
+    coordinator_decided : (old new : CoordinatorView D) (reply : CoordinatorReply) → IsOpenedTied state honest store shards old seen low tried → CoordinatorAnswers state honest moment left_since old (Decide intent votes) reply new
+        → IsOpenedTied state honest store shards new seen low (tried ++ tried_by intent.write (from_coordinator reply))
+    coordinator_decided old new (told.Decide (Ok d)) tied a = (decided state honest store shards old new seen low tried tied intent votes.items d a).0
+    coordinator_decided old new (told.Decide (Err e)) tied a = subst (λ (l : List Attempt). IsOpenedTied state honest store shards new seen low l) (sym (append-nil tried)) (unchanged state honest store shards old new seen low tried tied a.same)
+    coordinator_decided old new reply tied a = absurd a
 
-  pub decide_stays : (intent : IntentValue) (votes : _) (seen : List Entry) (low : ℕ) → StaysThere (Decide intent votes) seen low []
-  decide_stays intent votes seen low = stays (Decide intent votes) seen low [] (keeps_decide intent votes seen low)
+    none_by_refused : (e : Refusal) (reply : Reply) → Refuses e (Coordinator (Decide intent votes)) reply → tried_by intent.write reply ≡ []
+    none_by_refused e (from_coordinator (told.Decide (Ok d))) r = absurd r
+    none_by_refused e (from_coordinator (told.Decide (Err back))) r = refl
+    none_by_refused e reply r = absurd r
+
+    node_decided : (old : NodeView D) (reply : Reply) (new : NodeView D) → IsTied state honest store shards old seen low tried → Answered state honest moment left_since old (Coordinator (Decide intent votes)) reply new
+        → IsTied state honest store shards new seen low (tried ++ tried_by intent.write reply)
+    node_decided (coordinator old) (from_coordinator reply) (coordinator new) tied a = coordinator_decided old new reply tied a
+    node_decided (refused e x y) reply new tied a =
+        let none : tried ++ tried_by intent.write reply ≡ tried = ap (λ (l : List Attempt). tried ++ l) (none_by_refused e reply a.1) ∙ append-nil tried in
+        subst (λ (l : List Attempt). IsTied state honest store shards new seen low l) (sym none) (subst (λ (n : NodeView D). IsTied state honest store shards n seen low tried) (sym a.0) tied)
+    node_decided old reply new tied a = absurd a
+
+    -- a decision that is told is one more that was once staged
+    pub decide_stays : (old new : Option (NodeView D)) (reply : Reply) → IsTiedThere state honest store shards old seen low tried → AnsweredThere state honest moment left_since old (Decide intent votes) reply new
+        → IsTiedThere state honest store shards new seen low (tried ++ tried_by intent.write reply)
+    decide_stays (Some old) (Some new) reply tied a = node_decided old reply new tied a
+    decide_stays old new reply tied a = absurd a
 
   -- Given that what a stop may leave now is among what it may leave since an earlier moment
   module _ (counts_now : (d : D) (t : ℕ) (c : List ℕ) → honest d → t ≤ moment d → left (state d) c → left_since d t c) where

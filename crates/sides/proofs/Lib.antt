@@ -9,3 +9,4 @@ pub mod LogJoins
 pub mod Sound
 pub mod Lendings
 pub mod Lists
+pub mod LogLendings

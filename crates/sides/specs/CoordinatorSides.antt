@@ -1,5 +1,5 @@
 -- The coordinator under its lock, as its callers see it, and what each of its calls leaves of it and tells.
-use Rattle.std.specs.Prelude.{◌≡◌, false, ◌≤◌, ◌<◌, ◌-◌, ℕ, min, List, [], ◌∷◌, length, Option, Some, None, Ok}
+use Rattle.std.specs.Prelude.{◌≡◌, false, ◌≤◌, ◌<◌, ◌-◌, ℕ, min, List, [], ◌∷◌, ◌++◌, length, Option, Some, None, Ok, slice_get}
 use mathlib.Core.List.{IsPrefix}
 use Rattle.tuples.specs.declared.entry.Entry.{Entry}
 use Rattle.tuples.specs.declared.entry.WriteId.{WriteId}
@@ -25,21 +25,46 @@ use Rattle.ties.specs.TellingLaws.{IsBatchOf}
 use Rattle.ties.specs.Ties.{Attempt, IsTied}
 use Rattle.sides.specs.Sides.{IsLater}
 
--- The node, the whole list of writes, and the horizon. The node is always there; only while it is opened again it is away.
+-- The node, the whole list of writes, the horizon, and all decisions that were once staged. The node is always there; only while it is opened again it is
+-- away.
 pub record LogSide (D : Type 0) : Type 0 where
   pub node : Option (NodeView D)
   pub seen : List Entry
   pub low : ℕ
+  pub tried : List Attempt
 
--- the list is as it was
-pub record HasSameList {D : Type 0} (old new : LogSide D) : Type 0 where
+-- the list is as it was, and no decision more was staged
+pub record HasSameList {D E : Type 0} (old : LogSide D) (new : LogSide E) : Type 0 where
   pub seen : new.seen ≡ old.seen
   pub low : new.low ≡ old.low
+  pub tried : new.tried ≡ old.tried
 
--- the list is no shorter, and the horizon no lower
-pub record HasLaterList {D : Type 0} (old new : LogSide D) : Type 0 where
+-- the list is no shorter, and the horizon no lower; no decision more was staged
+pub record HasLaterList {D E : Type 0} (old : LogSide D) (new : LogSide E) : Type 0 where
   pub seen : IsPrefix old.seen new.seen
   pub low : old.low ≤ new.low
+  pub tried : new.tried ≡ old.tried
+
+-- the decision of this write that a reply tells as staged
+abbrev pub tried_by : Entry → Reply → List Attempt
+tried_by w (from_coordinator (told.Decide (Ok decided))) = attempt decided w ∷ []
+tried_by w reply = []
+
+-- the list is as it was, and what the reply tells as staged is one decision more
+pub record AddsTried {D : Type 0} (old : LogSide D) (w : Entry) (reply : Reply) (new : LogSide D) : Type 0 where
+  pub seen : new.seen ≡ old.seen
+  pub low : new.low ≡ old.low
+  pub tried : new.tried ≡ old.tried ++ tried_by w reply
+
+-- a caller's pass knows all decisions that were once staged, and what it knew
+pub record KnowsTried {D : Type 0} (old : Known Attempt) (side : LogSide D) (new : Known Attempt) : Type 0 where
+  pub table : new.table ≡ old.table
+  pub was : IsPrefix old.seen new.seen
+  pub all : new.seen ≡ side.tried
+
+-- among these decisions, once staged, is one of this write
+abbrev pub IsTried : List Attempt → DecidedValue → Entry → Type 0
+IsTried tried decided w = (j : ℕ) × (slice_get tried j ≡ Some (attempt decided w))
 
 -- a caller's pass knows all that there is, and what it knew
 pub record KnowsAll {D : Type 0} (old : Known Entry) (side : LogSide D) (new : Known Entry) : Type 0 where
@@ -102,17 +127,17 @@ module _ {D : Type 0} (state : D → State) (honest : D → Type 0) (store shard
   IsTiedThere (Some node) seen low tried = IsTied state honest store shards node seen low tried
   IsTiedThere None seen low tried = ⊥
 
-  -- of these decisions, once staged, it is known what becomes of them
-  abbrev pub HasTried : LogSide D → List Attempt → Type 0
-  HasTried side tried = IsTiedThere side.node side.seen side.low tried
+  -- the node is tied to the list, and to all decisions that were once staged
+  abbrev pub IsTiedSide : LogSide D → Type 0
+  IsTiedSide side = IsTiedThere side.node side.seen side.low side.tried
 
-  -- a decision that is staged is of this write, at a place above all that there is
-  abbrev pub TellsDecided : LogSide D → Entry → Reply → Type 0
-  TellsDecided side w (from_coordinator (told.Decide (Ok decided))) = (length side.seen < decided.place) × HasTried side (attempt decided w ∷ [])
-  TellsDecided side w reply = Unit {0}
+-- a decision that is staged is at a place above all that there is
+abbrev pub TellsDecided : List Entry → Reply → Type 0
+TellsDecided seen (from_coordinator (told.Decide (Ok decided))) = length seen < decided.place
+TellsDecided seen reply = Unit {0}
 
-  -- A decision that is kept has its place. Where it was one of this write, that stands there in the list, its id once. One that is not kept yet comes back.
-  abbrev pub TellsKept : LogSide D → DecidedValue → Reply → Type 0
-  TellsKept side decided (from_coordinator (told.Outcome (Kept place))) = (place ≡ decided.place) × ((w : Entry) → HasTried side (attempt decided w ∷ []) → StandsAt place w side.seen)
-  TellsKept side decided (from_coordinator (told.Outcome (Later back))) = back ≡ decided
-  TellsKept side decided reply = Unit {0}
+-- A decision that is kept has its place. Where it is known as one of a write, that stands there in the list, its id once. One that is not kept yet comes back.
+abbrev pub TellsKept : List Entry → List Attempt → DecidedValue → Reply → Type 0
+TellsKept seen tried decided (from_coordinator (told.Outcome (Kept place))) = (place ≡ decided.place) × ((w : Entry) → IsTried tried decided w → StandsAt place w seen)
+TellsKept seen tried decided (from_coordinator (told.Outcome (Later back))) = back ≡ decided
+TellsKept seen tried decided reply = Unit {0}

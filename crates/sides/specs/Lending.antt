@@ -1,14 +1,20 @@
--- A shard under its lock whose devices are elsewhere, and what it is once they are back.
-use Rattle.std.specs.Prelude.{◌≡◌, ℕ, false, List, Option, Some, None}
+-- A node under its lock whose devices are elsewhere, and what it is once they are back.
+use Rattle.std.specs.Prelude.{◌≡◌, ◌⊎◌, ◌++◌, ℕ, false, List, take, Option, Some, None, Ok}
 use Rattle.tuples.specs.declared.entry.Entry.{Entry}
+use Rattle.records.specs.declared.record.Record.{Record}
 use Rattle.records.specs.Replays.{shard_state}
-use Rattle.device.specs.Device.{State}
+use Rattle.device.specs.Device.{State, left}
 use Rattle.away.specs.declared.away.Away.{Away}
-use Rattle.journal.specs.Records.{View}
+use Rattle.journal.specs.Records.{Finds, View}
+use Rattle.decisions.specs.Coordinators.{CoordinatorView}
 use Rattle.shard.specs.Shards.{IsUp, ShardView}
 use Rattle.calls.specs.Lending.{NodeLands, NodeLends, NodeMayLand}
 use Rattle.calls.specs.Views.{NodeView, coordinator, refused, shard}
+use Rattle.calls.specs.declared.reply.Reply.{Reply}
+use Rattle.calls.specs.declared.reply.Reply.TheVariants.{Coordinator as from_coordinator}
+use Rattle.calls.specs.declared.reply.CoordinatorReply.TheVariants as told
 use Rattle.calls.specs.declared.lending.Flying.{Flying}
+use Rattle.calls.specs.declared.lending.Flying.TheVariants.{Coordinator}
 use Rattle.ties.specs.ShardTies.{AreRowsOf, RowsAnywhere}
 
 -- the node is a shard that is up
@@ -17,6 +23,22 @@ IsUpIn (Some (shard v)) = v.is_down ≡ false
 IsUpIn (Some (coordinator v)) = ⊥
 IsUpIn (Some (refused e a b)) = ⊥
 IsUpIn None = ⊥
+
+-- the node is a coordinator that is up
+abbrev pub IsUpThere : {D : Type 0} → Option (NodeView D) → Type 0
+IsUpThere (Some (coordinator v)) = v.is_down ≡ false
+IsUpThere (Some (shard v)) = ⊥
+IsUpThere (Some (refused e a b)) = ⊥
+IsUpThere None = ⊥
+
+-- it is told that a flush went well
+abbrev pub IsFlushed : Reply → Type 0
+IsFlushed (from_coordinator (told.Flush (Ok done))) = Unit {0}
+IsFlushed reply = ⊥
+
+-- that is told of a coordinator that is up
+abbrev pub FlushTellsUp : {D : Type 0} → Option (NodeView D) → Reply → Type 0
+FlushTellsUp node reply = IsFlushed reply → IsUpThere node
 
 module _ {D : Type 0} (state : D → State) (honest : D → Type 0) where
   -- while the shard is up its honest devices have its records, whatever list these stand for
@@ -50,3 +72,14 @@ module _ {D : Type 0} (state : D → State) (honest : D → Type 0) where
   pub record LandsRows (shards s : ℕ) (flown : View D) (seen : List Entry) (low : ℕ) : Type 0 where
     pub kept : flown.is_down ≡ false → AreRowsOf shards s seen low (shard_state flown.durable)
     pub anywhere : RowsAnywhere state honest shards s flown.a flown.b seen low
+
+  -- The coordinator that stayed is up. The devices that come back are honest, and a stop leaves of them what was durable as they left, with what flew or without.
+  pub record ComesBack (v : CoordinatorView (Away D)) (flown : View D) (count : ℕ) : Type 0 where
+    pub up : v.is_down ≡ false
+    pub honest_a : honest flown.a
+    pub honest_b : honest flown.b
+    pub leaves : (rs : List Record) → Finds (left (state flown.a)) (left (state flown.b)) rs → (rs ≡ v.durable) ⊎ (rs ≡ v.durable ++ take count v.staged)
+
+  abbrev pub ComesBackIn : Option (NodeView (Away D)) → View D → Flying → Type 0
+  ComesBackIn (Some (coordinator v)) flown (Coordinator flying) = ComesBack v flown flying.sent.count
+  ComesBackIn node flown flying = ⊥

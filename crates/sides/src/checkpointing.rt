@@ -1,11 +1,10 @@
 // A node's records are replaced by a checkpoint of what it knows.
-ghost use Rattle.std.specs.Prelude.{◌≡◌, List};
+ghost use Rattle.std.specs.Prelude.{◌≡◌};
 ghost use Rattle.calls.specs.Refusing.{Notes};
 ghost use Rattle.calls.specs.declared.call.CoordinatorCall.TheVariants.{Checkpoint as log_checkpoint_call};
 ghost use Rattle.calls.specs.declared.call.ShardCall.TheVariants.{Checkpoint as checkpoint_call};
-ghost use Rattle.sides.specs.CoordinatorSides.{CoordinatorSideAnswers, HasLaterList, HasTried, KnowsAll};
+ghost use Rattle.sides.specs.CoordinatorSides.{CoordinatorSideAnswers, HasLaterList, KnowsAll};
 ghost use Rattle.sides.specs.Sides.{SideAnswers};
-ghost use Rattle.ties.specs.Ties.{Attempt};
 
 use crate::coordinator_side::ask_coordinator;
 use crate::joining::join;
@@ -42,7 +41,6 @@ impl<D: Device, B: Room> CoordinatorSide<D, B> {
         ensures answers { CoordinatorSideAnswers D.state D.honest D.moment D.left_since self.old log_checkpoint_call result self.new }
         ensures list { HasLaterList self.old self.new }
         ensures caller { KnowsAll pass.old self.new pass.new }
-        ensures tried { B.rests → (tried : List Attempt) → HasTried D.state D.honest B.store B.shards self.old tried → HasTried D.state D.honest B.store B.shards self.new tried }
         ensures told { Notes told.old result told.new }
     {
         let reply = ask_coordinator(&mut self.node, CoordinatorCall::Checkpoint, told);

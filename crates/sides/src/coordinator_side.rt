@@ -1,12 +1,12 @@
 // What lies under the coordinator's lock.
-ghost use Rattle.std.specs.Prelude.{◌≡◌, []};
+ghost use Rattle.std.specs.Prelude.{◌≡◌, ◌↔◌, ◌+◌, ◌<◌, ◌^◌, IsTrue, length};
 ghost use Rattle.calls.specs.Belonging.{IsReplyTo};
 ghost use Rattle.calls.specs.Refusing.{Notes};
 ghost use Rattle.calls.specs.declared.call.NodeCall.TheVariants.{Coordinator as of_coordinator};
-ghost use Rattle.sides.specs.CoordinatorSides.{AnsweredThere, HasTried, MayAskThere};
+ghost use Rattle.sides.specs.CoordinatorSides.{AnsweredThere, IsSoundThere, IsTiedSide, MayAskThere};
 ghost use Rattle.sides.specs.Sides.{bank_len_in};
 
-use crate::Room;
+use crate::{Attempt, Room};
 use calls::{CoordinatorCall, Node, NodeCall, Reply, Told, ask};
 use device::Device;
 use published::{LogPass, Published, SessionPass};
@@ -14,29 +14,30 @@ use records::Identity;
 use std::marker::{Model, PhantomData};
 use tuples::Entry;
 
-/// The coordinator, and the pass that alone moves its store's list.
+/// The coordinator, the pass that alone moves its store's list, and that which alone adds to all decisions that were ever staged.
 ///
-/// Each call of the node is a call here, and leaves it tied to the list. One that tells of the list, or of a place in it, takes the caller's pass,
-/// which then knows all that there is.
+/// Each call of the node is a call here, and leaves it tied to both. One that tells of the list, or of a place in it, takes the caller's pass,
+/// which then knows all that there is; and so does one that stages a decision, or tells what became of it, with the caller's pass of those.
 #[derive(Drop)]
 pub struct CoordinatorSide<D: Device, B: Room> {
     // away only while it is opened again
     pub(crate) node: Option<Node<D>>,
     pub(crate) me: Identity,
     pub(crate) log: LogPass<Entry>,
+    pub(crate) attempts: LogPass<Attempt>,
     pub(crate) room: PhantomData<B>,
 }
 
 impl<D: Device, B: Room> Model for CoordinatorSide<D, B> {
-    ghost use Rattle.std.specs.Prelude.{◌≡◌, []};
+    ghost use Rattle.std.specs.Prelude.{◌≡◌};
     ghost use Rattle.laws.specs.Worlds.{coordinator_node};
     ghost use Rattle.sides.specs.CoordinatorSides.{IsSoundThere, IsTiedThere, LogSide};
 
     ghost Value = { LogSide D };
 
-    ghost view = { λ s. record { node = s.node; seen = s.log.seen; low = s.log.horizon } };
+    ghost view = { λ s. record { node = s.node; seen = s.log.seen; low = s.log.horizon; tried = s.attempts.seen } };
 
-    ghost invariant = { λ s. (s.log.table ≡ B.log) × (s.me ≡ coordinator_node B.store B.shards) × IsSoundThere D.state D.honest B.store B.shards s.node × (B.rests → IsTiedThere D.state D.honest B.store B.shards s.node s.log.seen s.log.horizon []) };
+    ghost invariant = { λ s. (s.log.table ≡ B.log) × (s.me ≡ coordinator_node B.store B.shards) × IsSoundThere D.state D.honest B.store B.shards s.node × (B.rests → IsTiedThere D.state D.honest B.store B.shards s.node s.log.seen s.log.horizon s.attempts.seen) × (s.attempts.table ≡ B.attempts) };
 }
 
 // Makes the one call, of the node, which is there.
@@ -57,9 +58,10 @@ pub(crate) fn ask_coordinator<D: Device>(
 }
 
 impl<D: Device, B: Room> CoordinatorSide<D, B> {
-    /// What it keeps whatever is called: the coordinator is tied to the list.
+    /// What it keeps whatever is called: the coordinator is tied to the list, and to all decisions that were ever staged.
     pub fn keeps(&self)
-        ensures tied { B.rests → HasTried D.state D.honest B.store B.shards self.now [] }
+        ensures sound { IsSoundThere D.state D.honest B.store B.shards self.now.node }
+        ensures tied { B.rests → IsTiedSide D.state D.honest B.store B.shards self.now }
     {
         let _me = self.me.node();
     }
@@ -81,5 +83,24 @@ impl<D: Device, B: Room> CoordinatorSide<D, B> {
         ensures pass { result ≡ record { table = B.log; seen = self.new.seen; horizon = self.new.low } }
     {
         words.session(&mut self.log)
+    }
+
+    /// A new pass for a caller that writes, which knows all decisions that were ever staged.
+    pub fn attempts(&mut self, attempts: &Published<Attempt>) -> SessionPass<Attempt>
+        requires own { attempts.now ≡ B.attempts }
+        ensures same { self.new ≡ self.old }
+        ensures own { result.table ≡ B.attempts }
+        ensures all { result.seen ≡ self.new.tried }
+    {
+        attempts.session(&mut self.attempts)
+    }
+
+    /// Whether a decision more can be counted among all that were ever staged.
+    pub fn may_decide(&mut self, attempts: &Published<Attempt>) -> bool
+        requires own { attempts.now ≡ B.attempts }
+        ensures same { self.new ≡ self.old }
+        ensures room { IsTrue result ↔ (length self.old.tried + 1 < 2 ^ 64) }
+    {
+        attempts.length(&mut self.attempts) < u64::MAX
     }
 }

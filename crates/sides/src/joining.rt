@@ -151,8 +151,8 @@ fn heads_of(reply: Reply) -> Option<Heads>
     }
 }
 
-// How far the coordinator is, where it is up.
-fn ask_heads<D: Device>(node: &mut Option<Node<D>>) -> Option<Heads>
+/// How far the coordinator is, where it is up.
+pub(crate) fn ask_heads<D: Device>(node: &mut Option<Node<D>>) -> Option<Heads>
     requires { MayAskThere node.old heads_call }
     ensures same { node.new ≡ node.old }
     ensures heads { AreHeadsOf D.state D.honest node.old result }

@@ -3,14 +3,17 @@
 //! Keeps: the node is tied to the list of writes that the pass beside it has seen, whatever was called.
 //! Never: takes a lock, waits, or tells of a write that the caller's pass has not seen.
 //! Callers rely on: what a pass had seen it sees behind each call, what is told of the list is of what it has seen then, and a decision that is told as
-//! kept stands in the list there, above all that the caller had seen when it was made.
+//! kept stands in the list there, above all that the caller had seen when it was made. A node's devices may leave and come back between its calls: it is tied
+//! as it was, and what they made durable joins the list as they come.
 //!
 //! Start at `specs/Sides.antt`, and then `ShardSide`; at `specs/CoordinatorSides.antt`, and then `CoordinatorSide`.
 #![tactic(auto)]
 
+mod attempts;
 mod checking;
 mod checkpointing;
 mod collecting;
+mod coordinator_lending;
 mod coordinator_side;
 mod joining;
 mod keeping;
@@ -26,6 +29,8 @@ mod shard_side;
 mod telling;
 mod writing;
 
+pub use attempts::{Attempt, Attempts};
+pub use coordinator_lending::LentCoordinator;
 pub use coordinator_side::CoordinatorSide;
 pub use lending::LentShard;
 pub use room::Room;

@@ -10,7 +10,7 @@ ghost use Rattle.ties.specs.Ties.{Anywhere};
 
 use crate::joining::{begin, join};
 use crate::reopening::revive;
-use crate::{CoordinatorSide, Room};
+use crate::{Attempt, CoordinatorSide, Room};
 use calls::Node;
 use device::Device;
 use published::{LogPass, Published};
@@ -61,9 +61,10 @@ impl<D: Device, B: Room> CoordinatorSide<D, B> {
         b: D,
         me: Identity,
         log: LogPass<Entry>,
+        attempts: LogPass<Attempt>,
     ) -> Result<CoordinatorSide<D, B>, Refusal>
-        requires own { (words.now ≡ B.log) × (log.table ≡ B.log) }
-        requires empty { (log.seen ≡ []) × (log.horizon ≡ 0) }
+        requires own { (words.now ≡ B.log) × (log.table ≡ B.log) × (attempts.table ≡ B.attempts) }
+        requires empty { (log.seen ≡ []) × (log.horizon ≡ 0) × (attempts.seen ≡ []) }
         requires me { me ≡ coordinator_node B.store B.shards }
         requires honest { D.honest a × D.honest b }
         requires anywhere { B.rests → Anywhere D.state D.honest a b B.first B.low [] }
@@ -82,6 +83,7 @@ impl<D: Device, B: Room> CoordinatorSide<D, B> {
             node,
             me,
             log,
+            attempts,
             room: PhantomData,
         })
     }

@@ -10,6 +10,9 @@ pub trait Room {
     /// The words whose passes stand for the list of its writes.
     ghost log: { TableId };
 
+    /// The words whose passes stand for the list of all decisions that its coordinator has ever staged.
+    ghost attempts: { TableId };
+
     /// The words whose passes stand for the list of the flights of its nodes.
     ghost launches: { TableId };
 
@@ -34,6 +37,8 @@ impl Room for Brand {
     ghost use Rattle.std.specs.Prelude.{[]};
 
     ghost log = { no_table };
+
+    ghost attempts = { no_table };
 
     ghost launches = { no_table };
 

@@ -1,18 +1,19 @@
 // A write at the coordinator, from its beginning to its place in the list.
-ghost use Rattle.std.specs.Prelude.{◌≡◌, List};
+ghost use Rattle.std.specs.Prelude.{◌≡◌, ◌+◌, ◌<◌, ◌^◌, length};
 ghost use Rattle.calls.specs.Refusing.{Notes};
 ghost use Rattle.calls.specs.declared.call.CoordinatorCall.TheVariants.{Abort as abort_call, Begin as begin_call, Decide as decide_call, Outcome as outcome_call};
 ghost use Rattle.decisions.specs.Coordinators.{HaveVoted};
-ghost use Rattle.sides.specs.CoordinatorSides.{CoordinatorSideAnswers, HasSameList, HasTried, KnowsAll, TellsBegun, TellsDecided, TellsKept};
-ghost use Rattle.ties.specs.Ties.{Attempt};
+ghost use Rattle.sides.specs.CoordinatorSides.{AddsTried, CoordinatorSideAnswers, HasSameList, KnowsAll, KnowsTried, TellsBegun, TellsDecided, TellsKept};
 
+use crate::attempts::note_decision;
 use crate::coordinator_side::ask_coordinator;
-use crate::{CoordinatorSide, Room};
+use crate::{Attempt, CoordinatorSide, Room};
 use calls::{CoordinatorCall, Reply, Told};
 use coordinator::Decided;
 use decisions::{Intent, Vote};
 use device::Device;
 use published::{Published, SessionPass};
+use std::snapshot::Snapshot;
 use tuples::{Entry, Write};
 
 impl<D: Device, B: Room> CoordinatorSide<D, B> {
@@ -27,45 +28,58 @@ impl<D: Device, B: Room> CoordinatorSide<D, B> {
     }
 
     /// Stages the decision of an open write by the votes of all its participants. It is in the list once it is flushed; whoever waits for that asks for
-    /// its outcome under the same hold of the lock, since nobody who is let in between knows of this decision.
+    /// its outcome then, with the pass that knows of it. It has to be asked first whether one decision more can be counted.
     pub fn decide(
         &mut self,
         words: &Published<Entry>,
+        attempts: &Published<Attempt>,
         pass: &mut SessionPass<Entry>,
+        tried: &mut SessionPass<Attempt>,
         told: &mut Told,
         intent: Intent,
         votes: Vec<Vote>,
     ) -> Reply
         requires own { (words.now ≡ B.log) × (pass.old.table ≡ B.log) }
+        requires own_attempts { (attempts.now ≡ B.attempts) × (tried.old.table ≡ B.attempts) }
+        requires room { length self.old.tried + 1 < 2 ^ 64 }
         requires voted { HaveVoted B.shards intent.write votes.items }
         ensures answers { CoordinatorSideAnswers D.state D.honest D.moment D.left_since self.old (decide_call intent votes) result self.new }
-        ensures list { HasSameList self.old self.new }
+        ensures list { AddsTried self.old intent.write result self.new }
         ensures caller { KnowsAll pass.old self.new pass.new }
-        ensures decided { B.rests → TellsDecided D.state D.honest B.store B.shards self.new intent.write result }
+        ensures known { KnowsTried tried.old self.new tried.new }
+        ensures decided { B.rests → TellsDecided pass.new.seen result }
         ensures told { Notes told.old result told.new }
     {
         words.meet(&mut self.log, pass);
+        let was = Snapshot::of(&intent);
         let call = CoordinatorCall::Decide(intent, votes);
-        ask_coordinator(&mut self.node, call, told)
+        let reply = ask_coordinator(&mut self.node, call, told);
+        note_decision(attempts, &mut self.attempts, &was, &reply);
+        attempts.meet(&mut self.attempts, tried);
+        reply
     }
 
     /// What became of a decision.
     pub fn outcome(
         &mut self,
         words: &Published<Entry>,
+        attempts: &Published<Attempt>,
         pass: &mut SessionPass<Entry>,
+        tried: &mut SessionPass<Attempt>,
         told: &mut Told,
         decided: Decided,
     ) -> Reply
         requires own { (words.now ≡ B.log) × (pass.old.table ≡ B.log) }
+        requires own_attempts { (attempts.now ≡ B.attempts) × (tried.old.table ≡ B.attempts) }
         ensures answers { CoordinatorSideAnswers D.state D.honest D.moment D.left_since self.old (outcome_call decided) result self.new }
         ensures list { HasSameList self.old self.new }
         ensures caller { KnowsAll pass.old self.new pass.new }
-        ensures kept { B.rests → TellsKept D.state D.honest B.store B.shards self.old decided result }
-        ensures tried { B.rests → (tried : List Attempt) → HasTried D.state D.honest B.store B.shards self.old tried → HasTried D.state D.honest B.store B.shards self.new tried }
+        ensures known { KnowsTried tried.old self.new tried.new }
+        ensures kept { B.rests → TellsKept pass.new.seen tried.new.seen decided result }
         ensures told { Notes told.old result told.new }
     {
         words.meet(&mut self.log, pass);
+        attempts.meet(&mut self.attempts, tried);
         ask_coordinator(&mut self.node, CoordinatorCall::Outcome(decided), told)
     }
 

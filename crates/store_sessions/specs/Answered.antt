@@ -14,7 +14,7 @@ use Rattle.answers.specs.declared.answer.Answer.{Answer}
 use Rattle.answers.specs.declared.answer.Answer.TheVariants as answer
 use Rattle.sides.specs.Sides.{IsLater}
 use Rattle.locked.specs.Answering.{CheckEnds, ReadEnds, WatchEnds}
-use Rattle.locked.specs.Holding.{WriteEnds}
+use Rattle.locked.specs.Writing.{WriteEnds}
 
 -- Given how long the list was that the caller had seen, and the list that it has then seen
 module _ (before : ℕ) (seen : List Entry) where

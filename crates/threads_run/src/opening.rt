@@ -11,7 +11,7 @@ use device::{Device, SimDisk};
 use flights::Launches;
 use locked::{Gate, Store, new_bell};
 use published::{LogPass, Published};
-use sides::Room;
+use sides::{Attempts, Room};
 use std::alloc::Global;
 use std::marker::Brand;
 use std::rt::Runtime;
@@ -46,8 +46,13 @@ fn run_with_bell<R: Runtime + Threads + Wait + Sync>(
     let Ok(launches) = Launches::new(alloc) else {
         return FAILED;
     };
+    let Ok(attempts) = Attempts::new(alloc) else {
+        return FAILED;
+    };
     match Published::new(alloc) {
-        Ok((words, log)) => run_over_words(rt, alloc, parker, bell, words, log, launches, asked),
+        Ok((words, log)) => run_over_words(
+            rt, alloc, parker, bell, words, log, attempts, launches, asked,
+        ),
         Err(_) => FAILED,
     }
 }
@@ -59,6 +64,7 @@ fn run_over_words<R: Runtime + Threads + Wait + Sync>(
     bell: Unparker,
     words: Published<Entry>,
     log: LogPass<Entry>,
+    attempts: Attempts,
     launches: Launches,
     asked: Asked,
 ) -> u8
@@ -68,7 +74,7 @@ fn run_over_words<R: Runtime + Threads + Wait + Sync>(
     let meeting = Meeting::of(asked.guests());
     match new_disks(alloc, SHARDS, asked.failing()) {
         Ok(disks) => run_over::<SimDisk, Brand, R>(
-            rt, alloc, parker, bell, &meeting, words, log, launches, disks, asked,
+            rt, alloc, parker, bell, &meeting, words, log, attempts, launches, disks, asked,
         ),
         Err(_) => FAILED,
     }
@@ -82,11 +88,12 @@ fn run_over<D: Device + Send, B: Room + Send + Sync, R: Runtime + Threads + Wait
     meeting: &Meeting,
     words: Published<Entry>,
     log: LogPass<Entry>,
+    attempts: Attempts,
     launches: Launches,
     devices: Vec<D>,
     asked: Asked,
 ) -> u8
-    requires own { (words ≡ B.log) × (log.table ≡ B.log) × (launches ≡ B.launches) }
+    requires own { (words ≡ B.log) × (log.table ≡ B.log) × (attempts ≡ B.attempts) × (launches ≡ B.launches) }
     requires empty { (log.seen ≡ []) × (log.horizon ≡ 0) }
     requires of { (B.store ≡ STORE) × (B.shards ≡ SHARDS) }
     requires count { vec_len devices ≡ 2 * (SHARDS + 1) }
@@ -100,6 +107,7 @@ fn run_over<D: Device + Send, B: Room + Send + Sync, R: Runtime + Threads + Wait
         bell,
         words,
         log,
+        attempts,
         launches,
         devices,
         STORE,

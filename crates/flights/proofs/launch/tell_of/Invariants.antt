@@ -3,4 +3,4 @@ use Rattle.flights.specs.Flights.{launch_of}
 use Rattle.flights.proofs.launch.tell_of.Given as goal
 
 abbrev pub ghosts-announce : goal.ghosts-announce
-ghosts-announce g a = record { added = launch_of a.flight.now ∷ [] }
+ghosts-announce g a = record { added = launch_of a.flight.now a.flying ∷ [] }

@@ -17,6 +17,7 @@ rests_in shards first devices state = IsAtRest state (λ d. Unit {0}) shards fir
 abbrev pub ghosts-serve_over : goal.ghosts-serve_over
 ghosts-serve_over g a = record {
   log = a.words;
+  attempts = a.attempts;
   launches = a.launches;
   store = a.settings.now.store;
   shards = a.settings.now.shards;

@@ -2,7 +2,7 @@ use Rattle.std.proofs.Common.{arith, sym, subst}
 use Rattle.refusal.specs.declared.refusal.Refusal.TheVariants.{Damaged}
 use Rattle.calls.specs.declared.call.NodeCall.TheVariants.{Shard}
 use Rattle.calls.specs.declared.call.ShardCall.{ShardCall}
-use Rattle.locked.specs.Serving.{Serves}
+use Rattle.flights.specs.Serving.{Serves}
 use Rattle.locked.proofs.Served.{absent_is_noticed, absent_serves, checkpoint_serves, flush_serves}
 use Rattle.locked.proofs.store.Store.make_at.Goals as goal
 
@@ -11,14 +11,14 @@ returns-then-shard-self-clause-told g c = absent_is_noticed c.args.told.now g.B.
 
 pub returns-in-Flush-clause-serves : goal.returns-in-Flush-clause-serves
 returns-in-Flush-clause-serves g c =
-    subst (λ (call : ShardCall). Serves g.B.Room.rests g.B.Room.shards c.args.caller.now c.args.caller.now (Shard c.args.shard call) c.flush.result) (sym c.in-Flush.is)
-    (flush_serves g.B.Room.rests g.B.Room.shards c.args.shard c.args.caller.now c.flush.result (c.flush.ensures.belongs c.args.shard))
+    subst (λ (call : ShardCall). Serves g.B.Room.rests g.B.Room.shards c.args.pass.now c.args.pass.now (Shard c.args.shard call) c.flush.result) (sym c.in-Flush.is)
+    (flush_serves g.B.Room.rests g.B.Room.shards c.args.shard c.args.pass.now c.flush.result (c.flush.ensures.belongs c.args.shard))
 
 pub returns-in-Checkpoint-clause-serves : goal.returns-in-Checkpoint-clause-serves
 returns-in-Checkpoint-clause-serves g c =
-    subst (λ (call : ShardCall). Serves g.B.Room.rests g.B.Room.shards c.args.caller.now c.args.caller.now (Shard c.args.shard call) c.checkpoint.result) (sym c.in-Checkpoint.is)
-    (checkpoint_serves g.B.Room.rests g.B.Room.shards c.args.shard c.args.caller.now c.checkpoint.result (c.checkpoint.ensures.belongs c.args.shard))
+    subst (λ (call : ShardCall). Serves g.B.Room.rests g.B.Room.shards c.args.pass.now c.args.pass.now (Shard c.args.shard call) c.checkpoint.result) (sym c.in-Checkpoint.is)
+    (checkpoint_serves g.B.Room.rests g.B.Room.shards c.args.shard c.args.pass.now c.checkpoint.result (c.checkpoint.ensures.belongs c.args.shard))
 
 pub returns-then-shard-self-clause-serves : goal.returns-then-shard-self-clause-serves
 returns-then-shard-self-clause-serves g c =
-    absent_serves g.B.Room.rests g.B.Room.shards c.args.shard c.args.caller.now Damaged c.args.call c.refuse.result c.refuse.ensures.refuses c.refuse.ensures.belongs
+    absent_serves g.B.Room.rests g.B.Room.shards c.args.shard c.args.pass.now Damaged c.args.call c.refuse.result c.refuse.ensures.refuses c.refuse.ensures.belongs

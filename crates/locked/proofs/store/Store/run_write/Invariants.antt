@@ -1,8 +1,9 @@
 use Rattle.std.proofs.Common.{◌≡◌, ◌≤◌, ℕ, length, None}
 use Rattle.tuples.specs.Writes.{WriteValue}
-use Rattle.flow_ties.specs.Writes.{IsWriteOf, RefusesAsTold}
+use Rattle.flights.specs.Serving.{KnowsMore}
+use Rattle.flow_ties.specs.Writes.{RefusesAsTold}
 use Rattle.sides.specs.Sides.{IsLater}
-use Rattle.locked.specs.Holding.{of_none}
+use Rattle.locked.specs.Writing.{IsKnownWriteOf}
 use Rattle.locked.proofs.store.Store.run_write.Given as goal
 
 abbrev pub invariant-loop : goal.invariant-loop
@@ -10,7 +11,8 @@ invariant-loop g l = record {
   runs : (goal.iterator-loop g).can_next l.iterator' × (goal.iterator-loop g).is_finite l.iterator';
   of : l.flow.shards ≡ g.B.Room.shards;
   rests : l.flow.seen.awaited ≡ None;
-  later : IsLater l.initial.caller l.caller;
-  held : g.B.Room.rests → (asked : WriteValue) (above : ℕ) → above ≤ length l.initial.caller.seen → IsWriteOf of_none asked above l.initial.caller.seen l.initial.flow.seen → IsWriteOf of_none asked above l.caller.seen l.flow.seen;
+  later : IsLater l.initial.pass l.pass;
+  known : KnowsMore l.initial.tried l.tried;
+  held : g.B.Room.rests → (asked : WriteValue) (above : ℕ) → above ≤ length l.initial.pass.seen → IsKnownWriteOf l.initial.tried.seen asked above l.initial.pass.seen l.initial.flow.seen → IsKnownWriteOf l.tried.seen asked above l.pass.seen l.flow.seen;
   told : RefusesAsTold g.B.Room.shards l.initial.told l.initial.flow.seen → RefusesAsTold g.B.Room.shards l.told l.flow.seen;
 }

@@ -1,22 +1,29 @@
 use Rattle.std.proofs.Common.{◌∙◌, inl, Some, length, ap, arith, subst, sym}
+use Rattle.tuples.specs.declared.entry.Entry.{Entry}
+use Rattle.published.specs.Known.{Known}
 use Rattle.commit_flow.specs.Flows.{WriteFlowValue}
 use Rattle.commit_flow.specs.declared.end.WriteEnd.{WriteEnd}
-use Rattle.flow_ties.specs.Writes.{IsWriteOf, RefusesAsTold}
+use Rattle.flow_ties.specs.Writes.{RefusesAsTold}
 use Rattle.flow_ties.proofs.SeenWrites.{writes_begin}
 use Rattle.flow_ties.proofs.ToldWrites.{writes_begin_untold}
-use Rattle.locked.specs.Holding.{of_none}
+use Rattle.sides.specs.CoordinatorSides.{IsTried}
+use Rattle.locked.specs.Writing.{IsKnownWriteOf}
 use Rattle.locked.proofs.store.Store.write.Goals as goal
 
 pub run_write-flow-requires-clause-asked : goal.run_write-flow-requires-clause-asked
 run_write-flow-requires-clause-asked g c =
-    let seen = c.args.caller.now.seen in
-    (c.args.write, subst (IsWriteOf of_none c.args.write (length seen) seen) (sym (ap (λ (f : WriteFlowValue). f.seen) c.in-Ok.ensures.ok)) (writes_begin of_none c.args.write (length seen) seen))
+    let seen = c.caller.inside.pass.seen in
+    let tried = c.caller.inside.tried.seen in
+    (c.args.write, subst (IsKnownWriteOf tried c.args.write (length seen) seen) (sym (ap (λ (f : WriteFlowValue). f.seen) c.in-Ok.ensures.ok)) (writes_begin (IsTried tried) c.args.write (length seen) seen))
 
 pub returns-clause-wrote : goal.returns-clause-wrote
 returns-clause-wrote g c rests place is =
-    let seen = c.args.caller.now.seen in
-    let begins = subst (IsWriteOf of_none c.args.write (length seen) seen) (sym (ap (λ (f : WriteFlowValue). f.seen) c.in-Ok.ensures.ok)) (writes_begin of_none c.args.write (length seen) seen) in
-    let so_far = c.run_write-flow.ensures.held rests c.args.write (length seen) (omega (arith)) begins in
+    let seen = c.caller.inside.pass.seen in
+    let above = length c.args.caller.now.seen in
+    let tried = c.caller.inside.tried.seen in
+    let same = ap (λ (k : Known Entry). length k.seen) c.caller.view_is in
+    let begins = subst (IsKnownWriteOf tried c.args.write above seen) (sym (ap (λ (f : WriteFlowValue). f.seen) c.in-Ok.ensures.ok)) (writes_begin (IsTried tried) c.args.write above seen) in
+    let so_far = c.run_write-flow.ensures.held rests c.args.write above (omega (arith, same)) begins in
     so_far.written place (sym c.in-Some.ensures ∙ ap (λ (e : WriteEnd). Some e) is)
 
 pub returns-clause-refused : goal.returns-clause-refused

@@ -1,8 +1,8 @@
-use Rattle.std.proofs.Common.{[], ◌∙◌, ap, subst, sym}
+use Rattle.std.proofs.Common.{◌∙◌, ap, subst, sym}
 use Rattle.tuples.specs.declared.entry.Entry.{Entry}
 use Rattle.published.specs.Known.{Known}
 use Rattle.calls.specs.declared.call.CoordinatorCall.TheVariants.{Checkpoint}
-use Rattle.sides.specs.CoordinatorSides.{HasTried, IsSoundThere, IsTiedThere, LogSide}
+use Rattle.sides.specs.CoordinatorSides.{IsSoundThere, IsTiedThere}
 use Rattle.sides.proofs.CoordinatorCalls.{checkpoint_may_join}
 use Rattle.sides.proofs.Sound.{log_stays_sound}
 use Rattle.sides.proofs.coordinator_side.CoordinatorSide.checkpoint.Goals as goal
@@ -15,13 +15,8 @@ invariant_of-self g c = let inv = c.self.invariant in let same = c.meet.ensures.
   ap (λ (k : Known Entry). k.table) same ∙ c.join.ensures.same ∙ inv.0,
   inv.1,
   subst (IsSoundThere g.D.Device.state g.D.Device.honest g.B.Room.store g.B.Room.shards) (sym c.join.ensures.node) (log_stays_sound g.D.Device.state g.D.Device.honest g.B.Room.store g.B.Room.shards g.D.Device.moment g.D.Device.left_since Checkpoint c.self.inside.node c.ask_coordinator-reply.new.node c.ask_coordinator-reply.result inv.2 c.ask_coordinator-reply.ensures.answered),
-  λ rests. subst (λ (k : Known Entry). IsTiedThere g.D.Device.state g.D.Device.honest g.B.Room.store g.B.Room.shards c.join.new.node k.seen k.horizon []) (sym same)
-      (c.join.ensures.tied []
-      (checkpoint_may_join g.D.Device.state g.D.Device.honest g.D.Device.moment g.D.Device.left_since g.B.Room.store g.B.Room.shards g.met.D.Device.counts_now c.self.inside.node c.ask_coordinator-reply.new.node c.ask_coordinator-reply.result c.self.inside.log.seen c.self.inside.log.horizon [] (inv.3 rests) c.ask_coordinator-reply.ensures.answered)),
+  λ rests. subst (λ (k : Known Entry). IsTiedThere g.D.Device.state g.D.Device.honest g.B.Room.store g.B.Room.shards c.join.new.node k.seen k.horizon c.self.inside.attempts.seen) (sym same)
+      (c.join.ensures.tied c.self.inside.attempts.seen
+      (checkpoint_may_join g.D.Device.state g.D.Device.honest g.D.Device.moment g.D.Device.left_since g.B.Room.store g.B.Room.shards g.met.D.Device.counts_now c.self.inside.node c.ask_coordinator-reply.new.node c.ask_coordinator-reply.result c.self.inside.log.seen c.self.inside.log.horizon c.self.inside.attempts.seen (inv.3 rests) c.ask_coordinator-reply.ensures.answered)),
+  inv.4,
 )
-
-pub returns-clause-tried : goal.returns-clause-tried
-returns-clause-tried g c rests tried known =
-    subst (λ (k : Known Entry). IsTiedThere g.D.Device.state g.D.Device.honest g.B.Room.store g.B.Room.shards c.join.new.node k.seen k.horizon tried) (sym c.meet.ensures.same.0)
-    (c.join.ensures.tied tried
-    (checkpoint_may_join g.D.Device.state g.D.Device.honest g.D.Device.moment g.D.Device.left_since g.B.Room.store g.B.Room.shards g.met.D.Device.counts_now c.self.inside.node c.ask_coordinator-reply.new.node c.ask_coordinator-reply.result c.self.inside.log.seen c.self.inside.log.horizon tried (subst (λ (s : LogSide g.row.D.Denot). HasTried g.D.Device.state g.D.Device.honest g.B.Room.store g.B.Room.shards s tried) (sym c.self.view_is) known) c.ask_coordinator-reply.ensures.answered))

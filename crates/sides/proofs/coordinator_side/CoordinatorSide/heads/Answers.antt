@@ -1,4 +1,4 @@
-use Rattle.std.proofs.Common.{ℕ, List, [], ◌∙◌, ap, subst, sym}
+use Rattle.std.proofs.Common.{ℕ, List, ◌∙◌, ap, subst, sym}
 use Rattle.tuples.specs.declared.entry.Entry.{Entry}
 use Rattle.calls.specs.declared.call.CoordinatorCall.TheVariants.{Heads}
 use Rattle.published.specs.Known.{Known}
@@ -13,12 +13,13 @@ invariant_of-self g c = let inv = c.self.invariant in let same = c.meet.ensures.
   ap (λ (k : Known Entry). k.table) same ∙ inv.0,
   inv.1,
   log_stays_sound g.D.Device.state g.D.Device.honest g.B.Room.store g.B.Room.shards g.D.Device.moment g.D.Device.left_since Heads c.self.inside.node c.ask_coordinator.new.node c.ask_coordinator.result inv.2 c.ask_coordinator.ensures.answered,
-  λ rests. subst (λ (k : Known Entry). IsTiedThere g.D.Device.state g.D.Device.honest g.B.Room.store g.B.Room.shards c.ask_coordinator.new.node k.seen k.horizon []) (sym same)
-      (quiet_stays_there g.D.Device.state g.D.Device.honest g.D.Device.moment g.D.Device.left_since g.B.Room.store g.B.Room.shards Heads c.self.inside.log.seen c.self.inside.log.horizon [] tt c.self.inside.node c.ask_coordinator.new.node c.ask_coordinator.result (inv.3 rests) c.ask_coordinator.ensures.answered),
+  λ rests. subst (λ (k : Known Entry). IsTiedThere g.D.Device.state g.D.Device.honest g.B.Room.store g.B.Room.shards c.ask_coordinator.new.node k.seen k.horizon c.self.inside.attempts.seen) (sym same)
+      (quiet_stays_there g.D.Device.state g.D.Device.honest g.D.Device.moment g.D.Device.left_since g.B.Room.store g.B.Room.shards Heads c.self.inside.log.seen c.self.inside.log.horizon c.self.inside.attempts.seen tt c.self.inside.node c.ask_coordinator.new.node c.ask_coordinator.result (inv.3 rests) c.ask_coordinator.ensures.answered),
+  inv.4,
 )
 
 pub returns-clause-heads : goal.returns-clause-heads
 returns-clause-heads g c rests =
     let all = c.meet.ensures.all in let horizon = c.meet.ensures.horizon.0 in
     subst (λ (n : ℕ). TellsHeads c.meet.new.pass.seen n c.ask_coordinator.result) (sym horizon)
-    (subst (λ (l : List Entry). TellsHeads l c.self.inside.log.horizon c.ask_coordinator.result) (sym all) (heads_are_of_list g.D.Device.state g.D.Device.honest g.D.Device.moment g.D.Device.left_since g.B.Room.store g.B.Room.shards c.self.inside.log.seen c.self.inside.log.horizon c.self.inside.node c.ask_coordinator.new.node c.ask_coordinator.result (c.self.invariant.3 rests) c.ask_coordinator.ensures.answered))
+    (subst (λ (l : List Entry). TellsHeads l c.self.inside.log.horizon c.ask_coordinator.result) (sym all) (heads_are_of_list g.D.Device.state g.D.Device.honest g.D.Device.moment g.D.Device.left_since g.B.Room.store g.B.Room.shards c.self.inside.log.seen c.self.inside.log.horizon c.self.inside.attempts.seen c.self.inside.node c.ask_coordinator.new.node c.ask_coordinator.result (c.self.invariant.3 rests) c.ask_coordinator.ensures.answered))

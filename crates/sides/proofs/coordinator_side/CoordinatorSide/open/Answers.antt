@@ -1,6 +1,7 @@
-use Rattle.std.proofs.Common.{[], Some, ◌∙◌, sym, subst}
+use Rattle.std.proofs.Common.{List, [], Some, ◌∙◌, sym, subst}
 use Rattle.records.specs.Replays.{Identity}
-use Rattle.sides.specs.CoordinatorSides.{IsSoundThere}
+use Rattle.sides.specs.CoordinatorSides.{IsSoundThere, IsTiedThere}
+use Rattle.ties.specs.Ties.{Attempt}
 use Rattle.sides.specs.Reopening.{LogReopens}
 use Rattle.sides.proofs.LogOpenings.{opening_may_join}
 use Rattle.sides.proofs.Sound.{log_opens_sound, opens_or_is_refused, reopened_runs}
@@ -22,8 +23,9 @@ invariant_of-result g c =
       c.requires.me,
       subst (IsSoundThere g.D.Device.state g.D.Device.honest g.B.Room.store g.B.Room.shards) (sym c.begin.ensures.node)
           (log_opens_sound g.D.Device.state g.D.Device.honest g.B.Room.store g.B.Room.shards g.D.Device.moment g.D.Device.left_since c.args.a c.args.b (Some c.reopen-opened.result) c.requires.honest.0 c.requires.honest.1 over),
-      λ rests. (c.begin.ensures.tied
+      λ rests. subst (λ (l : List Attempt). IsTiedThere g.D.Device.state g.D.Device.honest g.B.Room.store g.B.Room.shards c.begin.new.node c.begin.new.log.seen c.begin.new.log.horizon l) (sym c.requires.empty.2) (c.begin.ensures.tied
           (opening_may_join g.D.Device.state g.D.Device.honest g.D.Device.moment g.D.Device.left_since g.met.D.Device.counts_now g.B.Room.store g.B.Room.shards c.args.a c.args.b (Some c.reopen-opened.result) g.B.Room.first g.B.Room.low [] (c.requires.anywhere rests) over)).0,
+      c.requires.own.2,
     )
 
 pub returns-clause-list : goal.returns-clause-list

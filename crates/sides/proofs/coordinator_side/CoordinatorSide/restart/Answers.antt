@@ -1,4 +1,4 @@
-use Rattle.std.proofs.Common.{[], ◌∙◌, ap, subst, sym}
+use Rattle.std.proofs.Common.{◌∙◌, ap, subst, sym}
 use Rattle.records.specs.Replays.{Identity}
 use Rattle.sides.specs.Reopening.{LogRestartedIn}
 use Rattle.sides.specs.CoordinatorSides.{IsSoundThere}
@@ -24,5 +24,6 @@ invariant_of-self g c =
       c.self.invariant.1,
       subst (IsSoundThere g.D.Device.state g.D.Device.honest g.B.Room.store g.B.Room.shards) (sym c.join.ensures.node)
           (log_restarts_sound g.D.Device.state g.D.Device.honest g.B.Room.store g.B.Room.shards g.D.Device.moment g.D.Device.left_since c.self.inside.node c.restart_coordinator-refusal.new.node c.restart_coordinator-refusal.result c.self.invariant.2 over),
-      λ rests. c.join.ensures.tied [] (restart_may_join g.D.Device.state g.D.Device.honest g.D.Device.moment g.D.Device.left_since g.met.D.Device.counts_now g.B.Room.store g.B.Room.shards c.self.inside.node c.restart_coordinator-refusal.new.node c.restart_coordinator-refusal.result c.self.inside.log.seen c.self.inside.log.horizon [] (c.self.invariant.3 rests) over),
+      λ rests. c.join.ensures.tied c.self.inside.attempts.seen (restart_may_join g.D.Device.state g.D.Device.honest g.D.Device.moment g.D.Device.left_since g.met.D.Device.counts_now g.B.Room.store g.B.Room.shards c.self.inside.node c.restart_coordinator-refusal.new.node c.restart_coordinator-refusal.result c.self.inside.log.seen c.self.inside.log.horizon c.self.inside.attempts.seen (c.self.invariant.3 rests) over),
+      c.self.invariant.4,
     )

@@ -1,0 +1,187 @@
+// What lies under the lock of the coordinator.
+ghost use Rattle.std.specs.Prelude.{◌≡◌, ◌↔◌, IsTrue, false};
+ghost use Rattle.calls.specs.Asking.{MayAskCoordinator};
+ghost use Rattle.calls.specs.Refusing.{Notes};
+ghost use Rattle.calls.specs.declared.call.NodeCall.TheVariants.{Coordinator as of_coordinator};
+ghost use Rattle.flights.specs.LogPlaces.{HasCount, LogPlaceAnswers, TellsWriters, is_log_flush, tried_at};
+ghost use Rattle.flights.specs.Places.{here};
+ghost use Rattle.flights.specs.Serving.{KnowsMore, Serves};
+
+use crate::berth::Berth;
+use crate::coordinator_serving::{serve_log_here, serve_log_out};
+use crate::{Launch, Tried};
+use away::Away;
+use calls::{CoordinatorCall, Reply, Told};
+use device::Device;
+use journal::BatchRoom;
+use published::{Published, SessionPass};
+use sides::{Attempt, CoordinatorSide, Room};
+use std::marker::Model;
+use tuples::Entry;
+
+/// The coordinator, whose devices are here or on a flight.
+#[derive(Drop)]
+pub struct CoordinatorPlace<D: Device, B: Room> {
+    // moved only within a call
+    pub(crate) berth: Option<Berth<CoordinatorSide<D, B>, CoordinatorSide<Away<D>, B>>>,
+    pub(crate) pass: SessionPass<Launch>,
+    // how many of its flights have left
+    pub(crate) flights: u64,
+}
+
+impl<D: Device, B: Room> Model for CoordinatorPlace<D, B> {
+    ghost use Rattle.std.specs.Prelude.{◌≡◌};
+    ghost use Rattle.flights.specs.LogPlaces.{IsLogBerthed, LogPlaceView};
+    ghost use Rattle.flights.specs.Places.{place_of};
+
+    ghost Value = { LogPlaceView D };
+
+    ghost view = { λ p. place_of p.berth };
+
+    ghost invariant = { λ p. (p.pass.table ≡ B.launches) × IsLogBerthed p.pass.seen p.berth };
+}
+
+// Whether the call is one that stages something, so that its caller may have to wait for a flight.
+fn is_staging(call: &CoordinatorCall) -> bool {
+    match call {
+        CoordinatorCall::Decide(_, _) | CoordinatorCall::Raise(_, _) => true,
+        _ => false,
+    }
+}
+
+impl<D: Device, B: Room> CoordinatorPlace<D, B> {
+    /// The coordinator with its devices, and the room for one flight. The pass of launches is of the words that name the store's flights.
+    pub fn new(
+        side: CoordinatorSide<D, B>,
+        room: BatchRoom,
+        launches: SessionPass<Launch>,
+    ) -> CoordinatorPlace<D, B>
+        requires own { launches.table ≡ B.launches }
+        ensures here { result ≡ here side }
+    {
+        CoordinatorPlace {
+            berth: Some(Berth::Here(side, room)),
+            pass: launches,
+            flights: 0,
+        }
+    }
+
+    /// A new pass for a caller, which knows all that there is.
+    pub fn session(&mut self, words: &Published<Entry>) -> SessionPass<Entry>
+        requires own { words.now ≡ B.log }
+        ensures same { self.new ≡ self.old }
+        ensures own { result.table ≡ B.log }
+    {
+        match &mut self.berth {
+            Some(Berth::Here(side, _)) => side.session(words),
+            Some(Berth::Out(side, _)) => side.session(words),
+            None => unreachable!(),
+        }
+    }
+
+    /// What a caller knows for which nothing was staged yet: all decisions that were ever staged.
+    pub fn attempts(&mut self, attempts: &Published<Attempt>) -> Tried<B>
+        requires own { attempts.now ≡ B.attempts }
+        ensures same { self.new ≡ self.old }
+        ensures all { result.seen ≡ tried_at self.old }
+    {
+        let pass = match &mut self.berth {
+            Some(Berth::Here(side, _)) => side.attempts(attempts),
+            Some(Berth::Out(side, _)) => side.attempts(attempts),
+            None => unreachable!(),
+        };
+        Tried::new(pass)
+    }
+
+    /// Whether a decision more can be counted among all that were ever staged.
+    pub fn may_decide(&mut self, attempts: &Published<Attempt>) -> bool
+        requires own { attempts.now ≡ B.attempts }
+        ensures same { self.new ≡ self.old }
+        ensures room { IsTrue result ↔ HasCount (tried_at self.old) }
+    {
+        match &mut self.berth {
+            Some(Berth::Here(side, _)) => side.may_decide(attempts),
+            Some(Berth::Out(side, _)) => side.may_decide(attempts),
+            None => unreachable!(),
+        }
+    }
+
+    // Makes a call that is no flush, wherever its devices are.
+    fn serve(
+        &mut self,
+        words: &Published<Entry>,
+        attempts: &Published<Attempt>,
+        pass: &mut SessionPass<Entry>,
+        tried: &mut Tried<B>,
+        told: &mut Told,
+        call: CoordinatorCall,
+    ) -> Reply
+        requires own { (words.now ≡ B.log) × (pass.old.table ≡ B.log) × (attempts.now ≡ B.attempts) }
+        requires owed { MayAskCoordinator B.shards call }
+        requires counted { HasCount (tried_at self.old) }
+        requires no_flush { is_log_flush call ≡ false }
+        ensures answers { LogPlaceAnswers D.state D.honest D.moment D.left_since self.old call result self.new }
+        ensures serves { Serves B.rests B.shards pass.old pass.new (of_coordinator call) result }
+        ensures tried { KnowsMore tried.old tried.new }
+        ensures tells { B.rests → TellsWriters pass.old.seen tried.new.seen pass.new.seen (of_coordinator call) result }
+        ensures told { Notes told.old result told.new }
+    {
+        match &mut self.berth {
+            Some(Berth::Here(side, _)) => {
+                serve_log_here(words, attempts, side, pass, tried, told, call)
+            }
+            Some(Berth::Out(side, _)) => {
+                serve_log_out(words, attempts, side, pass, tried, told, call)
+            }
+            None => unreachable!(),
+        }
+    }
+
+    /// Makes a call that is no flush, wherever its devices are. What it tells of the list is of what the caller's pass has seen then; and a decision that it tells
+    /// as kept is of the write that the caller knows as its own. It has to be asked first whether one decision more can be counted.
+    pub fn ask(
+        &mut self,
+        words: &Published<Entry>,
+        attempts: &Published<Attempt>,
+        pass: &mut SessionPass<Entry>,
+        tried: &mut Tried<B>,
+        told: &mut Told,
+        call: CoordinatorCall,
+    ) -> Reply
+        requires own { (words.now ≡ B.log) × (pass.old.table ≡ B.log) × (attempts.now ≡ B.attempts) }
+        requires owed { MayAskCoordinator B.shards call }
+        requires counted { HasCount (tried_at self.old) }
+        requires no_flush { is_log_flush call ≡ false }
+        ensures answers { LogPlaceAnswers D.state D.honest D.moment D.left_since self.old call result self.new }
+        ensures serves { Serves B.rests B.shards pass.old pass.new (of_coordinator call) result }
+        ensures tried { KnowsMore tried.old tried.new }
+        ensures tells { B.rests → TellsWriters pass.old.seen tried.new.seen pass.new.seen (of_coordinator call) result }
+        ensures told { Notes told.old result told.new }
+    {
+        if is_staging(&call) {
+            tried.board(self.ticket());
+        }
+        self.serve(words, attempts, pass, tried, told, call)
+    }
+
+    /// The number of the flight that will have carried all that is staged now, or by the call that is made next: the next one that leaves.
+    pub fn ticket(&self) -> u64 {
+        self.flights.saturating_add(1)
+    }
+
+    /// Whether the flight of this number has landed.
+    pub fn has_landed(&self, ticket: u64) -> bool {
+        match &self.berth {
+            Some(Berth::Out(_, _)) => ticket < self.flights,
+            _ => ticket <= self.flights,
+        }
+    }
+
+    /// Whether its devices are out.
+    pub fn is_out(&self) -> bool {
+        match &self.berth {
+            Some(Berth::Out(_, _)) => true,
+            _ => false,
+        }
+    }
+}

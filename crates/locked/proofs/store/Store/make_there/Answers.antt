@@ -1,0 +1,16 @@
+use Rattle.std.proofs.Common.{sym, subst}
+use Rattle.calls.specs.declared.call.NodeCall.TheVariants.{Coordinator}
+use Rattle.calls.specs.declared.call.CoordinatorCall.{CoordinatorCall}
+use Rattle.flow_ties.specs.Writes.{TellsWriter}
+use Rattle.sides.specs.CoordinatorSides.{IsTried}
+use Rattle.flights.specs.Serving.{Serves}
+use Rattle.locked.proofs.Served.{log_flush_serves}
+use Rattle.locked.proofs.store.Store.make_there.Goals as goal
+
+pub returns-in-Flush-clause-serves : goal.returns-in-Flush-clause-serves
+returns-in-Flush-clause-serves g c =
+    subst (λ (call : CoordinatorCall). Serves g.B.Room.rests g.B.Room.shards c.args.pass.now c.flush.new.pass (Coordinator call) c.flush.result) (sym c.in-Flush.is)
+    (log_flush_serves g.B.Room.rests g.B.Room.shards c.args.pass.now c.flush.new.pass c.flush.result c.flush.ensures.caller c.flush.ensures.belongs)
+
+pub returns-in-Flush-clause-tells : goal.returns-in-Flush-clause-tells
+returns-in-Flush-clause-tells g c = λ rests asked above le. subst (λ (call : CoordinatorCall). TellsWriter (IsTried c.flush.new.tried.seen) asked above c.flush.new.pass.seen (Coordinator call) c.flush.result) (sym c.in-Flush.is) tt
