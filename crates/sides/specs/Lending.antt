@@ -82,4 +82,4 @@ module _ {D : Type 0} (state : D → State) (honest : D → Type 0) where
 
   abbrev pub ComesBackIn : Option (NodeView (Away D)) → View D → Flying → Type 0
   ComesBackIn (Some (coordinator v)) flown (Coordinator flying) = ComesBack v flown flying.sent.count
-  ComesBackIn node flown flying = ⊥
+  ComesBackIn was flown flying = ⊥
