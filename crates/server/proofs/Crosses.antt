@@ -1,6 +1,7 @@
 -- A store may be used by several threads at once: shown part by part, since a search from above runs out of steps.
 use denote.RattleType.{RattleType}
-use denote.Param.Send.{IsSend, IsSync, sendable}
+use denote.Struct.Declared as declared
+use denote.Param.Send.{AllSync, IsSend, IsSync, recorded_sync, sendable, struct_sync}
 use Rattle.std.proofs.Crossing.{crosses}
 use Rattle.std.proofs.MapsCrossing.{crosses as maps_cross}
 use Rattle.std.proofs.MapsCrossingOver.{crosses as sets_cross}
@@ -84,13 +85,17 @@ log_cell_sync D B g h d b = let p = log_place_send D B g h d b in search (sendab
 
 pub store_sync : (D B G : RattleType) (g : Device.Ghosts D.Denot) (h : Room.Ghosts B.Denot) → IsSend D → IsSend B → IsSync G → IsSync (Store.the_row D B G g h)
 store_sync D B G g h d b y =
-    let n = log_cell_sync D B g h d b in
-    let p = cell_sync D B g h d b in
+    let n = log_place_send D B g h d b in
+    let p = place_send D B g h d b in
     let l = launch_log_send B h b in
-    let w = words_sync in
-    let v = launches_sync in
-    let t = attempts_sync in
-    search (lease_send, lease_sync, shared.the_send, shared.the_sync, sendable, crosses) depth 400 fits 50000
+    let es = entry_send in
+    let ey = entry_sync in
+    let fs = launch_send in
+    let fy = launch_sync in
+    let ts = attempt_send in
+    let ty = attempt_sync in
+    let all : AllSync (declared.fields (Store.the_type D B G g h)) = (y, (search (lease_send, lease_sync, shared.the_send, shared.the_sync, sendable, crosses) depth 400 fits 50000, (search (lease_send, lease_sync, shared.the_send, shared.the_sync, sendable, crosses) depth 400 fits 50000, (search (lease_send, lease_sync, shared.the_send, shared.the_sync, sendable, crosses) depth 400 fits 50000, (search (lease_send, lease_sync, shared.the_send, shared.the_sync, sendable, crosses) depth 400 fits 50000, (search (lease_send, lease_sync, shared.the_send, shared.the_sync, sendable, crosses) depth 400 fits 50000, (search (lease_send, lease_sync, shared.the_send, shared.the_sync, sendable, crosses) depth 400 fits 50000, (search (lease_send, lease_sync, shared.the_send, shared.the_sync, sendable, crosses) depth 400 fits 50000, (search (lease_send, lease_sync, shared.the_send, shared.the_sync, sendable, crosses) depth 400 fits 50000, (search (lease_send, lease_sync, shared.the_send, shared.the_sync, sendable, crosses) depth 400 fits 50000, tt)))))))))) in
+    recorded_sync _ _ _ (Store.the_type D B G g h).to_one (struct_sync (declared.shape (Store.the_type D B G g h)) all)
 
 pub caller_send : (B : RattleType) (h : Room.Ghosts B.Denot) → IsSend B → IsSend (Caller.the_row B h)
 caller_send B h b = search (sendable, crosses, maps_cross, sets_cross, seat.the_send) depth 400 fits 50000
