@@ -1,5 +1,5 @@
 -- What the new devices have.
-use Rattle.std.specs.Prelude.{◌≡◌, ◌<◌, ◌+◌, ℕ, List, [], ◌∷◌, ◌++◌, length, map, filter, Some, slice_get, All}
+use Rattle.std.specs.Prelude.{◌≡◌, ◌<◌, ◌+◌, ℕ, List, [], ◌∷◌, ◌++◌, length, map, Some, slice_get, All}
 use Rattle.calls.specs.Views.{coordinator}
 use Rattle.calls.specs.declared.carrying.Reach.{Reach}
 use Rattle.cluster.specs.Worlds.{WorldView, node_at}
@@ -16,13 +16,8 @@ use Rattle.records.specs.declared.record.Record.TheVariants.{Epoch, Horizon, Lea
 use Rattle.replay.specs.Checkpoints.{row_of}
 use Rattle.reshard.specs.Caring.{HaveReached}
 use Rattle.reshard.specs.Gathering.{AreGathered}
-use Rattle.tuples.specs.Changes.{tuple_of}
-use Rattle.tuples.specs.Parts.{is_of}
+use Rattle.tuples.specs.Versions.{of_shard}
 use Rattle.tuples.specs.declared.version.Version.{Version}
-
--- the versions whose tuples are of a shard, of so many
-abbrev pub of_shard : ℕ → ℕ → List Version → List Version
-of_shard shards s = filter (λ (v : Version). is_of shards s (tuple_of v.change))
 
 -- before the versions: it was opened once, its horizon, and the place that it has learned
 abbrev pub heads_of : Identity → Reach → List Record

@@ -4,7 +4,7 @@ ghost use Rattle.journal.specs.Sources.{record_of};
 ghost use Rattle.records.specs.Format.{AreRecords, IsRecord};
 ghost use Rattle.records.specs.Checkpoints.{row_record};
 ghost use Rattle.replay.specs.Checkpoints.{row_of};
-ghost use Rattle.reshard.specs.Made.{of_shard};
+ghost use Rattle.tuples.specs.Versions.{of_shard};
 ghost use Rattle.tuples.specs.Changes.{tuple_of};
 ghost use Rattle.tuples.specs.Parts.{is_of};
 
@@ -22,7 +22,7 @@ struct Own<'a> {
 
 impl<'a> Model for Own<'a> {
     ghost use Rattle.std.specs.Prelude.{List};
-    ghost use Rattle.reshard.specs.Made.{of_shard};
+    ghost use Rattle.tuples.specs.Versions.{of_shard};
     ghost use Rattle.tuples.specs.declared.version.Version.{Version as AnyVersion};
 
     ghost Value = { List AnyVersion };

@@ -1,5 +1,5 @@
 use Rattle.std.proofs.Common.{◌≡◌, length}
-use Rattle.reshard.specs.Made.{of_shard}
+use Rattle.tuples.specs.Versions.{of_shard}
 use Rattle.reshard.proofs.telling.Own.next.Given as goal
 
 -- none so far was the node's
