@@ -3,7 +3,8 @@ import os
 import socket
 
 from judge.worlds import must
-from serving.server import HOST, SHARDS, STORE, Server, free_port, run, words_of
+from serving.libraries import built_library
+from serving.server import HOST, SHARDS, STORE, Server, free_port, is_start, run, words_of
 from serving.wire import Session, check, write
 
 # Values that an option can't have.
@@ -129,6 +130,18 @@ def other_stores(folder):
     refused(DAMAGED, options(folder))
 
 
+def long_opening(folder):
+    """a line on standard error while an opening takes long"""
+    # The only shard's first sync waits two seconds for that of another one.
+    note = folder + ".held"
+    open(note, "w").close()
+    held = {"LD_PRELOAD": built_library("hold_syncs"), "HOLD_FOLDER": os.path.realpath(folder), "HOLD_FILE": note}
+    with Server(folder, environment=held, shards=1) as server:
+        first, then = (server.next_line(server.child.stderr).decode() for _ in range(2))
+    must(first == f"zanstore: {folder}: being opened, for 1 s so far\n", f"tells {first!r} after a second")
+    must(is_start(then, folder, 1, 0, 0), f"tells {then!r} behind it")
+
+
 TRIES = {
     "bad-command-lines": bad_command_lines,
     "help": help_is_told,
@@ -137,4 +150,5 @@ TRIES = {
     "second-server": second_server,
     "damaged-files": damaged_files,
     "other-stores": other_stores,
+    "long-opening": long_opening,
 }

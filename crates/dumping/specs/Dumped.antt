@@ -21,6 +21,7 @@ use Rattle.turns.specs.Reopens.{IsOpenedFrom}
 use Rattle.turns.specs.Stores.{IsToldOver, RestsOver, Store}
 use Rattle.zookie.specs.Zookies.{zookie_text}
 use Rattle.dumping.specs.Dumps.{Dumps}
+use Rattle.dumping.specs.Looking.{AreOfOneMoment}
 use Rattle.dumping.specs.declared.over_devices.Fault.{Fault}
 use Rattle.dumping.specs.declared.over_devices.Fault.TheVariants.{Refused, Unwritten}
 use Rattle.line_io.specs.Outputs.{HasBegun}
@@ -65,11 +66,12 @@ module _ {D : Type 0} (state : D → State) (honest : D → Type 0) (moment : D 
     pub rests : RestsOver state honest store shards later.devices last
     pub told_stays : All (IsToldOver state honest store shards later.devices last) ids
 
-  -- A store was opened over these devices, its tuples at a place were gathered, and this is their text: that of a snapshot, whatever machine the devices
-  -- rested at.
+  -- A store was opened over these devices, whose nodes are of one moment, its tuples at a place were gathered, and this is their text: that of a snapshot,
+  -- whatever machine the devices rested at.
   pub record IsTextOver (devices : List D) (asked : Option ℕ) (text : List ℕ) : Type 0 where
     pub opened : WorldView D
     pub is_opened : IsOpenedOver state honest moment left_since store shards devices opened
+    pub of_one_moment : AreOfOneMoment state honest opened.nodes opened.shards
     pub place : ℕ
     pub rows : List Tuple
     pub new : WorldView D

@@ -1,4 +1,5 @@
 pub mod Gathering
+pub mod Looking
 pub mod Dumps
 pub mod Dumped
 pub mod DumpLaws

@@ -26,21 +26,10 @@ fn learn<S: Store>(store: &mut S, shard: u8) -> Result<(), Refusal>
     }
 }
 
-// Whether none stands above the place.
-fn are_within(versions: &[Version], latest: u64) -> bool {
-    for version in versions {
-        if version.place > latest {
-            return false;
-        }
-    }
-    true
-}
-
 // A shard learns what is kept, and the tuple of each of its versions is put into the set.
 fn gather_one<S: Store>(
     store: &mut S,
     shard: u8,
-    latest: u64,
     found: &mut BTreeSet<Tuple>,
 ) -> Result<(), Refusal>
     ensures tells { OnOk result ((told : List AnyVersion) × TellsOne S.takes S.nexts S.shows shard store.old told store.new × HasAll found.new.keys told) }
@@ -48,17 +37,13 @@ fn gather_one<S: Store>(
 {
     learn(store, shard)?;
     let versions = store.rows(shard)?;
-    put(found, &versions, latest)
+    put(found, &versions)
 }
 
-fn put(found: &mut BTreeSet<Tuple>, versions: &[Version], latest: u64) -> Result<(), Refusal>
+fn put(found: &mut BTreeSet<Tuple>, versions: &[Version]) -> Result<(), Refusal>
     ensures all { OnOk result (HasAll found.new.keys versions.now) }
     ensures keeps { OnOk result ((t : AnyTuple) → is_in found.old.keys t ≡ true → is_in found.new.keys t ≡ true) }
 {
-    // No write runs, so what a shard has learned was kept before. Files of two copies may have more.
-    if !are_within(versions, latest) {
-        return Err(Refusal::Damaged);
-    }
     match put_all(found, versions) {
         Ok(()) => Ok(()),
         Err(_) => Err(Refusal::NoMemory),
@@ -69,13 +54,12 @@ fn put(found: &mut BTreeSet<Tuple>, versions: &[Version], latest: u64) -> Result
 pub(crate) fn gather<S: Store>(
     store: &mut S,
     shards: u8,
-    latest: u64,
     found: &mut BTreeSet<Tuple>,
 ) -> Result<(), Refusal>
     ensures { OnOk result ((told : List AnyVersion) × AllTell S.takes S.nexts S.shows shards store.old told store.new × HasAll found.new.keys told) }
 {
     for shard in 0..shards {
-        gather_one(store, shard, latest, found)?;
+        gather_one(store, shard, found)?;
     }
     Ok(())
 }

@@ -12,6 +12,7 @@ mod dump_laws;
 mod folder;
 mod found;
 mod gathering;
+mod looking;
 mod over_devices;
 mod playing;
 mod reading;

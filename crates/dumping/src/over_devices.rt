@@ -5,6 +5,7 @@ ghost use Rattle.cluster.specs.Steps.{Takes};
 ghost use Rattle.cluster.specs.Worlds.{WorldView};
 ghost use Rattle.dumping.specs.Dumped.{IsDumped, Leaves, dump_text};
 ghost use Rattle.dumping.specs.Dumps.{Dumps};
+ghost use Rattle.dumping.specs.Looking.{AreOfOneMoment};
 ghost use Rattle.line_io.specs.Outputs.{HasBegun};
 ghost use Rattle.scripts.specs.Stepping.{IsNext, ShowsRows};
 ghost use Rattle.std.specs.Io.KnownBytes.{Appends};
@@ -12,9 +13,10 @@ ghost use Rattle.tuples.specs.Limits.{max_shards};
 ghost use Rattle.tuples.specs.declared.tuple.Tuple.{Tuple as AnyTuple};
 
 use crate::dump_laws::dumps_are_snapshots;
+use crate::looking::look_over;
 use crate::taking::{Dump, take_dump};
 use crate::text::write_text;
-use cluster::reopen;
+use cluster::{World, reopen};
 use device::Device;
 use line_io::write_all;
 use scripts::{Stepping, Store};
@@ -31,7 +33,7 @@ pub enum Fault {
     Unwritten,
 }
 
-// Opens the store over its devices.
+// Opens the store over its devices, whose nodes are all of one moment.
 fn open<D: Device>(
     alloc: Global,
     store: u64,
@@ -41,11 +43,24 @@ fn open<D: Device>(
     requires some { 1 ≤ shards }
     requires few { shards ≤ max_shards }
     requires count { vec_len devices ≡ 2 * (shards + 1) }
-    ensures { IfOk result (IsOpenedOver D.state D.honest D.moment D.left_since store shards devices.items) }
+    ensures opened { IfOk result (IsOpenedOver D.state D.honest D.moment D.left_since store shards devices.items) }
+    ensures moment { IfOk result (λ opened. AreOfOneMoment D.state D.honest opened.nodes opened.shards) }
 {
     match reopen(alloc, devices, store, shards) {
-        Ok(world) => Ok(Stepping::new(world)),
+        Ok(world) => see(world),
         Err(_) => Err(Refusal::NoMemory),
+    }
+}
+
+fn see<D: Device>(world: World<D>) -> Result<Stepping<D>, Refusal>
+    ensures same { IfOk result (λ opened. opened ≡ world) }
+    ensures moment { OnOk result (AreOfOneMoment D.state D.honest world.nodes world.shards) }
+{
+    let seen = look_over(&world);
+    let opened = Stepping::new(world);
+    match seen {
+        Ok(()) => Ok(opened),
+        Err(refusal) => Err(refusal),
     }
 }
 
@@ -88,7 +103,7 @@ fn append_over<D: Device>(
     requires few { shards ≤ max_shards }
     requires count { vec_len devices ≡ 2 * (shards + 1) }
     ensures { OnOk result ((opened new : WorldView D) × (place : ℕ) × (rows : List AnyTuple) × IsOpenedOver D.state D.honest D.moment D.left_since store shards devices.items opened
-        × Dumps (Takes D.state D.honest D.moment D.left_since) IsNext (ShowsRows D.state D.honest) shards at opened place rows new × (text.new.items ≡ text.old.items ++ dump_text store place rows)) }
+        × AreOfOneMoment D.state D.honest opened.nodes opened.shards × Dumps (Takes D.state D.honest D.moment D.left_since) IsNext (ShowsRows D.state D.honest) shards at opened place rows new × (text.new.items ≡ text.old.items ++ dump_text store place rows)) }
 {
     match open(alloc, store, shards, devices) {
         Ok(mut opened) => append(alloc, store, &mut opened, shards, at, text),
@@ -97,7 +112,8 @@ fn append_over<D: Device>(
 }
 
 /// Opens the store of this id and of 1 to 64 shards over its devices, as `reopen` does, and writes the text of all tuples that are there at the place, or at
-/// the latest: the token of the place, and each tuple, a line each.
+/// the latest: the token of the place, and each tuple, a line each. What `take_dump` is refused with, and before that what a node was, the coordinator first;
+/// `Damaged` where a shard has learned more than the coordinator keeps, or less than that has forgotten: the devices are not all of one moment.
 pub fn dump_over<D: Device, W: Write>(
     alloc: Global,
     store: u64,

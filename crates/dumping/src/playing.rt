@@ -6,7 +6,6 @@ ghost use Rattle.dumping.specs.Gathering.{Plays, refusal_in};
 ghost use Rattle.scripts.specs.Going.{Goes};
 
 use cluster::{Answer, Step, What};
-use names::CallName;
 use scripts::Store;
 use tuples::Refusal;
 
@@ -20,29 +19,17 @@ fn turn<S: Store>(store: &mut S, slot: usize) -> Result<Option<What>, Refusal>
     }
 }
 
-// Whether a shard is asked once more how far it has learned, right behind a batch: what it is to learn the coordinator has forgotten. Nobody else lets a
-// shard learn here, so it would be asked for ever.
-fn is_left_behind(made: Option<CallName>, next: CallName) -> bool {
-    matches!(made, Some(CallName::Batch)) && matches!(next, CallName::Learned)
-}
-
-// The calls of the flow in the slot, one after another; what the last of them told. `Damaged` where a shard has learned less than the coordinator has
-// forgotten: the files are not all of one moment.
+// The calls of the flow in the slot, one after another; what the last of them told.
 fn run_out<S: Store>(store: &mut S, slot: usize) -> Result<Option<What>, Refusal>
     ensures ok { IfOk result (λ told. Goes S.takes S.nexts slot None store.old told store.new) }
-    ensures err { IfErr result (λ e. (e ≡ Refusal.NoMemory) ⊎ (e ≡ Refusal.Damaged)) }
+    ensures err { IfErr result (λ e. e ≡ Refusal.NoMemory) }
 {
     let mut told = None;
-    let mut made = None;
     for _ in 0..u64::MAX {
-        let Some(name) = store.next(slot) else {
+        if store.next(slot).is_none() {
             return Ok(told);
-        };
-        if is_left_behind(made, name) {
-            return Err(Refusal::Damaged);
         }
         told = turn(store, slot)?;
-        made = Some(name);
     }
     // It has made more calls than can be counted.
     Err(Refusal::NoMemory)
@@ -51,7 +38,7 @@ fn run_out<S: Store>(store: &mut S, slot: usize) -> Result<Option<What>, Refusal
 // The step is taken, and a flow that it begins makes its calls to its end; what was told last.
 fn play<S: Store>(store: &mut S, first: Step) -> Result<Option<What>, Refusal>
     ensures ok { IfOk result (λ last. Plays S.takes S.nexts first store.old last store.new) }
-    ensures err { IfErr result (λ e. (e ≡ Refusal.NoMemory) ⊎ (e ≡ Refusal.Damaged)) }
+    ensures err { IfErr result (λ e. e ≡ Refusal.NoMemory) }
 {
     match store.take(first) {
         Ok(Some(What::Began(slot))) => run_out(store, slot),
@@ -78,7 +65,7 @@ fn answer_in(last: Option<What>) -> Result<Answer, Refusal>
 /// The step is taken, and the flow that it begins makes its calls to its end, which is an answer.
 pub(crate) fn serve<S: Store>(store: &mut S, first: Step) -> Result<Answer, Refusal>
     ensures ok { IfOk result (λ answer. Plays S.takes S.nexts first store.old (Some (Ended answer)) store.new) }
-    ensures err { IfErr result (λ e. ((e ≡ Refusal.NoMemory) ⊎ (e ≡ Refusal.Damaged)) ⊎ ((last : Option AnyWhat) × Plays S.takes S.nexts first store.old last store.new × (e ≡ refusal_in last))) }
+    ensures err { IfErr result (λ e. (e ≡ Refusal.NoMemory) ⊎ ((last : Option AnyWhat) × Plays S.takes S.nexts first store.old last store.new × (e ≡ refusal_in last))) }
 {
     let last = play(store, first)?;
     answer_in(last)

@@ -83,16 +83,9 @@ fn read_all<S: Store>(
     Ok(())
 }
 
-// The latest place, and the one that is asked for, or the latest again.
-#[derive(Clone, Copy)]
-struct Places {
-    latest: u64,
-    place: u64,
-}
-
 // The place that is asked for, once it is seen to be one that can be read; the latest where none is.
-fn find_places<S: Store>(alloc: Global, store: &mut S, at: Option<u64>) -> Result<Places, Refusal>
-    ensures { IfOk result (λ found. FindsPlace S.takes S.nexts at store.old found.place store.new) }
+fn find_place<S: Store>(alloc: Global, store: &mut S, at: Option<u64>) -> Result<u64, Refusal>
+    ensures { IfOk result (λ place. FindsPlace S.takes S.nexts at store.old place store.new) }
 {
     // This asks each node, before the place is looked at.
     let latest = place_of(alloc, store, Freshness::Latest)?;
@@ -101,7 +94,7 @@ fn find_places<S: Store>(alloc: Global, store: &mut S, at: Option<u64>) -> Resul
         None => latest,
     };
     let _same = place_of(alloc, store, Freshness::Exact(place))?;
-    Ok(Places { latest, place })
+    Ok(place)
 }
 
 // All tuples that are there at a place that was read.
@@ -109,21 +102,20 @@ fn find_all<S: Store>(
     alloc: Global,
     store: &mut S,
     shards: u8,
-    places: Places,
+    place: u64,
     found: &mut BTreeSet<Tuple>,
     tuples: &mut Vec<Tuple>,
 ) -> Result<(), Refusal>
-    ensures { OnOk result ((rows : List AnyTuple) × FindsAll S.takes S.nexts S.shows shards places.place store.old rows store.new × (tuples.new.items ≡ tuples.old.items ++ rows)) }
+    ensures { OnOk result ((rows : List AnyTuple) × FindsAll S.takes S.nexts S.shows shards place store.old rows store.new × (tuples.new.items ≡ tuples.old.items ++ rows)) }
 {
-    gather(store, shards, places.latest, found)?;
+    gather(store, shards, found)?;
     // The place can be read still, so no shard has forgotten what was there.
-    let _same = place_of(alloc, store, Freshness::Exact(places.place))?;
-    read_all(alloc, store, places.place, found, tuples)
+    let _still = place_of(alloc, store, Freshness::Exact(place))?;
+    read_all(alloc, store, place, found, tuples)
 }
 
 /// All tuples that are there at a place, or at the latest. `Future` where the place is above what is kept, `Collected` where it is below the horizon, and
-/// before that what a node was refused with, the coordinator first and then the shards by rising number. `Damaged` where a shard has a version above what
-/// the coordinator has kept, or has learned less than that has forgotten: the files are not all of one moment.
+/// before that what a node was refused with, the coordinator first and then the shards by rising number.
 pub fn take_dump<S: Store>(
     alloc: Global,
     store: &mut S,
@@ -132,14 +124,11 @@ pub fn take_dump<S: Store>(
 ) -> Result<Dump, Refusal>
     ensures { IfOk result (λ d. Dumps S.takes S.nexts S.shows shards at store.old d.place d.tuples.items store.new) }
 {
-    let places = find_places(alloc, store, at)?;
+    let place = find_place(alloc, store, at)?;
     let mut found = BTreeSet::new(alloc);
     let mut tuples = Vec::new(alloc);
-    match find_all(alloc, store, shards, places, &mut found, &mut tuples) {
-        Ok(()) => Ok(Dump {
-            place: places.place,
-            tuples,
-        }),
+    match find_all(alloc, store, shards, place, &mut found, &mut tuples) {
+        Ok(()) => Ok(Dump { place, tuples }),
         Err(refusal) => Err(refusal),
     }
 }

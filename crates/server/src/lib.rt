@@ -9,7 +9,7 @@
 //! its caller has then seen. It has one premise, the only one of `serve_over`: that what was found in the files rests at one list, of which the
 //! coordinator's files have what is behind its base (`IsAtRest`, whose laws say that what a stop leaves meets it, behind checkpoints too).
 //!
-//! Only tested: which fault is told, what is told of a start, that `ready` is printed and when, and that the server ends.
+//! Only tested: which fault is told, what is told of a start and while it lasts, that `ready` is printed and when, and that the server ends.
 //!
 //! Start at `serve`.
 #![tactic(auto)]
@@ -17,8 +17,10 @@
 mod down;
 mod fault;
 mod opening;
+mod progress;
 mod readiness;
 mod running;
 mod start;
 
 pub use opening::{serve, serve_over};
+pub use progress::Progress;

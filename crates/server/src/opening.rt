@@ -4,6 +4,7 @@ ghost use Rattle.at_rest.specs.AtRest.{IsAtRest, found_coordinator};
 ghost use Rattle.tuples.specs.declared.entry.Entry.{Entry as AnyEntry};
 
 use crate::fault::{Fault, tell};
+use crate::progress::Progress;
 use crate::running::serve_store;
 use crossbeam_utils::sync::{Parker, Unparker};
 use device::Device;
@@ -20,7 +21,7 @@ use std::marker::Brand;
 use std::net::{Net, TcpListener, TcpStream};
 use std::rt::Runtime;
 use std::sync::Wait;
-use std::thread::Threads;
+use std::thread::{self, Threads};
 use std::time::Instant;
 use tuples::Entry;
 
@@ -43,8 +44,31 @@ where
     ghost first: { List AnyEntry }
     ensures { (result ≡ 0) ⊎ (result ≡ 1) }
 {
+    let progress = Progress::new();
+    let progress = &progress;
+    thread::scope(
+        thread::scope_env(),
+        rt,
+        move |scope| -> u8
+            ensures { (result ≡ 0) ⊎ (result ≡ 1) }
+        {
+            // Where there is no thread for it, nobody is told how long the opening takes.
+            let _ = scope.spawn(move || progress.tell(rt, settings.dir.as_str()));
+            let status = serve_told(rt, files, settings, progress);
+            progress.end();
+            status
+        },
+    )
+}
+
+fn serve_told<R>(rt: &R, files: &HostRuntime, settings: &ServeSettings, progress: &Progress) -> u8
+where
+    R: Runtime + Net<Listener = TcpListener, Stream = TcpStream> + Threads + Wait + Sync,
+    ghost first: { List AnyEntry }
+    ensures { (result ≡ 0) ⊎ (result ≡ 1) }
+{
     match new_bell(files.alloc()) {
-        Ok((parker, bell)) => serve_with_bell(rt, files, settings, parker, bell),
+        Ok((parker, bell)) => serve_with_bell(rt, files, settings, progress, parker, bell),
         Err(_) => tell(rt, &Fault::Refused(Refusal::NoMemory)),
     }
 }
@@ -53,6 +77,7 @@ fn serve_with_bell<R>(
     rt: &R,
     files: &HostRuntime,
     settings: &ServeSettings,
+    progress: &Progress,
     parker: Parker,
     bell: Unparker,
 ) -> u8
@@ -69,7 +94,7 @@ where
     };
     match Published::new(files.alloc()) {
         Ok((words, log)) => serve_files(
-            rt, files, settings, parker, bell, words, log, attempts, launches,
+            rt, files, settings, progress, parker, bell, words, log, attempts, launches,
         ),
         Err(_) => tell(rt, &Fault::Refused(Refusal::NoMemory)),
     }
@@ -79,6 +104,7 @@ fn serve_files<R>(
     rt: &R,
     files: &HostRuntime,
     settings: &ServeSettings,
+    progress: &Progress,
     parker: Parker,
     bell: Unparker,
     words: Published<Entry>,
@@ -98,6 +124,7 @@ where
             rt,
             files.alloc(),
             settings,
+            progress,
             Open,
             parker,
             bell,
@@ -118,6 +145,7 @@ pub fn serve_over<D: Device + Send, B: Room + Send + Sync, G: Gate + Sync, R>(
     rt: &R,
     alloc: Global,
     settings: &ServeSettings,
+    progress: &Progress,
     gate: G,
     parker: Parker,
     bell: Unparker,
@@ -152,7 +180,7 @@ where
         settings.store,
         settings.shards,
     ) {
-        Ok(store) => serve_store(rt, alloc, &store, parker, settings, began),
+        Ok(store) => serve_store(rt, alloc, &store, parker, settings, progress, began),
         Err(refusal) => tell(rt, &Fault::Refused(refusal)),
     }
 }

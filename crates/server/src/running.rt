@@ -4,6 +4,7 @@ ghost use Rattle.std.specs.Prelude.{◌≡◌, ◌⊎◌, ◌≤◌, None, Some,
 
 use crate::down::DownLines;
 use crate::fault::{Fault, tell};
+use crate::progress::Progress;
 use crate::readiness::Readiness;
 use crate::start::{Start, tell_start};
 use calls::Told;
@@ -30,6 +31,7 @@ pub(crate) fn serve_store<D: Device + Send, B: Room + Send + Sync, G: Gate + Syn
     store: &Store<D, B, G>,
     parker: Parker,
     settings: &ServeSettings,
+    progress: &Progress,
     began: Option<Instant>,
 ) -> u8
 where
@@ -38,6 +40,7 @@ where
 {
     match start(rt, alloc, store, settings) {
         Ok(start) => {
+            progress.end();
             tell_start(rt, settings, &start, began);
             ended(
                 rt,

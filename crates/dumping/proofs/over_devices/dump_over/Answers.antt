@@ -13,12 +13,13 @@ returns-in-Ok-clause-ok g c =
     let text : IsTextOver g.D.Device.state g.D.Device.honest g.D.Device.moment g.D.Device.left_since c.args.store c.args.shards c.args.devices.items c.args.at c.deref.result.now = record {
       opened = it.0;
       is_opened = it.4;
+      of_one_moment = it.5;
       place = it.2;
       rows = it.3;
       new = it.1;
-      dumps = it.5;
+      dumps = it.6;
       text_is = text_is;
-      snapshot = λ any m ids rests told. law c.args.store c.args.shards any c.args.devices.items c.args.at it.0 it.2 it.3 it.1 m ids c.requires.some c.requires.few count rests told it.4 it.5;
+      snapshot = λ any m ids rests told. law c.args.store c.args.shards any c.args.devices.items c.args.at it.0 it.2 it.3 it.1 m ids c.requires.some c.requires.few count rests told it.4 it.6;
     } in
     ok_then c.write.result (λ appends. (c.deref.result.now, text, appends)) c.write.ensures.ok
 
@@ -31,12 +32,13 @@ returns-in-Ok-clause-err g c =
     let text : IsTextOver g.D.Device.state g.D.Device.honest g.D.Device.moment g.D.Device.left_since c.args.store c.args.shards c.args.devices.items c.args.at c.deref.result.now = record {
       opened = it.0;
       is_opened = it.4;
+      of_one_moment = it.5;
       place = it.2;
       rows = it.3;
       new = it.1;
-      dumps = it.5;
+      dumps = it.6;
       text_is = text_is;
-      snapshot = λ any m ids rests told. law c.args.store c.args.shards any c.args.devices.items c.args.at it.0 it.2 it.3 it.1 m ids c.requires.some c.requires.few count rests told it.4 it.5;
+      snapshot = λ any m ids rests told. law c.args.store c.args.shards any c.args.devices.items c.args.at it.0 it.2 it.3 it.1 m ids c.requires.some c.requires.few count rests told it.4 it.6;
     } in
     err_then c.write.result
     (λ fault h. subst (Leaves g.D.Device.state g.D.Device.honest g.D.Device.moment g.D.Device.left_since c.args.store c.args.shards c.args.devices.items c.args.at (g.W.Write.contents c.args.output.now) (g.W.Write.contents c.write.new.output))
