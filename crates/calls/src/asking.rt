@@ -179,16 +179,6 @@ fn tell(reply: &Reply, told: &mut Told)
     }
 }
 
-/// As `refuse`, of a call that nobody is to make here, and the refusal is told.
-pub fn refuse_aloud(refusal: Refusal, call: NodeCall, told: &mut Told) -> Reply
-    ensures belongs { IsReplyTo call result }
-    ensures told { Notes told.old result told.new }
-{
-    let reply = refuse(refusal, call);
-    tell(&reply, told);
-    reply
-}
-
 fn make<D: Device>(alloc: Global, opened: &mut Opened<D>, call: NodeCall) -> Reply
     requires { MayAsk (seen opened.old) call }
     ensures { Answered D.state D.honest D.moment D.left_since (seen opened.old) call result (seen opened.new) }

@@ -22,7 +22,7 @@ mod reply;
 mod running;
 mod told;
 
-pub use asking::{ask, refuse, refuse_aloud};
+pub use asking::{ask, refuse};
 pub use call::{CoordinatorCall, NodeCall, ShardCall};
 pub use carrying::Reach;
 pub use lending::{Flying, Lent};
