@@ -100,10 +100,15 @@ impl Replay {
         ensures damaged { IsErrOf result Refusal.Damaged → MayBegin self.old.state.epoch (checkpoint_record mark) → ⊥ }
         ensures err { IfErr result (λ e. e ≡ Refusal.Damaged) }
     {
-        match mark {
-            Mark::Begins(generation) => self.begin_of(generation),
+        let begun = match &mark {
+            Mark::Begins(generation) => Some(*generation),
             // Nothing of a checkpoint stands before its begin.
-            Mark::Row { .. } | Mark::Ends(_) => Err(Refusal::Damaged),
+            Mark::Row { .. } | Mark::Ends(_) => None,
+        };
+        drop(mark);
+        match begun {
+            Some(generation) => self.begin_of(generation),
+            None => Err(Refusal::Damaged),
         }
     }
 
