@@ -113,7 +113,10 @@ fn take_outside(me: Identity, recovery: Recovery, found: Record) -> Result<Repla
         Record::Horizon(place) => Ok(outside(recovery.raise(place)?)),
         Record::Checkpoint(mark) => begin(recovery, mark),
         // A coordinator prepares nothing.
-        Record::Prepare(_) | Record::Learned { .. } | Record::Dropped(_) => Err(Refusal::Damaged),
+        other => {
+            drop(other);
+            Err(Refusal::Damaged)
+        }
     }
 }
 
@@ -173,7 +176,10 @@ fn take_inside(
         Record::Horizon(place) => take_horizon(alloc, inside, recovery, place),
         Record::Checkpoint(mark) => take_mark(inside, recovery, mark),
         // A coordinator prepares nothing.
-        Record::Prepare(_) | Record::Learned { .. } | Record::Dropped(_) => Err(Refusal::Damaged),
+        other => {
+            drop(other);
+            Err(Refusal::Damaged)
+        }
     }
 }
 
