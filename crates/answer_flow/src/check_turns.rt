@@ -86,18 +86,29 @@ pub(crate) fn give(asked: &AskedCheck, out: Out, reply: Reply) -> Phase
     match out {
         Out::Heads(walk) => match reply {
             Reply::Coordinator(CoordinatorReply::Heads(answer)) => told(asked, walk, answer),
-            other => foreign(other),
+            other => {
+                drop(walk);
+                foreign(other)
+            }
         },
         Out::Flush(walk) => match reply {
             Reply::Coordinator(CoordinatorReply::Flush(answer)) => flushed(asked, walk, answer),
-            other => foreign(other),
+            other => {
+                drop(walk);
+                foreign(other)
+            }
         },
         Out::CatchUp(place, walk, call) => caught_up(asked, place, walk, call, reply),
         Out::Read(place, walk) => match reply {
-            Reply::Shard(ShardReply::ReadForCheck(_, _, answer)) => {
+            Reply::Shard(ShardReply::ReadForCheck(userset, user, answer)) => {
+                drop(userset);
+                drop(user);
                 have_read(asked, place, walk, answer)
             }
-            other => foreign(other),
+            other => {
+                drop(walk);
+                foreign(other)
+            }
         },
     }
 }

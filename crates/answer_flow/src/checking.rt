@@ -75,9 +75,15 @@ pub(crate) fn told(asked: &AskedCheck, walk: Walk, answer: Result<Heads, Refusal
         Ok(heads) => match find(asked.freshness, &heads) {
             Found::At(place) => go_on(asked, place, walk),
             Found::Later => Phase::Ready(Ready::Flush(walk)),
-            Found::Refused(refusal) => refused(refusal),
+            Found::Refused(refusal) => {
+                drop(walk);
+                refused(refusal)
+            }
         },
-        Err(refusal) => refused(refusal),
+        Err(refusal) => {
+            drop(walk);
+            refused(refusal)
+        }
     }
 }
 
@@ -89,7 +95,10 @@ pub(crate) fn flushed(asked: &AskedCheck, walk: Walk, answer: Result<(), Refusal
     let _asked = asked;
     match answer {
         Ok(()) => Phase::Ready(Ready::Heads(walk)),
-        Err(refusal) => refused(refusal),
+        Err(refusal) => {
+            drop(walk);
+            refused(refusal)
+        }
     }
 }
 

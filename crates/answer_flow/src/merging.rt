@@ -39,6 +39,7 @@ fn take_last(left: &mut Vec<Tuple>, right: &mut Vec<Tuple>) -> Option<Tuple>
     if last_right.is_before(last_left) {
         return left.pop();
     }
-    let _same = right.pop();
+    let same = right.pop();
+    drop(same);
     left.pop()
 }

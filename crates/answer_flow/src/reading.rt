@@ -216,6 +216,10 @@ pub(crate) fn have_read(
     match answer {
         Ok(ReadReply::Rows(rows)) => gather(asked, gathered, set, rows),
         Ok(ReadReply::Behind) => bring_up(asked, gathered, set),
-        Err(refusal) => refused(refusal),
+        Err(refusal) => {
+            drop(gathered);
+            drop(set);
+            refused(refusal)
+        }
     }
 }

@@ -148,16 +148,21 @@ impl ShardReply {
                 leave_prepared(answer);
             }
             ShardReply::Vote(answer) => leave_vote(answer),
-            ShardReply::Learned(_)
-            | ShardReply::Learn(_, _)
-            | ShardReply::DropWrite(_, _)
-            | ShardReply::InDoubt(_)
-            | ShardReply::Read(_, _)
-            | ShardReply::ReadForCheck(_, _, _)
-            | ShardReply::Settle(_)
-            | ShardReply::Collect(_, _)
-            | ShardReply::Flush(_)
-            | ShardReply::Checkpoint(_) => {}
+            ShardReply::Learn(batch, _) => drop(batch),
+            ShardReply::DropWrite(verdict, _) => drop(verdict),
+            ShardReply::InDoubt(answer) => drop(answer),
+            ShardReply::Read(set, answer) => {
+                drop(set);
+                drop(answer);
+            }
+            ShardReply::ReadForCheck(userset, user, answer) => {
+                drop(userset);
+                drop(user);
+                drop(answer);
+            }
+            ShardReply::Settle(answer) => drop(answer),
+            ShardReply::Collect(heads, _) => drop(heads),
+            ShardReply::Learned(_) | ShardReply::Flush(_) | ShardReply::Checkpoint(_) => {}
         }
     }
 }

@@ -52,12 +52,10 @@ fn decided_entry(found: Record) -> Option<Entry>
 {
     match found {
         Record::Decision { place: _, entry } => Some(entry),
-        Record::Prepare(_)
-        | Record::Learned { .. }
-        | Record::Dropped(_)
-        | Record::Epoch { .. }
-        | Record::Horizon(_)
-        | Record::Checkpoint(_) => None,
+        other => {
+            drop(other);
+            None
+        }
     }
 }
 

@@ -139,7 +139,7 @@ impl<D: Device, B: Room> CoordinatorPlace<D, B> {
             unreachable!();
         };
         let (berth, flight) = depart(launches, log, &mut self.pass, berth);
-        self.berth = Some(berth);
+        drop(self.berth.replace(berth));
         if flight.is_some() {
             self.flights = self.flights.saturating_add(1);
         }

@@ -74,11 +74,15 @@ impl<D: Device, B: Room> CoordinatorPlace<D, B> {
         if !self.awaits(flown.launch) {
             return Err(flown);
         }
-        let Some(Berth::Out(side, _)) = self.berth.take() else {
-            unreachable!();
+        let side = match self.berth.take() {
+            Some(Berth::Out(side, _)) => side,
+            other => {
+                drop(other);
+                unreachable!();
+            }
         };
         let (side, room) = arrive(words, launches, &mut self.pass, side, flown);
-        self.berth = Some(Berth::Here(side, room));
+        drop(self.berth.replace(Berth::Here(side, room)));
         Ok(())
     }
 

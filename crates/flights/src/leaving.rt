@@ -137,7 +137,7 @@ impl<D: Device, B: Room> ShardPlace<D, B> {
             unreachable!();
         };
         let (berth, flight) = depart(launches, log, &mut self.pass, berth);
-        self.berth = Some(berth);
+        drop(self.berth.replace(berth));
         if flight.is_some() {
             self.flights = self.flights.saturating_add(1);
         }

@@ -52,6 +52,7 @@ fn put_begin(piece: &mut Batch, next: Record)
     ensures { piece.new ≡ begins ∷ [] }
 {
     put_first(piece, RecordRef::Whole(&next));
+    drop(next);
 }
 
 // Makes the record that begins the checkpoint durable.

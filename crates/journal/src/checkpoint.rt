@@ -121,7 +121,9 @@ fn put_next<D: Device>(
     ensures counts { (D.state log.old.device).failures ≤ (D.state log.new.device).failures }
     ensures none { OnOk result ((D.state log.new.device).failures ≡ (D.state log.old.device).failures) }
 {
-    put(log, piece, RecordRef::Whole(&next))
+    let put = put(log, piece, RecordRef::Whole(&next));
+    drop(next);
+    put
 }
 
 // Puts all that a source has.

@@ -86,9 +86,11 @@ impl Unread {
     {
         let mut records = Vec::new(alloc);
         while let Some(record) = self.next(alloc)? {
-            let Ok(()) = records.push(record) else {
+            let Ok(()) = records.reserve(1) else {
+                drop(record);
                 return Err(Refusal::NoMemory);
             };
+            records.push_reserved(record);
         }
         Ok(records)
     }

@@ -113,7 +113,10 @@ fn take_outside(me: Identity, recovery: Recovery, found: Record) -> Result<Repla
         Record::Horizon(place) => Ok(outside(recovery.raise(place)?)),
         Record::Checkpoint(mark) => begin(recovery, mark),
         // A coordinator prepares nothing.
-        Record::Prepare(_) | Record::Learned { .. } | Record::Dropped(_) => Err(Refusal::Damaged),
+        other => {
+            drop(other);
+            Err(Refusal::Damaged)
+        }
     }
 }
 
@@ -123,10 +126,15 @@ fn begin(recovery: Recovery, mark: Mark) -> Result<Replay, Refusal>
     ensures damaged { IsErrOf result Refusal.Damaged → MayBegin recovery.epoch (checkpoint_record mark) → ⊥ }
     ensures err { IfErr result (λ e. e ≡ Refusal.Damaged) }
 {
-    match mark {
-        Mark::Begins(generation) => begin_of(recovery, generation),
+    let begun = match &mark {
+        Mark::Begins(generation) => Some(*generation),
         // Nothing of a checkpoint stands before its begin.
-        Mark::Row { .. } | Mark::Ends(_) => Err(Refusal::Damaged),
+        Mark::Row { .. } | Mark::Ends(_) => None,
+    };
+    drop(mark);
+    match begun {
+        Some(generation) => begin_of(recovery, generation),
+        None => Err(Refusal::Damaged),
     }
 }
 
@@ -168,7 +176,10 @@ fn take_inside(
         Record::Horizon(place) => take_horizon(alloc, inside, recovery, place),
         Record::Checkpoint(mark) => take_mark(inside, recovery, mark),
         // A coordinator prepares nothing.
-        Record::Prepare(_) | Record::Learned { .. } | Record::Dropped(_) => Err(Refusal::Damaged),
+        other => {
+            drop(other);
+            Err(Refusal::Damaged)
+        }
     }
 }
 
@@ -236,10 +247,15 @@ fn take_mark(inside: Inside, recovery: Recovery, mark: Mark) -> Result<Replay, R
     ensures damaged { IsErrOf result Refusal.Damaged → MayMarkNext inside mark → ⊥ }
     ensures err { IfErr result (λ e. e ≡ Refusal.Damaged) }
 {
-    match mark {
-        Mark::Ends(generation) => end(inside, recovery, generation),
+    let ended = match &mark {
+        Mark::Ends(generation) => Some(*generation),
         // One checkpoint stands in no other, and a coordinator has no versions.
-        Mark::Begins(_) | Mark::Row { .. } => Err(Refusal::Damaged),
+        Mark::Begins(_) | Mark::Row { .. } => None,
+    };
+    drop(mark);
+    match ended {
+        Some(generation) => end(inside, recovery, generation),
+        None => Err(Refusal::Damaged),
     }
 }
 

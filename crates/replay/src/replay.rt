@@ -78,7 +78,9 @@ impl Replay {
         match found {
             Record::Prepare(entry) => self.memory.replay_prepare(me, entry),
             Record::Learned { to, placed_ids } => {
-                self.memory.replay_learned(alloc, to, placed_ids.as_slice())
+                let learned = self.memory.replay_learned(alloc, to, placed_ids.as_slice());
+                drop(placed_ids);
+                learned
             }
             Record::Dropped(id) => self.memory.replay_dropped(id),
             Record::Epoch {
@@ -87,10 +89,13 @@ impl Replay {
                 shards,
                 node,
             } => self.memory.replay_epoch(me, epoch, store, shards, node),
-            // A shard decides nothing.
-            Record::Decision { .. } => Err(Refusal::Damaged),
             Record::Horizon(place) => self.memory.replay_horizon(place),
             Record::Checkpoint(mark) => self.begin(mark),
+            // A shard decides nothing.
+            Record::Decision { place: _, entry } => {
+                drop(entry);
+                Err(Refusal::Damaged)
+            }
         }
     }
 
@@ -100,10 +105,15 @@ impl Replay {
         ensures damaged { IsErrOf result Refusal.Damaged → MayBegin self.old.state.epoch (checkpoint_record mark) → ⊥ }
         ensures err { IfErr result (λ e. e ≡ Refusal.Damaged) }
     {
-        match mark {
-            Mark::Begins(generation) => self.begin_of(generation),
+        let begun = match &mark {
+            Mark::Begins(generation) => Some(*generation),
             // Nothing of a checkpoint stands before its begin.
-            Mark::Row { .. } | Mark::Ends(_) => Err(Refusal::Damaged),
+            Mark::Row { .. } | Mark::Ends(_) => None,
+        };
+        drop(mark);
+        match begun {
+            Some(generation) => self.begin_of(generation),
+            None => Err(Refusal::Damaged),
         }
     }
 
@@ -138,7 +148,9 @@ impl Replay {
         match found {
             Record::Prepare(entry) => self.take_prepare(me, inside, entry),
             Record::Learned { to, placed_ids } => {
-                self.take_learned(alloc, inside, to, placed_ids.as_slice())
+                let taken = self.take_learned(alloc, inside, to, placed_ids.as_slice());
+                drop(placed_ids);
+                taken
             }
             Record::Epoch {
                 epoch,
@@ -149,7 +161,10 @@ impl Replay {
             Record::Horizon(place) => self.take_horizon(inside, place),
             Record::Checkpoint(mark) => self.take_mark(me, inside, mark),
             // A shard decides nothing, and what it dropped is not in doubt.
-            Record::Decision { .. } | Record::Dropped(_) => Err(Refusal::Damaged),
+            other => {
+                drop(other);
+                Err(Refusal::Damaged)
+            }
         }
     }
 

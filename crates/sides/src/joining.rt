@@ -159,6 +159,7 @@ pub(crate) fn ask_heads<D: Device>(node: &mut Option<Node<D>>) -> Option<Heads>
 {
     let mut told = Told::new();
     let reply = ask_coordinator(node, CoordinatorCall::Heads, &mut told);
+    drop(told);
     heads_of(reply)
 }
 

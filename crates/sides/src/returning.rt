@@ -74,6 +74,9 @@ impl<D: Device, B: Room> CoordinatorSide<D, B> {
     {
         let opened = reopen(alloc, a, b, me);
         if let Some(refusal) = opened.refusal() {
+            drop(opened);
+            drop(log);
+            drop(attempts);
             return Err(refusal);
         }
         let mut log = log;
