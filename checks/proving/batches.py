@@ -101,6 +101,12 @@ def texts_of(crate, batch):
     return texts
 
 
+def is_at_arguments(block):
+    """Whether the impl is of a type at arguments that are not all parameters of its own, as of `Shard<Away<D>>`."""
+    arguments = bodies.named(block.ty)[2] if block else []
+    return any(it != [it[0]] or it[0] not in block.generics for it in arguments)
+
+
 def symbols_of(crate, function, lines):
     """The symbols under which the check's lines may name the function."""
     start = "::".join([crate.name, *function.module, ""])
@@ -108,6 +114,10 @@ def symbols_of(crate, function, lines):
         below = [it for it in lines if it.startswith(start) and it.endswith(f"::{function.name}")]
         return [it for it in below if function.block.fits(it[len(start) :].split("::")[0])]
     owner = f"{bodies.named(function.block.ty)[0]}::" if function.block else ""
+    if is_at_arguments(function.block):
+        # such an impl's type has its arguments behind it, each behind a plus
+        parts = [(it, it.split("::")) for it in lines if it.endswith(f"::{function.name}")]
+        return [it for it, part in parts if part[-2].startswith(f"{owner[:-2]}+") and function.block.fits(part[-2])]
     own = [it for it in (f"{start}{owner}{function.name}",) if it in lines]
     # an impl may stand in another module than its type, whose path the line has
     return own or [it for it in lines if owner and it.endswith(f"::{owner}{function.name}")]

@@ -9,19 +9,24 @@ use tuples::Refusal;
 
 // What it has come to where a turn told this and no call comes next.
 fn outcome_of(told: Option<What>) -> Result<(), Refusal> {
-    match told {
+    let outcome = match &told {
         Some(What::Ended(_)) => Ok(()),
-        Some(What::Refused(refusal)) => Err(refusal),
+        Some(What::Refused(refusal)) => Err(*refusal),
         // No care ends so.
         _ => Err(Refusal::Damaged),
-    }
+    };
+    drop(told);
+    outcome
 }
 
 // The flow in the slot makes its turn.
 fn turn<D: Device>(world: &mut World<D>, slot: usize) -> Result<(), Refusal>
     ensures { CaresOn D.state D.honest D.moment D.left_since world.old world.new }
 {
-    match world.take(&Step::Turn(slot)) {
+    let step = Step::Turn(slot);
+    let told = world.take(&step);
+    drop(step);
+    match told {
         Ok(told) => outcome_of(told),
         Err(_) => Err(Refusal::NoMemory),
     }
@@ -53,14 +58,26 @@ fn run_out<D: Device>(world: &mut World<D>, slot: usize) -> Result<(), Refusal>
     Err(Refusal::NoMemory)
 }
 
+// The slot in which a care has begun by what its first step told.
+fn begun(told: Option<What>) -> Result<usize, Refusal> {
+    let slot = match &told {
+        Some(What::Began(slot)) => Ok(*slot),
+        Some(What::Refused(refusal)) => Err(*refusal),
+        // There is no such node.
+        _ => Err(Refusal::BadRequest),
+    };
+    drop(told);
+    slot
+}
+
 fn begin<D: Device>(world: &mut World<D>, care: Care) -> Result<usize, Refusal>
     ensures { CaresOn D.state D.honest D.moment D.left_since world.old world.new }
 {
-    match world.take(&Step::Care(care)) {
-        Ok(Some(What::Began(slot))) => Ok(slot),
-        Ok(Some(What::Refused(refusal))) => Err(refusal),
-        // There is no such node.
-        Ok(_) => Err(Refusal::BadRequest),
+    let step = Step::Care(care);
+    let told = world.take(&step);
+    drop(step);
+    match told {
+        Ok(told) => begun(told),
         Err(_) => Err(Refusal::NoMemory),
     }
 }

@@ -72,16 +72,26 @@ impl<S: Store> Running<S> {
         ensures refused { OnErr result (StartsNot S.takes S.nexts id name first self.old self.new) }
         ensures capacity { vec_capacity out.old ≤ vec_capacity out.new }
     {
-        self.names.reserve(1)?;
-        self.slots.reserve(1)?;
-        match self.store.take(first)? {
-            Some(What::Began(slot)) => {
+        let (Ok(()), Ok(())) = (self.names.reserve(1), self.slots.reserve(1)) else {
+            drop(name);
+            drop(first);
+            return Err(AllocError);
+        };
+        match self.store.take(first) {
+            Ok(Some(What::Began(slot))) => {
                 let printed = Printed::Started(name.as_bytes()).write_to(id, out);
                 self.names.push_reserved(name);
                 self.slots.push_reserved(slot);
                 printed
             }
-            told => print_unbegun(id, told, out),
+            Ok(told) => {
+                drop(name);
+                print_unbegun(id, told, out)
+            }
+            Err(error) => {
+                drop(name);
+                Err(error)
+            }
         }
     }
 

@@ -44,7 +44,9 @@ impl<D: Device> Store for Stepping<D> {
     ghost sets = { SetsScript D.set_to_fail D.state D.honest D.moment D.left_since };
 
     fn take(&mut self, step: Step) -> Result<Option<What>, AllocError> {
-        self.world.take(&step)
+        let told = self.world.take(&step);
+        drop(step);
+        told
     }
 
     fn next(&self, slot: usize) -> Option<CallName> {
