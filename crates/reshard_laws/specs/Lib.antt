@@ -1,0 +1,2 @@
+pub mod Cared
+pub mod Carried
