@@ -1,4 +1,5 @@
 pub mod Caring
+pub mod Down
 pub mod Gathered
 pub mod Filled
 pub mod Founded

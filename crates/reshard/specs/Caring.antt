@@ -53,7 +53,7 @@ module _ {D : Type 0} (state : D → State) (honest : D → Type 0) (moment : D 
   TurnsOf slot [] old new = new ≡ old
   TurnsOf slot (told ∷ before) old new = (mid : WorldView D) × TurnsOf slot before old mid × Takes state honest moment left_since mid (Turn slot) told new
 
-  -- a care was begun in some slot, and the flow there made its turns, the last of which told an answer
+  -- A care was begun in some slot, and the flow there made its turns, the last of which told an answer.
   pub record Serves (care : Care) (old new : WorldView D) : Type 0 where
     pub slot : ℕ
     pub begun : WorldView D
@@ -62,7 +62,7 @@ module _ {D : Type 0} (state : D → State) (honest : D → Type 0) (moment : D 
     pub before : List (Option What)
     pub turns : TurnsOf slot (Some (Ended answer) ∷ before) begun new
 
-  -- the coordinator is flushed, which tells that all is durable, and then further cares are made
+  -- the coordinator was flushed, which told its end, and then more such steps were taken
   pub record IsCaredFor (old new : WorldView D) : Type 0 where
     pub flushed : WorldView D
     pub first : Serves (Flush Coordinator) old flushed
