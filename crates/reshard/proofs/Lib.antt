@@ -3,3 +3,4 @@ pub mod Down
 pub mod Gathered
 pub mod Filled
 pub mod Founded
+pub mod Written

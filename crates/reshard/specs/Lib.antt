@@ -2,3 +2,4 @@ pub mod Caring
 pub mod Gathering
 pub mod Made
 pub mod Refusing
+pub mod Written

@@ -99,4 +99,4 @@ module _ {D : Type 0} (state : D → State) (honest : D → Type 0) (moment : D 
   -- the cares, or not be written.
   abbrev pub CarriesNot : WorldView D → Refusal → WorldView D → Type 0
   CarriesNot old e new = (IsFirstDown state honest old e × (new ≡ old))
-      ⊎ (IsRefusedCare state honest moment left_since old e new ⊎ (Cares state honest moment left_since old new × (IsNotKnown state honest new e ⊎ IsNotWritten e)))
+      ⊎ (IsRefusedCare state honest moment left_since old e new ⊎ (Cares state honest moment left_since old new × (IsNotKnown state honest new e ⊎ IsNotWritten new.nodes e)))

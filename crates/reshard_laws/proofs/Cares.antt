@@ -47,7 +47,7 @@ names_none (Resolve shard) is = refl
 names_none (Raise place) is = absurd is
 names_none (Collect shard) is = refl
 
-whole_care : (step : Step) → IsCaring step → IsWholeStep step
+pub whole_care : (step : Step) → IsCaring step → IsWholeStep step
 whole_care (Start request) is = absurd is
 whole_care (Turn slot) is = tt
 whole_care (Cancel slot) is = absurd is
@@ -63,15 +63,15 @@ AreNoWrites = Each IsNoWrite
 -- ---- one step, over moments alone
 
 module _ (shards : ℕ) (found : ℕ → Type 0) (before : Moment) where
-  abbrev May : ℕ → Type 0
+  abbrev pub May : ℕ → Type 0
   May = MayRise shards found before
 
   -- it leaves the list, and no flow that writes begins
-  record Goes (after : Moment) : Type 0 where
-    quietly : GoesQuietly May before.machine after.machine
-    no_writes : AreNoWrites after.running
-    named : after.named ≡ before.named
-    told : (id : WriteId) → Contains before.told id → Contains after.told id
+  pub record Goes (after : Moment) : Type 0 where
+    pub quietly : GoesQuietly May before.machine after.machine
+    pub no_writes : AreNoWrites after.running
+    pub named : after.named ≡ before.named
+    pub told : (id : WriteId) → Contains before.told id → Contains after.told id
 
   still : (after : Moment) → AreNoWrites before.running → after ≡ before → Goes after
   still after none is = subst Goes (sym is) (record { quietly = goes_nowhere May before.machine before.machine refl; no_writes = none; named = refl; told = λ id has. has })
@@ -180,26 +180,26 @@ module _ {D : Type 0} (state : D → State) (honest : D → Type 0) (moment : D 
   }
 
   module _ (old new : WorldView D) (c : Cared old) (step : Step) (told : Option What) (is : IsCaring step) (takes : Takes state honest moment left_since old step told new) where
-    abbrev before : KeepsList state honest moment left_since store shards s now old
+    abbrev pub before : KeepsList state honest moment left_since store shards s now old
     before = c.keeps
 
-    abbrev kept : Keeps state honest moment left_since old before.later step told new
+    abbrev pub kept : Keeps state honest moment left_since old before.later step told new
     kept = keep step old new before.later told before.shows (whole_care step is) takes
 
-    run : RunsOne state honest moment left_since store shards before.later 0 (step_of step) (events_of 0 (all_told told)) kept.later
+    pub run : RunsOne state honest moment left_since store shards before.later 0 (step_of step) (events_of 0 (all_told told)) kept.later
     run = subst (λ (n : ℕ). RunsOne state honest moment left_since n shards before.later 0 (step_of step) (events_of 0 (all_told told)) kept.later) before.store_is
         (subst (λ (n : ℕ). RunsOne state honest moment left_since old.store n before.later 0 (step_of step) (events_of 0 (all_told told)) kept.later) before.shards_is (kept.runs 0))
 
     abbrev pub ran : Ran state honest moment left_since store shards before.later before.after 0 (step_of step) (events_of 0 (all_told told)) kept.later
     ran = run before.after before.stands
 
-    here : Goes shards (NamesHorizon state honest store shards before.later before.after) before.after ran.after
+    pub here : Goes shards (NamesHorizon state honest store shards before.later before.after) before.after ran.after
     here = goes shards (NamesHorizon state honest store shards before.later before.after) before.after step ran.after is c.no_writes ran.told ran.takes
 
     rises_before : (x : ℕ) → MayRise shards (NamesHorizon state honest store shards before.later before.after) before.after x → Rises x
     rises_before x may = ⊎_elim (λ named. inl (c.named x named)) (λ names. c.names x names) may
 
-    on_list : GoesQuietly Rises now.machine ran.after.machine
+    pub on_list : GoesQuietly Rises now.machine ran.after.machine
     on_list = goes_then Rises now.machine before.after.machine ran.after.machine (record { same = before.same; horizon = before.horizon })
         (record { same = here.quietly.same; horizon = ⊎_elim (λ still. inl still) (λ rose. inr (rises_before ran.after.machine.horizon rose)) here.quietly.horizon })
 

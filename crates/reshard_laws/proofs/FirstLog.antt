@@ -50,12 +50,13 @@ module _ (me you : Identity) where
 
   -- decisions are of no one store
   same_decisions : (s : CoordinatorState) (place : ℕ) (ws : List Entry) → FollowAll me listing s (decisions_from place ws ++ Checkpoint (Ends 1) ∷ []) → FollowAll you listing s (decisions_from place ws ++ Checkpoint (Ends 1) ∷ [])
+  unfolding coordinator_step
   same_decisions s place [] follow = follow
-  same_decisions s place (w ∷ ws) follow = (follow.0, same_decisions _ (place + 1) ws follow.1)
+  same_decisions s place (w ∷ ws) follow = (follow.0, same_decisions (record s { log = s.log ++ w ∷ [] }) (place + 1) ws follow.1)
 
   same_checkpoint : (s : CoordinatorState) → you.node ≡ coordinator_number → FollowAll me None empty_coordinator (coordinator_checkpoint me 1 s) → FollowAll you None empty_coordinator (coordinator_checkpoint you 1 s)
   unfolding coordinator_checkpoint coordinator_step
-  same_checkpoint s is (begins, opens, bounds, rest) = (
+  same_checkpoint s is (begins, (opens, (bounds, rest))) = (
     begins,
     (
       record { may = record { after = refl; some = opens.may.some; greatest = opens.may.greatest; same_store = refl; same_shards = refl; same_node = refl }; coordinator = is },

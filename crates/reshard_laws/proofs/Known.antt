@@ -139,7 +139,7 @@ module _ {D : Type 0} (state : D → State) (honest : D → Type 0) (moment : D 
       alike : AreAlike (memory h.v).rows (of_shard shards i all)
       alike =
           let seen_here = shard_is_seen state honest store shards s now stands i h.v h.node h.is_up in
-          let means = stands.stands.listed i (h.v.durable ++ h.v.staged) lt (known_left store shards (stops state honest store shards s.devices) now i h.v seen_here stands.stands) in
+          let means = stands.stands.listed i (h.v.durable ++ h.v.staged) lt (known_left store shards (stops state honest store shards s.devices) now h.v i seen_here stands.stands) in
           let reaches = h.reaches.ok up in
           subst (λ (p : ℕ). AreAlike (memory h.v).rows (of_shard shards i (versions now.machine.log p reach.horizon))) (sym reaches.0)
           (subst (λ (x : ℕ). AreAlike (memory h.v).rows (of_shard shards i (versions now.machine.log (memory h.v).learned x))) (sym reaches.1) means.rows)

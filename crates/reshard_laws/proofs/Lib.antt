@@ -9,3 +9,4 @@ pub mod FirstShard
 pub mod FirstLog
 pub mod Meaning
 pub mod Carried
+pub mod Moments

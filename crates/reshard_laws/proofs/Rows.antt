@@ -1,8 +1,8 @@
 -- What the shards tell together are the versions of the log.
-use Rattle.std.proofs.Common.{◌≡◌, ◌⊎◌, inl, inr, ⊎_elim, ◌≤◌, ◌<◌, ◌+◌, ◌-◌, ◌==◌, nat_lt, nat_le, ℕ, zero, suc, Bool, true, true≢false, false, cond, filter, List, [], ◌∷◌, ◌++◌, length, take, refl, sym, ◌∙◌, ap, subst, arith, MatchOption, Option, None, Some, Ok, Err}
+use Rattle.std.proofs.Common.{◌≡◌, ◌⊎◌, inl, inr, ⊎_elim, ◌≤◌, ◌<◌, ◌+◌, ◌-◌, ◌==◌, ◌||◌, nat_lt, ℕ, zero, suc, Bool, true, true≢false, false, cond, filter, List, [], ◌∷◌, ◌++◌, length, take, refl, sym, ◌∙◌, ap, subst, arith, tests}
 use Rattle.std.specs.List.{AllByRecursion}
 use Rattle.std.specs.List.Sorted.{IsPermutation}
-use Rattle.std.proofs.lemmas.Bool.{cases_Bool, eqb-true, eq-eqb, lt-ltb, ltb-true}
+use Rattle.std.proofs.lemmas.Bool.{cases_Bool, eqb-true, le-ltb, lt-ltb, ltb-true}
 use Rattle.std.proofs.lemmas.List.{length-take-le}
 use Rattle.std.proofs.lemmas.List.Elements.{filter-append}
 use Rattle.std.proofs.lemmas.List.Sorted.{IsPermutation-append, IsPermutation-cons, IsPermutation-middle, IsPermutation-refl, IsPermutation-sym, IsPermutation-trans}
@@ -27,11 +27,11 @@ use Rattle.reshard_laws.proofs.Sorted.{Strict, sorted_alike, strict_filter, stri
 
 -- ---- the versions of a log rise strictly within each tuple
 
-or_first : (a b : Bool) → (cond a true b) ≡ false → a ≡ false
+or_first : (a b : Bool) → (a || b) ≡ false → a ≡ false
 or_first true b is = is
 or_first false b is = refl
 
-or_second : (a b : Bool) → (cond a true b) ≡ false → b ≡ false
+or_second : (a b : Bool) → (a || b) ≡ false → b ≡ false
 or_second true b is = absurd (true≢false is)
 or_second false b is = is
 
@@ -84,15 +84,15 @@ rises_from n (v ∷ vs) strict = ((let a = strict.0 in omega (arith, a)), weaker
     weaker m [] rises = tt
     weaker m (u ∷ us) rises = ((let a = rises.0 in omega (arith, a)), rises.1)
 
+one_swap : (p q : Version → Bool) (v : Version) (vs : List Version) (a b : Bool) → p v ≡ a → q v ≡ b → filter p (filter q vs) ≡ filter q (filter p vs) → filter p (filter q (v ∷ vs)) ≡ filter q (filter p (v ∷ vs))
+one_swap p q v vs true true is at rest = rw (is, at) (rw is (ap (λ (l : List Version). v ∷ l) rest))
+one_swap p q v vs true false is at rest = rw (is, at) rest
+one_swap p q v vs false true is at rest = rw (is, at) (rw is rest)
+one_swap p q v vs false false is at rest = rw (is, at) rest
+
 filters_swap : (p q : Version → Bool) (vs : List Version) → filter p (filter q vs) ≡ filter q (filter p vs)
 filters_swap p q [] = refl
-filters_swap p q (v ∷ vs) = by_tests (p v) (q v) refl refl
-  where
-    by_tests : (a b : Bool) → p v ≡ a → q v ≡ b → filter p (filter q (v ∷ vs)) ≡ filter q (filter p (v ∷ vs))
-    by_tests true true is at = rw (is, at) (rw (is, at) (ap (λ (l : List Version). v ∷ l) (filters_swap p q vs)))
-    by_tests true false is at = rw (is, at) (rw at (filters_swap p q vs))
-    by_tests false true is at = rw (is, at) (rw is (filters_swap p q vs))
-    by_tests false false is at = rw (is, at) (filters_swap p q vs)
+filters_swap p q (v ∷ vs) = one_swap p q v vs (p v) (q v) refl refl (filters_swap p q vs)
 
 all_own : (shards s : ℕ) (vs : List Version) → AllByRecursion (λ (v : Version). shard_of shards (tuple_of v.change).object ≡ s) (of_shard shards s vs)
 all_own shards s [] = tt
@@ -124,38 +124,31 @@ module _ (shards : ℕ) where
   abbrev pub first_shards : ℕ → List Version → List Version
   first_shards s = filter (λ (v : Version). nat_lt (shard_of shards (tuple_of v.change).object) s)
 
+  apart : (x s : ℕ) → nat_lt x s ≡ true → (x == s) ≡ false
+  apart x s lt = ⊎_elim (λ same. absurd (let a = eqb-true x s same in let b = ltb-true x s lt in omega (arith, a, b))) (λ other. other) (cases_Bool (x == s))
+
+  either : (x s : ℕ) → (nat_lt x s || (x == s)) ≡ nat_lt x (suc s)
+  either x s = grind (arith, tests)
+
+  -- one version more, which is of those, of the next shard, or of neither
+  one_version : (v : Version) (first own both : List Version) (a b c : Bool) → (a ≡ true → b ≡ false) → (a || b) ≡ c → IsPermutation (first ++ own) both → IsPermutation (cond a (v ∷ first) first ++ cond b (v ∷ own) own) (cond c (v ∷ both) both)
+  one_version v first own both true b c one is rest =
+      subst (λ (x : Bool). IsPermutation ((v ∷ first) ++ cond x (v ∷ own) own) (cond c (v ∷ both) both)) (sym (one refl))
+      (subst (λ (x : Bool). IsPermutation ((v ∷ first) ++ own) (cond x (v ∷ both) both)) is (IsPermutation-cons v (first ++ own) both rest))
+  one_version v first own both false true c one is rest =
+      subst (λ (x : Bool). IsPermutation (first ++ v ∷ own) (cond x (v ∷ both) both)) is
+      (IsPermutation-trans _ _ _ (IsPermutation-middle first v own) (IsPermutation-cons v (first ++ own) both rest))
+  one_version v first own both false false c one is rest = subst (λ (x : Bool). IsPermutation (first ++ own) (cond x (v ∷ both) both)) is rest
+
   pub one_more : (s : ℕ) (vs : List Version) → IsPermutation (first_shards s vs ++ of_shard shards s vs) (first_shards (suc s) vs)
   one_more s [] = IsPermutation-refl []
-  one_more s (v ∷ vs) = by_place (shard_of shards (tuple_of v.change).object) refl
-    where
-      rest : IsPermutation (first_shards s vs ++ of_shard shards s vs) (first_shards (suc s) vs)
-      rest = one_more s vs
-
-      by_tests : (a b c : Bool) → (a ≡ true → b ≡ false) → cond a true b ≡ c → IsPermutation (cond a (v ∷ first_shards s vs) (first_shards s vs) ++ cond b (v ∷ of_shard shards s vs) (of_shard shards s vs)) (cond c (v ∷ first_shards (suc s) vs) (first_shards (suc s) vs))
-      by_tests true b c one is =
-          subst (λ (x : Bool). IsPermutation ((v ∷ first_shards s vs) ++ cond x (v ∷ of_shard shards s vs) (of_shard shards s vs)) (cond c (v ∷ first_shards (suc s) vs) (first_shards (suc s) vs))) (sym (one refl))
-          (subst (λ (x : Bool). IsPermutation ((v ∷ first_shards s vs) ++ of_shard shards s vs) (cond x (v ∷ first_shards (suc s) vs) (first_shards (suc s) vs))) is
-          (IsPermutation-cons v (first_shards s vs ++ of_shard shards s vs) (first_shards (suc s) vs) rest))
-      by_tests false true c one is =
-          subst (λ (x : Bool). IsPermutation (first_shards s vs ++ v ∷ of_shard shards s vs) (cond x (v ∷ first_shards (suc s) vs) (first_shards (suc s) vs))) is
-          (IsPermutation-trans _ _ _ (IsPermutation-middle (first_shards s vs) v (of_shard shards s vs)) (IsPermutation-cons v (first_shards s vs ++ of_shard shards s vs) (first_shards (suc s) vs) rest))
-      by_tests false false c one is =
-          subst (λ (x : Bool). IsPermutation (first_shards s vs ++ of_shard shards s vs) (cond x (v ∷ first_shards (suc s) vs) (first_shards (suc s) vs))) is rest
-
-      by_place : (x : ℕ) → shard_of shards (tuple_of v.change).object ≡ x → IsPermutation (first_shards s (v ∷ vs) ++ of_shard shards s (v ∷ vs)) (first_shards (suc s) (v ∷ vs))
-      by_place x is =
-          by_tests (nat_lt (shard_of shards (tuple_of v.change).object) s) (shard_of shards (tuple_of v.change).object == s) (nat_lt (shard_of shards (tuple_of v.change).object) (suc s))
-          (λ lt. apart (shard_of shards (tuple_of v.change).object) s lt) (either (shard_of shards (tuple_of v.change).object) s)
-        where
-          apart : (x s : ℕ) → nat_lt x s ≡ true → (x == s) ≡ false
-          apart x s lt = ⊎_elim (λ same. absurd (let a = eqb-true x s same in let b = ltb-true x s lt in omega (arith, a, b))) (λ other. other) (cases_Bool (x == s))
-
-          either : (x s : ℕ) → cond (nat_lt x s) true (x == s) ≡ nat_lt x (suc s)
-          either x s = grind arith
+  one_more s (v ∷ vs) =
+      let x = shard_of shards (tuple_of v.change).object in
+      one_version v (first_shards s vs) (of_shard shards s vs) (first_shards (suc s) vs) (nat_lt x s) (x == s) (nat_lt x (suc s)) (apart x s) (either x s) (one_more s vs)
 
   pub none_first : (vs : List Version) → first_shards 0 vs ≡ []
   none_first [] = refl
-  none_first (v ∷ vs) = none_first vs
+  none_first (v ∷ vs) = rw (le-ltb (shard_of shards (tuple_of v.change).object) 0 (omega arith)) (none_first vs)
 
   pub all_first : 1 ≤ shards → (vs : List Version) → first_shards shards vs ≡ vs
   all_first some [] = refl

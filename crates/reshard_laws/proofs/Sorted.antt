@@ -4,11 +4,11 @@ use Rattle.std.specs.List.{AllByRecursion}
 use Rattle.std.specs.List.Sorted.{IsPermutation, IsSorted}
 use Rattle.std.specs.Ordering.{is_lt, nat_cmp, ordering_then}
 use Rattle.std.specs.declared.cmp.Ordering.{Ordering}
-use Rattle.std.proofs.lemmas.Bool.{cases_Bool, eqb-true, ltb-false}
+use Rattle.std.proofs.lemmas.Bool.{cases_Bool, eqb-true}
 use Rattle.std.proofs.lemmas.Cmp.{tied_itself}
 use Rattle.std.proofs.lemmas.List.Sorted.{Contains-permutation, IsPermutation-sym, sorted_far, sum_by-IsPermutation}
 use Rattle.std.proofs.lemmas.List.Sums.{sum_by-cons}
-use Rattle.core.proofs.slice.Orders.{nat_cmp-ltb}
+use Rattle.std.proofs.lemmas.Map.Keys.{ge_from_not_lt}
 use Rattle.tuples.specs.declared.tuple.Tuple.{Tuple}
 use Rattle.tuples.specs.declared.version.Version.{Version}
 use Rattle.tuples.specs.Changes.{tuple_of}
@@ -80,39 +80,44 @@ counts_one v (u ∷ vs) (inr later) =
 
 -- ---- two lists
 
+less_one : (c : Bool) (x y : ℕ) → cond c (suc x) x ≡ cond c (suc y) y → x ≡ y
+less_one true x y is = omega (arith, is)
+less_one false x y is = is
+
+-- what is so of two lists that begin with the same is so of the rest
+same_rest : (n : ℕ) (a b : Version) (xs ys : List Version) → Strict n (a ∷ xs) → ((k : ℕ) → count_at k (b ∷ ys) ≡ count_at k (a ∷ xs)) → ((v : Version) → Has (b ∷ ys) v → Has (a ∷ xs) v) → a ≡ b
+    → ((k : ℕ) → count_at k ys ≡ count_at k xs) × ((v : Version) → Has ys v → Has xs v)
+same_rest n a b xs ys strict counts has same =
+    let rest : (k : ℕ) → count_at k ys ≡ count_at k xs = λ k.
+    let both : cond (a.place == k) (suc (count_at k ys)) (count_at k ys) ≡ cond (a.place == k) (suc (count_at k xs)) (count_at k xs) =
+    subst (λ (w : Version). cond (w.place == k) (suc (count_at k ys)) (count_at k ys) ≡ count_at k (a ∷ xs)) (sym same) (counts k) in
+    less_one (a.place == k) (count_at k ys) (count_at k xs) both in
+    let none = none_below a.place a.place xs (omega arith) strict.1 in (
+      rest,
+      λ v later. ⊎_elim
+          (λ again. let one = subst (λ (w : Version). 1 ≤ count_at w.place ys) (sym again) (counts_one v ys later) in absurd (omega (arith, one, none, rest a.place)))
+          (λ there. there)
+          (has v (inr later)),
+    )
+
 -- one that rises strictly, and one that does not fall and has no other versions, are one where as many stand at each place
-same_list : (n m : ℕ) (as bs : List Version) → Strict n as → RisesFrom m bs → ((k : ℕ) → count_at k bs ≡ count_at k as) → ((v : Version) → Has bs v → Has as v) → bs ≡ as
+same_list : (n m : ℕ) (xs ys : List Version) → Strict n xs → RisesFrom m ys → ((k : ℕ) → count_at k ys ≡ count_at k xs) → ((v : Version) → Has ys v → Has xs v) → ys ≡ xs
 same_list n m [] [] strict rises counts has = refl
-same_list n m [] (b ∷ bs) strict rises counts has = absurd (has b (inl refl))
-same_list n m (a ∷ as) [] strict rises counts has =
-    let one = counts_one a (a ∷ as) (inl refl) in
+same_list n m [] (b ∷ ys) strict rises counts has = absurd (has b (inl refl))
+same_list n m (a ∷ xs) [] strict rises counts has =
+    let one = counts_one a (a ∷ xs) (inl refl) in
     let none = counts a.place in
     absurd (omega (arith, one, none))
-same_list n m (a ∷ as) (b ∷ bs) strict rises counts has = ⊎_elim same_head other_head (has b (inl refl))
-  where
-    other_head : Has as b → b ∷ bs ≡ a ∷ as
-    other_head later =
-        let above = strict_above a.place as b strict.1 later in
-        let one = counts_one a (a ∷ as) (inl refl) in
-        let none = none_beneath b.place a.place (b ∷ bs) above (omega arith, rises.1) in
-        absurd (omega (arith, one, none, counts a.place))
-
-    same_head : a ≡ b → b ∷ bs ≡ a ∷ as
-    same_head same =
-        let rest : (k : ℕ) → count_at k bs ≡ count_at k as = λ k.
-        let both : cond (a.place == k) (suc (count_at k bs)) (count_at k bs) ≡ cond (a.place == k) (suc (count_at k as)) (count_at k as) =
-        subst (λ (w : Version). cond (w.place == k) (suc (count_at k bs)) (count_at k bs) ≡ count_at k (a ∷ as)) (sym same) (counts k) in
-        less (a.place == k) (count_at k bs) (count_at k as) both in
-        let none = none_below a.place a.place as (omega arith) strict.1 in
-        ap (λ (w : Version). w ∷ bs) (sym same) ∙ ap (λ (l : List Version). a ∷ l)
-        (same_list a.place b.place as bs strict.1 rises.1 rest (λ v later. ⊎_elim
-        (λ again. let one = subst (λ (w : Version). 1 ≤ count_at w.place bs) (sym again) (counts_one v bs later) in absurd (omega (arith, one, none, rest a.place)))
-        (λ there. there)
-        (has v (inr later))))
-      where
-        less : (c : Bool) (x y : ℕ) → cond c (suc x) x ≡ cond c (suc y) y → x ≡ y
-        less true x y is = omega (arith, is)
-        less false x y is = is
+same_list n m (a ∷ xs) (b ∷ ys) strict rises counts has = ⊎_elim
+    (λ same.
+    let rest = same_rest n a b xs ys strict counts has same in
+    ap (λ (w : Version). w ∷ ys) (sym same) ∙ ap (λ (l : List Version). a ∷ l) (same_list a.place b.place xs ys strict.1 rises.1 rest.0 rest.1))
+    (λ later.
+    let above = strict_above a.place xs b strict.1 later in
+    let one = counts_one a (a ∷ xs) (inl refl) in
+    let none = none_beneath b.place a.place (b ∷ ys) above (omega arith, rises.1) in
+    absurd (omega (arith, one, none, counts a.place)))
+    (has b (inl refl))
 
 -- ---- of one tuple, in lists with the same versions
 
@@ -130,16 +135,16 @@ module _ (t : Tuple) where
   abbrev is_of : Version → Bool
   is_of v = tuple_eq t (tuple_of v.change)
 
+  has_first : (x : Version) (xs : List Version) (v : Version) → (Has (of_tuple t xs) v → Has xs v × (is_of v ≡ true)) → is_of x ≡ true → Has (x ∷ of_tuple t xs) v → Has (x ∷ xs) v × (is_of v ≡ true)
+  has_first x xs v rest here (inl same) = (inl same, subst (λ (w : Version). is_of w ≡ true) same here)
+  has_first x xs v rest here (inr later) = let r = rest later in (inr r.0, r.1)
+
   has_in : (xs : List Version) (v : Version) → Has (of_tuple t xs) v → Has xs v × (is_of v ≡ true)
   has_in [] v has = absurd has
   has_in (x ∷ xs) v has = ⊎_elim
-      (λ here. by_head here (subst (λ (b : Bool). Has (cond b (x ∷ of_tuple t xs) (of_tuple t xs)) v) here has))
+      (λ here. has_first x xs v (λ later. has_in xs v later) here (subst (λ (b : Bool). Has (cond b (x ∷ of_tuple t xs) (of_tuple t xs)) v) here has))
       (λ other. let r = has_in xs v (subst (λ (b : Bool). Has (cond b (x ∷ of_tuple t xs) (of_tuple t xs)) v) other has) in (inr r.0, r.1))
       (cases_Bool (is_of x))
-    where
-      by_head : is_of x ≡ true → Has (x ∷ of_tuple t xs) v → Has (x ∷ xs) v × (is_of v ≡ true)
-      by_head here (inl same) = (inl same, subst (λ (w : Version). is_of w ≡ true) same here)
-      by_head here (inr later) = let r = has_in xs v later in (inr r.0, r.1)
 
   has_out : (xs : List Version) (v : Version) → Has xs v → is_of v ≡ true → Has (of_tuple t xs) v
   has_out [] v has is = absurd has
@@ -191,18 +196,16 @@ module _ (t : Tuple) where
       ap (λ (x : Tuple). ordering_then (tuple_cmp x (tuple_of v.change)) (nat_cmp u.place v.place)) same_u
       ∙ ap (λ (x : Tuple). ordering_then (tuple_cmp t x) (nat_cmp u.place v.place)) same_v
       ∙ ap (λ (o : Ordering). ordering_then o (nat_cmp u.place v.place)) (tied_itself tuple_total t) in
-      ltb-false u.place v.place (sym (nat_cmp-ltb u.place v.place) ∙ ap is_lt (sym tied) ∙ is)
+      ge_from_not_lt u.place v.place (ap is_lt (sym tied) ∙ is)
+
+  no_lower_later : (x : Version) (ys : List Version) → is_of x ≡ true → AllByRecursion (λ (v : Version). is_of v ≡ true) ys → AllByRecursion (λ (u : Version). is_lt (version_cmp u x) ≡ false) ys
+      → AllByRecursion (λ (v : Version). x.place ≤ v.place) ys
+  no_lower_later x [] is own ranks = tt
+  no_lower_later x (y ∷ ys) is own ranks = (no_lower x y is own.0 ranks.0, no_lower_later x ys is own.1 ranks.1)
 
   rises_ranked : (n : ℕ) (xs : List Version) → AllByRecursion (λ (v : Version). n ≤ v.place) xs → AllByRecursion (λ (v : Version). is_of v ≡ true) xs → Ranked xs → RisesFrom n xs
   rises_ranked n [] low own r = tt
-  rises_ranked n (x ∷ xs) low own r = (low.0, rises_ranked x.place xs (above xs own.1 r.0) own.1 r.1)
-    where
-      above : (ys : List Version) → AllByRecursion (λ (v : Version). is_of v ≡ true) ys → AllByRecursion (λ (u : Version). is_lt (version_cmp u x) ≡ false) ys → AllByRecursion (λ (v : Version). x.place ≤ v.place) ys
-      above [] own no = tt
-      above (y ∷ ys) own no = (no_lower x y own.0 y_is no.0, above ys own.1 no.1)
-        where
-          y_is : is_of y ≡ true
-          y_is = own.0
+  rises_ranked n (x ∷ xs) low own r = (low.0, rises_ranked x.place xs (no_lower_later x xs own.0 own.1 r.0) own.1 r.1)
 
   all_own : (xs : List Version) → AllByRecursion (λ (v : Version). is_of v ≡ true) (of_tuple t xs)
   all_own [] = tt

@@ -1,6 +1,7 @@
 // The laws of a store that is carried over, each the clause of a function with an empty body.
 ghost use Rattle.reshard_laws.specs.Cared.{CaresKeepTheList, FlushedListsAreKept};
 ghost use Rattle.reshard_laws.specs.Carried.{ClosedStoresAreCarriedOver, TokensReadTheSame, WhatIsCarriedOverRests};
+ghost use Rattle.reshard_laws.specs.Moments.{NewCoordinatorsAreWhole};
 
 use device::Device;
 
@@ -27,4 +28,9 @@ pub fn a_closed_store_is_carried_over<D: Device>()
 /// Whatever lives the new store then has, each place of the old list shows the same tuples.
 pub fn tokens_read_the_same<D: Device>()
     ensures { TokensReadTheSame D.state D.honest D.moment D.left_since D.set_to_fail }
+{}
+
+/// A stop at any moment of a carrying leaves of the new coordinator no record, or what each opening finds to be damage, or all that the old one knew.
+pub fn new_coordinators_are_whole<D: Device>()
+    ensures { NewCoordinatorsAreWhole D.state D.honest D.moment D.left_since }
 {}

@@ -11,5 +11,5 @@ mod carried_laws;
 
 pub use carried_laws::{
     a_closed_store_is_carried_over, cares_keep_the_list, flushed_lists_are_kept,
-    tokens_read_the_same, what_is_carried_over_rests,
+    new_coordinators_are_whole, tokens_read_the_same, what_is_carried_over_rests,
 };
