@@ -1,13 +1,22 @@
--- One care more.
-use Rattle.std.proofs.Common.{◌≡◌, ◌++◌, ◌∷◌, [], ℕ, List, Option, length, refl, sym, subst, arith}
+-- One care more, and what a care that is served or refused is.
+use Rattle.std.proofs.Common.{◌≡◌, ◌++◌, ◌∷◌, [], ◌⊎◌, inl, inr, ⊎_elim, ℕ, List, Option, Some, Result, Ok, Err, Contains, length, refl, sym, subst, arith}
 use Rattle.std.specs.List.{AllByRecursion}
+use Rattle.std.specs.Result.{IfErr, OnOk}
+use Rattle.std.proofs.lemmas.List.Elements.{Contains-push}
 use Rattle.cluster.proofs.Runs.{one_more}
 use Rattle.cluster.specs.Steps.{Takes, events_of}
 use Rattle.cluster.specs.Worlds.{WorldView}
+use Rattle.cluster.specs.declared.event.Event.{Event}
 use Rattle.cluster.specs.declared.event.What.{What}
+use Rattle.cluster.specs.declared.event.What.TheVariants.{Began, Ended, Refused}
 use Rattle.cluster.specs.declared.step.Step.{Step}
+use Rattle.cluster.specs.declared.step.Step.TheVariants.{Turn, Care as care_for}
 use Rattle.device.specs.Device.{State}
-use Rattle.reshard.specs.Caring.{Cares, CaresOn, IsCaring}
+use Rattle.names.specs.declared.care.Care.{Care}
+use Rattle.refusal.specs.declared.refusal.Refusal.{Refusal}
+use Rattle.refusal.specs.declared.refusal.Refusal.TheVariants.{Damaged, NoMemory}
+use Rattle.reshard.specs.Caring.{Cares, CaresOn, IsCaring, IsOfClosing, Serves, TurnsOf}
+use Rattle.reshard.specs.Refusing.{BeginsNot, ComesTo, HasComeTo, IsRefusedCare, Plays, RefusesCare, TurnsTo}
 
 all_more : (steps : List Step) (s : Step) → AllByRecursion IsCaring steps → IsCaring s → AllByRecursion IsCaring (steps ++ s ∷ [])
 all_more [] s all one = (one, tt)
@@ -17,16 +26,90 @@ module _ {D : Type 0} (state : D → State) (honest : D → Type 0) (moment : D 
   pub nothing_done : (w : WorldView D) → Cares state honest moment left_since w w
   nothing_done w = record { steps = []; events = []; caring = tt; took = (refl, refl) }
 
-  pub one_care : (old new : WorldView D) (step : Step) (told : Option What) → IsCaring step → Takes state honest moment left_since old step told new → CaresOn state honest moment left_since old new
-  one_care old new step told caring takes first cares = record {
+  -- the cares, and one such step behind them
+  abbrev with_step : (first old new : WorldView D) (step : Step) (told : Option What) → IsCaring step → Takes state honest moment left_since old step told new → Cares state honest moment left_since first old
+      → Cares state honest moment left_since first new
+  with_step first old new step told caring takes cares = record {
     steps = cares.steps ++ step ∷ [];
     events = cares.events ++ events_of (length cares.steps) told;
     caring = all_more cares.steps step cares.caring caring;
     took = one_more state honest moment left_since first old new 0 (length cares.steps) cares.steps step cares.events (events_of (length cares.steps) told) cares.took (omega arith) (told, takes, refl);
   }
 
+  pub one_care : (old new : WorldView D) (step : Step) (told : Option What) → IsCaring step → Takes state honest moment left_since old step told new → CaresOn state honest moment left_since old new
+  one_care old new step told caring takes first cares = with_step first old new step told caring takes cares
+
   pub no_care : (old new : WorldView D) → new ≡ old → CaresOn state honest moment left_since old new
   no_care old new same first cares = subst (λ (w : WorldView D). Cares state honest moment left_since first w) (sym same) cares
 
   pub cares_then : (old mid new : WorldView D) → CaresOn state honest moment left_since old mid → CaresOn state honest moment left_since mid new → CaresOn state honest moment left_since old new
   cares_then old mid new one two first cares = two first (one first cares)
+
+  -- ---- turns of one flow
+
+  pub turns_care : (slot : ℕ) (all : List (Option What)) (old new : WorldView D) → TurnsOf state honest moment left_since slot all old new → CaresOn state honest moment left_since old new
+  turns_care slot [] old new is = no_care old new is
+  turns_care slot (told ∷ before) old new (mid, turns, takes) = cares_then old mid new (turns_care slot before old mid turns) (one_care mid new (Turn slot) told tt takes)
+
+  pub serves_care : (care : Care) (old new : WorldView D) → IsOfClosing care → Serves state honest moment left_since care old new → CaresOn state honest moment left_since old new
+  serves_care care old new is s =
+      cares_then old s.begun new (one_care old s.begun (care_for care) (Some (Began s.slot)) is s.begins) (turns_care s.slot (Some (Ended s.answer) ∷ s.before) s.begun new s.turns)
+
+  has_come : (told : Option What) (all : List (Option What)) (r : Result (Unit {0}) Refusal) → ComesTo told r → HasComeTo (told ∷ all) r
+  has_come told all (Ok done) (answer, is) = (answer, all, subst (λ (t : Option What). told ∷ all ≡ t ∷ all) is refl)
+  has_come told all (Err e) (inl damaged) = inl damaged
+  has_come told all (Err e) (inr is) = inr (inr (all, subst (λ (t : Option What). told ∷ all ≡ t ∷ all) is refl))
+
+  -- one turn more
+  pub plays_on : (slot : ℕ) (old mid new : WorldView D) (before r : Result (Unit {0}) Refusal) → Plays state honest moment left_since slot old before mid → TurnsTo state honest moment left_since slot mid r new
+      → Plays state honest moment left_since slot old r new
+  plays_on slot old mid new before r (all, turns, come) (told, takes, comes) = (told ∷ all, (mid, turns, takes), has_come told all r comes)
+
+  -- it is left
+  pub plays_no_more : (slot : ℕ) (old new : WorldView D) (before : Result (Unit {0}) Refusal) (e : Refusal) → (e ≡ Damaged) ⊎ (e ≡ NoMemory) → Plays state honest moment left_since slot old before new
+      → Plays state honest moment left_since slot old (Err e) new
+  plays_no_more slot old new before e cause (all, turns, come) = (all, turns, ⊎_elim (λ damaged. inl damaged) (λ none. inr (inl none)) cause)
+
+  -- ---- refusals
+
+  pub refused_later : (old mid new : WorldView D) (e : Refusal) → CaresOn state honest moment left_since old mid → RefusesCare state honest moment left_since mid e new → RefusesCare state honest moment left_since old e new
+  refused_later old mid new e on refuses first cares = refuses first (on first cares)
+
+  left_off : (old new : WorldView D) (e : Refusal) → (e ≡ NoMemory) ⊎ (e ≡ Damaged) → CaresOn state honest moment left_since old new → RefusesCare state honest moment left_since old e new
+  left_off old new e cause on first cares = record { cares = on first cares; cause = inr cause }
+
+  told_refused : (old new : WorldView D) (step : Step) (e : Refusal) → IsCaring step → Takes state honest moment left_since old step (Some (Refused e)) new → RefusesCare state honest moment left_since old e new
+  told_refused old new step e caring takes first cares =
+      let event : Event = record { step = length cares.steps; what = Refused e } in
+      record { cares = with_step first old new step (Some (Refused e)) caring takes cares; cause = inl (length cares.steps, Contains-push cares.events event) }
+
+  pub begins_not : (care : Care) (old new : WorldView D) (e : Refusal) → IsOfClosing care → BeginsNot state honest moment left_since care old e new → RefusesCare state honest moment left_since old e new
+  begins_not care old new e is (inl (none, same)) = left_off old new e (inl none) (no_care old new same)
+  begins_not care old new e is (inr (told, takes, inl damaged)) = left_off old new e (inr damaged) (one_care old new (care_for care) told is takes)
+  begins_not care old new e is (inr (told, takes, inr refuses)) =
+      told_refused old new (care_for care) e is (subst (λ (t : Option What). Takes state honest moment left_since old (care_for care) t new) refuses takes)
+
+  plays_not : (slot : ℕ) (old new : WorldView D) (e : Refusal) → Plays state honest moment left_since slot old (Err e) new → RefusesCare state honest moment left_since old e new
+  plays_not slot old new e (all, turns, inl damaged) = left_off old new e (inr damaged) (turns_care slot all old new turns)
+  plays_not slot old new e (all, turns, inr (inl none)) = left_off old new e (inl none) (turns_care slot all old new turns)
+  plays_not slot old new e (all, turns, inr (inr (before, is))) =
+      let t = subst (λ (l : List (Option What)). TurnsOf state honest moment left_since slot l old new) is turns in
+      refused_later old t.0 new e (turns_care slot before old t.0 t.1) (told_refused t.0 new (Turn slot) e tt t.2)
+
+  -- ---- a care from its beginning to its end
+
+  module _ (care : Care) (slot : ℕ) (old begun new : WorldView D) (is : IsOfClosing care) (begins : Takes state honest moment left_since old (care_for care) (Some (Began slot)) begun) where
+    pub serves_well : (r : Result (Unit {0}) Refusal) → Plays state honest moment left_since slot begun r new → OnOk r (Serves state honest moment left_since care old new)
+    serves_well (Ok done) (all, turns, (answer, before, all_is)) = record {
+      slot = slot;
+      begun = begun;
+      begins = begins;
+      answer = answer;
+      before = before;
+      turns = subst (λ (l : List (Option What)). TurnsOf state honest moment left_since slot l begun new) all_is turns;
+    }
+    serves_well (Err e) plays = tt
+
+    pub serves_not : (r : Result (Unit {0}) Refusal) → Plays state honest moment left_since slot begun r new → IfErr r (λ e. RefusesCare state honest moment left_since old e new)
+    serves_not (Ok done) plays = tt
+    serves_not (Err e) plays = refused_later old begun new e (one_care old begun (care_for care) (Some (Began slot)) is begins) (plays_not slot begun new e plays)

@@ -9,6 +9,8 @@ use Rattle.journal.specs.Beginnings.{BegunView}
 use Rattle.journal.specs.Records.{HasRecords}
 use Rattle.tuples.specs.declared.version.Version.{Version}
 use Rattle.reshard.specs.Made.{AreHonest, HaveShards, shard_first, shard_of_store}
+use Rattle.reshard.specs.Written.{KeepsFirst}
+use Rattle.reshard.proofs.Written.{keeps_first_set}
 
 module _ {X : Type 0} where
   -- what stands at another place stood there before
@@ -38,9 +40,10 @@ module _ {D : Type 0} (state : D → State) (honest : D → Type 0) where
       pub count_is : length nodes ≡ length old
       pub still_honest : AreHonest honest old → AreHonest honest nodes
       pub have : AreHonest honest old → HaveShards state store shards reach rows count nodes
+      pub head : KeepsFirst old nodes
 
     pub none_so_far : SoFar 0 old
-    none_so_far = record { count_is = refl; still_honest = λ all. all; have = λ all s below. absurd (omega arith) }
+    none_so_far = record { count_is = refl; still_honest = λ all. all; have = λ all s below. absurd (omega arith); head = λ head others is. (others, is) }
 
     pub one_so_far : (s i : ℕ) (nodes : List (BegunView D)) (was new : BegunView D) → SoFar s nodes → i ≡ s + 1 → i < length nodes → was ≡ get_or nodes i was
         → (honest was.a ↔ honest new.a) × (honest was.b ↔ honest new.b) → (honest was.a → honest was.b → HasRecords (state new.a) (state new.b) (shard_first (shard_of_store store shards s) reach rows))
@@ -57,6 +60,7 @@ module _ {D : Type 0} (state : D → State) (honest : D → Type 0) where
           subst (λ (m : BegunView D). HasRecords (state m.a) (state m.b) (shard_first (shard_of_store store shards t) reach rows)) is_new
           (subst (λ (k : ℕ). HasRecords (state new.a) (state new.b) (shard_first (shard_of_store store shards k) reach rows)) (sym last) (has here.0 here.1)))
           (earlier_or_last t s below);
+      head = keeps_first_set old nodes i s new at before.head;
     }
       where
         earlier_or_last : (t s : ℕ) → t < s + 1 → (t < s) ⊎ (t ≡ s)

@@ -1,24 +1,39 @@
 -- What is done of the old store: cares of its nodes, and nothing else.
-use Rattle.std.specs.Prelude.{◌<◌, ℕ, List, Ok, MatchOption}
+use Rattle.std.specs.Prelude.{◌≡◌, ◌<◌, ℕ, List, [], ◌∷◌, Ok, Option, Some, MatchOption}
 use Rattle.std.specs.List.{AllByRecursion}
 use Rattle.calls.specs.Carrying.{Reaches}
 use Rattle.calls.specs.Views.{NodeView}
 use Rattle.calls.specs.declared.carrying.Reach.{Reach}
 use Rattle.cluster.specs.Runs.{TookAll}
+use Rattle.cluster.specs.Steps.{Takes}
 use Rattle.cluster.specs.Worlds.{WorldView, node_at}
+use Rattle.cluster.specs.declared.event.Answer.{Answer}
 use Rattle.cluster.specs.declared.event.Event.{Event}
+use Rattle.cluster.specs.declared.event.What.{What}
+use Rattle.cluster.specs.declared.event.What.TheVariants.{Began, Ended}
 use Rattle.cluster.specs.declared.step.Step.{Step}
-use Rattle.cluster.specs.declared.step.Step.TheVariants.{Start, Turn, Cancel, Care, Restart}
+use Rattle.cluster.specs.declared.step.Step.TheVariants.{Start, Turn, Cancel, Care as care_for, Restart}
 use Rattle.device.specs.Device.{State}
+use Rattle.names.specs.declared.care.Care.{Care}
+use Rattle.names.specs.declared.care.Care.TheVariants.{Flush, Checkpoint, Learn, Resolve, Raise, Collect}
 use Rattle.names.specs.declared.node_name.NodeName.{NodeName}
 use Rattle.names.specs.declared.node_name.NodeName.TheVariants.{Coordinator, Shard}
 
--- the step begins a care, or goes on with one
+-- a care by which no horizon is raised, and which is no checkpoint
+abbrev pub IsOfClosing : Care → Type 0
+IsOfClosing (Flush node) = Unit {0}
+IsOfClosing (Checkpoint node) = ⊥
+IsOfClosing (Learn shard) = Unit {0}
+IsOfClosing (Resolve shard) = Unit {0}
+IsOfClosing (Raise place) = ⊥
+IsOfClosing (Collect shard) = Unit {0}
+
+-- the step begins such a care, or goes on with one
 abbrev pub IsCaring : Step → Type 0
 IsCaring (Start request) = ⊥
 IsCaring (Turn slot) = Unit {0}
 IsCaring (Cancel slot) = ⊥
-IsCaring (Care care) = Unit {0}
+IsCaring (care_for care) = IsOfClosing care
 IsCaring (Restart name) = ⊥
 
 module _ {D : Type 0} (state : D → State) (honest : D → Type 0) (moment : D → ℕ) (left_since : D → ℕ → List ℕ → Type 0) where
@@ -32,6 +47,26 @@ module _ {D : Type 0} (state : D → State) (honest : D → Type 0) (moment : D 
   -- such steps go on from where others have led
   abbrev pub CaresOn : WorldView D → WorldView D → Type 0
   CaresOn old new = (first : WorldView D) → Cares first old → Cares first new
+
+  -- The flow in a slot made turns, one after another. What they told stands with the last one first.
+  abbrev pub TurnsOf : ℕ → List (Option What) → WorldView D → WorldView D → Type 0
+  TurnsOf slot [] old new = new ≡ old
+  TurnsOf slot (told ∷ before) old new = (mid : WorldView D) × TurnsOf slot before old mid × Takes state honest moment left_since mid (Turn slot) told new
+
+  -- A care was begun in some slot, and the flow there made its turns, the last of which told an answer.
+  pub record Serves (care : Care) (old new : WorldView D) : Type 0 where
+    pub slot : ℕ
+    pub begun : WorldView D
+    pub begins : Takes state honest moment left_since old (care_for care) (Some (Began slot)) begun
+    pub answer : Answer
+    pub before : List (Option What)
+    pub turns : TurnsOf slot (Some (Ended answer) ∷ before) begun new
+
+  -- the coordinator was flushed, which told its end, and then more such steps were taken
+  pub record IsCaredFor (old new : WorldView D) : Type 0 where
+    pub flushed : WorldView D
+    pub first : Serves (Flush Coordinator) old flushed
+    pub rest : Cares flushed new
 
 module _ {D : Type 0} (state : D → State) (honest : D → Type 0) (nodes : List (NodeView D)) where
   -- the node of this name is there, and reaches so far

@@ -1,3 +1,5 @@
 pub mod Caring
 pub mod Gathering
 pub mod Made
+pub mod Refusing
+pub mod Written

@@ -1,10 +1,12 @@
 // What the old store knows is written to the devices of the new nodes, on which a checkpoint has begun.
-ghost use Rattle.std.specs.Prelude.{◌≡◌, ◌≤◌, ◌<◌, ◌+◌, ◌↔◌, ℕ, OnOk, Some, length, slice_get};
+ghost use Rattle.std.specs.Prelude.{◌≡◌, ◌⊎◌, ◌≤◌, ◌<◌, ◌+◌, ◌↔◌, ◌∷◌, ℕ, List, IfErr, OnOk, Some, length, slice_get};
 ghost use Rattle.journal.specs.Beginnings.{BegunView};
 ghost use Rattle.journal.specs.Records.{HasRecords};
 ghost use Rattle.records.specs.Format.{AreRecords};
 ghost use Rattle.records.specs.Identity.{max_shards};
 ghost use Rattle.reshard.specs.Made.{AreHonest, HasLog, HaveShards, heads_of, shard_first};
+ghost use Rattle.reshard.specs.Refusing.{LacksLog};
+ghost use Rattle.reshard.specs.Written.{EndsFirst, EndsLast, HasTried, KeepsFirst};
 
 use crate::telling::Told;
 use calls::Reach;
@@ -44,6 +46,7 @@ fn fill_shard<D: Device>(
 ) -> Result<(), Refusal>
     ensures honest { (D.honest begun.old.a ↔ D.honest begun.new.a) × (D.honest begun.old.b ↔ D.honest begun.new.b) }
     ensures ok { D.honest begun.old.a → D.honest begun.old.b → OnOk result (HasRecords (D.state begun.new.a) (D.state begun.new.b) (shard_first me reach rows.now)) }
+    ensures err { IfErr result (λ e. e ≡ Refusal.Down) }
 {
     let heads = heads(alloc, me, reach);
     let mut told = Told::new(&heads, rows, me);
@@ -63,6 +66,8 @@ fn fill_shards<D: Device>(
     requires count { length begun.old ≡ shards + 1 }
     ensures honest { AreHonest D.honest begun.old → AreHonest D.honest begun.new }
     ensures ok { AreHonest D.honest begun.old → OnOk result (HaveShards D.state store shards reach rows.now shards begun.new) }
+    ensures head { KeepsFirst begun.old begun.new }
+    ensures err { IfErr result (λ e. e ≡ Refusal.Down) }
 {
     for shard in 0..shards {
         let me = Identity::shard(store, shards, shard);
@@ -78,7 +83,9 @@ fn fill_log<D: Device>(old: &World<D>, shards: u8, begun: &mut [Begun<D>]) -> Re
     requires there { 1 ≤ length begun.old }
     ensures honest { AreHonest D.honest begun.old → AreHonest D.honest begun.new }
     ensures ok { AreHonest D.honest begun.old → OnOk result (HasLog D.state D.honest old.now shards begun.new) }
+    ensures ends { EndsFirst D.state D.honest D.moment D.left_since old.now shards begun.old begun.new }
     ensures others { (s : ℕ) (n : BegunView D) → slice_get begun.new (s + 1) ≡ Some n → slice_get begun.old (s + 1) ≡ Some n }
+    ensures err { IfErr result (λ e. (e ≡ Refusal.Down) ⊎ LacksLog old.now.nodes e) }
 {
     match old.node(NodeName::Coordinator) {
         Some(node) => node.carry(shards, &mut begun[0]),
@@ -101,6 +108,10 @@ pub(crate) fn fill<D: Device>(
     ensures honest { AreHonest D.honest begun.old → AreHonest D.honest begun.new }
     ensures each { AreHonest D.honest begun.old → OnOk result (HaveShards D.state old.now.store shards reach rows.now shards begun.new) }
     ensures log { AreHonest D.honest begun.old → OnOk result (HasLog D.state D.honest old.now shards begun.new) }
+    ensures last { (head : BegunView D) (others : List (BegunView D)) → begun.old ≡ head ∷ others
+        → OnOk result (EndsLast D.state D.honest D.moment D.left_since old.now shards reach rows.now (AreHonest D.honest begun.old) head begun.new) }
+    ensures tried { (head : BegunView D) (others : List (BegunView D)) → begun.old ≡ head ∷ others → HasTried D.state D.honest D.moment D.left_since old.now shards head begun.new }
+    ensures err { IfErr result (λ e. (e ≡ Refusal.Down) ⊎ LacksLog old.now.nodes e) }
 {
     fill_shards(alloc, old.store(), shards, reach, rows, begun)?;
     fill_log(old, shards, begun)

@@ -1,7 +1,8 @@
 // The devices of the new nodes, on each of which a checkpoint begins before any of them has more.
-ghost use Rattle.std.specs.Prelude.{◌≡◌, ◌≤◌, ◌<◌, ◌+◌, ◌*◌, ◌++◌, ◌∷◌, [], All, OnErr, OnOk};
+ghost use Rattle.std.specs.Prelude.{◌≡◌, ◌⊎◌, ◌≤◌, ◌<◌, ◌+◌, ◌*◌, ◌++◌, ◌∷◌, [], All, IfErr, OnErr, OnOk};
 ghost use Rattle.std.specs.Vec.{vec_capacity, vec_len};
 ghost use Rattle.reshard.specs.Made.{AreHonest, devices_of};
+ghost use Rattle.reshard.specs.Written.{BeginsNode, HeadBegins, PutsTwoBack};
 
 use device::Device;
 use journal::{Begun, Refused};
@@ -44,6 +45,9 @@ fn begin_next<D: Device>(
     ensures ok { OnOk result (vec_len begun.new ≡ vec_len begun.old + 1) }
     ensures honest { All D.honest devices.old.items → AreHonest D.honest begun.old.items → OnOk result (All D.honest devices.new.items × AreHonest D.honest begun.new.items) }
     ensures capacity { (vec_capacity devices.new ≡ vec_capacity devices.old) × (vec_capacity begun.new ≡ vec_capacity begun.old) }
+    ensures node { OnOk result (BeginsNode D.state D.honest D.moment D.left_since devices.old.items begun.old.items devices.new.items begun.new.items) }
+    ensures back { OnErr result (PutsTwoBack D.state D.honest D.moment D.left_since devices.old.items devices.new.items × (begun.new ≡ begun.old)) }
+    ensures err { IfErr result (λ e. (e ≡ Refusal.Down) ⊎ ((e ≡ Refusal.NoMemory) ⊎ (e ≡ Refusal.Damaged))) }
 {
     let (a, b) = take_two(devices);
     match Begun::begin(alloc, a, b) {
@@ -75,6 +79,8 @@ pub(crate) fn begin_all<D: Device>(
     ensures ok { OnOk result (vec_len begun.new ≡ count) }
     ensures honest { All D.honest devices.old.items → OnOk result (AreHonest D.honest begun.new.items) }
     ensures capacity { vec_capacity devices.new ≡ vec_capacity devices.old }
+    ensures head { HeadBegins D.state D.honest D.moment D.left_since devices.old.items begun.new.items devices.new.items }
+    ensures err { IfErr result (λ e. (e ≡ Refusal.Down) ⊎ ((e ≡ Refusal.NoMemory) ⊎ (e ≡ Refusal.Damaged))) }
 {
     while begun.len() < count {
         begin_next(alloc, devices, begun)?;

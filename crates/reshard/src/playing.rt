@@ -1,6 +1,8 @@
 // A care of a node of the old store, from its beginning to its end.
-ghost use Rattle.std.specs.Prelude.{◌≡◌, OnErr, OnOk, Some};
-ghost use Rattle.reshard.specs.Caring.{CaresOn};
+ghost use Rattle.std.specs.Prelude.{◌≡◌, ◌⊎◌, IfErr, MatchResult, OnOk, Some};
+ghost use Rattle.cluster.specs.Steps.{Takes};
+ghost use Rattle.reshard.specs.Caring.{IsOfClosing, Serves};
+ghost use Rattle.reshard.specs.Refusing.{BeginsNot, ComesTo, Plays, RefusesCare, TurnsTo};
 
 use cluster::{Step, What, World};
 use device::Device;
@@ -8,7 +10,9 @@ use names::{CallName, Care};
 use tuples::Refusal;
 
 // What it has come to where a turn told this and no call comes next.
-fn outcome_of(told: Option<What>) -> Result<(), Refusal> {
+fn outcome_of(told: Option<What>) -> Result<(), Refusal>
+    ensures { ComesTo told result }
+{
     let outcome = match &told {
         Some(What::Ended(_)) => Ok(()),
         Some(What::Refused(refusal)) => Err(*refusal),
@@ -21,13 +25,14 @@ fn outcome_of(told: Option<What>) -> Result<(), Refusal> {
 
 // The flow in the slot makes its turn.
 fn turn<D: Device>(world: &mut World<D>, slot: usize) -> Result<(), Refusal>
-    ensures { CaresOn D.state D.honest D.moment D.left_since world.old world.new }
+    ensures { TurnsTo D.state D.honest D.moment D.left_since slot world.old result world.new }
 {
     let step = Step::Turn(slot);
     let told = world.take(&step);
     drop(step);
     match told {
         Ok(told) => outcome_of(told),
+        // A turn takes no memory.
         Err(_) => Err(Refusal::NoMemory),
     }
 }
@@ -40,7 +45,7 @@ fn is_left_behind(made: Option<CallName>, next: CallName) -> bool {
 
 // The calls of the flow in the slot, one after another, to its end.
 fn run_out<D: Device>(world: &mut World<D>, slot: usize) -> Result<(), Refusal>
-    ensures { CaresOn D.state D.honest D.moment D.left_since world.old world.new }
+    ensures { Plays D.state D.honest D.moment D.left_since slot world.old result world.new }
 {
     let mut outcome = Err(Refusal::Damaged);
     let mut made = None;
@@ -59,19 +64,22 @@ fn run_out<D: Device>(world: &mut World<D>, slot: usize) -> Result<(), Refusal>
 }
 
 // The slot in which a care has begun by what its first step told.
-fn begun(told: Option<What>) -> Result<usize, Refusal> {
+fn begun(told: Option<What>) -> Result<usize, Refusal>
+    ensures { MatchResult result (λ slot. told ≡ Some (What.Began slot)) (λ e. (e ≡ Refusal.Damaged) ⊎ (told ≡ Some (What.Refused e))) }
+{
     let slot = match &told {
         Some(What::Began(slot)) => Ok(*slot),
         Some(What::Refused(refusal)) => Err(*refusal),
-        // There is no such node.
-        _ => Err(Refusal::BadRequest),
+        // A care of a node that is there begins, or is refused.
+        _ => Err(Refusal::Damaged),
     };
     drop(told);
     slot
 }
 
 fn begin<D: Device>(world: &mut World<D>, care: Care) -> Result<usize, Refusal>
-    ensures { CaresOn D.state D.honest D.moment D.left_since world.old world.new }
+    ensures { MatchResult result (λ slot. Takes D.state D.honest D.moment D.left_since world.old (Step.Care care) (Some (What.Began slot)) world.new)
+        (λ e. BeginsNot D.state D.honest D.moment D.left_since care world.old e world.new) }
 {
     let step = Step::Care(care);
     let told = world.take(&step);
@@ -84,7 +92,9 @@ fn begin<D: Device>(world: &mut World<D>, care: Care) -> Result<usize, Refusal>
 
 /// The care is done, or refused.
 pub(crate) fn serve<D: Device>(world: &mut World<D>, care: Care) -> Result<(), Refusal>
-    ensures { CaresOn D.state D.honest D.moment D.left_since world.old world.new }
+    requires { IsOfClosing care }
+    ensures ok { OnOk result (Serves D.state D.honest D.moment D.left_since care world.old world.new) }
+    ensures err { IfErr result (λ e. RefusesCare D.state D.honest D.moment D.left_since world.old e world.new) }
 {
     let slot = begin(world, care)?;
     run_out(world, slot)

@@ -1,12 +1,18 @@
 // A store is carried over to one of another number of shards.
-ghost use Rattle.std.specs.Prelude.{◌≡◌, ◌≤◌, ◌+◌, ◌*◌, [], All, List, IfErr, IfOk, OnErr, OnOk, length};
+ghost use Rattle.std.specs.Prelude.{◌≡◌, ◌⊎◌, ◌≤◌, ◌+◌, ◌*◌, [], All, List, IfErr, IfOk, IsErr, OnErr, OnOk};
 ghost use Rattle.std.specs.Vec.{vec_capacity, vec_len};
+ghost use Rattle.calls.specs.declared.carrying.Reach.{Reach as AnyReach};
 ghost use Rattle.cluster.specs.Openings.{IsOpenedOver};
 ghost use Rattle.cluster.specs.Worlds.{flow_count};
+ghost use Rattle.journal.specs.Beginnings.{BegunView};
 ghost use Rattle.records.specs.Identity.{max_shards};
-ghost use Rattle.reshard.specs.Caring.{Cares, HaveReached};
+ghost use Rattle.refusal.specs.declared.refusal.Refusal.{Refusal as AnyRefusal};
+ghost use Rattle.reshard.specs.Caring.{Cares, HaveReached, IsCaredFor};
 ghost use Rattle.reshard.specs.Gathering.{AreGathered};
 ghost use Rattle.reshard.specs.Made.{AreHonest, AreMade, HasLog, HaveShards, IsCarriedOver};
+ghost use Rattle.reshard.specs.Refusing.{AreUp, CarriesNot, IsFirstDown, IsNotKnown, IsNotWritten, IsRefusedCare};
+ghost use Rattle.reshard.specs.Written.{AreLeft, AreWrittenInOrder, EndsLast, FirstTwo, HasBegunOn, HasTried};
+ghost use Rattle.tuples.specs.declared.version.Version.{Version as AnyVersion};
 
 use crate::filling::fill;
 use crate::founding::{begin_all, give_back};
@@ -27,7 +33,8 @@ struct Known {
 }
 
 fn know<D: Device>(alloc: Global, old: &World<D>) -> Result<Known, Refusal>
-    ensures { IfOk result (λ known. HaveReached D.state D.honest old.now.nodes old.now.shards known.reach × AreGathered D.state D.honest old.now.nodes old.now.shards known.rows.items) }
+    ensures ok { IfOk result (λ known. HaveReached D.state D.honest old.now.nodes old.now.shards known.reach × AreGathered D.state D.honest old.now.nodes old.now.shards known.rows.items) }
+    ensures err { IfErr result (IsNotKnown D.state D.honest old.now) }
 {
     let reach = reach(old)?;
     match gather(alloc, old) {
@@ -38,8 +45,10 @@ fn know<D: Device>(alloc: Global, old: &World<D>) -> Result<Known, Refusal>
 
 // The cares of the old store, and what its shards know then.
 fn close<D: Device>(alloc: Global, old: &mut World<D>) -> Result<Known, Refusal>
-    ensures cares { Cares D.state D.honest D.moment D.left_since old.old old.new }
     ensures ok { IfOk result (λ known. HaveReached D.state D.honest old.new.nodes old.new.shards known.reach × AreGathered D.state D.honest old.new.nodes old.new.shards known.rows.items) }
+    ensures cared { OnOk result (AreUp D.state D.honest old.old × IsCaredFor D.state D.honest D.moment D.left_since old.old old.new) }
+    ensures err { IfErr result (λ e. (IsFirstDown D.state D.honest old.old e × (old.new ≡ old.old)) ⊎ (AreUp D.state D.honest old.old
+        × (IsRefusedCare D.state D.honest D.moment D.left_since old.old e old.new ⊎ (Cares D.state D.honest D.moment D.left_since old.old old.new × IsNotKnown D.state D.honest old.new e)))) }
 {
     are_up(old)?;
     settle(old)?;
@@ -68,6 +77,11 @@ fn write<D: Device>(
     ensures honest { All D.honest devices.old.items → OnOk result (AreHonest D.honest begun.new.items) }
     ensures each { All D.honest devices.old.items → OnOk result (HaveShards D.state old.now.store shards known.now.reach known.now.rows.items shards begun.new.items) }
     ensures log { All D.honest devices.old.items → OnOk result (HasLog D.state D.honest old.now shards begun.new.items) }
+    ensures order { OnOk result ((head : BegunView D) × HasBegunOn D.state D.honest D.moment D.left_since devices.old.items head
+        × EndsLast D.state D.honest D.moment D.left_since old.now shards known.now.reach known.now.rows.items (All D.honest devices.old.items) head begun.new.items) }
+    ensures so_far { ((begun.new.items ≡ []) × FirstTwo D.state D.honest D.moment D.left_since devices.old.items devices.new.items)
+        ⊎ ((head : BegunView D) × HasBegunOn D.state D.honest D.moment D.left_since devices.old.items head × HasTried D.state D.honest D.moment D.left_since old.now shards head begun.new.items) }
+    ensures err { IfErr result (IsNotWritten old.now.nodes) }
 {
     begin_all(alloc, shards as usize + 1, devices, begun)?;
     fill(alloc, old, shards, known.reach, &known.rows, begun)
@@ -86,6 +100,9 @@ fn make<D: Device>(
     requires count { vec_len devices.old ≡ 2 * (shards + 1) }
     ensures count { vec_len devices.new ≡ vec_len devices.old }
     ensures ok { OnOk result (AreMade D.state D.honest old.now shards known.now.reach known.now.rows.items devices.old.items devices.new.items) }
+    ensures order { OnOk result (AreWrittenInOrder D.state D.honest D.moment D.left_since old.now shards known.now.reach known.now.rows.items devices.old.items devices.new.items) }
+    ensures left { OnErr result (AreLeft D.state D.honest D.moment D.left_since old.now shards devices.old.items devices.new.items) }
+    ensures err { IfErr result (IsNotWritten old.now.nodes) }
 {
     let Ok(mut begun) = Vec::with_capacity(alloc, shards as usize + 1) else {
         return Err(Refusal::NoMemory);
@@ -109,6 +126,9 @@ fn carry<D: Device>(
     ensures ok { IfOk result (λ made. AreMade D.state D.honest old.now shards known.now.reach known.now.rows.items devices.items made.items) }
     ensures count { IfOk result (λ made. vec_len made ≡ vec_len devices) }
     ensures back { IfErr result (λ e. vec_len e.1 ≡ vec_len devices) }
+    ensures order { IfOk result (λ made. AreWrittenInOrder D.state D.honest D.moment D.left_since old.now shards known.now.reach known.now.rows.items devices.items made.items) }
+    ensures left { IfErr result (λ e. AreLeft D.state D.honest D.moment D.left_since old.now shards devices.items e.1.items) }
+    ensures err { IfErr result (λ e. IsNotWritten old.now.nodes e.0) }
 {
     match make(alloc, old, shards, known, &mut devices) {
         Ok(()) => Ok(devices),
@@ -137,9 +157,13 @@ pub fn carry_over<D: Device>(
     requires quiet { flow_count old.old.flows ≡ 0 }
     requires count { vec_len devices ≡ 2 * (shards + 1) }
     ensures cares { Cares D.state D.honest D.moment D.left_since old.old old.new }
-    ensures ok { IfOk result (λ made. IsCarriedOver D.state D.honest old.new shards devices.items made.items) }
+    ensures ok { IfOk result (λ made. IsCaredFor D.state D.honest D.moment D.left_since old.old old.new × IsCarriedOver D.state D.honest old.new shards devices.items made.items) }
     ensures count { IfOk result (λ made. vec_len made ≡ vec_len devices) }
     ensures back { IfErr result (λ e. vec_len e.1 ≡ vec_len devices) }
+    ensures order { IfOk result (λ made. (reach : AnyReach) × (rows : List AnyVersion) × AreWrittenInOrder D.state D.honest D.moment D.left_since old.new shards reach rows devices.items made.items) }
+    ensures left { IfErr result (λ r. AreLeft D.state D.honest D.moment D.left_since old.new shards devices.items r.1.items) }
+    ensures not_up { (e : AnyRefusal) → IsFirstDown D.state D.honest old.old e → IsErr result × IfErr result (λ r. (r.0 ≡ e) × (r.1 ≡ devices)) × (old.new ≡ old.old) }
+    ensures err { IfErr result (λ r. CarriesNot D.state D.honest D.moment D.left_since old.old r.0 old.new) }
 {
     match close(alloc, old) {
         Ok(known) => carry(alloc, old, shards, &known, devices),
@@ -159,9 +183,11 @@ pub fn reshard<D: Device>(
     requires quiet { flow_count old.old.flows ≡ 0 }
     requires count { vec_len devices ≡ 2 * (shards + 1) }
     ensures cares { Cares D.state D.honest D.moment D.left_since old.old old.new }
-    ensures ok { IfOk result (λ w. (made : List D) × IsCarriedOver D.state D.honest old.new shards devices.items made
+    ensures ok { IfOk result (λ w. (made : List D) × IsCaredFor D.state D.honest D.moment D.left_since old.old old.new × IsCarriedOver D.state D.honest old.new shards devices.items made
         × IsOpenedOver D.state D.honest D.moment D.left_since old.new.store shards made w) }
     ensures back { IfErr result (λ e. vec_len e.1 ≡ vec_len devices) }
+    ensures not_up { (e : AnyRefusal) → IsFirstDown D.state D.honest old.old e → IsErr result × IfErr result (λ r. (r.0 ≡ e) × (r.1 ≡ devices)) × (old.new ≡ old.old) }
+    ensures err { IfErr result (λ r. CarriesNot D.state D.honest D.moment D.left_since old.old r.0 old.new ⊎ (r.0 ≡ Refusal.NoMemory)) }
 {
     match carry_over(alloc, old, devices, shards) {
         Ok(made) => open(alloc, old.store(), shards, made),
@@ -181,6 +207,7 @@ fn open<D: Device>(
     requires count { vec_len devices ≡ 2 * (shards + 1) }
     ensures ok { IfOk result (IsOpenedOver D.state D.honest D.moment D.left_since store shards devices.items) }
     ensures back { IfErr result (λ e. vec_len e.1 ≡ vec_len devices) }
+    ensures err { IfErr result (λ e. e.0 ≡ Refusal.NoMemory) }
 {
     match reopen(alloc, devices, store, shards) {
         Ok(world) => Ok(world),

@@ -1,0 +1,68 @@
+-- What a stop leaves of the coordinator's new devices, while they are written.
+use Rattle.std.proofs.Common.{◌≡◌, ◌⊎◌, inl, inr, ⊎_elim, ◌+◌, ℕ, suc, List, [], ◌∷◌, ◌++◌, All, Result, Ok, Err, Some, set, refl, sym, ◌∙◌, ap, subst, arith}
+use Rattle.std.specs.Result.{IfErr, IfOk, OnErr, OnOk}
+use Rattle.calls.specs.declared.carrying.Reach.{Reach}
+use Rattle.cluster.specs.Worlds.{WorldView}
+use Rattle.device.specs.Device.{State}
+use Rattle.journal.specs.Beginnings.{BegunView}
+use Rattle.tuples.specs.declared.version.Version.{Version}
+use Rattle.reshard.specs.Made.{AreHonest, HaveShards, devices_of}
+use Rattle.reshard.specs.Written.{AreLeft, AreWrittenInOrder, BeginsNode, EndsFirst, EndsLast, EndsLog, FirstTwo, HasBegunOn, HasTried, HeadBegins, KeepsFirst, PutsTwoBack}
+
+-- another node than the first is changed
+pub keeps_first_set : {D : Type 0} (old nodes : List (BegunView D)) (i s : ℕ) (new : BegunView D) → i ≡ s + 1 → KeepsFirst old nodes → KeepsFirst old (set nodes i new)
+keeps_first_set {D} old nodes i s new at keeps head others is =
+    let k = keeps head others is in
+    let next : i ≡ suc s = omega (arith, at) in
+    (set k.0 s new, ap (λ (l : List (BegunView D)). set l i new) k.1 ∙ ap (λ (j : ℕ). set (head ∷ k.0) j new) next)
+
+module _ {D : Type 0} (state : D → State) (honest : D → Type 0) (moment : D → ℕ) (left_since : D → ℕ → List ℕ → Type 0) where
+  -- no node has begun yet, or the first one has
+  abbrev pub HeadSoFar : List D → List (BegunView D) → List D → Type 0
+  HeadSoFar given nodes devices = ((nodes ≡ []) × (devices ≡ given)) ⊎ ((head : BegunView D) × (others : List (BegunView D)) × (nodes ≡ head ∷ others) × HasBegunOn state honest moment left_since given head)
+
+  pub head_more : (given devices new : List D) (nodes news : List (BegunView D)) → HeadSoFar given nodes devices → BeginsNode state honest moment left_since devices nodes new news → HeadSoFar given news new
+  head_more given devices new nodes news (inl (none, same)) b = inr (
+    b.node,
+    [],
+    b.new_is ∙ ap (λ (l : List (BegunView D)). l ++ b.node ∷ []) none,
+    record { a = b.a; b = b.b; rest = new; given_is = sym same ∙ b.old_is; is_open = b.is_open; still_honest = b.still_honest; moments = b.moments },
+  )
+  head_more given devices new nodes news (inr (head, others, is, begun)) b = inr (head, others ++ b.node ∷ [], b.new_is ∙ ap (λ (l : List (BegunView D)). l ++ b.node ∷ []) is, begun)
+
+  pub head_back : (given devices new : List D) (nodes news : List (BegunView D)) → HeadSoFar given nodes devices → PutsTwoBack state honest moment left_since devices new → news ≡ nodes
+      → HeadBegins state honest moment left_since given news new
+  head_back given devices new nodes news (inl (none, same)) p is =
+      inl (is ∙ none, inr (record { a = p.a; b = p.b; later_a = p.later_a; later_b = p.later_b; rest = p.rest; old_is = sym same ∙ p.old_is; new_is = p.new_is; moments = p.moments }))
+  head_back given devices new nodes news (inr (head, others, at, begun)) p is = inr (head, others, is ∙ at, begun)
+
+  pub head_now : (given devices : List D) (nodes : List (BegunView D)) → HeadSoFar given nodes devices → HeadBegins state honest moment left_since given nodes devices
+  head_now given devices nodes (inl (none, same)) = inl (none, inl same)
+  head_now given devices nodes (inr begun) = inr begun
+
+  module _ (old : WorldView D) (shards : ℕ) where
+    -- the shards first, and then the coordinator
+    pub filled : {T E : Type 0} (reach : Reach) (rows : List Version) (is_fine : Type 0) (before mid new : List (BegunView D)) (result : Result T E) → KeepsFirst before mid
+        → (is_fine → HaveShards state old.store shards reach rows shards mid) → EndsFirst state honest moment left_since old shards mid new
+        → (head : BegunView D) (others : List (BegunView D)) → before ≡ head ∷ others → OnOk result (EndsLast state honest moment left_since old shards reach rows is_fine head new)
+    filled reach rows is_fine before mid new (Ok done) keeps have ends head others is =
+        let k = keeps head others is in
+        let e = ends head k.0 k.1 in
+        record { last = e.0; others = k.0; new_is = e.1; each = λ fine. subst (HaveShards state old.store shards reach rows shards) k.1 (have fine); ends = e.2 }
+    filled reach rows is_fine before mid new (Err e) keeps have ends head others is = tt
+
+    pub tried_later : (before mid new : List (BegunView D)) → KeepsFirst before mid → EndsFirst state honest moment left_since old shards mid new → (head : BegunView D) (others : List (BegunView D)) → before ≡ head ∷ others
+        → HasTried state honest moment left_since old shards head new
+    tried_later before mid new keeps ends head others is = let k = keeps head others is in let e = ends head k.0 k.1 in (e.0, k.0, e.1, inr e.2)
+
+    pub not_tried : (before mid : List (BegunView D)) → KeepsFirst before mid → (head : BegunView D) (others : List (BegunView D)) → before ≡ head ∷ others → HasTried state honest moment left_since old shards head mid
+    not_tried before mid keeps head others is = let k = keeps head others is in (head, k.0, k.1, inl refl)
+
+    -- what comes of it behind the making, the devices being handed back
+    pub left_over : (given back rest : List D) (nodes : List (BegunView D)) → back ≡ devices_of nodes ++ rest
+        → ((nodes ≡ []) × FirstTwo state honest moment left_since given rest) ⊎ ((head : BegunView D) × HasBegunOn state honest moment left_since given head × HasTried state honest moment left_since old shards head nodes)
+        → AreLeft state honest moment left_since old shards given back
+    left_over given back rest nodes is (inl (none, first)) =
+        inl (subst (FirstTwo state honest moment left_since given) (sym (is ∙ ap (λ (l : List (BegunView D)). devices_of l ++ rest) none)) first)
+    left_over given back rest nodes is (inr (head, begun, (last, more, at, how))) =
+        inr (head, begun, last, devices_of more ++ rest, is ∙ ap (λ (l : List (BegunView D)). devices_of l ++ rest) at, how)

@@ -1,6 +1,0 @@
-use Rattle.cluster.specs.declared.step.Step.TheVariants.{Turn}
-use Rattle.reshard.proofs.Caring.{one_care}
-use Rattle.reshard.proofs.playing.turn.Goals as goal
-
-pub returns-in-Ok : goal.returns-in-Ok
-returns-in-Ok g c = one_care g.D.Device.state g.D.Device.honest g.D.Device.moment g.D.Device.left_since c.args.world.now c.take-told.new.self (Turn c.args.slot) c.in-Ok.told tt c.in-Ok.ensures.ok

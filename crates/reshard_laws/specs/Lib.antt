@@ -1,0 +1,3 @@
+pub mod Cared
+pub mod Carried
+pub mod Moments
