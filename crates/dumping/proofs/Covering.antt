@@ -1,5 +1,5 @@
 -- All tuples that were there at a place have a version that the shards told.
-use Rattle.std.proofs.Common.{◌≡◌, ◌⊎◌, inl, inr, ⊎_elim, ◌==◌, ◌&&◌, ◌≤◌, ◌<◌, ◌+◌, nat_le, ℕ, zero, suc, Bool, true, false, cond, List, [], ◌∷◌, ◌++◌, map, filter, Contains, Option, Some, None, MatchOption, Result, Ok, Err, refl, sym, ◌∙◌, ap, subst, arith, eq-eqb, if◌then◌else◌}
+use Rattle.std.proofs.Common.{◌≡◌, ◌⊎◌, inl, inr, ⊎_elim, ◌==◌, ◌&&◌, ◌≤◌, ◌<◌, nat_le, ℕ, zero, suc, Bool, true, false, cond, List, [], ◌∷◌, ◌++◌, map, filter, Contains, Option, Some, None, MatchOption, Ok, Err, refl, sym, ◌∙◌, ap, subst, arith, eq-eqb, if◌then◌else◌}
 use Rattle.std.specs.Global.{Vec}
 use Rattle.std.proofs.lemmas.Bool.{cases_Bool, eqb-true}
 use Rattle.std.proofs.lemmas.List.Elements.{Contains-append_left, Contains-append_right}
@@ -20,7 +20,6 @@ use Rattle.laws.specs.Nodes.{NodeState, ShardKnows, down, refused, shard, up}
 use Rattle.names.specs.declared.care.Care.TheVariants.{Learn}
 use Rattle.names.specs.declared.node_name.NodeName.TheVariants.{Shard}
 use Rattle.records.specs.Replays.{ShardState, shard_state}
-use Rattle.refusal.specs.declared.refusal.Refusal.{Refusal}
 use Rattle.refusal.specs.declared.refusal.Refusal.TheVariants.{BadRequest, Down}
 use Rattle.scripts.specs.Stepping.{IsNext, ShowsRows}
 use Rattle.shard.specs.Shards.{memory}

@@ -1,7 +1,6 @@
 -- A flow over a store that stands, from its beginning to its answer.
 use Rattle.std.proofs.Common.{◌≡◌, ◌⊎◌, inl, inr, ⊎_elim, ◌==◌, ℕ, true≢false, false, List, [], ◌∷◌, ◌++◌, map, Contains, Option, Some, None, MatchOption, slice_get, refl, sym, ◌∙◌, ap, subst, arith, eq-eqb, if◌then◌else◌}
 use Rattle.std.proofs.lemmas.List.Elements.{Contains-push_cases}
-use Rattle.std.proofs.lemmas.Option.{same_Some}
 use Rattle.call_turns.proofs.Slots.{at_ended, at_replaced, found_at}
 use Rattle.cluster.specs.Flows.{next_name_of}
 use Rattle.cluster.specs.Steps.{Takes}
@@ -19,7 +18,7 @@ use Rattle.headline.specs.Told.{IsWholeStep, all_told, answer_of, step_of}
 use Rattle.laws.specs.Machines.{Machine}
 use Rattle.names.specs.declared.call_name.CallName.{CallName}
 use Rattle.refusal.specs.declared.refusal.Refusal.TheVariants.{Full}
-use Rattle.scripts.specs.Going.{Goes, GoesOn as CallGoesOn, GoesOnFrom, Turns as MakesTurns, last_told}
+use Rattle.scripts.specs.Going.{GoesOn as CallGoesOn, GoesOnFrom, Turns as MakesTurns, last_told}
 use Rattle.scripts.specs.Stepping.{IsNext}
 use Rattle.tuples.specs.declared.change.Change.{Change}
 use Rattle.tuples.specs.declared.change.Condition.{Condition}

@@ -1,4 +1,5 @@
 mod Bools
+mod OneShardMore
 mod Machines
 mod Flows
 mod Covering

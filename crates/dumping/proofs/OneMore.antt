@@ -1,5 +1,5 @@
 -- One more tuple is read behind others.
-use Rattle.std.proofs.Common.{◌≡◌, ◌++◌, ℕ, List, [], ◌∷◌, Option, append_assoc, append-nil, refl, sym, ◌∙◌, ap, subst}
+use Rattle.std.proofs.Common.{◌++◌, ℕ, List, [], ◌∷◌, Option, append_assoc, append-nil, refl, sym, ◌∙◌, ap, subst}
 use Rattle.cluster.specs.declared.event.What.{What}
 use Rattle.cluster.specs.declared.step.Step.{Step}
 use Rattle.names.specs.declared.call_name.CallName.{CallName}

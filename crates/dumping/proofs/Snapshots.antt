@@ -1,30 +1,22 @@
 -- What a dump tells is a snapshot.
-use Rattle.std.proofs.Common.{◌≡◌, ◌≤◌, ◌<◌, ◌+◌, ◌*◌, ℕ, true, List, length, Contains, Option, Some, None, MatchOption, All, refl, sym, ◌∙◌, ap, subst, arith}
-use Rattle.cluster.specs.Openings.{IsOpenedOver}
-use Rattle.cluster.specs.Steps.{Takes}
-use Rattle.cluster.specs.Worlds.{WorldView}
+use Rattle.std.proofs.Common.{◌≡◌, ◌≤◌, ℕ, List, Option, Some, None, MatchOption, All, sym, ◌∙◌, ap, subst, arith}
 use Rattle.device.specs.Device.{State, left}
-use Rattle.headline.specs.Promised.{devices_at}
 use Rattle.headline.proofs.Joined.{steps_keep}
 use Rattle.headline.proofs.Whole.{openings_keep}
-use Rattle.laws.specs.Machines.{Machine}
-use Rattle.scripts.specs.Stepping.{IsNext, ShowsRows}
 use Rattle.tuples.specs.declared.entry.Entry.{Entry}
 use Rattle.tuples.specs.declared.entry.WriteId.{WriteId}
 use Rattle.tuples.specs.declared.freshness.Freshness.TheVariants.{Exact, Latest}
-use Rattle.tuples.specs.declared.tuple.Tuple.{Tuple}
 use Rattle.tuples.specs.Changes.{tuple_of}
 use Rattle.tuples.specs.Log.{is_at}
-use Rattle.tuples.specs.Parts.{shard_of}
 use Rattle.tuples.proofs.Named.{shard_below}
 use Rattle.turns.proofs.ClosedStoreRests.{closed_stores_rest}
 use Rattle.turns.specs.Stores.{IsToldOver}
-use Rattle.dumping.specs.Dumped.{GoesOn, IsSnapshot}
+use Rattle.dumping.specs.Dumped.{GoesOn}
 use Rattle.dumping.specs.DumpLaws.{DumpsAreSnapshots}
-use Rattle.dumping.specs.Dumps.{Dumps, IsPlaceFor}
+use Rattle.dumping.specs.Dumps.{IsPlaceFor}
 use Rattle.dumping.proofs.Covering.{tells_all}
 use Rattle.dumping.proofs.Flows.{Standing}
-use Rattle.dumping.proofs.Listing.{IsAnswer, has_same, read_well, reads_all}
+use Rattle.dumping.proofs.Listing.{has_same, read_well, reads_all}
 use Rattle.dumping.proofs.Machines.{goes_then}
 
 module _ {D : Type 0} (state : D → State) (honest : D → Type 0) (moment : D → ℕ) (left_since : D → ℕ → List ℕ → Type 0)

@@ -1,5 +1,5 @@
 -- What a dump tells: all tuples of one place, of the one list that the store stands for.
-use Rattle.std.specs.Prelude.{◌≡◌, ◌≤◌, ◌+◌, ◌*◌, ◌↔◌, ◌++◌, ℕ, List, ◌∷◌, [], length, codes, true, Option, MatchOption, Contains, All}
+use Rattle.std.specs.Prelude.{◌≡◌, ◌≤◌, ◌↔◌, ◌++◌, ℕ, List, ◌∷◌, [], codes, true, Option, MatchOption, Contains, All}
 use Rattle.std.specs.List.{flat_map}
 use Rattle.std.specs.Io.KnownBytes.{Appends}
 use Rattle.cluster.specs.Openings.{IsOpenedOver}

@@ -1,5 +1,5 @@
 -- What a dump did to a store.
-use Rattle.std.specs.Prelude.{◌≡◌, ℕ, List, Option, Some, MatchOption, Result}
+use Rattle.std.specs.Prelude.{◌≡◌, ℕ, List, Option, MatchOption, Result}
 use Rattle.std.specs.Global.{Vec}
 use Rattle.std.specs.List.Sorted.{IsStrictlySortedBy}
 use Rattle.cluster.specs.declared.event.What.{What}

@@ -1,10 +1,9 @@
 -- By which steps of a store a dump comes to its tuples.
-use Rattle.std.specs.Prelude.{◌≡◌, ◌+◌, ℕ, zero, suc, List, [], ◌∷◌, ◌++◌, map, Option, Some, None, MatchOption, Result, Ok, true, Contains}
+use Rattle.std.specs.Prelude.{◌≡◌, ℕ, zero, suc, List, [], ◌∷◌, ◌++◌, Option, Some, None, MatchOption, Result, Ok, true, Contains}
 use Rattle.std.specs.Global.{Vec}
-use Rattle.cluster.specs.declared.event.Answer.{Answer}
 use Rattle.cluster.specs.declared.event.Answer.TheVariants.{Done, Selected}
 use Rattle.cluster.specs.declared.event.What.{What}
-use Rattle.cluster.specs.declared.event.What.TheVariants.{Began, Ended, Next, Refused, Up}
+use Rattle.cluster.specs.declared.event.What.TheVariants.{Ended, Refused}
 use Rattle.cluster.specs.declared.step.Step.{Step}
 use Rattle.cluster.specs.declared.step.Step.TheVariants.{Care as care_for, Start}
 use Rattle.names.specs.declared.call_name.CallName.{CallName}
@@ -16,7 +15,7 @@ use Rattle.holds.specs.Holds.{is_in}
 use Rattle.scripts.specs.Going.{Goes}
 use Rattle.scripts.specs.Scripts.{slot_of}
 use Rattle.tuples.specs.declared.freshness.Freshness.{Freshness}
-use Rattle.tuples.specs.declared.freshness.Freshness.TheVariants.{Exact, Latest}
+use Rattle.tuples.specs.declared.freshness.Freshness.TheVariants.{Exact}
 use Rattle.tuples.specs.declared.request.Request.TheVariants.{Read}
 use Rattle.tuples.specs.declared.tuple.Tuple.{Tuple}
 use Rattle.tuples.specs.declared.tupleset.Tupleset.{Tupleset}

@@ -1,5 +1,5 @@
 // A store that was just opened is looked over, before its tuples are asked for.
-ghost use Rattle.std.specs.Prelude.{◌≡◌, ◌≤◌, ◌×◌, ◌↔◌, true, IfOk, OnOk};
+ghost use Rattle.std.specs.Prelude.{◌≡◌, ◌↔◌, true, IfOk, OnOk};
 ghost use Rattle.dumping.specs.Looking.{AreOfOneMoment, IsWithin, ReachesAt};
 
 use calls::Reach;

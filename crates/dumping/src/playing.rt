@@ -26,9 +26,9 @@ fn run_out<S: Store>(store: &mut S, slot: usize) -> Result<Option<What>, Refusal
 {
     let mut told = None;
     for _ in 0..u64::MAX {
-        if store.next(slot).is_none() {
+        let Some(_) = store.next(slot) else {
             return Ok(told);
-        }
+        };
         told = turn(store, slot)?;
     }
     // It has made more calls than can be counted.

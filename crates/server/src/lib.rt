@@ -23,4 +23,3 @@ mod running;
 mod start;
 
 pub use opening::{serve, serve_over};
-pub use progress::Progress;

@@ -44,31 +44,8 @@ where
     ghost first: { List AnyEntry }
     ensures { (result ≡ 0) ⊎ (result ≡ 1) }
 {
-    let progress = Progress::new();
-    let progress = &progress;
-    thread::scope(
-        thread::scope_env(),
-        rt,
-        move |scope| -> u8
-            ensures { (result ≡ 0) ⊎ (result ≡ 1) }
-        {
-            // Where there is no thread for it, nobody is told how long the opening takes.
-            let _ = scope.spawn(move || progress.tell(rt, settings.dir.as_str()));
-            let status = serve_told(rt, files, settings, progress);
-            progress.end();
-            status
-        },
-    )
-}
-
-fn serve_told<R>(rt: &R, files: &HostRuntime, settings: &ServeSettings, progress: &Progress) -> u8
-where
-    R: Runtime + Net<Listener = TcpListener, Stream = TcpStream> + Threads + Wait + Sync,
-    ghost first: { List AnyEntry }
-    ensures { (result ≡ 0) ⊎ (result ≡ 1) }
-{
     match new_bell(files.alloc()) {
-        Ok((parker, bell)) => serve_with_bell(rt, files, settings, progress, parker, bell),
+        Ok((parker, bell)) => serve_with_bell(rt, files, settings, parker, bell),
         Err(_) => tell(rt, &Fault::Refused(Refusal::NoMemory)),
     }
 }
@@ -77,7 +54,6 @@ fn serve_with_bell<R>(
     rt: &R,
     files: &HostRuntime,
     settings: &ServeSettings,
-    progress: &Progress,
     parker: Parker,
     bell: Unparker,
 ) -> u8
@@ -94,7 +70,7 @@ where
     };
     match Published::new(files.alloc()) {
         Ok((words, log)) => serve_files(
-            rt, files, settings, progress, parker, bell, words, log, attempts, launches,
+            rt, files, settings, parker, bell, words, log, attempts, launches,
         ),
         Err(_) => tell(rt, &Fault::Refused(Refusal::NoMemory)),
     }
@@ -104,7 +80,6 @@ fn serve_files<R>(
     rt: &R,
     files: &HostRuntime,
     settings: &ServeSettings,
-    progress: &Progress,
     parker: Parker,
     bell: Unparker,
     words: Published<Entry>,
@@ -124,7 +99,6 @@ where
             rt,
             files.alloc(),
             settings,
-            progress,
             Open,
             parker,
             bell,
@@ -142,6 +116,58 @@ where
 /// list and of what joins it; no other premise is taken. Of a list at which they rest the coordinator's devices have what is behind its base, which is the
 /// whole of it before its first checkpoint.
 pub fn serve_over<D: Device + Send, B: Room + Send + Sync, G: Gate + Sync, R>(
+    rt: &R,
+    alloc: Global,
+    settings: &ServeSettings,
+    gate: G,
+    parker: Parker,
+    bell: Unparker,
+    words: Published<Entry>,
+    log: LogPass<Entry>,
+    attempts: Attempts,
+    launches: Launches,
+    devices: Vec<D>,
+) -> u8
+where
+    R: Runtime + Net<Listener = TcpListener, Stream = TcpStream> + Threads + Wait + Sync,
+    requires own { (words ≡ B.log) × (log.table ≡ B.log) × (attempts ≡ B.attempts) × (launches ≡ B.launches) }
+    requires empty { (log.seen ≡ []) × (log.horizon ≡ 0) }
+    requires of { (B.store ≡ settings.now.store) × (B.shards ≡ settings.now.shards) }
+    requires count { vec_len devices ≡ 2 * (settings.now.shards + 1) }
+    requires honest { All D.honest devices.items }
+    requires low { B.low ≡ (found_coordinator D.state devices.items).horizon }
+    requires rests { B.rests ↔ IsAtRest D.state D.honest B.shards B.first devices.items }
+    ensures { (result ≡ 0) ⊎ (result ≡ 1) }
+{
+    let progress = Progress::new();
+    let progress = &progress;
+    thread::scope(
+        thread::scope_env(),
+        rt,
+        move |scope| -> u8
+            requires { (words ≡ B.log) × (log.table ≡ B.log) × (attempts ≡ B.attempts) × (launches ≡ B.launches) }
+            requires { (log.seen ≡ []) × (log.horizon ≡ 0) }
+            requires { (B.store ≡ settings.now.store) × (B.shards ≡ settings.now.shards) }
+            requires { vec_len devices ≡ 2 * (settings.now.shards + 1) }
+            requires { All D.honest devices.items }
+            requires { B.low ≡ (found_coordinator D.state devices.items).horizon }
+            requires { B.rests ↔ IsAtRest D.state D.honest B.shards B.first devices.items }
+            ensures { (result ≡ 0) ⊎ (result ≡ 1) }
+        {
+            // Where there is no thread for it, nobody is told how long the opening takes.
+            let _ = scope.spawn(move || progress.tell(rt, settings.dir.as_str()));
+            let status = open_and_serve::<D, B, G, R>(
+                rt, alloc, settings, progress, gate, parker, bell, words, log, attempts, launches,
+                devices,
+            );
+            progress.end();
+            status
+        },
+    )
+}
+
+// The same, while another thread tells how long the opening takes.
+fn open_and_serve<D: Device + Send, B: Room + Send + Sync, G: Gate + Sync, R>(
     rt: &R,
     alloc: Global,
     settings: &ServeSettings,

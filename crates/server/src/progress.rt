@@ -11,14 +11,14 @@ const LAST: u64 = 60;
 
 /// Whether a store is being opened still, for whoever tells of it.
 #[derive(Drop)]
-pub struct Progress {
+pub(crate) struct Progress {
     parker: Parker,
     ended: AtomicU64,
 }
 
 impl Progress {
     /// It is.
-    pub fn new() -> Progress {
+    pub(crate) fn new() -> Progress {
         Progress {
             parker: Parker::new(),
             ended: AtomicU64::new(0),
@@ -26,13 +26,13 @@ impl Progress {
     }
 
     /// Its opening has ended, well or not.
-    pub fn end(&self) {
+    pub(crate) fn end(&self) {
         self.ended.store(1, Ordering::SeqCst);
         self.parker.unpark();
     }
 
     /// Tells now and then that the folder's store is being opened, until that ends.
-    pub fn tell<R: Eprint + Clock + Wait>(&self, rt: &R, dir: &str) {
+    pub(crate) fn tell<R: Eprint + Clock + Wait>(&self, rt: &R, dir: &str) {
         let began = Instant::now(rt).ok();
         let mut pause = FIRST;
         for _ in rt.forever() {

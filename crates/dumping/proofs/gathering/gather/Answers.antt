@@ -1,6 +1,5 @@
-use Rattle.std.proofs.Common.{◌≡◌, ◌+◌, ◌++◌, ℕ, suc, List, ⊎_elim, refl, arith, subst}
+use Rattle.std.proofs.Common.{◌≡◌, ◌+◌, ◌++◌, ℕ, suc, ⊎_elim, refl, arith, subst}
 use Rattle.std.proofs.lemmas.List.Elements.{Contains-append_cases}
-use Rattle.tuples.specs.declared.version.Version.{Version}
 use Rattle.tuples.specs.Changes.{tuple_of}
 use Rattle.dumping.specs.Gathering.{AllTell}
 use Rattle.dumping.proofs.gathering.gather.Goals as goal

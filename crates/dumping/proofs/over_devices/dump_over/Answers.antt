@@ -1,6 +1,5 @@
 use Rattle.std.proofs.Common.{◌≡◌, ◌+◌, ◌*◌, length, rules, sym, subst}
 use Rattle.dumping.specs.Dumped.{IsTextOver, Leaves, dump_text}
-use Rattle.dumping.specs.declared.over_devices.Fault.{Fault}
 use Rattle.dumping.proofs.Bools.{err_then, ok_then}
 use Rattle.dumping.proofs.over_devices.dump_over.Goals as goal
 
