@@ -1,3 +1,4 @@
 pub mod Caring
 pub mod Gathering
 pub mod Made
+pub mod Refusing

@@ -1,6 +1,7 @@
 // The old store: what its shards have yet to learn is learned, and what nobody reads any more is forgotten.
-ghost use Rattle.std.specs.Prelude.{◌≡◌, IfOk};
+ghost use Rattle.std.specs.Prelude.{◌≡◌, IfOk, MatchResult};
 ghost use Rattle.reshard.specs.Caring.{CaresOn, HaveReached, ReachesAt};
+ghost use Rattle.reshard.specs.Refusing.{AreUp, IsFirstDown, RefusesAt};
 
 use crate::playing::serve;
 use calls::Reach;
@@ -10,7 +11,7 @@ use names::{Care, NodeName};
 use tuples::Refusal;
 
 fn reach_of<D: Device>(world: &World<D>, name: NodeName) -> Result<Reach, Refusal>
-    ensures { IfOk result (ReachesAt D.state D.honest world.now.nodes name) }
+    ensures { MatchResult result (ReachesAt D.state D.honest world.now.nodes name) (RefusesAt D.state D.honest world.now.nodes name) }
 {
     match world.node(name) {
         Some(node) => node.reach(),
@@ -19,7 +20,9 @@ fn reach_of<D: Device>(world: &World<D>, name: NodeName) -> Result<Reach, Refusa
 }
 
 /// Whether each node is up: else the refusal of the first that is not, the coordinator before the shards.
-pub(crate) fn are_up<D: Device>(world: &World<D>) -> Result<(), Refusal> {
+pub fn are_up<D: Device>(world: &World<D>) -> Result<(), Refusal>
+    ensures { MatchResult result (λ _. AreUp D.state D.honest world.now) (IsFirstDown D.state D.honest world.now) }
+{
     let _log = reach_of(world, NodeName::Coordinator)?;
     for shard in 0..world.shards() {
         let _shard = reach_of(world, NodeName::Shard(shard))?;
