@@ -134,6 +134,7 @@ no_shape store shards running words none shapeless = record { nothing = λ c h. 
     refuse (command.Rows shard) h = none (command.Rows shard) tt h
     refuse (command.Restart node) h = none (command.Restart node) tt h
     refuse (command.Fail f) h = none (command.Fail f) tt h
+    refuse (command.Reshard count) h = none (command.Reshard count) tt h
 
 -- words behind `start` that are no name which is free, and a request
 pub start_refused : (store shards : ℕ) (running ws : List (List ℕ)) → ((name : List ℕ) (rest : List (List ℕ)) → ws ≡ name ∷ rest → IsFree running name → (shape : Shape) → HasShape rest shape → ⊥) → WordsCause store shards running (codes "start" ∷ ws) BadRequest

@@ -11,7 +11,7 @@ use Rattle.lines.specs.declared.fail.Failure.{Failure}
 use Rattle.names.specs.declared.node_name.NodeName.{NodeName}
 use Rattle.lines.specs.declared.flow.Handling.{Handling}
 use Rattle.lines.specs.declared.flow.Handling.TheVariants as handling
-use Rattle.lines.specs.Lines.{SpellNoOrder, SpellsCare, SpellsFailure, SpellsHandling, SpellsRestart, SpellsRows}
+use Rattle.lines.specs.Lines.{SpellNoOrder, SpellsCare, SpellsFailure, SpellsHandling, SpellsReshard, SpellsRestart, SpellsRows}
 use Rattle.lines.specs.Shapes.{ArePartsShaped, HasShape, Shape, check, read, watch, write}
 use Rattle.std.specs.Fmt.{decimal}
 use Rattle.lines.specs.Texts.{IsNode, bank_text, node_text}
@@ -42,6 +42,7 @@ start_is_no_order store shards running ws (command.Care (care.Collect shard)) o 
 start_is_no_order store shards running ws (command.Rows shard) o h = other_first 0 (codes "start") (codes "rows") ws _ refl h.0
 start_is_no_order store shards running ws (command.Restart node) o h = other_first 0 (codes "start") (codes "restart") ws _ refl h.0
 start_is_no_order store shards running ws (command.Fail f) o h = other_first 0 (codes "start") (codes "fail") ws _ refl h.0
+start_is_no_order store shards running ws (command.Reshard count) o h = other_first 0 (codes "start") (codes "reshard") ws _ refl h.0
 
 -- nor a request
 pub start_is_no_request : (ws : List (List ℕ)) (shape : Shape) → HasShape (codes "start" ∷ ws) shape → ⊥
@@ -59,15 +60,17 @@ write_only ws none (watch from limit names) h = other_first 1 (codes "write") (c
 
 -- what is none of its kinds is no order
 pub no_order : (store shards : ℕ) (running words : List (List ℕ)) → ((flow : ℕ) (h : Handling) → SpellsHandling running words flow h → ⊥) → ((c : Care) → SpellsCare shards words c → ⊥)
-    → ((shard : ℕ) → SpellsRows shards words shard → ⊥) → ((node : _) → SpellsRestart shards words node → ⊥) → ((f : _) → SpellsFailure shards words f → ⊥) → SpellNoOrder store shards running words
-no_order store shards running words handles cares rows restarts fails command.Pass o h = h
-no_order store shards running words handles cares rows restarts fails (command.Ask r) o h = o
-no_order store shards running words handles cares rows restarts fails (command.Start name r) o h = o
-no_order store shards running words handles cares rows restarts fails (command.Handle flow x) o h = handles flow x h
-no_order store shards running words handles cares rows restarts fails (command.Care c) o h = cares c h
-no_order store shards running words handles cares rows restarts fails (command.Rows shard) o h = rows shard h
-no_order store shards running words handles cares rows restarts fails (command.Restart node) o h = restarts node h
-no_order store shards running words handles cares rows restarts fails (command.Fail f) o h = fails f h
+    → ((shard : ℕ) → SpellsRows shards words shard → ⊥) → ((node : _) → SpellsRestart shards words node → ⊥) → ((f : _) → SpellsFailure shards words f → ⊥)
+    → ((count : ℕ) → SpellsReshard words count → ⊥) → SpellNoOrder store shards running words
+no_order store shards running words handles cares rows restarts fails reshards command.Pass o h = h
+no_order store shards running words handles cares rows restarts fails reshards (command.Ask r) o h = o
+no_order store shards running words handles cares rows restarts fails reshards (command.Start name r) o h = o
+no_order store shards running words handles cares rows restarts fails reshards (command.Handle flow x) o h = handles flow x h
+no_order store shards running words handles cares rows restarts fails reshards (command.Care c) o h = cares c h
+no_order store shards running words handles cares rows restarts fails reshards (command.Rows shard) o h = rows shard h
+no_order store shards running words handles cares rows restarts fails reshards (command.Restart node) o h = restarts node h
+no_order store shards running words handles cares rows restarts fails reshards (command.Fail f) o h = fails f h
+no_order store shards running words handles cares rows restarts fails reshards (command.Reshard count) o h = reshards count h
 
 -- words that do nothing of the four
 pub no_handling : (running words : List (List ℕ)) → ((name : List ℕ) → words ≡ codes "turn" ∷ name ∷ [] → ⊥) → ((name : List ℕ) → words ≡ codes "run" ∷ name ∷ [] → ⊥) → ((name : List ℕ) → words ≡ codes "cancel" ∷ name ∷ [] → ⊥)

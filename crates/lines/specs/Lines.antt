@@ -17,7 +17,7 @@ use Rattle.lines.specs.declared.flow.Handling.TheVariants as handling
 use Rattle.names.specs.declared.node_name.NodeName.{NodeName}
 use Rattle.lines.specs.declared.command.Command.TheVariants as command
 use Rattle.names.specs.Names.{call_text}
-use Rattle.lines.specs.Texts.{IsCount, IsFlowName, IsFreshness, IsLimit, IsNode, IsPlace, IsTear, bank_text, change_text, condition_text, fresh_text, node_text, tear_text}
+use Rattle.lines.specs.Texts.{IsCount, IsFlowName, IsFreshness, IsLimit, IsNode, IsPlace, IsShardCount, IsTear, bank_text, change_text, condition_text, fresh_text, node_text, tear_text}
 use Rattle.lines.specs.Words.{AreWanted, if_words, words_of}
 
 -- the words of a request at this store
@@ -84,6 +84,10 @@ SpellsRestart shards words node = (words ≡ codes "restart" ∷ node_text node 
 abbrev pub SpellsFailure : ℕ → List (List ℕ) → Failure → Type 0
 SpellsFailure shards words f = (words ≡ codes "fail" ∷ bank_text f.node f.bank ∷ decimal f.n ∷ tear_text f.tear ∷ []) × IsNode shards f.node × IsCount f.n × IsTear f.tear
 
+-- the number of shards that the store is to have, whatever it has
+abbrev pub SpellsReshard : List (List ℕ) → ℕ → Type 0
+SpellsReshard words count = (words ≡ codes "reshard" ∷ decimal count ∷ []) × IsShardCount count
+
 -- the words of a line spell the command, at a store of so many shards where flows of these names run; a line that is passed has none
 abbrev pub SpellsWords : ℕ → ℕ → List (List ℕ) → List (List ℕ) → Command → Type 0
 SpellsWords store shards running words command.Pass = ⊥
@@ -94,6 +98,7 @@ SpellsWords store shards running words (command.Care c) = SpellsCare shards word
 SpellsWords store shards running words (command.Rows shard) = SpellsRows shards words shard
 SpellsWords store shards running words (command.Restart node) = SpellsRestart shards words node
 SpellsWords store shards running words (command.Fail f) = SpellsFailure shards words f
+SpellsWords store shards running words (command.Reshard count) = SpellsReshard words count
 
 -- a command that is no request
 abbrev pub IsOrder : Command → Type 0

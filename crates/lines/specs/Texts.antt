@@ -16,7 +16,7 @@ use Rattle.journal.specs.declared.refused.Bank.{Bank}
 use Rattle.journal.specs.declared.refused.Bank.TheVariants.{A, B}
 use Rattle.tuples.specs.declared.freshness.Freshness.{Freshness}
 use Rattle.tuples.specs.declared.freshness.Freshness.TheVariants.{Latest, AtLeast, Exact}
-use Rattle.tuples.specs.Limits.{max_watched}
+use Rattle.tuples.specs.Limits.{max_shards, max_watched}
 use Rattle.names.specs.declared.node_name.NodeName.{NodeName}
 use Rattle.names.specs.declared.node_name.NodeName.TheVariants as node
 
@@ -108,6 +108,10 @@ IsHex d = d < 16
 -- how many places a watch may tell of
 abbrev pub IsLimit : ℕ → Type 0
 IsLimit n = (1 ≤ n) × (n ≤ max_watched)
+
+-- how many shards a store may have
+abbrev pub IsShardCount : ℕ → Type 0
+IsShardCount n = (1 ≤ n) × (n ≤ max_shards)
 
 -- the value of the grammar that has this text, or none has it
 abbrev pub ReadsText : {A : Type 0} → (A → Type 0) → (A → List ℕ) → List ℕ → Option A → Type 0

@@ -11,6 +11,7 @@ use crate::flow::{Handling, parse_handling};
 use crate::name::{Name, is_free};
 use crate::node::{parse_restart, parse_rows};
 use crate::request::request_of;
+use crate::resharding::parse_reshard;
 use crate::shapes::shape_of;
 use crate::words::{behind, split_words};
 use names::{Care, NodeName};
@@ -37,6 +38,8 @@ pub enum Command {
     Restart(NodeName),
     /// `fail 0a 4 a5`
     Fail(Failure),
+    /// `reshard 3`: the store is carried over to one of so many shards.
+    Reshard(u8),
 }
 
 impl Command {
@@ -139,8 +142,11 @@ fn parse_order(words: &[&[u8]], shards: u8, running: &[Name]) -> Option<Command>
     if let Some(node) = parse_restart(words, shards) {
         return Some(Command::Restart(node));
     }
-    let Some(failure) = parse_fail(words, shards) else {
+    if let Some(failure) = parse_fail(words, shards) {
+        return Some(Command::Fail(failure));
+    }
+    let Some(count) = parse_reshard(words) else {
         return None;
     };
-    Some(Command::Fail(failure))
+    Some(Command::Reshard(count))
 }

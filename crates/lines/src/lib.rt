@@ -17,6 +17,7 @@ mod node;
 mod numbers;
 mod places;
 mod request;
+mod resharding;
 mod shape;
 mod shapes;
 mod texts;

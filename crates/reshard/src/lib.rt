@@ -21,3 +21,4 @@ mod telling;
 
 pub use folder::{Folders, reshard_folder};
 pub use resharding::{carry_over, reshard};
+pub use settling::are_up;

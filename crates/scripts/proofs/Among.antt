@@ -2,7 +2,7 @@
 use Rattle.std.proofs.Common.{ℕ, List, length}
 use Rattle.std.proofs.lemmas.Option.{slice_get_within}
 use Rattle.lines.specs.declared.command.Command.{Command}
-use Rattle.lines.specs.declared.command.Command.TheVariants.{Pass, Ask, Start, Handle, Care, Rows, Restart, Fail}
+use Rattle.lines.specs.declared.command.Command.TheVariants.{Pass, Ask, Start, Handle, Care, Rows, Restart, Fail, Reshard}
 use Rattle.lines.specs.Lines.{Spells}
 use Rattle.scripts.specs.Scripts.{IsAmong}
 
@@ -15,3 +15,4 @@ among id shards names line (Care c) spells = tt
 among id shards names line (Rows shard) spells = tt
 among id shards names line (Restart node) spells = tt
 among id shards names line (Fail f) spells = tt
+among id shards names line (Reshard count) spells = spells.1

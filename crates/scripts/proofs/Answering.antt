@@ -22,34 +22,34 @@ not_both : (r : Bool) → r ≡ true → r ≡ false → ⊥
 not_both true is isnt = cc
 not_both false is isnt = cc
 
-module _ {S : Type 0} (takes : S → Step → Option What → S → Type 0) (nexts : S → ℕ → Option CallName → Type 0) (shows : S → ℕ → Result (Vec Version) Refusal → Type 0) (sets : S → NodeName → Bank → ℕ → Tear → S → Type 0) (line : List ℕ) (a b : ScriptView S) (before after : Option (List ℕ)) where
+module _ {S : Type 0} (takes : S → Step → Option What → S → Type 0) (nexts : S → ℕ → Option CallName → Type 0) (shows : S → ℕ → Result (Vec Version) Refusal → Type 0) (sets : S → NodeName → Bank → ℕ → Tear → S → Type 0) (reshards : S → ℕ → Result (Unit {0}) Refusal → S → S → Type 0) (shards_of : S → ℕ) (line : List ℕ) (a b : ScriptView S) (before after : Option (List ℕ)) where
   -- the script has put its answer behind nothing
-  module _ (cleared out bytes : List ℕ) (none : cleared ≡ []) (answered : (text : List ℕ) × Answers takes nexts shows sets line a text b × (out ≡ cleared ++ text)) (same : bytes ≡ out) where
-    replied : length line ≤ max_line → RepliesTo takes nexts shows sets line a bytes b
+  module _ (cleared out bytes : List ℕ) (none : cleared ≡ []) (answered : (text : List ℕ) × Answers takes nexts shows sets reshards shards_of line a text b × (out ≡ cleared ++ text)) (same : bytes ≡ out) where
+    replied : length line ≤ max_line → RepliesTo takes nexts shows sets reshards shards_of line a bytes b
     replied small =
         let is : bytes ≡ answered.0 = same ∙ answered.2 ∙ ap (λ (l : List ℕ). l ++ answered.0) none in
-        inl (small, subst (λ (t : List ℕ). Answers takes nexts shows sets line a t b) (sym is) answered.1)
+        inl (small, subst (λ (t : List ℕ). Answers takes nexts shows sets reshards shards_of line a t b) (sym is) answered.1)
 
-    pub tells : Appends before after bytes → length line ≤ max_line → Tells takes nexts shows sets line a b before after
+    pub tells : Appends before after bytes → length line ≤ max_line → Tells takes nexts shows sets reshards shards_of line a b before after
     tells written small = record { text = bytes; replies = replied small; written = written }
 
-    pub tells_part : HasBegun before after bytes → length line ≤ max_line → TellsPart takes nexts shows sets line a b before after
+    pub tells_part : HasBegun before after bytes → length line ≤ max_line → TellsPart takes nexts shows sets reshards shards_of line a b before after
     tells_part written small = record { text = bytes; replies = replied small; written = written }
 
   -- a line that has bytes ends the script
-  pub ends : (line ≡ [] → ⊥) → Tells takes nexts shows sets line a b before after → EndsWith takes nexts shows sets line a b before after
+  pub ends : (line ≡ [] → ⊥) → Tells takes nexts shows sets reshards shards_of line a b before after → EndsWith takes nexts shows sets reshards shards_of line a b before after
   ends some h = by_line line some h
     where
-      by_line : (l : List ℕ) → (l ≡ [] → ⊥) → Tells takes nexts shows sets l a b before after → EndsWith takes nexts shows sets l a b before after
+      by_line : (l : List ℕ) → (l ≡ [] → ⊥) → Tells takes nexts shows sets reshards shards_of l a b before after → EndsWith takes nexts shows sets reshards shards_of l a b before after
       by_line [] some h = absurd (some refl)
-      by_line (x ∷ xs) some h = record { text = h.text; prints = prints_one takes nexts shows sets a (x ∷ xs) h.text b h.replies; written = h.written }
+      by_line (x ∷ xs) some h = record { text = h.text; prints = prints_one takes nexts shows sets reshards shards_of a (x ∷ xs) h.text b h.replies; written = h.written }
 
-  pub ends_part : (line ≡ [] → ⊥) → TellsPart takes nexts shows sets line a b before after → EndsPart takes nexts shows sets line a b before after
+  pub ends_part : (line ≡ [] → ⊥) → TellsPart takes nexts shows sets reshards shards_of line a b before after → EndsPart takes nexts shows sets reshards shards_of line a b before after
   ends_part some h = by_line line some h
     where
-      by_line : (l : List ℕ) → (l ≡ [] → ⊥) → TellsPart takes nexts shows sets l a b before after → EndsPart takes nexts shows sets l a b before after
+      by_line : (l : List ℕ) → (l ≡ [] → ⊥) → TellsPart takes nexts shows sets reshards shards_of l a b before after → EndsPart takes nexts shows sets reshards shards_of l a b before after
       by_line [] some h = absurd (some refl)
-      by_line (x ∷ xs) some h = record { text = h.text; prints = prints_one takes nexts shows sets a (x ∷ xs) h.text b h.replies; written = h.written }
+      by_line (x ∷ xs) some h = record { text = h.text; prints = prints_one takes nexts shows sets reshards shards_of a (x ∷ xs) h.text b h.replies; written = h.written }
 
 -- a line that was found to have bytes
 pub has_bytes : (r : Bool) (line : List ℕ) → (line ≡ [] → r ≡ true) → r ≡ false → line ≡ [] → ⊥

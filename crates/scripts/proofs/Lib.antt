@@ -5,3 +5,4 @@ mod Rooms
 pub mod Results
 pub mod RunLemmas
 pub mod Answering
+mod Carried

@@ -48,20 +48,20 @@ read_more lines old read line new e =
     append_assoc (joined lines) old read ∙ ap (λ (l : List ℕ). joined lines ++ l) (e ∙ sym (append_assoc line (10 ∷ []) new))
     ∙ sym (append_assoc (joined lines) (line ++ 10 ∷ []) new) ∙ ap (λ (l : List ℕ). l ++ new) (sym (joined_more lines line))
 
-module _ {S : Type 0} (takes : S → Step → Option What → S → Type 0) (nexts : S → ℕ → Option CallName → Type 0) (shows : S → ℕ → Result (Vec Version) Refusal → Type 0) (sets : S → NodeName → Bank → ℕ → Tear → S → Type 0) where
+module _ {S : Type 0} (takes : S → Step → Option What → S → Type 0) (nexts : S → ℕ → Option CallName → Type 0) (shows : S → ℕ → Result (Vec Version) Refusal → Type 0) (sets : S → NodeName → Bank → ℕ → Tear → S → Type 0) (reshards : S → ℕ → Result (Unit {0}) Refusal → S → S → Type 0) (shards_of : S → ℕ) where
   prints_more : (a : ScriptView S) (lines : List (List ℕ)) (text : List ℕ) (b : ScriptView S) (more : List (List ℕ)) (rest : List ℕ) (c : ScriptView S)
-      → Prints takes nexts shows sets a lines text b → Prints takes nexts shows sets b more rest c → Prints takes nexts shows sets a (lines ++ more) (text ++ rest) c
+      → Prints takes nexts shows sets reshards shards_of a lines text b → Prints takes nexts shows sets reshards shards_of b more rest c → Prints takes nexts shows sets reshards shards_of a (lines ++ more) (text ++ rest) c
   prints_more a [] text b more rest c p q =
-      subst (λ (t : List ℕ). Prints takes nexts shows sets a more (t ++ rest) c) (sym p.0) (subst (λ (x : ScriptView S). Prints takes nexts shows sets x more rest c) p.1 q)
+      subst (λ (t : List ℕ). Prints takes nexts shows sets reshards shards_of a more (t ++ rest) c) (sym p.0) (subst (λ (x : ScriptView S). Prints takes nexts shows sets reshards shards_of x more rest c) p.1 q)
   prints_more a (line ∷ lines) text b more rest c p q =
       (p.0, p.1, p.2 ++ rest, p.3, prints_more p.0 lines p.2 b more rest c p.4 q, ap (λ (t : List ℕ). t ++ rest) p.5 ∙ append_assoc p.1 p.2 rest)
 
-  pub prints_one : (a : ScriptView S) (line text : List ℕ) (b : ScriptView S) → RepliesTo takes nexts shows sets line a text b → Prints takes nexts shows sets a (line ∷ []) text b
+  pub prints_one : (a : ScriptView S) (line text : List ℕ) (b : ScriptView S) → RepliesTo takes nexts shows sets reshards shards_of line a text b → Prints takes nexts shows sets reshards shards_of a (line ∷ []) text b
   prints_one a line text b r = (b, text, [], r, (refl, refl), sym (append-nil text))
 
   module _ (in0 in1 in2 out0 out1 out2 : Option (List ℕ)) (a b c : ScriptView S) (unread new : List ℕ) (line : Line) where
-    pub run_more : BetweenLines takes nexts shows sets in0 in1 out0 out1 a b unread → (t : HasTaken Feed in1 in2 unread new line) → Tells takes nexts shows sets t.bytes b c out1 out2
-        → BetweenLines takes nexts shows sets in0 in2 out0 out2 a c new
+    pub run_more : BetweenLines takes nexts shows sets reshards shards_of in0 in1 out0 out1 a b unread → (t : HasTaken Feed in1 in2 unread new line) → Tells takes nexts shows sets reshards shards_of t.bytes b c out1 out2
+        → BetweenLines takes nexts shows sets reshards shards_of in0 in2 out0 out2 a c new
     run_more s t h = record {
       lines = s.lines ++ t.bytes ∷ [];
       text = s.text ++ h.text;
@@ -71,12 +71,12 @@ module _ {S : Type 0} (takes : S → Step → Option What → S → Type 0) (nex
       written = Appends-trans out0 out1 out2 s.text h.text s.written h.written;
     }
 
-    read_to_end : (s : BetweenLines takes nexts shows sets in0 in1 out0 out1 a b unread) (t : HasTaken Input in1 in2 unread new line) → Consumes in0 in2 (joined s.lines ++ t.bytes)
+    read_to_end : (s : BetweenLines takes nexts shows sets reshards shards_of in0 in1 out0 out1 a b unread) (t : HasTaken Input in1 in2 unread new line) → Consumes in0 in2 (joined s.lines ++ t.bytes)
     read_to_end s t = subst (Consumes in0 in2) (append_assoc (joined s.lines) unread t.read ∙ ap (λ (l : List ℕ). joined s.lines ++ l) t.ends.1)
         (Consumes-trans in0 in1 in2 (joined s.lines ++ unread) t.read s.read t.consumed)
 
-    pub ran : BetweenLines takes nexts shows sets in0 in1 out0 out1 a b unread → (t : HasTaken Input in1 in2 unread new line) → EndsWith takes nexts shows sets t.bytes b c out1 out2
-        → Ran takes nexts shows sets in0 in2 out0 out2 a c
+    pub ran : BetweenLines takes nexts shows sets reshards shards_of in0 in1 out0 out1 a b unread → (t : HasTaken Input in1 in2 unread new line) → EndsWith takes nexts shows sets reshards shards_of t.bytes b c out1 out2
+        → Ran takes nexts shows sets reshards shards_of in0 in2 out0 out2 a c
     ran s t h = record {
       lines = s.lines;
       last = t.bytes;
@@ -90,7 +90,7 @@ module _ {S : Type 0} (takes : S → Step → Option What → S → Type 0) (nex
     }
 
     -- a read failed
-    pub broke_reading : BetweenLines takes nexts shows sets in0 in1 out0 out1 a b unread → HasRead in1 in2 → Broke takes nexts shows sets in0 in2 out0 out1 a b
+    pub broke_reading : BetweenLines takes nexts shows sets reshards shards_of in0 in1 out0 out1 a b unread → HasRead in1 in2 → Broke takes nexts shows sets reshards shards_of in0 in2 out0 out1 a b
     broke_reading s r = record {
       lines = s.lines;
       rest = unread ++ r.0;
@@ -104,8 +104,8 @@ module _ {S : Type 0} (takes : S → Step → Option What → S → Type 0) (nex
     }
 
     -- the write of an answer failed
-    pub broke_telling : BetweenLines takes nexts shows sets in0 in1 out0 out1 a b unread → (t : HasTaken Feed in1 in2 unread new line) → TellsPart takes nexts shows sets t.bytes b c out1 out2
-        → Broke takes nexts shows sets in0 in2 out0 out2 a c
+    pub broke_telling : BetweenLines takes nexts shows sets reshards shards_of in0 in1 out0 out1 a b unread → (t : HasTaken Feed in1 in2 unread new line) → TellsPart takes nexts shows sets reshards shards_of t.bytes b c out1 out2
+        → Broke takes nexts shows sets reshards shards_of in0 in2 out0 out2 a c
     broke_telling s t h = record {
       lines = s.lines ++ t.bytes ∷ [];
       rest = new;
@@ -119,8 +119,8 @@ module _ {S : Type 0} (takes : S → Step → Option What → S → Type 0) (nex
     }
 
     -- that of the last answer failed
-    pub broke_ending : BetweenLines takes nexts shows sets in0 in1 out0 out1 a b unread → (t : HasTaken Input in1 in2 unread new line) → EndsPart takes nexts shows sets t.bytes b c out1 out2
-        → Broke takes nexts shows sets in0 in2 out0 out2 a c
+    pub broke_ending : BetweenLines takes nexts shows sets reshards shards_of in0 in1 out0 out1 a b unread → (t : HasTaken Input in1 in2 unread new line) → EndsPart takes nexts shows sets reshards shards_of t.bytes b c out1 out2
+        → Broke takes nexts shows sets reshards shards_of in0 in2 out0 out2 a c
     broke_ending s t h = record {
       lines = s.lines;
       rest = t.bytes;
@@ -135,7 +135,7 @@ module _ {S : Type 0} (takes : S → Step → Option What → S → Type 0) (nex
 
   module _ (in0 in1 out0 out1 : Option (List ℕ)) (a b : ScriptView S) (unread : List ℕ) where
     -- it ended between two lines
-    pub broke_here : BetweenLines takes nexts shows sets in0 in1 out0 out1 a b unread → Broke takes nexts shows sets in0 in1 out0 out1 a b
+    pub broke_here : BetweenLines takes nexts shows sets reshards shards_of in0 in1 out0 out1 a b unread → Broke takes nexts shows sets reshards shards_of in0 in1 out0 out1 a b
     broke_here s = record {
       lines = s.lines;
       rest = unread;
@@ -149,7 +149,7 @@ module _ {S : Type 0} (takes : S → Step → Option What → S → Type 0) (nex
     }
 
     -- memory for the run was refused
-    pub broke_first : Broke takes nexts shows sets in0 in0 out0 out0 a a
+    pub broke_first : Broke takes nexts shows sets reshards shards_of in0 in0 out0 out0 a a
     broke_first = record {
       lines = [];
       rest = [];

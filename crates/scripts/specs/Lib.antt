@@ -1,8 +1,10 @@
 pub mod Telling
 pub mod Going
+pub mod Cares
 pub mod Scripts
 pub mod Refusing
 pub mod Answering
 pub mod Runs
 pub mod Stepping
+pub mod Resharding
 pub mod Sims

@@ -6,7 +6,7 @@ use Rattle.cluster.specs.declared.event.What.{What}
 use Rattle.cluster.specs.declared.step.Step.{Step}
 use Rattle.cluster.specs.declared.step.Step.TheVariants as step
 use Rattle.lines.specs.declared.command.Command.{Command}
-use Rattle.lines.specs.declared.command.Command.TheVariants.{Pass, Ask, Start, Handle, Care, Rows, Restart, Fail}
+use Rattle.lines.specs.declared.command.Command.TheVariants.{Pass, Ask, Start, Handle, Care, Rows, Restart, Fail, Reshard}
 use Rattle.lines.specs.declared.flow.Handling.{Handling}
 use Rattle.lines.specs.declared.flow.Handling.TheVariants as handling
 use Rattle.refusal.specs.declared.refusal.Refusal.{Refusal}
@@ -69,3 +69,4 @@ module _ {S : Type 0} (takes : S → Step → Option What → S → Type 0) (nex
   CarriesOutNot id (Rows shard) old new = (text : List ℕ) × Shows shows shard old.store text × IsLong text × (new ≡ old)
   CarriesOutNot id (Restart node) old new = (told : Option What) × takes old.store (step.Restart node) told new.store × IsLong (told_text id told) × KeepsFlows old new
   CarriesOutNot id (Fail f) old new = ⊥
+  CarriesOutNot id (Reshard shards) old new = ⊥

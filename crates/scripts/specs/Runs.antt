@@ -27,10 +27,10 @@ abbrev pub last_line : List ℕ → List (List ℕ)
 last_line [] = []
 last_line (b ∷ bs) = (b ∷ bs) ∷ []
 
-module _ {S : Type 0} (takes : S → Step → Option What → S → Type 0) (nexts : S → ℕ → Option CallName → Type 0) (shows : S → ℕ → Result (Vec Version) Refusal → Type 0) (sets : S → NodeName → Bank → ℕ → Tear → S → Type 0) where
+module _ {S : Type 0} (takes : S → Step → Option What → S → Type 0) (nexts : S → ℕ → Option CallName → Type 0) (shows : S → ℕ → Result (Vec Version) Refusal → Type 0) (sets : S → NodeName → Bank → ℕ → Tear → S → Type 0) (reshards : S → ℕ → Result (Unit {0}) Refusal → S → S → Type 0) (shards_of : S → ℕ) where
   -- A line within the limit is answered as the script says. A longer one is refused, and so is any for which there is no memory: then nothing is done.
   abbrev pub RepliesTo : List ℕ → ScriptView S → List ℕ → ScriptView S → Type 0
-  RepliesTo line a text b = ((length line ≤ max_line) × Answers takes nexts shows sets line a text b)
+  RepliesTo line a text b = ((length line ≤ max_line) × Answers takes nexts shows sets reshards shards_of line a text b)
       ⊎ (((max_line < length line) × (text ≡ refusal_line TooLarge) × (b ≡ a)) ⊎ ((text ≡ refusal_line NoMemory) × (b ≡ a)))
 
   -- what these lines print, one behind the other

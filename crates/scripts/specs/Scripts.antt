@@ -1,5 +1,5 @@
 -- What each line of a script does with a store, and what it prints.
-use Rattle.std.specs.Prelude.{◌≡◌, ◌<◌, ◌⊎◌, ℕ, List, [], ◌∷◌, ◌++◌, codes, Option, Some, None, MatchOption, Result, Ok, Err, slice_get, slice_index}
+use Rattle.std.specs.Prelude.{◌≡◌, ◌≤◌, ◌<◌, ◌⊎◌, ℕ, List, [], ◌∷◌, ◌++◌, codes, Option, Some, None, MatchOption, Result, Ok, Err, slice_get, slice_index}
 use Rattle.std.specs.Global.{Vec}
 use Rattle.std.specs.List.{flat_map, remove}
 use Rattle.names.specs.declared.node_name.NodeName.{NodeName}
@@ -11,15 +11,17 @@ use Rattle.cluster.specs.declared.step.Step.TheVariants as step
 use Rattle.device.specs.declared.tear.Tear.{Tear}
 use Rattle.journal.specs.declared.refused.Bank.{Bank}
 use Rattle.lines.specs.declared.command.Command.{Command}
-use Rattle.lines.specs.declared.command.Command.TheVariants.{Pass, Ask, Start, Handle, Care, Rows, Restart, Fail}
+use Rattle.lines.specs.declared.command.Command.TheVariants.{Pass, Ask, Start, Handle, Care, Rows, Restart, Fail, Reshard}
 use Rattle.lines.specs.declared.flow.Handling.{Handling}
 use Rattle.lines.specs.declared.flow.Handling.TheVariants as handling
 use Rattle.printed.specs.Texts.{named_line, refusal_line, version_line}
 use Rattle.refusal.specs.declared.refusal.Refusal.{Refusal}
 use Rattle.refusal.specs.declared.refusal.Refusal.TheVariants.{Future}
+use Rattle.tuples.specs.Limits.{max_shards}
 use Rattle.tuples.specs.declared.version.Version.{Version}
+use Rattle.scripts.specs.Cares.{Moves}
 use Rattle.scripts.specs.Going.{Goes}
-use Rattle.scripts.specs.Telling.{next_line, set_line, told_text}
+use Rattle.scripts.specs.Telling.{done_line, next_line, set_line, told_text}
 
 -- A store, and the flows that run in it under names, each with its slot.
 pub record RunningView (S : Type 0) : Type 0 where
@@ -27,10 +29,9 @@ pub record RunningView (S : Type 0) : Type 0 where
   pub names : List (List ℕ)
   pub slots : List ℕ
 
--- The id of a store, how many shards it has, and what runs in it.
+-- The id of a store, and what runs in it.
 pub record ScriptView (S : Type 0) : Type 0 where
   pub id : ℕ
-  pub shards : ℕ
   pub running : RunningView S
 
 -- the slot in which a flow has begun
@@ -100,11 +101,20 @@ module _ {S : Type 0} (takes : S → Step → Option What → S → Type 0) (nex
   Handles id flow handling.Run old text new = (told : Option What) × Goes takes nexts (slice_index old.slots flow) None old.store told new.store × Tells id flow told old text new
   Handles id flow handling.Cancel old text new = Cancels (slice_index old.slots flow) old.store new.store × TellsCancel flow old text new
 
+-- that a store was carried over, or why it was not
+abbrev pub resharded_text : Result (Unit {0}) Refusal → List ℕ
+resharded_text (Ok done) = done_line
+resharded_text (Err e) = refusal_line e
+
 -- the versions that a shard shows, or why it shows none
 abbrev pub Shows : {S : Type 0} → (S → ℕ → Result (Vec Version) Refusal → Type 0) → ℕ → S → List ℕ → Type 0
 Shows shows shard s text = (result : Result (Vec Version) Refusal) × shows s shard result × (text ≡ rows_text result)
 
-module _ {S : Type 0} (takes : S → Step → Option What → S → Type 0) (nexts : S → ℕ → Option CallName → Type 0) (shows : S → ℕ → Result (Vec Version) Refusal → Type 0) (sets : S → NodeName → Bank → ℕ → Tear → S → Type 0) where
+module _ {S : Type 0} (takes : S → Step → Option What → S → Type 0) (nexts : S → ℕ → Option CallName → Type 0) (shows : S → ℕ → Result (Vec Version) Refusal → Type 0) (sets : S → NodeName → Bank → ℕ → Tear → S → Type 0) (reshards : S → ℕ → Result (Unit {0}) Refusal → S → S → Type 0) (shards_of : S → ℕ) where
+  -- the store is carried over to one of so many shards, or refuses, which is told
+  abbrev pub ReshardsTo : ℕ → S → List ℕ → S → Type 0
+  ReshardsTo shards old text new = (result : Result (Unit {0}) Refusal) × Moves takes reshards shards old result new × (text ≡ resharded_text result)
+
   -- A command is carried out at the store with this id, and prints this.
   abbrev pub CarriesOut : ℕ → Command → RunningView S → List ℕ → RunningView S → Type 0
   CarriesOut id Pass old text new = (text ≡ []) × (new ≡ old)
@@ -115,8 +125,10 @@ module _ {S : Type 0} (takes : S → Step → Option What → S → Type 0) (nex
   CarriesOut id (Rows shard) old text new = Shows shows shard old.store text × (new ≡ old)
   CarriesOut id (Restart node) old text new = (told : Option What) × takes old.store (step.Restart node) told new.store × (text ≡ told_text id told) × KeepsFlows old new
   CarriesOut id (Fail f) old text new = sets old.store f.node f.bank f.n f.tear new.store × (text ≡ set_line) × KeepsFlows old new
+  CarriesOut id (Reshard shards) old text new = ReshardsTo shards old.store text new.store × KeepsFlows old new
 
--- the flow that a command names is one of so many
+-- the flow that a command names is one of so many, and the number of shards one that a store may have
 abbrev pub IsAmong : Command → ℕ → Type 0
 IsAmong (Handle flow h) count = flow < count
+IsAmong (Reshard shards) count = (1 ≤ shards) × (shards ≤ max_shards)
 IsAmong c count = Unit {0}

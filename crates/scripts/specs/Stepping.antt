@@ -15,6 +15,10 @@ use Rattle.refusal.specs.declared.refusal.Refusal.{Refusal}
 use Rattle.refusal.specs.declared.refusal.Refusal.TheVariants.{BadRequest}
 use Rattle.tuples.specs.declared.version.Version.{Version}
 
+-- how many shards it has
+abbrev pub shards_in : {D : Type 0} → WorldView D → ℕ
+shards_in w = w.shards
+
 -- the next call of the flow in a slot; none where there is no flow
 abbrev pub IsNext : {D : Type 0} → WorldView D → ℕ → Option CallName → Type 0
 IsNext w slot next = MatchOption (flow_at w.flows slot) (next ≡ None) (λ flow. next ≡ next_name_of flow)

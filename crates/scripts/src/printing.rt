@@ -1,6 +1,7 @@
 // What is printed of what a store tells.
 ghost use Rattle.std.specs.Prelude.{◌≡◌, ◌≤◌, ◌<◌, ◌+◌, ◌++◌, List, ℕ, OnOk, OnErr, length, vec_capacity, vec_len};
 ghost use Rattle.std.specs.List.{flat_map};
+ghost use Rattle.scripts.specs.Scripts.{resharded_text};
 ghost use Rattle.scripts.specs.Telling.{done_line, end_text, resolved_text, told_text};
 
 use answers::{Answer, Events, Membership, Rows, Written};
@@ -8,6 +9,7 @@ use care_flow::Resolved;
 use cluster::What;
 use printed::Printed;
 use std::alloc::AllocError;
+use tuples::Refusal;
 
 fn print_resolved(id: u64, resolved: Resolved, out: &mut Vec<u8>) -> Result<(), AllocError>
     ensures ok { OnOk result (out.new.items ≡ out.old.items ++ resolved_text resolved) }
@@ -94,5 +96,22 @@ pub(crate) fn print_told(id: u64, told: Option<What>, out: &mut Vec<u8>) -> Resu
         Some(What::Ended(end)) => print_end(id, end, out),
         Some(What::Up) => Printed::Up.write_to(id, out),
         Some(What::Refused(refusal)) => Printed::Refused(refusal).write_to(id, out),
+    }
+}
+
+/// Prints that a store was carried over, or why it was not. It is refused only where there is no room for all of it.
+pub(crate) fn print_resharded(
+    id: u64,
+    told: Result<(), Refusal>,
+    out: &mut Vec<u8>,
+) -> Result<(), AllocError>
+    ensures ok { OnOk result (out.new.items ≡ out.old.items ++ resharded_text told) }
+    ensures err { OnErr result (out.new.items ≡ out.old.items) }
+    ensures memory { OnErr result (vec_capacity out.old < vec_len out.old + length (resharded_text told)) }
+    ensures capacity { vec_capacity out.old ≤ vec_capacity out.new }
+{
+    match told {
+        Ok(()) => Printed::Done.write_to(id, out),
+        Err(refusal) => Printed::Refused(refusal).write_to(id, out),
     }
 }

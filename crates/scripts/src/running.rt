@@ -6,12 +6,23 @@ ghost use Rattle.cluster.specs.declared.step.Step.TheVariants as any_step;
 ghost use Rattle.lines.specs.Causes.{Cause};
 ghost use Rattle.lines.specs.Lines.{Spells};
 ghost use Rattle.scripts.specs.Refusing.{CarriesOutNot, HandlesNot, IsLong, StartsNot};
-ghost use Rattle.scripts.specs.Scripts.{CarriesOut, Handles, IsAmong, KeepsFlows, Shows, Starts, Tells, TellsCancel};
+ghost use Rattle.scripts.specs.Scripts.{
+  CarriesOut,
+  Handles,
+  IsAmong,
+  KeepsFlows,
+  ReshardsTo,
+  Shows,
+  Starts,
+  Tells,
+  TellsCancel,
+};
 ghost use Rattle.scripts.specs.Telling.{set_line, told_text};
+ghost use Rattle.tuples.specs.Limits.{max_shards};
 
 use crate::Store;
 use crate::going::{cancel, go};
-use crate::printing::print_told;
+use crate::printing::{print_resharded, print_told};
 use crate::serving::{print_unbegun, serve};
 use cluster::{Step, What};
 use lines::{Command, Failure, Handling, Name};
@@ -217,18 +228,26 @@ impl<S: Store> Running<S> {
         Ok(())
     }
 
-    /// What the line asks for, at the store with this id and so many shards.
-    pub(crate) fn parse(
-        &self,
-        alloc: Global,
-        id: u64,
-        shards: u8,
-        line: &[u8],
-    ) -> Result<Command, Refusal>
-        ensures ok { IfOk result (Spells id shards self.now.names line.now) }
-        ensures err { IfErr result (Cause id shards self.now.names line.now) }
+    fn reshard(&mut self, id: u64, shards: u8, out: &mut Vec<u8>) -> Result<(), AllocError>
+        requires some { 1 ≤ shards }
+        requires few { shards ≤ max_shards }
+        requires room { vec_len out.old + 128 ≤ vec_capacity out.old }
+        ensures ok { OnOk result ((text : List ℕ) × ReshardsTo S.takes S.nexts S.shows S.sets S.reshards S.shards_of shards self.old.store text self.new.store × (out.new.items ≡ out.old.items ++ text)) }
+        ensures flows { KeepsFlows self.old self.new }
+        ensures err { OnErr result (out.new.items ≡ out.old.items) }
+        ensures never { OnErr result ⊥ }
+        ensures capacity { vec_capacity out.old ≤ vec_capacity out.new }
     {
-        Command::parse(alloc, line, id, shards, &self.names)
+        let told = self.store.reshard(shards);
+        print_resharded(id, told, out)
+    }
+
+    /// What the line asks for, at the store with this id.
+    pub(crate) fn parse(&self, alloc: Global, id: u64, line: &[u8]) -> Result<Command, Refusal>
+        ensures ok { IfOk result (Spells id (S.shards_of self.now.store) self.now.names line.now) }
+        ensures err { IfErr result (Cause id (S.shards_of self.now.store) self.now.names line.now) }
+    {
+        Command::parse(alloc, line, id, self.store.shards(), &self.names)
     }
 
     /// Carries the command out at the store with this id, and prints what it tells. Where memory is refused nothing is printed, and no write is begun and ended.
@@ -240,7 +259,7 @@ impl<S: Store> Running<S> {
     ) -> Result<(), AllocError>
         requires among { IsAmong command (length self.old.names) }
         requires room { vec_len out.old + 128 ≤ vec_capacity out.old }
-        ensures ok { OnOk result ((text : List ℕ) × CarriesOut S.takes S.nexts S.shows S.sets id command self.old text self.new × (out.new.items ≡ out.old.items ++ text)) }
+        ensures ok { OnOk result ((text : List ℕ) × CarriesOut S.takes S.nexts S.shows S.sets S.reshards S.shards_of id command self.old text self.new × (out.new.items ≡ out.old.items ++ text)) }
         ensures err { OnErr result (out.new.items ≡ out.old.items) }
         ensures refused { OnErr result (CarriesOutNot S.takes S.nexts S.shows id command self.old self.new) }
         ensures capacity { vec_capacity out.old ≤ vec_capacity out.new }
@@ -263,6 +282,7 @@ impl<S: Store> Running<S> {
             Command::Rows(shard) => self.rows(id, shard, out),
             Command::Restart(node) => self.restart(id, node, out),
             Command::Fail(failure) => self.fail(id, failure, out),
+            Command::Reshard(shards) => self.reshard(id, shards, out),
         }
     }
 }

@@ -20,8 +20,8 @@ pub fn run<S: Store, R: Read, W: Write>(
     input: &mut R,
     output: &mut W,
 ) -> io::Result<()>
-    ensures ok { OnOk result (Ran S.takes S.nexts S.shows S.sets (R.remaining input.old) (R.remaining input.new) (W.contents output.old) (W.contents output.new) script.old script.new) }
-    ensures err { OnErr result (Broke S.takes S.nexts S.shows S.sets (R.remaining input.old) (R.remaining input.new) (W.contents output.old) (W.contents output.new) script.old script.new) }
+    ensures ok { OnOk result (Ran S.takes S.nexts S.shows S.sets S.reshards S.shards_of (R.remaining input.old) (R.remaining input.new) (W.contents output.old) (W.contents output.new) script.old script.new) }
+    ensures err { OnErr result (Broke S.takes S.nexts S.shows S.sets S.reshards S.shards_of (R.remaining input.old) (R.remaining input.new) (W.contents output.old) (W.contents output.new) script.old script.new) }
 {
     let mut room = Room::new(alloc)?;
     run_in(script, input, output, &mut room)
@@ -34,8 +34,8 @@ fn run_in<S: Store, R: Read, W: Write>(
     room: &mut Room,
 ) -> io::Result<()>
     requires { unread room.old.block ≡ [] }
-    ensures ok { OnOk result (Ran S.takes S.nexts S.shows S.sets (R.remaining input.old) (R.remaining input.new) (W.contents output.old) (W.contents output.new) script.old script.new) }
-    ensures err { OnErr result (Broke S.takes S.nexts S.shows S.sets (R.remaining input.old) (R.remaining input.new) (W.contents output.old) (W.contents output.new) script.old script.new) }
+    ensures ok { OnOk result (Ran S.takes S.nexts S.shows S.sets S.reshards S.shards_of (R.remaining input.old) (R.remaining input.new) (W.contents output.old) (W.contents output.new) script.old script.new) }
+    ensures err { OnErr result (Broke S.takes S.nexts S.shows S.sets S.reshards S.shards_of (R.remaining input.old) (R.remaining input.new) (W.contents output.old) (W.contents output.new) script.old script.new) }
 {
     for _ in 0..u64::MAX {
         // Nothing waits: each answer was written before.
@@ -55,8 +55,8 @@ fn finish<S: Store, W: Write>(
     output: &mut W,
     room: &mut Room,
 ) -> io::Result<()>
-    ensures ok { OnOk result ((last : List ℕ) → Holds room.old.line last → EndsWith S.takes S.nexts S.shows S.sets last script.old script.new (W.contents output.old) (W.contents output.new)) }
-    ensures err { OnErr result ((last : List ℕ) → Holds room.old.line last → EndsPart S.takes S.nexts S.shows S.sets last script.old script.new (W.contents output.old) (W.contents output.new)) }
+    ensures ok { OnOk result ((last : List ℕ) → Holds room.old.line last → EndsWith S.takes S.nexts S.shows S.sets S.reshards S.shards_of last script.old script.new (W.contents output.old) (W.contents output.new)) }
+    ensures err { OnErr result ((last : List ℕ) → Holds room.old.line last → EndsPart S.takes S.nexts S.shows S.sets S.reshards S.shards_of last script.old script.new (W.contents output.old) (W.contents output.new)) }
 {
     if room.line.is_empty() {
         return Ok(());

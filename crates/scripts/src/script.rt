@@ -23,7 +23,6 @@ const ROOM: usize = 128;
 pub struct Script<S: Store> {
     alloc: Global,
     id: u64,
-    shards: u8,
     running: Running<S>,
 }
 
@@ -32,25 +31,24 @@ impl<S: Store> Model for Script<S> {
 
     ghost Value = { ScriptView S };
 
-    ghost view = { λ s. record { id = s.id; shards = s.shards; running = s.running } };
+    ghost view = { λ s. record { id = s.id; running = s.running } };
 }
 
 impl<S: Store> Script<S> {
-    /// Over a store with this id and so many shards, in which no flow runs.
-    pub fn new(alloc: Global, id: u64, shards: u8, store: S) -> Script<S>
-        ensures { result ≡ record { id = id; shards = shards; running = record { store = store; names = []; slots = [] } } }
+    /// Over a store with this id, in which no flow runs.
+    pub fn new(alloc: Global, id: u64, store: S) -> Script<S>
+        ensures { result ≡ record { id = id; running = record { store = store; names = []; slots = [] } } }
     {
         Script {
             alloc,
             id,
-            shards,
             running: Running::new(alloc, store),
         }
     }
 
     /// Carries out one line, and appends what it prints. An `Err` is for want of memory, and then nothing was done.
     pub fn line(&mut self, line: &[u8], out: &mut Vec<u8>) -> Result<(), AllocError>
-        ensures ok { OnOk result ((text : List ℕ) × Answers S.takes S.nexts S.shows S.sets line.now self.old text self.new × (out.new.items ≡ out.old.items ++ text)) }
+        ensures ok { OnOk result ((text : List ℕ) × Answers S.takes S.nexts S.shows S.sets S.reshards S.shards_of line.now self.old text self.new × (out.new.items ≡ out.old.items ++ text)) }
         ensures err { OnErr result ((self.new ≡ self.old) × (out.new.items ≡ out.old.items)) }
     {
         out.reserve(ROOM)?;
@@ -60,17 +58,17 @@ impl<S: Store> Script<S> {
 
     // What the line asks for.
     fn parse(&self, line: &[u8]) -> Result<Command, Refusal>
-        ensures ok { IfOk result (Spells self.now.id self.now.shards self.now.running.names line.now) }
-        ensures err { IfErr result (Cause self.now.id self.now.shards self.now.running.names line.now) }
+        ensures ok { IfOk result (Spells self.now.id (S.shards_of self.now.running.store) self.now.running.names line.now) }
+        ensures err { IfErr result (Cause self.now.id (S.shards_of self.now.running.store) self.now.running.names line.now) }
     {
-        self.running.parse(self.alloc, self.id, self.shards, line)
+        self.running.parse(self.alloc, self.id, line)
     }
 
     fn carry_out(&mut self, command: Command, out: &mut Vec<u8>) -> Result<(), AllocError>
         requires among { IsAmong command (length self.old.running.names) }
         requires room { vec_len out.old + 128 ≤ vec_capacity out.old }
-        ensures same { (self.new.id ≡ self.old.id) × (self.new.shards ≡ self.old.shards) }
-        ensures ok { OnOk result ((text : List ℕ) × CarriesOut S.takes S.nexts S.shows S.sets self.old.id command self.old.running text self.new.running × (out.new.items ≡ out.old.items ++ text)) }
+        ensures same { self.new.id ≡ self.old.id }
+        ensures ok { OnOk result ((text : List ℕ) × CarriesOut S.takes S.nexts S.shows S.sets S.reshards S.shards_of self.old.id command self.old.running text self.new.running × (out.new.items ≡ out.old.items ++ text)) }
         ensures err { OnErr result (out.new.items ≡ out.old.items) }
         ensures refused { OnErr result (CarriesOutNot S.takes S.nexts S.shows self.old.id command self.old.running self.new.running) }
         ensures capacity { vec_capacity out.old ≤ vec_capacity out.new }
@@ -82,8 +80,8 @@ impl<S: Store> Script<S> {
     fn try_out(&mut self, command: Command, out: &mut Vec<u8>)
         requires among { IsAmong command (length self.old.running.names) }
         requires room { vec_len out.old + 128 ≤ vec_capacity out.old }
-        ensures same { (self.new.id ≡ self.old.id) × (self.new.shards ≡ self.old.shards) }
-        ensures told { (text : List ℕ) × Tries S.takes S.nexts S.shows S.sets self.old.id command self.old.running text self.new.running × (out.new.items ≡ out.old.items ++ text) }
+        ensures same { self.new.id ≡ self.old.id }
+        ensures told { (text : List ℕ) × Tries S.takes S.nexts S.shows S.sets S.reshards S.shards_of self.old.id command self.old.running text self.new.running × (out.new.items ≡ out.old.items ++ text) }
     {
         match self.carry_out(command, out) {
             Ok(()) => {}
@@ -93,7 +91,7 @@ impl<S: Store> Script<S> {
 
     fn answer(&mut self, line: &[u8], out: &mut Vec<u8>)
         requires { vec_len out.old + 128 ≤ vec_capacity out.old }
-        ensures { (text : List ℕ) × Answers S.takes S.nexts S.shows S.sets line.now self.old text self.new × (out.new.items ≡ out.old.items ++ text) }
+        ensures { (text : List ℕ) × Answers S.takes S.nexts S.shows S.sets S.reshards S.shards_of line.now self.old text self.new × (out.new.items ≡ out.old.items ++ text) }
     {
         match self.parse(line) {
             Err(refusal) => refuse(refusal, out),

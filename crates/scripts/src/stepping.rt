@@ -1,24 +1,29 @@
 // A cluster that takes its steps one at a time.
 ghost use Rattle.std.specs.Prelude.{◌≡◌};
 ghost use Rattle.cluster.specs.Steps.{Takes};
-ghost use Rattle.scripts.specs.Stepping.{IsNext, SetsScript, ShowsRows};
+ghost use Rattle.scripts.specs.Resharding.{Reshards};
+ghost use Rattle.scripts.specs.Stepping.{IsNext, SetsScript, ShowsRows, shards_in};
 
-use crate::Store;
+use crate::resharding::{carry, is_ready};
+use crate::{Store, Supply};
 use cluster::{Step, What, World};
 use device::{Device, Tear};
 use journal::Bank;
 use names::{CallName, NodeName};
-use std::alloc::AllocError;
+use std::alloc::{AllocError, Global};
 use std::marker::Model;
+use std::mem;
 use tuples::{Refusal, Version};
 
-/// A cluster that takes its steps one at a time.
+/// A cluster that takes its steps one at a time, and what gives the devices of new nodes.
 #[derive(Drop)]
-pub struct Stepping<D: Device> {
+pub struct Stepping<D: Device, P: Supply<D>> {
+    alloc: Global,
     world: World<D>,
+    supply: P,
 }
 
-impl<D: Device> Model for Stepping<D> {
+impl<D: Device, P: Supply<D>> Model for Stepping<D, P> {
     ghost use Rattle.cluster.specs.Worlds.{WorldView};
 
     ghost Value = { WorldView D };
@@ -26,15 +31,19 @@ impl<D: Device> Model for Stepping<D> {
     ghost view = { λ s. s.world };
 }
 
-impl<D: Device> Stepping<D> {
-    pub fn new(world: World<D>) -> Stepping<D>
+impl<D: Device, P: Supply<D>> Stepping<D, P> {
+    pub fn new(alloc: Global, world: World<D>, supply: P) -> Stepping<D, P>
         ensures { result ≡ world }
     {
-        Stepping { world }
+        Stepping {
+            alloc,
+            world,
+            supply,
+        }
     }
 }
 
-impl<D: Device> Store for Stepping<D> {
+impl<D: Device, P: Supply<D>> Store for Stepping<D, P> {
     ghost takes = { Takes D.state D.honest D.moment D.left_since };
 
     ghost nexts = { IsNext };
@@ -42,6 +51,10 @@ impl<D: Device> Store for Stepping<D> {
     ghost shows = { ShowsRows D.state D.honest };
 
     ghost sets = { SetsScript D.set_to_fail D.state D.honest D.moment D.left_since };
+
+    ghost reshards = { Reshards P.gives D.state D.honest D.moment D.left_since };
+
+    ghost shards_of = { shards_in };
 
     fn take(&mut self, step: Step) -> Result<Option<What>, AllocError> {
         let told = self.world.take(&step);
@@ -59,5 +72,16 @@ impl<D: Device> Store for Stepping<D> {
 
     fn fail(&mut self, node: NodeName, bank: Bank, n: u64, tear: Tear) {
         self.world.fail(node, bank, n, tear);
+    }
+
+    fn shards(&self) -> u8 {
+        self.world.shards()
+    }
+
+    fn reshard(&mut self, shards: u8) -> Result<(), Refusal> {
+        is_ready(&self.world)?;
+        let new = carry(self.alloc, &mut self.world, &mut self.supply, shards)?;
+        drop(mem::replace(&mut self.world, new));
+        Ok(())
     }
 }

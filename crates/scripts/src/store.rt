@@ -1,5 +1,5 @@
 // What takes the steps of a script.
-ghost use Rattle.std.specs.Prelude.{◌≡◌, ℕ, Option, Result, IfOk, OnErr};
+ghost use Rattle.std.specs.Prelude.{◌≡◌, ◌≤◌, ℕ, Option, Result, IfOk, OnErr};
 ghost use Rattle.std.specs.Global.{Vec as AnyVec};
 ghost use Rattle.names.specs.declared.node_name.NodeName.{NodeName as AnyNode};
 ghost use Rattle.names.specs.declared.call_name.CallName.{CallName as AnyCall};
@@ -9,6 +9,8 @@ ghost use Rattle.cluster.specs.Steps.{BeginsFlow};
 ghost use Rattle.device.specs.declared.tear.Tear.{Tear as AnyTear};
 ghost use Rattle.journal.specs.declared.refused.Bank.{Bank as AnyBank};
 ghost use Rattle.refusal.specs.declared.refusal.Refusal.{Refusal as AnyRefusal};
+ghost use Rattle.scripts.specs.Cares.{Moves};
+ghost use Rattle.tuples.specs.Limits.{max_shards};
 ghost use Rattle.tuples.specs.declared.version.Version.{Version as AnyVersion};
 
 use cluster::{Step, What};
@@ -32,6 +34,12 @@ pub trait Store: Drop {
     /// It may be that once this is set on a device of this node.
     ghost sets: { Self → AnyNode → AnyBank → ℕ → AnyTear → Self → Type 0 };
 
+    /// Where it was this, and is to have so many shards, it may be told so once it was cared for and was that, and be this.
+    ghost reshards: { Self → ℕ → Result (Unit {0}) AnyRefusal → Self → Self → Type 0 };
+
+    /// How many shards it has.
+    ghost shards_of: { Self → ℕ };
+
     /// Takes the step. An `Err` is for want of memory, which only a step takes that begins a flow.
     fn take(&mut self, step: Step) -> Result<Option<What>, AllocError>
         ensures ok { IfOk result (λ told. takes self.old step told self.new) }
@@ -46,4 +54,13 @@ pub trait Store: Drop {
 
     fn fail(&mut self, node: NodeName, bank: Bank, n: u64, tear: Tear)
         ensures { sets self.old node bank n tear self.new };
+
+    fn shards(&self) -> u8
+        ensures { result ≡ shards_of self.now };
+
+    /// It is cared for, step by step, and carried over to so many shards. An `Err` says why it was not.
+    fn reshard(&mut self, shards: u8) -> Result<(), Refusal>
+        requires some { 1 ≤ shards }
+        requires few { shards ≤ max_shards }
+        ensures { Moves takes reshards shards self.old result self.new };
 }

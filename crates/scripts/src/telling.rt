@@ -19,8 +19,8 @@ pub(crate) fn tell<S: Store, W: Write>(
     refusals: &Refusals,
     output: &mut W,
 ) -> io::Result<()>
-    ensures ok { OnOk result ((front : List ℕ) → Holds line.now front → Tells S.takes S.nexts S.shows S.sets front script.old script.new (W.contents output.old) (W.contents output.new)) }
-    ensures err { OnErr result ((front : List ℕ) → Holds line.now front → TellsPart S.takes S.nexts S.shows S.sets front script.old script.new (W.contents output.old) (W.contents output.new)) }
+    ensures ok { OnOk result ((front : List ℕ) → Holds line.now front → Tells S.takes S.nexts S.shows S.sets S.reshards S.shards_of front script.old script.new (W.contents output.old) (W.contents output.new)) }
+    ensures err { OnErr result ((front : List ℕ) → Holds line.now front → TellsPart S.takes S.nexts S.shows S.sets S.reshards S.shards_of front script.old script.new (W.contents output.old) (W.contents output.new)) }
 {
     match line.refusal() {
         Some(Refusal::TooLarge) => write_all(output, &refusals.too_large),
@@ -37,8 +37,8 @@ fn carry_out<S: Store, W: Write>(
     refusals: &Refusals,
     output: &mut W,
 ) -> io::Result<()>
-    ensures ok { OnOk result (length line.now ≤ max_line → Tells S.takes S.nexts S.shows S.sets line.now script.old script.new (W.contents output.old) (W.contents output.new)) }
-    ensures err { OnErr result (length line.now ≤ max_line → TellsPart S.takes S.nexts S.shows S.sets line.now script.old script.new (W.contents output.old) (W.contents output.new)) }
+    ensures ok { OnOk result (length line.now ≤ max_line → Tells S.takes S.nexts S.shows S.sets S.reshards S.shards_of line.now script.old script.new (W.contents output.old) (W.contents output.new)) }
+    ensures err { OnErr result (length line.now ≤ max_line → TellsPart S.takes S.nexts S.shows S.sets S.reshards S.shards_of line.now script.old script.new (W.contents output.old) (W.contents output.new)) }
 {
     text.clear();
     match script.line(line, text) {

@@ -145,13 +145,13 @@ where
         thread::scope_env(),
         rt,
         move |scope| -> u8
-            requires { (words ≡ B.log) × (log.table ≡ B.log) × (attempts ≡ B.attempts) × (launches ≡ B.launches) }
-            requires { (log.seen ≡ []) × (log.horizon ≡ 0) }
-            requires { (B.store ≡ settings.now.store) × (B.shards ≡ settings.now.shards) }
-            requires { vec_len devices ≡ 2 * (settings.now.shards + 1) }
-            requires { All D.honest devices.items }
-            requires { B.low ≡ (found_coordinator D.state devices.items).horizon }
-            requires { B.rests ↔ IsAtRest D.state D.honest B.shards B.first devices.items }
+            requires own { (words ≡ B.log) × (log.table ≡ B.log) × (attempts ≡ B.attempts) × (launches ≡ B.launches) }
+            requires empty { (log.seen ≡ []) × (log.horizon ≡ 0) }
+            requires of { (B.store ≡ settings.now.store) × (B.shards ≡ settings.now.shards) }
+            requires count { vec_len devices ≡ 2 * (settings.now.shards + 1) }
+            requires honest { All D.honest devices.items }
+            requires low { B.low ≡ (found_coordinator D.state devices.items).horizon }
+            requires rests { B.rests ↔ IsAtRest D.state D.honest B.shards B.first devices.items }
             ensures { (result ≡ 0) ⊎ (result ≡ 1) }
         {
             // Where there is no thread for it, nobody is told how long the opening takes.
