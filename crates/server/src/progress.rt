@@ -7,6 +7,7 @@ use std::time::{Clock, Duration, Instant};
 
 // It is told behind the first second, and then ever more rarely, but once a minute.
 const FIRST: u64 = 1;
+
 const LAST: u64 = 60;
 
 /// Whether a store is being opened still, for whoever tells of it.
