@@ -3,4 +3,4 @@ use Rattle.reshard.proofs.resharding.reshard.Goals as goal
 
 pub returns-in-Ok-clause-ok : goal.returns-in-Ok-clause-ok
 returns-in-Ok-clause-ok g c =
-    opened_over g.D.Device.state g.D.Device.honest g.D.Device.moment g.D.Device.left_since c.carry_over.new.old c.args.shards c.store.result c.args.devices.items c.in-Ok.made.items c.open.result c.store.ensures c.in-Ok.ensures.ok c.open.ensures.ok
+    opened_over g.D.Device.state g.D.Device.honest g.D.Device.moment g.D.Device.left_since c.args.old.now c.carry_over.new.old c.args.shards c.store.result c.args.devices.items c.in-Ok.made.items c.open.result c.store.ensures c.in-Ok.ensures.ok c.open.ensures.ok
