@@ -10,8 +10,10 @@ use Rattle.device.specs.Device.{State}
 use Rattle.journal.specs.Beginnings.{BegunView}
 use Rattle.names.specs.declared.node_name.NodeName.TheVariants.{Coordinator}
 use Rattle.refusal.specs.declared.refusal.Refusal.{Refusal}
+use Rattle.refusal.specs.declared.refusal.Refusal.TheVariants.{Down}
 use Rattle.tuples.specs.declared.version.Version.{Version}
 use Rattle.reshard.specs.Made.{HaveShards, devices_of}
+use Rattle.reshard.specs.Refusing.{IsNotWritten, LacksLog}
 use Rattle.reshard.specs.Written.{AreLeft, AreWrittenInOrder, BeginsNode, EndsFirst, EndsLast, FirstTwo, HasBegunOn, HasTried, HeadBegins, KeepsFirst, PutsTwoBack}
 
 -- another node than the first is changed
@@ -97,6 +99,17 @@ module _ {D : Type 0} (state : D → State) (honest : D → Type 0) (moment : D 
         record { head = head; begun = begun; nodes = nodes; made_is = is ∙ ap (λ (l : List D). devices_of nodes ++ l) none ∙ append-nil (devices_of nodes); ended = ended }
     written_in_order reach rows given back rest nodes (Err e) is none ended = tt
 
+    -- what is asked of the devices may be more
+    pub ends_last_weaker : (reach : Reach) (rows : List Version) (is_fine more : Type 0) (head : BegunView D) (nodes : List (BegunView D)) → (more → is_fine) → EndsLast state honest moment left_since old shards reach rows is_fine head nodes
+        → EndsLast state honest moment left_since old shards reach rows more head nodes
+    ends_last_weaker reach rows is_fine more head nodes given e = record { last = e.last; others = e.others; new_is = e.new_is; each = λ m. e.each (given m); ends = e.ends }
+
+    -- no end was tried where the beginning did not come to its end
+    pub head_tried : (given devices : List D) (nodes : List (BegunView D)) → HeadBegins state honest moment left_since given nodes devices
+        → ((nodes ≡ []) × FirstTwo state honest moment left_since given devices) ⊎ ((head : BegunView D) × HasBegunOn state honest moment left_since given head × HasTried state honest moment left_since old shards head nodes)
+    head_tried given devices nodes (inl first) = inl first
+    head_tried given devices nodes (inr b) = inr (b.0, b.3, (b.0, b.1, b.2, inl refl))
+
     -- the first node of those that have begun
     pub first_begun : (given devices : List D) (nodes : List (BegunView D)) (count : ℕ) → length nodes ≡ count + 1 → HeadBegins state honest moment left_since given nodes devices
         → (head : BegunView D) × (others : List (BegunView D)) × (nodes ≡ head ∷ others) × HasBegunOn state honest moment left_since given head
@@ -106,3 +119,11 @@ module _ {D : Type 0} (state : D → State) (honest : D → Type 0) (moment : D 
 pub on_err_always : {T E : Type 0} (P : Type 0) (result : Result T E) → P → OnErr result P
 on_err_always P (Ok done) p = tt
 on_err_always P (Err e) p = p
+
+pub on_ok_always : {T E : Type 0} (P : Type 0) (result : Result T E) → P → OnOk result P
+on_ok_always P (Ok done) p = p
+on_ok_always P (Err e) p = tt
+
+pub written_not : {D : Type 0} (nodes : List (NodeView D)) (e : Refusal) → (e ≡ Down) ⊎ LacksLog nodes e → IsNotWritten nodes e
+written_not nodes e (inl down) = inl down
+written_not nodes e (inr lacks) = inr (inr (inr lacks))

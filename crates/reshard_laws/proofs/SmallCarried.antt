@@ -22,6 +22,7 @@ use Rattle.tuples.specs.declared.change.Change.TheVariants.{Touch}
 use Rattle.tuples.specs.declared.entry.Entry.{Entry}
 use Rattle.tuples.specs.declared.version.Version.{Version}
 use Rattle.tuples.specs.Changes.{IsWrite}
+use Rattle.tuples.specs.Log.{HoldAfter, IsLegal}
 use Rattle.tuples.specs.Order.{tuple_eq}
 use Rattle.tuples.specs.Parts.{expected, part, shard_of, takes_part}
 use Rattle.tuples.specs.Texts.{IsTuple}
@@ -102,6 +103,7 @@ only zero w is = (same_Some write w is, refl)
 only (suc j) w is = absurd cc
 
 is_log : IsLog (write ∷ [])
+unfolding IsLegal HoldAfter
 is_log = record {
   whole = λ j w is. subst (λ (e : Entry). IsWrite e.changes e.conditions) (only j w is).0 is_write;
   new = λ i j v w at_i at_j same. (only i v at_i).1 ∙ sym (only j w at_j).1;
