@@ -1,5 +1,5 @@
 -- A small store of one shard that is carried over to two, at rest; and devices that are not.
-use Rattle.std.proofs.Common.{◌≡◌, ◌≤◌, ◌<◌, ℕ, zero, suc, false, List, [], ◌∷◌, All, None, Some, slice_get, refl, sym, ◌∙◌, ap, subst, arith}
+use Rattle.std.proofs.Common.{◌≡◌, ◌≤◌, ◌<◌, ℕ, zero, suc, false, List, [], ◌∷◌, All, None, Some, slice_get, take, refl, sym, ◌∙◌, ap, subst, arith}
 use Rattle.std.proofs.lemmas.List.Elements.{All-cons, All-nil}
 use Rattle.std.proofs.lemmas.Option.{same_Some}
 use Rattle.calls.specs.declared.carrying.Reach.{Reach}
@@ -22,7 +22,7 @@ use Rattle.tuples.specs.declared.change.Change.TheVariants.{Touch}
 use Rattle.tuples.specs.declared.entry.Entry.{Entry}
 use Rattle.tuples.specs.declared.version.Version.{Version}
 use Rattle.tuples.specs.Changes.{IsWrite}
-use Rattle.tuples.specs.Log.{HoldAfter, IsLegal}
+use Rattle.tuples.specs.Log.{HoldAfter, Holds, IsLegal}
 use Rattle.tuples.specs.Order.{tuple_eq}
 use Rattle.tuples.specs.Parts.{expected, part, shard_of, takes_part}
 use Rattle.tuples.specs.Texts.{IsTuple}
@@ -107,7 +107,7 @@ unfolding IsLegal HoldAfter
 is_log = record {
   whole = λ j w is. subst (λ (e : Entry). IsWrite e.changes e.conditions) (only j w is).0 is_write;
   new = λ i j v w at_i at_j same. (only i v at_i).1 ∙ sym (only j w at_j).1;
-  legal = λ j w is. subst (λ (e : Entry). All _ e.conditions) (only j w is).0 (All-nil _);
+  legal = λ j w is. subst (λ (e : Entry). All (Holds (take j (write ∷ []))) e.conditions) (only j w is).0 (All-nil (Holds (take j (write ∷ []))));
 }
 
 together : KnowTogether 7 1 m reach (row ∷ []) records
