@@ -13,9 +13,11 @@ use Rattle.cluster.specs.declared.step.Step.{Step}
 use Rattle.cluster.specs.declared.step.Step.TheVariants.{Turn, Care as care_for}
 use Rattle.device.specs.Device.{State}
 use Rattle.names.specs.declared.care.Care.{Care}
+use Rattle.names.specs.declared.care.Care.TheVariants.{Flush}
+use Rattle.names.specs.declared.node_name.NodeName.TheVariants.{Coordinator}
 use Rattle.refusal.specs.declared.refusal.Refusal.{Refusal}
 use Rattle.refusal.specs.declared.refusal.Refusal.TheVariants.{Damaged, NoMemory}
-use Rattle.reshard.specs.Caring.{Cares, CaresOn, IsCaring, IsOfClosing, Serves, TurnsOf}
+use Rattle.reshard.specs.Caring.{Cares, CaresOn, IsCaredFor, IsCaring, IsOfClosing, Serves, TurnsOf}
 use Rattle.reshard.specs.Refusing.{BeginsNot, ComesTo, HasComeTo, IsRefusedCare, Plays, RefusesCare, TurnsTo}
 
 all_more : (steps : List Step) (s : Step) → AllByRecursion IsCaring steps → IsCaring s → AllByRecursion IsCaring (steps ++ s ∷ [])
@@ -113,3 +115,8 @@ module _ {D : Type 0} (state : D → State) (honest : D → Type 0) (moment : D 
     pub serves_not : (r : Result (Unit {0}) Refusal) → Plays state honest moment left_since slot begun r new → IfErr r (λ e. RefusesCare state honest moment left_since old e new)
     serves_not (Ok done) plays = tt
     serves_not (Err e) plays = refused_later old begun new e (one_care old begun (care_for care) (Some (Began slot)) is begins) (plays_not slot begun new e plays)
+
+  -- ---- all cares
+
+  pub cared_cares : (old new : WorldView D) → IsCaredFor state honest moment left_since old new → Cares state honest moment left_since old new
+  cared_cares old new cared = cared.rest old (serves_care (Flush Coordinator) old cared.flushed tt cared.first old (nothing_done old))

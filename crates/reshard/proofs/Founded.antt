@@ -10,6 +10,7 @@ use Rattle.cluster.specs.Worlds.{WorldView}
 use Rattle.device.specs.Device.{State}
 use Rattle.journal.specs.Beginnings.{BegunView}
 use Rattle.tuples.specs.declared.version.Version.{Version}
+use Rattle.reshard.specs.Caring.{IsCaredFor}
 use Rattle.reshard.specs.Made.{AreHonest, AreMade, HasLog, HaveShards, IsCarriedOver, devices_of}
 
 -- each node so far has taken two of the devices
@@ -64,9 +65,9 @@ module _ {D T E : Type 0} (state : D → State) (honest : D → Type 0) (old : W
   made (Err e) count none still each log = tt
 
 -- and a store is opened over them
-pub opened_over : {D E : Type 0} (state : D → State) (honest : D → Type 0) (moment : D → ℕ) (left_since : D → ℕ → List ℕ → Type 0) (old : WorldView D) (shards store : ℕ) (given made_items : List D) (result : Result (WorldView D) E) → store ≡ old.store
-    → IsCarriedOver state honest old shards given made_items → IfOk result (IsOpenedOver state honest moment left_since store shards made_items)
-    → IfOk result (λ w. (made : List D) × IsCarriedOver state honest old shards given made × IsOpenedOver state honest moment left_since old.store shards made w)
-opened_over state honest moment left_since old shards store given made_items (Ok w) store_is carried opened =
-    (made_items, carried, subst (λ (n : ℕ). IsOpenedOver state honest moment left_since n shards made_items w) store_is opened)
-opened_over state honest moment left_since old shards store given made_items (Err e) store_is carried opened = tt
+pub opened_over : {D E : Type 0} (state : D → State) (honest : D → Type 0) (moment : D → ℕ) (left_since : D → ℕ → List ℕ → Type 0) (before old : WorldView D) (shards store : ℕ) (given made_items : List D) (result : Result (WorldView D) E) → store ≡ old.store
+    → IsCaredFor state honest moment left_since before old × IsCarriedOver state honest old shards given made_items → IfOk result (IsOpenedOver state honest moment left_since store shards made_items)
+    → IfOk result (λ w. (made : List D) × IsCaredFor state honest moment left_since before old × IsCarriedOver state honest old shards given made × IsOpenedOver state honest moment left_since old.store shards made w)
+opened_over state honest moment left_since before old shards store given made_items (Ok w) store_is carried opened =
+    (made_items, carried.0, carried.1, subst (λ (n : ℕ). IsOpenedOver state honest moment left_since n shards made_items w) store_is opened)
+opened_over state honest moment left_since before old shards store given made_items (Err e) store_is carried opened = tt

@@ -3,4 +3,5 @@ pub mod Down
 pub mod Gathered
 pub mod Filled
 pub mod Founded
+mod Up
 pub mod Written

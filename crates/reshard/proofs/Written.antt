@@ -1,13 +1,20 @@
 -- What a stop leaves of the coordinator's new devices, while they are written.
-use Rattle.std.proofs.Common.{◌≡◌, ◌⊎◌, inl, inr, ⊎_elim, ◌+◌, ℕ, suc, List, [], ◌∷◌, ◌++◌, All, Result, Ok, Err, Some, set, refl, sym, ◌∙◌, ap, subst, arith}
-use Rattle.std.specs.Result.{IfErr, IfOk, OnErr, OnOk}
+use Rattle.std.proofs.Common.{◌≡◌, ◌⊎◌, inl, inr, ◌+◌, ℕ, suc, List, [], ◌∷◌, ◌++◌, All, Result, Ok, Err, None, Some, append-nil, get_or, length, set, refl, sym, ◌∙◌, ap, subst, arith}
+use Rattle.std.specs.Result.{OnErr, OnOk}
+use Rattle.std.proofs.lemmas.Option.{same_Some}
+use Rattle.calls.specs.Carrying.{Carries}
+use Rattle.calls.specs.Views.{NodeView, coordinator}
 use Rattle.calls.specs.declared.carrying.Reach.{Reach}
-use Rattle.cluster.specs.Worlds.{WorldView}
+use Rattle.cluster.specs.Worlds.{WorldView, node_at}
 use Rattle.device.specs.Device.{State}
 use Rattle.journal.specs.Beginnings.{BegunView}
+use Rattle.names.specs.declared.node_name.NodeName.TheVariants.{Coordinator}
+use Rattle.refusal.specs.declared.refusal.Refusal.{Refusal}
+use Rattle.refusal.specs.declared.refusal.Refusal.TheVariants.{Down}
 use Rattle.tuples.specs.declared.version.Version.{Version}
-use Rattle.reshard.specs.Made.{AreHonest, HaveShards, devices_of}
-use Rattle.reshard.specs.Written.{AreLeft, AreWrittenInOrder, BeginsNode, EndsFirst, EndsLast, EndsLog, FirstTwo, HasBegunOn, HasTried, HeadBegins, KeepsFirst, PutsTwoBack}
+use Rattle.reshard.specs.Made.{HaveShards, devices_of}
+use Rattle.reshard.specs.Refusing.{IsNotWritten, LacksLog}
+use Rattle.reshard.specs.Written.{AreLeft, AreWrittenInOrder, BeginsNode, EndsFirst, EndsLast, FirstTwo, HasBegunOn, HasTried, HeadBegins, KeepsFirst, PutsTwoBack}
 
 -- another node than the first is changed
 pub keeps_first_set : {D : Type 0} (old nodes : List (BegunView D)) (i s : ℕ) (new : BegunView D) → i ≡ s + 1 → KeepsFirst old nodes → KeepsFirst old (set nodes i new)
@@ -41,6 +48,23 @@ module _ {D : Type 0} (state : D → State) (honest : D → Type 0) (moment : D 
   head_now given devices nodes (inr begun) = inr begun
 
   module _ (old : WorldView D) (shards : ℕ) where
+    -- the end of the coordinator's is tried
+    pub ends_first : (node : NodeView D) (nodes : List (BegunView D)) (was new : BegunView D) (r : Result (Unit {0}) Refusal) → node_at old.nodes Coordinator ≡ Some node → was ≡ get_or nodes 0 was
+        → Carries state honest moment left_since shards node was r new → EndsFirst state honest moment left_since old shards nodes (set nodes 0 new)
+    ends_first node nodes was new r at is carries head others nodes_are =
+        let same : was ≡ head = is ∙ ap (λ (l : List (BegunView D)). get_or l 0 was) nodes_are in (
+          new,
+          ap (λ (l : List (BegunView D)). set l 0 new) nodes_are,
+          λ v here runs is_open fine.
+              let is_node : node ≡ coordinator v = same_Some node (coordinator v) (sym at ∙ here) in
+              let carried : Carries state honest moment left_since shards (coordinator v) head r new =
+              subst (λ (n : BegunView D). Carries state honest moment left_since shards (coordinator v) n r new) same (subst (λ (n : NodeView D). Carries state honest moment left_since shards n was r new) is_node carries) in
+              (carried.moments runs is_open fine, carried.same),
+        )
+
+    pub ends_none : (nodes : List (BegunView D)) → node_at old.nodes Coordinator ≡ None → EndsFirst state honest moment left_since old shards nodes nodes
+    ends_none nodes none head others nodes_are = (head, nodes_are, λ v here. absurd (let bad : None ≡ Some (coordinator v) = sym none ∙ here in cc))
+
     -- the shards first, and then the coordinator
     pub filled : {T E : Type 0} (reach : Reach) (rows : List Version) (is_fine : Type 0) (before mid new : List (BegunView D)) (result : Result T E) → KeepsFirst before mid
         → (is_fine → HaveShards state old.store shards reach rows shards mid) → EndsFirst state honest moment left_since old shards mid new
@@ -66,3 +90,40 @@ module _ {D : Type 0} (state : D → State) (honest : D → Type 0) (moment : D 
         inl (subst (FirstTwo state honest moment left_since given) (sym (is ∙ ap (λ (l : List (BegunView D)). devices_of l ++ rest) none)) first)
     left_over given back rest nodes is (inr (head, begun, (last, more, at, how))) =
         inr (head, begun, last, devices_of more ++ rest, is ∙ ap (λ (l : List (BegunView D)). devices_of l ++ rest) at, how)
+
+    -- and so where all are written
+    pub written_in_order : {T E : Type 0} (reach : Reach) (rows : List Version) (given back rest : List D) (nodes : List (BegunView D)) (result : Result T E) → back ≡ devices_of nodes ++ rest → OnOk result (rest ≡ [])
+        → OnOk result ((head : BegunView D) × HasBegunOn state honest moment left_since given head × EndsLast state honest moment left_since old shards reach rows (All honest given) head nodes)
+        → OnOk result (AreWrittenInOrder state honest moment left_since old shards reach rows given back)
+    written_in_order reach rows given back rest nodes (Ok done) is none (head, begun, ended) =
+        record { head = head; begun = begun; nodes = nodes; made_is = is ∙ ap (λ (l : List D). devices_of nodes ++ l) none ∙ append-nil (devices_of nodes); ended = ended }
+    written_in_order reach rows given back rest nodes (Err e) is none ended = tt
+
+    -- what is asked of the devices may be more
+    pub ends_last_weaker : (reach : Reach) (rows : List Version) (is_fine more : Type 0) (head : BegunView D) (nodes : List (BegunView D)) → (more → is_fine) → EndsLast state honest moment left_since old shards reach rows is_fine head nodes
+        → EndsLast state honest moment left_since old shards reach rows more head nodes
+    ends_last_weaker reach rows is_fine more head nodes given e = record { last = e.last; others = e.others; new_is = e.new_is; each = λ m. e.each (given m); ends = e.ends }
+
+    -- no end was tried where the beginning did not come to its end
+    pub head_tried : (given devices : List D) (nodes : List (BegunView D)) → HeadBegins state honest moment left_since given nodes devices
+        → ((nodes ≡ []) × FirstTwo state honest moment left_since given devices) ⊎ ((head : BegunView D) × HasBegunOn state honest moment left_since given head × HasTried state honest moment left_since old shards head nodes)
+    head_tried given devices nodes (inl first) = inl first
+    head_tried given devices nodes (inr b) = inr (b.0, b.3, (b.0, b.1, b.2, inl refl))
+
+    -- the first node of those that have begun
+    pub first_begun : (given devices : List D) (nodes : List (BegunView D)) (count : ℕ) → length nodes ≡ count + 1 → HeadBegins state honest moment left_since given nodes devices
+        → (head : BegunView D) × (others : List (BegunView D)) × (nodes ≡ head ∷ others) × HasBegunOn state honest moment left_since given head
+    first_begun given devices nodes count long (inl (none, first)) = absurd (omega (arith, long, ap (λ (l : List (BegunView D)). length l) none))
+    first_begun given devices nodes count long (inr begun) = begun
+
+pub on_err_always : {T E : Type 0} (P : Type 0) (result : Result T E) → P → OnErr result P
+on_err_always P (Ok done) p = tt
+on_err_always P (Err e) p = p
+
+pub on_ok_always : {T E : Type 0} (P : Type 0) (result : Result T E) → P → OnOk result P
+on_ok_always P (Ok done) p = p
+on_ok_always P (Err e) p = tt
+
+pub written_not : {D : Type 0} (nodes : List (NodeView D)) (e : Refusal) → (e ≡ Down) ⊎ LacksLog nodes e → IsNotWritten nodes e
+written_not nodes e (inl down) = inl down
+written_not nodes e (inr lacks) = inr (inr (inr lacks))

@@ -66,7 +66,7 @@ module _ {D : Type 0} (state : D → State) (honest : D → Type 0) (moment : D 
   pub record IsCaredFor (old new : WorldView D) : Type 0 where
     pub flushed : WorldView D
     pub first : Serves (Flush Coordinator) old flushed
-    pub rest : Cares flushed new
+    pub rest : CaresOn flushed new
 
 module _ {D : Type 0} (state : D → State) (honest : D → Type 0) (nodes : List (NodeView D)) where
   -- the node of this name is there, and reaches so far

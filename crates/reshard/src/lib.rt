@@ -4,8 +4,9 @@
 //! coordinator was opened, and its horizon, and each version that an old shard has is at the new shard of its tuple.
 //! Never: carries over a write in doubt, or writes anything of the log before the devices of each new node say that a checkpoint has begun on them.
 //! Callers rely on: behind `Ok` each new node's devices have exactly the checkpoint of what it is to know, whatever a stop leaves.
-//! Only tested: that the answers of the new store are those of the old one, and what two folders then hold. That the coordinator's checkpoint is ended last no
-//! contract says; what a stop leaves of each node's devices is told by those of `Begun`.
+//! Callers are told: that all of the old store's list is kept behind its flush; that the end of the coordinator's checkpoint is tried once those of all shards
+//! are whole; and as which node it is refused where one is not up. `reshard_laws` says what that comes to.
+//! Only tested: what two folders then hold.
 //!
 //! Start at `specs/Made.antt`, what the new devices have, and `resharding.rt`.
 #![tactic(auto)]

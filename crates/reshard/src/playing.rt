@@ -96,6 +96,8 @@ pub(crate) fn serve<D: Device>(world: &mut World<D>, care: Care) -> Result<(), R
     ensures ok { OnOk result (Serves D.state D.honest D.moment D.left_since care world.old world.new) }
     ensures err { IfErr result (λ e. RefusesCare D.state D.honest D.moment D.left_since world.old e world.new) }
 {
-    let slot = begin(world, care)?;
-    run_out(world, slot)
+    match begin(world, care) {
+        Ok(slot) => run_out(world, slot),
+        Err(refusal) => Err(refusal),
+    }
 }

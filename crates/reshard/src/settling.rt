@@ -21,7 +21,7 @@ fn reach_of<D: Device>(world: &World<D>, name: NodeName) -> Result<Reach, Refusa
 }
 
 /// Whether each node is up: else the refusal of the first that is not, the coordinator before the shards.
-pub(crate) fn are_up<D: Device>(world: &World<D>) -> Result<(), Refusal>
+pub fn are_up<D: Device>(world: &World<D>) -> Result<(), Refusal>
     ensures { MatchResult result (λ _. AreUp D.state D.honest world.now) (IsFirstDown D.state D.honest world.now) }
 {
     let _log = reach_of(world, NodeName::Coordinator)?;

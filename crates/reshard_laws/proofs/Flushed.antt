@@ -16,6 +16,7 @@ use Rattle.laws.specs.Nodes.{coordinator}
 use Rattle.names.specs.declared.care.Care.TheVariants.{Flush}
 use Rattle.names.specs.declared.node_name.NodeName.TheVariants.{Coordinator}
 use Rattle.reshard.specs.Caring.{Cares, IsCaredFor, Serves, TurnsOf}
+use Rattle.reshard.proofs.Caring.{nothing_done}
 use Rattle.turns.specs.Flows.{Asked, IsAsked, to_flush}
 use Rattle.turns.specs.Moments.{Moment, Running, flow_at}
 use Rattle.turns.specs.Promises.{events_of}
@@ -121,7 +122,8 @@ module _ {D : Type 0} (state : D → State) (honest : D → Type 0) (moment : D 
     pub keeps_all : IsCaredFor state honest moment left_since old new → (k : KeepsList state honest moment left_since old.store old.shards s now new) × (k.after.machine.kept ≡ length k.after.machine.log)
     keeps_all cared =
         let f = flushed old.store old.shards s now old cared.flushed first none cared.first in
-        let rest = all_steps state honest moment left_since keep old.store old.shards s now 0 cared.rest.steps cared.rest.events cared.flushed new cared.rest.caring cared.rest.took f.0 in
+        let cares = cared.rest cared.flushed (nothing_done state honest moment left_since cared.flushed) in
+        let rest = all_steps state honest moment left_since keep old.store old.shards s now 0 cares.steps cares.events cared.flushed new cares.caring cares.took f.0 in
         let then = rest.0.keeps.after.machine in
         let long : length then.log ≡ length f.0.keeps.after.machine.log = ap (λ l. length l) rest.1.log in
         let on = rest.1.kept in

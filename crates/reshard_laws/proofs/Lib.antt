@@ -10,3 +10,4 @@ pub mod FirstLog
 pub mod Meaning
 pub mod Carried
 pub mod Moments
+mod SmallCarried

@@ -1,32 +1,35 @@
 -- A small store of one shard that is carried over to two, at rest; and devices that are not.
-use Rattle.std.proofs.Common.{◌≡◌, ◌<◌, ℕ, zero, suc, false, List, [], ◌∷◌, All, Contains, None, Some, slice_get, refl, sym, ◌∙◌, ap, subst, arith}
+use Rattle.std.proofs.Common.{◌≡◌, ◌≤◌, ◌<◌, ℕ, zero, suc, false, List, [], ◌∷◌, All, None, Some, slice_get, take, refl, sym, ◌∙◌, ap, subst, arith}
 use Rattle.std.proofs.lemmas.List.Elements.{All-cons, All-nil}
 use Rattle.std.proofs.lemmas.Option.{same_Some}
 use Rattle.calls.specs.declared.carrying.Reach.{Reach}
-use Rattle.device.specs.Device.{Leaves, State, left}
+use Rattle.device.specs.Device.{State, left}
 use Rattle.device.proofs.Moments.{leaves_itself, leaves_nothing_else}
 use Rattle.headline.specs.Promised.{devices_at}
-use Rattle.journal.specs.Records.{HasRecords, found}
+use Rattle.journal.specs.Records.{Finds, HasRecords, found}
+use Rattle.laws.specs.Coordinators.{CoordinatorMeans}
 use Rattle.laws.specs.Machines.{Machine}
-use Rattle.laws.specs.Nodes.{IsThere, NodeName, coordinator, shard}
+use Rattle.laws.specs.Nodes.{coordinator, shard}
 use Rattle.laws.specs.Worlds.{IsLog, coordinator_node, shard_node}
 use Rattle.records.specs.declared.record.Record.{Record}
 use Rattle.records.specs.declared.record.Record.TheVariants.{Decision, Epoch}
 use Rattle.records.specs.Checkpoints.{coordinator_checkpoint}
 use Rattle.records.specs.Coordinators.{CoordinatorState, IsCoordinatorImage, coordinator_state, coordinator_step}
-use Rattle.records.specs.Replays.{shard_state}
+use Rattle.records.specs.Replays.{ShardState, find_in_doubt, shard_state}
 use Rattle.records.proofs.CoordinatorStates.{coordinator_empty, coordinator_image_push}
 use Rattle.recovery.proofs.Checkpoints.{checkpoint_state}
 use Rattle.tuples.specs.declared.change.Change.TheVariants.{Touch}
 use Rattle.tuples.specs.declared.entry.Entry.{Entry}
 use Rattle.tuples.specs.declared.version.Version.{Version}
 use Rattle.tuples.specs.Changes.{IsWrite}
+use Rattle.tuples.specs.Log.{HoldAfter, Holds, IsLegal}
 use Rattle.tuples.specs.Order.{tuple_eq}
 use Rattle.tuples.specs.Parts.{expected, part, shard_of, takes_part}
 use Rattle.tuples.specs.Texts.{IsTuple}
 use Rattle.tuples.specs.Versions.{collected, of_shard, versions}
 use Rattle.tuples.proofs.Examples.{numbered, viewed}
-use Rattle.turns.specs.Stores.{RestsOver}
+use Rattle.turns.specs.Stores.{RestsOver, stops}
+use Rattle.versions.specs.Alike.{of_tuple}
 use Rattle.versions.proofs.Alike.{alike_same}
 use Rattle.reshard.specs.Made.{shard_first}
 use Rattle.reshard_laws.proofs.FirstShard.{first_is}
@@ -100,10 +103,11 @@ only zero w is = (same_Some write w is, refl)
 only (suc j) w is = absurd cc
 
 is_log : IsLog (write ∷ [])
+unfolding IsLegal HoldAfter
 is_log = record {
   whole = λ j w is. subst (λ (e : Entry). IsWrite e.changes e.conditions) (only j w is).0 is_write;
   new = λ i j v w at_i at_j same. (only i v at_i).1 ∙ sym (only j w at_j).1;
-  legal = λ j w is. subst (λ (e : Entry). All _ e.conditions) (only j w is).0 (All-nil _);
+  legal = λ j w is. subst (λ (e : Entry). All (Holds (take j (write ∷ []))) e.conditions) (only j w is).0 (All-nil (Holds (take j (write ∷ []))));
 }
 
 together : KnowTogether 7 1 m reach (row ∷ []) records
@@ -115,7 +119,8 @@ together = record {
   horizon = refl;
   alike = alike_same (row ∷ []) (versions (write ∷ []) 1 0) refl;
   image = image;
-  decided = subst (λ (c : CoordinatorState). _) (sym knows) (record { decisions = refl; base = omega arith; above = omega arith; within = omega arith; given = λ j w is. subst (λ (e : Entry). e.id.epoch ≤ 1) (only j w is).0 (omega arith) });
+  decided = subst (CoordinatorMeans (write ∷ []) 0) (sym knows)
+      (record { decisions = refl; base = omega arith; above = omega arith; within = omega arith; given = λ j w is. subst (λ (e : Entry). e.id.epoch ≤ 1) (only j w is).0 (omega arith) });
   opened = subst (λ (c : CoordinatorState). 1 ≤ c.epoch) (sym knows) (omega arith);
 }
 
@@ -158,14 +163,37 @@ module _ (a b c d e f : List ℕ) where
       let epoch = ap (λ (s : CoordinatorState). s.epoch) (checkpoint_state (coordinator_node 7 2) 1 (record knew { epoch = 0 })) in
       omega (arith, low, epoch)
 
-  -- nor where the version is left behind
+  -- nor where a shard tells other versions than its own: where one is left behind, or is at another shard too
+  told_by : (s : ℕ) (x y : List ℕ) (rows : List Version) → s < 2 → devices_at (holding []) devices (shard s) ≡ (holding x, holding y) → found x y ≡ Some (shard_first (shard_node 7 2 s) reach rows) → AreAtRest
+      → of_tuple (viewed 97) (of_shard 2 s rows) ≡ of_tuple (viewed 97) (of_shard 2 s (versions (write ∷ []) 1 0))
+  told_by s x y rows lt at is rests =
+      let left_of : stops id fine 7 2 (devices_at (holding []) devices) (shard s) (shard_first (shard_node 7 2 s) reach rows) =
+      subst (λ (p : State × State). Finds (left p.0) (left p.1) (shard_first (shard_node 7 2 s) reach rows)) (sym at) (x, y, leaves_itself x, leaves_itself y, is) in
+      let means = rests.listed s (shard_first (shard_node 7 2 s) reach rows) lt left_of in
+      let state = first_is (shard_node 7 2 s) reach rows in
+      sym (ap (λ (k : ShardState). of_tuple (viewed 97) k.rows) state) ∙ means.rows.each (viewed 97)
+      ∙ ap (λ (k : ShardState). of_tuple (viewed 97) (of_shard 2 s (versions (write ∷ []) k.learned k.horizon))) state
+
   without_its_row : found e f ≡ Some (shard_first (shard_node 7 2 1) reach []) → AreAtRest → ⊥
-  unfolding versions collected of_shard shard_of tuple_eq
-  without_its_row second rests =
-      let means = rests.listed 1 (shard_first (shard_node 7 2 1) reach []) (omega arith) (e, f, leaves_itself e, leaves_itself f, second) in
-      let none = subst (λ s. _) (first_is (shard_node 7 2 1) reach []) (means.rows.each (viewed 97)) in
+  unfolding versions collected shard_of tuple_eq
+  without_its_row second rests = let none : [] ≡ row ∷ [] = told_by 1 e f [] (omega arith) refl second rests in absurd cc
+
+  at_the_other_too : found c d ≡ Some (shard_first (shard_node 7 2 1) reach (row ∷ [])) → AreAtRest → ⊥
+  unfolding versions collected shard_of tuple_eq
+  at_the_other_too first rests =
+      let means = rests.listed 0 (shard_first (shard_node 7 2 1) reach (row ∷ [])) (omega arith) (c, d, leaves_itself c, leaves_itself d, first) in
+      let state = first_is (shard_node 7 2 1) reach (row ∷ []) in
+      let some : row ∷ [] ≡ [] = sym (ap (λ (k : ShardState). of_tuple (viewed 97) k.rows) state) ∙ means.rows.each (viewed 97)
+      ∙ ap (λ (k : ShardState). of_tuple (viewed 97) (of_shard 2 0 (versions (write ∷ []) k.learned k.horizon))) state in
       absurd cc
 
-  -- nor where it is at the other shard too
-  at_both : found c d ≡ Some (shard_first (shard_node 7 2 1) reach (row ∷ [])) → AreAtRest → ⊥
-  at_both first rests = ?
+  -- nor where it has not learned what is listed, and nothing is in doubt there
+  behind_the_list : found e f ≡ Some (shard_first (shard_node 7 2 1) (record { place = 0; horizon = 0 }) []) → AreAtRest → ⊥
+  unfolding expected takes_part part shard_of
+  behind_the_list second rests =
+      let means = rests.listed 1 (shard_first (shard_node 7 2 1) (record { place = 0; horizon = 0 }) []) (omega arith) (e, f, leaves_itself e, leaves_itself f, second) in
+      let state = first_is (shard_node 7 2 1) (record { place = 0; horizon = 0 }) [] in
+      let learned : (shard_state (shard_first (shard_node 7 2 1) (record { place = 0; horizon = 0 }) [])).learned ≡ 0 = ap (λ (k : ShardState). k.learned) state in
+      let doubt = means.in_doubt.above 0 write refl (omega (arith, learned)) in
+      let none : None ≡ expected 2 1 write = sym (ap (λ (k : ShardState). find_in_doubt write.id k.in_doubt) state) ∙ doubt in
+      absurd cc

@@ -1,6 +1,7 @@
 use Rattle.std.proofs.Common.{ℕ, subst}
 use Rattle.std.proofs.lemmas.Result.{on_ok_weaker}
-use Rattle.reshard.specs.Made.{HaveShards}
+use Rattle.reshard.specs.Made.{AreHonest, HaveShards}
+use Rattle.reshard.proofs.Written.{filled, not_tried, tried_later}
 use Rattle.reshard.proofs.filling.fill.Goals as goal
 
 pub returns-clause-each : goal.returns-clause-each
@@ -11,3 +12,20 @@ returns-clause-each g c = λ all.
     (λ log. subst (λ (store : ℕ). HaveShards state store c.args.shards c.args.reach c.args.rows.now c.args.shards c.fill_log.new.begun) c.store.ensures
     (λ s below n there. before s below n (c.fill_log.ensures.others s n there)))
     (c.fill_log.ensures.ok (c.fill_shards.ensures.honest all))
+
+pub returns-in_err-fill_shards-clause-tried : goal.returns-in_err-fill_shards-clause-tried
+returns-in_err-fill_shards-clause-tried g c = not_tried g.D.Device.state g.D.Device.honest g.D.Device.moment g.D.Device.left_since c.args.old.now c.args.shards c.args.begun.now c.fill_shards.new.begun c.fill_shards.ensures.head
+
+pub returns-clause-honest : goal.returns-clause-honest
+returns-clause-honest g c = λ all. c.fill_log.ensures.honest (c.fill_shards.ensures.honest all)
+
+pub returns-clause-last : goal.returns-clause-last
+returns-clause-last g c =
+    let state = g.D.Device.state in
+    filled g.D.Device.state g.D.Device.honest g.D.Device.moment g.D.Device.left_since c.args.old.now c.args.shards c.args.reach c.args.rows.now (AreHonest g.D.Device.honest c.args.begun.now) c.args.begun.now c.fill_shards.new.begun c.fill_log.new.begun c.fill_log.result
+    c.fill_shards.ensures.head
+    (λ fine. subst (λ (store : ℕ). HaveShards state store c.args.shards c.args.reach c.args.rows.now c.args.shards c.fill_shards.new.begun) c.store.ensures (c.in_ok-fill_shards.ensures.ok fine))
+    c.fill_log.ensures.ends
+
+pub returns-clause-tried : goal.returns-clause-tried
+returns-clause-tried g c = tried_later g.D.Device.state g.D.Device.honest g.D.Device.moment g.D.Device.left_since c.args.old.now c.args.shards c.args.begun.now c.fill_shards.new.begun c.fill_log.new.begun c.fill_shards.ensures.head c.fill_log.ensures.ends

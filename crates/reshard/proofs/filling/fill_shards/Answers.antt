@@ -4,6 +4,7 @@ use Rattle.journal.specs.Records.{HasRecords}
 use Rattle.records.specs.Identity.{Identity}
 use Rattle.reshard.specs.Made.{shard_first}
 use Rattle.reshard.proofs.Filled.{honest_kept, one_so_far}
+use Rattle.reshard.proofs.Written.{keeps_first_set}
 use Rattle.reshard.proofs.filling.fill_shards.Goals as goal
 
 pub returns-in_err-fill_shard-clause-honest : goal.returns-in_err-fill_shard-clause-honest
@@ -23,3 +24,6 @@ loop-shard-preserved g c =
     one_so_far state g.D.Device.honest c.args.store c.args.shards c.args.reach c.args.rows.now c.args.begun.now c.loop-shard.shard (c.loop-shard.shard + 1) c.loop-shard.begun was new
     before refl within (ap (λ (d : BegunView _). get_or c.loop-shard.begun (c.loop-shard.shard + 1) d) c.index-begun-shard.is) c.fill_shard.ensures.honest
     (λ hon_a hon_b. subst (λ (me : Identity). HasRecords (state new.a) (state new.b) (shard_first me c.args.reach c.args.rows.now)) c.shard-me.ensures (c.in_ok-fill_shard.ensures.ok hon_a hon_b))
+
+pub returns-in_err-fill_shard-clause-head : goal.returns-in_err-fill_shard-clause-head
+returns-in_err-fill_shard-clause-head g c = keeps_first_set c.args.begun.now c.loop-shard.begun (c.loop-shard.shard + 1) c.loop-shard.shard c.fill_shard.new.begun refl c.loop-shard.invariant.head

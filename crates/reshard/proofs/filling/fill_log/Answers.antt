@@ -1,0 +1,13 @@
+use Rattle.std.proofs.Common.{get_or, ap}
+use Rattle.journal.specs.Beginnings.{BegunView}
+use Rattle.reshard.proofs.Written.{ends_first, ends_none}
+use Rattle.reshard.proofs.filling.fill_log.Goals as goal
+
+pub returns-in-Some-clause-ends : goal.returns-in-Some-clause-ends
+returns-in-Some-clause-ends g c =
+    let was = get_or c.args.begun.now 0 c.index-begun-0.result in
+    ends_first g.D.Device.state g.D.Device.honest g.D.Device.moment g.D.Device.left_since c.args.old.now c.args.shards c.in-Some.node.now c.args.begun.now was c.carry.new.begun c.carry.result c.in-Some.ensures
+    (ap (λ (d : BegunView _). get_or c.args.begun.now 0 d) c.index-begun-0.is) c.carry.ensures
+
+pub returns-in-None-clause-ends : goal.returns-in-None-clause-ends
+returns-in-None-clause-ends g c = ends_none g.D.Device.state g.D.Device.honest g.D.Device.moment g.D.Device.left_since c.args.old.now c.args.shards c.args.begun.now c.in-None.ensures
