@@ -53,6 +53,16 @@ fn opening_of(alloc: Global, content: &[u8]) -> Result<Option<(usize, u64, Vec<u
     }
 }
 
+/// Whether a device of these bytes is opened by three calls with so many bodies, and has those bytes then.
+fn is_found(alloc: Global, content: &[u8], bodies: usize, bytes: &[u8]) -> Result<bool, Fail> {
+    match opening_of(alloc, content)? {
+        Some((found, calls, after)) => Ok(
+            found == bodies && calls == 3 && after.as_slice() == bytes,
+        ),
+        None => Ok(false),
+    }
+}
+
 #[test]
 fn an_opening_finds_the_bodies_or_damage(rt: HostRuntime) -> Result<(), Fail> {
     let alloc = rt.alloc();
@@ -65,12 +75,7 @@ fn an_opening_finds_the_bodies_or_damage(rt: HostRuntime) -> Result<(), Fail> {
         // A closed gate ends the list.
         (&changed(0, 0), 0, &changed(0, 0)),
     ] {
-        let found = opening_of(alloc, content)?;
-        assert_eq!(rt;
-            found,
-            Some((bodies, 3, bytes.to_vec(alloc)?)),
-            "{content:?}"
-        );
+        assert!(rt; is_found(alloc, content, bodies, bytes)?, "{content:?}");
     }
     // No body, a body that is too long, and two records that were cut off.
     for content in [
@@ -79,7 +84,7 @@ fn an_opening_finds_the_bodies_or_damage(rt: HostRuntime) -> Result<(), Fail> {
         &BATCH[..27],
         &BATCH[..4],
     ] {
-        assert_eq!(rt; opening_of(alloc, content)?, None, "{content:?}");
+        assert!(rt; opening_of(alloc, content)?.is_none(), "{content:?}");
     }
     Ok(())
 }
@@ -107,11 +112,21 @@ fn with_prepare(alloc: Global, gate: u8) -> Result<Vec<u8>, AllocError> {
     Ok(content)
 }
 
+/// Whether such an append leaves the prepare behind this gate.
+fn is_left_with(alloc: Global, n: u64, tear: Tear, gate: u8) -> Result<bool, Fail> {
+    let wanted = with_prepare(alloc, gate)?;
+    let left = left_by(alloc, n, tear);
+    Ok(left? == wanted)
+}
+
 #[test]
 fn an_append_writes_the_record_and_then_its_gate(rt: HostRuntime) -> Result<(), Fail> {
     let alloc = rt.alloc();
     for n in [1, 2] {
-        assert_eq!(rt; left_by(alloc, n, Tear::Old)?.as_slice(), &BATCH[..], "{n}");
+        assert!(rt;
+            left_by(alloc, n, Tear::Old)?.as_slice() == &BATCH[..],
+            "{n}"
+        );
     }
     for (n, tear, gate) in [
         (1, Tear::New, 0),
@@ -123,11 +138,7 @@ fn an_append_writes_the_record_and_then_its_gate(rt: HostRuntime) -> Result<(), 
         (4, Tear::New, 0xa5),
         (9, Tear::Old, 0xa5),
     ] {
-        assert_eq!(rt;
-            left_by(alloc, n, tear)?,
-            with_prepare(alloc, gate)?,
-            "{n} {tear:?}"
-        );
+        assert!(rt; is_left_with(alloc, n, tear, gate)?, "{n} {tear:?}");
     }
     Ok(())
 }

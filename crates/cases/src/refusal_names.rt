@@ -1,11 +1,22 @@
 // The numbers and names of the refusals.
 use refusal::Refusal;
+use std::alloc::Global;
 use std::test::Fail;
+
+fn is_shown_as(alloc: Global, refusal: Refusal, want: &str) -> Result<bool, Fail> {
+    Ok(refusal.to_string(alloc)?.as_str() == want)
+}
+
+/// Whether its number and its name are those, with a space between.
+fn is_made_of(alloc: Global, refusal: Refusal, want: &str) -> Result<bool, Fail> {
+    let parts = format!(in alloc; "{} {}", refusal.number(), refusal.name())?;
+    Ok(parts.as_str() == want)
+}
 
 #[test]
 fn a_refusal_has_one_number_and_one_name(rt: HostRuntime) -> Result<(), Fail> {
     let alloc = rt.alloc();
-    let rows = [
+    for (refusal, want) in [
         (Refusal::BadRequest, "1 BadRequest"),
         (Refusal::BadTuple, "2 BadTuple"),
         (Refusal::TooLarge, "3 TooLarge"),
@@ -22,11 +33,9 @@ fn a_refusal_has_one_number_and_one_name(rt: HostRuntime) -> Result<(), Fail> {
         (Refusal::NoMemory, "14 NoMemory"),
         (Refusal::Full, "15 Full"),
         (Refusal::Damaged, "16 Damaged"),
-    ];
-    for (refusal, want) in rows {
-        assert_eq!(rt; refusal.to_string(alloc)?.as_str(), want);
-        let parts = format!(in alloc; "{} {}", refusal.number(), refusal.name())?;
-        assert_eq!(rt; parts.as_str(), want);
+    ] {
+        assert!(rt; is_shown_as(alloc, refusal, want)?, "{want}");
+        assert!(rt; is_made_of(alloc, refusal, want)?, "{want}");
     }
     Ok(())
 }

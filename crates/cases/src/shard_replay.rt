@@ -151,7 +151,12 @@ fn apply_all(alloc: Global, steps: &[Step]) -> Result<Replay, usize> {
 
 // The tupleset is taken, so that who asks has nothing to let go on a way out, and there is one way out here.
 fn count(alloc: Global, memory: &Memory, place: u64, set: Tupleset) -> Result<usize, AllocError> {
-    memory.at(alloc, place, &set).map(|tuples| tuples.len())
+    let found = memory.at(alloc, place, &set);
+    drop(set);
+    match found {
+        Ok(tuples) => Ok(tuples.len()),
+        Err(error) => Err(error),
+    }
 }
 
 /// How many tuples of `doc:a#viewer` are there at a place.
