@@ -17,7 +17,7 @@ use crate::text::write_text;
 use cluster::reopen;
 use device::Device;
 use line_io::write_all;
-use scripts::{Stepping, Store};
+use scripts::{NoDevices, Stepping, Store};
 use std::alloc::{AllocError, Global};
 use std::io::Write;
 use tuples::Refusal;
@@ -37,14 +37,14 @@ fn open<D: Device>(
     store: u64,
     shards: u8,
     devices: Vec<D>,
-) -> Result<Stepping<D>, Refusal>
+) -> Result<Stepping<D, NoDevices>, Refusal>
     requires some { 1 ≤ shards }
     requires few { shards ≤ max_shards }
     requires count { vec_len devices ≡ 2 * (shards + 1) }
     ensures { IfOk result (IsOpenedOver D.state D.honest D.moment D.left_since store shards devices.items) }
 {
     match reopen(alloc, devices, store, shards) {
-        Ok(world) => Ok(Stepping::new(world)),
+        Ok(world) => Ok(Stepping::new(alloc, world, NoDevices)),
         Err(_) => Err(Refusal::NoMemory),
     }
 }
