@@ -128,6 +128,27 @@ class Cares(Told):
             write.dropped.add(name)
         return write
 
+    def reshard(self, world, count, printed):
+        if self.done(printed):
+            world.answers(*world.nodes)
+            world.keep()
+            self.shards = count
+            return [world.carried(count)]
+        return self.reshard_fails(world) if world.is_up(*world.nodes) else [world]
+
+    def reshard_fails(self, world):
+        """The flush of the coordinator has failed, or of one of the shards, each of which is cared for in its turn."""
+        found = world.twin().fails("c") if world.nodes["c"].may_fail else []
+        world.keep()
+        for shard in range(world.count):
+            world.nodes[shard].resolved = world.line
+            world.nodes[shard].learned = world.kept
+            if world.nodes[shard].may_fail:
+                found += self.collect(world.twin(), shard, ["refused 13 Down"])
+            self.collect(world, shard, ["done"])
+        must(found, "Down without a failure")
+        return found
+
     def rows(self, world, name, printed):
         if printed and self.refusal(printed) is not None:
             must(self.refusal(printed) == 13, "a refusal without its cause")

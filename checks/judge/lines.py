@@ -19,6 +19,7 @@ REFUSALS = (
     "BadRequest BadTuple TooLarge Repeated BadZookie WrongStore Future Collected Precondition Busy Aborted Unsure Down NoMemory Full Damaged"
 ).split()
 MAX_LINE = 262144
+MAX_SHARDS = 64
 GREATEST = 2**63 - 1
 
 
@@ -112,6 +113,12 @@ class Reader:
         if kind == "fail":
             need(len(rest) == 3 and rest[0] and rest[0][-1] in "ab" and re.fullmatch("old|new|[0-9a-f]{2}", rest[2]))
             return ["fail", self.node(rest[0][:-1]), rest[0][-1], read_number(rest[1], 1), rest[2]]
+        if kind == "reshard":
+            need(len(rest) == 1)
+            count = read_number(rest[0], 1)
+            # A store is not carried over while a flow runs.
+            need(count <= MAX_SHARDS and not running)
+            return [kind, count]
         need(kind in ("flush", "checkpoint", "learn", "resolve", "raise", "collect", "rows", "restart") and len(rest) == 1)
         if kind == "raise":
             return [kind, read_number(rest[0])]

@@ -12,7 +12,7 @@ TEARS = ("old", "new", "00", "a5", "5a")
 WRITE_CALLS = "begin learned batch learn stage_prepare vote decide outcome abort inquire drop_write".split()
 ANSWER_CALLS = "heads flush learned batch learn read".split()
 NO_LINES = (
-    *("", "; nothing", "?", "write", "checkpoint", "reshard 3", "read  latest doc:a"),
+    *("", "; nothing", "?", "write", "checkpoint", "reshard", "reshard 0", "reshard 65", "read  latest doc:a"),
     *("turn nobody", "raise 01", "write +doc:a#viewer@", "fail ca 0 old"),
 )
 
@@ -39,15 +39,25 @@ class Maker:
         self.raised = 0
         self.flows = []
         self.names = 0
-        self.nodes = sorted({definitions.shard_of(*named, self.shards) for named in OBJECTS})
+        self.tried = {self.shards}
+        self.count(self.shards)
         self.waiting = []
         kinds = {"write": 8, "answer": 6, "care": 3, "nothing": 0.3, "flow": 0, "write_story": 0, "answer_story": 0, "checkpoint": 0, "restart": 0, "fail": 0}
         for kind, weight in (("flow", 4), ("write_story", 3), ("answer_story", 1.5), ("checkpoint", 0.7), ("restart", 0.7), ("fail", 0.7)):
             if self.random.random() < 0.6 and not is_plain:
                 kinds[kind] = weight
+        kinds["reshard"] = 0.5 if self.random.random() < 0.5 else 0
         self.kinds = kinds
         # A script in which nothing fails and nothing is opened again ends as it is.
         self.is_plain = is_plain
+
+    def count(self, shards):
+        """Of the shards those that have something of the objects are named."""
+        self.known = shards
+        self.nodes = self.named(shards)
+
+    def named(self, shards):
+        return sorted({definitions.shard_of(*named, shards) for named in OBJECTS})
 
     def script(self):
         for _ in range(self.random.randrange(80, 240)):
@@ -186,7 +196,7 @@ class Maker:
         name = self.name()
         line = self.write_line()
         changes = self.changes
-        shards = sorted({definitions.home(change.tuple, self.shards) for change in changes.changes})
+        shards = sorted({definitions.home(change.tuple, self.known) for change in changes.changes})
         self.say(f"start {name} {line}")
         self.say(f"until {name} {self.random.choice(('stage_prepare', 'vote', 'decide', 'decide', 'outcome', 'outcome'))}")
         shard, node = self.random.choice(shards), self.random.choice(["c", *shards])
@@ -228,6 +238,21 @@ class Maker:
     def checkpoint(self):
         self.say(f"checkpoint {self.node()}")
 
+    def reshard(self):
+        """Flows are ended before it, and nodes opened, or else it may be refused."""
+        if self.random.random() < 0.8:
+            for name, _, _ in self.flows:
+                self.say(f"{self.random.choice(('run', 'cancel'))} {name}")
+            self.flows = []
+            for node in self.waiting:
+                self.say(f"restart {node}")
+            self.waiting = []
+        shards = self.random.choice((1, 2, 3, 5, 8, 64))
+        self.say(f"reshard {shards}")
+        self.tried.add(shards)
+        if not self.flows:
+            self.count(shards)
+
     def restart(self):
         self.open(self.node())
 
@@ -242,17 +267,18 @@ class Maker:
         self.waiting.append(node)
 
     def close(self):
-        """Ends all flows, opens all nodes until no script of a disk can wait, and looks at everything."""
+        """Ends all flows, opens all nodes until no script of a disk can wait, and looks at everything, however many shards there are."""
+        shards = sorted({shard for tried in self.tried for shard in self.named(tried)})
         for name, _, _ in self.flows:
             self.say(f"{self.random.choice(('run', 'cancel'))} {name}")
         for _ in range(0 if self.is_plain else 3):
-            for node in ["c", *self.nodes]:
+            for node in ["c", *shards]:
                 self.say(f"restart {node}")
-        for shard in self.nodes:
+        for shard in shards:
             self.say(f"resolve {shard}")
         self.say(" ".join(["read latest", *(f"{namespace}:{id}" for namespace, id in OBJECTS)]))
         self.say(f"watch {token(self.store, self.raised)} 256 doc group")
         self.say("read latest doc@u1 group@u1")
-        for shard in self.nodes:
+        for shard in shards:
             self.say(f"learn {shard}")
             self.rows(shard)

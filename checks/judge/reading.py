@@ -86,7 +86,10 @@ class Reading:
             return self.of_flow(rest[0])
         if kind == "cancel":
             del self.running[rest[0]]
-        return [self.printed.one()]
+        printed = [self.printed.one()]
+        if kind == "reshard" and printed == ["done"]:
+            self.reader.shards = rest[0]
+        return printed
 
     def refused_rows(self):
         # A line that is refused for its shape stands behind each `rows` whose refusal could be taken for its own.

@@ -3,11 +3,12 @@ import random
 import re
 from functools import partial
 
-from judge.lines import REFUSALS, token
+from judge.lines import MAX_SHARDS, REFUSALS, token
 from judge.making import Maker
 from judge.reading import Failed, Reading, judged
 
 SPOILS = 24
+RESHARDS = [f"reshard {count}" for count in range(1, MAX_SHARDS + 1)]
 
 
 def refused(number):
@@ -26,8 +27,8 @@ def without(lines, index):
     return lines[:index] + lines[index + 1 :]
 
 
-def spoils(lines, store):
-    """Other answers in the place of this one, each with what is wrong with it."""
+def spoils(lines, store, is_moved):
+    """Other answers in the place of this one, each with what is wrong with it; whether it is told of a store that is carried over."""
     first, last = lines[0], lines[-1]
     for by in (1, -1):
         for index in {0, len(lines) - 1}:
@@ -61,20 +62,26 @@ def spoils(lines, store):
     if first.startswith("refused "):
         for number in {7, 8, 9, 10, 11, 13} - {int(first.split(" ")[1])}:
             yield "another refusal", refused(number)
+    if first.startswith("refused 1 "):
+        yield "carried over while a flow runs", ["done"]
+    if first == "done" and is_moved:
+        yield "not carried over although no flow runs", refused(1)
     if last == "done" and len(lines) > 1:
+        yield "an id of another epoch", [re.sub(r" (\d+)\.", lambda found: f" {int(found[1]) - 1}.", first)] + lines[1:]
         yield "another verdict", [first.replace("abort", "commit") if first.startswith("abort") else "abort " + first.split(" ")[1]] + lines[1:]
     if first.startswith("next "):
         yield "another call", ["next " + ("outcome" if first != "next outcome" else "vote")]
 
 
 def answers(maker, script, printed):
-    """Where the answer of each line begins among what was printed, and the answer."""
+    """Where the answer of each line begins among what was printed, the answer, and whether it is told of a store that is carried over."""
     reading = Reading(maker.store, maker.shards, printed)
     for line in script:
         begin = reading.printed.at
         _, answer = reading.line(line)
-        if answer and not answer[0].startswith(("started ", "cancelled ", "set", "refused 1 ")):
-            yield begin, answer
+        is_moved = line.startswith("reshard ") and line in RESHARDS
+        if answer and (is_moved or not answer[0].startswith(("started ", "cancelled ", "set", "refused 1 "))):
+            yield begin, answer, is_moved
 
 
 def spoil_seed(printed_by, is_plain, seed):
@@ -83,7 +90,8 @@ def spoil_seed(printed_by, is_plain, seed):
     script = maker.script()
     printed = printed_by(script, maker.store, maker.shards)
     judged(script, printed, maker.store, maker.shards)
-    found = [(begin, answer, what, spoiled) for begin, answer in answers(maker, script, printed) for what, spoiled in spoils(answer, maker.store)]
+    told = answers(maker, script, printed)
+    found = [(begin, answer, what, spoiled) for begin, answer, is_moved in told for what, spoiled in spoils(answer, maker.store, is_moved)]
     chosen = random.Random(seed).sample(found, min(SPOILS, len(found)))
     passed = []
     for begin, answer, what, spoiled in chosen:

@@ -109,7 +109,8 @@ class World:
         other.nodes = {name: copy.copy(node) for name, node in self.nodes.items()}
         twins = {write: write.twin() for write in self.writes}
         other.writes = list(twins.values())
-        other.log = [twins[write] for write in self.log]
+        # What was listed before the store was carried over changes no more.
+        other.log = [twins.get(write, write) for write in self.log]
         other.flows = {name: twins[flow] if flow in twins else flow.twin() for name, flow in self.flows.items()}
         other.aborted = set(self.aborted)
         return other
@@ -120,6 +121,20 @@ class World:
         ids = tuple(write.id for write in self.log)
         collected = tuple(tuple(sorted(self.nodes[shard].collected)) for shard in range(self.count))
         return ids, self.kept, self.horizon, self.epoch, self.number, nodes, flows, collected
+
+    def carried(self, count):
+        """The store with so many shards that has what this one has, but for what is in doubt."""
+        self.count = count
+        self.epoch += 1
+        self.number = 0
+        self.writes = []
+        self.nodes = {"c": Node(), **{shard: Shard() for shard in range(count)}}
+        for shard in range(count):
+            node = self.nodes[shard]
+            node.learned = node.settled = self.kept
+            node.collected = {self.horizon}
+            node.opened = node.resolved = self.line
+        return self
 
     # What is known of nodes.
 

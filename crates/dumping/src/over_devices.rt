@@ -19,7 +19,7 @@ use crate::text::write_text;
 use cluster::{World, reopen};
 use device::Device;
 use line_io::write_all;
-use scripts::{Stepping, Store};
+use scripts::{NoDevices, Stepping, Store};
 use std::alloc::{AllocError, Global};
 use std::io::Write;
 use tuples::Refusal;
@@ -39,7 +39,7 @@ fn open<D: Device>(
     store: u64,
     shards: u8,
     devices: Vec<D>,
-) -> Result<Stepping<D>, Refusal>
+) -> Result<Stepping<D, NoDevices>, Refusal>
     requires some { 1 ≤ shards }
     requires few { shards ≤ max_shards }
     requires count { vec_len devices ≡ 2 * (shards + 1) }
@@ -47,17 +47,17 @@ fn open<D: Device>(
     ensures moment { IfOk result (λ opened. AreOfOneMoment D.state D.honest opened.nodes opened.shards) }
 {
     match reopen(alloc, devices, store, shards) {
-        Ok(world) => see(world),
+        Ok(world) => see(alloc, world),
         Err(_) => Err(Refusal::NoMemory),
     }
 }
 
-fn see<D: Device>(world: World<D>) -> Result<Stepping<D>, Refusal>
+fn see<D: Device>(alloc: Global, world: World<D>) -> Result<Stepping<D>, Refusal>
     ensures same { IfOk result (λ opened. opened ≡ world) }
     ensures moment { OnOk result (AreOfOneMoment D.state D.honest world.nodes world.shards) }
 {
     let seen = look_over(&world);
-    let opened = Stepping::new(world);
+    let opened = Stepping::new(alloc, world, NoDevices);
     match seen {
         Ok(()) => Ok(opened),
         Err(refusal) => Err(refusal),

@@ -17,7 +17,7 @@ mod asked;
 use asked::Asked;
 use node_files::open_all;
 use refusal::Refusal;
-use scripts::run_over;
+use scripts::{NoDevices, run_over};
 use std::process::ExitCode;
 use std::{env, io};
 
@@ -51,6 +51,7 @@ fn run(rt: &HostRuntime, asked: Asked<'_>) -> u8 {
                 asked.store,
                 asked.shards,
                 devices,
+                NoDevices,
                 &mut reader,
                 &mut writer,
             )

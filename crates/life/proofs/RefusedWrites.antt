@@ -99,7 +99,7 @@ same_flow f g is = cc
 no_flow : (f : Flow) → None ≡ Some f → ⊥
 no_flow f is = cc
 
-module _ {D : Type 0} (set : D → ℕ → Tear → Type 0) (state : D → State) (honest : D → Type 0) (moment : D → ℕ) (left_since : D → ℕ → List ℕ → Type 0) where
+module _ {D : Type 0} (gives : D → Type 0) (set : D → ℕ → Tear → Type 0) (state : D → State) (honest : D → Type 0) (moment : D → ℕ) (left_since : D → ℕ → List ℕ → Type 0) where
   -- in the slot there is the flow of a write, or none
   abbrev HasWrite : ℕ → WorldView D → Type 0
   HasWrite slot w = (f : Flow) → flow_at w.flows slot ≡ Some f → IsWriteFlow f
@@ -190,6 +190,6 @@ module _ {D : Type 0} (set : D → ℕ → Tear → Type 0) (state : D → State
     serves_not (inl same) = inl same
     serves_not (inr s) = ends_not s.0 s.1 s.2 (begun w old s.1 s.0 s.2) s.3
 
-  pub writes_refused_memory : WritesRefusedMemory set state honest moment left_since
+  pub writes_refused_memory : WritesRefusedMemory gives set state honest moment left_since
   writes_refused_memory id w old new (inl p) = (serves id w old.store new.store p.0, p.1)
   writes_refused_memory id w old new (inr (text, p)) = (serves_not id w old.store new.store p.0, p.1)

@@ -1,3 +1,4 @@
 pub mod Deeds
 pub mod Lives
+pub mod Staying
 pub mod RefusedWrites

@@ -16,8 +16,9 @@ use Rattle.refusal.specs.declared.refusal.Refusal.TheVariants.{NoMemory}
 use Rattle.scripts.specs.Answering.{Tries}
 use Rattle.scripts.specs.Going.{Goes, most_calls}
 use Rattle.scripts.specs.Refusing.{GivesUp}
+use Rattle.scripts.specs.Resharding.{Reshards}
 use Rattle.scripts.specs.Scripts.{KeepsFlows, RunningView}
-use Rattle.scripts.specs.Stepping.{IsNext, SetsScript, ShowsRows}
+use Rattle.scripts.specs.Stepping.{IsNext, SetsScript, ShowsRows, shards_in}
 use Rattle.tuples.specs.declared.write.Write.{Write}
 
 module _ {S : Type 0} (takes : S → Step → Option What → S → Type 0) (nexts : S → ℕ → Option CallName → Type 0) where
@@ -33,10 +34,10 @@ module _ {S : Type 0} (takes : S → Step → Option What → S → Type 0) (nex
   abbrev pub IsRefusedMemory : Step → S → S → Type 0
   IsRefusedMemory first old new = (new ≡ old) ⊎ (EndsRefused first old new ⊎ IsGivenUp first old new)
 
-module _ {D : Type 0} (set : D → ℕ → Tear → Type 0) (state : D → State) (honest : D → Type 0) (moment : D → ℕ) (left_since : D → ℕ → List ℕ → Type 0) where
+module _ {D : Type 0} (gives : D → Type 0) (set : D → ℕ → Tear → Type 0) (state : D → State) (honest : D → Type 0) (moment : D → ℕ) (left_since : D → ℕ → List ℕ → Type 0) where
   -- A line that asked for a write, and printed this, did nothing; or its flow told so at its end; or it was given up behind as many calls as can be
   -- counted. There is no other way.
   abbrev pub WritesRefusedMemory : Type 0
   WritesRefusedMemory = (id : ℕ) (w : Write) (old new : RunningView (WorldView D))
-      → Tries (Takes state honest moment left_since) IsNext (ShowsRows state honest) (SetsScript set state honest moment left_since) id (Ask (request.Write w)) old (refusal_line NoMemory) new
+      → Tries (Takes state honest moment left_since) IsNext (ShowsRows state honest) (SetsScript set state honest moment left_since) (Reshards gives state honest moment left_since) shards_in id (Ask (request.Write w)) old (refusal_line NoMemory) new
       → IsRefusedMemory (Takes state honest moment left_since) IsNext (step.Start (request.Write w)) old.store new.store × KeepsFlows old new

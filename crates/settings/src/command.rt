@@ -48,6 +48,9 @@ Failures: the fourth call of device a of the coordinator is to fail, and what wa
 last sync is to be found as a5 (or old, or new). And a restart, which finds it:
   fail ca 4 a5, restart c
 
+The store goes on with another number of shards, where no flow runs:
+  reshard 3
+
 An empty line and one that begins with ; print nothing. A line that can't be carried out prints
 refused, a number and a name. Each of them is told in docs/SCRIPTS.md and docs/API.md.
 

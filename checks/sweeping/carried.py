@@ -1,0 +1,110 @@
+"""The sweep of a store that is carried over: each device call on each new disk fails in turn, and the old store, or the new one, answers as it did."""
+import os
+import subprocess
+from collections import namedtuple
+
+from judge.lines import token
+from sweeping.asking import LIMIT, TOP
+from sweeping.scripts import STORE
+
+A, B, C, D = (f"doc:{id}#viewer@u1" for id in "abcd")
+E = "doc:a#viewer@u2"
+Z = [token(STORE, place) for place in range(8)]
+DOWN, NO_SHARD = "refused 13 Down", "refused 1 BadRequest"
+TEARS = (0xA5, 0x00)
+SHARDS = 3
+DISKS = 2 * (SHARDS + 1)
+# More device calls than are made on one disk.
+MANY = 200
+# A checkpoint that begins makes four calls on bank a, and an opening three on either.
+FEWEST = {0: 8, 1: 3}
+
+# The old store has two shards, one of which has collected, and a write that only the coordinator and its shards' prepares know.
+BEFORE = [
+    (f"write +{A} +{B}", [f"ok {Z[1]}"]),
+    (f"write -{A}", [f"ok {Z[2]}"]),
+    (f"write +{E}", [f"ok {Z[3]}"]),
+    ("raise 2", ["done"]),
+    ("collect 1", ["done"]),
+    ("checkpoint 0", ["done"]),
+    (f"write +{C} -{B}", [f"ok {Z[4]}"]),
+]
+# Of the shards the last is there only in the new one.
+NODES = ("c", "0", "1", "2")
+LOOKS = [
+    ("read latest doc:a doc:b doc:c", [f"at {Z[4]}", f"1 {E}", f"3 {C}"]),
+    (f"read ={Z[2]} doc:a doc:b", [f"at {Z[2]}", f"2 {B}"]),
+    (f"read ={Z[1]} doc:a", ["refused 8 Collected"]),
+    (f"watch {Z[2]} 256 doc", [f"3 +{E}", f"4 +{C}", f"4 -{B}", f"heartbeat {Z[4]}"]),
+    (f"write +{D} if ?{C} !{B}", [f"ok {Z[5]}"]),
+    ("read latest doc:d", [f"at {Z[5]}", f"1 {D}"]),
+]
+# How the two stores differ: by the shard of doc:c.
+LAST = {True: ("rows 2", [f"4 +{C}"]), False: ("rows 2", [NO_SHARD])}
+
+# A run: whether the store was carried over, whether the failing call came, and what is wrong.
+Run = namedtuple("Run", "carried came fault")
+
+
+def program():
+    return os.environ.get("CARRIED_SCRIPTS", os.path.join(TOP, "crates", "carried_scripts", "out", "carried_scripts"))
+
+
+def lines():
+    restarts = [f"restart {node}" for node in NODES]
+    return [line for line, _ in BEFORE] + [f"reshard {SHARDS}"] + restarts + restarts + [line for line, _ in LOOKS] + [LAST[True][0]]
+
+
+def printed_by(disk, call, byte):
+    words = [program(), str(disk), str(call), str(byte)]
+    ran = subprocess.run(words, input="".join(line + "\n" for line in lines()), capture_output=True, text=True, timeout=LIMIT)
+    if ran.returncode != 0:
+        raise ValueError(f"the program ended with status {ran.returncode}")
+    return ran.stdout.splitlines()
+
+
+def run(disk, call, byte):
+    try:
+        printed = printed_by(disk, call, byte)
+    except (ValueError, subprocess.SubprocessError) as wrong:
+        return Run(False, True, f"disk {disk}, call {call}, byte {byte:02x}: {wrong}")
+    before = [text for _, answer in BEFORE for text in answer]
+    at, carried = len(before), printed[len(before) : len(before) + 1] == ["done"]
+    opened = printed[at + 1 : at + 1 + 2 * len(NODES)]
+    looks = [text for _, answer in [*LOOKS, LAST[carried]] for text in answer]
+    # A node whose opening fails is found by the next one; the old store has no third shard, and its disks do not fail.
+    first = [NO_SHARD if not carried and node == "2" else "up" for node in NODES]
+    is_met = [either in (first[i % len(NODES)], *([DOWN] if carried and i < len(NODES) else [])) for i, either in enumerate(opened)]
+    wanted = [*before, "done" if carried else DOWN, *opened, *looks]
+    came = not carried or DOWN in opened or is_down_at_first(disk, call, byte)
+    is_right = printed == wanted and len(opened) == 2 * len(NODES) and all(is_met)
+    return Run(carried, came, None if is_right else f"disk {disk}, call {call}, byte {byte:02x}:\nprinted {printed}\nwanted {wanted}")
+
+
+def is_down_at_first(disk, call, byte):
+    """Whether a node of the new store was not opened: it refuses the first line that asks it."""
+    node = ("c", "0", "1", "2")[disk // 2]
+    asked = [line for line, _ in BEFORE] + [f"reshard {SHARDS}", f"flush {node}"]
+    words = [program(), str(disk), str(call), str(byte)]
+    ran = subprocess.run(words, input="".join(line + "\n" for line in asked), capture_output=True, text=True, timeout=LIMIT)
+    return ran.stdout.splitlines()[-1:] == [DOWN]
+
+
+def sweep(job):
+    """Each call on a disk: those of the resharding, those of the opening behind it, and those of the openings that the script asks for."""
+    disk, byte = job
+    runs = []
+    for call in range(1, MANY):
+        runs.append(run(disk, call, byte))
+        if runs[-1].fault or not runs[-1].came:
+            return job, runs
+    return job, [*runs, Run(True, True, f"disk {disk}: the calls have no end")]
+
+
+def carried(pool):
+    """The number of runs, how many of them ended in a refusal, and what is wrong."""
+    swept = list(pool.map(sweep, [(disk, byte) for disk in range(DISKS) for byte in TEARS]))
+    faults = [each.fault for _, runs in swept for each in runs if each.fault]
+    short = [f"disk {disk}: {len(runs)} calls" for (disk, _), runs in swept if len(runs) <= FEWEST[disk % 2]]
+    refused = sum(1 for _, runs in swept for each in runs if not each.carried)
+    return sum(len(runs) for _, runs in swept), refused, faults or short

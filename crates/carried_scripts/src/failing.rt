@@ -1,0 +1,33 @@
+// Empty disks, one of which is set to fail.
+use crate::asked::Asked;
+use device::{Device, SimDisk, Tear};
+use refusal::Refusal;
+use scripts::Supply;
+use std::alloc::Global;
+
+/// Empty disks in memory, each of which knows its number by how many were given before it.
+#[derive(Drop)]
+pub(crate) struct Failing {
+    asked: Asked,
+    given: u64,
+}
+
+impl Failing {
+    pub(crate) fn new(asked: Asked) -> Failing {
+        Failing { asked, given: 0 }
+    }
+}
+
+impl Supply<SimDisk> for Failing {
+    // Any: this program promises nothing of what it gives.
+    ghost gives = { λ d. Unit {0} };
+
+    fn give(&mut self, alloc: Global) -> Result<SimDisk, Refusal> {
+        let mut disk = SimDisk::new(alloc, Vec::new(alloc))?;
+        if self.given == self.asked.disk {
+            disk.fail(self.asked.call, Tear::Fill(self.asked.byte));
+        }
+        self.given = self.given.saturating_add(1);
+        Ok(disk)
+    }
+}
