@@ -52,7 +52,7 @@ fn open<D: Device>(
     }
 }
 
-fn see<D: Device>(alloc: Global, world: World<D>) -> Result<Stepping<D>, Refusal>
+fn see<D: Device>(alloc: Global, world: World<D>) -> Result<Stepping<D, NoDevices>, Refusal>
     ensures same { IfOk result (λ opened. opened ≡ world) }
     ensures moment { OnOk result (AreOfOneMoment D.state D.honest world.nodes world.shards) }
 {
