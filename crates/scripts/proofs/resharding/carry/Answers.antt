@@ -8,14 +8,14 @@ returns-in-Ok-clause-cares g c = cares_taken g.D.Device.state g.D.Device.honest 
 pub returns-in-Ok-clause-ok : goal.returns-in-Ok-clause-ok
 returns-in-Ok-clause-ok g c =
     let made = c.in-Ok.ensures.ok in
-    let are_made = made.1.are_made in
+    let are_made = made.2.are_made in
     record {
       given = c.in_ok-devices.devices.items;
       made = made.0;
       fresh = c.in_ok-devices.ensures.each;
       count = ap length are_made.made_is ∙ devices_count are_made.nodes (c.args.shards + 1) are_made.count;
-      carried = made.1;
-      opened = made.2;
+      carried = made.2;
+      opened = made.3;
     }
 
 pub returns-in-Err-clause-cares : goal.returns-in-Err-clause-cares
