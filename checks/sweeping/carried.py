@@ -71,13 +71,16 @@ def run(disk, call, byte):
     before = [text for _, answer in BEFORE for text in answer]
     at, carried = len(before), printed[len(before) : len(before) + 1] == ["done"]
     opened = printed[at + 1 : at + 1 + 2 * len(NODES)]
+    if carried and DOWN in opened[len(NODES) :]:
+        # Each call up to the last of the first restart has failed in a run before.
+        return Run(carried, False, None)
     looks = [text for _, answer in [*LOOKS, LAST[carried]] for text in answer]
     # A node whose opening fails is found by the next one; the old store has no third shard, and its disks do not fail.
-    first = [NO_SHARD if not carried and node == "2" else "up" for node in NODES]
-    is_met = [either in (first[i % len(NODES)], *([DOWN] if carried and i < len(NODES) else [])) for i, either in enumerate(opened)]
-    wanted = [*before, "done" if carried else DOWN, *opened, *looks]
-    came = not carried or DOWN in opened or is_down_at_first(disk, call, byte)
-    is_right = printed == wanted and len(opened) == 2 * len(NODES) and all(is_met)
+    usual = [NO_SHARD if not carried and node == "2" else "up" for node in NODES]
+    failed = [carried and i < len(NODES) and either == DOWN for i, either in enumerate(opened)]
+    wanted = [*before, "done" if carried else DOWN, *(DOWN if failed[i] else usual[i % len(NODES)] for i in range(len(opened))), *looks]
+    came = not carried or any(failed) or is_down_at_first(disk, call, byte)
+    is_right = printed == wanted and len(opened) == 2 * len(NODES)
     return Run(carried, came, None if is_right else f"disk {disk}, call {call}, byte {byte:02x}:\nprinted {printed}\nwanted {wanted}")
 
 
@@ -91,7 +94,7 @@ def is_down_at_first(disk, call, byte):
 
 
 def sweep(job):
-    """Each call on a disk: those of the resharding, those of the opening behind it, and those of the openings that the script asks for."""
+    """Each call on a disk: those of the resharding, those of the opening behind it, and those of the next opening, which the script asks for."""
     disk, byte = job
     runs = []
     for call in range(1, MANY):

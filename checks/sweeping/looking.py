@@ -42,6 +42,12 @@ class Look:
         """The nodes whose failing call came when they were opened."""
         return [node for node, told in zip(NODES, self.part("restarts")) if told.printed == DOWN]
 
+    def was_carried(self):
+        """Whether the store was carried over, and no call had failed before."""
+        told = self.part("script")
+        moved = [index for index, each in enumerate(told) if each.line.startswith("reshard ") and each.printed == ["done"]]
+        return bool(moved) and not any(each.printed[0].startswith(("refused 12 ", "refused 13 ")) for each in told[: moved[0]])
+
     def script(self):
         return [told.line for told in self.told]
 

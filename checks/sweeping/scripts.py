@@ -69,6 +69,12 @@ SCRIPTS = {
         *("start v write +doc:a#viewer@u1 +doc:b#viewer@u1", "until v vote", "checkpoint 1", "until v outcome", "checkpoint c", "run v"),
         *("write -doc:a#viewer@u1", "learn 1", "raise 1", "checkpoint c", "checkpoint 1", "write +doc:a#viewer@u2"),
     ],
+    # The nodes are cared for before they are carried over, and both shards collect; behind it no call is made on these disks.
+    "carried-over": [
+        *("write +doc:a#viewer@u1 +doc:b#viewer@u1", "checkpoint c", "checkpoint 0", "checkpoint 1"),
+        *("start w write -doc:a#viewer@u1 +doc:b#viewer@u2", "until w decide", "run w", "raise 1"),
+        *("reshard 2", "write +doc:a#viewer@u2", "read latest doc:a doc:b"),
+    ],
     # What a stopped checkpoint left stands behind a closed gate, and must not be met again once a write was told since.
     "stopped-checkpoint": [
         *("write +doc:a#viewer@u1", "fail 1b 6 old", "checkpoint 1", "restart 1", "write +doc:a#viewer@u2", FROM_HERE),

@@ -30,6 +30,8 @@ def sweep(job):
         is_waiting = bank[:-1] in look.waiting()
         if is_waiting and within is None:
             within = n - 1
+        if within is None and look.was_carried():
+            return Swept(name, bank, tear, n, n - 1, n - 1, faults)
         if within is not None and not is_waiting or len(faults) == MOST:
             return Swept(name, bank, tear, n, n - 1, within or 0, faults)
     return Swept(name, bank, tear, MANY, 0, 0, [*faults, f"{name}: the calls on bank {bank} have no end"])

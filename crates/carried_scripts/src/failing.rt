@@ -1,9 +1,8 @@
 // Empty disks, one of which is set to fail.
 use crate::asked::Asked;
 use device::{Device, SimDisk, Tear};
-use refusal::Refusal;
 use scripts::Supply;
-use std::alloc::Global;
+use std::alloc::{AllocError, Global};
 
 /// Empty disks in memory, each of which knows its number by how many were given before it.
 #[derive(Drop)]
@@ -22,7 +21,7 @@ impl Supply<SimDisk> for Failing {
     // Any: this program promises nothing of what it gives.
     ghost gives = { λ d. Unit {0} };
 
-    fn give(&mut self, alloc: Global) -> Result<SimDisk, Refusal> {
+    fn give(&mut self, alloc: Global) -> Result<SimDisk, AllocError> {
         let mut disk = SimDisk::new(alloc, Vec::new(alloc))?;
         if self.given == self.asked.disk {
             disk.fail(self.asked.call, Tear::Fill(self.asked.byte));
