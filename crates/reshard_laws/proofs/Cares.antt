@@ -1,5 +1,5 @@
 -- Cares leave the list of a store as it is.
-use Rattle.std.proofs.Common.{◌≡◌, ◌⊎◌, inl, inr, ⊎_elim, ℕ, ◌+◌, true≢false, false, List, [], ◌∷◌, ◌++◌, map, Contains, Option, Some, None, refl, sym, ◌∙◌, ap, subst}
+use Rattle.std.proofs.Common.{◌≡◌, ◌⊎◌, inl, inr, ⊎_elim, ℕ, ◌+◌, true≢false, false, List, [], ◌∷◌, ◌++◌, Contains, Option, Some, None, refl, sym, ◌∙◌, ap, subst}
 use Rattle.std.specs.List.{AllByRecursion}
 use Rattle.std.proofs.lemmas.List.Elements.{Contains-append_right}
 use Rattle.cluster.specs.Runs.{TookAll}
@@ -21,7 +21,6 @@ use Rattle.tuples.specs.declared.entry.WriteId.{WriteId}
 use Rattle.turns.specs.Flows.{Asked, IsAsked}
 use Rattle.turns.specs.Moments.{Moment, Running, ended, flow_at, is_write, replaced}
 use Rattle.turns.specs.Promises.{Ran, RunsOne, events_of}
-use Rattle.turns.specs.Replies.{Answer}
 use Rattle.turns.specs.Runs as runs
 use Rattle.turns.specs.Runs.{Begins, Decides, DecidesNothing, EndsAs, EndsQuietly, Event, IfRunning, IsIdle, MayRise, Told, Turns, answered, began, came_up, goes_on, named_by, refuses, told_by}
 use Rattle.turns.specs.Stores.{NamesHorizon, StandsOver, Store}

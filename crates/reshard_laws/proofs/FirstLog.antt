@@ -1,8 +1,8 @@
 -- The first checkpoint of the coordinator of another number of shards: it is that coordinator's, and stands for what the old one knows.
-use Rattle.std.proofs.Common.{◌≡◌, ◌≤◌, ◌+◌, ◌-◌, inl, inr, ℕ, List, [], ◌∷◌, ◌++◌, drop, Option, Some, None, refl, sym, ◌∙◌, ap, subst, arith, append_assoc}
+use Rattle.std.proofs.Common.{◌≡◌, ◌+◌, ◌-◌, ℕ, List, [], ◌∷◌, ◌++◌, drop, Option, Some, None, refl, sym, subst, append_assoc}
 use Rattle.std.proofs.lemmas.List.{append-nil}
 use Rattle.records.specs.declared.mark.Inside.{Inside}
-use Rattle.records.specs.declared.mark.Mark.TheVariants.{Begins, Ends}
+use Rattle.records.specs.declared.mark.Mark.TheVariants.{Ends}
 use Rattle.records.specs.declared.mark.Stage.TheVariants.{Bounded}
 use Rattle.records.specs.declared.record.Record.{Record}
 use Rattle.records.specs.declared.record.Record.TheVariants.{Checkpoint}

@@ -1,10 +1,10 @@
 -- The first checkpoint of a shard that was never opened: it is the shard's, and stands for its versions.
-use Rattle.std.proofs.Common.{◌≡◌, ◌≤◌, ◌+◌, inl, inr, ℕ, All, List, [], ◌∷◌, ◌++◌, map, Option, Some, None, refl, sym, ◌∙◌, ap, subst, arith, append_assoc}
+use Rattle.std.proofs.Common.{◌≡◌, ◌≤◌, inl, inr, List, [], ◌∷◌, ◌++◌, map, Option, Some, None, refl, sym, ◌∙◌, ap, subst, arith, append_assoc}
 use Rattle.std.proofs.lemmas.List.{append-nil}
 use Rattle.std.proofs.lemmas.List.Elements.{All-nil}
 use Rattle.calls.specs.declared.carrying.Reach.{Reach}
 use Rattle.records.specs.declared.mark.Inside.{Inside}
-use Rattle.records.specs.declared.mark.Mark.TheVariants.{Begins, Ends}
+use Rattle.records.specs.declared.mark.Mark.TheVariants.{Ends}
 use Rattle.records.specs.declared.mark.Stage.TheVariants.{Listed}
 use Rattle.records.specs.declared.record.Record.{Record}
 use Rattle.records.specs.declared.record.Record.TheVariants.{Checkpoint}
@@ -44,7 +44,6 @@ first_state reach own = record { in_doubt = []; learned = reach.place; horizon =
 module _ (me : Identity) (reach : Reach) where
   abbrev listing : Option Inside
   listing = Some (record { generation = 1; stage = Listed })
-
 
   rows_behind : (done vs : List Version) → shard_from (first_state reach done) (map row_of vs ++ Checkpoint (Ends 1) ∷ []) ≡ first_state reach (done ++ vs)
   unfolding shard_step

@@ -1,5 +1,5 @@
 -- What the flows that run were asked: what turns leave of it.
-use Rattle.std.proofs.Common.{◌≡◌, ⊎_elim, ◌==◌, ◌+◌, ℕ, zero, suc, Bool, true≢false, true, false, cond, eq-eqb, count_by, is_some, slice_index_or, List, [], ◌∷◌, Option, None, Some, refl, sym, ◌∙◌, ap, subst, arith, if◌then◌else◌}
+use Rattle.std.proofs.Common.{◌≡◌, ⊎_elim, ◌==◌, ℕ, zero, suc, Bool, true≢false, cond, eq-eqb, is_some, List, [], ◌∷◌, Option, None, Some, refl, sym, ◌∙◌, ap, subst, arith, if◌then◌else◌}
 use Rattle.std.proofs.lemmas.Bool.{cases_Bool}
 use Rattle.std.proofs.lemmas.List.Sums.{sum_by-cons}
 use Rattle.std.proofs.lemmas.Option.{same_Some}

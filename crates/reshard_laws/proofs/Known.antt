@@ -1,6 +1,5 @@
 -- What the nodes of a store that stands told, at a moment at which all of its list is kept: together they know the list.
-use Rattle.std.proofs.Common.{◌≡◌, ⊎_elim, ◌≤◌, ◌<◌, ℕ, zero, suc, true, false, List, [], ◌∷◌, ◌++◌, length, Option, None, Some, MatchOption, Result, Ok, Err, refl, sym, ◌∙◌, ap, subst, arith}
-use Rattle.std.specs.Global.{Vec}
+use Rattle.std.proofs.Common.{◌≡◌, ⊎_elim, ◌≤◌, ◌<◌, ℕ, zero, suc, false, List, ◌++◌, length, Option, None, Some, MatchOption, Ok, Err, refl, sym, ◌∙◌, subst, arith}
 use Rattle.std.specs.List.Sorted.{IsPermutation}
 use Rattle.std.proofs.lemmas.Bool.{cases_Bool}
 use Rattle.std.proofs.lemmas.List.Sorted.{IsPermutation-append, IsPermutation-refl, IsPermutation-sym, IsPermutation-trans}
@@ -17,14 +16,13 @@ use Rattle.device.specs.Device.{State}
 use Rattle.headline.specs.Shown.{Shows}
 use Rattle.laws.specs.Coordinators.{CoordinatorMeans}
 use Rattle.laws.specs.Nodes.{coordinator, shard}
-use Rattle.laws.specs.Worlds.{coordinator_node, shard_node}
+use Rattle.laws.specs.Worlds.{coordinator_node}
 use Rattle.laws.proofs.Lists.{slice_get_taken}
 use Rattle.names.specs.declared.node_name.NodeName.TheVariants.{Coordinator, Shard}
 use Rattle.records.specs.Coordinators.{IsCoordinatorImage}
 use Rattle.reshard.specs.Caring.{HaveReached}
 use Rattle.reshard.specs.Gathering.{AreGathered, TellAll, TellsShard}
 use Rattle.shard.specs.Shards.{IsUp, ShardView, memory}
-use Rattle.tuples.specs.declared.entry.Entry.{Entry}
 use Rattle.tuples.specs.declared.version.Version.{Version}
 use Rattle.tuples.specs.Versions.{of_shard, versions}
 use Rattle.turns.proofs.CoordinatorCalls.{horizon_is, kept_is, same_epoch, whole}
@@ -33,15 +31,11 @@ use Rattle.turns.specs.Moments.{Moment}
 use Rattle.turns.specs.SeamLaws.{IsSeen}
 use Rattle.turns.specs.Stores.{StandsOver, Store, stops}
 use Rattle.versions.specs.Alike.{AreAlike}
-use Rattle.versions.specs.Rows.{AreRows}
 use Rattle.reshard_laws.proofs.Rows.{all_first, first_shards, none_first, one_more, strict_versions, told_same}
 use Rattle.reshard_laws.proofs.Sorted.{sorted_alike}
 
 module _ {D : Type 0} (state : D → State) (honest : D → Type 0) (moment : D → ℕ) (left_since : D → ℕ → List ℕ → Type 0) (store shards : ℕ) (w : WorldView D) (s : Store D) (now : Moment)
     (shows : Shows w s) (stands : StandsOver state honest store shards s now) (store_is : w.store ≡ store) (shards_is : w.shards ≡ shards) (reach : Reach) (reached : HaveReached state honest w.nodes w.shards reach) where
-
-
-
   -- a coordinator that is up, and reaches so far
   pub record HasLog : Type 0 where
     pub v : CoordinatorView D

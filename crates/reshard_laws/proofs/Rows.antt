@@ -1,15 +1,15 @@
 -- What the shards tell together are the versions of the log.
-use Rattle.std.proofs.Common.{◌≡◌, ◌⊎◌, inl, inr, ⊎_elim, ◌≤◌, ◌<◌, ◌+◌, ◌-◌, ◌==◌, ◌||◌, nat_lt, ℕ, zero, suc, Bool, true, true≢false, false, cond, filter, List, [], ◌∷◌, ◌++◌, length, take, refl, sym, ◌∙◌, ap, subst, arith, tests}
+use Rattle.std.proofs.Common.{◌≡◌, ⊎_elim, ◌≤◌, ◌<◌, ◌+◌, ◌==◌, ◌||◌, nat_lt, ℕ, zero, suc, Bool, true, true≢false, false, cond, filter, List, [], ◌∷◌, ◌++◌, length, take, refl, sym, ◌∙◌, ap, subst, arith, tests}
 use Rattle.std.specs.List.{AllByRecursion}
 use Rattle.std.specs.List.Sorted.{IsPermutation}
 use Rattle.std.proofs.lemmas.Bool.{cases_Bool, eqb-true, le-ltb, lt-ltb, ltb-true}
 use Rattle.std.proofs.lemmas.List.{length-take-le}
 use Rattle.std.proofs.lemmas.List.Elements.{filter-append}
-use Rattle.std.proofs.lemmas.List.Sorted.{IsPermutation-append, IsPermutation-cons, IsPermutation-middle, IsPermutation-refl, IsPermutation-sym, IsPermutation-trans}
+use Rattle.std.proofs.lemmas.List.Sorted.{IsPermutation-cons, IsPermutation-middle, IsPermutation-refl, IsPermutation-sym, IsPermutation-trans}
 use Rattle.laws.specs.Worlds.{AreWhole}
 use Rattle.records.specs.Identity.{Identity}
 use Rattle.replay.proofs.Doubting.{each_append, each_filter}
-use Rattle.replay.proofs.Rising.{AreKept, IsKept, RisesFrom, kept_alike}
+use Rattle.replay.proofs.Rising.{AreKept, IsKept, RisesFrom}
 use Rattle.tuples.specs.declared.change.Change.{Change}
 use Rattle.tuples.specs.declared.entry.Entry.{Entry}
 use Rattle.tuples.specs.declared.tuple.Tuple.{Tuple}
@@ -22,8 +22,8 @@ use Rattle.tuples.proofs.Named.{shard_below}
 use Rattle.tuples.proofs.Same.{tuple_same}
 use Rattle.versions.specs.Alike.{AreAlike, of_tuple}
 use Rattle.versions.specs.Rows.{AreRows}
-use Rattle.versions.proofs.Alike.{alike_permutation, alike_sym, alike_trans, collected_own}
-use Rattle.reshard_laws.proofs.Sorted.{Strict, sorted_alike, strict_filter, strict_weaker}
+use Rattle.versions.proofs.Alike.{alike_permutation, collected_own}
+use Rattle.reshard_laws.proofs.Sorted.{Strict, strict_filter, strict_weaker}
 
 -- ---- the versions of a log rise strictly within each tuple
 

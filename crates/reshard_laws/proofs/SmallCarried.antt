@@ -9,7 +9,7 @@ use Rattle.headline.specs.Promised.{devices_at}
 use Rattle.journal.specs.Records.{Finds, HasRecords, found}
 use Rattle.laws.specs.Coordinators.{CoordinatorMeans}
 use Rattle.laws.specs.Machines.{Machine}
-use Rattle.laws.specs.Nodes.{coordinator, shard}
+use Rattle.laws.specs.Nodes.{shard}
 use Rattle.laws.specs.Worlds.{IsLog, coordinator_node, shard_node}
 use Rattle.records.specs.declared.record.Record.{Record}
 use Rattle.records.specs.declared.record.Record.TheVariants.{Decision, Epoch}
