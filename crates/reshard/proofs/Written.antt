@@ -110,11 +110,11 @@ module _ {D : Type 0} (state : D → State) (honest : D → Type 0) (moment : D 
     head_tried given devices nodes (inl first) = inl first
     head_tried given devices nodes (inr b) = inr (b.0, b.3, (b.0, b.1, b.2, inl refl))
 
-    -- the first node of those that have begun, which were lent
-    pub first_begun : (given devices : List D) (nodes lent : List (BegunView D)) (count : ℕ) → lent ≡ nodes → length nodes ≡ count + 1 → HeadBegins state honest moment left_since given nodes devices
-        → (head : BegunView D) × (others : List (BegunView D)) × (lent ≡ head ∷ others) × HasBegunOn state honest moment left_since given head
-    first_begun given devices nodes lent count same long (inl (none, first)) = absurd (omega (arith, long, ap (λ (l : List (BegunView D)). length l) none))
-    first_begun given devices nodes lent count same long (inr (head, others, is, begun)) = (head, others, same ∙ is, begun)
+    -- the first node of those that have begun
+    pub first_begun : (given devices : List D) (nodes : List (BegunView D)) (count : ℕ) → length nodes ≡ count + 1 → HeadBegins state honest moment left_since given nodes devices
+        → (head : BegunView D) × (others : List (BegunView D)) × (nodes ≡ head ∷ others) × HasBegunOn state honest moment left_since given head
+    first_begun given devices nodes count long (inl (none, first)) = absurd (omega (arith, long, ap (λ (l : List (BegunView D)). length l) none))
+    first_begun given devices nodes count long (inr begun) = begun
 
 pub on_err_always : {T E : Type 0} (P : Type 0) (result : Result T E) → P → OnErr result P
 on_err_always P (Ok done) p = tt

@@ -10,7 +10,7 @@ use Rattle.gated.specs.Gated.{HasList}
 use Rattle.journal.specs.Beginnings.{BegunView, HasBeginsOr, HasNone, HasNoneOrBegins}
 use Rattle.names.specs.declared.node_name.NodeName.TheVariants.{Coordinator}
 use Rattle.tuples.specs.declared.version.Version.{Version}
-use Rattle.reshard.specs.Made.{HaveShards, devices_of}
+use Rattle.reshard.specs.Made.{AreHonest, HaveShards, devices_of}
 
 -- the first node is not touched
 abbrev pub KeepsFirst : {D : Type 0} → List (BegunView D) → List (BegunView D) → Type 0

@@ -1,7 +1,10 @@
-use Rattle.std.proofs.Common.{◌≡◌, ◌⊎◌, ◌+◌, ◌++◌, List, All, inr, length, take, drop, sym, subst, arith}
+use Rattle.std.proofs.Common.{◌≡◌, ◌⊎◌, ◌+◌, ◌++◌, ◌∙◌, ℕ, List, All, inl, inr, length, take, drop, sym, subst, arith}
 use Rattle.std.proofs.lemmas.Result.{IfErr-weaker, on_ok_weaker}
 use Rattle.cluster.proofs.Places.{whole}
+use Rattle.journal.specs.Beginnings.{BegunView}
+use Rattle.refusal.specs.declared.refusal.Refusal.{Refusal}
 use Rattle.refusal.specs.declared.refusal.Refusal.TheVariants.{Down}
+use Rattle.std.specs.Result.{OnOk}
 use Rattle.tuples.specs.declared.version.Version.{Version}
 use Rattle.reshard.specs.Made.{AreHonest, HasLog, HaveShards}
 use Rattle.reshard.specs.Refusing.{IsNotWritten, LacksLog}
@@ -63,17 +66,17 @@ returns-clause-order g c =
     let rows = c.args.known.now.rows.items in
     let given = c.args.devices.now.items in
     let fine = All honest given in
-    let f = first_begun state honest moment since old shards given c.begin_all.new.devices.items b.items c.deref_mut.result.now shards c.deref_mut.ensures.value (omega (arith, c.in_ok-begin_all.ensures.ok, b.ok.0)) c.in_ok-begin_all.ensures.head in
+    let f = first_begun state honest moment since old shards given c.begin_all.new.devices.items b.items shards (omega (arith, c.in_ok-begin_all.ensures.ok, b.ok.0)) c.in_ok-begin_all.ensures.head in
     let were : fine → AreHonest honest c.deref_mut.result.now = λ all. subst (AreHonest honest) (sym c.deref_mut.ensures.value) (c.in_ok-begin_all.ensures.honest all) in
     on_ok_weaker c.fill.result
     (λ ended. (
-      f.0,
-      f.3,
-      ends_last_weaker state honest moment since old shards reach rows (AreHonest honest c.deref_mut.result.now) fine f.0 (take b.len (new ++ drop (length new) b.items)) were
-          (subst (EndsLast state honest moment since old shards reach rows (AreHonest honest c.deref_mut.result.now) f.0) (sym same)
-          (subst (λ (rs : List Version). EndsLast state honest moment since old shards reach rs (AreHonest honest c.deref_mut.result.now) f.0 new) c.deref.ensures.value ended)),
+        f.0,
+        f.3,
+        ends_last_weaker state honest moment since old shards reach rows (AreHonest honest c.deref_mut.result.now) fine f.0 (take b.len (new ++ drop (length new) b.items)) were
+        (subst (EndsLast state honest moment since old shards reach rows (AreHonest honest c.deref_mut.result.now) f.0) (sym same)
+        (subst (λ (rs : List Version). EndsLast state honest moment since old shards reach rs (AreHonest honest c.deref_mut.result.now) f.0 new) c.deref.ensures.value ended)),
     ))
-    (c.fill.ensures.last f.0 f.1 f.2)
+    (c.fill.ensures.last f.0 f.1 (c.deref_mut.ensures.value ∙ f.2))
 
 pub returns-clause-so_far : goal.returns-clause-so_far
 returns-clause-so_far g c =
@@ -87,8 +90,8 @@ returns-clause-so_far g c =
     let old = c.args.old.now in
     let shards = c.args.shards in
     let given = c.args.devices.now.items in
-    let f = first_begun state honest moment since old shards given c.begin_all.new.devices.items b.items c.deref_mut.result.now shards c.deref_mut.ensures.value (omega (arith, c.in_ok-begin_all.ensures.ok, b.ok.0)) c.in_ok-begin_all.ensures.head in
-    inr (f.0, f.3, subst (HasTried state honest moment since old shards f.0) (sym same) (c.fill.ensures.tried f.0 f.1 f.2))
+    let f = first_begun state honest moment since old shards given c.begin_all.new.devices.items b.items shards (omega (arith, c.in_ok-begin_all.ensures.ok, b.ok.0)) c.in_ok-begin_all.ensures.head in
+    inr (f.0, f.3, subst (HasTried state honest moment since old shards f.0) (sym same) (c.fill.ensures.tried f.0 f.1 (c.deref_mut.ensures.value ∙ f.2)))
 
 pub returns-clause-err : goal.returns-clause-err
 returns-clause-err g c =
