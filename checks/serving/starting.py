@@ -132,7 +132,9 @@ def other_stores(folder):
 
 def long_opening(folder):
     """a line on standard error while an opening takes long"""
-    # The only shard's first sync waits two seconds for that of another one.
+    with Server(folder, shards=1):
+        pass
+    # The files are there, so the only shard's first sync is one of its opening. It waits two seconds for that of another one.
     note = folder + ".held"
     open(note, "w").close()
     held = {"LD_PRELOAD": built_library("hold_syncs"), "HOLD_FOLDER": os.path.realpath(folder), "HOLD_FILE": note}
