@@ -1,6 +1,6 @@
 // Holds a sync of the file 0.a of a folder until one of 1.a is reached, and the other way round, for a try of `served` alone; no part of the program.
 // HOLD_FOLDER names the folder, by its real path. Syncs are held once the file HOLD_FILE is there; it is one line longer, `both` or `late`, as soon as both
-// were reached or two seconds were over, and from then on nothing is held.
+// were reached or two seconds were over, and from then on nothing is held. HOLD_ONLY names the one call that is held, where it is not both.
 #define _GNU_SOURCE
 #include <dlfcn.h>
 #include <fcntl.h>
@@ -55,7 +55,8 @@ static void hold(int shard) {
 
 static int sync_by(const char *name, int file) {
   int shard = shard_of(file);
-  if (shard >= 0) hold(shard);
+  const char *only = getenv("HOLD_ONLY");
+  if (shard >= 0 && (!only || !strcmp(only, name))) hold(shard);
   int (*call)(int) = (int (*)(int))dlsym(RTLD_NEXT, name);
   return call(file);
 }

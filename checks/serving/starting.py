@@ -132,12 +132,10 @@ def other_stores(folder):
 
 def long_opening(folder):
     """a line on standard error while an opening takes long"""
-    with Server(folder, shards=1):
-        pass
-    # The files are there, so the only shard's first sync is one of its opening. It waits two seconds for that of another one.
+    # The only shard's first sync behind the making of its files, which takes the other call, waits two seconds for that of another one.
     note = folder + ".held"
     open(note, "w").close()
-    held = {"LD_PRELOAD": built_library("hold_syncs"), "HOLD_FOLDER": os.path.realpath(folder), "HOLD_FILE": note}
+    held = {"LD_PRELOAD": built_library("hold_syncs"), "HOLD_FOLDER": os.path.realpath(folder), "HOLD_FILE": note, "HOLD_ONLY": "fdatasync"}
     with Server(folder, environment=held, shards=1) as server:
         first, then = (server.next_line(server.child.stderr).decode() for _ in range(2))
     must(first == f"zanstore: {folder}: being opened, for 1 s so far\n", f"tells {first!r} after a second")
