@@ -69,7 +69,7 @@ fn begun(told: Option<What>) -> Result<usize, Refusal>
 {
     let slot = match &told {
         Some(What::Began(slot)) => Ok(*slot),
-        Some(What::Refused(refusal)) => Err(*refusal),
+        Some(What::Refused(cause)) => Err(*cause),
         // A care of a node that is there begins, or is refused.
         _ => Err(Refusal::Damaged),
     };
