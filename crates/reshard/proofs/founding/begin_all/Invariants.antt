@@ -7,7 +7,7 @@ use Rattle.reshard.proofs.founding.begin_all.Given as goal
 abbrev pub invariant-loop-alloc : goal.invariant-loop-alloc
 invariant-loop-alloc g l = record {
   so_far : BegunSoFar g.D.Device.honest l.count l.fn.devices l.devices l.begun;
-  head : HeadSoFar g.D.Device.state g.D.Device.honest g.D.Device.moment g.D.Device.left_since l.fn.devices.items l.begun.items l.devices.items
+  head : HeadSoFar g.D.Device.state g.D.Device.honest g.D.Device.moment g.D.Device.left_since l.fn.devices.items l.begun.items l.devices.items;
 }
 
 abbrev pub decreases-loop-alloc : goal.decreases-loop-alloc

@@ -70,11 +70,11 @@ returns-clause-order g c =
     let were : fine → AreHonest honest c.deref_mut.result.now = λ all. subst (AreHonest honest) (sym c.deref_mut.ensures.value) (c.in_ok-begin_all.ensures.honest all) in
     on_ok_weaker c.fill.result
     (λ ended. (
-        f.0,
-        f.3,
-        ends_last_weaker state honest moment since old shards reach rows (AreHonest honest c.deref_mut.result.now) fine f.0 (take b.len (new ++ drop (length new) b.items)) were
-        (subst (EndsLast state honest moment since old shards reach rows (AreHonest honest c.deref_mut.result.now) f.0) (sym same)
-        (subst (λ (rs : List Version). EndsLast state honest moment since old shards reach rs (AreHonest honest c.deref_mut.result.now) f.0 new) c.deref.ensures.value ended)),
+      f.0,
+      f.3,
+      ends_last_weaker state honest moment since old shards reach rows (AreHonest honest c.deref_mut.result.now) fine f.0 (take b.len (new ++ drop (length new) b.items)) were
+          (subst (EndsLast state honest moment since old shards reach rows (AreHonest honest c.deref_mut.result.now) f.0) (sym same)
+          (subst (λ (rs : List Version). EndsLast state honest moment since old shards reach rs (AreHonest honest c.deref_mut.result.now) f.0 new) c.deref.ensures.value ended)),
     ))
     (c.fill.ensures.last f.0 f.1 (c.deref_mut.ensures.value ∙ f.2))
 
