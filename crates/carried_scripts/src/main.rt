@@ -65,8 +65,6 @@ fn run(rt: &HostRuntime, asked: Asked) -> u8 {
 
 fn tell_usage(rt: &HostRuntime) -> u8 {
     // A text that can't be printed changes nothing of the status.
-    let _ = eprintln!(rt;
-        "usage: carried_scripts DISK CALL BYTE, with a script on standard input"
-    );
+    let _ = eprintln!(rt; "usage: carried_scripts DISK CALL BYTE, with a script on standard input");
     USAGE
 }
