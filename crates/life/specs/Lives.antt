@@ -25,7 +25,7 @@ module _ {D : Type 0} (gives : D → Type 0) (set : D → ℕ → Tear → Type 
   abbrev pub Lives : (store shards : ℕ) → (NodeName → D × D) → Machine → List WriteId → WorldView D → Story (WorldView D) → WorldView D → Type 0
   Lives store shards devices m ids opened (one_life deeds) new = LivesActing set state honest moment left_since store shards devices m ids opened (acts_of deeds) (told_by deeds) new
   Lives store shards devices m ids opened (more_lives deeds move story) new = LivesActing set state honest moment left_since store shards devices m ids opened (acts_of deeds) (told_by deeds) move.was
-      × Cares (Takes state honest moment left_since) move.was move.cared × IsReady state honest move.was × (carried : IsMoved gives state honest moment left_since move.cared move.shards move.new)
+      × Cares (Takes state honest moment left_since) move.was move.cared × IsReady state honest move.was × (carried : IsMoved gives state honest moment left_since move.was move.cared move.shards move.new)
       × ((later : Machine) (more : List WriteId) → RestsOver state honest store move.shards (devices_at any carried.made) later → All (IsToldOver state honest store move.shards (devices_at any carried.made) later) more
       → Lives store move.shards (devices_at any carried.made) later more move.new story new)
 

@@ -52,7 +52,7 @@ module _ {D : Type 0} (gives : D → Type 0) (state : D → State) (honest : D �
   pub ready_refuses : (w now cared : WorldView D) (shards : ℕ) (e : Refusal) → w ≡ now → IsReady state honest w → Cares (Takes state honest moment left_since) w cared → Becomes shards now (Err e) cared
   ready_refuses w now cared shards e is ready cares = subst (λ (v : WorldView D). Becomes shards v (Err e) cared) is (record { cared = cared; cares = cares; moves = inl ready; stays = refl })
 
-  pub ready_moves : (w now cared new : WorldView D) (shards : ℕ) → w ≡ now → IsReady state honest w → Cares (Takes state honest moment left_since) w cared → IsMoved gives state honest moment left_since cared shards new
+  pub ready_moves : (w now cared new : WorldView D) (shards : ℕ) → w ≡ now → IsReady state honest w → Cares (Takes state honest moment left_since) w cared → IsMoved gives state honest moment left_since w cared shards new
       → Becomes shards now (Ok tt) new
   ready_moves w now cared new shards is ready cares moved = subst (λ (v : WorldView D). Becomes shards v (Ok tt) new) is (record { cared = cared; cares = cares; moves = (ready, moved); stays = tt })
 

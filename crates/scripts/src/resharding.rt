@@ -34,7 +34,7 @@ pub(crate) fn carry<D: Device, P: Supply<D>>(
     requires few { shards ≤ max_shards }
     requires ready { IsReady D.state D.honest world.old }
     ensures cares { Cares (Takes D.state D.honest D.moment D.left_since) world.old world.new }
-    ensures ok { IfOk result (IsMoved P.gives D.state D.honest D.moment D.left_since world.new shards) }
+    ensures ok { IfOk result (IsMoved P.gives D.state D.honest D.moment D.left_since world.old world.new shards) }
 {
     let devices = devices(alloc, supply, shards)?;
     match reshard(alloc, world, devices, shards) {

@@ -10,6 +10,7 @@ returns-in-Ok-clause-ok g c =
     let made = c.in-Ok.ensures.ok in
     let are_made = made.2.are_made in
     record {
+      cared_for = made.1;
       given = c.in_ok-devices.devices.items;
       made = made.0;
       fresh = c.in_ok-devices.ensures.each;
