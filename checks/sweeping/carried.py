@@ -63,25 +63,38 @@ def printed_by(disk, call, byte):
     return ran.stdout.splitlines()
 
 
+# What was printed: whether the store was carried over, whether a node was found down behind it, whether the nodes' next opening found one, and what is wrong.
+Judged = namedtuple("Judged", "carried failed is_past fault")
+
+
+def judged(printed):
+    before = [text for _, answer in BEFORE for text in answer]
+    at, carried = len(before), printed[len(before) : len(before) + 1] == ["done"]
+    opened = printed[at + 1 : at + 1 + 2 * len(NODES)]
+    is_past = carried and DOWN in opened[len(NODES) :]
+    # A node whose opening fails is found by the next one; the old store has no third shard, and its disks do not fail.
+    failed = [carried and i < len(NODES) and either == DOWN for i, either in enumerate(opened)]
+    openings = [DOWN if i < len(failed) and failed[i] else usual for i, usual in enumerate(2 * usual_openings(carried))]
+    looks = [text for _, answer in [*LOOKS, LAST[carried]] for text in answer]
+    wanted = [*before, "done" if carried else DOWN, *openings, *looks]
+    return Judged(carried, any(failed), is_past, None if printed == wanted else f"printed {printed}\nwanted {wanted}")
+
+
+def usual_openings(carried):
+    return [NO_SHARD if not carried and node == "2" else "up" for node in NODES]
+
+
 def run(disk, call, byte):
     try:
         printed = printed_by(disk, call, byte)
     except (ValueError, subprocess.SubprocessError) as wrong:
         return Run(False, True, f"disk {disk}, call {call}, byte {byte:02x}: {wrong}")
-    before = [text for _, answer in BEFORE for text in answer]
-    at, carried = len(before), printed[len(before) : len(before) + 1] == ["done"]
-    opened = printed[at + 1 : at + 1 + 2 * len(NODES)]
-    if carried and DOWN in opened[len(NODES) :]:
+    found = judged(printed)
+    if found.is_past:
         # Each call up to the last of the first restart has failed in a run before.
-        return Run(carried, False, None)
-    looks = [text for _, answer in [*LOOKS, LAST[carried]] for text in answer]
-    # A node whose opening fails is found by the next one; the old store has no third shard, and its disks do not fail.
-    usual = [NO_SHARD if not carried and node == "2" else "up" for node in NODES]
-    failed = [carried and i < len(NODES) and either == DOWN for i, either in enumerate(opened)]
-    wanted = [*before, "done" if carried else DOWN, *(DOWN if failed[i] else usual[i % len(NODES)] for i in range(len(opened))), *looks]
-    came = not carried or any(failed) or is_down_at_first(disk, call, byte)
-    is_right = printed == wanted and len(opened) == 2 * len(NODES)
-    return Run(carried, came, None if is_right else f"disk {disk}, call {call}, byte {byte:02x}:\nprinted {printed}\nwanted {wanted}")
+        return Run(found.carried, False, None)
+    came = not found.carried or found.failed or is_down_at_first(disk, call, byte)
+    return Run(found.carried, came, found.fault and f"disk {disk}, call {call}, byte {byte:02x}:\n{found.fault}")
 
 
 def is_down_at_first(disk, call, byte):
@@ -111,3 +124,33 @@ def carried(pool):
     short = [f"disk {disk}: {len(runs)} calls" for (disk, _), runs in swept if len(runs) <= FEWEST[disk % 2]]
     refused = sum(1 for _, runs in swept for each in runs if not each.carried)
     return sum(len(runs) for _, runs in swept), refused, faults or short
+
+
+def right(carried):
+    """What is printed where no call fails, or where the resharding is refused."""
+    looks = [text for _, answer in [*LOOKS, LAST[carried]] for text in answer]
+    return [*(text for _, answer in BEFORE for text in answer), "done" if carried else DOWN, *2 * usual_openings(carried), *looks]
+
+
+def spoilings(printed):
+    """The lines of a wrong program: each line is missing, stands twice, is refused or is another one."""
+    for at, line in enumerate(printed):
+        yield f"line {at} is missing", printed[:at] + printed[at + 1 :]
+        yield f"line {at} is there twice", printed[: at + 1] + printed[at:]
+        for other in ("refused 16 Damaged", f"ok {Z[3]}", f"at {Z[0]}", f"4 +{D}", "done", "up"):
+            if other != line:
+                yield f"line {at} is {other}", [*printed[:at], other, *printed[at + 1 :]]
+
+
+def unnoticed():
+    """What of spoiled lines is taken for right, and of right ones for wrong."""
+    faults, count = [], 0
+    for carried in (True, False):
+        if judged(right(carried)).fault:
+            faults.append(f"right lines are refused: {judged(right(carried)).fault}")
+        for what, printed in spoilings(right(carried)):
+            count += 1
+            if not judged(printed).fault:
+                faults.append(f"not noticed: {what}")
+    print(f"sweep of a resharding: {count} spoiled runs, {len(faults)} not noticed")
+    return faults

@@ -4,7 +4,7 @@ ghost use Rattle.records.specs.Identity.{coordinator_number};
 ghost use Rattle.calls.specs.Belonging.{IsNodeOf};
 ghost use Rattle.calls.specs.Failing.{NodeIsSet};
 ghost use Rattle.calls.specs.Opening.{CoordinatorOpens, HasStopped, ShardOpens, refusal_of};
-ghost use Rattle.calls.specs.Rows.{RowsOf};
+ghost use Rattle.calls.specs.Rows.{KnownOf, RowsOf};
 ghost use Rattle.calls.specs.Views.{bank_len_of, devices_of, refused};
 ghost use Rattle.refusal.specs.declared.refusal.Refusal.TheVariants.{Down};
 
@@ -13,6 +13,7 @@ use device::{Device, Tear};
 use journal::{Bank, Refused};
 use names::NodeName;
 use records::Identity;
+use replay::Memory;
 use shard::Shard;
 use std::alloc::Global;
 use std::marker::Model;
@@ -150,6 +151,18 @@ impl<D: Device> Node<D> {
         match &self.opened {
             Opened::Coordinator(_) => Err(Refusal::BadRequest),
             Opened::Shard(shard) => shard.rows(self.alloc),
+            Opened::Refused(refused) => Err(refused.refusal),
+        }
+    }
+
+    /// What a shard has in memory, to be walked over: nothing is copied. It is refused with `Down`, a coordinator with `BadRequest`, and one whose opening
+    /// was refused with that refusal.
+    pub fn known(&self) -> Result<&Memory, Refusal>
+        ensures { KnownOf D.state D.honest self.now result }
+    {
+        match &self.opened {
+            Opened::Coordinator(_) => Err(Refusal::BadRequest),
+            Opened::Shard(shard) => shard.known(),
             Opened::Refused(refused) => Err(refused.refusal),
         }
     }

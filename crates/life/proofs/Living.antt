@@ -1,6 +1,6 @@
 -- A script over empty disks is one life of a store, or one behind the other.
-use Rattle.std.proofs.Common.{◌≡◌, ◌≤◌, ◌+◌, ◌*◌, ◌++◌, ℕ, List, [], ◌∷◌, All, Option, length, refl, subst, ◌∙◌}
-use Rattle.std.proofs.lemmas.List.Elements.{All-cons, All-nil}
+use Rattle.std.proofs.Common.{◌≡◌, ◌≤◌, ◌+◌, ◌*◌, ◌++◌, ℕ, List, [], ◌∷◌, All, Option, length, refl, subst, sym, ◌∙◌}
+use Rattle.std.proofs.lemmas.List.Elements.{All-cons, All-nil, All-weaker}
 use Rattle.cluster.specs.Openings.{IsOpenedOver}
 use Rattle.cluster.specs.Steps.{Takes}
 use Rattle.cluster.specs.Worlds.{WorldView}
@@ -12,7 +12,8 @@ use Rattle.headline.specs.Acts.{Acted, ActedHeadline, LivesActing, steps_in}
 use Rattle.headline.specs.Promised.{devices_at}
 use Rattle.headline.specs.Told.{IsWholeStep}
 use Rattle.laws.specs.Machines.{Machine}
-use Rattle.scripts.specs.Resharding.{Reshards}
+use Rattle.reshard_laws.specs.Carried.{KeepsAndCarries, WhatIsCarriedOverRests}
+use Rattle.scripts.specs.Resharding.{IsMoved, IsReady, Reshards}
 use Rattle.scripts.specs.Runs.{Prints, last_line}
 use Rattle.scripts.specs.Scripts.{ScriptView}
 use Rattle.scripts.specs.Sims.{BrokeOver, IsEmptyDisk, RanOver, begun}
@@ -20,7 +21,7 @@ use Rattle.scripts.specs.Stepping.{IsNext, SetsScript, ShowsRows, shards_in}
 use Rattle.tuples.specs.Limits.{max_shards}
 use Rattle.tuples.specs.declared.entry.WriteId.{WriteId}
 use Rattle.turns.specs.NewStores.{empty_machine}
-use Rattle.turns.specs.Stores.{IsToldOver, RestsOver}
+use Rattle.turns.specs.Stores.{IsToldOver, RestsOver, StandsOver}
 use Rattle.life.specs.Deeds.{Deed, Story, took, set, acts_of, done_for, more_lives, one_life, told_by}
 use Rattle.life.specs.Lives.{BrokeAsLife, Lives, RanAsLife}
 use Rattle.life.proofs.Done.{Did, Went, lines_went}
@@ -41,7 +42,7 @@ module _ {D : Type 0} (set_to : D → ℕ → Tear → Type 0) (state : D → St
   whole (set name bank n tear ∷ deeds) old new d = whole deeds d.0 new d.2
 
 module _ {D : Type 0} (gives : D → Type 0) (set_to : D → ℕ → Tear → Type 0) (state : D → State) (honest : D → Type 0) (moment : D → ℕ) (left_since : D → ℕ → List ℕ → Type 0) (any : D)
-    (law : (store shards : ℕ) → ActedHeadline set_to state honest moment left_since store shards) where
+    (law : (store shards : ℕ) → ActedHeadline set_to state honest moment left_since store shards) (carrying : WhatIsCarriedOverRests state honest moment left_since) (fine : (d : D) → gives d → honest d) where
   abbrev WentOn : WorldView D → Story (WorldView D) → WorldView D → Type 0
   WentOn = Went (Takes state honest moment left_since) (SetsScript set_to state honest moment left_since) IsNext (ShowsRows state honest) (Reshards gives state honest moment left_since) shards_in
 
@@ -53,6 +54,19 @@ module _ {D : Type 0} (gives : D → Type 0) (set_to : D → ℕ → Tear → Ty
   lives_acting store shards devices m ids opened new deeds some few count rests told is did =
       law store shards any devices opened new (acts_of deeds) (told_by deeds) m ids some few count rests told is
       (whole set_to state honest moment left_since deeds opened new did) (acted set_to state honest moment left_since deeds opened new did)
+
+  -- the devices of what it became rest where it stood behind its cares
+  carries_on : (store shards : ℕ) (devices : List D) (m : Machine) (ids : List WriteId) (opened was cared new : WorldView D) (deeds : List Deed) (to : ℕ) → 1 ≤ to → to ≤ max_shards
+      → (life : LivesActing set_to state honest moment left_since store shards (devices_at any devices) m ids opened (acts_of deeds) (told_by deeds) was) → IsReady state honest was
+      → (carried : IsMoved gives state honest moment left_since was cared to new) → KeepsAndCarries state honest moment left_since store shards to any life.acted.later life.acted.after cared carried.made
+  carries_on store shards devices m ids opened was cared new deeds to some few life ready carried =
+      let store_is = life.acted.store_is in
+      let shards_is = life.acted.shards_is in
+      let stands : StandsOver state honest was.store was.shards life.acted.later life.acted.after =
+      subst (λ (n : ℕ). StandsOver state honest n was.shards life.acted.later life.acted.after) (sym store_is) (subst (λ (n : ℕ). StandsOver state honest store n life.acted.later life.acted.after) (sym shards_is) life.acted.stands) in
+      let rest = carrying any was cared life.acted.later life.acted.after to carried.given carried.made some few life.acted.shows ready.0 stands carried.cared_for carried.carried (All-weaker gives honest fine carried.given carried.fresh) in
+      subst (λ (n : ℕ). KeepsAndCarries state honest moment left_since n shards to any life.acted.later life.acted.after cared carried.made) store_is
+      (subst (λ (n : ℕ). KeepsAndCarries state honest moment left_since was.store n to any life.acted.later life.acted.after cared carried.made) shards_is rest)
 
   -- and its story one life behind the other
   pub lives : (store shards : ℕ) (devices : List D) (m : Machine) (ids : List WriteId) (opened : WorldView D) (story : Story (WorldView D)) (new : WorldView D) → 1 ≤ shards → shards ≤ max_shards
@@ -67,12 +81,13 @@ module _ {D : Type 0} (gives : D → Type 0) (set_to : D → ℕ → Tear → Ty
         went.1.cares,
         went.1.moved.0,
         carried,
+        carries_on store shards devices m ids opened move.was move.cared move.new deeds move.shards went.1.some went.1.few life went.1.moved.0 carried,
         λ later more rests_later told_later.
             lives store move.shards carried.made later more move.new story new went.1.some went.1.few carried.count rests_later told_later now_opened went.2,
       )
 
 module _ (store shards : ℕ) (some : 1 ≤ shards) (few : shards ≤ max_shards) (law : (id count : ℕ) → ActedHeadline is_set_to_fail state_of (λ (d : SimDisk). Unit {0}) moment_of left_since_of id count)
-    (disks : List SimDisk) (empty : All IsEmptyDisk disks) (in_before in_after out_before out_after : Option (List ℕ)) where
+    (carrying : WhatIsCarriedOverRests state_of (λ (d : SimDisk). Unit {0}) moment_of left_since_of) (disks : List SimDisk) (empty : All IsEmptyDisk disks) (in_before in_after out_before out_after : Option (List ℕ)) where
   story_lives : (any : SimDisk) (opened : WorldView SimDisk) (lines : List (List ℕ)) (text : List ℕ) (after : ScriptView (WorldView SimDisk)) → length disks ≡ 2 * (shards + 1)
       → IsOpenedOver state_of (λ (d : SimDisk). Unit {0}) moment_of left_since_of store shards disks opened
       → (p : Prints (Takes state_of (λ (d : SimDisk). Unit {0}) moment_of left_since_of) IsNext (ShowsRows state_of (λ (d : SimDisk). Unit {0})) (SetsScript is_set_to_fail state_of (λ (d : SimDisk). Unit {0}) moment_of left_since_of)
@@ -86,7 +101,7 @@ module _ (store shards : ℕ) (some : 1 ≤ shards) (few : shards ≤ max_shards
       let shows = ShowsRows state_of (λ (d : SimDisk). Unit {0}) in
       let reshards = Reshards IsEmptyDisk state_of (λ (d : SimDisk). Unit {0}) moment_of left_since_of in
       let went = lines_went takes sets IsNext shows reshards shards_in (begun store opened) lines text after p in
-      lives IsEmptyDisk is_set_to_fail state_of (λ (d : SimDisk). Unit {0}) moment_of left_since_of any law store shards disks empty_machine [] opened
+      lives IsEmptyDisk is_set_to_fail state_of (λ (d : SimDisk). Unit {0}) moment_of left_since_of any law carrying (λ d is. tt) store shards disks empty_machine [] opened
       (done_for takes IsNext shows sets reshards shards_in (begun store opened) lines text after p) after.running.store
       some few count (empty_disks_rest store shards any disks count empty) (All-nil _) is went
 

@@ -8,6 +8,7 @@ use Rattle.headline.specs.Acts.{LivesActing}
 use Rattle.headline.specs.Promised.{devices_at}
 use Rattle.laws.specs.Machines.{Machine}
 use Rattle.laws.specs.Nodes.{NodeName}
+use Rattle.reshard_laws.specs.Carried.{KeepsAndCarries}
 use Rattle.scripts.specs.Cares.{Cares}
 use Rattle.scripts.specs.Resharding.{IsMoved, IsReady, Reshards}
 use Rattle.scripts.specs.Runs.{last_line}
@@ -21,11 +22,13 @@ use Rattle.life.specs.Deeds.{Story, acts_of, done_for, more_lives, one_life, tol
 -- Given which devices there are for the nodes of a store that is carried over
 module _ {D : Type 0} (gives : D → Type 0) (set : D → ℕ → Tear → Type 0) (state : D → State) (honest : D → Type 0) (moment : D → ℕ) (left_since : D → ℕ → List ℕ → Type 0) (any : D) where
   -- A store with this id and so many shards was opened over devices that rested at a machine, where these were told, and this is its story. It is one life; and
-  -- where the store is carried over, that life ends before it is cared for, and what it became lives on from whatever machine its own devices rest at.
+  -- where the store is carried over, that life ends before it is cared for. The cares leave its list as it is, and the devices of what it became rest at the
+  -- machine for which it then stands, all of whose list is kept. And it lives on from whatever machine its devices rest at.
   abbrev pub Lives : (store shards : ℕ) → (NodeName → D × D) → Machine → List WriteId → WorldView D → Story (WorldView D) → WorldView D → Type 0
   Lives store shards devices m ids opened (one_life deeds) new = LivesActing set state honest moment left_since store shards devices m ids opened (acts_of deeds) (told_by deeds) new
-  Lives store shards devices m ids opened (more_lives deeds move story) new = LivesActing set state honest moment left_since store shards devices m ids opened (acts_of deeds) (told_by deeds) move.was
+  Lives store shards devices m ids opened (more_lives deeds move story) new = (life : LivesActing set state honest moment left_since store shards devices m ids opened (acts_of deeds) (told_by deeds) move.was)
       × Cares (Takes state honest moment left_since) move.was move.cared × IsReady state honest move.was × (carried : IsMoved gives state honest moment left_since move.was move.cared move.shards move.new)
+      × KeepsAndCarries state honest moment left_since store shards move.shards any life.acted.later life.acted.after move.cared carried.made
       × ((later : Machine) (more : List WriteId) → RestsOver state honest store move.shards (devices_at any carried.made) later → All (IsToldOver state honest store move.shards (devices_at any carried.made) later) more
       → Lives store move.shards (devices_at any carried.made) later more move.new story new)
 

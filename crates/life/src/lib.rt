@@ -1,7 +1,7 @@
 //! A script over disks in memory, as one life of a store, and one behind the other where it is carried over.
 //!
 //! Keeps: what was done for the lines of a script, step by step and with what each told, is one run of the machine of whole writes from the empty log. Where the
-//! store is carried over to another number of shards that run ends, and what it became lives on from whatever machine its own devices rest at.
+//! store is carried over to another number of shards that run ends, and the devices of what it became rest at its one list and horizon, from where it lives on.
 //! Never: does a thing of its own; `scripts` runs the script, and `headline` has the law.
 //! Callers rely on: the law is a clause of the call that the program makes.
 //!
@@ -20,6 +20,7 @@ ghost use Rattle.tuples.specs.Limits.{max_shards};
 use device::SimDisk;
 use headline::acted_headline;
 pub use line_laws::{staying_is_one_life, writes_refused_memory};
+use reshard_laws::what_is_carried_over_rests;
 use std::alloc::Global;
 use std::io::{Read, Write};
 
@@ -37,7 +38,8 @@ pub fn sim<R: Read, W: Write>(
     ensures ran { result ≡ 0 → (disks : List AnyDisk) × All IsEmptyDisk disks × RanAsLife IsEmptyDisk is_set_to_fail state_of (λ d. Unit {0}) moment_of left_since_of store shards disks (R.remaining reader.old) (R.remaining reader.new) (W.contents writer.old) (W.contents writer.new) }
     ensures broke { result ≢ 0 → (result ≡ 1) × (((disks : List AnyDisk) × All IsEmptyDisk disks × BrokeAsLife IsEmptyDisk is_set_to_fail state_of (λ d. Unit {0}) moment_of left_since_of store shards disks (R.remaining reader.old) (R.remaining reader.new) (W.contents writer.old) (W.contents writer.new)) ⊎ IsUntouched (R.remaining reader.old) (R.remaining reader.new) (W.contents writer.old) (W.contents writer.new)) }
 {
-    // A law: it does nothing.
+    // Laws: they do nothing.
     acted_headline::<SimDisk>();
+    what_is_carried_over_rests::<SimDisk>();
     scripts::sim(alloc, store, shards, reader, writer)
 }

@@ -46,8 +46,7 @@ pub(crate) fn parse_namespaces(alloc: Global, words: &[&[u8]]) -> Result<Vec<Nam
 {
     let mut names = Vec::with_capacity(alloc, words.len())?;
     for word in words {
-        let bytes = Vec::from_slice(alloc, word)?;
-        names.push_reserved(Namespace::from_vec(bytes)?);
+        names.push_reserved(Namespace::parse(alloc, word)?);
     }
     Ok(names)
 }

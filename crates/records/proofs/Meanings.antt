@@ -1,10 +1,11 @@
 -- What the tests of a reader mean.
-use Rattle.std.proofs.Common.{◌≡◌, ℕ, Bool, true, false, not, ◌&&◌, leb, ltb, List, [], ◌∷◌, length, refl}
+use Rattle.std.proofs.Common.{◌≡◌, ℕ, Bool, true, false, not, ◌&&◌, leb, ltb, List, [], ◌∷◌, length, ◌↔◌, IsTrue, refl}
 use Rattle.std.specs.List.{list_all}
 use Rattle.std.proofs.lemmas.Bool.{leb-true, le-leb, ltb-true, lt-ltb, and_parts, and_from, not-true}
 use Rattle.tuples.specs.declared.tuple.Tuple.{Tuple}
 use Rattle.tuples.specs.Changes.{AreDistinct, has_tuple}
 use Rattle.tuples.specs.Names.{IsId, IsName, is_id_byte, is_name_byte}
+use Rattle.tuples.proofs.Ordered.{same_tests}
 use Rattle.records.specs.declared.record.PlacedId.{PlacedId}
 use Rattle.records.specs.Format.{AreRisingTo}
 use Rattle.records.specs.Reading.{are_distinct, are_rising_to, is_id, is_name}
@@ -40,6 +41,10 @@ not_of_false false e = refl
 pub test_of_distinct : (ts : List Tuple) → AreDistinct ts → are_distinct ts ≡ true
 test_of_distinct [] h = refl
 test_of_distinct (t ∷ ts) h = and_from _ _ (not_of_false _ h.0) (test_of_distinct ts h.1)
+
+-- the test says what the definition does
+pub distinct_is : (ts : List Tuple) (b : Bool) → (IsTrue b ↔ AreDistinct ts) → b ≡ are_distinct ts
+distinct_is ts b h = same_tests b (are_distinct ts) (λ e. test_of_distinct ts (h.0 e)) (λ e. h.1 (distinct_of_test ts e))
 
 pub rising_of_test : (to : ℕ) (placed_ids : List PlacedId) → are_rising_to to placed_ids ≡ true → AreRisingTo to placed_ids
 rising_of_test to [] h = tt

@@ -1,53 +1,23 @@
 // Whether no tuple stands twice, and whether places rise.
 ghost use Rattle.std.specs.Prelude.{◌≡◌};
-ghost use Rattle.tuples.specs.Changes.{changed, conditioned, has_tuple};
+ghost use Rattle.tuples.specs.Changes.{changed, conditioned};
 ghost use Rattle.records.specs.Reading.{are_distinct, are_rising_to};
 
 use crate::PlacedId;
-use tuples::{Change, Condition, Tuple};
+use tuples::{Change, Condition};
 
-fn names_change(tuple: &Tuple, changes: &[Change]) -> bool
-    ensures { result ≡ has_tuple tuple.now (changed changes.now) }
-{
-    for change in changes {
-        if tuple.is(change.tuple()) {
-            return true;
-        }
-    }
-    false
-}
-
-fn names_condition(tuple: &Tuple, conditions: &[Condition]) -> bool
-    ensures { result ≡ has_tuple tuple.now (conditioned conditions.now) }
-{
-    for condition in conditions {
-        if tuple.is(&condition.tuple) {
-            return true;
-        }
-    }
-    false
-}
-
+/// Whether no two changes name one tuple.
 pub(crate) fn are_changes_distinct(changes: &[Change]) -> bool
     ensures { result ≡ are_distinct (changed changes.now) }
 {
-    for (i, change) in changes.iter().enumerate() {
-        if names_change(change.tuple(), &changes[i + 1..]) {
-            return false;
-        }
-    }
-    true
+    tuples::are_changes_distinct(changes)
 }
 
+/// Whether no two conditions name one tuple.
 pub(crate) fn are_conditions_distinct(conditions: &[Condition]) -> bool
     ensures { result ≡ are_distinct (conditioned conditions.now) }
 {
-    for (i, condition) in conditions.iter().enumerate() {
-        if names_condition(&condition.tuple, &conditions[i + 1..]) {
-            return false;
-        }
-    }
-    true
+    tuples::are_conditions_distinct(conditions)
 }
 
 /// Whether places rise strictly, and end at most at `to`.

@@ -6,7 +6,7 @@ ghost use Rattle.records.specs.Reading.{byte_at, id_at, name_at, number_at, posi
 use crate::unread::Unread;
 use byteorder::{BigEndian, ByteOrder};
 use std::alloc::Global;
-use tuples::{Id, Namespace, Relation};
+use tuples::{Id, Namespace, Refusal, Relation};
 
 pub(crate) fn byte_of(bytes: &[u8]) -> Result<(u8, &[u8]), Unread>
     ensures { Gives (λ x. (x.0, x.1.now)) result (byte_at bytes.now) }
@@ -52,25 +52,25 @@ pub(crate) fn positive_of(bytes: &[u8]) -> Result<(u64, &[u8]), Unread>
 }
 
 #[tactic(auto, unfolding(crate::specs::Reading::text_at))]
-fn text_of(alloc: Global, bytes: &[u8]) -> Result<(Vec<u8>, &[u8]), Unread>
-    ensures { Gives (λ x. (x.0.items, x.1.now)) result (text_at bytes.now) }
+fn text_of(bytes: &[u8]) -> Result<(&[u8], &[u8]), Unread>
+    ensures { Gives (λ x. (x.0.now, x.1.now)) result (text_at bytes.now) }
 {
     let (len, rest) = byte_of(bytes)?;
     let len = usize::from(len);
     if rest.len() < len {
         return Err(Unread::Damaged);
     }
-    let (text, rest) = rest.split_at(len);
-    Ok((Vec::from_slice(alloc, text)?, rest))
+    Ok(rest.split_at(len))
 }
 
 #[tactic(auto, unfolding(crate::specs::Reading::name_at))]
 pub(crate) fn namespace_of(alloc: Global, bytes: &[u8]) -> Result<(Namespace, &[u8]), Unread>
     ensures { Gives (λ x. (x.0, x.1.now)) result (name_at bytes.now) }
 {
-    let (text, rest) = text_of(alloc, bytes)?;
-    match Namespace::from_vec(text) {
+    let (text, rest) = text_of(bytes)?;
+    match Namespace::parse(alloc, text) {
         Ok(namespace) => Ok((namespace, rest)),
+        Err(Refusal::NoMemory) => Err(Unread::NoMemory),
         Err(_) => Err(Unread::Damaged),
     }
 }
@@ -79,9 +79,10 @@ pub(crate) fn namespace_of(alloc: Global, bytes: &[u8]) -> Result<(Namespace, &[
 pub(crate) fn relation_of(alloc: Global, bytes: &[u8]) -> Result<(Relation, &[u8]), Unread>
     ensures { Gives (λ x. (x.0, x.1.now)) result (name_at bytes.now) }
 {
-    let (text, rest) = text_of(alloc, bytes)?;
-    match Relation::from_vec(text) {
+    let (text, rest) = text_of(bytes)?;
+    match Relation::parse(alloc, text) {
         Ok(relation) => Ok((relation, rest)),
+        Err(Refusal::NoMemory) => Err(Unread::NoMemory),
         Err(_) => Err(Unread::Damaged),
     }
 }
@@ -90,9 +91,10 @@ pub(crate) fn relation_of(alloc: Global, bytes: &[u8]) -> Result<(Relation, &[u8
 pub(crate) fn id_of(alloc: Global, bytes: &[u8]) -> Result<(Id, &[u8]), Unread>
     ensures { Gives (λ x. (x.0, x.1.now)) result (id_at bytes.now) }
 {
-    let (text, rest) = text_of(alloc, bytes)?;
-    match Id::from_vec(text) {
+    let (text, rest) = text_of(bytes)?;
+    match Id::parse(alloc, text) {
         Ok(id) => Ok((id, rest)),
+        Err(Refusal::NoMemory) => Err(Unread::NoMemory),
         Err(_) => Err(Unread::Damaged),
     }
 }

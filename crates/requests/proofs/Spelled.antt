@@ -8,6 +8,7 @@ use Rattle.refusal.specs.declared.refusal.Refusal.TheVariants.{BadTuple, NoMemor
 use Rattle.tuples.specs.declared.change.Change.{Change}
 use Rattle.tuples.specs.Changes.{changed, tuple_of}
 use Rattle.tuples.specs.Names.{IsName}
+use Rattle.tuples.specs.Parsing.{Refuses, own_text}
 use Rattle.tuples.specs.Texts.{IsTuple, tuple_text}
 use Rattle.requests.specs.declared.shape.ChangeShape.{ChangeShape}
 use Rattle.requests.specs.Causes.{AreTuples, changed_text}
@@ -59,6 +60,7 @@ names_more f xs ys zs i d y h so_far valid text pushed =
     let more = texts_more f (λ (n : List ℕ). n) IsName xs ys zs i d y h (so_far.0 ∙ sym (own_texts ys), so_far.1) valid text pushed in
     (more.0 ∙ own_texts zs, more.1)
 
-pub names_refused : {A : Type 0} (f : A → List ℕ) (xs : List A) (i : ℕ) (d : A) (e : Refusal) → i < length xs → e ≡ BadTuple → (IsName (f (get_or xs i d)) → ⊥) → IsMisspelled (λ (ys : List (List ℕ)). (map f xs ≡ ys) × All IsName ys) e
-names_refused f xs i d e h was none =
-    inl (was, λ ys are. let v = value_at f (λ (n : List ℕ). n) IsName xs ys i d h (are.0 ∙ sym (own_texts ys)) are.1 in none (subst IsName (sym v.2) v.1))
+pub names_refused : {A : Type 0} (f : A → List ℕ) (xs : List A) (i : ℕ) (d : A) (e : Refusal) → i < length xs → Refuses IsName own_text (f (get_or xs i d)) e → IsMisspelled (λ (ys : List (List ℕ)). (map f xs ≡ ys) × All IsName ys) e
+names_refused f xs i d e h (inl bad) =
+    inl (bad.0, λ ys are. let v = value_at f (λ (n : List ℕ). n) IsName xs ys i d h (are.0 ∙ sym (own_texts ys)) are.1 in bad.1 v.0 v.1 v.2)
+names_refused f xs i d e h (inr memory) = inr memory

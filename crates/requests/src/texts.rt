@@ -73,8 +73,7 @@ pub(crate) fn parse_namespaces(alloc: Global, texts: &[&str]) -> Result<Vec<Name
 {
     let mut names = Vec::with_capacity(alloc, texts.len())?;
     for text in texts {
-        let bytes = Vec::from_slice(alloc, text.as_bytes())?;
-        names.push_reserved(Namespace::from_vec(bytes)?);
+        names.push_reserved(Namespace::parse(alloc, text.as_bytes())?);
     }
     Ok(names)
 }

@@ -10,7 +10,7 @@ use Rattle.device.specs.Device.{State}
 use Rattle.journal.specs.Beginnings.{BegunView}
 use Rattle.names.specs.declared.node_name.NodeName.TheVariants.{Coordinator}
 use Rattle.refusal.specs.declared.refusal.Refusal.{Refusal}
-use Rattle.refusal.specs.declared.refusal.Refusal.TheVariants.{Down}
+use Rattle.refusal.specs.declared.refusal.Refusal.TheVariants.{Down, NoMemory}
 use Rattle.tuples.specs.declared.version.Version.{Version}
 use Rattle.reshard.specs.Made.{HaveShards, devices_of}
 use Rattle.reshard.specs.Refusing.{IsNotWritten, LacksLog}
@@ -65,31 +65,22 @@ module _ {D : Type 0} (state : D → State) (honest : D → Type 0) (moment : D 
     pub ends_none : (nodes : List (BegunView D)) → node_at old.nodes Coordinator ≡ None → EndsFirst state honest moment left_since old shards nodes nodes
     ends_none nodes none head others nodes_are = (head, nodes_are, λ v here. absurd (let bad : None ≡ Some (coordinator v) = sym none ∙ here in cc))
 
-    -- the shards first, and then the coordinator
-    pub filled : {T E : Type 0} (reach : Reach) (rows : List Version) (is_fine : Type 0) (before mid new : List (BegunView D)) (result : Result T E) → KeepsFirst before mid
+    -- the shards first, and then the coordinator, whatever came of its end
+    pub ends_last : (reach : Reach) (rows : List Version) (is_fine : Type 0) (before mid new : List (BegunView D)) → KeepsFirst before mid
         → (is_fine → HaveShards state old.store shards reach rows shards mid) → EndsFirst state honest moment left_since old shards mid new
-        → (head : BegunView D) (others : List (BegunView D)) → before ≡ head ∷ others → OnOk result (EndsLast state honest moment left_since old shards reach rows is_fine head new)
-    filled reach rows is_fine before mid new (Ok done) keeps have ends head others is =
+        → (head : BegunView D) (others : List (BegunView D)) → before ≡ head ∷ others → EndsLast state honest moment left_since old shards reach rows is_fine head new
+    ends_last reach rows is_fine before mid new keeps have ends head others is =
         let k = keeps head others is in
         let e = ends head k.0 k.1 in
         record { last = e.0; others = k.0; new_is = e.1; each = λ fine. subst (HaveShards state old.store shards reach rows shards) k.1 (have fine); ends = e.2 }
-    filled reach rows is_fine before mid new (Err e) keeps have ends head others is = tt
-
-    pub tried_later : (before mid new : List (BegunView D)) → KeepsFirst before mid → EndsFirst state honest moment left_since old shards mid new → (head : BegunView D) (others : List (BegunView D)) → before ≡ head ∷ others
-        → HasTried state honest moment left_since old shards head new
-    tried_later before mid new keeps ends head others is = let k = keeps head others is in let e = ends head k.0 k.1 in (e.0, k.0, e.1, inr e.2)
-
-    pub not_tried : (before mid : List (BegunView D)) → KeepsFirst before mid → (head : BegunView D) (others : List (BegunView D)) → before ≡ head ∷ others → HasTried state honest moment left_since old shards head mid
-    not_tried before mid keeps head others is = let k = keeps head others is in (head, k.0, k.1, inl refl)
 
     -- what comes of it behind the making, the devices being handed back
-    pub left_over : (given back rest : List D) (nodes : List (BegunView D)) → back ≡ devices_of nodes ++ rest
-        → ((nodes ≡ []) × FirstTwo state honest moment left_since given rest) ⊎ ((head : BegunView D) × HasBegunOn state honest moment left_since given head × HasTried state honest moment left_since old shards head nodes)
-        → AreLeft state honest moment left_since old shards given back
-    left_over given back rest nodes is (inl (none, first)) =
+    pub left_over : (reach : Reach) (rows : List Version) (given back rest : List D) (nodes : List (BegunView D)) → back ≡ devices_of nodes ++ rest
+        → ((nodes ≡ []) × FirstTwo state honest moment left_since given rest) ⊎ ((head : BegunView D) × HasBegunOn state honest moment left_since given head × HasTried state honest moment left_since old shards reach rows (All honest given) head nodes)
+        → AreLeft state honest moment left_since old shards reach rows given back
+    left_over reach rows given back rest nodes is (inl (none, first)) =
         inl (subst (FirstTwo state honest moment left_since given) (sym (is ∙ ap (λ (l : List (BegunView D)). devices_of l ++ rest) none)) first)
-    left_over given back rest nodes is (inr (head, begun, (last, more, at, how))) =
-        inr (head, begun, last, devices_of more ++ rest, is ∙ ap (λ (l : List (BegunView D)). devices_of l ++ rest) at, how)
+    left_over reach rows given back rest nodes is (inr (head, begun, tried)) = inr (head, begun, nodes, rest, is, tried)
 
     -- and so where all are written
     pub written_in_order : {T E : Type 0} (reach : Reach) (rows : List Version) (given back rest : List D) (nodes : List (BegunView D)) (result : Result T E) → back ≡ devices_of nodes ++ rest → OnOk result (rest ≡ [])
@@ -104,11 +95,17 @@ module _ {D : Type 0} (state : D → State) (honest : D → Type 0) (moment : D 
         → EndsLast state honest moment left_since old shards reach rows more head nodes
     ends_last_weaker reach rows is_fine more head nodes given e = record { last = e.last; others = e.others; new_is = e.new_is; each = λ m. e.each (given m); ends = e.ends }
 
+    -- and of a node whose end was tried, or was not
+    pub tried_weaker : (reach : Reach) (rows : List Version) (is_fine more : Type 0) (head : BegunView D) (nodes : List (BegunView D)) → (more → is_fine) → HasTried state honest moment left_since old shards reach rows is_fine head nodes
+        → HasTried state honest moment left_since old shards reach rows more head nodes
+    tried_weaker reach rows is_fine more head nodes given (inl not) = inl not
+    tried_weaker reach rows is_fine more head nodes given (inr e) = inr (ends_last_weaker reach rows is_fine more head nodes given e)
+
     -- no end was tried where the beginning did not come to its end
-    pub head_tried : (given devices : List D) (nodes : List (BegunView D)) → HeadBegins state honest moment left_since given nodes devices
-        → ((nodes ≡ []) × FirstTwo state honest moment left_since given devices) ⊎ ((head : BegunView D) × HasBegunOn state honest moment left_since given head × HasTried state honest moment left_since old shards head nodes)
-    head_tried given devices nodes (inl first) = inl first
-    head_tried given devices nodes (inr b) = inr (b.0, b.3, (b.0, b.1, b.2, inl refl))
+    pub head_tried : (reach : Reach) (rows : List Version) (given devices : List D) (nodes : List (BegunView D)) → HeadBegins state honest moment left_since given nodes devices
+        → ((nodes ≡ []) × FirstTwo state honest moment left_since given devices) ⊎ ((head : BegunView D) × HasBegunOn state honest moment left_since given head × HasTried state honest moment left_since old shards reach rows (All honest given) head nodes)
+    head_tried reach rows given devices nodes (inl first) = inl first
+    head_tried reach rows given devices nodes (inr b) = inr (b.0, b.3, inl (b.1, b.2))
 
     -- the first node of those that have begun
     pub first_begun : (given devices : List D) (nodes : List (BegunView D)) (count : ℕ) → length nodes ≡ count + 1 → HeadBegins state honest moment left_since given nodes devices
@@ -124,6 +121,7 @@ pub on_ok_always : {T E : Type 0} (P : Type 0) (result : Result T E) → P → O
 on_ok_always P (Ok done) p = p
 on_ok_always P (Err e) p = tt
 
-pub written_not : {D : Type 0} (nodes : List (NodeView D)) (e : Refusal) → (e ≡ Down) ⊎ LacksLog nodes e → IsNotWritten nodes e
+pub written_not : {D : Type 0} (nodes : List (NodeView D)) (e : Refusal) → (e ≡ Down) ⊎ ((e ≡ NoMemory) ⊎ LacksLog nodes e) → IsNotWritten nodes e
 written_not nodes e (inl down) = inl down
-written_not nodes e (inr lacks) = inr (inr (inr lacks))
+written_not nodes e (inr (inl none)) = inr (inl none)
+written_not nodes e (inr (inr lacks)) = inr (inr (inr lacks))

@@ -1,21 +1,26 @@
 -- The versions of all shards, as one list.
+use denote.Ref.{Bor}
 use Rattle.std.specs.Prelude.{◌≡◌, ℕ, zero, suc, List, [], ◌++◌, Ok, MatchOption}
-use Rattle.std.specs.Global.{Vec}
 use Rattle.std.specs.List.Sorted.{IsPermutation, IsSorted}
-use Rattle.calls.specs.Rows.{RowsOf}
+use Rattle.calls.specs.Rows.{KnownOf}
 use Rattle.calls.specs.Views.{NodeView}
 use Rattle.cluster.specs.Worlds.{node_at}
 use Rattle.device.specs.Device.{State}
 use Rattle.names.specs.declared.node_name.NodeName.TheVariants.{Shard}
+use Rattle.records.specs.Replays.{ShardState}
 use Rattle.tuples.specs.declared.version.Version.{Version}
 use Rattle.versions.specs.Rows.{version_cmp}
 
 module _ {D : Type 0} (state : D → State) (honest : D → Type 0) (nodes : List (NodeView D)) where
-  -- the shard of this number tells these versions
+  -- the shard of this number shows that in memory
+  abbrev pub IsKnownOf : ℕ → Bor ShardState → Type 0
+  IsKnownOf s known = MatchOption (node_at nodes (Shard s)) ⊥ (λ node. KnownOf state honest node (Ok known))
+
+  -- and these are its versions
   pub record TellsShard (s : ℕ) (told : List Version) : Type 0 where
-    pub listed : Vec Version
-    pub listed_is : listed.items ≡ told
-    pub tells : MatchOption (node_at nodes (Shard s)) ⊥ (λ node. RowsOf state honest node (Ok listed))
+    pub known : Bor ShardState
+    pub rows_are : known.now.rows ≡ told
+    pub tells : IsKnownOf s known
 
   -- and so does each of the first shards: the versions of all, one behind the other
   abbrev pub TellAll : ℕ → List Version → Type 0

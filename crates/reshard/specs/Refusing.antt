@@ -1,7 +1,7 @@
 -- Which refusal a carrying ends with.
 use Rattle.std.specs.Prelude.{◌≡◌, ◌⊎◌, ◌≤◌, ◌<◌, ℕ, List, [], ◌∷◌, Option, Some, Result, Err, MatchOption, MatchResult, Contains}
 use Rattle.calls.specs.Carrying.{Reaches}
-use Rattle.calls.specs.Rows.{RowsOf}
+use Rattle.calls.specs.Rows.{KnownOf}
 use Rattle.calls.specs.Views.{NodeView, coordinator, refused, shard}
 use Rattle.calls.specs.declared.carrying.Reach.{Reach}
 use Rattle.cluster.specs.Openings.{name_at}
@@ -72,9 +72,9 @@ module _ {D : Type 0} (state : D → State) (honest : D → Type 0) where
     pub refuses : RefusesAt w.nodes (name_at place) e
     pub before : (i : ℕ) → i < place → (reach : Reach) × ReachesAt state honest w.nodes (name_at i) reach
 
-  -- a shard, asked for its versions, answers this refusal
+  -- a shard, asked for what it has in memory, answers this refusal
   abbrev pub TellsNot : List (NodeView D) → ℕ → Refusal → Type 0
-  TellsNot nodes s e = MatchOption (node_at nodes (Shard s)) (e ≡ BadRequest) (λ node. RowsOf state honest node (Err e))
+  TellsNot nodes s e = MatchOption (node_at nodes (Shard s)) (e ≡ BadRequest) (λ node. KnownOf state honest node (Err e))
 
   -- What the nodes know could not be found out: one answers this refusal, memory was refused, or they do not reach equally far.
   abbrev pub IsNotKnown : WorldView D → Refusal → Type 0

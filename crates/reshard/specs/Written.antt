@@ -10,6 +10,8 @@ use Rattle.gated.specs.Gated.{HasList}
 use Rattle.journal.specs.Beginnings.{BegunView, HasBeginsOr, HasNone, HasNoneOrBegins}
 use Rattle.names.specs.declared.node_name.NodeName.TheVariants.{Coordinator}
 use Rattle.tuples.specs.declared.version.Version.{Version}
+use Rattle.reshard.specs.Caring.{HaveReached}
+use Rattle.reshard.specs.Gathering.{AreGathered}
 use Rattle.reshard.specs.Made.{AreHonest, HaveShards, devices_of}
 
 -- the first node is not touched
@@ -77,10 +79,6 @@ module _ {D : Type 0} (state : D → State) (honest : D → Type 0) (moment : D 
     abbrev pub EndsFirst : List (BegunView D) → List (BegunView D) → Type 0
     EndsFirst nodes new = (head : BegunView D) (others : List (BegunView D)) → nodes ≡ head ∷ others → (last : BegunView D) × (new ≡ last ∷ others) × EndsLog head last
 
-    -- The first node was not touched, or its end was tried.
-    abbrev pub HasTried : BegunView D → List (BegunView D) → Type 0
-    HasTried head new = (last : BegunView D) × (more : List (BegunView D)) × (new ≡ last ∷ more) × ((last ≡ head) ⊎ EndsLog head last)
-
     module _ (reach : Reach) (rows : List Version) where
       -- Each shard's checkpoint is whole, and only then is the end of the coordinator's tried.
       pub record EndsLast (is_fine : Type 0) (head : BegunView D) (new : List (BegunView D)) : Type 0 where
@@ -90,6 +88,14 @@ module _ {D : Type 0} (state : D → State) (honest : D → Type 0) (moment : D 
         pub each : is_fine → HaveShards state old.store shards reach rows shards (head ∷ others)
         pub ends : EndsLog head last
 
+      -- The first node was not touched; or each shard's checkpoint is whole, and the end of the coordinator's was tried.
+      abbrev pub HasTried : Type 0 → BegunView D → List (BegunView D) → Type 0
+      HasTried is_fine head new = ((more : List (BegunView D)) × (new ≡ head ∷ more)) ⊎ EndsLast is_fine head new
+
+      -- What comes back where they are not all written: no more than the coordinator's checkpoint has begun, or all but its end is there, which was tried.
+      abbrev pub AreLeft : List D → List D → Type 0
+      AreLeft given back = FirstTwo given back ⊎ ((head : BegunView D) × HasBegunOn given head × (nodes : List (BegunView D)) × (rest : List D) × (back ≡ devices_of nodes ++ rest) × HasTried (All honest given) head nodes)
+
       -- The coordinator's checkpoint has begun, those of the shards are whole, and only then is the end of the coordinator's tried.
       pub record AreWrittenInOrder (given made : List D) : Type 0 where
         pub head : BegunView D
@@ -98,6 +104,6 @@ module _ {D : Type 0} (state : D → State) (honest : D → Type 0) (moment : D 
         pub made_is : made ≡ devices_of nodes
         pub ended : EndsLast (All honest given) head nodes
 
-    -- What comes back where they are not all written.
-    abbrev pub AreLeft : List D → List D → Type 0
-    AreLeft given back = FirstTwo given back ⊎ ((head : BegunView D) × HasBegunOn given head × (last : BegunView D) × (rest : List D) × (back ≡ last.a ∷ last.b ∷ rest) × ((last ≡ head) ⊎ EndsLog head last))
+    -- What comes back where a store is not carried over: all as it was, or written so far with what the old store knows, whose nodes all reach equally far.
+    abbrev pub IsLeftOver : List D → List D → Type 0
+    IsLeftOver given back = (back ≡ given) ⊎ ((reach : Reach) × (rows : List Version) × HaveReached state honest old.nodes old.shards reach × AreGathered state honest old.nodes old.shards rows × AreLeft reach rows given back)

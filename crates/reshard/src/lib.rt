@@ -18,7 +18,6 @@ mod gathering;
 mod playing;
 mod resharding;
 mod settling;
-mod telling;
 
 pub use folder::{Folders, reshard_folder};
 pub use resharding::{carry_over, reshard};

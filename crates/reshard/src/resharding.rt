@@ -5,13 +5,14 @@ ghost use Rattle.calls.specs.declared.carrying.Reach.{Reach as AnyReach};
 ghost use Rattle.cluster.specs.Openings.{IsOpenedOver};
 ghost use Rattle.cluster.specs.Worlds.{flow_count};
 ghost use Rattle.journal.specs.Beginnings.{BegunView};
+ghost use Rattle.merging.specs.Merging.{merged};
 ghost use Rattle.records.specs.Identity.{max_shards};
 ghost use Rattle.refusal.specs.declared.refusal.Refusal.{Refusal as AnyRefusal};
 ghost use Rattle.reshard.specs.Caring.{Cares, HaveReached, IsCaredFor};
 ghost use Rattle.reshard.specs.Gathering.{AreGathered};
 ghost use Rattle.reshard.specs.Made.{AreHonest, AreMade, HasLog, HaveShards, IsCarriedOver};
 ghost use Rattle.reshard.specs.Refusing.{AreUp, CarriesNot, IsFirstDown, IsNotKnown, IsNotWritten, IsRefusedCare};
-ghost use Rattle.reshard.specs.Written.{AreLeft, AreWrittenInOrder, EndsLast, FirstTwo, HasBegunOn, HasTried};
+ghost use Rattle.reshard.specs.Written.{AreLeft, AreWrittenInOrder, EndsLast, FirstTwo, HasBegunOn, HasTried, IsLeftOver};
 ghost use Rattle.tuples.specs.declared.version.Version.{Version as AnyVersion};
 
 use crate::filling::fill;
@@ -22,18 +23,19 @@ use calls::Reach;
 use cluster::{World, reopen};
 use device::Device;
 use journal::Begun;
+use merging::Rows;
 use std::alloc::Global;
-use tuples::{Refusal, Version};
+use tuples::Refusal;
 
-// What the shards of a store know, which is to be known by others.
+// What the shards of a store know, which is to be known by others: how far they reach, and their versions, where they lie.
 #[derive(Drop)]
-struct Known {
+struct Known<'a> {
     reach: Reach,
-    rows: Vec<Version>,
+    rows: Rows<'a>,
 }
 
-fn know<D: Device>(alloc: Global, old: &World<D>) -> Result<Known, Refusal>
-    ensures ok { IfOk result (λ known. HaveReached D.state D.honest old.now.nodes old.now.shards known.reach × AreGathered D.state D.honest old.now.nodes old.now.shards known.rows.items) }
+fn know<D: Device>(alloc: Global, old: &World<D>) -> Result<Known<'_>, Refusal>
+    ensures ok { IfOk result (λ known. HaveReached D.state D.honest old.now.nodes old.now.shards known.reach × AreGathered D.state D.honest old.now.nodes old.now.shards (merged known.rows)) }
     ensures err { IfErr result (IsNotKnown D.state D.honest old.now) }
 {
     let reach = reach(old)?;
@@ -43,16 +45,13 @@ fn know<D: Device>(alloc: Global, old: &World<D>) -> Result<Known, Refusal>
     }
 }
 
-// The cares of the old store, and what its shards know then.
-fn close<D: Device>(alloc: Global, old: &mut World<D>) -> Result<Known, Refusal>
-    ensures ok { IfOk result (λ known. HaveReached D.state D.honest old.new.nodes old.new.shards known.reach × AreGathered D.state D.honest old.new.nodes old.new.shards known.rows.items) }
+// The cares of the old store, each node of which is up.
+fn close<D: Device>(old: &mut World<D>) -> Result<(), Refusal>
     ensures cared { OnOk result (AreUp D.state D.honest old.old × IsCaredFor D.state D.honest D.moment D.left_since old.old old.new) }
-    ensures err { IfErr result (λ e. (IsFirstDown D.state D.honest old.old e × (old.new ≡ old.old)) ⊎ (AreUp D.state D.honest old.old
-        × (IsRefusedCare D.state D.honest D.moment D.left_since old.old e old.new ⊎ (Cares D.state D.honest D.moment D.left_since old.old old.new × IsNotKnown D.state D.honest old.new e)))) }
+    ensures err { IfErr result (λ e. (IsFirstDown D.state D.honest old.old e × (old.new ≡ old.old)) ⊎ (AreUp D.state D.honest old.old × IsRefusedCare D.state D.honest D.moment D.left_since old.old e old.new)) }
 {
     are_up(old)?;
-    settle(old)?;
-    know(alloc, old)
+    settle(old)
 }
 
 // A checkpoint begins on the devices of each new node, and then each has its own.
@@ -60,7 +59,7 @@ fn write<D: Device>(
     alloc: Global,
     old: &World<D>,
     shards: u8,
-    known: &Known,
+    known: &Known<'_>,
     devices: &mut Vec<D>,
     begun: &mut Vec<Begun<D>>,
 ) -> Result<(), Refusal>
@@ -75,12 +74,12 @@ fn write<D: Device>(
     ensures capacity { vec_capacity devices.new ≡ vec_capacity devices.old }
     ensures count { OnOk result (vec_len begun.new ≡ shards + 1) }
     ensures honest { All D.honest devices.old.items → OnOk result (AreHonest D.honest begun.new.items) }
-    ensures each { All D.honest devices.old.items → OnOk result (HaveShards D.state old.now.store shards known.now.reach known.now.rows.items shards begun.new.items) }
+    ensures each { All D.honest devices.old.items → OnOk result (HaveShards D.state old.now.store shards known.now.reach (merged known.now.rows) shards begun.new.items) }
     ensures log { All D.honest devices.old.items → OnOk result (HasLog D.state D.honest old.now shards begun.new.items) }
     ensures order { OnOk result ((head : BegunView D) × HasBegunOn D.state D.honest D.moment D.left_since devices.old.items head
-        × EndsLast D.state D.honest D.moment D.left_since old.now shards known.now.reach known.now.rows.items (All D.honest devices.old.items) head begun.new.items) }
+        × EndsLast D.state D.honest D.moment D.left_since old.now shards known.now.reach (merged known.now.rows) (All D.honest devices.old.items) head begun.new.items) }
     ensures so_far { ((begun.new.items ≡ []) × FirstTwo D.state D.honest D.moment D.left_since devices.old.items devices.new.items)
-        ⊎ ((head : BegunView D) × HasBegunOn D.state D.honest D.moment D.left_since devices.old.items head × HasTried D.state D.honest D.moment D.left_since old.now shards head begun.new.items) }
+        ⊎ ((head : BegunView D) × HasBegunOn D.state D.honest D.moment D.left_since devices.old.items head × HasTried D.state D.honest D.moment D.left_since old.now shards known.now.reach (merged known.now.rows) (All D.honest devices.old.items) head begun.new.items) }
     ensures err { IfErr result (IsNotWritten old.now.nodes) }
 {
     begin_all(alloc, shards as usize + 1, devices, begun)?;
@@ -92,16 +91,16 @@ fn make<D: Device>(
     alloc: Global,
     old: &World<D>,
     shards: u8,
-    known: &Known,
+    known: &Known<'_>,
     devices: &mut Vec<D>,
 ) -> Result<(), Refusal>
     requires some { 1 ≤ shards }
     requires few { shards ≤ max_shards }
     requires count { vec_len devices.old ≡ 2 * (shards + 1) }
     ensures count { vec_len devices.new ≡ vec_len devices.old }
-    ensures ok { OnOk result (AreMade D.state D.honest old.now shards known.now.reach known.now.rows.items devices.old.items devices.new.items) }
-    ensures order { OnOk result (AreWrittenInOrder D.state D.honest D.moment D.left_since old.now shards known.now.reach known.now.rows.items devices.old.items devices.new.items) }
-    ensures left { OnErr result (AreLeft D.state D.honest D.moment D.left_since old.now shards devices.old.items devices.new.items) }
+    ensures ok { OnOk result (AreMade D.state D.honest old.now shards known.now.reach (merged known.now.rows) devices.old.items devices.new.items) }
+    ensures order { OnOk result (AreWrittenInOrder D.state D.honest D.moment D.left_since old.now shards known.now.reach (merged known.now.rows) devices.old.items devices.new.items) }
+    ensures left { OnErr result (AreLeft D.state D.honest D.moment D.left_since old.now shards known.now.reach (merged known.now.rows) devices.old.items devices.new.items) }
     ensures err { IfErr result (IsNotWritten old.now.nodes) }
 {
     let Ok(mut begun) = Vec::with_capacity(alloc, shards as usize + 1) else {
@@ -112,26 +111,49 @@ fn make<D: Device>(
     made
 }
 
-// What the shards of the old store know becomes that of the new devices, and the log beside it.
-fn carry<D: Device>(
+// What is known becomes that of the new devices, and the log beside it.
+fn carry_known<D: Device>(
     alloc: Global,
     old: &World<D>,
     shards: u8,
-    known: &Known,
+    known: &Known<'_>,
     mut devices: Vec<D>,
 ) -> Result<Vec<D>, (Refusal, Vec<D>)>
     requires some { 1 ≤ shards }
     requires few { shards ≤ max_shards }
     requires count { vec_len devices ≡ 2 * (shards + 1) }
-    ensures ok { IfOk result (λ made. AreMade D.state D.honest old.now shards known.now.reach known.now.rows.items devices.items made.items) }
+    ensures ok { IfOk result (λ made. AreMade D.state D.honest old.now shards known.now.reach (merged known.now.rows) devices.items made.items) }
     ensures count { IfOk result (λ made. vec_len made ≡ vec_len devices) }
     ensures back { IfErr result (λ e. vec_len e.1 ≡ vec_len devices) }
-    ensures order { IfOk result (λ made. AreWrittenInOrder D.state D.honest D.moment D.left_since old.now shards known.now.reach known.now.rows.items devices.items made.items) }
-    ensures left { IfErr result (λ e. AreLeft D.state D.honest D.moment D.left_since old.now shards devices.items e.1.items) }
+    ensures order { IfOk result (λ made. AreWrittenInOrder D.state D.honest D.moment D.left_since old.now shards known.now.reach (merged known.now.rows) devices.items made.items) }
+    ensures left { IfErr result (λ e. AreLeft D.state D.honest D.moment D.left_since old.now shards known.now.reach (merged known.now.rows) devices.items e.1.items) }
     ensures err { IfErr result (λ e. IsNotWritten old.now.nodes e.0) }
 {
     match make(alloc, old, shards, known, &mut devices) {
         Ok(()) => Ok(devices),
+        Err(refusal) => Err((refusal, devices)),
+    }
+}
+
+// What the old store knows becomes that of the new devices.
+fn carry<D: Device>(
+    alloc: Global,
+    old: &World<D>,
+    shards: u8,
+    devices: Vec<D>,
+) -> Result<Vec<D>, (Refusal, Vec<D>)>
+    requires some { 1 ≤ shards }
+    requires few { shards ≤ max_shards }
+    requires count { vec_len devices ≡ 2 * (shards + 1) }
+    ensures ok { IfOk result (λ made. IsCarriedOver D.state D.honest old.now shards devices.items made.items) }
+    ensures count { IfOk result (λ made. vec_len made ≡ vec_len devices) }
+    ensures back { IfErr result (λ e. vec_len e.1 ≡ vec_len devices) }
+    ensures order { IfOk result (λ made. (reach : AnyReach) × (rows : List AnyVersion) × AreWrittenInOrder D.state D.honest D.moment D.left_since old.now shards reach rows devices.items made.items) }
+    ensures left { IfErr result (λ e. IsLeftOver D.state D.honest D.moment D.left_since old.now shards devices.items e.1.items) }
+    ensures err { IfErr result (λ e. IsNotKnown D.state D.honest old.now e.0 ⊎ IsNotWritten old.now.nodes e.0) }
+{
+    match know(alloc, old) {
+        Ok(known) => carry_known(alloc, old, shards, &known, devices),
         Err(refusal) => Err((refusal, devices)),
     }
 }
@@ -161,12 +183,12 @@ pub fn carry_over<D: Device>(
     ensures count { IfOk result (λ made. vec_len made ≡ vec_len devices) }
     ensures back { IfErr result (λ e. vec_len e.1 ≡ vec_len devices) }
     ensures order { IfOk result (λ made. (reach : AnyReach) × (rows : List AnyVersion) × AreWrittenInOrder D.state D.honest D.moment D.left_since old.new shards reach rows devices.items made.items) }
-    ensures left { IfErr result (λ r. AreLeft D.state D.honest D.moment D.left_since old.new shards devices.items r.1.items) }
+    ensures left { IfErr result (λ r. IsLeftOver D.state D.honest D.moment D.left_since old.new shards devices.items r.1.items) }
     ensures not_up { (e : AnyRefusal) → IsFirstDown D.state D.honest old.old e → IsErr result × IfErr result (λ r. (r.0 ≡ e) × (r.1 ≡ devices)) × (old.new ≡ old.old) }
     ensures err { IfErr result (λ r. CarriesNot D.state D.honest D.moment D.left_since old.old r.0 old.new) }
 {
-    match close(alloc, old) {
-        Ok(known) => carry(alloc, old, shards, &known, devices),
+    match close(old) {
+        Ok(()) => carry(alloc, old, shards, devices),
         Err(refusal) => Err((refusal, devices)),
     }
 }

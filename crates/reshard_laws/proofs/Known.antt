@@ -6,7 +6,7 @@ use Rattle.std.proofs.lemmas.List.Sorted.{IsPermutation-append, IsPermutation-re
 use Rattle.call_turns.proofs.Standing.{is_seen, runs_now, shard_is_seen, shard_is_up}
 use Rattle.call_turns.specs.StoreCalls.{IsNode}
 use Rattle.calls.specs.Carrying.{Reaches}
-use Rattle.calls.specs.Rows.{RowsOf}
+use Rattle.calls.specs.Rows.{KnownOf}
 use Rattle.calls.specs.Views as views
 use Rattle.calls.specs.Views.{NodeView}
 use Rattle.calls.specs.declared.carrying.Reach.{Reach}
@@ -140,8 +140,8 @@ module _ {D : Type 0} (state : D → State) (honest : D → Type 0) (moment : D 
 
       tells : (told : List Version) → TellsShard state honest w.nodes i told → IsPermutation (of_shard shards i all) told
       tells told t =
-          let rows : RowsOf state honest (views.shard h.v) (Ok t.listed) = subst (λ (o : Option (NodeView D)). MatchOption o ⊥ (λ node. RowsOf state honest node (Ok t.listed))) h.at t.tells in
-          subst (IsPermutation (of_shard shards i all)) t.listed_is (told_same shards i all (memory h.v).rows t.listed.items alike (rows.ok up))
+          let shown : KnownOf state honest (views.shard h.v) (Ok t.known) = subst (λ (o : Option (NodeView D)). MatchOption o ⊥ (λ node. KnownOf state honest node (Ok t.known))) h.at t.tells in
+          subst (IsPermutation (of_shard shards i all)) t.rows_are (told_same shards i all (memory h.v).rows t.known.now.rows alike (shown.ok up))
 
     tell_all : (i : ℕ) (told : List Version) → i ≤ shards → TellAll state honest w.nodes i told → IsPermutation (first_shards shards i all) told
     tell_all zero told le is = subst (IsPermutation (first_shards shards zero all)) (none_first shards all ∙ sym is) (IsPermutation-refl (first_shards shards zero all))

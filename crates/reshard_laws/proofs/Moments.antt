@@ -1,5 +1,5 @@
 -- What a stop leaves of the new coordinator, at every moment of a carrying.
-use Rattle.std.proofs.Common.{◌≡◌, ◌⊎◌, ◌+◌, ◌-◌, inl, inr, ⊎_elim, ℕ, false, List, [], ◌∷◌, All, Some, drop, refl, sym, ◌∙◌, ap, subst, arith}
+use Rattle.std.proofs.Common.{◌≡◌, ◌⊎◌, ◌+◌, ◌-◌, inl, inr, ⊎_elim, ℕ, false, List, [], ◌∷◌, ◌++◌, All, Some, drop, refl, sym, ◌∙◌, ap, subst, arith}
 use Rattle.std.proofs.lemmas.List.Elements.{All-head, All-tail}
 use Rattle.calls.specs.Views.{coordinator}
 use Rattle.cluster.specs.Worlds.{WorldView, node_at}
@@ -17,7 +17,7 @@ use Rattle.records.specs.declared.record.Record.TheVariants.{Epoch, Horizon}
 use Rattle.records.specs.Checkpoints.{coordinator_checkpoint, decisions_from}
 use Rattle.records.specs.Identity.{coordinator_number}
 use Rattle.reshard.specs.Made.{devices_of}
-use Rattle.reshard.specs.Written.{AreLeft, AreWrittenInOrder, EndsLog, HasBegunOn, IsEmpty, OnlyBegins}
+use Rattle.reshard.specs.Written.{AreLeft, AreWrittenInOrder, EndsLog, HasBegunOn, IsEmpty, IsLeftOver, OnlyBegins}
 use Rattle.tuples.specs.declared.version.Version.{Version}
 use Rattle.calls.specs.declared.carrying.Reach.{Reach}
 use Rattle.reshard_laws.specs.Moments.{AllOrNothing, LeavesAllOrNothing, NewCoordinatorsAreWhole}
@@ -94,11 +94,6 @@ module _ {D : Type 0} (state : D → State) (honest : D → Type 0) (moment : D 
         (leaves_map moment left_since head.a last.a (HasBeginsOr (checkpoint_of 1 rs)) (NoneOrBeginsOr (checkpoint_of 1 rs)) (λ x is. inr is) tried))
         (subst (λ (d : D). LeavesOnly moment left_since h.b d HasNone) (sym e.1) o.second)
 
-    tried_or_not : (given : List D) (head last : BegunView D) (h : HasBegunOn state honest moment left_since given head) → (last ≡ head) ⊎ EndsLog state honest moment left_since old shards head last → Empty h.a → Empty h.b
-        → Leaves h.a h.b last.a last.b
-    tried_or_not given head last h (inl same) in_a in_b = subst (λ (n : BegunView D). Leaves h.a h.b n.a n.b) (sym same) (begun_leave rs h.a h.b head.a head.b (h.moments in_a in_b))
-    tried_or_not given head last h (inr ends) in_a in_b = ended given head last h ends in_a in_b
-
     -- of all devices, the first two
     first_two : (given made : List D) (a b c d : D) (rest more : List D) → given ≡ a ∷ b ∷ rest → made ≡ c ∷ d ∷ more → All Empty given → (Empty a → Empty b → Leaves a b c d) → LeavesAllOrNothing state honest moment left_since (checkpoint_of 1 rs) given made
     first_two given made a b c d rest more given_is made_is all leaves a' b' c' d' rest' more' given_also made_also =
@@ -117,21 +112,34 @@ module _ {D : Type 0} (state : D → State) (honest : D → Type 0) (moment : D 
       written reach rows w = first_two given made w.begun.a w.begun.b w.ended.last.a w.ended.last.b w.begun.rest (devices_of w.ended.others) w.begun.given_is
           (w.made_is ∙ ap (λ (l : List (BegunView D)). devices_of l) w.ended.new_is) all (ended given w.head w.ended.last w.begun w.ended.ends)
 
-      left_so : AreLeft state honest moment left_since old shards given made → LeavesAllOrNothing state honest moment left_since (checkpoint_of 1 rs) given made
-      left_so (inl (inl same)) = λ a b c d rest more given_is made_is.
+      -- all of them came back as they were
+      stays : made ≡ given → LeavesAllOrNothing state honest moment left_since (checkpoint_of 1 rs) given made
+      stays same = λ a b c d rest more given_is made_is.
           let news : a ∷ b ∷ rest ≡ c ∷ d ∷ more = sym given_is ∙ sym same ∙ made_is in
           let is_c : a ≡ c = cc in
           let is_d : b ≡ d = cc in
           let both = subst (All Empty) given_is all in
           subst (λ (x : D). Leaves a b x d) is_c (subst (λ (x : D). Leaves a b a x) is_d
           (untouched rs a b (All-head Empty a (b ∷ rest) both) (All-head Empty b rest (All-tail Empty a (b ∷ rest) both))))
-      left_so (inl (inr p)) = first_two given made p.a p.b p.later_a p.later_b p.rest p.rest p.old_is p.new_is all (λ in_a in_b. begun_leave rs p.a p.b p.later_a p.later_b (p.moments in_a in_b))
-      left_so (inr (head, begun, last, rest, made_is, how)) = first_two given made begun.a begun.b last.a last.b begun.rest rest begun.given_is made_is all (tried_or_not given head last begun how)
+
+      left_so : (reach : Reach) (rows : List Version) → AreLeft state honest moment left_since old shards reach rows given made → LeavesAllOrNothing state honest moment left_since (checkpoint_of 1 rs) given made
+      left_so reach rows (inl (inl same)) = stays same
+      left_so reach rows (inl (inr p)) = first_two given made p.a p.b p.later_a p.later_b p.rest p.rest p.old_is p.new_is all (λ in_a in_b. begun_leave rs p.a p.b p.later_a p.later_b (p.moments in_a in_b))
+      left_so reach rows (inr (head, begun, nodes, rest, made_is, inl (more, not))) =
+          first_two given made begun.a begun.b head.a head.b begun.rest (devices_of more ++ rest) begun.given_is (made_is ∙ ap (λ (l : List (BegunView D)). devices_of l ++ rest) not) all
+          (λ in_a in_b. begun_leave rs begun.a begun.b head.a head.b (begun.moments in_a in_b))
+      left_so reach rows (inr (head, begun, nodes, rest, made_is, inr e)) =
+          first_two given made begun.a begun.b e.last.a e.last.b begun.rest (devices_of e.others ++ rest) begun.given_is (made_is ∙ ap (λ (l : List (BegunView D)). devices_of l ++ rest) e.new_is) all
+          (ended given head e.last begun e.ends)
+
+      left_over : IsLeftOver state honest moment left_since old shards given made → LeavesAllOrNothing state honest moment left_since (checkpoint_of 1 rs) given made
+      left_over (inl same) = stays same
+      left_over (inr (reach, rows, reached, gathered, left)) = left_so reach rows left
 
   pub new_coordinators_are_whole : NewCoordinatorsAreWhole state honest moment left_since
   new_coordinators_are_whole old v shards given made at runs all =
       let is = sym (carried_is shards v).1 in
       record {
         written = λ reach rows w. subst (λ (l : List Record). LeavesAllOrNothing state honest moment left_since l given made) is (written old v shards at runs given made all reach rows w);
-        left = λ l. subst (λ (r : List Record). LeavesAllOrNothing state honest moment left_since r given made) is (left_so old v shards at runs given made all l);
+        left = λ l. subst (λ (r : List Record). LeavesAllOrNothing state honest moment left_since r given made) is (left_over old v shards at runs given made all l);
       }

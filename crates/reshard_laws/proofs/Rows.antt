@@ -21,7 +21,6 @@ use Rattle.tuples.specs.Versions.{changes_from, collected, of_shard, placed, ver
 use Rattle.tuples.proofs.Named.{shard_below}
 use Rattle.tuples.proofs.Same.{tuple_same}
 use Rattle.versions.specs.Alike.{AreAlike, of_tuple}
-use Rattle.versions.specs.Rows.{AreRows}
 use Rattle.versions.proofs.Alike.{alike_permutation, collected_own}
 use Rattle.reshard_laws.proofs.Sorted.{Strict, strict_filter, strict_weaker}
 
@@ -155,5 +154,6 @@ module _ (shards : ℕ) where
   all_first some (v ∷ vs) = rw (lt-ltb (shard_of shards (tuple_of v.change).object) shards (shard_below shards (tuple_of v.change).object some)) (ap (λ (l : List Version). v ∷ l) (all_first some vs))
 
 -- a shard tells the versions that it knows
-pub told_same : (shards s : ℕ) (all rows told : List Version) → AreAlike rows (of_shard shards s all) → AreRows rows told → IsPermutation (of_shard shards s all) told
-told_same shards s all rows told alike rows_are = IsPermutation-trans _ _ _ (IsPermutation-sym _ _ (alike_permutation rows (of_shard shards s all) alike)) rows_are.same
+pub told_same : (shards s : ℕ) (all rows told : List Version) → AreAlike rows (of_shard shards s all) → AreAlike told rows → IsPermutation (of_shard shards s all) told
+told_same shards s all rows told alike same =
+    IsPermutation-trans _ _ _ (IsPermutation-sym _ _ (alike_permutation rows (of_shard shards s all) alike)) (IsPermutation-sym _ _ (alike_permutation told rows same))

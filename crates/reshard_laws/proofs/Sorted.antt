@@ -6,7 +6,7 @@ use Rattle.std.specs.Ordering.{is_lt, nat_cmp, ordering_then}
 use Rattle.std.specs.declared.cmp.Ordering.{Ordering}
 use Rattle.std.proofs.lemmas.Bool.{cases_Bool, eqb-true}
 use Rattle.std.proofs.lemmas.Cmp.{tied_itself}
-use Rattle.std.proofs.lemmas.List.Sorted.{Contains-permutation, IsPermutation-sym, sorted_far, sum_by-IsPermutation}
+use Rattle.std.proofs.lemmas.List.Sorted.{Contains-permutation, IsPermutation-sym, sum_by-IsPermutation}
 use Rattle.std.proofs.lemmas.List.Sums.{sum_by-cons}
 use Rattle.std.proofs.lemmas.Map.Keys.{ge_from_not_lt}
 use Rattle.tuples.specs.declared.tuple.Tuple.{Tuple}
@@ -17,7 +17,7 @@ use Rattle.tuples.proofs.Ordered.{tuple_total}
 use Rattle.tuples.proofs.Same.{tuple_same}
 use Rattle.versions.specs.Alike.{AreAlike, of_tuple}
 use Rattle.versions.specs.Rows.{version_cmp}
-use Rattle.versions.proofs.Listed.{version_ranks}
+use Rattle.merging.proofs.Ranked.{Ranked, ranked, ranked_filter}
 use Rattle.replay.proofs.Doubting.{each_filter}
 use Rattle.replay.proofs.Rising.{RisesFrom}
 
@@ -169,25 +169,6 @@ module _ (t : Tuple) where
 
   -- ---- in order
 
-  abbrev Ranked : List Version → Type 0
-  Ranked [] = Unit {0}
-  Ranked (v ∷ vs) = AllByRecursion (λ (u : Version). is_lt (version_cmp u v) ≡ false) vs × Ranked vs
-
-  no_later : (v : Version) (xs : List Version) → ((k : ℕ) → k < length xs → is_lt (version_cmp (slice_index_or xs k v) v) ≡ false) → AllByRecursion (λ (u : Version). is_lt (version_cmp u v) ≡ false) xs
-  no_later v [] far = tt
-  no_later v (x ∷ xs) far = (far 0 (omega arith), no_later v xs (λ k lt. far (suc k) (omega (arith, lt))))
-
-  ranked : (xs : List Version) → ((i j : ℕ) (d : Version) → i ≤ j → j < length xs → is_lt (version_cmp (slice_index_or xs j d) (slice_index_or xs i d)) ≡ false) → Ranked xs
-  ranked [] far = tt
-  ranked (x ∷ xs) far = (no_later x xs (λ k lt. far 0 (suc k) x (omega arith) (omega (arith, lt))), ranked xs (λ i j d le lt. far (suc i) (suc j) d (omega (arith, le)) (omega (arith, lt))))
-
-  ranked_filter : (p : Version → Bool) (xs : List Version) → Ranked xs → Ranked (filter p xs)
-  ranked_filter p [] r = tt
-  ranked_filter p (x ∷ xs) r = ⊎_elim
-      (λ here. rw here (each_filter (λ (u : Version). is_lt (version_cmp u x) ≡ false) p xs r.0, ranked_filter p xs r.1))
-      (λ past. rw past (ranked_filter p xs r.1))
-      (cases_Bool (p x))
-
   no_lower : (v u : Version) → is_of v ≡ true → is_of u ≡ true → is_lt (version_cmp u v) ≡ false → v.place ≤ u.place
   no_lower v u own other is =
       let same_v : tuple_of v.change ≡ t = sym (tuple_same t (tuple_of v.change) own) in
@@ -218,7 +199,7 @@ module _ (t : Tuple) where
   pub same_of_tuple : (vs us : List Version) → IsPermutation vs us → IsSorted version_cmp us → Strict 0 (of_tuple t vs) → of_tuple t us ≡ of_tuple t vs
   same_of_tuple vs us same sorted strict =
       same_list 0 0 (of_tuple t vs) (of_tuple t us) strict
-      (rises_ranked 0 (of_tuple t us) (all_above (of_tuple t us)) (all_own us) (ranked_filter is_of us (ranked us (sorted_far _ version_ranks us sorted))))
+      (rises_ranked 0 (of_tuple t us) (all_above (of_tuple t us)) (all_own us) (ranked_filter is_of us (ranked us sorted)))
       (λ k. sym (counted k us) ∙ sum_by-IsPermutation (one_at k) vs us same ∙ counted k vs)
       (λ v has.
       let r = has_in us v has in

@@ -9,7 +9,7 @@ use Rattle.device.specs.Device.{State}
 use Rattle.journal.specs.Records.{LeavesEach, found}
 use Rattle.names.specs.declared.node_name.NodeName.TheVariants.{Coordinator}
 use Rattle.records.specs.declared.record.Record.{Record}
-use Rattle.reshard.specs.Written.{AreLeft, AreWrittenInOrder, IsEmpty}
+use Rattle.reshard.specs.Written.{AreWrittenInOrder, IsEmpty, IsLeftOver}
 use Rattle.tuples.specs.declared.version.Version.{Version}
 
 -- the contents have no record, or what every opening finds to be damage, or all of these
@@ -24,7 +24,7 @@ module _ {D : Type 0} (state : D → State) (honest : D → Type 0) (moment : D 
   -- Whether the devices are written or come back as they are: over honest ones without a record, at every moment.
   pub record StopsLeaveAllOrNothing (old : WorldView D) (v : CoordinatorView D) (shards : ℕ) (given made : List D) : Type 0 where
     pub written : (reach : Reach) (rows : List Version) → AreWrittenInOrder state honest moment left_since old shards reach rows given made → LeavesAllOrNothing (carried_checkpoint shards v) given made
-    pub left : AreLeft state honest moment left_since old shards given made → LeavesAllOrNothing (carried_checkpoint shards v) given made
+    pub left : IsLeftOver state honest moment left_since old shards given made → LeavesAllOrNothing (carried_checkpoint shards v) given made
 
   abbrev pub NewCoordinatorsAreWhole : Type 0
   NewCoordinatorsAreWhole = (old : WorldView D) (v : CoordinatorView D) (shards : ℕ) (given made : List D) → node_at old.nodes Coordinator ≡ Some (coordinator v) → IsRunning state honest v

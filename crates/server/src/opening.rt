@@ -14,7 +14,7 @@ use locked::{Gate, Open, Store, new_bell};
 use node_files::open_all;
 use published::{LogPass, Published};
 use refusal::Refusal;
-use serve_settings::ServeSettings;
+use settings::ServeSettings;
 use sides::{Attempts, Room};
 use std::alloc::Global;
 use std::marker::Brand;

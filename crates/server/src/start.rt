@@ -1,6 +1,6 @@
 // What a server that may begin has, and what it tells of it.
 use locked::LookedOver;
-use serve_settings::ServeSettings;
+use settings::ServeSettings;
 use std::io::Eprint;
 use std::net::TcpListener;
 use std::time::{Clock, Duration, Instant};

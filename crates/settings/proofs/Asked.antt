@@ -18,7 +18,7 @@ use Rattle.clap.specs.declared.parser.matches.ArgMatches.{ArgMatches}
 use Rattle.clap.specs.declared.parser.matches.Found.{Found}
 use Rattle.clap.proofs.ValueTestLemmas.{Accepts-accepts, accepts-Accepts}
 use Rattle.clap.proofs.WalkLemmas.{one_text-rows}
-use Rattle.settings.specs.declared.settings.TheConstants.{MAX_STORE}
+use Rattle.settings.specs.declared.limits.TheConstants.{MAX_STORE}
 use Rattle.tuples.specs.Limits.{max_shards}
 use Rattle.settings.specs.CommandLine.{AsksFor, Gives, IsLine, IsNumber, number, number_or, program}
 use Rattle.settings.proofs.Uses.{Pass, Uses, both, name_of, none, one, rows_of_uses, rules, shards_rule, store_rule, use_words, words_of}

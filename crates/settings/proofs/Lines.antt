@@ -15,7 +15,7 @@ use Rattle.clap.specs.Walk.{Held, Row, Step, Text, Walk, after_step, finished, h
 use Rattle.clap.specs.declared.error.kind.ErrorKind.TheVariants as kind
 use Rattle.clap.proofs.FaultLemmas.{stopped_fault}
 use Rattle.clap.proofs.WalkLemmas.{walk_stopped}
-use Rattle.settings.specs.declared.settings.TheConstants.{MAX_STORE}
+use Rattle.settings.specs.declared.limits.TheConstants.{MAX_STORE}
 use Rattle.tuples.specs.Limits.{max_shards}
 use Rattle.settings.specs.CommandLine.{AsksFor, Gives, IsNumber, joined_word, long_word, program}
 use Rattle.settings.proofs.Uses.{Half, Pass, Uses, both, holding, name_of, named, none, nothing, one, pending_for, row_for, rows_of_uses, rule_for, rules, shards_rule, sim_built, store_rule, use_words, valued, words_of}

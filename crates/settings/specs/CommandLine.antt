@@ -4,7 +4,7 @@ use Rattle.std.specs.Prelude.{◌≡◌, ◌≤◌, ◌⊎◌, ◌∷◌, ◌++�
 use Rattle.std.specs.Prelude.{codes, pos, true}
 use Rattle.std.specs.Option.{option_map_or}
 use Rattle.std.specs.Str.Parse.{IsNumeral, digits_value, without_leading_plus}
-use Rattle.settings.specs.declared.settings.TheConstants.{MAX_STORE}
+use Rattle.settings.specs.declared.limits.TheConstants.{MAX_STORE}
 use Rattle.tuples.specs.Limits.{max_shards}
 use Rattle.clap.specs.Words.{App, IsAmong, Rule, Text, fault_of, new_app, new_rule, with_rule}
 use Rattle.clap.specs.Words.{with_subcommand}
@@ -12,7 +12,6 @@ use Rattle.clap.specs.Simple.{on_top}
 use Rattle.clap.specs.declared.builder.action.ArgAction.TheVariants.{Set}
 use Rattle.clap.specs.declared.builder.value_parser.ValueParser.{ValueParser}
 use Rattle.clap.specs.declared.builder.value_parser.ValueParser.TheVariants.{Signed, Unsigned}
-use Rattle.clap.specs.declared.error.kind.ErrorKind.{ErrorKind}
 use Rattle.clap.specs.declared.error.kind.ErrorKind.TheVariants.{DisplayHelp, DisplayVersion}
 
 -- ---- the command
@@ -99,9 +98,3 @@ pub record AsksFor (words : List Text) (store shards : ℕ) : Type 0 where
 abbrev pub AsksWhatThereIs : List Text → Type 0
 AsksWhatThereIs words = IsAmong DisplayHelp (fault_of program words)
     ⊎ IsAmong DisplayVersion (fault_of program words)
-
--- the status that goes with a kind of error: who asks what there is has been told
-abbrev pub status_of : ErrorKind → ℕ
-status_of DisplayHelp = 0
-status_of DisplayVersion = 0
-status_of _ = 2

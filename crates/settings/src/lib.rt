@@ -1,13 +1,31 @@
-//! The command line of the program.
+//! The command lines of the program: one module a command.
 //!
-//! Keeps: the settings are what the words ask for, and each number is within its range.
-//! Never: leaves a user without an answer: who asks for help, or for what there is not, has been told. Words that ask for settings are refused for memory alone.
-//! Callers rely on: the settings, or the status to end with.
+//! Keeps: each number of the settings is within its range, and the status of words that give none is 0 or 2. Those of a script are what the words ask for.
+//! Never: looks at a folder, at an address or at the words of a request, and leaves no user without an answer: who asks for help, or for what there is not, has been told.
+//! Words that ask for a script are refused for memory alone.
+//! Callers rely on: whether the words are for a command, and its settings, or the status to end with, once the user is told.
+//! Only tested: of the commands but `sim`, that the settings are what the words ask for, that words which ask for some get them, and that 0 is for help and 2 for a mistake.
+//! What help and mistakes print is `clap`'s, and no test here reads it.
 //!
-//! Start at `specs/CommandLine.antt`, which says what words ask for; `settings.rt` reads them, and `command.rt` says which there are.
+//! Start at `specs/CommandLine.antt`, which says what the words of a script ask for, and `sim.rt`, which reads them. `reading.rt` reads those of the other commands, each told
+//! in a module of its own with its options; `parameter.rt` makes the options, and `given.rt` takes what they gave.
 #![tactic(auto)]
 
-mod command;
-mod settings;
+mod call;
+mod dump;
+mod given;
+mod limits;
+mod parameter;
+mod reading;
+mod reshard;
+mod serve;
+mod sim;
+mod telling;
+#[cfg(test)]
+mod tests;
 
-pub use settings::Settings;
+pub use call::CallSettings;
+pub use dump::DumpSettings;
+pub use reshard::ReshardSettings;
+pub use serve::ServeSettings;
+pub use sim::Settings;

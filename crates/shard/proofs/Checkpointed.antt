@@ -59,7 +59,7 @@ stands me g m rs image alike opened some fits =
 
 -- ---- its versions stand in order
 
-rise_of : (n : ℕ) (vs : List Version) → RisesFrom n vs → Rise vs
+pub rise_of : (n : ℕ) (vs : List Version) → RisesFrom n vs → Rise vs
 rise_of n [] rises = tt
 rise_of n (v ∷ []) rises = tt
 rise_of n (v ∷ u ∷ vs) rises = (rises.1.0, rise_of v.place (u ∷ vs) rises.1)

@@ -4,11 +4,15 @@ ghost use Rattle.tuples.specs.Reads.{IsSelection};
 ghost use Rattle.tuples.specs.Walking.{IsCheckSelection};
 ghost use Rattle.tuples.specs.Versions.{there_at};
 ghost use Rattle.shard.specs.declared.replies.ReadReply.TheVariants.{Rows, Behind};
+ghost use Rattle.tuples.specs.declared.tuple.Tuple.{Tuple as AnyTuple};
+ghost use Rattle.versions.specs.Alike.{AreAlike, of_tuple};
 ghost use Rattle.versions.specs.Rows.{AreRows};
+ghost use Rattle.versions.specs.Walks.{Rise};
 ghost use Rattle.shard.specs.Shards.{AreAscendingIds, IsUp, ids, memory};
 
 use crate::{ReadReply, Shard};
 use device::Device;
+use replay::Memory;
 use std::alloc::Global;
 use tuples::{Refusal, Tupleset, User, Userset, Version, WriteId};
 
@@ -26,6 +30,19 @@ impl<D: Device> Shard<D> {
             Ok(ids) => Ok(ids),
             Err(_) => Err(Refusal::NoMemory),
         }
+    }
+
+    /// What it has in memory, to be walked over: nothing is copied.
+    pub fn known(&self) -> Result<&Memory, Refusal>
+        ensures ok { IsUp D.state D.honest self.now → IfOk result (λ known. AreAlike known.now.rows (memory self.now).rows) }
+        ensures rise { IfOk result (λ known. (t : AnyTuple) → Rise (of_tuple t known.now.rows)) }
+        ensures down { IsErrOf result Refusal.Down ↔ (self.now.is_down ≡ true) }
+        ensures err { IfErr result (λ e. e ≡ Refusal.Down) }
+    {
+        if self.journal.is_down() {
+            return Err(Refusal::Down);
+        }
+        Ok(&self.memory)
     }
 
     /// Its versions, by tuple and then by place.

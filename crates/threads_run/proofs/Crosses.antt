@@ -1,7 +1,8 @@
 -- A store may be used by several threads at once: shown part by part, since a search from above runs out of steps.
 use denote.RattleType.{RattleType}
+use denote.Enum.Declared as chosen
 use denote.Struct.Declared as declared
-use denote.Param.Send.{AllSync, IsSend, IsSync, recorded_sync, sendable, struct_sync}
+use denote.Param.Send.{AllSync, EachSend, EachSync, IsSend, IsSync, enum_send, enum_sync, recorded_send, recorded_sync, sendable, struct_sync}
 use Rattle.std.proofs.Crossing.{crosses}
 use Rattle.std.proofs.MapsCrossing.{crosses as maps_cross}
 use Rattle.std.proofs.MapsCrossingOver.{crosses as sets_cross}
@@ -15,6 +16,9 @@ use Rattle.atomic_table.proofs.shared.Seat.TheSendSync as seat
 use Rattle.atomic_table.proofs.shared.Shared.TheSendSync as shared
 use Rattle.atomic_table.specs.contracts.send_lease.SendLease as SendLease
 use Rattle.tuples.specs.contracts.entry.Entry as Entry
+use Rattle.tuples.specs.contracts.tuple.Tuple as Tuple
+use Rattle.tuples.specs.contracts.change.Change as Change
+use Rattle.records.specs.contracts.mark.Mark as Mark
 use Rattle.records.specs.contracts.record.Record as Record
 use Rattle.device.specs.declared.device.Device as Device
 use Rattle.published.specs.contracts.words.Published as Published
@@ -41,17 +45,79 @@ lease_sync T = lease.the_sync T Heap.the_row ghosts heap_send frees
 pub lease_send : (T : RattleType) → IsSend (SendLease.the_row T Heap.the_row ghosts)
 lease_send T = lease.the_send T Heap.the_row ghosts heap_send frees
 
-record_send : IsSend Record.the_row
-record_send = search (sendable, crosses, maps_cross, sets_cross) depth 400 fits 50000
+tuple_send : IsSend Tuple.the_row
+tuple_send = search (sendable, crosses, maps_cross, sets_cross) depth 400 fits 50000
+
+tuple_sync : IsSync Tuple.the_row
+tuple_sync = search (sendable, crosses, maps_cross, sets_cross) depth 400 fits 50000
 
 entry_send : IsSend Entry.the_row
-entry_send = search (sendable, crosses, maps_cross, sets_cross) depth 400 fits 50000
+entry_send = let a = tuple_send in search (sendable, crosses, maps_cross, sets_cross) depth 400 fits 50000
 
 entry_sync : IsSync Entry.the_row
-entry_sync = search (sendable, crosses, maps_cross, sets_cross) depth 400 fits 50000
+entry_sync = let a = tuple_sync in search (sendable, crosses, maps_cross, sets_cross) depth 400 fits 50000
+
+change_send : IsSend Change.the_row
+change_send = let a = tuple_send in search (sendable, crosses, maps_cross, sets_cross) depth 400 fits 50000
+
+change_sync : IsSync Change.the_row
+change_sync = let a = tuple_sync in search (sendable, crosses, maps_cross, sets_cross) depth 400 fits 50000
+
+mark_send : IsSend Mark.the_row
+mark_send = let a = change_send in search (sendable, crosses, maps_cross, sets_cross) depth 400 fits 50000
+
+mark_sync : IsSync Mark.the_row
+mark_sync = let a = change_sync in search (sendable, crosses, maps_cross, sets_cross) depth 400 fits 50000
+
+record_send : IsSend Record.the_row
+record_send =
+    let e = entry_send in
+    let m = mark_send in
+    let each : EachSend (chosen.variants Record.the_type) = (
+      (search (sendable, crosses, maps_cross, sets_cross) depth 400 fits 50000, tt),
+      (
+        (search (sendable, crosses, maps_cross, sets_cross) depth 400 fits 50000, (search (sendable, crosses, maps_cross, sets_cross) depth 400 fits 50000, tt)),
+        (
+          (search (sendable, crosses, maps_cross, sets_cross) depth 400 fits 50000, tt),
+          (
+            (search (sendable, crosses, maps_cross, sets_cross) depth 400 fits 50000, (search (sendable, crosses, maps_cross, sets_cross) depth 400 fits 50000, (search (sendable, crosses, maps_cross, sets_cross) depth 400 fits 50000, (search (sendable, crosses, maps_cross, sets_cross) depth 400 fits 50000, tt)))),
+            (
+              (search (sendable, crosses, maps_cross, sets_cross) depth 400 fits 50000, (search (sendable, crosses, maps_cross, sets_cross) depth 400 fits 50000, tt)),
+              (
+                (search (sendable, crosses, maps_cross, sets_cross) depth 400 fits 50000, tt),
+                ((search (sendable, crosses, maps_cross, sets_cross) depth 400 fits 50000, tt), tt),
+              ),
+            ),
+          ),
+        ),
+      ),
+    ) in
+    recorded_send _ _ _ (Record.the_type).to_one (enum_send (chosen.shape Record.the_type) each)
 
 record_sync : IsSync Record.the_row
-record_sync = search (sendable, crosses, maps_cross, sets_cross) depth 400 fits 50000
+record_sync =
+    let e = entry_sync in
+    let m = mark_sync in
+    let each : EachSync (chosen.variants Record.the_type) = (
+      (search (sendable, crosses, maps_cross, sets_cross) depth 400 fits 50000, tt),
+      (
+        (search (sendable, crosses, maps_cross, sets_cross) depth 400 fits 50000, (search (sendable, crosses, maps_cross, sets_cross) depth 400 fits 50000, tt)),
+        (
+          (search (sendable, crosses, maps_cross, sets_cross) depth 400 fits 50000, tt),
+          (
+            (search (sendable, crosses, maps_cross, sets_cross) depth 400 fits 50000, (search (sendable, crosses, maps_cross, sets_cross) depth 400 fits 50000, (search (sendable, crosses, maps_cross, sets_cross) depth 400 fits 50000, (search (sendable, crosses, maps_cross, sets_cross) depth 400 fits 50000, tt)))),
+            (
+              (search (sendable, crosses, maps_cross, sets_cross) depth 400 fits 50000, (search (sendable, crosses, maps_cross, sets_cross) depth 400 fits 50000, tt)),
+              (
+                (search (sendable, crosses, maps_cross, sets_cross) depth 400 fits 50000, tt),
+                ((search (sendable, crosses, maps_cross, sets_cross) depth 400 fits 50000, tt), tt),
+              ),
+            ),
+          ),
+        ),
+      ),
+    ) in
+    recorded_sync _ _ _ (Record.the_type).to_one (enum_sync (chosen.shape Record.the_type) each)
 
 launch_send : IsSend Launch.the_row
 launch_send = let a = record_send in search (list_send, sendable, crosses, maps_cross, sets_cross) depth 400 fits 50000

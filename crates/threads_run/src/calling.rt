@@ -23,8 +23,7 @@ fn add_namespace(
     name: &str,
 ) -> Result<(), Refusal> {
     namespaces.reserve(1)?;
-    let bytes = Vec::from_slice(alloc, name.as_bytes())?;
-    let namespace = Namespace::from_vec(bytes)?;
+    let namespace = Namespace::parse(alloc, name.as_bytes())?;
     namespaces.push_reserved(namespace);
     Ok(())
 }

@@ -1,5 +1,6 @@
 pub mod Same
 pub mod Ordered
+mod Ascending
 pub mod Sums
 pub mod Cuts
 pub mod Spelling

@@ -58,7 +58,7 @@ tuple_eq_refl a = ap is_eq (tied_itself tuple_total a)
 pub tuple_eq_from_same : (a b : Tuple) → a ≡ b → tuple_eq a b ≡ true
 tuple_eq_from_same a b e = ap (λ (t : Tuple). tuple_eq a t) (sym e) ∙ tuple_eq_refl a
 
-same_tests : (x y : Bool) → (x ≡ true → y ≡ true) → (y ≡ true → x ≡ true) → x ≡ y
+pub same_tests : (x y : Bool) → (x ≡ true → y ≡ true) → (y ≡ true → x ≡ true) → x ≡ y
 same_tests true y f g = sym (f refl)
 same_tests false true f g = absurd (let h : false ≡ true = g refl in cc)
 same_tests false false f g = refl

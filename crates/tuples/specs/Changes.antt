@@ -1,12 +1,12 @@
 -- What changes and conditions name, and which lists of them make a write.
-use Rattle.std.specs.Prelude.{◌≡◌, ◌≤◌, Bool, false, List, [], ◌∷◌, length, map, All}
+use Rattle.std.specs.Prelude.{◌≡◌, ◌≤◌, Bool, true, false, ◌&&◌, List, [], ◌∷◌, length, map, All}
 use Rattle.std.specs.List.{list_any}
 use Rattle.tuples.specs.declared.tuple.Tuple.{Tuple}
 use Rattle.tuples.specs.declared.change.Change.{Change}
 use Rattle.tuples.specs.declared.change.Change.TheVariants.{Touch, Delete}
 use Rattle.tuples.specs.declared.change.Condition.{Condition}
 use Rattle.tuples.specs.Limits.{max_changes, max_conditions}
-use Rattle.tuples.specs.Order.{tuple_eq}
+use Rattle.tuples.specs.Order.{tuple_eq, tuple_lt}
 use Rattle.tuples.specs.Texts.{IsTuple}
 
 -- the tuple that the change changes
@@ -28,6 +28,12 @@ has_tuple t = list_any (tuple_eq t)
 abbrev pub AreDistinct : List Tuple → Type 0
 AreDistinct [] = Unit {0}
 AreDistinct (t ∷ ts) = (has_tuple t ts ≡ false) × AreDistinct ts
+
+-- each stands before the next one
+abbrev pub are_ascending : List Tuple → Bool
+are_ascending [] = true
+are_ascending (t ∷ []) = true
+are_ascending (t ∷ u ∷ ts) = tuple_lt t u && are_ascending (u ∷ ts)
 
 -- the changes and conditions of a write, or of one shard's part of it: none twice, within the limits, each tuple in its grammar
 pub record IsPart (changes : List Change) (conditions : List Condition) : Type 0 where

@@ -1,5 +1,6 @@
 pub mod Limits
 pub mod Names
+pub mod Short
 pub mod Order
 pub mod Texts
 pub mod Parsing

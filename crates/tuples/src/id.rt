@@ -1,5 +1,5 @@
 // The id of an object or of a user.
-ghost use Rattle.std.specs.Prelude.{◌≡◌, IfOk, IfErr};
+ghost use Rattle.std.specs.Prelude.{◌≡◌};
 ghost use Rattle.tuples.specs.Names.{IsId};
 ghost use Rattle.tuples.specs.Parsing.{Parses, own_text};
 
@@ -29,23 +29,16 @@ impl Model for Id {
 }
 
 impl Id {
-    /// An id of these bytes, which takes no memory; `BadTuple` where they are none.
-    pub fn from_vec(bytes: Vec<u8>) -> Result<Self, Refusal>
-        ensures ok { IfOk result (λ n. (n ≡ bytes.items) × IsId bytes.items) }
-        ensures err { IfErr result (λ e. (e ≡ Refusal.BadTuple) × (IsId bytes.items → ⊥)) }
+    /// An id of these bytes; `BadTuple` where they are none.
+    pub fn parse(alloc: Global, bytes: &[u8]) -> Result<Self, Refusal>
+        ensures { Parses IsId own_text bytes.now result }
     {
-        if !is_id(&bytes) {
+        if !is_id(bytes) {
             return Err(Refusal::BadTuple);
         }
         Ok(Self {
-            name: Name::from_vec(bytes),
+            name: Name::from_slice(alloc, bytes)?,
         })
-    }
-
-    pub(crate) fn parse(alloc: Global, bytes: &[u8]) -> Result<Self, Refusal>
-        ensures { Parses IsId own_text bytes.now result }
-    {
-        Self::from_vec(Vec::from_slice(alloc, bytes)?)
     }
 
     pub fn as_bytes(&self) -> &[u8]

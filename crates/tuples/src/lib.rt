@@ -50,4 +50,4 @@ pub use tuple::Tuple;
 pub use tupleset::Tupleset;
 pub use user::User;
 pub use version::Version;
-pub use write::Write;
+pub use write::{Write, are_changes_distinct, are_conditions_distinct};

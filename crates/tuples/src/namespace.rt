@@ -1,5 +1,5 @@
 // The name of a namespace.
-ghost use Rattle.std.specs.Prelude.{◌≡◌, IfOk, IfErr};
+ghost use Rattle.std.specs.Prelude.{◌≡◌};
 ghost use Rattle.tuples.specs.Names.{IsName};
 ghost use Rattle.tuples.specs.Parsing.{Parses, own_text};
 
@@ -29,23 +29,16 @@ impl Model for Namespace {
 }
 
 impl Namespace {
-    /// A namespace of these bytes, which takes no memory; `BadTuple` where they are none.
-    pub fn from_vec(bytes: Vec<u8>) -> Result<Self, Refusal>
-        ensures ok { IfOk result (λ n. (n ≡ bytes.items) × IsName bytes.items) }
-        ensures err { IfErr result (λ e. (e ≡ Refusal.BadTuple) × (IsName bytes.items → ⊥)) }
+    /// A namespace of these bytes; `BadTuple` where they are none.
+    pub fn parse(alloc: Global, bytes: &[u8]) -> Result<Self, Refusal>
+        ensures { Parses IsName own_text bytes.now result }
     {
-        if !is_name(&bytes) {
+        if !is_name(bytes) {
             return Err(Refusal::BadTuple);
         }
         Ok(Self {
-            name: Name::from_vec(bytes),
+            name: Name::from_slice(alloc, bytes)?,
         })
-    }
-
-    pub(crate) fn parse(alloc: Global, bytes: &[u8]) -> Result<Self, Refusal>
-        ensures { Parses IsName own_text bytes.now result }
-    {
-        Self::from_vec(Vec::from_slice(alloc, bytes)?)
     }
 
     pub fn as_bytes(&self) -> &[u8]

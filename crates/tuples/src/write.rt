@@ -1,6 +1,6 @@
 // Whole writes.
 ghost use Rattle.std.specs.Prelude.{◌≡◌, ◌≢◌, ◌<◌, ◌⊎◌, ◌↔◌, [], All, length, IfOk, IfErr, IsErrOf, IsTrue};
-ghost use Rattle.tuples.specs.Changes.{AreDistinct, IsWrite, changed, conditioned, has_tuple};
+ghost use Rattle.tuples.specs.Changes.{AreDistinct, IsWrite, are_ascending, changed, conditioned, has_tuple};
 ghost use Rattle.tuples.specs.Limits.{max_changes, max_conditions};
 ghost use Rattle.tuples.specs.Texts.{IsTuple};
 
@@ -144,7 +144,31 @@ fn names_condition(tuple: &Tuple, conditions: &[Condition]) -> bool
     false
 }
 
-fn are_changes_distinct(changes: &[Change]) -> bool
+// Whether each change's tuple stands before that of the next one. Then none stands twice, which one look at each change shows.
+fn are_changes_ascending(changes: &[Change]) -> bool
+    ensures { result ≡ are_ascending (changed changes.now) }
+{
+    for (i, change) in changes.iter().enumerate() {
+        let Some(next) = changes.get(i + 1) else {
+            return true;
+        };
+        if !change.tuple().is_before(next.tuple()) {
+            return false;
+        }
+    }
+    true
+}
+
+/// Whether no two changes name one tuple.
+#[tactic(auto, using(crate::proofs::Ascending::ascending_distinct))]
+pub fn are_changes_distinct(changes: &[Change]) -> bool
+    ensures { IsTrue result ↔ AreDistinct (changed changes.now) }
+{
+    are_changes_ascending(changes) || are_changes_apart(changes)
+}
+
+// The same, by a look at each two of them.
+fn are_changes_apart(changes: &[Change]) -> bool
     ensures { IsTrue result ↔ AreDistinct (changed changes.now) }
 {
     for (i, change) in changes.iter().enumerate() {
@@ -155,7 +179,8 @@ fn are_changes_distinct(changes: &[Change]) -> bool
     true
 }
 
-fn are_conditions_distinct(conditions: &[Condition]) -> bool
+/// Whether no two conditions name one tuple.
+pub fn are_conditions_distinct(conditions: &[Condition]) -> bool
     ensures { IsTrue result ↔ AreDistinct (conditioned conditions.now) }
 {
     for (i, condition) in conditions.iter().enumerate() {

@@ -76,7 +76,7 @@ fn lowest_set(alloc: Global) -> Result<Userset, AllocError>
 fn first_namespace(alloc: Global) -> Result<Namespace, AllocError>
     ensures { IfOk result (λ n. n ≡ 48 ∷ []) }
 {
-    match Namespace::from_vec(vec![in alloc; b'0']?) {
+    match Namespace::parse(alloc, b"0") {
         Ok(namespace) => Ok(namespace),
         Err(_) => Err(AllocError),
     }
@@ -87,7 +87,7 @@ fn relation_or_first(alloc: Global, relation: &Option<Relation>) -> Result<Relat
 {
     match relation {
         Some(relation) => relation.clone(),
-        None => match Relation::from_vec(vec![in alloc; b'0']?) {
+        None => match Relation::parse(alloc, b"0") {
             Ok(relation) => Ok(relation),
             Err(_) => Err(AllocError),
         },
@@ -98,7 +98,7 @@ fn relation_or_first(alloc: Global, relation: &Option<Relation>) -> Result<Relat
 fn first_id(alloc: Global) -> Result<Id, AllocError>
     ensures { IfOk result (λ id. id ≡ 33 ∷ []) }
 {
-    match Id::from_vec(vec![in alloc; b'!']?) {
+    match Id::parse(alloc, b"!") {
         Ok(id) => Ok(id),
         Err(_) => Err(AllocError),
     }

@@ -7,20 +7,16 @@
 //! Callers rely on: the status, 0 at the end of the script, of the requests or of the last connection, 1 where files, nodes, the address, a request, a read
 //! or a write failed or there was no memory, 2 for a command line that can't be read.
 //!
-//! Start at `serve` of `server`, `dump_folder` of `dumping`, `reshard_folder` of `reshard`, `call` of `calling` and `sim` of `life`; `serve_settings`,
-//! `dump_settings`, `reshard_settings`, `call_settings` and `settings` read the command line.
+//! Start at `serve` of `server`, `dump_folder` of `dumping`, `reshard_folder` of `reshard`, `call` of `calling` and `sim` of `life`; `settings` reads
+//! the command line.
 #![tactic(auto)]
 
-use call_settings::CallSettings;
 use calling::call;
-use dump_settings::DumpSettings;
 use dumping::dump_folder;
 use life::sim;
 use reshard::{Folders, reshard_folder};
-use reshard_settings::ReshardSettings;
-use serve_settings::ServeSettings;
 use server::serve;
-use settings::Settings;
+use settings::{CallSettings, DumpSettings, ReshardSettings, ServeSettings, Settings};
 use std::net::{Net, TcpListener, TcpStream};
 use std::process::ExitCode;
 use std::rt::Runtime;

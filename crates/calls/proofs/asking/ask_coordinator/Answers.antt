@@ -1,4 +1,5 @@
 -- The clauses of decide and of a checkpoint are the fields of their answers.
+use Rattle.std.proofs.Common.{rules}
 use Rattle.calls.proofs.asking.ask_coordinator.Goals as goal
 
 pub returns-in-Decide : goal.returns-in-Decide
@@ -27,3 +28,6 @@ returns-in-Checkpoint g c = rw c.in-Checkpoint.is (record {
   cause = c.checkpoint.ensures.cause;
   err = c.checkpoint.ensures.err;
 })
+
+pub returns-in-Heads : goal.returns-in-Heads
+returns-in-Heads g c = search rules

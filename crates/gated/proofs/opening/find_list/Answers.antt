@@ -1,4 +1,4 @@
-use Rattle.std.proofs.Common.{map, ◌∙◌}
+use Rattle.std.proofs.Common.{map, ◌∙◌, rules}
 use Rattle.std.proofs.lemmas.Result.{IfOk-weaker}
 use Rattle.gated.proofs.Opens.{read_moments, synced_since, found_list}
 use Rattle.gated.proofs.opening.find_list.Goals as goal
@@ -24,3 +24,6 @@ returns-clause-any_moment g c = λ hon.
     read_moments g.D.Device.moment g.D.Device.left_since g.D.Device.state old one mid c.read_whole.new.device (c.len.ensures.keeps hon) (c.in-Ok-sync.ensures.ok hon_one)
     (λ x is. g.met.D.Device.only_now old x hon is) (λ x is. g.met.D.Device.only_now one x hon_one is)
     (c.len.ensures.time hon) (c.sync.ensures.time hon_one) (c.read_whole.ensures.any_moment hon_mid)
+
+pub returns-clause-ready : goal.returns-clause-ready
+returns-clause-ready g c = search rules

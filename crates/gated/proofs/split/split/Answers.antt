@@ -1,4 +1,5 @@
 use Rattle.std.proofs.Common.{ℕ, ◌+◌, List, length, sym, subst, arith, Result, Ok, Err, IfErr}
+use Rattle.std.proofs.lemmas.Grind.{common_steps}
 use Rattle.gated.proofs.Splitting.{Reads, reads_more, reads_damaged, take-left}
 use Rattle.gated.proofs.split.split.Goals as goal
 
@@ -17,3 +18,6 @@ loop-end-preserved c =
     let body = rw (c.in_ok-body.ensures.ok_part, take-left c.loop-end.end content) at c.whole_body.ensures in
     subst (λ (l : List (List ℕ)). Reads content l (c.loop-end.end + (5 + length c.in_ok-body.body.now))) (sym c.in-Ok.ensures)
     (reads_more content _ c.loop-end.end c.loop-end.invariant c.in_ok-body.body.now _ (λ i. let fits = c.type_inv.content i in omega (arith, fits)) c.loop-end-test.true body.0 body.1 (omega arith))
+
+pub returns-clause-ok : goal.returns-clause-ok
+returns-clause-ok c = grind (arith, common_steps)

@@ -2,6 +2,7 @@ use Rattle.std.proofs.Common.{◌+◌, ◌<◌, get_or, length, refl, ap, arith,
 use Rattle.journal.specs.Beginnings.{BegunView}
 use Rattle.journal.specs.Records.{HasRecords}
 use Rattle.records.specs.Identity.{Identity}
+use Rattle.merging.specs.Merging.{merged}
 use Rattle.reshard.specs.Made.{shard_first}
 use Rattle.reshard.proofs.Filled.{honest_kept, one_so_far}
 use Rattle.reshard.proofs.Written.{keeps_first_set}
@@ -21,9 +22,9 @@ loop-shard-preserved g c =
     let state = g.D.Device.state in
     let new = c.fill_shard.new.begun in
     let within : c.loop-shard.shard + 1 < length c.loop-shard.begun = omega (arith, before.count_is, c.requires.count, c.loop-shard-test.true) in
-    one_so_far state g.D.Device.honest c.args.store c.args.shards c.args.reach c.args.rows.now c.args.begun.now c.loop-shard.shard (c.loop-shard.shard + 1) c.loop-shard.begun was new
+    one_so_far state g.D.Device.honest c.args.store c.args.shards c.args.reach (merged c.args.rows.now) c.args.begun.now c.loop-shard.shard (c.loop-shard.shard + 1) c.loop-shard.begun was new
     before refl within (ap (λ (d : BegunView _). get_or c.loop-shard.begun (c.loop-shard.shard + 1) d) c.index-begun-shard.is) c.fill_shard.ensures.honest
-    (λ hon_a hon_b. subst (λ (me : Identity). HasRecords (state new.a) (state new.b) (shard_first me c.args.reach c.args.rows.now)) c.shard-me.ensures (c.in_ok-fill_shard.ensures.ok hon_a hon_b))
+    (λ hon_a hon_b. subst (λ (me : Identity). HasRecords (state new.a) (state new.b) (shard_first me c.args.reach (merged c.args.rows.now))) c.shard-me.ensures (c.in_ok-fill_shard.ensures.ok hon_a hon_b))
 
 pub returns-in_err-fill_shard-clause-head : goal.returns-in_err-fill_shard-clause-head
 returns-in_err-fill_shard-clause-head g c = keeps_first_set c.args.begun.now c.loop-shard.begun (c.loop-shard.shard + 1) c.loop-shard.shard c.fill_shard.new.begun refl c.loop-shard.invariant.head

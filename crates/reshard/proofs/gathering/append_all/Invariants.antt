@@ -1,5 +1,6 @@
-use Rattle.reshard.proofs.Gathered.{SoFar}
+use Rattle.merging.specs.Merging.{all_of}
+use Rattle.reshard.specs.Gathering.{TellAll}
 use Rattle.reshard.proofs.gathering.append_all.Given as goal
 
 abbrev pub invariant-loop-shard : goal.invariant-loop-shard
-invariant-loop-shard g l = SoFar g.D.Device.state g.D.Device.honest l.world.nodes l.shard l.fn.rows.items l.rows.items
+invariant-loop-shard g l = TellAll g.D.Device.state g.D.Device.honest l.world.nodes l.shard (all_of l.rows)

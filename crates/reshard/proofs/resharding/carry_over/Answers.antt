@@ -1,6 +1,6 @@
-use Rattle.std.proofs.Common.{inl, inr, ⊎_elim, refl, sym}
+use Rattle.std.proofs.Common.{inl, inr, ⊎_elim, ◌⊎◌, refl}
 use Rattle.std.proofs.lemmas.Result.{IfErr-weaker}
-use Rattle.reshard.specs.Refusing.{IsNotWritten}
+use Rattle.reshard.specs.Refusing.{IsNotKnown, IsNotWritten}
 use Rattle.reshard.proofs.Caring.{cared_cares}
 use Rattle.reshard.proofs.Down.{first_is_one, none_is_down}
 use Rattle.reshard.proofs.resharding.carry_over.Goals as goal
@@ -13,8 +13,8 @@ returns-in-Ok-clause-not_up g c = λ e down. absurd (none_is_down g.D.Device.sta
 
 pub returns-in-Ok-clause-err : goal.returns-in-Ok-clause-err
 returns-in-Ok-clause-err g c =
-    IfErr-weaker c.carry.result (λ e. IsNotWritten c.close.new.old.nodes e.0) _
-    (λ e unwritten. inr (inr (cared_cares g.D.Device.state g.D.Device.honest g.D.Device.moment g.D.Device.left_since c.args.old.now c.close.new.old c.in-Ok.ensures.cared.1, inr unwritten)))
+    IfErr-weaker c.carry.result (λ e. IsNotKnown g.D.Device.state g.D.Device.honest c.close.new.old e.0 ⊎ IsNotWritten c.close.new.old.nodes e.0) _
+    (λ e why. inr (inr (cared_cares g.D.Device.state g.D.Device.honest g.D.Device.moment g.D.Device.left_since c.args.old.now c.close.new.old c.in-Ok.ensures.cared.1, why)))
     c.carry.ensures.err
 
 pub returns-in-Err-clause-not_up : goal.returns-in-Err-clause-not_up
@@ -24,7 +24,4 @@ returns-in-Err-clause-not_up g c = λ e down. ⊎_elim
     c.in-Err.ensures.err
 
 pub returns-in-Err-clause-err : goal.returns-in-Err-clause-err
-returns-in-Err-clause-err g c = ⊎_elim
-    (λ nothing. inl nothing)
-    (λ up. ⊎_elim (λ refused. inr (inl refused)) (λ unknown. inr (inr (unknown.0, inl unknown.1))) up.1)
-    c.in-Err.ensures.err
+returns-in-Err-clause-err g c = ⊎_elim (λ nothing. inl nothing) (λ up. inr (inl up.1)) c.in-Err.ensures.err

@@ -2,18 +2,19 @@ use Rattle.std.proofs.Common.{◌≡◌, ◌⊎◌, ◌+◌, ◌++◌, ◌∙◌
 use Rattle.std.proofs.lemmas.Result.{IfErr-weaker, on_ok_weaker}
 use Rattle.cluster.proofs.Places.{whole}
 use Rattle.journal.specs.Beginnings.{BegunView}
+use Rattle.merging.specs.Merging.{merged}
 use Rattle.refusal.specs.declared.refusal.Refusal.{Refusal}
-use Rattle.refusal.specs.declared.refusal.Refusal.TheVariants.{Down}
+use Rattle.refusal.specs.declared.refusal.Refusal.TheVariants.{Down, NoMemory}
 use Rattle.std.specs.Result.{OnOk}
 use Rattle.tuples.specs.declared.version.Version.{Version}
 use Rattle.reshard.specs.Made.{AreHonest, HasLog, HaveShards}
 use Rattle.reshard.specs.Refusing.{IsNotWritten, LacksLog}
 use Rattle.reshard.specs.Written.{EndsLast, HasTried}
-use Rattle.reshard.proofs.Written.{ends_last_weaker, first_begun, head_tried, on_ok_always, written_not}
+use Rattle.reshard.proofs.Written.{ends_last_weaker, first_begun, head_tried, on_ok_always, tried_weaker, written_not}
 use Rattle.reshard.proofs.resharding.write.Goals as goal
 
 pub returns-in_err-begin_all-clause-so_far : goal.returns-in_err-begin_all-clause-so_far
-returns-in_err-begin_all-clause-so_far g c = head_tried g.D.Device.state g.D.Device.honest g.D.Device.moment g.D.Device.left_since c.args.old.now c.args.shards c.args.devices.now.items c.begin_all.new.devices.items c.begin_all.new.begun.items c.begin_all.ensures.head
+returns-in_err-begin_all-clause-so_far g c = head_tried g.D.Device.state g.D.Device.honest g.D.Device.moment g.D.Device.left_since c.args.old.now c.args.shards c.args.known.now.reach (merged c.args.known.now.rows) c.args.devices.now.items c.begin_all.new.devices.items c.begin_all.new.begun.items c.begin_all.ensures.head
 
 pub returns-clause-count : goal.returns-clause-count
 returns-clause-count g c = on_ok_always (c.begin_all.new.begun.len ≡ c.args.shards + 1) c.fill.result c.in_ok-begin_all.ensures.ok
@@ -39,7 +40,7 @@ returns-clause-each g c = λ all.
     let reach = c.args.known.now.reach in
     let were = subst (AreHonest honest) (sym c.deref_mut.ensures.value) (c.in_ok-begin_all.ensures.honest all) in
     on_ok_weaker c.fill.result
-    (λ have. subst (HaveShards state old.store shards reach c.args.known.now.rows.items shards) (sym same) (subst (λ (rows : List Version). HaveShards state old.store shards reach rows shards new) c.deref.ensures.value have))
+    (subst (HaveShards state old.store shards reach (merged c.args.known.now.rows) shards) (sym same))
     (c.fill.ensures.each were)
 
 pub returns-clause-log : goal.returns-clause-log
@@ -63,7 +64,7 @@ returns-clause-order g c =
     let old = c.args.old.now in
     let shards = c.args.shards in
     let reach = c.args.known.now.reach in
-    let rows = c.args.known.now.rows.items in
+    let rows = (merged c.args.known.now.rows) in
     let given = c.args.devices.now.items in
     let fine = All honest given in
     let f = first_begun state honest moment since old shards given c.begin_all.new.devices.items b.items shards (omega (arith, c.in_ok-begin_all.ensures.ok, b.ok.0)) c.in_ok-begin_all.ensures.head in
@@ -73,8 +74,7 @@ returns-clause-order g c =
       f.0,
       f.3,
       ends_last_weaker state honest moment since old shards reach rows (AreHonest honest c.deref_mut.result.now) fine f.0 (take b.len (new ++ drop (length new) b.items)) were
-          (subst (EndsLast state honest moment since old shards reach rows (AreHonest honest c.deref_mut.result.now) f.0) (sym same)
-          (subst (λ (rs : List Version). EndsLast state honest moment since old shards reach rs (AreHonest honest c.deref_mut.result.now) f.0 new) c.deref.ensures.value ended)),
+          (subst (EndsLast state honest moment since old shards reach rows (AreHonest honest c.deref_mut.result.now) f.0) (sym same) ended),
     ))
     (c.fill.ensures.last f.0 f.1 (c.deref_mut.ensures.value ∙ f.2))
 
@@ -89,11 +89,19 @@ returns-clause-so_far g c =
     let since = g.D.Device.left_since in
     let old = c.args.old.now in
     let shards = c.args.shards in
+    let reach = c.args.known.now.reach in
+    let rows = merged c.args.known.now.rows in
     let given = c.args.devices.now.items in
     let f = first_begun state honest moment since old shards given c.begin_all.new.devices.items b.items shards (omega (arith, c.in_ok-begin_all.ensures.ok, b.ok.0)) c.in_ok-begin_all.ensures.head in
-    inr (f.0, f.3, subst (HasTried state honest moment since old shards f.0) (sym same) (c.fill.ensures.tried f.0 f.1 (c.deref_mut.ensures.value ∙ f.2)))
+    let were : All honest given → AreHonest honest c.deref_mut.result.now = λ all. subst (AreHonest honest) (sym c.deref_mut.ensures.value) (c.in_ok-begin_all.ensures.honest all) in
+    inr (
+      f.0,
+      f.3,
+      tried_weaker state honest moment since old shards reach rows (AreHonest honest c.deref_mut.result.now) (All honest given) f.0 (take b.len (new ++ drop (length new) b.items)) were
+          (subst (HasTried state honest moment since old shards reach rows (AreHonest honest c.deref_mut.result.now) f.0) (sym same) (c.fill.ensures.tried f.0 f.1 (c.deref_mut.ensures.value ∙ f.2))),
+    )
 
 pub returns-clause-err : goal.returns-clause-err
 returns-clause-err g c =
     let nodes = c.args.old.now.nodes in
-    IfErr-weaker c.fill.result (λ e. (e ≡ Down) ⊎ LacksLog nodes e) (IsNotWritten nodes) (λ e why. written_not nodes e why) c.fill.ensures.err
+    IfErr-weaker c.fill.result (λ e. (e ≡ Down) ⊎ ((e ≡ NoMemory) ⊎ LacksLog nodes e)) (IsNotWritten nodes) (λ e why. written_not nodes e why) c.fill.ensures.err

@@ -1,4 +1,4 @@
-use Rattle.std.proofs.Common.{◌≡◌, ◌≤◌, ◌<◌, ◌+◌, [], length, false, refl, sym, subst, arith}
+use Rattle.std.proofs.Common.{◌≡◌, ◌≤◌, ◌<◌, ◌+◌, [], length, false, refl, sym, subst, arith, rules}
 use Rattle.gated.specs.Gated.{IsReady, LogView, max_device}
 use Rattle.gated.proofs.Appends.{room_first}
 use Rattle.gated.proofs.WrittenAhead.{none_ahead, ready_of}
@@ -33,3 +33,9 @@ invariant_of-self g c = (
       let len = c.append_at.auto.buf in
       record { ahead = []; is = none_ahead new (c.self.inside.end + length c.append_at.new.buf) (subst (λ n. IsReady new (c.self.inside.end + n)) (sym len) ready) },
 )
+
+pub returns-in-Ok-clause-ok : goal.returns-in-Ok-clause-ok
+returns-in-Ok-clause-ok g c = search rules
+
+pub returns-in-Err-clause-any_moment : goal.returns-in-Err-clause-any_moment
+returns-in-Err-clause-any_moment g c = search rules

@@ -1,4 +1,4 @@
-use Rattle.std.proofs.Common.{◌≡◌, ℕ, [], false, subst}
+use Rattle.std.proofs.Common.{◌≡◌, ℕ, [], false, subst, rules}
 use Rattle.gated.specs.Gated.{HasList, IsReady, LogView}
 use Rattle.gated.proofs.Cleared.{none_listed}
 use Rattle.gated.proofs.WrittenAhead.{ready_of}
@@ -11,3 +11,21 @@ returns-then-self-eq0-clause-ok g c =
     subst P c.self.view_is (λ hon up.
     let has = c.self.invariant.1 hon up in
     none_listed s (subst (λ (n : ℕ). IsReady s n) c.if-self-eq0.true (ready_of s c.self.inside.end c.self.inside.at has.ahead has.is)))
+
+pub invariant_of-self : goal.invariant_of-self
+invariant_of-self g c = search rules
+
+pub returns-then-self-eq0-clause-any_moment : goal.returns-then-self-eq0-clause-any_moment
+returns-then-self-eq0-clause-any_moment g c = search rules
+
+pub returns-then-self-eq0-clause-ahead : goal.returns-then-self-eq0-clause-ahead
+returns-then-self-eq0-clause-ahead g c = search rules
+
+pub returns-then-self-eq0-clause-up : goal.returns-then-self-eq0-clause-up
+returns-then-self-eq0-clause-up g c = search rules
+
+pub returns-then-self-eq0-clause-none : goal.returns-then-self-eq0-clause-none
+returns-then-self-eq0-clause-none g c = search rules
+
+pub returns-then-self-eq0-clause-closed : goal.returns-then-self-eq0-clause-closed
+returns-then-self-eq0-clause-closed g c = search rules

@@ -1,4 +1,4 @@
-use Rattle.std.proofs.Common.{◌≡◌, ◌++◌, List, false, sym, ◌∙◌, ap, subst, arith}
+use Rattle.std.proofs.Common.{◌≡◌, ◌++◌, List, false, sym, ◌∙◌, ap, subst, arith, rules}
 use Rattle.std.proofs.lemmas.List.{append-nil}
 use Rattle.journal.specs.Records.{View, HasRecords, HasOldOrNew, LeavesBoth, durable_of}
 use Rattle.records.specs.declared.record.Record.{Record}
@@ -49,3 +49,6 @@ returns-in-Ok-clause-ok g c =
     subst P c.self.view_is (λ hon_a hon_b.
     let led = (c.self.invariant.1 c.if-self.false).2 hon_a hon_b in
     (c.in-Ok.ensures.ok _ hon_a hon_b led, led_have sa sb _ _ (c.in-Ok.ensures.led _ hon_a hon_b led)))
+
+pub returns-in-Err-clause-err : goal.returns-in-Err-clause-err
+returns-in-Err-clause-err g c = search rules

@@ -1,0 +1,173 @@
+"""A store that is carried over there and back by a process that is killed, again and again, at moments that a seed chooses."""
+import os
+import random
+import shutil
+import subprocess
+import time
+from collections import Counter
+
+from resharding.asking import DONE, LIMIT, at, dumped, fault, must, resharded, resharding, script
+
+FEW, MANY = 2, 5
+# How many tuples a write touches, and how many of before each but the first deletes.
+TOUCHES, DELETES = 60, 4
+# The last kill may come behind a run.
+SPREAD = 1.1
+UNEVEN = "no kill fell within the writing"
+# How often a kill is aimed at the writing where none has fallen within it.
+AIMED = 20
+
+
+class Store:
+    """What was written, and so what each place has."""
+
+    def __init__(self, count):
+        self.places = [frozenset()]
+        self.lines = []
+        written = []
+        for first in range(0, count, TOUCHES):
+            touched = [f"doc:{number:07}#viewer@u{number % 97:02}" for number in range(first, min(first + TOUCHES, count))]
+            gone = written[len(written) // 2 :][:DELETES]
+            self.lines.append(" ".join(["write", *("+" + tuple for tuple in touched), *("-" + tuple for tuple in gone)]))
+            self.places.append(self.places[-1] - frozenset(gone) | frozenset(touched))
+            written = [tuple for tuple in written if tuple not in gone] + touched
+
+    def has(self, place):
+        return at(place, *sorted(self.places[place]))
+
+    def is_in(self, folder, shards):
+        """The folder shows it at three places, the latest among them."""
+        last = len(self.lines)
+        for place in (last // 3, 2 * last // 3):
+            must(dumped(folder, shards, f"--at {place}"), self.has(place), f"the dump at {place} of {shards} shards")
+        must(dumped(folder, shards), self.has(last), f"the latest dump of {shards} shards")
+
+
+def contents(folder):
+    """Each file with its bytes."""
+    found = {}
+    for name in sorted(os.listdir(folder)):
+        with open(os.path.join(folder, name), "rb") as file:
+            found[name] = file.read()
+    return found
+
+
+def emptied(folder):
+    shutil.rmtree(folder, ignore_errors=True)
+    os.mkdir(folder)
+
+
+def killed(call, moment):
+    """Runs the command, and kills it at the moment, if it did not end before."""
+    with subprocess.Popen(call, stdin=subprocess.DEVNULL, stdout=subprocess.PIPE, stderr=subprocess.PIPE, text=True) as child:
+        try:
+            out, err = child.communicate(timeout=moment)
+            must((child.returncode, out, err), DONE, "a resharding that was not killed")
+        except subprocess.TimeoutExpired:
+            child.kill()
+            child.communicate(timeout=LIMIT)
+
+
+def begun(folder):
+    """How many files in the folder have anything."""
+    return sum(entry.stat().st_size > 0 for entry in os.scandir(folder))
+
+
+def killed_writing(call, folder, nodes):
+    """Runs the command, and kills it as soon as each of so many nodes has begun."""
+    with subprocess.Popen(call, stdin=subprocess.DEVNULL, stdout=subprocess.DEVNULL, stderr=subprocess.DEVNULL) as child:
+        end = time.monotonic() + LIMIT
+        while child.poll() is None and begun(folder) < nodes and time.monotonic() < end:
+            time.sleep(0.0002)
+        child.kill()
+        child.wait(timeout=LIMIT)
+
+
+class Carrying:
+    """From one folder to another, killed and given again. `spoil` may change a folder at each of the moments at which one is looked at."""
+
+    def __init__(self, store, seed, spoil=None):
+        self.store = store
+        self.random = random.Random(seed)
+        self.spoil = spoil or (lambda moment, folder: None)
+        self.seen = Counter()
+        self.seconds = 0
+
+    def left(self, folder, shards):
+        """What a kill has left: no file, a store without a write, what no opening takes, or the whole store. It is never anything else."""
+        if not os.listdir(folder):
+            return "no file"
+        told = dumped(folder, shards)
+        if told in (fault("16 Damaged"), fault("13 Down")):
+            return "half"
+        if told == at(0):
+            return "nothing yet"
+        self.store.is_in(folder, shards)
+        return "whole"
+
+    def refuses(self, folder, shards, new, new_shards):
+        """A folder that has any file of a store is left as it is."""
+        before = contents(new)
+        if not before:
+            return
+        must(resharded(folder, shards, new, new_shards), fault("16 Damaged"), "a second try into what a kill left")
+        self.spoil("refused", new)
+        must(contents(new), before, "what a kill left, behind a refused try")
+
+    def carried(self, folder, shards, new, new_shards):
+        """The command runs to its end, in a folder without a file."""
+        emptied(new)
+        begin = time.monotonic()
+        must(resharded(folder, shards, new, new_shards), DONE, f"a resharding of {shards} to {new_shards}")
+        self.seconds = time.monotonic() - begin
+        self.spoil("done", new)
+        self.store.is_in(new, new_shards)
+
+    def kill(self, folder, shards, new, new_shards, moment=None):
+        """At a moment of the run, or once each new node has begun."""
+        emptied(new)
+        call = resharding(folder, shards, new, new_shards)
+        if moment is None:
+            killed_writing(call, new, new_shards + 1)
+        else:
+            killed(call, moment)
+        self.spoil("old", folder)
+        self.store.is_in(folder, shards)
+        self.refuses(folder, shards, new, new_shards)
+        self.spoil("left", new)
+        self.seen[self.left(new, new_shards)] += 1
+        self.carried(folder, shards, new, new_shards)
+
+    def goes(self, folder, shards, new, new_shards, kills):
+        """Carried over once, and then killed so often, at moments of all the time that the last run to its end took, most of them late: it is written last. Where none of them fell
+        within the writing, some are aimed at it."""
+        self.carried(folder, shards, new, new_shards)
+        for part in range(kills):
+            moment = ((part + self.random.random()) / kills) ** 0.5
+            self.kill(folder, shards, new, new_shards, self.seconds * SPREAD * moment)
+        for _ in range(AIMED):
+            if self.seen["half"]:
+                return
+            self.kill(folder, shards, new, new_shards)
+
+
+def made(folder, lines):
+    """A new store of these writes."""
+    emptied(folder)
+    told = script(folder, FEW, *lines, limit=100 * LIMIT)
+    must(len(told), len(lines), "the lines of the writes")
+    must([line for line in told if not line.startswith("ok ")], [], "the writes")
+
+
+def there_and_back(folder, count, kills, seed, spoil=None):
+    """From two shards to five, and what that gave from five to two. How the kills left what they left, and the seconds of the last run to its end."""
+    store = Store(count)
+    made(folder, store.lines)
+    wide, narrow = folder + "-wide", folder + "-narrow"
+    there, back = Carrying(store, seed, spoil), Carrying(store, seed + 1, spoil)
+    there.goes(folder, FEW, wide, MANY, kills)
+    back.goes(wide, MANY, narrow, FEW, kills)
+    store.is_in(folder, FEW)
+    seen = there.seen + back.seen
+    must(seen["half"] > 0, True, f"{UNEVEN}: {dict(seen)}")
+    return seen, there.seconds, back.seconds

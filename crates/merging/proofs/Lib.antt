@@ -1,0 +1,4 @@
+pub mod Ranked
+pub mod Merged
+pub mod Picked
+mod Owned

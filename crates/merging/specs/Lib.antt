@@ -1,0 +1,3 @@
+pub mod Merging
+pub mod Picking
+pub mod Memories

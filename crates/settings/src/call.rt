@@ -1,0 +1,144 @@
+// What a call is asked for, and the words that say so.
+ghost use Rattle.std.specs.Prelude.{◌≡◌, ◌≤◌, ◌⊎◌, ◌↔◌, IfErr, IfSome, IsTrue, Some, codes};
+ghost use Rattle.std.specs.Prelude.{option_map, slice_get, string_bytes};
+ghost use Rattle.settings.specs.declared.limits.TheConstants.{MAX_RETRY};
+
+use crate::limits::{MAX_RETRY, USAGE};
+use crate::parameter::{Manual, Otherwise, Parameter, Takes, program};
+use crate::reading::{Asked, is_named, read};
+use clap::{ArgMatches, Command, Error};
+use std::alloc::{AllocError, Global};
+use std::io::{Eprint, Print};
+
+const EXAMPLE: &str = "Examples:
+  zanstore call 127.0.0.1:7700 write +doc:readme#viewer@ann
+  zanstore call 127.0.0.1:7700 check doc:readme#viewer@ann
+  zanstore call 127.0.0.1:7700 --follow watch AQAAAAAAAAAAAQAAAAAAAAAA 256 doc
+
+Requests, which may also be lines of JSON:
+  write +TUPLE -TUPLE .. if ?TUPLE !TUPLE TUPLE=TOKEN ..
+  read [latest | at-least TOKEN | exact TOKEN] TUPLESET ..
+  check [latest | at-least TOKEN | exact TOKEN] TUPLE
+  watch TOKEN LIMIT NAMESPACE ..
+Of standard input, an empty line and one that begins with ; are passed over.
+
+Status: 0 where each request was answered and none refused; 1 where one was refused or is none, the
+connection failed or ended, or the input or output failed; 2 for a command line that can't be read.";
+
+const CALL: &str =
+    "Sends requests to a server, one after another, and prints each answer line as it is.
+A refusal is told on standard error too, with what to do about it.";
+
+const MANUAL: Manual = Manual {
+    name: "call",
+    about: "Sends requests to a server",
+    long_about: CALL,
+    after_help: EXAMPLE,
+};
+
+const PARAMETERS: &[Parameter] = &[
+    Parameter {
+        name: "addr",
+        value_name: "ADDR",
+        help: "The address of the server, like 127.0.0.1:7700",
+        takes: Takes::Word,
+        otherwise: Otherwise::Refused,
+    },
+    Parameter {
+        name: "retry",
+        value_name: "N",
+        help: "Sends a request that may be sent again up to so many times more, from 0 to 1000",
+        takes: Takes::Number(0, MAX_RETRY),
+        otherwise: Otherwise::Missing,
+    },
+    Parameter {
+        name: "follow",
+        value_name: "",
+        help: "Goes on behind a watch from each heartbeat, until it is ended",
+        takes: Takes::Nothing,
+        otherwise: Otherwise::Missing,
+    },
+    Parameter {
+        name: "words",
+        value_name: "WORDS",
+        help: "The words of one request; without any, each line of standard input is one",
+        takes: Takes::Rest,
+        otherwise: Otherwise::Missing,
+    },
+];
+
+/// What `zanstore call` was asked for.
+#[derive(Debug, Drop, PartialEq, Eq)]
+pub struct CallSettings {
+    /// The address of the server.
+    pub address: String,
+    /// How often a request that may be sent again is, from 0 to 1,000.
+    pub retry: u64,
+    /// Whether a watch goes on from each heartbeat.
+    pub follow: bool,
+    /// The words of one request with a space between, where there are any.
+    pub request: Option<String>,
+    ghost few: { retry ≤ MAX_RETRY },
+}
+
+impl CallSettings {
+    /// Whether the words of the command line, the program's name first, are for this command: the second one is `call`.
+    pub fn are_for(words: &[String]) -> bool
+        ensures { IsTrue result ↔ (option_map string_bytes (slice_get words.now 1) ≡ Some (codes "call")) }
+    {
+        is_named(words, "call")
+    }
+
+    /// Reads the words. An `Err` is the status to end with, 0 for help and else 2, once the user is told.
+    pub fn read<R: Print + Eprint + AllocGlobal>(
+        rt: &R,
+        words: &[String],
+    ) -> Result<CallSettings, u8>
+        ensures { IfErr result (λ status. (status ≡ 0) ⊎ (status ≡ USAGE)) }
+    {
+        read(rt, words)
+    }
+}
+
+impl Asked for CallSettings {
+    fn program<'a>(alloc: Global) -> Result<Command<'a>, Error> {
+        program(alloc, MANUAL, PARAMETERS)
+    }
+
+    fn given(alloc: Global, call: &ArgMatches) -> Result<Option<CallSettings>, AllocError> {
+        let (Some(address), Some(retry)) = (call.get_str("addr"), retry_of(call)) else {
+            return Ok(None);
+        };
+        let request = match call.get_strs("words") {
+            Some(words) => joined(alloc, words)?,
+            None => None,
+        };
+        let address = String::from_str(alloc, address)?;
+        Ok(Some(CallSettings {
+            address,
+            retry,
+            follow: call.get_flag("follow"),
+            request,
+        }))
+    }
+}
+
+// How often a request is sent again; never, where nothing is said.
+fn retry_of(call: &ArgMatches) -> Option<u64>
+    ensures { IfSome result (λ n. n ≤ MAX_RETRY) }
+{
+    match call.get_one::<u64>("retry") {
+        Some(retry) if retry <= MAX_RETRY => Some(retry),
+        // The command refuses it already.
+        Some(_) => None,
+        None => Some(0),
+    }
+}
+
+// The words with a space between; none where there are none.
+fn joined(alloc: Global, words: &[&str]) -> Result<Option<String>, AllocError> {
+    if words.is_empty() {
+        return Ok(None);
+    }
+    Ok(Some(words.join(alloc, " ")?))
+}

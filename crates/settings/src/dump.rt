@@ -1,0 +1,105 @@
+// What a dump is asked for, and the words that say so.
+ghost use Rattle.std.specs.Prelude.{◌≡◌, ◌≤◌, ◌⊎◌, ◌↔◌, IfErr, IsTrue, Some, codes};
+ghost use Rattle.std.specs.Prelude.{option_map, slice_get, string_bytes};
+ghost use Rattle.settings.specs.declared.limits.TheConstants.{MAX_STORE};
+ghost use Rattle.tuples.specs.Limits.{max_shards};
+
+use crate::given::{number_in, store_in};
+use crate::limits::{MAX_PLACE, USAGE};
+use crate::parameter::{DIR, Manual, Otherwise, Parameter, SHARDS, STORE, Takes, program};
+use crate::reading::{Asked, is_named, read};
+use clap::{ArgMatches, Command, Error};
+use std::alloc::{AllocError, Global};
+use std::io::{Eprint, Print};
+
+const EXAMPLE: &str = "Example:
+  zanstore dump --dir data --store 1 --shards 2
+
+It prints the token of the latest place, and each tuple that is there, in their order:
+  at AQAAAAAAAAAAAQAAAAAAAAAB
+  doc:readme#viewer@ann
+
+Status: 0 once all is written; 1 where a file can't be opened, a node can't be read, the place is
+above what is kept or below the horizon, or the output failed; 2 for a command line that can't be
+read.";
+
+const DUMP: &str =
+    "Prints all tuples of a store in files at one place, one a line. No server may have the folder open:
+a file that another process has is refused with 13 Down. Opening the files adds a record to each
+node's, as each start of a server does.";
+
+const MANUAL: Manual = Manual {
+    name: "dump",
+    about: "Prints all tuples of a store in files",
+    long_about: DUMP,
+    after_help: EXAMPLE,
+};
+
+const PARAMETERS: &[Parameter] = &[
+    DIR,
+    STORE,
+    SHARDS,
+    Parameter {
+        name: "at",
+        value_name: "PLACE",
+        help: "The place, a number; the latest where none is given",
+        takes: Takes::Number(0, MAX_PLACE),
+        otherwise: Otherwise::Missing,
+    },
+];
+
+/// What `zanstore dump` was asked for.
+#[derive(Debug, Drop, PartialEq, Eq)]
+pub struct DumpSettings {
+    /// The folder of the store's files.
+    pub dir: String,
+    /// The id of the store, from 0 to 4,294,967,295.
+    pub store: u64,
+    /// The number of shards, from 1 to 64.
+    pub shards: u8,
+    /// The place, from 0 to 4,294,967,295, where one is given.
+    pub at: Option<u64>,
+    ghost fits: { store ≤ MAX_STORE },
+    ghost some: { 1 ≤ shards },
+    ghost few: { shards ≤ max_shards },
+}
+
+impl DumpSettings {
+    /// Whether the words of the command line, the program's name first, are for this command: the second one is `dump`.
+    pub fn are_for(words: &[String]) -> bool
+        ensures { IsTrue result ↔ (option_map string_bytes (slice_get words.now 1) ≡ Some (codes "dump")) }
+    {
+        is_named(words, "dump")
+    }
+
+    /// Reads the words. An `Err` is the status to end with, 0 for help and else 2, once the user is told.
+    pub fn read<R: Print + Eprint + AllocGlobal>(
+        rt: &R,
+        words: &[String],
+    ) -> Result<DumpSettings, u8>
+        ensures { IfErr result (λ status. (status ≡ 0) ⊎ (status ≡ USAGE)) }
+    {
+        read(rt, words)
+    }
+}
+
+impl Asked for DumpSettings {
+    fn program<'a>(alloc: Global) -> Result<Command<'a>, Error> {
+        program(alloc, MANUAL, PARAMETERS)
+    }
+
+    fn given(alloc: Global, dump: &ArgMatches) -> Result<Option<DumpSettings>, AllocError> {
+        let (Some(dir), Some(given)) = (dump.get_str("dir"), store_in(dump)) else {
+            return Ok(None);
+        };
+        // A place beyond its range is refused by the program already.
+        let at = number_in(dump, "at", 0, MAX_PLACE);
+        let dir = String::from_str(alloc, dir)?;
+        Ok(Some(DumpSettings {
+            dir,
+            store: given.store,
+            shards: given.shards,
+            at,
+        }))
+    }
+}

@@ -1,0 +1,50 @@
+// How the words of a command are read.
+ghost use Rattle.std.specs.Prelude.{◌≡◌, ◌⊎◌, ◌↔◌, IfErr, IsTrue, Some, option_map, slice_get, string_bytes};
+
+use crate::limits::USAGE;
+use crate::telling::tell;
+use clap::{ArgMatches, Command, Error};
+use std::alloc::{AllocError, Global};
+use std::io::{Eprint, Print};
+
+/// What a command is asked for.
+pub(crate) trait Asked: Sized {
+    /// The program, with this one command.
+    fn program<'a>(alloc: Global) -> Result<Command<'a>, Error>;
+
+    /// What the command was given; none where a part of it is missing, which the program refuses already.
+    fn given(alloc: Global, matches: &ArgMatches) -> Result<Option<Self>, AllocError>;
+}
+
+/// Whether the second word, behind the program's name, is the name of the command.
+pub(crate) fn is_named(words: &[String], command: &str) -> bool
+    ensures { IsTrue result ↔ (option_map string_bytes (slice_get words.now 1) ≡ Some command.now) }
+{
+    match words.get(1) {
+        Some(word) => word.as_str() == command,
+        None => false,
+    }
+}
+
+/// Reads the words. An `Err` is the status to end with, 0 for help and else 2, once the user is told.
+pub(crate) fn read<S: Asked, R: Print + Eprint + AllocGlobal>(
+    rt: &R,
+    words: &[String],
+) -> Result<S, u8>
+    ensures { IfErr result (λ status. (status ≡ 0) ⊎ (status ≡ USAGE)) }
+{
+    match parse::<S>(rt.alloc(), words) {
+        Ok(Some(asked)) => Ok(asked),
+        // The program refuses such words already.
+        Ok(None) => Err(USAGE),
+        Err(error) => Err(tell(rt, &error)),
+    }
+}
+
+fn parse<S: Asked>(alloc: Global, words: &[String]) -> Result<Option<S>, Error> {
+    let matches = S::program(alloc)?.try_get_matches_from(words)?;
+    match matches.subcommand() {
+        Some((_, given)) => Ok(S::given(alloc, given)?),
+        None => Ok(None),
+    }
+}

@@ -1,0 +1,150 @@
+// What a resharding is asked for, and the words that say so.
+ghost use Rattle.std.specs.Prelude.{◌≡◌, ◌≤◌, ◌⊎◌, ◌↔◌, IfErr, IsTrue, Some, codes};
+ghost use Rattle.std.specs.Prelude.{option_map, slice_get, string_bytes};
+ghost use Rattle.settings.specs.declared.limits.TheConstants.{MAX_STORE};
+ghost use Rattle.tuples.specs.Limits.{max_shards};
+
+use crate::given::{StoreGiven, number_in, store_in};
+use crate::limits::{MAX_SHARDS, USAGE};
+use crate::parameter::{DIR, Manual, Otherwise, Parameter, SHARDS, STORE, Takes, program};
+use crate::reading::{Asked, is_named, read};
+use clap::{ArgMatches, Command, Error};
+use std::alloc::{AllocError, Global};
+use std::io::{Eprint, Print};
+
+const EXAMPLE: &str = "Example:
+  mkdir wider && zanstore reshard --dir data --to wider --store 1 --shards 2 --new-shards 8
+  zanstore serve --dir wider --store 1 --shards 8 --listen 127.0.0.1:7700
+
+It prints done. From then on the folder of before is kept only as a copy.
+
+Status: 0 once the new folder has all; 1 where a file can't be opened, the new folder has a file of
+a store, or a node refused; 2 for a command line that can't be read. But for status 0, delete what
+is in the new folder: the one of before is as good as it was.";
+
+const RESHARD: &str =
+    "Carries a store in files over to another folder, with another number of shards. No server may have the
+folder open: a file that another process has is refused with 13 Down. The new folder must be there, and
+have no file of a store: 16 Damaged.";
+
+const MANUAL: Manual = Manual {
+    name: "reshard",
+    about: "Carries a store in files over to another number of shards",
+    long_about: RESHARD,
+    after_help: EXAMPLE,
+};
+
+const PARAMETERS: &[Parameter] = &[
+    DIR,
+    Parameter {
+        name: "to",
+        value_name: "DIR",
+        help: "The folder of the new files, which is there",
+        takes: Takes::Text,
+        otherwise: Otherwise::Refused,
+    },
+    STORE,
+    SHARDS,
+    Parameter {
+        name: "new-shards",
+        value_name: "N",
+        help: "The new number of shards, from 1 to 64",
+        takes: Takes::Number(1, MAX_SHARDS),
+        otherwise: Otherwise::Refused,
+    },
+];
+
+/// What `zanstore reshard` was asked for.
+#[derive(Debug, Drop, PartialEq, Eq)]
+pub struct ReshardSettings {
+    /// The folder of the store's files.
+    pub dir: String,
+    /// The folder of the new files.
+    pub to: String,
+    /// The id of the store, from 0 to 4,294,967,295.
+    pub store: u64,
+    /// The number of shards, from 1 to 64.
+    pub shards: u8,
+    /// The new number of shards, from 1 to 64.
+    pub new_shards: u8,
+    ghost fits: { store ≤ MAX_STORE },
+    ghost some: { 1 ≤ shards },
+    ghost few: { shards ≤ max_shards },
+    ghost some_new: { 1 ≤ new_shards },
+    ghost few_new: { new_shards ≤ max_shards },
+}
+
+impl ReshardSettings {
+    /// Whether the words of the command line, the program's name first, are for this command: the second one is `reshard`.
+    pub fn are_for(words: &[String]) -> bool
+        ensures { IsTrue result ↔ (option_map string_bytes (slice_get words.now 1) ≡ Some (codes "reshard")) }
+    {
+        is_named(words, "reshard")
+    }
+
+    /// Reads the words. An `Err` is the status to end with, 0 for help and else 2, once the user is told.
+    pub fn read<R: Print + Eprint + AllocGlobal>(
+        rt: &R,
+        words: &[String],
+    ) -> Result<ReshardSettings, u8>
+        ensures { IfErr result (λ status. (status ≡ 0) ⊎ (status ≡ USAGE)) }
+    {
+        read(rt, words)
+    }
+}
+
+impl Asked for ReshardSettings {
+    fn program<'a>(alloc: Global) -> Result<Command<'a>, Error> {
+        program(alloc, MANUAL, PARAMETERS)
+    }
+
+    fn given(alloc: Global, reshard: &ArgMatches) -> Result<Option<ReshardSettings>, AllocError> {
+        let (Some(dir), Some(to), Some(numbers)) = (
+            reshard.get_str("dir"),
+            reshard.get_str("to"),
+            numbers_of(reshard),
+        ) else {
+            return Ok(None);
+        };
+        let settings = settings_in(alloc, dir, to, numbers)?;
+        Ok(Some(settings))
+    }
+}
+
+// The numbers of a resharding, each within its range.
+#[derive(Clone, Copy)]
+struct Numbers {
+    given: StoreGiven,
+    new_shards: u8,
+    ghost some_new: { 1 ≤ new_shards },
+    ghost few_new: { new_shards ≤ max_shards },
+}
+
+fn numbers_of(reshard: &ArgMatches) -> Option<Numbers> {
+    let given = store_in(reshard)?;
+    let new_shards = number_in(reshard, "new-shards", 1, MAX_SHARDS)?;
+    Some(Numbers {
+        given,
+        new_shards: new_shards as u8,
+    })
+}
+
+// The settings with these folders.
+fn settings_in(
+    alloc: Global,
+    dir: &str,
+    to: &str,
+    numbers: Numbers,
+) -> Result<ReshardSettings, AllocError> {
+    let dir = String::from_str(alloc, dir)?;
+    match String::from_str(alloc, to) {
+        Ok(to) => Ok(ReshardSettings {
+            dir,
+            to,
+            store: numbers.given.store,
+            shards: numbers.given.shards,
+            new_shards: numbers.new_shards,
+        }),
+        Err(error) => Err(error),
+    }
+}

@@ -1,0 +1,188 @@
+// What a server is asked for, and the words that say so.
+ghost use Rattle.std.specs.Prelude.{◌≡◌, ◌≤◌, ◌⊎◌, ◌↔◌, IfErr, IsTrue, Some, codes};
+ghost use Rattle.std.specs.Prelude.{option_map, slice_get, string_bytes};
+ghost use Rattle.settings.specs.declared.limits.TheConstants.{MAX_STORE, MAX_WORKERS};
+ghost use Rattle.tuples.specs.Limits.{max_shards};
+
+use crate::given::{StoreGiven, number_in, store_in};
+use crate::limits::{MAX_AMOUNT, MAX_WORKERS, USAGE};
+use crate::parameter::{DIR, Manual, Otherwise, Parameter, SHARDS, STORE, Takes, program};
+use crate::reading::{Asked, is_named, read};
+use clap::{ArgMatches, Command, Error};
+use std::alloc::{AllocError, Global};
+use std::io::{Eprint, Print};
+
+const EXAMPLE: &str = "Example:
+  mkdir data
+  zanstore serve --dir data --store 1 --shards 2 --listen 127.0.0.1:7700 --workers 4
+
+It prints ready once it listens. A client sends one request a line, as JSON, and gets one line of
+JSON for each.
+
+Status: 2 for a command line that can't be read.";
+
+const SERVE: &str =
+    "Serves a store in files to those who connect, one JSON request a line, and prints ready once it
+listens. The coordinator's files in the folder are c.a and c.b, and those of the shards 0.a and 0.b,
+1.a and 1.b, and so on.";
+
+const MANUAL: Manual = Manual {
+    name: "serve",
+    about: "Serves a store in files over sockets",
+    long_about: SERVE,
+    after_help: EXAMPLE,
+};
+
+const PARAMETERS: &[Parameter] = &[
+    DIR,
+    STORE,
+    SHARDS,
+    Parameter {
+        name: "listen",
+        value_name: "ADDR",
+        help: "The address to listen at, like 127.0.0.1:7700",
+        takes: Takes::Text,
+        otherwise: Otherwise::Refused,
+    },
+    Parameter {
+        name: "workers",
+        value_name: "N",
+        help: "The number of threads that answer, from 1 to 64",
+        takes: Takes::Number(1, MAX_WORKERS),
+        otherwise: Otherwise::Refused,
+    },
+    Parameter {
+        name: "window",
+        value_name: "N",
+        help: "How many places the horizon stays behind the latest one",
+        takes: Takes::Number(0, MAX_AMOUNT),
+        otherwise: Otherwise::Default("1000000"),
+    },
+    Parameter {
+        name: "connections",
+        value_name: "N",
+        help: "Ends after so many connections; 0 never ends",
+        takes: Takes::Number(0, MAX_AMOUNT),
+        otherwise: Otherwise::Default("0"),
+    },
+    Parameter {
+        name: "idle",
+        value_name: "N",
+        help: "Seconds that an idle session keeps its worker while others wait; 0 for ever",
+        takes: Takes::Number(0, MAX_AMOUNT),
+        otherwise: Otherwise::Default("10"),
+    },
+];
+
+/// What `zanstore serve` was asked for.
+#[derive(Debug, Drop, PartialEq, Eq)]
+pub struct ServeSettings {
+    /// The folder of the store's files.
+    pub dir: String,
+    /// The id of the store, from 0 to 4,294,967,295.
+    pub store: u64,
+    /// The number of shards, from 1 to 64.
+    pub shards: u8,
+    /// The address to listen at.
+    pub listen: String,
+    /// The number of threads that answer, from 1 to 64.
+    pub workers: u8,
+    /// How many places the horizon stays behind the latest one.
+    pub window: u64,
+    /// The server ends after so many connections; 0 never ends.
+    pub connections: u64,
+    /// The seconds that an idle session keeps its worker while others wait; 0 for ever.
+    pub idle: u64,
+    ghost fits: { store ≤ MAX_STORE },
+    ghost some: { 1 ≤ shards },
+    ghost few: { shards ≤ max_shards },
+    ghost staffed: { 1 ≤ workers },
+    ghost affordable: { workers ≤ MAX_WORKERS },
+}
+
+impl ServeSettings {
+    /// Whether the words of the command line, the program's name first, are for this command: the second one is `serve`.
+    pub fn are_for(words: &[String]) -> bool
+        ensures { IsTrue result ↔ (option_map string_bytes (slice_get words.now 1) ≡ Some (codes "serve")) }
+    {
+        is_named(words, "serve")
+    }
+
+    /// Reads the words. An `Err` is the status to end with, 0 for help and else 2, once the user is told.
+    pub fn read<R: Print + Eprint + AllocGlobal>(
+        rt: &R,
+        words: &[String],
+    ) -> Result<ServeSettings, u8>
+        ensures { IfErr result (λ status. (status ≡ 0) ⊎ (status ≡ USAGE)) }
+    {
+        read(rt, words)
+    }
+}
+
+impl Asked for ServeSettings {
+    fn program<'a>(alloc: Global) -> Result<Command<'a>, Error> {
+        program(alloc, MANUAL, PARAMETERS)
+    }
+
+    fn given(alloc: Global, serve: &ArgMatches) -> Result<Option<ServeSettings>, AllocError> {
+        let (Some(dir), Some(listen), Some(numbers)) = (
+            serve.get_str("dir"),
+            serve.get_str("listen"),
+            numbers_of(serve),
+        ) else {
+            return Ok(None);
+        };
+        let settings = settings_at(alloc, dir, listen, numbers)?;
+        Ok(Some(settings))
+    }
+}
+
+// The numbers of a server, each within its range.
+#[derive(Clone, Copy)]
+struct Numbers {
+    given: StoreGiven,
+    workers: u8,
+    window: u64,
+    connections: u64,
+    idle: u64,
+    ghost staffed: { 1 ≤ workers },
+    ghost affordable: { workers ≤ MAX_WORKERS },
+}
+
+fn numbers_of(serve: &ArgMatches) -> Option<Numbers> {
+    let given = store_in(serve)?;
+    let workers = number_in(serve, "workers", 1, MAX_WORKERS)?;
+    let window = number_in(serve, "window", 0, MAX_AMOUNT)?;
+    let connections = number_in(serve, "connections", 0, MAX_AMOUNT)?;
+    let idle = number_in(serve, "idle", 0, MAX_AMOUNT)?;
+    Some(Numbers {
+        given,
+        workers: workers as u8,
+        window,
+        connections,
+        idle,
+    })
+}
+
+// The settings with this folder and address.
+fn settings_at(
+    alloc: Global,
+    dir: &str,
+    listen: &str,
+    numbers: Numbers,
+) -> Result<ServeSettings, AllocError> {
+    let dir = String::from_str(alloc, dir)?;
+    match String::from_str(alloc, listen) {
+        Ok(listen) => Ok(ServeSettings {
+            dir,
+            store: numbers.given.store,
+            shards: numbers.given.shards,
+            listen,
+            workers: numbers.workers,
+            window: numbers.window,
+            connections: numbers.connections,
+            idle: numbers.idle,
+        }),
+        Err(error) => Err(error),
+    }
+}
