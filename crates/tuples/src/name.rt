@@ -1,5 +1,5 @@
 // A short text of bytes, which contracts see as the list of its bytes.
-ghost use Rattle.std.specs.Prelude.{◌≡◌, ◌==◌, ◌≤◌, length, take, IfOk};
+ghost use Rattle.std.specs.Prelude.{◌≡◌, ◌==◌, ◌≤◌, ◌<◌, length, take, IfOk, OnErr};
 ghost use Rattle.std.proofs.Common.{rules};
 ghost use Rattle.std.specs.Cmp.{partial_order_from_own_ties};
 ghost use Rattle.std.specs.Cmp.Rules.{comparing};
@@ -53,9 +53,10 @@ fn short(text: &[u8]) -> Text
 }
 
 impl Name {
-    /// A name of these bytes.
+    /// A name of these bytes. A short one takes no memory.
     pub fn from_slice(alloc: Global, bytes: &[u8]) -> Result<Self, AllocError>
-        ensures { IfOk result (λ name. name ≡ bytes.now) }
+        ensures name { IfOk result (λ name. name ≡ bytes.now) }
+        ensures memory { OnErr result (max_short < length bytes.now) }
     {
         if bytes.len() <= MAX_SHORT {
             return Ok(Name { text: short(bytes) });
