@@ -1,6 +1,6 @@
-// The clients of `bench/serve`: load ADDR WORK CLIENTS COUNT SECONDS, load ADDR fill, or load ADDR drain TOKEN. Each client has a connection of its own and
-// asks one request at a time, until it asked COUNT or SECONDS are over. Prints how many answers there were, the nanoseconds, those of the answers in the
-// middle and at 99 of 100, and the bytes of the answers. It stops at a refusal.
+// The clients of `bench/serve` and `bench/lasting`: load ADDR WORK CLIENTS COUNT SECONDS, load ADDR fill, or load ADDR drain TOKEN. Each client has a
+// connection of its own and asks one request at a time, until it asked COUNT or SECONDS are over. Prints how many answers there were, the nanoseconds, those of
+// the answers in the middle and at 99 of 100, and the bytes of the answers. It stops at a refusal.
 use std::io::{BufRead, BufReader, Write};
 use std::net::TcpStream;
 use std::sync::Barrier;
@@ -10,6 +10,8 @@ use std::time::{Duration, Instant};
 const OBJECTS: u64 = 10_000;
 const GROUPS: u64 = 1_120;
 const CHANGES: usize = 64;
+/// How many tuples of its own a client touches over and over.
+const OWN: u64 = 400;
 /// Groups in groups: the first has the second as its member, and the last has `deep`.
 const DEPTH: u64 = 5;
 
@@ -51,6 +53,10 @@ fn touch(client: u64, number: u64) -> String {
     format!("{{\"op\":\"write\",\"changes\":[{{\"op\":\"touch\",\"tuple\":\"doc:w{client}.{number}#viewer@ann\"}}]}}\n")
 }
 
+fn touch_again(client: u64, number: u64) -> String {
+    format!("{{\"op\":\"write\",\"changes\":[{{\"op\":\"touch\",\"tuple\":\"doc:a{client}.{}#viewer@ann\"}}]}}\n", number % OWN)
+}
+
 fn read(numbers: &mut Numbers) -> String {
     format!("{{\"op\":\"read\",\"sets\":[\"doc:o{}\"]}}\n", numbers.below(OBJECTS))
 }
@@ -64,6 +70,7 @@ fn check(numbers: &mut Numbers) -> String {
 fn request(work: &str, client: u64, number: u64, numbers: &mut Numbers) -> String {
     match work {
         "write" => touch(client, number),
+        "again" => touch_again(client, number),
         "read" => read(numbers),
         "check" => check(numbers),
         "deep" => "{\"op\":\"check\",\"tuple\":\"doc:deep#viewer@deep\"}\n".to_string(),

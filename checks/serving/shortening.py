@@ -8,13 +8,15 @@ from serving.server import SHARDS, Server
 from serving.talking import is_told
 from serving.wire import Session, check, delete, read, refusal, token, touch, watch, write
 
-# Each write touches, or deletes and touches, as many tuples of the greatest length as it may, all of one object; so its shard and the coordinator have some
-# 25 kB more.
-NAME, CHANGES = "d" * 128, 64
-# What a node's bank is let grow to, and how many places there are from one round of cares to the next.
-LIMIT, ROUND = 67108864, 1024
+# Each write touches, or deletes and touches, so many tuples of the greatest length, all of one object; so its shard and the coordinator have some 1.3 kB more,
+# and two thirds of the limit behind the first round.
+NAME, CHANGES = "d" * 128, 4
+# What the bank of a node that has made no checkpoint is let grow to, and how many places there are from one round of cares to the next.
+LIMIT, ROUND = 2 << 20, 1024
 # What a checkpoint of so few tuples, or of so few writes, takes at most, with the records behind it.
-SHORT = 4 << 20
+SHORT = 1 << 16
+# Seconds in which a round that makes no checkpoint has long ended.
+QUIET = 0.5
 # Places that can still be read; the others are let go, and so are not in a checkpoint.
 WINDOW = 8
 # Seconds until a checkpoint is there.
@@ -43,11 +45,14 @@ def begins_checkpoint(path):
 
 
 def write_until(session, folder, place):
-    """Writes until a round of cares comes behind the limit. The last place."""
+    """Writes until a round of cares comes behind the limit; one before makes no checkpoint. The last place."""
     all_of = tuples()
     while min(lengths(folder, "a")) <= LIMIT or place % ROUND:
         place += 1
         is_told(session, write(*("+" + tuple for tuple in all_of)), {"zookie": token(place)})
+        if place == ROUND:
+            time.sleep(QUIET)
+            must(max(lengths(folder, "a")) < LIMIT and not any(map(begins_checkpoint, banks(folder, "b"))), f"a checkpoint at {lengths(folder, 'a')} bytes")
     return place
 
 
@@ -66,7 +71,7 @@ def listed(first, last, *changes):
 
 
 def shortened(folder):
-    """a shard and the coordinator go on in their other files, from checkpoints, past 64 MiB; behind a kill what was told is there, and what was collected gone"""
+    """a shard and the coordinator go on in their other files, from checkpoints, past 2 MiB and not before; behind a kill what was told is there, and what was collected gone"""
     rows = sorted(tuples())
     changes = (touch(rows[0]), delete(rows[1]))
     with Server(folder, window=WINDOW) as first, Session(first.port) as session:

@@ -10,8 +10,18 @@ use sides::Room;
 use std::alloc::Global;
 use std::sync::Wait;
 
-// How many bytes the bank of a node may have until it makes a checkpoint, at least.
-const LEAST_LIMIT: u64 = 67_108_864;
+// No bank has to be shorter than this. An opening replays as much in less than a tenth of a second.
+const LEAST_LIMIT: u64 = 2_097_152;
+
+// From here on a bank grows to twice what its checkpoint left, and no more to four times.
+const LARGE: u64 = 67_108_864;
+
+// Up to how many bytes the bank of a node may grow whose checkpoint left so many. Four times as many keep what checkpoints write to a quarter of what the
+// journal does, and an opening to some four times of what one of the checkpoint alone takes.
+fn limit_behind(length: u64) -> u64 {
+    let large = LARGE.max(length.saturating_mul(2));
+    LEAST_LIMIT.max(large.min(length.saturating_mul(4)))
+}
 
 // How many bytes the bank of each node may have until it makes a checkpoint.
 #[derive(Drop)]
@@ -41,7 +51,7 @@ impl<D: Device, B: Room, G: Gate> Store<D, B, G> {
         }
     }
 
-    // The node makes a checkpoint where its bank is longer than its limit. The limit from then on: twice what its bank has, and no less than the least.
+    // The node makes a checkpoint where its bank is longer than its limit. The limit from then on.
     fn shorten<R: Wait>(
         &self,
         rt: &R,
@@ -57,7 +67,7 @@ impl<D: Device, B: Room, G: Gate> Store<D, B, G> {
             return limit;
         }
         self.try_care(rt, alloc, caller, Care::Checkpoint(node));
-        LEAST_LIMIT.max(self.bank_len(rt, node).saturating_mul(2))
+        limit_behind(self.bank_len(rt, node))
     }
 
     // The same at each shard, each with a limit of its own.

@@ -123,8 +123,8 @@ impl<D: Device, B: Room, G: Gate> Store<D, B, G> {
     }
 
     /// Tends the store until it is closed: a round whenever the bell rings, and a last one once it is closed. It rings where a write left something behind,
-    /// where a node was opened again, and at every 1,024th place. Behind each round a node whose bank has more than 64 MiB, and more than twice what its
-    /// last checkpoint left it with, makes one; it answers nobody meanwhile.
+    /// where a node was opened again, and at every 1,024th place. Behind each round a node whose bank has grown to four times what its last checkpoint left
+    /// it with, and to more than 2 MiB, makes one; from 64 MiB on it makes one at twice as much. It answers nobody meanwhile.
     pub fn keep<R: Wait, N: Notice>(
         &self,
         rt: &R,
