@@ -1,6 +1,7 @@
 pub mod Same
 pub mod Ordered
 mod Ascending
+mod Worded
 pub mod Sums
 pub mod Cuts
 pub mod Spelling

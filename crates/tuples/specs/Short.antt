@@ -1,5 +1,5 @@
 -- Names that lie in their value, and longer ones.
-use Rattle.std.specs.Prelude.{◌≤◌, ℕ, List, take}
+use Rattle.std.specs.Prelude.{◌≡◌, ◌≤◌, ℕ, List, take, slice_index}
 use Rattle.tuples.specs.declared.name.Text.{Text}
 use Rattle.tuples.specs.declared.name.Text.TheVariants.{Short, Long}
 
@@ -12,7 +12,11 @@ abbrev pub spelled : Text → List ℕ
 spelled (Short length bytes) = take length bytes
 spelled (Long bytes) = bytes.items
 
--- a short one has as many bytes as lie in its value
+-- there are zeros alone from the place on
+abbrev pub IsPadded : List ℕ → ℕ → Type 0
+IsPadded bytes place = (i : ℕ) → place ≤ i → slice_index bytes i ≡ 0
+
+-- a short one has as many bytes as lie in its value, and zeros behind them
 abbrev pub IsSound : Text → Type 0
-IsSound (Short length bytes) = length ≤ max_short
+IsSound (Short length bytes) = (length ≤ max_short) × IsPadded bytes length
 IsSound (Long bytes) = Unit {0}

@@ -1,7 +1,8 @@
 // The id of an object or of a user.
-ghost use Rattle.std.specs.Prelude.{◌≡◌};
+ghost use Rattle.std.specs.Prelude.{◌≡◌, ◌<◌, length, IsErrOf};
 ghost use Rattle.tuples.specs.Names.{IsId};
 ghost use Rattle.tuples.specs.Parsing.{Parses, own_text};
+ghost use Rattle.tuples.specs.Short.{max_short};
 
 use crate::Refusal;
 use crate::grammar::is_id;
@@ -29,9 +30,10 @@ impl Model for Id {
 }
 
 impl Id {
-    /// An id of these bytes; `BadTuple` where they are none.
+    /// An id of these bytes; `BadTuple` where they are none, and never `NoMemory` where they are at most 30.
     pub fn parse(alloc: Global, bytes: &[u8]) -> Result<Self, Refusal>
-        ensures { Parses IsId own_text bytes.now result }
+        ensures value { Parses IsId own_text bytes.now result }
+        ensures memory { IsErrOf result Refusal.NoMemory → max_short < length bytes.now }
     {
         if !is_id(bytes) {
             return Err(Refusal::BadTuple);

@@ -1,9 +1,10 @@
 // A short text of bytes, which contracts see as the list of its bytes.
-ghost use Rattle.std.specs.Prelude.{◌≡◌, ◌==◌, ◌≤◌, length, IfOk};
+ghost use Rattle.std.specs.Prelude.{◌≡◌, ◌==◌, ◌≤◌, ◌<◌, length, take, IfOk, OnErr};
 ghost use Rattle.std.proofs.Common.{rules};
 ghost use Rattle.std.specs.Cmp.{partial_order_from_own_ties};
 ghost use Rattle.std.specs.Cmp.Rules.{comparing};
 ghost use Rattle.std.specs.Cmp.Lexicographic.{pointwise, slice_cmp};
+ghost use Rattle.std.specs.Int.{w64, from_be_bytes};
 ghost use Rattle.std.specs.Ordering.{nat_cmp, as_partial_cmp};
 ghost use Rattle.tuples.specs.Short.{IsSound, max_short, spelled};
 
@@ -52,9 +53,10 @@ fn short(text: &[u8]) -> Text
 }
 
 impl Name {
-    /// A name of these bytes.
+    /// A name of these bytes. A short one takes no memory.
     pub fn from_slice(alloc: Global, bytes: &[u8]) -> Result<Self, AllocError>
-        ensures { IfOk result (λ name. name ≡ bytes.now) }
+        ensures name { IfOk result (λ name. name ≡ bytes.now) }
+        ensures memory { OnErr result (max_short < length bytes.now) }
     {
         if bytes.len() <= MAX_SHORT {
             return Ok(Name { text: short(bytes) });
@@ -75,11 +77,49 @@ impl Name {
     }
 }
 
-// Names are short and most differ early, so they are compared byte by byte: a slice's own order would look for long equal beginnings first.
+// Long names mostly differ early, and a slice's own order would look for long equal beginnings first.
 fn compare(a: &[u8], b: &[u8]) -> Ordering
     ensures { result ≡ slice_cmp nat_cmp a.now b.now }
 {
     a.iter().cmp(b.iter())
+}
+
+// The first eight bytes as a number, which lies to others as they do.
+fn word(bytes: &[u8]) -> u64
+    requires { 8 ≤ length bytes.now }
+    ensures { result ≡ from_be_bytes w64 bytes.now }
+{
+    u64::from_be_bytes([
+        bytes[0], bytes[1], bytes[2], bytes[3], bytes[4], bytes[5], bytes[6], bytes[7],
+    ])
+}
+
+fn compare_words(a: &[u8], b: &[u8]) -> Ordering
+    requires a_word { 8 ≤ length a.now }
+    requires b_word { 8 ≤ length b.now }
+    ensures { result ≡ slice_cmp nat_cmp (take 8 a.now) (take 8 b.now) }
+{
+    word(a).cmp(&word(b))
+}
+
+// Four words cover all bytes, of which the last begins before the third ends.
+fn compare_padded(a: &[u8; MAX_SHORT], b: &[u8; MAX_SHORT]) -> Ordering
+    ensures order { result ≡ slice_cmp nat_cmp a.now b.now }
+    ensures lengths { (length a.now ≡ max_short) × (length b.now ≡ max_short) }
+{
+    let order = compare_words(a, b);
+    if order.is_ne() {
+        return order;
+    }
+    let order = compare_words(&a[8..], &b[8..]);
+    if order.is_ne() {
+        return order;
+    }
+    let order = compare_words(&a[16..], &b[16..]);
+    if order.is_ne() {
+        return order;
+    }
+    compare_words(&a[22..], &b[22..])
 }
 
 impl PartialEq for Name {
@@ -88,7 +128,7 @@ impl PartialEq for Name {
     ghost laws = { Prim.search (comparing, rules) };
 
     fn eq(&self, other: &Name) -> bool {
-        self.as_bytes() == other.as_bytes()
+        self.cmp(other).is_eq()
     }
 }
 
@@ -106,7 +146,16 @@ impl Ord for Name {
     ghost matches_eq = { Prim.search (comparing, rules) };
 
     fn cmp(&self, other: &Name) -> Ordering {
-        compare(self.as_bytes(), other.as_bytes())
+        match (&self.text, &other.text) {
+            (
+                Text::Short { length, bytes },
+                Text::Short {
+                    length: other_length,
+                    bytes: other_bytes,
+                },
+            ) => compare_padded(bytes, other_bytes).then(length.cmp(other_length)),
+            _ => compare(self.as_bytes(), other.as_bytes()),
+        }
     }
 }
 

@@ -1,7 +1,8 @@
 // The name of a relation.
-ghost use Rattle.std.specs.Prelude.{◌≡◌};
+ghost use Rattle.std.specs.Prelude.{◌≡◌, ◌<◌, length, IsErrOf};
 ghost use Rattle.tuples.specs.Names.{IsName};
 ghost use Rattle.tuples.specs.Parsing.{Parses, own_text};
+ghost use Rattle.tuples.specs.Short.{max_short};
 
 use crate::Refusal;
 use crate::grammar::is_name;
@@ -29,9 +30,10 @@ impl Model for Relation {
 }
 
 impl Relation {
-    /// A relation of these bytes; `BadTuple` where they are none.
+    /// A relation of these bytes; `BadTuple` where they are none, and never `NoMemory` where they are at most 30.
     pub fn parse(alloc: Global, bytes: &[u8]) -> Result<Self, Refusal>
-        ensures { Parses IsName own_text bytes.now result }
+        ensures value { Parses IsName own_text bytes.now result }
+        ensures memory { IsErrOf result Refusal.NoMemory → max_short < length bytes.now }
     {
         if !is_name(bytes) {
             return Err(Refusal::BadTuple);

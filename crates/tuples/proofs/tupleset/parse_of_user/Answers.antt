@@ -14,7 +14,7 @@ returns-in_err-namespace c =
     let namespace = c.split_relation.result.0.now in
     let relation = option_map (λ r. r.now) c.split_relation.result.1 in
     let p = err_from_is_err_and c.from_residual.result c.from_residual.ensures.1 in
-    rw (p.1, p.2) (refuses_whole IsName own_text namespace IsTupleset tupleset_text (front ++ 64 ∷ user) _ (of_user_by_namespace front namespace user relation c.requires.no_user c.requires.no_object c.split_relation.ensures.first c.split_relation.ensures.whole) c.in_err-namespace.ensures)
+    rw (p.1, p.2) (refuses_whole IsName own_text namespace IsTupleset tupleset_text (front ++ 64 ∷ user) _ (of_user_by_namespace front namespace user relation c.requires.no_user c.requires.no_object c.split_relation.ensures.first c.split_relation.ensures.whole) c.in_err-namespace.ensures.value)
 
 pub returns-in_err-relation : goal.returns-in_err-relation
 returns-in_err-relation c =

@@ -17,4 +17,4 @@ returns-in_err-relation c =
     let text = c.args.text.now in
     let relation = c.in-Some.relation.now in
     let p = err_from_is_err_and c.from_residual-in_err-relation.result c.from_residual-in_err-relation.ensures.1 in
-    rw (p.1, p.2) (refuses_whole IsName own_text relation IsUserset userset_text text _ (userset_by_relation text c.in-Some.object.now relation c.in-Some.ensures) c.in_err-relation.ensures)
+    rw (p.1, p.2) (refuses_whole IsName own_text relation IsUserset userset_text text _ (userset_by_relation text c.in-Some.object.now relation c.in-Some.ensures) c.in_err-relation.ensures.value)
