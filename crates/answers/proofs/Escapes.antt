@@ -31,11 +31,22 @@ pub as_it_is : (x l : ℕ) → l ≡ escape_letter x → l ≤ 0 → 32 ≤ x �
 unfolding escape_byte
 as_it_is x l e none high = sym (passed (escape_letter x) _ _ (omega (arith, e, none)) ∙ from_space x _ _ high)
 
+-- a byte that is none of those which are escaped
+no_letter : (x : ℕ) → 32 ≤ x → (x ≡ 34 → ⊥) → (x ≡ 92 → ⊥) → 0 ≡ escape_letter x
+no_letter x high quote slash = grind (arith, nat_tests)
+
 -- one byte more
 pub one_byte_more : (text : List ℕ) (i : ℕ) → i < length text → escape (take i text) ++ escape_byte (get_or text i 0) ≡ escape (take (i + 1) text)
 one_byte_more text i h =
     let x : ℕ = get_or text i 0 in
     sym (ap escape (take_more text i 0 h) ∙ flat_map-append escape_byte (take i text) (x ∷ []) ∙ ap (λ (l : List ℕ). escape (take i text) ++ l) (append-nil (escape_byte x)))
+
+-- one more that stands as it is
+pub one_plain_more : (text : List ℕ) (i : ℕ) → i < length text → 32 ≤ get_or text i 0 → (get_or text i 0 ≡ 34 → ⊥) → (get_or text i 0 ≡ 92 → ⊥) → escape (take i text) ≡ take i text → escape (take (i + 1) text) ≡ take (i + 1) text
+one_plain_more text i h high quote slash so_far =
+    let x : ℕ = get_or text i 0 in
+    let stays : x ∷ [] ≡ escape_byte x = as_it_is x 0 (no_letter x high quote slash) (omega arith) high in
+    sym (one_byte_more text i h) ∙ ap (λ (l : List ℕ). l ++ escape_byte x) so_far ∙ ap (λ (l : List ℕ). take i text ++ l) (sym stays) ∙ sym (take_more text i 0 h)
 
 -- two texts with a mark between them, which stands as it is
 marked : (m : ℕ) (a b : List ℕ) → escape_byte m ≡ m ∷ [] → escape a ++ (m ∷ escape b) ≡ escape (a ++ m ∷ b)

@@ -1,5 +1,5 @@
 // Texts in JSON strings.
-ghost use Rattle.std.specs.Prelude.{◌≡◌, ◌<◌};
+ghost use Rattle.std.specs.Prelude.{◌≡◌, ◌<◌, true};
 ghost use Rattle.std.specs.Char.{digit_char};
 ghost use Rattle.json.specs.Print.{escape, escape_byte, escape_letter as letter_of, quoted};
 ghost use Rattle.tuples.specs.Texts.{object_text, tuple_text, user_text};
@@ -60,8 +60,31 @@ fn push_byte(out: &mut Text<'_>, byte: u8)
     }
 }
 
-// The text as it stands inside a string.
+// Whether no byte of the text is escaped.
+fn is_plain(text: &[u8]) -> bool
+    ensures { result ≡ true → escape text.now ≡ text.now }
+{
+    for byte in text {
+        if *byte < SPACE || *byte == b'"' || *byte == b'\\' {
+            return false;
+        }
+    }
+    true
+}
+
+// The text as it stands inside a string. Nearly all texts are plain.
 fn push_escaped(out: &mut Text<'_>, text: &[u8])
+    ensures { Grown out.old out.new (escape text.now) }
+{
+    if is_plain(text) {
+        out.push(text);
+    } else {
+        push_escapes(out, text);
+    }
+}
+
+// The same, byte by byte.
+fn push_escapes(out: &mut Text<'_>, text: &[u8])
     ensures { Grown out.old out.new (escape text.now) }
 {
     for byte in text {
