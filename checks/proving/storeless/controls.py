@@ -1,7 +1,8 @@
 """The batches' own control: beside edits that are refused, changes that harm nothing are not told as refused.
 
-Three functions of `device` that a device in memory calls are spoiled by edits of its own, and four that call them are changed in a
-way that is proved. In one check all seven have no proof, four of them for their callees' sake alone.
+Three functions of `device` that a device in memory calls are spoiled by edits of its own, and four that call them and two that don't are
+changed in a way that is proved. In one check all nine have no proof: the six for the sake of the answer that each was given to fail
+by, three of them beside answers of their own that hold, and four for their callees' sake too.
 """
 
 import glob
@@ -22,7 +23,7 @@ def batch_of(crate):
     spoiled = [f"{crate.folder}/must-fail/{name}" for name in REFUSED]
     harmless = sorted(glob.glob(f"{HERE}/controls_{CRATE}/*.edit"))
     made, alone = batches.batches_of(crate, [*spoiled, *harmless])
-    return None if alone or len(made) != 1 or len(harmless) != 4 else made[0]
+    return None if alone or len(made) != 1 or len(harmless) != 6 else made[0]
 
 
 def wrong(told):
@@ -54,7 +55,7 @@ def tasks(crates, copy):
 def failed(given):
     """1 where the batches' control failed, so that no refusal of this run is worth anything."""
     if given.get(KEY):
-        rt.say("control: of seven changes of device in one batch three are refused, and the four that harm nothing are not")
+        rt.say("control: of nine changes of device in one batch three are refused, and the six that harm nothing are not")
         return 0
     rt.say("FAILED: the control of the batches")
     return 1
