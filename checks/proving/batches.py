@@ -5,36 +5,34 @@ function stands in no cycle of calls, and no other edit of the batch changes it.
 its signature and its clauses alone, which stay. So each function that is not edited and each edit is judged as if it stood alone,
 but for one thing: a function isn't proved whose callee isn't. A line that says no more than that is no refusal here.
 
-Each changed function gets an answer that fails, beside its own. It proves nothing, but the check makes a function that has no such answer
-once more where goals of it are left, to print what to write.
+Each changed function gets answers that fail, beside its own, so that the check does less (`wrong.py`).
 
 An edit counts as refused only where its own function's line says that there is no proof, and a goal inside that function, or an error
-in that function's own folder of proofs, stands beside it, that of the added answer aside. What is not told so clearly is left to be
-tried alone.
+in that function's own folder of proofs, stands beside it, and neither is of an answer that was added. What is not told so clearly is
+left to be tried alone.
 """
 
 import collections
-import contextlib
-import glob
 import os
 import re
-import shutil
-import tempfile
 
+from . import wrong
+from .broken import BROKEN
 from .kit import bodies, rt, rtlib
 
 # An edit and the one function whose inside it changes.
 Placed = collections.namedtuple("Placed", "edit function")
 
-# An answer that fails at once, since it is of what there is nowhere.
-WRONG = "\npub answers-nothing : nothing-of-this-name\nanswers-nothing = nothing-of-this-name\n"
 # That a callee's proof is not there is no error of the function's own. That a proof file names what the edit took away is one, if a
 # weak one, and is told with rt's own remark.
 OF_CALLEE = re.compile(r"was not admitted")
 # All that the line of a function may say that no edit changes, and that is not proved.
-FOR_CALLEES_SAKE = re.compile(r"(no proof: |not proved; )it calls [^;]*, which (is|are) not proved")
+CALLEE = r"(it calls [^;]*, which (is|are) not proved|it passes the block `[^`;]*`, which is not proved)"
+FOR_CALLEES_SAKE = re.compile(rf"(no proof: |not proved; ){CALLEE}(; {CALLEE})*")
 NAMES_ALONE = re.compile(r"has no field|is not in scope|has no `")
 WEAK = "(only because a proof file names what the edit took away, so this says little of the contract: change a value and keep the names) "
+# The goal in a note, or the answer in an error.
+NAMED = re.compile(r"\(`([^`]+)`\)|\Aerror: `([^`]+)`: ")
 AT = re.compile(r"(?:note: )?(?:\./)?((?:src|proofs|specs)/\S+?):(\d+):\d+:? (.*)")
 
 
@@ -148,74 +146,57 @@ def lines_of(said):
     return lines
 
 
-def folder_of(symbol):
-    """Where the files of a function's proof stand, in its crate."""
-    return "proofs/" + "/".join(symbol.split("::")[1:])
-
-
-def symbols_kept(crate, kept):
-    """The symbols of the crate's functions, by the names of the files that a check of them left."""
-    start, end = f"Rattle-{crate.name}-proofs.", ".Symbol.oantt"
-    names = [os.path.basename(it) for it in glob.glob(f"{glob.escape(kept)}/*/{start}*{end}")]
-    return {"::".join([crate.name, *it[len(start) : -len(end)].split(".")]) for it in names}
-
-
-class Elsewhere:
-    """A crate whose files stand in another folder."""
-
-    def __init__(self, crate, folder):
-        self.crate, self.folder = crate, folder
-
-    def __getattr__(self, name):
-        return getattr(self.crate, name)
-
-
-def add_wrong(file):
-    """Adds the answer that fails behind those that the file has, and returns its line."""
-    own = ""
-    if os.path.isfile(file):
-        with open(file, encoding="utf-8") as it:
-            own = it.read()
-    os.makedirs(os.path.dirname(file), exist_ok=True)
-    with open(file, "w", encoding="utf-8") as it:
-        it.write(own + WRONG)
-    return own.count("\n") + 2
-
-
-@contextlib.contextmanager
-def with_wrong_answers(crate, batch, kept):
-    """A copy of the crate in which each function of the batch has an answer that fails, and the first line of that answer by its file. A function that is not
-    found among what is kept, or whose proof is written by hand, gets none."""
-    source, symbols, added = source_of(crate), symbols_kept(crate, kept), {}
-    with tempfile.TemporaryDirectory(prefix="gate-wrong-") as room:
-        for part in rtlib.PARTS:
-            if os.path.isdir(f"{crate.folder}/{part}"):
-                shutil.copytree(f"{crate.folder}/{part}", f"{room}/{part}")
-        for _, function in batch:
-            found = [*symbols_of(crate, function, symbols)]
-            folder = folder_of(found[0]) if len(found) == 1 else None
-            if folder and not os.path.exists(f"{crate.folder}/{folder}/Proof.antt"):
-                added[f"{folder}/Answers.antt"] = add_wrong(f"{room}/{folder}/Answers.antt")
-        yield Elsewhere(crate, room), added
+def broken_of(crate, batch, kept):
+    """The symbols of the functions of the batch, as far as they are told apart among what is kept, with the goal that each edit is known to break."""
+    symbols, found = wrong.files_kept(crate, kept, "Symbol"), {}
+    for edit, function in batch:
+        own = [*symbols_of(crate, function, symbols)]
+        if len(own) == 1:
+            found[own[0]] = BROKEN.of(crate, edit)
+    return found
 
 
 def is_added(at, added):
     """Whether a line of the check is of an answer that was added, by its file and its place there."""
-    return at[1] in added and int(at[2]) >= added[at[1]]
+    return at[1] in added and int(at[2]) >= added[at[1]].line
 
 
-def refusal_of(source, function, symbol, words, notes, said, added):
-    """Why the function itself is refused, or None where nothing but its callees and the answer that was added may be."""
-    data = source.data[function.file]
+def goal_of(at):
+    """The goal of which a line of the check speaks."""
+    found = NAMED.search(at[3])
+    return found and (found[1] or found[2])
+
+
+def rank(at):
+    """Which of the lines that refuse an edit is the one to tell, and the one whose goal a later run leaves to be searched: what a tactic of the function's own
+    answers did not find is searched by each run, a goal at a limit takes longest, and that an answer does not fit any more says least."""
+    if at[3].startswith("error"):
+        return 0 if "no proof of" in at[3] else 3
+    return 2 if "gave up" in at[3] else 1
+
+
+def line_of_refusal(source, function, symbol, words, notes, said, added):
+    """The line that says why the function itself is refused, or None where nothing but its callees and the answers that were added may be."""
+    data, folder = source.data[function.file], wrong.folder_of(symbol)
     first, last = (1 + data[:it].count(b"\n") for it in (function.first, function.end))
     goals = [it for it in notes if it[1] == function.file and first <= int(it[2]) <= last and "it is not proved that" in it[3]]
-    errors = [it for it in map(AT.match, said.split("\n")) if it and it[1].startswith(f"{folder_of(symbol)}/") and "error" in it[3]]
+    left_out = [it for file, answers in added.items() if file.startswith(f"{folder}/") for it in answers.goals]
+    goals = [it for it in goals if goal_of(it) not in left_out]
+    errors = [it for it in map(AT.match, said.split("\n")) if it and it[1].startswith(f"{folder}/") and "error" in it[3]]
     errors = [it for it in errors if not OF_CALLEE.search(it[3]) and not is_added(it, added)]
-    if not words.startswith(("not proved", "no proof")) or not goals + errors:
+    if not words.startswith(("not proved", "no proof")):
         return None
-    strong = goals or [it for it in errors if not NAMES_ALONE.search(it[3])]
-    told = (strong or errors)[0][0]
-    return f"{'' if strong else WEAK}{told[:160]}"
+    strong = goals + [it for it in errors if not NAMES_ALONE.search(it[3])]
+    return min(strong or errors, key=rank, default=None)
+
+
+def why_refused(crate, edit, line):
+    """What the line says, and notes which goal it is of."""
+    if line[3].startswith("error") and NAMES_ALONE.search(line[3]):
+        return f"{WEAK}{line[0][:160]}"
+    if goal_of(line):
+        BROKEN.note(crate, edit, goal_of(line))
+    return line[0][:160]
 
 
 def judged_with_others(crate, batch, said, added):
@@ -231,7 +212,8 @@ def judged_with_others(crate, batch, said, added):
             told[taken.get(found[0], edit) if found else edit] = None
             continue
         taken[found[0]] = edit
-        told[edit] = refusal_of(source, function, found[0], *lines[found[0]], said, added)
+        line = line_of_refusal(source, function, found[0], *lines[found[0]], said, added)
+        told[edit] = line and why_refused(crate, edit, line)
     others = [words for symbol, (words, _) in lines.items() if symbol not in taken]
     return told, bool(others) and all(it.startswith("proved") or FOR_CALLEES_SAKE.fullmatch(it) for it in others)
 
@@ -247,7 +229,7 @@ def try_with_others(crate, batch, kept, flags):
     texts = texts_of(crate, batch)
     if texts is None:
         return nothing
-    with with_wrong_answers(crate, batch, kept) as (spoiled, added):
+    with wrong.answers(crate, broken_of(crate, batch, kept), kept) as (spoiled, added):
         ran = rt.checked(spoiled, texts, flags, kept)
     lines = ran.stdout.rstrip("\n").split("\n")
     if any(rt.unread(it, texts) for it in lines) or rtlib.STALE.search(ran.stdout):

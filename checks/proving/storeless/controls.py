@@ -9,6 +9,8 @@ import glob
 import os
 
 from .. import batches
+from ..broken import BROKEN
+from ..controls import SAID
 from ..kit import rt
 from ..lanes import Task
 
@@ -37,6 +39,7 @@ def is_right(crate, copy):
     if batch is None:
         rt.say(f"control: the edits of {CRATE} are no one batch any more")
         return False
+    BROKEN.known.update({(CRATE, name): goal for name, goal in SAID.items()})
     with copy(crate) as kept:
         found = wrong(batches.try_batch(crate, batch, kept, ["--jobs", "1"]))
     if found:
