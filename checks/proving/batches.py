@@ -168,8 +168,8 @@ def goal_of(at):
 
 
 def rank(at):
-    """Which of the lines that refuse an edit is the one to tell, and the one whose goal a later run leaves to be searched: what a tactic of the function's own
-    answers did not find is searched by each run, a goal at a limit takes longest, and that an answer does not fit any more says least."""
+    """Which of the lines that refuse an edit is the one to tell, and the one whose goal a later run leaves to be searched: an answer names one tactic, where
+    the check tries several; a goal at a limit takes longest; and that an answer does not fit any more says least."""
     if at[3].startswith("error"):
         return 0 if "no proof of" in at[3] else 3
     return 2 if "gave up" in at[3] else 1

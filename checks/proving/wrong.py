@@ -1,9 +1,9 @@
 """Answers that fail, for the functions that a batch of edits changes.
 
 They prove nothing, and save a check two things. A function that has no answer that fails is made once more where goals of it are left, to
-print what to write. And each goal that has no answer is searched: of an edit that is known to break one goal (`broken.py`) that one is
-left as it is, and all others that have no answer get one that fails at once. Where the edit does not break that goal, nothing is told of
-it here, and it is tried alone, without these answers.
+print what to write. And each goal that has no answer, or one that a tactic is to find, is searched: of an edit that is known to break one
+goal (`broken.py`) that one is left as it is, and all others get an answer that fails at once. Where the edit does not break that goal,
+nothing is told of it here, and it is tried alone, without these answers.
 """
 
 import collections
@@ -24,6 +24,8 @@ Added = collections.namedtuple("Added", "line goals")
 NO_GOAL, NOTHING = "answers-nothing", "nothing-of-this-name"
 # The names of goals (and not of other things that a function's proof has) that are worth to be left out.
 GOAL = re.compile(r"returns.*|invariant_of-.*|(overflow|nonzero|offset|slice)_.*|bounds-.*|.*-(requires|init|preserved|smaller)\b.*")
+# An answer that a tactic is to find.
+SEARCH = re.compile(r"^pub (?P<name>\S+) : goal\.(?P=name)\n(?:unfolding .*\n)?(?P=name)(?: \w+)* = (?:search|grind) .*\n(?!\s*?[ \t])", re.M)
 INTERFACE = b"--@ interface "
 
 
@@ -59,11 +61,25 @@ def goals_in(file):
     return [it for it in names if GOAL.fullmatch(it) and it not in whole]
 
 
+def is_apart(goal, broken):
+    """Whether the goal is neither the one that is broken nor a part or the whole of it."""
+    return goal != broken and not broken.startswith(f"{goal}-") and not goal.startswith(f"{broken}-clause-")
+
+
 def left_out(names, broken, own):
-    """The goals that need not be searched: neither the one that is broken nor a part or the whole of it, and none of which the function's own answers speak."""
+    """The goals that need not be searched: apart from the one that is broken, and such as the function's own answers don't speak of."""
     words = {*re.findall(r"[^\s(){}.,;:=]+", own)}
-    apart = lambda it: it != broken and not broken.startswith(f"{it}-") and not it.startswith(f"{broken}-clause-")
-    return [it for it in names if apart(it) and not {it, it.rpartition("-clause-")[0]} & words]
+    return [it for it in names if is_apart(it, broken) and not {it, it.rpartition("-clause-")[0]} & words]
+
+
+def without_searches(own, names, broken):
+    """A file's own answers but for those that leave a goal to a tactic, as the check would, where they are apart from the one that is broken. Their lines stay."""
+
+    def shortened(at):
+        is_alone = at["name"] in names and is_apart(at["name"], broken) and own.count(at["name"]) == at[0].count(at["name"]) == 3
+        return "\n" * at[0].count("\n") if is_alone else at[0]
+
+    return SEARCH.sub(shortened, own)
 
 
 def add(file, names, broken):
@@ -72,6 +88,7 @@ def add(file, names, broken):
     if os.path.isfile(file):
         with open(file, encoding="utf-8") as it:
             own = it.read()
+    own = without_searches(own, names, broken) if broken else own
     goals = left_out(names, broken, own) if broken else []
     os.makedirs(os.path.dirname(file), exist_ok=True)
     with open(file, "w", encoding="utf-8") as it:
