@@ -191,12 +191,10 @@ def line_of_refusal(source, function, symbol, words, notes, said, added):
 
 
 def why_refused(crate, edit, line):
-    """What the line says, and notes which goal it is of."""
-    if line[3].startswith("error") and NAMES_ALONE.search(line[3]):
-        return f"{WEAK}{line[0][:160]}"
-    if goal_of(line):
-        BROKEN.note(crate, edit, goal_of(line))
-    return line[0][:160]
+    """What the line says, if there is one, and notes which goal it is of."""
+    is_weak = line and line[3].startswith("error") and NAMES_ALONE.search(line[3])
+    BROKEN.note(crate, edit, line and not is_weak and goal_of(line) or "")
+    return line and f"{WEAK if is_weak else ''}{line[0][:160]}"
 
 
 def judged_with_others(crate, batch, said, added):
@@ -212,8 +210,7 @@ def judged_with_others(crate, batch, said, added):
             told[taken.get(found[0], edit) if found else edit] = None
             continue
         taken[found[0]] = edit
-        line = line_of_refusal(source, function, found[0], *lines[found[0]], said, added)
-        told[edit] = line and why_refused(crate, edit, line)
+        told[edit] = why_refused(crate, edit, line_of_refusal(source, function, found[0], *lines[found[0]], said, added))
     others = [words for symbol, (words, _) in lines.items() if symbol not in taken]
     return told, bool(others) and all(it.startswith("proved") or FOR_CALLEES_SAKE.fullmatch(it) for it in others)
 

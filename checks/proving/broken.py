@@ -20,6 +20,7 @@ class Broken:
         return self.known.get((crate.name, os.path.basename(edit)))
 
     def note(self, crate, edit, goal):
+        """Notes the goal, or, where it is empty, that none was seen, so that the next run searches them all again."""
         self.found[crate.name, os.path.basename(edit)] = goal
 
     def write(self):
@@ -36,7 +37,7 @@ def put(file, goals):
 def record():
     """Keeps what the last run here found, beside what is known of the edits that it took as an earlier run left them."""
     goals = {(name, edit): goal for file in (KEPT, LAST) for name, edit, goal in rows_of(file)}
-    put(KEPT, {it: goal for it, goal in goals.items() if os.path.isfile(f"crates/{it[0]}/must-fail/{it[1]}")})
+    put(KEPT, {it: goal for it, goal in goals.items() if goal and os.path.isfile(f"crates/{it[0]}/must-fail/{it[1]}")})
 
 
 BROKEN = Broken()
