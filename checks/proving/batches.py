@@ -5,14 +5,19 @@ function stands in no cycle of calls, and no other edit of the batch changes it.
 its signature and its clauses alone, which stay. So each function that is not edited and each edit is judged as if it stood alone,
 but for one thing: a function isn't proved whose callee isn't. A line that says no more than that is no refusal here.
 
+Each changed function gets answers that fail, beside its own, so that the check does less (`wrong.py`).
+
 An edit counts as refused only where its own function's line says that there is no proof, and a goal inside that function, or an error
-in that function's own folder of proofs, stands beside it. What is not told so clearly is left to be tried alone.
+in that function's own folder of proofs, stands beside it, and neither is of an answer that was added. What is not told so clearly is
+left to be tried alone.
 """
 
 import collections
 import os
 import re
 
+from . import wrong
+from .broken import BROKEN
 from .kit import bodies, rt, rtlib
 
 # An edit and the one function whose inside it changes.
@@ -22,9 +27,12 @@ Placed = collections.namedtuple("Placed", "edit function")
 # weak one, and is told with rt's own remark.
 OF_CALLEE = re.compile(r"was not admitted")
 # All that the line of a function may say that no edit changes, and that is not proved.
-FOR_CALLEES_SAKE = re.compile(r"(no proof: |not proved; )it calls [^;]*, which (is|are) not proved")
+CALLEE = r"(it calls [^;]*, which (is|are) not proved|it passes the block `[^`;]*`, which is not proved)"
+FOR_CALLEES_SAKE = re.compile(rf"(no proof: |not proved; ){CALLEE}(; {CALLEE})*")
 NAMES_ALONE = re.compile(r"has no field|is not in scope|has no `")
 WEAK = "(only because a proof file names what the edit took away, so this says little of the contract: change a value and keep the names) "
+# The goal in a note, or the answer in an error.
+NAMED = re.compile(r"\(`([^`]+)`\)|\Aerror: `([^`]+)`: ")
 AT = re.compile(r"(?:note: )?(?:\./)?((?:src|proofs|specs)/\S+?):(\d+):\d+:? (.*)")
 
 
@@ -138,29 +146,60 @@ def lines_of(said):
     return lines
 
 
-def refusal_of(source, function, symbol, words, notes, said):
-    """Why the function itself is refused, or None where nothing but its callees may be."""
-    data = source.data[function.file]
+def broken_of(crate, batch, kept):
+    """The symbols of the functions of the batch, as far as they are told apart among what is kept, with the goal that each edit is known to break."""
+    symbols, found = wrong.files_kept(crate, kept, "Symbol"), {}
+    for edit, function in batch:
+        own = [*symbols_of(crate, function, symbols)]
+        if len(own) == 1:
+            found[own[0]] = BROKEN.of(crate, edit)
+    return found
+
+
+def is_added(at, added):
+    """Whether a line of the check is of an answer that was added, by its file and its place there."""
+    return at[1] in added and int(at[2]) >= added[at[1]].line
+
+
+def goal_of(at):
+    """The goal of which a line of the check speaks."""
+    found = NAMED.search(at[3])
+    return found and (found[1] or found[2])
+
+
+def rank(at):
+    """Which of the lines that refuse an edit is the one to tell, and the one whose goal a later run leaves to be searched: an answer names one tactic, where
+    the check tries several; a goal at a limit takes longest; and that an answer does not fit any more says least."""
+    if at[3].startswith("error"):
+        return 0 if "no proof of" in at[3] else 3
+    return 2 if "gave up" in at[3] else 1
+
+
+def line_of_refusal(source, function, symbol, words, notes, said, added):
+    """The line that says why the function itself is refused, or None where nothing but its callees and the answers that were added may be."""
+    data, folder = source.data[function.file], wrong.folder_of(symbol)
     first, last = (1 + data[:it].count(b"\n") for it in (function.first, function.end))
     goals = [it for it in notes if it[1] == function.file and first <= int(it[2]) <= last and "it is not proved that" in it[3]]
-    folder = "proofs/" + "/".join(symbol.split("::")[1:]) + "/"
-    errors = [it for it in map(AT.match, said.split("\n")) if it and it[1].startswith(folder) and "error" in it[3]]
-    errors = [it for it in errors if not OF_CALLEE.search(it[3])]
-    if not words.startswith(("not proved", "no proof")) or not goals + errors:
+    left_out = [it for file, answers in added.items() if file.startswith(f"{folder}/") for it in answers.goals]
+    goals = [it for it in goals if goal_of(it) not in left_out]
+    errors = [it for it in map(AT.match, said.split("\n")) if it and it[1].startswith(f"{folder}/") and "error" in it[3]]
+    errors = [it for it in errors if not OF_CALLEE.search(it[3]) and not is_added(it, added)]
+    if not words.startswith(("not proved", "no proof")):
         return None
-    strong = goals or [it for it in errors if not NAMES_ALONE.search(it[3])]
-    told = (strong or errors)[0][0]
-    return f"{'' if strong else WEAK}{told[:160]}"
+    strong = goals + [it for it in errors if not NAMES_ALONE.search(it[3])]
+    return min(strong or errors, key=rank, default=None)
 
 
-def judged(crate, batch, said):
-    """Of each edit of the batch why it is refused, or None."""
-    return judged_with_others(crate, batch, said)[0]
+def why_refused(crate, edit, line):
+    """What the line says, if there is one, and notes which goal it is of."""
+    is_weak = line and line[3].startswith("error") and NAMES_ALONE.search(line[3])
+    BROKEN.note(crate, edit, line and not is_weak and goal_of(line) or "")
+    return line and f"{WEAK if is_weak else ''}{line[0][:160]}"
 
 
-def judged_with_others(crate, batch, said):
-    """The same, and whether each function that no edit changes is proved, or is not for its callees' sake alone: so what was kept is enough for the crate
-    as it is."""
+def judged_with_others(crate, batch, said, added):
+    """Of each edit of the batch why it is refused, or None, and whether each function that no edit changes is proved, or is not for its callees' sake alone:
+    so what was kept is enough for the crate as it is."""
     source, lines, told, taken = source_of(crate), lines_of(said), {}, {}
     for edit, function in batch:
         told[edit] = None
@@ -171,7 +210,7 @@ def judged_with_others(crate, batch, said):
             told[taken.get(found[0], edit) if found else edit] = None
             continue
         taken[found[0]] = edit
-        told[edit] = refusal_of(source, function, found[0], *lines[found[0]], said)
+        told[edit] = why_refused(crate, edit, line_of_refusal(source, function, found[0], *lines[found[0]], said, added))
     others = [words for symbol, (words, _) in lines.items() if symbol not in taken]
     return told, bool(others) and all(it.startswith("proved") or FOR_CALLEES_SAKE.fullmatch(it) for it in others)
 
@@ -187,10 +226,11 @@ def try_with_others(crate, batch, kept, flags):
     texts = texts_of(crate, batch)
     if texts is None:
         return nothing
-    ran = rt.checked(crate, texts, flags, kept)
+    with wrong.answers(crate, broken_of(crate, batch, kept), kept) as (spoiled, added):
+        ran = rt.checked(spoiled, texts, flags, kept)
     lines = ran.stdout.rstrip("\n").split("\n")
     if any(rt.unread(it, texts) for it in lines) or rtlib.STALE.search(ran.stdout):
         return nothing
     if ran.returncode != 1 or not lines[-1].startswith("logic=not-proved"):
         return nothing
-    return judged_with_others(crate, batch, ran.stdout)
+    return judged_with_others(crate, batch, ran.stdout, added)

@@ -94,7 +94,7 @@ class Changed:
         else:
             kept = Kept(crate)
             made, alone = batches.batches_of(crate, good)
-            told = [it for batch in made for it in try_together(kept, batch).values()]
+            told = [it for batch in made for it in try_together(kept, batch)[0].values()]
             said = [*told, *[try_alone(kept, it) for it in alone]]
         refused = [kind in (rt.REFUSED, rt.AT_LIMIT) for kind, _ in said]
         for is_refused, (_, text) in zip(refused, said):

@@ -10,6 +10,7 @@ import tempfile
 import threading
 
 from . import batches, controls, formats, sums
+from .broken import BROKEN
 from .kit import rt, rtlib
 from .lanes import Lanes, Meter, Task
 from .seconds import Seconds
@@ -18,7 +19,7 @@ ONE_JOB = ["--jobs", "1"]
 # The processor seconds that a batch of edits may take, by the record.
 LONG_BATCH = 200
 # What of these scripts a verdict rests on: what other forms of them passed counts for nothing.
-JUDGES = ("kit.py", "batches.py", "controls.py", "gating.py")
+JUDGES = ("kit.py", "batches.py", "wrong.py", "controls.py", "gating.py")
 SEEDING = threading.Lock()
 
 
@@ -124,14 +125,15 @@ def try_alone(crate, edit):
 
 
 def try_together(crate, batch):
-    """What each edit of the batch comes to, and what to say, as rt's must_fail does."""
+    """What each edit of the batch comes to, and what to say, as rt's must_fail does; and whether its check shows that the kept work is enough for the crate as
+    it is."""
     with Copy(crate) as kept:
-        told = batches.try_batch(crate, batch, kept, ONE_JOB) if kept else {it.edit: None for it in batch}
+        told, is_enough = batches.try_with_others(crate, batch, kept, ONE_JOB) if kept else ({it.edit: None for it in batch}, False)
     said = {}
     for edit, why in told.items():
         label = f"must-fail {crate.name}/{os.path.basename(edit)}"
         said[edit] = (rt.REFUSED, f"{label}: refused, as it must be: {why}") if why else try_alone(crate, edit)
-    return said
+    return said, is_enough
 
 
 def stat_of(file):
@@ -166,10 +168,10 @@ class Edits:
     def run(self, edits, given, call):
         """Tries those of the edits that no earlier run has tried."""
         if not given[self.name, "proof"]:
-            return {}
+            return {}, False
         left = self.left(edits)
         self.is_well({(self.name, "proof"): True, (self.name, "tests"): True}, len(self.left(self.edits)))
-        return call(left) if left else {}
+        return call(left) if left else ({}, False)
 
     def add(self, tasks, label, edits, call):
         """Adds a task that stands on the crate's proof."""
@@ -179,8 +181,12 @@ class Edits:
         self.keys.append(key)
 
     def whole(self, given, jobs):
-        """Whether the crate as it is is proved over what its edits are tried over."""
-        return given[self.name, "proof"] and (not self.left(self.edits) or is_proved(self.crate))
+        """Whether the crate as it is is proved over what its edits are tried over. Each batch shows that by the functions that it leaves as they are; where one
+        does not, and where there is none, the crate is checked once more."""
+        if not given[self.name, "proof"] or not self.left(self.edits):
+            return given[self.name, "proof"]
+        shown = [it and it[1] for it in map(given.get, self.batches) if it is None or it[0]]
+        return bool(shown) and all(shown) or is_proved(self.crate)
 
     def put(self, tasks):
         """Adds the tasks: a batch each, an edit alone each, the crate as it is, and what gathers them."""
@@ -188,10 +194,12 @@ class Edits:
         for at, batch in enumerate(made):
             together = lambda left, batch=batch: try_together(self.crate, [it for it in batch if it.edit in left])
             self.add(tasks, at, [it.edit for it in batch], together)
+        self.batches = [*self.keys]
         for edit in alone:
-            self.add(tasks, os.path.basename(edit), [edit], lambda left: {it: try_alone(self.crate, it) for it in left})
+            self.add(tasks, os.path.basename(edit), [edit], lambda left: ({it: try_alone(self.crate, it) for it in left}, False))
         self.sound, self.last = (self.name, "edits none"), (self.name, "edits gathered")
-        tasks[self.sound] = Task([(self.name, "proof")], self.weight / (len(self.edits) + 1), rt.need(self.crate), 1, self.whole)
+        weight = self.weight / (len(self.edits) + 1) * (not made)
+        tasks[self.sound] = Task([(self.name, "proof"), *self.batches], weight, rt.need(self.crate), 1, self.whole)
         tasks[self.last] = Task([*self.keys, self.sound], 0, 0, 1, self.gathered)
 
     def gathered(self, given, jobs):
@@ -199,7 +207,7 @@ class Edits:
         What is settled is kept, where no file that it stands on was touched since the run began."""
         if not given[self.name, "proof"]:
             return []
-        tried = {edit: it for key in self.keys for edit, it in (given[key] or {}).items()}
+        tried = {edit: it for key in self.keys for edit, it in (given[key] or ({},))[0].items()}
         if not given[self.sound]:
             tried = {edit: rt.must_fail(self.crate, edit, ONE_JOB) for edit in tried}
         for edit, (kind, text) in tried.items():
@@ -266,4 +274,5 @@ class Gate:
         rt.put_back = lambda root, aside, was_killed=False: give_back(root, aside, True)
         status = rt.where_disk_lasts(rt.ci, self.anew)
         self.seconds.write(self.lanes.took, self.meter.rows())
+        BROKEN.write()
         return status or controls.failed(self.given) or int(self.bad() > 0 or bool(self.lanes.broken))

@@ -9,6 +9,7 @@ import tempfile
 
 from .. import batches, formats
 from . import controls, sums
+from ..broken import BROKEN
 from ..kit import rt, rtlib
 from ..lanes import Lanes, Meter, Task
 from ..seconds import Seconds
@@ -227,4 +228,5 @@ class Gate:
         rt.put_back = lambda root, aside, was_killed=False: give_back(root, aside, True)
         status = rt.ci()
         self.seconds.write(self.lanes.took, self.meter.rows())
+        BROKEN.write()
         return status or controls.failed(self.given) or int(bool(self.lanes.broken))
