@@ -15,7 +15,7 @@ const EXAMPLE: &str = "Examples:
   zanstore call 127.0.0.1:7700 check doc:readme#viewer@ann
   zanstore call 127.0.0.1:7700 --follow watch AQAAAAAAAAAAAQAAAAAAAAAA 256 doc
 
-Requests, which may also be lines of JSON:
+Options stand before the request. Requests, which may also be lines of JSON:
   write +TUPLE -TUPLE .. if ?TUPLE !TUPLE TUPLE=TOKEN ..
   read [latest | at-least TOKEN | exact TOKEN] TUPLESET ..
   check [latest | at-least TOKEN | exact TOKEN] TUPLE

@@ -14,7 +14,7 @@ use std::io::{Eprint, Print};
 
 const EXAMPLE: &str = "Example:
   mkdir wider && zanstore reshard --dir data --to wider --store 1 --shards 2 --new-shards 8
-  zanstore serve --dir wider --store 1 --shards 8 --listen 127.0.0.1:7700
+  zanstore serve --dir wider --store 1 --shards 8 --listen 127.0.0.1:7700 --workers 4
 
 It prints done. From then on the folder of before is kept only as a copy.
 

@@ -15,7 +15,13 @@ use std::alloc::Global;
 use std::env::{self, Env};
 use std::io::{Eprint, Print};
 
-const EXAMPLE: &str = "Example:
+const EXAMPLE: &str = "Commands that have a help of their own:
+  serve    A store in files, served over TCP
+  call     Requests to such a server
+  dump     All tuples of such a store, once it is stopped
+  reshard  Such a store with another number of shards
+
+Example:
   zanstore sim <<'END'
   write +doc:readme#viewer@group:staff#member +group:staff#member@ann
   check latest doc:readme#viewer@ann
@@ -25,12 +31,7 @@ It prints the token of the write's place, and yes with that of the place that an
   ok AQAAAAAAAAAAAQAAAAAAAAAB
   yes AQAAAAAAAAAAAQAAAAAAAAAB
 
-The lines of a script: zanstore sim --help
-
-A store in files, served over TCP: zanstore serve --help
-All tuples of such a store: zanstore dump --help
-Such a store with another number of shards: zanstore reshard --help
-Requests to such a server: zanstore call --help";
+The options of a command, and the lines of a script: zanstore COMMAND --help";
 
 const SIM: &str =
     "Runs a script from standard input over a new store on disks in memory, and prints what each line
@@ -169,7 +170,7 @@ fn command<'a>(alloc: Global) -> Result<Command<'a>, Error>
     let script = sim_command(alloc)?;
     Ok(
         Command::new(alloc, "zanstore")
-            .about("A store of relation tuples, run by scripts")
+            .about("A store of relation tuples: served over TCP, or run by scripts")
             .after_help(EXAMPLE)
             .subcommand_required(true)
             .subcommand(script)?,
