@@ -1,6 +1,5 @@
 -- A check of a shared store that has a shard read before it is asked how far it has learned.
-use Rattle.std.proofs.Common.{◌≡◌, ◌⊎◌, inl, inr, ℕ, List, Bool, Option, Some, None, sym, ◌∙◌, ap, subst}
-use Rattle.refusal.specs.declared.refusal.Refusal.{Refusal}
+use Rattle.std.proofs.Common.{◌≡◌, inl, inr, ℕ, List, Bool, Some, None, sym, ◌∙◌, ap, subst}
 use Rattle.refusal.specs.declared.refusal.Refusal.TheVariants.{NoMemory}
 use Rattle.tuples.specs.declared.object.Userset.{Userset}
 use Rattle.tuples.specs.declared.user.User.{User}
@@ -8,7 +7,7 @@ use Rattle.tuples.specs.declared.entry.Entry.{Entry}
 use Rattle.published.specs.Known.{Known}
 use Rattle.decisions.specs.Flows.{Freshness}
 use Rattle.answer_flow.specs.Checking.{HastensCheck, LacksMemory}
-use Rattle.answer_flow.specs.CheckViews.{CheckEnding, CheckFlowValue, CheckView, at_rest, checked, read, refused}
+use Rattle.answer_flow.specs.CheckViews.{CheckFlowValue, CheckView, at_rest, read, refused}
 use Rattle.flow_ties.specs.Checks.{CheckHasReason, HoldsWalk, IsCheckOf}
 use Rattle.flow_ties.proofs.ToldChecks.{checks_at_rest_have_reason}
 

@@ -1,11 +1,11 @@
 -- A read of a shared store that has a shard read before it is asked how far it has learned.
-use Rattle.std.proofs.Common.{◌≡◌, ◌⊎◌, inl, inr, ℕ, List, Bool, Option, Some, None, sym, ◌∙◌, ap, subst}
+use Rattle.std.proofs.Common.{◌≡◌, inl, inr, ℕ, List, Bool, None, sym, ◌∙◌, ap, subst}
 use Rattle.tuples.specs.declared.tupleset.Tupleset.{Tupleset}
 use Rattle.tuples.specs.declared.entry.Entry.{Entry}
 use Rattle.published.specs.Known.{Known}
 use Rattle.decisions.specs.Flows.{Freshness, ReadHolds}
 use Rattle.answer_flow.specs.Reading.{HastensRead}
-use Rattle.answer_flow.specs.ReadViews.{ReadFlowValue, ReadView, at_rest, read}
+use Rattle.answer_flow.specs.ReadViews.{ReadFlowValue, ReadView, read}
 use Rattle.flow_ties.specs.Reads.{HoldsRows, IsReadOf, ReadHasReason}
 use Rattle.flow_ties.proofs.ToldReads.{reads_at_rest_have_reason}
 

@@ -8,16 +8,26 @@ use device::Device;
 use shard::ReadReply;
 use sides::Room;
 use std::sync::Wait;
+use tuples::Refusal;
+
+// Whether these are no rows, since the shard has not learned so far.
+fn are_behind(rows: &Result<ReadReply, Refusal>) -> bool {
+    match rows {
+        Ok(rows) => matches!(rows, ReadReply::Behind),
+        Err(_) => false,
+    }
+}
 
 // Whether a shard that was to read has not learned so far.
 fn is_behind(reply: &Reply) -> bool {
-    matches!(
-        reply,
-        Reply::Shard(
-            ShardReply::Read(_, Ok(ReadReply::Behind))
-                | ShardReply::ReadForCheck(_, _, Ok(ReadReply::Behind))
-        )
-    )
+    let Reply::Shard(answer) = reply else {
+        return false;
+    };
+    match answer {
+        ShardReply::Read(_, rows) => are_behind(rows),
+        ShardReply::ReadForCheck(_, _, rows) => are_behind(rows),
+        _ => false,
+    }
 }
 
 impl<D: Device, B: Room, G: Gate> Store<D, B, G> {

@@ -9,15 +9,15 @@ loop-preserved g c =
     let was = c.loop.invariant in
     let now = stays g.B.Room.rests g.B.Room.shards c.loop.caller c.loop.told c.loop.flow c.hasten.new.flow c.hasten.ensures.asked c.hasten.ensures.hastens was.rests was.held was.reason in
     let of = now.of ∙ was.of in
-    let turns = c.turn.ensures.turns in
-    let on = read_goes_on g.B.Room.rests g.B.Room.shards c.loop.caller c.turn.new.caller c.loop.told c.turn.new.told c.hasten.new.flow c.turn.new.flow of now.held turns in
+    let turns = c.turn-is_behind.ensures.turns in
+    let on = read_goes_on g.B.Room.rests g.B.Room.shards c.loop.caller c.turn-is_behind.new.caller c.loop.told c.turn-is_behind.new.told c.hasten.new.flow c.turn-is_behind.new.flow of now.held turns in
     record {
       runs = (tt, tt);
-      of = c.turn.ensures.of;
+      of = c.turn-is_behind.ensures.of;
       fresh = on.fresh ∙ now.fresh ∙ was.fresh;
       sets = on.sets ∙ now.sets ∙ was.sets;
       rests = on.rests;
-      later = later_on c.args.caller.now c.loop.caller c.turn.new.caller was.later turns.serves.later;
+      later = later_on c.args.caller.now c.loop.caller c.turn-is_behind.new.caller was.later turns.serves.later;
       held = on.held;
-      reason = read_has_reason g.B.Room.rests g.B.Room.shards c.loop.caller c.turn.new.caller c.loop.told c.turn.new.told c.hasten.new.flow c.turn.new.flow of turns;
+      reason = read_has_reason g.B.Room.rests g.B.Room.shards c.loop.caller c.turn-is_behind.new.caller c.loop.told c.turn-is_behind.new.told c.hasten.new.flow c.turn-is_behind.new.flow of turns;
     }
