@@ -251,7 +251,10 @@ def command_lines(folder):
     must((status, err) == (0, ""), f"help has status {status}, and says {err}")
     for word in ("ADDR", "--retry", "--follow", "write", "read", "check", "watch", "at-least", "exact"):
         must(word in out, f"help does not tell {word}")
-    must("zanstore call --help" in run("--help")[1], "the program's help does not tell of call")
+    told = run("--help")[1]
+    for name in ("sim", "serve", "call", "dump", "reshard"):
+        must(any(line.startswith(f"  {name} ") for line in told.splitlines()), f"the program's help does not tell of {name}")
+    must("zanstore COMMAND --help" in told, "the program's help does not say where the options are told")
 
 
 TRIES = {one.__name__.replace("_", "-"): one for one in (each_request, sent_lines, refused_requests, each_refusal, repeats, follows, no_server, bad_lines, command_lines)}
