@@ -38,12 +38,12 @@ impl Model for CheckFlow {
 }
 
 // What stands there while a phase is out.
-fn nowhere() -> Phase {
+pub(crate) fn nowhere() -> Phase {
     Phase::Ended(CheckEnd::Refused(Refusal::Damaged))
 }
 
 // Puts a phase in the place of one that was taken out.
-fn put(place: &mut Phase, phase: Phase)
+pub(crate) fn put(place: &mut Phase, phase: Phase)
     ensures { place.new ≡ phase }
 {
     drop(mem::replace(place, phase));

@@ -115,7 +115,7 @@ fn question(walk: &Walk, user: &User) -> Result<Option<(Userset, User)>, AllocEr
 }
 
 // The shard has learned so far, and is read.
-fn ask(asked: &AskedCheck, place: u64, walk: Walk) -> Phase
+pub(crate) fn ask(asked: &AskedCheck, place: u64, walk: Walk) -> Phase
     requires { walk.waiting ≢ [] }
     ensures gives { (view_of result ≡ at_rest to_read (holding_walk walk (Some place) None)) ⊎ LacksMemory (view_of result) }
     ensures kept { IsBehindOf asked.now.shards asked.now.user result }

@@ -15,6 +15,7 @@ mod check_turns;
 mod checking;
 mod events;
 mod finding;
+mod hastening;
 mod merging;
 mod read_at;
 mod read_flow;

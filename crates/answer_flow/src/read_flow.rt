@@ -38,7 +38,7 @@ impl Model for ReadFlow {
 }
 
 // Puts a phase in the place of one that was taken out.
-fn put(place: &mut Phase, phase: Phase)
+pub(crate) fn put(place: &mut Phase, phase: Phase)
     ensures { place.new ≡ phase }
 {
     drop(mem::replace(place, phase));

@@ -4,6 +4,8 @@ mod NextCalls
 mod FreshPlaces
 mod ReadTurns
 mod CheckTurns
+mod HastenedChecks
+mod HastenedReads
 mod WatchTurns
 mod CareTurns
 mod RefusedCalls

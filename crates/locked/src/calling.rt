@@ -3,20 +3,43 @@ ghost use Rattle.std.specs.Prelude.{◌≡◌, true, is_some};
 ghost use Rattle.locked.specs.Turning.{HandsWhatIsSeen, Turns};
 
 use crate::{Caller, Gate, Store};
-use calls::{Running, Told};
+use calls::{Reply, Running, ShardReply, Told};
 use device::Device;
+use shard::ReadReply;
 use sides::Room;
 use std::sync::Wait;
+use tuples::Refusal;
+
+// Whether these are no rows, since the shard has not learned so far.
+fn are_behind(rows: &Result<ReadReply, Refusal>) -> bool {
+    match rows {
+        Ok(rows) => matches!(rows, ReadReply::Behind),
+        Err(_) => false,
+    }
+}
+
+// Whether a shard that was to read has not learned so far.
+fn is_behind(reply: &Reply) -> bool {
+    let Reply::Shard(answer) = reply else {
+        return false;
+    };
+    match answer {
+        ShardReply::Read(_, rows) => are_behind(rows),
+        ShardReply::ReadForCheck(_, _, rows) => are_behind(rows),
+        _ => false,
+    }
+}
 
 impl<D: Device, B: Room, G: Gate> Store<D, B, G> {
-    /// Makes the next call of what runs, and gives it the reply. Others may call between two turns.
+    /// Makes the next call of what runs, and gives it the reply. Whether that is of a shard that has not learned so far as it was to read. Others may call
+    /// between two turns.
     pub(crate) fn turn<F: Running, R: Wait>(
         &self,
         rt: &R,
         caller: &mut Caller<B>,
         told: &mut Told,
         flow: &mut F,
-    )
+    ) -> bool
         requires of { F.is_of B.shards flow.old }
         requires goes_on { is_some (F.next_named flow.old) ≡ true }
         requires hands { B.rests → HandsWhatIsSeen F.asks caller.old flow.old }
@@ -24,9 +47,11 @@ impl<D: Device, B: Room, G: Gate> Store<D, B, G> {
         ensures of { F.is_of B.shards flow.new }
     {
         let Some(call) = flow.next_call() else {
-            return;
+            return false;
         };
         let reply = self.make(rt, &mut caller.pass, &mut caller.tried, told, call);
+        let is_behind = is_behind(&reply);
         flow.give(reply);
+        is_behind
     }
 }

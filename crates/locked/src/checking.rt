@@ -1,5 +1,6 @@
 // Checks of a shared store.
 ghost use Rattle.std.specs.Prelude.{◌≡◌, Bool, List, length, None, Some, IfOk};
+ghost use Rattle.answer_flow.specs.Checking.{HastensCheck};
 ghost use Rattle.answer_flow.specs.CheckViews.{ending_of};
 ghost use Rattle.flow_ties.specs.Checks.{CheckHasReason, IsCheckOf};
 ghost use Rattle.sides.specs.Sides.{IsLater};
@@ -24,6 +25,16 @@ fn ended(flow: CheckFlow) -> CheckEnd
     match flow.finish() {
         Some(end) => end,
         None => unreachable!(),
+    }
+}
+
+// A shard is read at once, unless it has just told that it has not learned so far.
+fn hasten(flow: &mut CheckFlow, is_behind: bool)
+    ensures asked { flow.new ≡ record flow.old { seen = flow.new.seen; next_name = flow.new.next_name } }
+    ensures hastens { HastensCheck flow.old.seen flow.new.seen }
+{
+    if !is_behind {
+        flow.read_at_once();
     }
 }
 
@@ -69,11 +80,13 @@ impl<D: Device, B: Room, G: Gate> Store<D, B, G> {
         ensures reason { B.rests → CheckHasReason told.new flow.fresh caller.new.seen caller.new.horizon userset.now result.seen }
     {
         let _asked = userset;
+        let mut is_behind = false;
         for _ in rt.forever() {
+            hasten(&mut flow, is_behind);
             if flow.next_name().is_none() {
                 return flow;
             }
-            self.turn(rt, caller, told, &mut flow);
+            is_behind = self.turn(rt, caller, told, &mut flow);
         }
         unreachable!()
     }

@@ -1,6 +1,7 @@
 // Reads of a shared store.
 ghost use Rattle.std.specs.Prelude.{◌≡◌, Bool, List, length, None, Some};
 ghost use Rattle.answer_flow.specs.ReadViews.{ending_of};
+ghost use Rattle.answer_flow.specs.Reading.{HastensRead};
 ghost use Rattle.flow_ties.specs.Reads.{IsReadOf, ReadHasReason};
 ghost use Rattle.sides.specs.Sides.{IsLater};
 ghost use Rattle.locked.specs.Answering.{ReadEnds, ReadRefuses, ReadRuns};
@@ -24,6 +25,16 @@ fn ended(flow: ReadFlow) -> ReadEnd
     match flow.finish() {
         Some(end) => end,
         None => unreachable!(),
+    }
+}
+
+// A shard is read at once, unless it has just told that it has not learned so far.
+fn hasten(flow: &mut ReadFlow, is_behind: bool)
+    ensures asked { flow.new ≡ record flow.old { seen = flow.new.seen; next_name = flow.new.next_name } }
+    ensures hastens { HastensRead flow.old.seen flow.new.seen }
+{
+    if !is_behind {
+        flow.read_at_once();
     }
 }
 
@@ -67,11 +78,13 @@ impl<D: Device, B: Room, G: Gate> Store<D, B, G> {
         ensures rests { result.seen.awaited ≡ None }
         ensures reason { B.rests → ReadHasReason told.new result.fresh caller.new.seen caller.new.horizon result.seen }
     {
+        let mut is_behind = false;
         for _ in rt.forever() {
+            hasten(&mut flow, is_behind);
             if flow.next_name().is_none() {
                 return flow;
             }
-            self.turn(rt, caller, told, &mut flow);
+            is_behind = self.turn(rt, caller, told, &mut flow);
         }
         unreachable!()
     }

@@ -1,4 +1,5 @@
 use Rattle.std.proofs.Common.{◌∙◌}
+use Rattle.locked.proofs.HastenedReads.{stays}
 use Rattle.locked.proofs.Passes.{later_on}
 use Rattle.locked.proofs.ReadTurns.{read_goes_on, read_has_reason}
 use Rattle.locked.proofs.store.Store.run_read.Goals as goal
@@ -6,15 +7,17 @@ use Rattle.locked.proofs.store.Store.run_read.Goals as goal
 pub loop-preserved : goal.loop-preserved
 loop-preserved g c =
     let was = c.loop.invariant in
-    let turns = c.turn.ensures.turns in
-    let on = read_goes_on g.B.Room.rests g.B.Room.shards c.loop.caller c.turn.new.caller c.loop.told c.turn.new.told c.loop.flow c.turn.new.flow was.of was.held turns in
+    let now = stays g.B.Room.rests g.B.Room.shards c.loop.caller c.loop.told c.loop.flow c.hasten.new.flow c.hasten.ensures.asked c.hasten.ensures.hastens was.rests was.held was.reason in
+    let of = now.of ∙ was.of in
+    let turns = c.turn-is_behind.ensures.turns in
+    let on = read_goes_on g.B.Room.rests g.B.Room.shards c.loop.caller c.turn-is_behind.new.caller c.loop.told c.turn-is_behind.new.told c.hasten.new.flow c.turn-is_behind.new.flow of now.held turns in
     record {
       runs = (tt, tt);
-      of = c.turn.ensures.of;
-      fresh = on.fresh ∙ was.fresh;
-      sets = on.sets ∙ was.sets;
+      of = c.turn-is_behind.ensures.of;
+      fresh = on.fresh ∙ now.fresh ∙ was.fresh;
+      sets = on.sets ∙ now.sets ∙ was.sets;
       rests = on.rests;
-      later = later_on c.args.caller.now c.loop.caller c.turn.new.caller was.later turns.serves.later;
+      later = later_on c.args.caller.now c.loop.caller c.turn-is_behind.new.caller was.later turns.serves.later;
       held = on.held;
-      reason = read_has_reason g.B.Room.rests g.B.Room.shards c.loop.caller c.turn.new.caller c.loop.told c.turn.new.told c.loop.flow c.turn.new.flow was.of turns;
+      reason = read_has_reason g.B.Room.rests g.B.Room.shards c.loop.caller c.turn-is_behind.new.caller c.loop.told c.turn-is_behind.new.told c.hasten.new.flow c.turn-is_behind.new.flow of turns;
     }

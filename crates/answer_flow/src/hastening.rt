@@ -1,0 +1,71 @@
+// A shard that has most likely learned so far is read at once.
+ghost use Rattle.std.specs.Prelude.{◌≡◌};
+ghost use Rattle.answer_flow.specs.Checking.{HastensCheck};
+ghost use Rattle.answer_flow.specs.Reading.{HastensRead};
+
+use crate::check_flow::{self, CheckFlow};
+use crate::checking::ask;
+use crate::read_flow::{self, ReadFlow};
+use crate::{check_phase, read_phase};
+use names::CallName;
+use std::mem;
+
+// Whether a shard is asked next how far it has learned.
+fn check_asks_learned(phase: &check_phase::Phase) -> bool {
+    match phase {
+        check_phase::Phase::Ready(ready) => ready.name() == CallName::Learned,
+        check_phase::Phase::Out(_) | check_phase::Phase::Ended(_) => false,
+    }
+}
+
+fn read_asks_learned(phase: &read_phase::Phase) -> bool {
+    match phase {
+        read_phase::Phase::Ready(ready) => ready.name() == CallName::Learned,
+        read_phase::Phase::Out(_) | read_phase::Phase::Ended(_) => false,
+    }
+}
+
+impl CheckFlow {
+    /// Where a shard is to be asked next how far it has learned, it is read at once: one that has not learned so far answers that too.
+    pub fn read_at_once(&mut self)
+        ensures asked { self.new ≡ record self.old { seen = self.new.seen; next_name = self.new.next_name } }
+        ensures hastens { HastensCheck self.old.seen self.new.seen }
+    {
+        if !check_asks_learned(&self.phase) {
+            return;
+        }
+        let phase = mem::replace(&mut self.phase, check_flow::nowhere());
+        match phase {
+            check_phase::Phase::Ready(check_phase::Ready::CatchUp(place, walk, catch_up)) => {
+                drop(catch_up);
+                let phase = ask(&self.asked, place, walk);
+                check_flow::put(&mut self.phase, phase);
+            }
+            other => check_flow::put(&mut self.phase, other),
+        }
+    }
+}
+
+impl ReadFlow {
+    /// Where a shard is to be asked next how far it has learned, it reads at once: one that has not learned so far answers that too.
+    pub fn read_at_once(&mut self)
+        ensures asked { self.new ≡ record self.old { seen = self.new.seen; next_name = self.new.next_name } }
+        ensures hastens { HastensRead self.old.seen self.new.seen }
+    {
+        if !read_asks_learned(&self.phase) {
+            return;
+        }
+        let phase = mem::replace(
+            &mut self.phase,
+            read_phase::Phase::Ready(read_phase::Ready::Heads),
+        );
+        match phase {
+            read_phase::Phase::Ready(read_phase::Ready::CatchUp(gathered, set, catch_up)) => {
+                drop(catch_up);
+                let phase = read_phase::Phase::Ready(read_phase::Ready::Read(gathered, set));
+                read_flow::put(&mut self.phase, phase);
+            }
+            other => read_flow::put(&mut self.phase, other),
+        }
+    }
+}
