@@ -10,14 +10,14 @@ use sides::Room;
 use std::alloc::Global;
 use std::sync::Wait;
 
-// No bank has to be shorter than this. An opening replays as much in less than a tenth of a second.
+// No bank has to be shorter than this. An opening replays as much in a fraction of a second.
 const LEAST_LIMIT: u64 = 2_097_152;
 
 // From here on a bank grows to twice what its checkpoint left, and no more to four times.
 const LARGE: u64 = 67_108_864;
 
-// Up to how many bytes the bank of a node may grow whose checkpoint left so many. Four times as many keep what checkpoints write to a quarter of what the
-// journal does, and an opening to some four times of what one of the checkpoint alone takes.
+// Up to how many bytes the bank of a node may grow whose checkpoint left so many. Four times as many keep checkpoints to a quarter of all that is
+// written, and an opening to some four times of what one of the checkpoint alone takes.
 fn limit_behind(length: u64) -> u64 {
     let large = LARGE.max(length.saturating_mul(2));
     LEAST_LIMIT.max(large.min(length.saturating_mul(4)))
