@@ -1,5 +1,5 @@
 // The coordinator that callers share, under a lock of its own.
-ghost use Rattle.std.specs.Prelude.{◌≡◌};
+ghost use Rattle.std.specs.Prelude.{◌≡◌, IfErr, MatchResult};
 ghost use Rattle.std.specs.Sync.Mutex.{mutex_guard_value};
 ghost use Rattle.calls.specs.Belonging.{IsReplyTo};
 ghost use Rattle.calls.specs.Refusing.{Notes};
@@ -8,20 +8,22 @@ ghost use Rattle.calls.specs.declared.call.CoordinatorCall.TheVariants.{Checkpoi
 ghost use Rattle.sides.specs.Sides.{IsLater};
 ghost use Rattle.flights.specs.LogPlaces.{HasCount, tried_at};
 
+use crate::landings::Landings;
+use crate::spinning::lock_soon;
 use crate::{CoordinatorPlace, Flight, Launch, LaunchLog, Restart, Tried};
 use calls::{Reply, Told};
 use device::Device;
 use published::{Published, SessionPass};
 use sides::{Attempt, Room};
 use std::alloc::Global;
-use std::sync::{Condvar, Mutex, MutexGuard, Wait};
+use std::sync::{Mutex, MutexGuard, Wait};
 use tuples::{Entry, Refusal};
 
 /// The coordinator under its lock, which nobody holds while its devices sync; and whoever waits for these to land.
 #[derive(Drop)]
 pub struct CoordinatorCell<D: Device, B: Room> {
     place: Mutex<CoordinatorPlace<D, B>>,
-    landed: Condvar,
+    landings: Landings,
 }
 
 impl<D: Device, B: Room> CoordinatorCell<D, B> {
@@ -29,13 +31,13 @@ impl<D: Device, B: Room> CoordinatorCell<D, B> {
     pub fn new(place: CoordinatorPlace<D, B>) -> CoordinatorCell<D, B> {
         CoordinatorCell {
             place: Mutex::new(place),
-            landed: Condvar::new(),
+            landings: Landings::new(),
         }
     }
 
     /// The coordinator, locked.
     pub fn lock<'a, R: Wait>(&'a self, rt: &R) -> MutexGuard<'a, CoordinatorPlace<D, B>> {
-        self.place.lock(rt)
+        lock_soon(rt, &self.place)
     }
 
     /// The coordinator, locked, while a decision more can be counted among all that were ever staged. 2^64 - 2 can, which no run uses up; behind them it waits
@@ -49,7 +51,7 @@ impl<D: Device, B: Room> CoordinatorCell<D, B> {
         ensures { HasCount (tried_at (mutex_guard_value result)) }
     {
         for _ in rt.forever() {
-            let mut place = self.place.lock(rt);
+            let mut place = self.lock(rt);
             if place.may_decide(attempts) {
                 return place;
             }
@@ -57,49 +59,85 @@ impl<D: Device, B: Room> CoordinatorCell<D, B> {
         unreachable!()
     }
 
-    // The next flight, which leaves now. None once the flight of this number has landed, or where none can leave.
+    // Locked as it is, or else again, once the flight of this number has landed or its devices are here.
+    fn landed<'a, R: Wait>(
+        &'a self,
+        rt: &R,
+        place: MutexGuard<'a, CoordinatorPlace<D, B>>,
+        ticket: u64,
+    ) -> MutexGuard<'a, CoordinatorPlace<D, B>> {
+        let mut place = place;
+        for _ in rt.forever() {
+            if !place.is_out() || place.has_landed(ticket) {
+                return place;
+            }
+            // Whoever lands tells of it behind the lock, so no landing since is missed.
+            let seen = self.landings.count();
+            drop(place);
+            self.landings.wait(rt, seen);
+            place = self.lock(rt);
+        }
+        unreachable!()
+    }
+
+    // Locked, once its devices are here.
+    fn lock_here<'a, R: Wait>(&'a self, rt: &R) -> MutexGuard<'a, CoordinatorPlace<D, B>> {
+        self.landed(rt, self.lock(rt), u64::MAX)
+    }
+
+    // The next flight, which leaves now; or what is told of a flush, once all that was staged for the caller has landed, or where nothing can leave. Where
+    // nothing was staged for the caller since it asked last, that is all that is staged now.
     fn leave<R: Wait>(
         &self,
         rt: &R,
+        words: &Published<Entry>,
         launches: &Published<Launch>,
         log: &Mutex<LaunchLog<B>>,
-        ticket: u64,
-    ) -> Option<Flight<D, B>>
-        requires own { launches.now ≡ B.launches }
+        pass: &mut SessionPass<Entry>,
+        tried: &mut Tried<B>,
+        told: &mut Told,
+    ) -> Result<Flight<D, B>, Reply>
+        requires own { (words.now ≡ B.log) × (launches.now ≡ B.launches) × (pass.old.table ≡ B.log) }
+        ensures same { tried.new ≡ tried.old }
+        ensures caller { IsLater pass.old pass.new }
+        ensures belongs { IfErr result (IsReplyTo (of_coordinator flush_call)) }
+        ensures told { MatchResult result (λ _. told.new ≡ told.old) (λ reply. Notes told.old reply told.new) }
     {
-        let mut place = self.landed.wait_while(rt, self.place.lock(rt), |place| {
-            place.is_out() && !place.has_landed(ticket)
-        });
+        let place = self.lock(rt);
+        let ticket = tried.take_ticket().unwrap_or(place.ticket());
+        let mut place = self.landed(rt, place, ticket);
         if place.has_landed(ticket) {
-            return None;
+            return Err(place.tell_flushed(words, pass, told));
         }
-        place.launch(launches, &mut log.lock(rt))
+        match place.launch(launches, &mut log.lock(rt)) {
+            Some(flight) => Ok(flight),
+            None => Err(place.tell_flushed(words, pass, told)),
+        }
     }
 
-    // Makes durable what flies, without the lock; what is durable then joins the list.
+    // Makes durable what flies, without the lock, and lands it; what is durable then joins the list.
     fn fly<R: Wait>(
         &self,
         rt: &R,
         words: &Published<Entry>,
         launches: &Published<Launch>,
         flight: Flight<D, B>,
-    )
-        requires own { (words.now ≡ B.log) × (launches.now ≡ B.launches) }
+        pass: &mut SessionPass<Entry>,
+        told: &mut Told,
+    ) -> Reply
+        requires own { (words.now ≡ B.log) × (launches.now ≡ B.launches) × (pass.old.table ≡ B.log) }
+        ensures caller { IsLater pass.old pass.new }
+        ensures belongs { IsReplyTo (of_coordinator flush_call) result }
+        ensures told { Notes told.old result told.new }
     {
         let flown = flight.fly();
+        let mut place = self.lock(rt);
         // No other flight can have its devices.
-        let _ = self.place.lock(rt).land(words, launches, flown);
-        self.landed.notify_all();
-    }
-
-    // The flight that has to land before all is durable that was staged for the caller; where nothing was since it asked last, all that is staged now.
-    fn ticket<R: Wait>(&self, rt: &R, tried: &mut Tried<B>) -> u64
-        ensures same { tried.new ≡ tried.old }
-    {
-        match tried.take_ticket() {
-            Some(ticket) => ticket,
-            None => self.place.lock(rt).ticket(),
-        }
+        let _ = place.land(words, launches, flown);
+        let reply = place.tell_flushed(words, pass, told);
+        drop(place);
+        self.landings.tell();
+        reply
     }
 
     /// Makes durable what was staged for the caller. Where its devices are out it waits for them to land, and whoever is first then takes along what all have
@@ -120,14 +158,10 @@ impl<D: Device, B: Room> CoordinatorCell<D, B> {
         ensures belongs { IsReplyTo (of_coordinator flush_call) result }
         ensures told { Notes told.old result told.new }
     {
-        let ticket = self.ticket(rt, tried);
-        for _ in rt.forever() {
-            let Some(flight) = self.leave(rt, launches, log, ticket) else {
-                break;
-            };
-            self.fly(rt, words, launches, flight);
+        match self.leave(rt, words, launches, log, pass, tried, told) {
+            Ok(flight) => self.fly(rt, words, launches, flight, pass, told),
+            Err(reply) => reply,
         }
-        self.place.lock(rt).tell_flushed(words, pass, told)
     }
 
     /// Replaces its records by a checkpoint of what it knows, once its devices are here. Nobody else asks it meanwhile.
@@ -144,9 +178,7 @@ impl<D: Device, B: Room> CoordinatorCell<D, B> {
         ensures told { Notes told.old result told.new }
     {
         for _ in rt.forever() {
-            let mut place = self
-                .landed
-                .wait_while(rt, self.place.lock(rt), |place| place.is_out());
+            let mut place = self.lock_here(rt);
             if let Some(reply) = place.checkpoint(words, pass, told) {
                 return reply;
             }
@@ -164,9 +196,7 @@ impl<D: Device, B: Room> CoordinatorCell<D, B> {
         requires own { words.now ≡ B.log }
     {
         for _ in rt.forever() {
-            let mut place = self
-                .landed
-                .wait_while(rt, self.place.lock(rt), |place| place.is_out());
+            let mut place = self.lock_here(rt);
             match place.restart(words, alloc) {
                 Restart::IsUp => return None,
                 Restart::IsRefused(refusal) => return Some(refusal),

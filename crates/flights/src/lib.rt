@@ -18,12 +18,14 @@ mod coordinator_place;
 mod coordinator_returning;
 mod coordinator_serving;
 mod flight;
+mod landings;
 mod launch;
 mod leaving;
 mod returning;
 mod serving;
 mod shard_cell;
 mod shard_place;
+mod spinning;
 mod taking_off;
 mod tried;
 

@@ -1,24 +1,26 @@
 // A shard that callers share, under a lock of its own.
-ghost use Rattle.std.specs.Prelude.{◌≡◌, ℕ};
+ghost use Rattle.std.specs.Prelude.{◌≡◌, ℕ, IfErr, MatchResult};
 ghost use Rattle.calls.specs.Belonging.{IsReplyTo};
 ghost use Rattle.calls.specs.Refusing.{Notes};
 ghost use Rattle.calls.specs.declared.call.NodeCall.TheVariants.{Shard as of_shard};
 ghost use Rattle.calls.specs.declared.call.ShardCall.TheVariants.{Checkpoint as checkpoint_call, Flush as flush_call};
 
+use crate::landings::Landings;
+use crate::spinning::lock_soon;
 use crate::{Flight, Launch, LaunchLog, Restart, ShardPlace};
 use calls::{Reply, Told};
 use device::Device;
 use published::Published;
 use sides::Room;
 use std::alloc::Global;
-use std::sync::{Condvar, Mutex, MutexGuard, Wait};
+use std::sync::{Mutex, MutexGuard, Wait};
 use tuples::Refusal;
 
 /// A shard under its lock, which nobody holds while its devices sync; and whoever waits for these to land.
 #[derive(Drop)]
 pub struct ShardCell<D: Device, B: Room> {
     place: Mutex<ShardPlace<D, B>>,
-    landed: Condvar,
+    landings: Landings,
 }
 
 impl<D: Device, B: Room> ShardCell<D, B> {
@@ -26,42 +28,85 @@ impl<D: Device, B: Room> ShardCell<D, B> {
     pub fn new(place: ShardPlace<D, B>) -> ShardCell<D, B> {
         ShardCell {
             place: Mutex::new(place),
-            landed: Condvar::new(),
+            landings: Landings::new(),
         }
     }
 
     /// The shard, locked.
     pub fn lock<'a, R: Wait>(&'a self, rt: &R) -> MutexGuard<'a, ShardPlace<D, B>> {
-        self.place.lock(rt)
+        lock_soon(rt, &self.place)
     }
 
-    // The next flight, which leaves now. None once the flight of this number has landed, or where none can leave.
+    // Locked as it is, or else again, once the flight of this number has landed or its devices are here.
+    fn landed<'a, R: Wait>(
+        &'a self,
+        rt: &R,
+        place: MutexGuard<'a, ShardPlace<D, B>>,
+        ticket: u64,
+    ) -> MutexGuard<'a, ShardPlace<D, B>> {
+        let mut place = place;
+        for _ in rt.forever() {
+            if !place.is_out() || place.has_landed(ticket) {
+                return place;
+            }
+            // Whoever lands tells of it behind the lock, so no landing since is missed.
+            let seen = self.landings.count();
+            drop(place);
+            self.landings.wait(rt, seen);
+            place = self.lock(rt);
+        }
+        unreachable!()
+    }
+
+    // Locked, once its devices are here.
+    fn lock_here<'a, R: Wait>(&'a self, rt: &R) -> MutexGuard<'a, ShardPlace<D, B>> {
+        self.landed(rt, self.lock(rt), u64::MAX)
+    }
+
+    // The next flight, which leaves now; or what is told of a flush, once all that is staged now has landed, or where nothing can leave.
     fn leave<R: Wait>(
         &self,
         rt: &R,
         launches: &Published<Launch>,
         log: &Mutex<LaunchLog<B>>,
-        ticket: u64,
-    ) -> Option<Flight<D, B>>
+        told: &mut Told,
+    ) -> Result<Flight<D, B>, Reply>
         requires own { launches.now ≡ B.launches }
+        ensures belongs { (number : ℕ) → IfErr result (IsReplyTo (of_shard number flush_call)) }
+        ensures told { MatchResult result (λ _. told.new ≡ told.old) (λ reply. Notes told.old reply told.new) }
     {
-        let mut place = self.landed.wait_while(rt, self.place.lock(rt), |place| {
-            place.is_out() && !place.has_landed(ticket)
-        });
+        let place = self.lock(rt);
+        let ticket = place.ticket();
+        let mut place = self.landed(rt, place, ticket);
         if place.has_landed(ticket) {
-            return None;
+            return Err(place.tell_flushed(told));
         }
-        place.launch(launches, &mut log.lock(rt))
+        match place.launch(launches, &mut log.lock(rt)) {
+            Some(flight) => Ok(flight),
+            None => Err(place.tell_flushed(told)),
+        }
     }
 
-    // Makes durable what flies, without the lock.
-    fn fly<R: Wait>(&self, rt: &R, launches: &Published<Launch>, flight: Flight<D, B>)
+    // Makes durable what flies, without the lock, and lands it.
+    fn fly<R: Wait>(
+        &self,
+        rt: &R,
+        launches: &Published<Launch>,
+        flight: Flight<D, B>,
+        told: &mut Told,
+    ) -> Reply
         requires own { launches.now ≡ B.launches }
+        ensures belongs { (number : ℕ) → IsReplyTo (of_shard number flush_call) result }
+        ensures told { Notes told.old result told.new }
     {
         let flown = flight.fly();
+        let mut place = self.lock(rt);
         // No other flight can have its devices.
-        let _ = self.place.lock(rt).land(launches, flown);
-        self.landed.notify_all();
+        let _ = place.land(launches, flown);
+        let reply = place.tell_flushed(told);
+        drop(place);
+        self.landings.tell();
+        reply
     }
 
     /// Makes durable what is staged. Where its devices are out it waits for them to land, and whoever is first then takes along what all have staged.
@@ -76,14 +121,10 @@ impl<D: Device, B: Room> ShardCell<D, B> {
         ensures belongs { (number : ℕ) → IsReplyTo (of_shard number flush_call) result }
         ensures told { Notes told.old result told.new }
     {
-        let ticket = self.place.lock(rt).ticket();
-        for _ in rt.forever() {
-            let Some(flight) = self.leave(rt, launches, log, ticket) else {
-                break;
-            };
-            self.fly(rt, launches, flight);
+        match self.leave(rt, launches, log, told) {
+            Ok(flight) => self.fly(rt, launches, flight, told),
+            Err(reply) => reply,
         }
-        self.place.lock(rt).tell_flushed(told)
     }
 
     /// Replaces the records of the shard by a checkpoint of what it knows, once its devices are here. Nobody else asks the shard meanwhile.
@@ -92,9 +133,7 @@ impl<D: Device, B: Room> ShardCell<D, B> {
         ensures told { Notes told.old result told.new }
     {
         for _ in rt.forever() {
-            let mut place = self
-                .landed
-                .wait_while(rt, self.place.lock(rt), |place| place.is_out());
+            let mut place = self.lock_here(rt);
             if let Some(reply) = place.checkpoint(told) {
                 return reply;
             }
@@ -105,9 +144,7 @@ impl<D: Device, B: Room> ShardCell<D, B> {
     /// Opens it again, once its devices are here. The refusal of its opening, where that was refused.
     pub fn restart<R: Wait>(&self, rt: &R, alloc: Global) -> Option<Refusal> {
         for _ in rt.forever() {
-            let mut place = self
-                .landed
-                .wait_while(rt, self.place.lock(rt), |place| place.is_out());
+            let mut place = self.lock_here(rt);
             match place.restart(alloc) {
                 Restart::IsUp => return None,
                 Restart::IsRefused(refusal) => return Some(refusal),
