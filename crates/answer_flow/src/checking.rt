@@ -1,10 +1,11 @@
 // What a check makes of the answers to its calls.
 ghost use Rattle.std.specs.Prelude.{◌≡◌, ◌≢◌, ◌⊎◌, ◌≤◌, ◌<◌, ◌↔◌, [], IfOk, IsTrue, Contains, MatchOption, Some, None, false};
 ghost use Rattle.records.specs.Identity.{max_shards};
+ghost use Rattle.names.specs.declared.call_name.CallName.TheVariants as names;
 ghost use Rattle.tuples.specs.Checking.{holding};
 ghost use Rattle.tuples.specs.Parts.{shard_of as shard_number};
 ghost use Rattle.answer_flow.specs.Checking.{CatchUpGives, Continues, FlushGives, HeadsGive, LacksMemory, ReadGives, RowsGive};
-ghost use Rattle.answer_flow.specs.CheckViews.{IsFirst, IsOutOf, IsBehindOf, at_rest, catch_up as to_catch_up, checked, ended, holding_walk, read as to_read, view_of, view_out};
+ghost use Rattle.answer_flow.specs.CheckViews.{IsFirst, IsOutOf, IsBehindOf, at_rest, catch_up as to_catch_up, checked, ended, holding_walk, name_of, read as to_read, view_of, view_out};
 ghost use Rattle.answer_flow.specs.declared.check_phase.Out.TheVariants as out_of;
 ghost use Rattle.catch_up.specs.CatchingUp.{Fits as FitsCatchUp};
 
@@ -118,6 +119,7 @@ fn question(walk: &Walk, user: &User) -> Result<Option<(Userset, User)>, AllocEr
 pub(crate) fn ask(asked: &AskedCheck, place: u64, walk: Walk) -> Phase
     requires { walk.waiting ≢ [] }
     ensures gives { (view_of result ≡ at_rest to_read (holding_walk walk (Some place) None)) ⊎ LacksMemory (view_of result) }
+    ensures named { (name_of result ≡ Some names.Read) ⊎ LacksMemory (view_of result) }
     ensures kept { IsBehindOf asked.now.shards asked.now.user result }
 {
     match question(&walk, &asked.user) {

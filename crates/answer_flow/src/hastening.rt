@@ -1,7 +1,10 @@
 // A shard that has most likely learned so far is read at once.
-ghost use Rattle.std.specs.Prelude.{◌≡◌};
-ghost use Rattle.answer_flow.specs.Checking.{HastensCheck};
+ghost use Rattle.std.specs.Prelude.{◌≡◌, ◌≢◌, ◌⊎◌, ◌↔◌, IsTrue, Some};
+ghost use Rattle.names.specs.declared.call_name.CallName.TheVariants as names;
+ghost use Rattle.answer_flow.specs.Checking.{HastensCheck, LacksMemory};
+ghost use Rattle.answer_flow.specs.CheckViews.{name_of as name_of_check};
 ghost use Rattle.answer_flow.specs.Reading.{HastensRead};
+ghost use Rattle.answer_flow.specs.ReadViews.{name_of as name_of_read};
 
 use crate::check_flow::{self, CheckFlow};
 use crate::checking::ask;
@@ -11,14 +14,18 @@ use names::CallName;
 use std::mem;
 
 // Whether a shard is asked next how far it has learned.
-fn check_asks_learned(phase: &check_phase::Phase) -> bool {
+fn check_asks_learned(phase: &check_phase::Phase) -> bool
+    ensures { IsTrue result ↔ (name_of_check phase.now ≡ Some names.Learned) }
+{
     match phase {
         check_phase::Phase::Ready(ready) => ready.name() == CallName::Learned,
         check_phase::Phase::Out(_) | check_phase::Phase::Ended(_) => false,
     }
 }
 
-fn read_asks_learned(phase: &read_phase::Phase) -> bool {
+fn read_asks_learned(phase: &read_phase::Phase) -> bool
+    ensures { IsTrue result ↔ (name_of_read phase.now ≡ Some names.Learned) }
+{
     match phase {
         read_phase::Phase::Ready(ready) => ready.name() == CallName::Learned,
         read_phase::Phase::Out(_) | read_phase::Phase::Ended(_) => false,
@@ -26,10 +33,13 @@ fn read_asks_learned(phase: &read_phase::Phase) -> bool {
 }
 
 impl CheckFlow {
-    /// Where a shard is to be asked next how far it has learned, it is read at once: one that has not learned so far answers that too.
+    /// Where a shard is to be asked next how far it has learned, it is read at once: one that has not learned so far answers that too. Where memory is
+    /// refused the check ends with `NoMemory`. Where another call is next, one is out or it has ended, nothing is changed.
     pub fn read_at_once(&mut self)
         ensures asked { self.new ≡ record self.old { seen = self.new.seen; next_name = self.new.next_name } }
         ensures hastens { HastensCheck self.old.seen self.new.seen }
+        ensures reads { self.old.next_name ≡ Some names.Learned → (self.new.next_name ≡ Some names.Read) ⊎ LacksMemory self.new.seen }
+        ensures others { self.old.next_name ≢ Some names.Learned → self.new ≡ self.old }
     {
         if !check_asks_learned(&self.phase) {
             return;
@@ -47,10 +57,13 @@ impl CheckFlow {
 }
 
 impl ReadFlow {
-    /// Where a shard is to be asked next how far it has learned, it reads at once: one that has not learned so far answers that too.
+    /// Where a shard is to be asked next how far it has learned, it reads at once: one that has not learned so far answers that too. Where another call is
+    /// next, one is out or it has ended, nothing is changed.
     pub fn read_at_once(&mut self)
         ensures asked { self.new ≡ record self.old { seen = self.new.seen; next_name = self.new.next_name } }
         ensures hastens { HastensRead self.old.seen self.new.seen }
+        ensures reads { self.old.next_name ≡ Some names.Learned → self.new.next_name ≡ Some names.Read }
+        ensures others { self.old.next_name ≢ Some names.Learned → self.new ≡ self.old }
     {
         if !read_asks_learned(&self.phase) {
             return;
