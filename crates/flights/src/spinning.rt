@@ -1,7 +1,7 @@
 // A lock that is held for a few microseconds at a time.
 use std::sync::{Mutex, MutexGuard, Wait};
 
-// How often it is tried before its caller sleeps. A try takes some twenty nanoseconds; who sleeps waits for a processor behind it, and each hold that ends
+// How often it is tried before its caller sleeps. A try takes five to twenty nanoseconds; who sleeps waits for a processor behind it, and each hold that ends
 // meanwhile costs a call of the system.
 const TRIES: u32 = 200;
 
