@@ -8,7 +8,7 @@ ghost use Rattle.calls.specs.declared.call.CoordinatorCall.TheVariants.{Checkpoi
 ghost use Rattle.sides.specs.Sides.{IsLater};
 ghost use Rattle.flights.specs.LogPlaces.{HasCount, tried_at};
 
-use crate::landings::Landings;
+use crate::landings::{ANY, Landings};
 use crate::spinning::lock_soon;
 use crate::{CoordinatorPlace, Flight, Launch, LaunchLog, Restart, Tried};
 use calls::{Reply, Told};
@@ -68,13 +68,17 @@ impl<D: Device, B: Room> CoordinatorCell<D, B> {
     ) -> MutexGuard<'a, CoordinatorPlace<D, B>> {
         let mut place = place;
         for _ in rt.forever() {
-            if !place.is_out() || place.has_landed(ticket) {
+            if place.has_landed(ticket) {
+                self.landings.pass_on(ticket);
+                return place;
+            }
+            if !place.is_out() {
                 return place;
             }
             // Whoever lands tells of it behind the lock, so no landing since is missed.
-            let seen = self.landings.count();
+            let seen = self.landings.seen(ticket);
             drop(place);
-            self.landings.wait(rt, seen);
+            self.landings.wait(rt, ticket, seen);
             place = self.lock(rt);
         }
         unreachable!()
@@ -82,7 +86,7 @@ impl<D: Device, B: Room> CoordinatorCell<D, B> {
 
     // Locked, once its devices are here.
     fn lock_here<'a, R: Wait>(&'a self, rt: &R) -> MutexGuard<'a, CoordinatorPlace<D, B>> {
-        self.landed(rt, self.lock(rt), u64::MAX)
+        self.landed(rt, self.lock(rt), ANY)
     }
 
     // The next flight, which leaves now; or what is told of a flush, once all that was staged for the caller has landed, or where nothing can leave. Where
@@ -109,9 +113,16 @@ impl<D: Device, B: Room> CoordinatorCell<D, B> {
         if place.has_landed(ticket) {
             return Err(place.tell_flushed(words, pass, told));
         }
-        match place.launch(launches, &mut log.lock(rt)) {
+        let flight = place.launch(launches, &mut log.lock(rt));
+        match flight {
             Some(flight) => Ok(flight),
-            None => Err(place.tell_flushed(words, pass, told)),
+            None => {
+                let reply = place.tell_flushed(words, pass, told);
+                drop(place);
+                // Nobody else can have one leave either.
+                self.landings.tell_all();
+                Err(reply)
+            }
         }
     }
 
@@ -134,9 +145,10 @@ impl<D: Device, B: Room> CoordinatorCell<D, B> {
         let mut place = self.lock(rt);
         // No other flight can have its devices.
         let _ = place.land(words, launches, flown);
+        let next = place.ticket();
         let reply = place.tell_flushed(words, pass, told);
         drop(place);
-        self.landings.tell();
+        self.landings.tell(next);
         reply
     }
 

@@ -5,7 +5,7 @@ ghost use Rattle.calls.specs.Refusing.{Notes};
 ghost use Rattle.calls.specs.declared.call.NodeCall.TheVariants.{Shard as of_shard};
 ghost use Rattle.calls.specs.declared.call.ShardCall.TheVariants.{Checkpoint as checkpoint_call, Flush as flush_call};
 
-use crate::landings::Landings;
+use crate::landings::{ANY, Landings};
 use crate::spinning::lock_soon;
 use crate::{Flight, Launch, LaunchLog, Restart, ShardPlace};
 use calls::{Reply, Told};
@@ -46,13 +46,17 @@ impl<D: Device, B: Room> ShardCell<D, B> {
     ) -> MutexGuard<'a, ShardPlace<D, B>> {
         let mut place = place;
         for _ in rt.forever() {
-            if !place.is_out() || place.has_landed(ticket) {
+            if place.has_landed(ticket) {
+                self.landings.pass_on(ticket);
+                return place;
+            }
+            if !place.is_out() {
                 return place;
             }
             // Whoever lands tells of it behind the lock, so no landing since is missed.
-            let seen = self.landings.count();
+            let seen = self.landings.seen(ticket);
             drop(place);
-            self.landings.wait(rt, seen);
+            self.landings.wait(rt, ticket, seen);
             place = self.lock(rt);
         }
         unreachable!()
@@ -60,7 +64,7 @@ impl<D: Device, B: Room> ShardCell<D, B> {
 
     // Locked, once its devices are here.
     fn lock_here<'a, R: Wait>(&'a self, rt: &R) -> MutexGuard<'a, ShardPlace<D, B>> {
-        self.landed(rt, self.lock(rt), u64::MAX)
+        self.landed(rt, self.lock(rt), ANY)
     }
 
     // The next flight, which leaves now; or what is told of a flush, once all that is staged now has landed, or where nothing can leave.
@@ -81,9 +85,16 @@ impl<D: Device, B: Room> ShardCell<D, B> {
         if place.has_landed(ticket) {
             return Err(place.tell_flushed(told));
         }
-        match place.launch(launches, &mut log.lock(rt)) {
+        let flight = place.launch(launches, &mut log.lock(rt));
+        match flight {
             Some(flight) => Ok(flight),
-            None => Err(place.tell_flushed(told)),
+            None => {
+                let reply = place.tell_flushed(told);
+                drop(place);
+                // Nobody else can have one leave either.
+                self.landings.tell_all();
+                Err(reply)
+            }
         }
     }
 
@@ -103,9 +114,10 @@ impl<D: Device, B: Room> ShardCell<D, B> {
         let mut place = self.lock(rt);
         // No other flight can have its devices.
         let _ = place.land(launches, flown);
+        let next = place.ticket();
         let reply = place.tell_flushed(told);
         drop(place);
-        self.landings.tell();
+        self.landings.tell(next);
         reply
     }
 
