@@ -54,9 +54,10 @@ impl<D: Device, B: Room> ShardCell<D, B> {
                 return place;
             }
             // Whoever lands tells of it behind the lock, so no landing since is missed.
-            let seen = self.landings.seen(ticket);
+            let awaited = ticket.min(place.ticket());
+            let seen = self.landings.seen(awaited);
             drop(place);
-            self.landings.wait(rt, ticket, seen);
+            self.landings.wait(rt, awaited, seen);
             place = self.lock(rt);
         }
         unreachable!()
@@ -64,7 +65,10 @@ impl<D: Device, B: Room> ShardCell<D, B> {
 
     // Locked, once its devices are here.
     fn lock_here<'a, R: Wait>(&'a self, rt: &R) -> MutexGuard<'a, ShardPlace<D, B>> {
-        self.landed(rt, self.lock(rt), ANY)
+        let place = self.landed(rt, self.lock(rt), ANY);
+        // The one who was to have the next flight leave may sleep still.
+        self.landings.pass_on(place.ticket());
+        place
     }
 
     // The next flight, which leaves now; or what is told of a flush, once all that is staged now has landed, or where nothing can leave.
