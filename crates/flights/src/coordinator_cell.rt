@@ -88,8 +88,8 @@ impl<D: Device, B: Room> CoordinatorCell<D, B> {
     // Locked, once its devices are here.
     fn lock_here<'a, R: Wait>(&'a self, rt: &R) -> MutexGuard<'a, CoordinatorPlace<D, B>> {
         let place = self.landed(rt, self.lock(rt), ANY);
-        // The one who was to have the next flight leave may sleep still.
-        self.landings.pass_on(place.ticket());
+        // It may have been woken in the place of another, who would sleep for ever where no flight leaves behind it.
+        self.landings.tell_all();
         place
     }
 

@@ -59,7 +59,7 @@ impl Landings {
         self.of(flight).wake_one();
     }
 
-    /// No flight can leave: all who wait go on.
+    /// All who wait go on and look again: where no flight can leave, and where the caller waited for whichever lands.
     pub(crate) fn tell_all(&self) {
         for told in [&self.even, &self.odd] {
             told.fetch_add(1, Ordering::SeqCst);
