@@ -8,8 +8,9 @@ ghost use Rattle.calls.specs.declared.call.CoordinatorCall.TheVariants.{Checkpoi
 ghost use Rattle.sides.specs.Sides.{IsLater};
 ghost use Rattle.flights.specs.LogPlaces.{HasCount, tried_at};
 
-use crate::landings::{ANY, Landings};
+use crate::landings::Landings;
 use crate::spinning::lock_soon;
+use crate::waiting::{Lands, landed, lock_here};
 use crate::{CoordinatorPlace, Flight, Launch, LaunchLog, Restart, Tried};
 use calls::{Reply, Told};
 use device::Device;
@@ -59,40 +60,6 @@ impl<D: Device, B: Room> CoordinatorCell<D, B> {
         unreachable!()
     }
 
-    // Locked as it is, or else again, once the flight of this number has landed or its devices are here.
-    fn landed<'a, R: Wait>(
-        &'a self,
-        rt: &R,
-        place: MutexGuard<'a, CoordinatorPlace<D, B>>,
-        ticket: u64,
-    ) -> MutexGuard<'a, CoordinatorPlace<D, B>> {
-        let mut place = place;
-        for _ in rt.forever() {
-            if place.has_landed(ticket) {
-                self.landings.pass_on(ticket);
-                return place;
-            }
-            if !place.is_out() {
-                return place;
-            }
-            // Whoever lands tells of it behind the lock, so no landing since is missed.
-            let awaited = ticket.min(place.ticket());
-            let seen = self.landings.seen(awaited);
-            drop(place);
-            self.landings.wait(rt, awaited, seen);
-            place = self.lock(rt);
-        }
-        unreachable!()
-    }
-
-    // Locked, once its devices are here.
-    fn lock_here<'a, R: Wait>(&'a self, rt: &R) -> MutexGuard<'a, CoordinatorPlace<D, B>> {
-        let place = self.landed(rt, self.lock(rt), ANY);
-        // It may have been woken in the place of another, who would sleep for ever where no flight leaves behind it.
-        self.landings.tell_all();
-        place
-    }
-
     // The next flight, which leaves now; or what is told of a flush, once all that was staged for the caller has landed, or where nothing can leave. Where
     // nothing was staged for the caller since it asked last, that is all that is staged now.
     fn leave<R: Wait>(
@@ -113,11 +80,14 @@ impl<D: Device, B: Room> CoordinatorCell<D, B> {
     {
         let place = self.lock(rt);
         let ticket = tried.take_ticket().unwrap_or(place.ticket());
-        let mut place = self.landed(rt, place, ticket);
+        let mut place = landed(rt, &self.place, &self.landings, place, ticket);
         if place.has_landed(ticket) {
-            return Err(place.tell_flushed(words, pass, told));
+            let reply = place.tell_flushed(words, pass, told);
+            drop(place);
+            self.landings.pass_on(ticket);
+            return Err(reply);
         }
-        let flight = place.launch(launches, &mut log.lock(rt));
+        let flight = place.launch(launches, &mut lock_soon(rt, log));
         match flight {
             Some(flight) => Ok(flight),
             None => {
@@ -194,7 +164,7 @@ impl<D: Device, B: Room> CoordinatorCell<D, B> {
         ensures told { Notes told.old result told.new }
     {
         for _ in rt.forever() {
-            let mut place = self.lock_here(rt);
+            let mut place = lock_here(rt, &self.place, &self.landings);
             if let Some(reply) = place.checkpoint(words, pass, told) {
                 return reply;
             }
@@ -212,7 +182,7 @@ impl<D: Device, B: Room> CoordinatorCell<D, B> {
         requires own { words.now ≡ B.log }
     {
         for _ in rt.forever() {
-            let mut place = self.lock_here(rt);
+            let mut place = lock_here(rt, &self.place, &self.landings);
             match place.restart(words, alloc) {
                 Restart::IsUp => return None,
                 Restart::IsRefused(refusal) => return Some(refusal),

@@ -9,6 +9,7 @@ ghost use Rattle.flights.specs.Serving.{KnowsMore, Serves};
 
 use crate::berth::Berth;
 use crate::coordinator_serving::{serve_log_here, serve_log_out};
+use crate::waiting::Lands;
 use crate::{Launch, Tried};
 use away::Away;
 use calls::{CoordinatorCall, Reply, Told};
@@ -163,22 +164,21 @@ impl<D: Device, B: Room> CoordinatorPlace<D, B> {
         }
         self.serve(words, attempts, pass, tried, told, call)
     }
+}
 
-    /// The number of the flight that will have carried all that is staged now, or by the call that is made next: the next one that leaves.
-    pub fn ticket(&self) -> u64 {
+impl<D: Device, B: Room> Lands for CoordinatorPlace<D, B> {
+    fn ticket(&self) -> u64 {
         self.flights.saturating_add(1)
     }
 
-    /// Whether the flight of this number has landed.
-    pub fn has_landed(&self, ticket: u64) -> bool {
+    fn has_landed(&self, ticket: u64) -> bool {
         match &self.berth {
             Some(Berth::Out(_, _)) => ticket < self.flights,
             _ => ticket <= self.flights,
         }
     }
 
-    /// Whether its devices are out.
-    pub fn is_out(&self) -> bool {
+    fn is_out(&self) -> bool {
         match &self.berth {
             Some(Berth::Out(_, _)) => true,
             _ => false,

@@ -54,7 +54,7 @@ impl Landings {
         self.tell_one(next);
     }
 
-    /// The caller goes on: so does the next one who waits for this flight.
+    /// The caller goes on, and so does the next one who waits for this flight. Not under the node's lock: who is woken may take the processor from who holds it.
     pub(crate) fn pass_on(&self, flight: u64) {
         self.of(flight).wake_one();
     }

@@ -6,6 +6,7 @@ ghost use Rattle.flights.specs.Places.{HasLaunched, IsBerthed, here, out as out_
 
 use crate::berth::Berth;
 use crate::taking_off::take_off;
+use crate::waiting::Lands;
 use crate::{Flight, Launch, LaunchLog, ShardPlace};
 use away::Away;
 use calls::Flying;
@@ -143,22 +144,21 @@ impl<D: Device, B: Room> ShardPlace<D, B> {
         }
         flight
     }
+}
 
-    /// The number of the flight that will have carried all that is staged now: the next one that leaves.
-    pub fn ticket(&self) -> u64 {
+impl<D: Device, B: Room> Lands for ShardPlace<D, B> {
+    fn ticket(&self) -> u64 {
         self.flights.saturating_add(1)
     }
 
-    /// Whether the flight of this number has landed.
-    pub fn has_landed(&self, ticket: u64) -> bool {
+    fn has_landed(&self, ticket: u64) -> bool {
         match &self.berth {
             Some(Berth::Out(_, _)) => ticket < self.flights,
             _ => ticket <= self.flights,
         }
     }
 
-    /// Whether its devices are out.
-    pub fn is_out(&self) -> bool {
+    fn is_out(&self) -> bool {
         match &self.berth {
             Some(Berth::Out(_, _)) => true,
             _ => false,

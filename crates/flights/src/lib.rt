@@ -28,6 +28,7 @@ mod shard_place;
 mod spinning;
 mod taking_off;
 mod tried;
+mod waiting;
 
 pub use closed::ClosedShard;
 pub use coordinator_cell::CoordinatorCell;

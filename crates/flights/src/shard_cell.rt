@@ -5,8 +5,9 @@ ghost use Rattle.calls.specs.Refusing.{Notes};
 ghost use Rattle.calls.specs.declared.call.NodeCall.TheVariants.{Shard as of_shard};
 ghost use Rattle.calls.specs.declared.call.ShardCall.TheVariants.{Checkpoint as checkpoint_call, Flush as flush_call};
 
-use crate::landings::{ANY, Landings};
+use crate::landings::Landings;
 use crate::spinning::lock_soon;
+use crate::waiting::{Lands, landed, lock_here};
 use crate::{Flight, Launch, LaunchLog, Restart, ShardPlace};
 use calls::{Reply, Told};
 use device::Device;
@@ -37,40 +38,6 @@ impl<D: Device, B: Room> ShardCell<D, B> {
         lock_soon(rt, &self.place)
     }
 
-    // Locked as it is, or else again, once the flight of this number has landed or its devices are here.
-    fn landed<'a, R: Wait>(
-        &'a self,
-        rt: &R,
-        place: MutexGuard<'a, ShardPlace<D, B>>,
-        ticket: u64,
-    ) -> MutexGuard<'a, ShardPlace<D, B>> {
-        let mut place = place;
-        for _ in rt.forever() {
-            if place.has_landed(ticket) {
-                self.landings.pass_on(ticket);
-                return place;
-            }
-            if !place.is_out() {
-                return place;
-            }
-            // Whoever lands tells of it behind the lock, so no landing since is missed.
-            let awaited = ticket.min(place.ticket());
-            let seen = self.landings.seen(awaited);
-            drop(place);
-            self.landings.wait(rt, awaited, seen);
-            place = self.lock(rt);
-        }
-        unreachable!()
-    }
-
-    // Locked, once its devices are here.
-    fn lock_here<'a, R: Wait>(&'a self, rt: &R) -> MutexGuard<'a, ShardPlace<D, B>> {
-        let place = self.landed(rt, self.lock(rt), ANY);
-        // It may have been woken in the place of another, who would sleep for ever where no flight leaves behind it.
-        self.landings.tell_all();
-        place
-    }
-
     // The next flight, which leaves now; or what is told of a flush, once all that is staged now has landed, or where nothing can leave.
     fn leave<R: Wait>(
         &self,
@@ -85,11 +52,14 @@ impl<D: Device, B: Room> ShardCell<D, B> {
     {
         let place = self.lock(rt);
         let ticket = place.ticket();
-        let mut place = self.landed(rt, place, ticket);
+        let mut place = landed(rt, &self.place, &self.landings, place, ticket);
         if place.has_landed(ticket) {
-            return Err(place.tell_flushed(told));
+            let reply = place.tell_flushed(told);
+            drop(place);
+            self.landings.pass_on(ticket);
+            return Err(reply);
         }
-        let flight = place.launch(launches, &mut log.lock(rt));
+        let flight = place.launch(launches, &mut lock_soon(rt, log));
         match flight {
             Some(flight) => Ok(flight),
             None => {
@@ -149,7 +119,7 @@ impl<D: Device, B: Room> ShardCell<D, B> {
         ensures told { Notes told.old result told.new }
     {
         for _ in rt.forever() {
-            let mut place = self.lock_here(rt);
+            let mut place = lock_here(rt, &self.place, &self.landings);
             if let Some(reply) = place.checkpoint(told) {
                 return reply;
             }
@@ -160,7 +130,7 @@ impl<D: Device, B: Room> ShardCell<D, B> {
     /// Opens it again, once its devices are here. The refusal of its opening, where that was refused.
     pub fn restart<R: Wait>(&self, rt: &R, alloc: Global) -> Option<Refusal> {
         for _ in rt.forever() {
-            let mut place = self.lock_here(rt);
+            let mut place = lock_here(rt, &self.place, &self.landings);
             match place.restart(alloc) {
                 Restart::IsUp => return None,
                 Restart::IsRefused(refusal) => return Some(refusal),

@@ -1,6 +1,8 @@
 // Nodes over devices that have the records of an earlier opening.
 ghost use Rattle.std.specs.Prelude.{◌≤◌, IfOk};
 ghost use Rattle.decisions.specs.Values.{IsIntent};
+ghost use Rattle.journal.specs.Rest.{IsPlain};
+ghost use Rattle.records.specs.Format.{IsRecord};
 
 use crate::stores::{STORE, Store, open_coordinator, open_shard, open_shards, two_of};
 use crate::writes::touch;
@@ -21,6 +23,16 @@ fn journal<D: Device>(alloc: Global, devices: &mut Vec<D>) -> Result<Journal<D>,
     }
 }
 
+/// Stages a record, which is let go of here: within a `?` it would be taken apart once for each way out.
+fn stage<D: Device>(journal: &mut Journal<D>, record: Record) -> Result<(), Refusal>
+    requires spellable { IsRecord record }
+    requires plain { IsPlain record }
+{
+    let staged = journal.stage(&record);
+    drop(record);
+    staged
+}
+
 /// The same with the first opening of a node of a store of one shard, which is staged.
 fn opened_once<D: Device>(
     alloc: Global,
@@ -28,13 +40,19 @@ fn opened_once<D: Device>(
     node: u8,
 ) -> Result<Journal<D>, Refusal> {
     let mut journal = journal(alloc, devices)?;
-    journal.stage(&Record::Epoch {
+    let opening = Record::Epoch {
         epoch: 1,
         store: STORE,
         shards: 1,
         node,
-    })?;
-    Ok(journal)
+    };
+    match stage(&mut journal, opening) {
+        Ok(()) => Ok(journal),
+        Err(refusal) => {
+            drop(journal);
+            Err(refusal)
+        }
+    }
 }
 
 /// The write with that number of the first epoch.
@@ -51,6 +69,16 @@ fn entry(alloc: Global, number: u64) -> Result<Entry, Refusal>
     })
 }
 
+/// A full batch goes out, so that there is room for this record.
+fn make_room<D: Device>(journal: &mut Journal<D>, next: &Record) -> Result<(), Refusal>
+    requires { IsRecord next.now }
+{
+    if journal.has_room(next) {
+        return Ok(());
+    }
+    journal.flush()
+}
+
 /// Stages a decision; a full batch goes out first.
 fn stage_decision<D: Device>(
     journal: &mut Journal<D>,
@@ -60,10 +88,13 @@ fn stage_decision<D: Device>(
     requires { IsIntent entry }
 {
     let decision = Record::Decision { place, entry };
-    if !journal.has_room(&decision) {
-        journal.flush()?;
+    match make_room(journal, &decision) {
+        Ok(()) => stage(journal, decision),
+        Err(refusal) => {
+            drop(decision);
+            Err(refusal)
+        }
     }
-    journal.stage(&decision)
 }
 
 /// Stages so many decisions: at each place the write with the number of the place.
@@ -92,7 +123,7 @@ fn keep<D: Device>(
 {
     stage_decisions(alloc, journal, decisions)?;
     if horizon > 0 {
-        journal.stage(&Record::Horizon(horizon))?;
+        stage(journal, Record::Horizon(horizon))?;
     }
     journal.flush()
 }
@@ -115,7 +146,7 @@ pub(crate) fn coordinator_with<D: Device>(
 /// Stages that all up to a place is learned, without a part of the shard, and flushes.
 fn learn<D: Device>(alloc: Global, journal: &mut Journal<D>, to: u64) -> Result<(), Refusal> {
     let placed_ids = PlacedIds::from_vec(Vec::new(alloc));
-    journal.stage(&Record::Learned { to, placed_ids })?;
+    stage(journal, Record::Learned { to, placed_ids })?;
     journal.flush()
 }
 
