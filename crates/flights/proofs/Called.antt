@@ -23,7 +23,7 @@ use Rattle.calls.specs.declared.reply.ShardReply.{ShardReply}
 use Rattle.calls.specs.declared.reply.ShardReply.TheVariants as told_by
 use Rattle.calls.specs.Asking.{Answered, ShardAnswers}
 use Rattle.calls.specs.ShardAnswers.{CollectAnswers, DropAnswers, LearnAnswers, PrepareAnswers}
-use Rattle.calls.specs.Views.{NodeView, coordinator, shard, refused}
+use Rattle.calls.specs.Views.{NodeView, shard, refused}
 use Rattle.sides.specs.Lending.{IsSoundIn, IsSoundShard}
 use Rattle.sides.specs.Sides.{AnsweredIn}
 use Rattle.sides.proofs.ShardCalls.{is_up}

@@ -1,5 +1,5 @@
 -- What comes back, and what the shard is then.
-use Rattle.std.proofs.Common.{◌≡◌, ◌⊎◌, ◌||◌, ◌++◌, ◌≤◌, ⊎_elim, inl, inr, ℕ, zero, suc, Bool, true, false, true≢false, List, [], ◌∷◌, length, take, Option, Some, None, Result, Ok, Err, slice_get, refl, sym, ◌∙◌, ap, subst, arith}
+use Rattle.std.proofs.Common.{◌≡◌, ◌||◌, ◌++◌, ◌≤◌, ⊎_elim, inl, inr, ℕ, zero, suc, Bool, true, false, true≢false, List, [], ◌∷◌, length, take, Option, Some, None, Result, Ok, Err, slice_get, refl, sym, ◌∙◌, ap, subst, arith}
 use Rattle.std.specs.Prelude.{IfErr, OnOk}
 use Rattle.std.proofs.lemmas.List.{append-nil}
 use Rattle.std.proofs.lemmas.Option.{same_Some}
@@ -9,7 +9,6 @@ use Rattle.away.specs.declared.away.Away.{Away}
 use Rattle.records.specs.declared.record.Record.{Record}
 use Rattle.records.specs.Replays.{shard_state}
 use Rattle.device.specs.Device.{State, left}
-use Rattle.journal.specs.Lending.{Flies}
 use Rattle.journal.specs.Records.{HasOldOrNew, HasRecords, LeavesBoth, View, batch_size}
 use Rattle.published.specs.Known.{Known}
 use Rattle.tuples.specs.declared.entry.Entry.{Entry}
@@ -22,7 +21,7 @@ use Rattle.calls.specs.declared.lending.Flying.{Flying}
 use Rattle.calls.specs.declared.lending.Flying.TheVariants.{Coordinator, Shard}
 use Rattle.ties.specs.ShardTies.{AreRowsOf}
 use Rattle.sides.specs.Lending.{IsSoundIn, IsSoundShard, LandsIn, LandsRows, MayLandIn}
-use Rattle.flights.specs.Flights.{AreRowsAround, HasFlown, IsReady, IsToldAll, StaysBehind, StaysIn, launch_of}
+use Rattle.flights.specs.Flights.{AreRowsAround, HasFlown, IsReady, StaysBehind, StaysIn, launch_of}
 use Rattle.flights.specs.declared.launch.Launch.{Launch}
 
 went_well : {T E P : Type 0} (Q : E → Type 0) (r : Result T E) (down : Bool) → IfErr r (λ e. Q e × (down ≡ true)) → down ≡ false → OnOk r P → P

@@ -1,26 +1,21 @@
 -- What leaves, and what stays behind it.
-use Rattle.std.proofs.Common.{◌≡◌, ◌++◌, ◌+◌, ℕ, zero, suc, true, false, List, [], ◌∷◌, length, Option, Some, None, slice_get, refl, sym, ◌∙◌, ap, subst, arith}
+use Rattle.std.proofs.Common.{◌≡◌, ◌++◌, ℕ, zero, suc, false, List, [], ◌∷◌, length, Option, Some, None, slice_get, refl, sym, ◌∙◌, ap, subst, arith}
 use Rattle.std.proofs.lemmas.List.{append-nil}
-use mathlib.Core.List.{IsPrefix}
 use Rattle.away.specs.Aways.{lent_honest, lent_state}
 use Rattle.away.specs.declared.away.Away.{Away}
-use Rattle.records.specs.declared.record.Record.{Record}
-use Rattle.records.specs.Replays.{shard_state}
 use Rattle.device.specs.Device.{State}
 use Rattle.journal.specs.Records.{View}
 use Rattle.published.specs.Known.{Known}
 use Rattle.tuples.specs.declared.entry.Entry.{Entry}
-use Rattle.shard.specs.Shards.{ShardView, journal_of, memory}
+use Rattle.shard.specs.Shards.{ShardView}
 use Rattle.shard.specs.declared.lending.Flying.{Flying as OfShard}
 use Rattle.calls.specs.Lending.{ShardLends}
 use Rattle.calls.specs.Views.{NodeView, coordinator, refused, shard}
 use Rattle.calls.specs.declared.lending.Flying.{Flying}
 use Rattle.calls.specs.declared.lending.Flying.TheVariants.{Coordinator, Shard}
-use Rattle.ties.specs.ShardTies.{AreRowsOf}
 use Rattle.sides.specs.Lending.{IsSoundIn, IsSoundShard, IsUpIn, LendsIn}
 use Rattle.sides.specs.Sides.{IsTiedIn}
-use Rattle.flights.specs.Flights.{AreRowsAround, IsReady, IsToldAll, StaysIn, launch_of}
-use Rattle.flights.specs.declared.launch.Launch.{Launch}
+use Rattle.flights.specs.Flights.{AreRowsAround, IsReady, StaysIn, launch_of}
 
 -- what is added to a list stands at its end
 pub at_the_end : {X : Type 0} (xs : List X) (x : X) (n : ℕ) → n ≡ length xs → slice_get (xs ++ x ∷ []) n ≡ Some x

@@ -1,5 +1,5 @@
 -- A call that is no flush leaves a coordinator up whose devices are out, and stages behind what is staged; and what its reply tells a writer.
-use Rattle.std.proofs.Common.{◌≡◌, ◌⊎◌, ◌≤◌, ◌<◌, ⊎_elim, true, false, ℕ, List, [], ◌∷◌, ◌++◌, length, Result, Option, Some, None, Ok, Err, slice_get, refl, sym, ◌∙◌, ap, subst, arith}
+use Rattle.std.proofs.Common.{◌≡◌, ◌≤◌, ⊎_elim, false, ℕ, List, [], ◌++◌, length, Result, Option, Some, Ok, Err, slice_get, refl, sym, ◌∙◌, ap, subst, arith}
 use Rattle.std.proofs.lemmas.List.{append-nil}
 use Rattle.std.specs.Global.{Vec}
 use mathlib.Core.List.{IsPrefix}
@@ -10,7 +10,7 @@ use Rattle.tuples.specs.Writes.{WriteValue}
 use Rattle.device.specs.Device.{State}
 use Rattle.published.proofs.Prefixes.{prefix_trans}
 use Rattle.records.specs.declared.record.Record.{Record}
-use Rattle.decisions.specs.Coordinators.{CoordinatorView, IsRunning}
+use Rattle.decisions.specs.Coordinators.{CoordinatorView}
 use Rattle.decisions.specs.Standing.{DecidedValue}
 use Rattle.decisions.specs.Values.{IntentValue, SettledValue, VerdictValue, VoteValue}
 use Rattle.coordinator.specs.declared.decided.NotDecided.{NotDecided}
@@ -26,10 +26,10 @@ use Rattle.calls.specs.declared.reply.CoordinatorReply.TheVariants as told
 use Rattle.calls.specs.Asking.{Answered, CoordinatorAnswers}
 use Rattle.calls.specs.CoordinatorAnswers.{AbortAnswers, BeginAnswers, DecideAnswers, RaiseAnswers}
 use Rattle.calls.specs.Views.{NodeView, coordinator, refused}
-use Rattle.ties.specs.DecidingLaws.{StandsAt, attempt}
+use Rattle.ties.specs.DecidingLaws.{attempt}
 use Rattle.ties.specs.Ties.{Attempt}
 use Rattle.flow_ties.specs.Writes.{TellsWriter}
-use Rattle.sides.specs.CoordinatorSides.{AnsweredThere, IsSound, IsSoundThere, IsTried, TellsBegun, TellsDecided, TellsKept, tried_by}
+use Rattle.sides.specs.CoordinatorSides.{AnsweredThere, IsSound, IsSoundThere, IsTried, TellsDecided, TellsKept, tried_by}
 use Rattle.sides.proofs.ShardCalls.{is_up}
 use Rattle.flights.specs.Flights.{LogStaysIn}
 use Rattle.flights.specs.LogPlaces.{is_log_flush}

@@ -1,5 +1,5 @@
 -- What comes back to a coordinator is what left it.
-use Rattle.std.proofs.Common.{◌≡◌, ◌⊎◌, ◌++◌, ◌≤◌, ⊎_elim, inl, inr, ℕ, true≢false, List, [], length, take, Option, Some, None, sym, ◌∙◌, ap, subst, arith}
+use Rattle.std.proofs.Common.{◌≡◌, ◌++◌, ⊎_elim, inl, inr, ℕ, true≢false, List, [], take, Option, Some, None, sym, ◌∙◌, ap, subst, arith}
 use Rattle.std.proofs.lemmas.List.{append-nil}
 use Rattle.away.specs.Aways.{lent_honest, lent_state}
 use Rattle.away.specs.declared.away.Away.{Away}

@@ -1,5 +1,5 @@
 -- What leaves of a coordinator, and what stays behind it.
-use Rattle.std.proofs.Common.{◌≡◌, ℕ, true, false, List, [], Option, Some, None, refl, sym, ◌∙◌, ap, subst}
+use Rattle.std.proofs.Common.{◌≡◌, ℕ, false, [], Option, Some, None, refl, sym, ◌∙◌, ap, subst}
 use Rattle.std.proofs.lemmas.List.{append-nil}
 use Rattle.away.specs.declared.away.Away.{Away}
 use Rattle.device.specs.Device.{State}

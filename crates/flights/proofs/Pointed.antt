@@ -1,5 +1,5 @@
 -- A checkpoint leaves a shard sound.
-use Rattle.std.proofs.Common.{◌≡◌, ⊎_elim, true≢false, ℕ, List, Result, Option, Some, Ok, Err, sym, ◌∙◌, subst}
+use Rattle.std.proofs.Common.{⊎_elim, true≢false, ℕ, List, Result, Option, Some, Ok, Err, sym, ◌∙◌, subst}
 use Rattle.refusal.specs.declared.refusal.Refusal.{Refusal}
 use Rattle.device.specs.Device.{State}
 use Rattle.shard.specs.Shards.{ShardView}

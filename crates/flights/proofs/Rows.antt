@@ -1,7 +1,6 @@
 -- Rows of a list are those of each longer one.
 use Rattle.std.proofs.Common.{◌≡◌, ◌≤◌, ◌++◌, ℕ, List, length, sym, ap, subst, arith, length-append}
 use Rattle.std.proofs.lemmas.List.{take-append-le}
-use mathlib.Core.List.{IsPrefix}
 use Rattle.tuples.specs.declared.entry.Entry.{Entry}
 use Rattle.tuples.specs.Versions.{changes_from, collected, of_shard, versions}
 use Rattle.records.specs.Replays.{ShardState, shard_state}

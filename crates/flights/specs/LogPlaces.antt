@@ -1,6 +1,5 @@
 -- The coordinator under its lock, as its callers see it, whether its devices are here or out.
 use Rattle.std.specs.Prelude.{◌≡◌, ◌≤◌, ◌<◌, ◌+◌, ◌^◌, ℕ, Bool, true, false, List, [], length, Option, Some, None}
-use Rattle.refusal.specs.declared.refusal.Refusal.{Refusal}
 use Rattle.away.specs.declared.away.Away.{Away}
 use Rattle.away.specs.Aways.{lent_honest, lent_state}
 use Rattle.tuples.specs.declared.entry.Entry.{Entry}

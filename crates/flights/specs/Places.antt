@@ -1,6 +1,5 @@
 -- A node under its lock, whether its devices are here or out; and a shard there, as its callers see it.
 use Rattle.std.specs.Prelude.{◌≡◌, ℕ, Bool, true, false, List, Option, Some, None, Ok}
-use Rattle.refusal.specs.declared.refusal.Refusal.{Refusal}
 use Rattle.away.specs.Aways.{lent_honest, lent_state}
 use Rattle.away.specs.declared.away.Away.{Away}
 use Rattle.tuples.specs.declared.entry.Entry.{Entry}

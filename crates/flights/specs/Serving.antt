@@ -1,5 +1,5 @@
 -- What a call of a node leaves a caller with, and what its reply tells.
-use Rattle.std.specs.Prelude.{◌≡◌, ℕ, List, length, Ok}
+use Rattle.std.specs.Prelude.{◌≡◌, ℕ, length, Ok}
 use mathlib.Core.List.{IsPrefix}
 use Rattle.tuples.specs.declared.entry.Entry.{Entry}
 use Rattle.published.specs.Known.{Known}

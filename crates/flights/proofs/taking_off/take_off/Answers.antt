@@ -1,4 +1,4 @@
-use Rattle.std.proofs.Common.{◌≡◌, ◌++◌, ◌∷◌, [], List, Some, length, slice_get, ap, sym, ◌∙◌}
+use Rattle.std.proofs.Common.{List, length, slice_get, ap, sym, ◌∙◌}
 use Rattle.published.specs.Known.{Known}
 use Rattle.flights.specs.Flights.{launch_of}
 use Rattle.flights.specs.declared.launch.Launch.{Launch}
