@@ -1,5 +1,6 @@
 -- A node under its lock whose devices are elsewhere, and what it is once they are back.
 use Rattle.std.specs.Prelude.{◌≡◌, ◌⊎◌, ◌++◌, ℕ, false, List, take, Option, Some, None, Ok}
+use Rattle.refusal.specs.declared.refusal.Refusal.{Refusal}
 use Rattle.tuples.specs.declared.entry.Entry.{Entry}
 use Rattle.records.specs.declared.record.Record.{Record}
 use Rattle.records.specs.Replays.{shard_state}
@@ -9,6 +10,7 @@ use Rattle.journal.specs.Records.{Finds, View}
 use Rattle.decisions.specs.Coordinators.{CoordinatorView}
 use Rattle.shard.specs.Shards.{IsUp, ShardView}
 use Rattle.calls.specs.Lending.{NodeLands, NodeLends, NodeMayLand}
+use Rattle.calls.specs.Opening.{refusal_of}
 use Rattle.calls.specs.Views.{NodeView, coordinator, refused, shard}
 use Rattle.calls.specs.declared.reply.Reply.{Reply}
 use Rattle.calls.specs.declared.reply.Reply.TheVariants.{Coordinator as from_coordinator}
@@ -30,6 +32,11 @@ IsUpThere (Some (coordinator v)) = v.is_down ≡ false
 IsUpThere (Some (shard v)) = ⊥
 IsUpThere (Some (refused e a b)) = ⊥
 IsUpThere None = ⊥
+
+-- the refusal of the node's opening, where that was refused
+abbrev pub refusal_in : {D : Type 0} → Option (NodeView D) → Option Refusal
+refusal_in (Some node) = refusal_of node
+refusal_in None = None
 
 -- it is told that a flush went well
 abbrev pub IsFlushed : Reply → Type 0

@@ -1,7 +1,7 @@
 // The coordinator under its lock whose devices are elsewhere, while what was staged is made durable there.
-ghost use Rattle.std.specs.Prelude.{◌≡◌, ◌↔◌, IfErr, IfOk, IsTrue};
+ghost use Rattle.std.specs.Prelude.{◌≡◌, ◌↔◌, IfErr, IfOk, IsErr, IsSome, IsTrue};
 ghost use Rattle.sides.specs.CoordinatorSides.{HasLaterList, HasSameList};
-ghost use Rattle.sides.specs.Lending.{ComesBackIn, IsUpThere, LandsIn, LendsIn, MayLandIn};
+ghost use Rattle.sides.specs.Lending.{ComesBackIn, IsUpThere, LandsIn, LendsIn, MayLandIn, refusal_in};
 
 use crate::joining::{ask_heads, join};
 use crate::{CoordinatorSide, Room};
@@ -32,13 +32,14 @@ impl<D: Device, B: Room> CoordinatorSide<D, B> {
         ask_heads(&mut self.node).is_some()
     }
 
-    /// Lends its devices. One whose opening was refused comes back as it was: it has nothing that could fly.
+    /// Lends its devices. One whose opening was refused comes back as it was, since it has nothing that could fly; no other does.
     pub fn lend(
         self,
         room: BatchRoom,
     ) -> Result<LentCoordinator<D, B>, (CoordinatorSide<D, B>, BatchRoom)>
         ensures lends { IfOk result (λ r. LendsIn D.state D.honest self.node r.side.node r.flight r.flying) }
         ensures list { IfOk result (λ r. HasSameList self r.side) }
+        ensures refused { IsErr result ↔ IsSome (refusal_in self.node) }
         ensures back { IfErr result (λ e. e.0 ≡ self) }
     {
         let CoordinatorSide {

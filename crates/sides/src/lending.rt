@@ -1,6 +1,6 @@
 // A shard under its lock whose devices are elsewhere, while what was staged is made durable there.
-ghost use Rattle.std.specs.Prelude.{◌≡◌, ◌↔◌, IfErr, IfOk, IsTrue};
-ghost use Rattle.sides.specs.Lending.{IsUpIn, LandsIn, LandsRows, LendsIn, MayLandIn};
+ghost use Rattle.std.specs.Prelude.{◌≡◌, ◌↔◌, IfErr, IfOk, IsErr, IsSome, IsTrue};
+ghost use Rattle.sides.specs.Lending.{IsUpIn, LandsIn, LandsRows, LendsIn, MayLandIn, refusal_in};
 
 use crate::shard_side::ask_shard;
 use crate::{Room, ShardSide};
@@ -38,10 +38,11 @@ impl<D: Device, B: Room> ShardSide<D, B> {
         }
     }
 
-    /// Lends its devices. One whose opening was refused comes back as it was: it has nothing that could fly.
+    /// Lends its devices. One whose opening was refused comes back as it was, since it has nothing that could fly; no other does.
     pub fn lend(self, room: BatchRoom) -> Result<LentShard<D, B>, (ShardSide<D, B>, BatchRoom)>
         ensures lends { IfOk result (λ r. LendsIn D.state D.honest self.node r.side.node r.flight r.flying) }
         ensures same { IfOk result (λ r. (r.side.number ≡ self.number) × (r.side.pass ≡ self.pass)) }
+        ensures refused { IsErr result ↔ IsSome (refusal_in self.node) }
         ensures back { IfErr result (λ e. e.0 ≡ self) }
     {
         let ShardSide {
