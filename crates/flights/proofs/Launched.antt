@@ -13,7 +13,7 @@ use Rattle.calls.specs.Lending.{ShardLends}
 use Rattle.calls.specs.Views.{NodeView, coordinator, refused, shard}
 use Rattle.calls.specs.declared.lending.Flying.{Flying}
 use Rattle.calls.specs.declared.lending.Flying.TheVariants.{Coordinator, Shard}
-use Rattle.sides.specs.Lending.{IsSoundIn, IsSoundShard, IsUpIn, LendsIn}
+use Rattle.sides.specs.Lending.{IsSoundIn, IsSoundShard, IsUpIn, LendsIn, refusal_in}
 use Rattle.sides.specs.Sides.{IsTiedIn}
 use Rattle.flights.specs.Flights.{AreRowsAround, IsReady, StaysIn, launch_of}
 
@@ -23,6 +23,13 @@ at_the_end [] x zero is = refl
 at_the_end [] x (suc n) is = absurd (omega (arith, is))
 at_the_end (y ∷ ys) x zero is = absurd (omega (arith, is))
 at_the_end (y ∷ ys) x (suc n) is = at_the_end ys x n (omega (arith, is))
+
+-- the opening of a shard that is up was not refused
+pub up_is_opened : {D : Type 0} (node : Option (NodeView D)) → IsUpIn node → refusal_in node ≡ None
+up_is_opened (Some (shard v)) up = refl
+up_is_opened (Some (coordinator v)) up = absurd up
+up_is_opened (Some (refused e a b)) up = absurd up
+up_is_opened None up = absurd up
 
 module _ {D : Type 0} (state : D → State) (honest : D → Type 0) where
   -- Given a shard that is up, and what stays where its devices leave

@@ -11,8 +11,15 @@ use Rattle.calls.specs.Views.{NodeView, coordinator, refused, shard}
 use Rattle.calls.specs.declared.lending.Flying.{Flying}
 use Rattle.calls.specs.declared.lending.Flying.TheVariants.{Coordinator, Shard}
 use Rattle.sides.specs.CoordinatorSides.{IsSound, IsSoundThere}
-use Rattle.sides.specs.Lending.{IsUpThere, LendsIn}
+use Rattle.sides.specs.Lending.{IsUpThere, LendsIn, refusal_in}
 use Rattle.flights.specs.Flights.{IsReady, LogStaysIn, launch_of}
+
+-- the opening of a coordinator that is up was not refused
+pub log_up_is_opened : {D : Type 0} (node : Option (NodeView D)) → IsUpThere node → refusal_in node ≡ None
+log_up_is_opened (Some (coordinator v)) up = refl
+log_up_is_opened (Some (shard v)) up = absurd up
+log_up_is_opened (Some (refused e a b)) up = absurd up
+log_up_is_opened None up = absurd up
 
 module _ {D : Type 0} (state : D → State) (honest : D → Type 0) (store shards : ℕ) where
   -- Given a coordinator that is up, and what stays where its devices leave

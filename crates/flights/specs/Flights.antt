@@ -1,5 +1,5 @@
 -- What flies, what becomes of it, and what stays behind.
-use Rattle.std.specs.Prelude.{◌≡◌, ◌⊎◌, ◌++◌, ℕ, Bool, true, false, List, length, Option, Some, None, slice_get}
+use Rattle.std.specs.Prelude.{◌≡◌, ◌⊎◌, ◌+◌, ◌<◌, ◌^◌, ◌++◌, ℕ, Bool, true, false, List, length, Option, Some, None, slice_get}
 use mathlib.Core.List.{IsPrefix}
 use Rattle.away.specs.Aways.{lent_honest, lent_state}
 use Rattle.away.specs.declared.away.Away.{Away}
@@ -33,6 +33,10 @@ is_of_coordinator (Shard flying) = false
 -- of which kind of node the journal is that leaves, and its records as it does
 abbrev pub launch_of : {D : Type 0} → View D → Flying → Launch
 launch_of j flying = record { of_coordinator = is_of_coordinator flying; durable = j.durable; staged = j.staged }
+
+-- one flight more can be numbered
+abbrev pub HasNumber : List Launch → Type 0
+HasNumber launches = length launches + 1 < 2 ^ 64
 
 -- a flight as its callers see it: the journal with the devices, how much flies, and the flight's number
 pub record FlightView (D : Type 0) : Type 0 where

@@ -13,8 +13,9 @@ use Rattle.flow_ties.specs.Writes.{TellsWriter}
 use Rattle.laws.specs.Worlds.{coordinator_node}
 use Rattle.ties.specs.Ties.{Attempt}
 use Rattle.sides.specs.CoordinatorSides.{CoordinatorSideAnswers, HasLaterList, HasSameList, IsTried, LogSide}
-use Rattle.sides.specs.Lending.{FlushTellsUp, LandsIn, LendsIn}
+use Rattle.sides.specs.Lending.{FlushTellsUp, IsUpThere, LandsIn, LendsIn}
 use Rattle.sides.specs.Reopening.{LogRestartedIn}
+use Rattle.sides.specs.Sides.{bank_len_in}
 use Rattle.flights.specs.Flights.{FlightView, IsLogOutOn}
 use Rattle.flights.specs.Places.{Whereabouts, here, nowhere, out}
 use Rattle.flights.specs.declared.berth.Berth.{Berth}
@@ -25,6 +26,18 @@ use Rattle.flights.specs.declared.returning.Restart.TheVariants.{HasToWait, IsRe
 
 abbrev pub LogPlaceView : Type 0 → Type 0
 LogPlaceView D = Whereabouts (LogSide D) (LogSide (Away D))
+
+-- it has its devices, and is up
+abbrev pub IsLogUpHere : {D : Type 0} → LogPlaceView D → Type 0
+IsLogUpHere (here side) = IsUpThere side.node
+IsLogUpHere (out side launch) = ⊥
+IsLogUpHere nowhere = ⊥
+
+-- how many bytes its current bank has
+abbrev pub log_bank_len_at : {D : Type 0} → LogPlaceView D → ℕ
+log_bank_len_at (here side) = bank_len_in side.node
+log_bank_len_at (out side launch) = bank_len_in side.node
+log_bank_len_at nowhere = 0
 
 -- a call that needs the devices
 abbrev pub is_log_flush : CoordinatorCall → Bool

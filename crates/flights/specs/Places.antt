@@ -56,6 +56,12 @@ number_at (here side) = side.number
 number_at (out side launch) = side.number
 number_at nowhere = 0
 
+-- it has its devices, and is up
+abbrev pub IsUpHere : {D : Type 0} → PlaceView D → Type 0
+IsUpHere (here side) = IsUpIn side.node
+IsUpHere (out side launch) = ⊥
+IsUpHere nowhere = ⊥
+
 -- how many bytes its current bank has
 abbrev pub bank_len_at : {D : Type 0} → PlaceView D → ℕ
 bank_len_at (here side) = bank_len_in side.node

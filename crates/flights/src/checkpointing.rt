@@ -7,7 +7,7 @@ ghost use Rattle.calls.specs.declared.call.NodeCall.TheVariants.{Coordinator as 
 ghost use Rattle.calls.specs.declared.call.ShardCall.TheVariants.{Checkpoint as checkpoint_call};
 ghost use Rattle.sides.specs.Lending.{IsSoundIn};
 ghost use Rattle.sides.specs.Sides.{IsLater, SideAnswers};
-ghost use Rattle.flights.specs.LogPlaces.{ChecksLogPointThere};
+ghost use Rattle.flights.specs.LogPlaces.{ChecksLogPointThere, log_bank_len_at};
 ghost use Rattle.flights.specs.Places.{ChecksPointThere, IsOutThere, number_at};
 
 use crate::berth::Berth;
@@ -45,8 +45,10 @@ impl<D: Device, B: Room> ShardPlace<D, B> {
 }
 
 impl<D: Device, B: Room> CoordinatorPlace<D, B> {
-    /// How many bytes its current bank has; 0 where its opening was refused.
-    pub fn bank_len(&self) -> u64 {
+    /// How many bytes its current bank has; 0 where its opening was refused. While its devices are out, those before they left.
+    pub fn bank_len(&self) -> u64
+        ensures { result ≡ log_bank_len_at self.now }
+    {
         match &self.berth {
             Some(Berth::Here(side, _)) => side.bank_len(),
             Some(Berth::Out(side, _)) => side.bank_len(),

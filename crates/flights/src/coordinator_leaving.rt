@@ -1,8 +1,8 @@
 // The coordinator's devices leave.
-ghost use Rattle.std.specs.Prelude.{◌≡◌, ◌<◌, ◌+◌, ◌^◌, IfNone, IfSome, Some, length};
+ghost use Rattle.std.specs.Prelude.{◌≡◌, ◌↔◌, ◌<◌, ◌+◌, ◌^◌, IfNone, IfSome, IsSome, Some, length};
 ghost use Rattle.sides.specs.Lending.{IsUpThere};
-ghost use Rattle.flights.specs.Flights.{IsReady, LogStaysIn, launch_of};
-ghost use Rattle.flights.specs.LogPlaces.{HasLogLaunched, IsLogBerthed};
+ghost use Rattle.flights.specs.Flights.{HasNumber, IsReady, LogStaysIn, launch_of};
+ghost use Rattle.flights.specs.LogPlaces.{HasLogLaunched, IsLogBerthed, IsLogUpHere};
 ghost use Rattle.flights.specs.Places.{here, out as out_on, place_of};
 
 use crate::berth::Berth;
@@ -42,6 +42,7 @@ fn leave<D: Device, B: Room>(
 }
 
 // Lends the devices of a coordinator that is up.
+#[tactic(auto, using(crate::proofs::LogLaunched::log_up_is_opened))]
 fn send<D: Device, B: Room>(
     launches: &Published<Launch>,
     log: &mut LaunchLog<B>,
@@ -51,15 +52,14 @@ fn send<D: Device, B: Room>(
     number: u64,
 ) -> (
     Berth<CoordinatorSide<D, B>, CoordinatorSide<Away<D>, B>>,
-    Option<Flight<D, B>>,
+    Flight<D, B>,
 )
     requires own { (launches.now ≡ B.launches) × (pass.old.table ≡ B.launches) }
     requires number { (number ≡ length log.old.seen) × (number + 1 < 2 ^ 64) }
     requires up { IsUpThere side.node }
     ensures own { pass.new.table ≡ B.launches }
     ensures berth { IsLogBerthed pass.new.seen (Some result.0) }
-    ensures launched { IfSome result.1 (λ f. HasLogLaunched D.state D.honest (here side) f (place_of (Some result.0))) }
-    ensures stays { IfNone result.1 (place_of (Some result.0) ≡ here side) }
+    ensures launched { HasLogLaunched D.state D.honest (here side) result.1 (place_of (Some result.0)) }
 {
     side.keeps();
     match side.lend(room) {
@@ -69,11 +69,9 @@ fn send<D: Device, B: Room>(
                 flight,
                 flying,
             },
-        ) => {
-            let (berth, flight) = leave(launches, log, pass, side, flight, flying, number);
-            (berth, Some(flight))
-        }
-        Err((side, room)) => (Berth::Here(side, room), None),
+        ) => leave(launches, log, pass, side, flight, flying, number),
+        // Only one whose opening was refused stays, and that is not up.
+        Err(_) => unreachable!(),
     }
 }
 
@@ -92,13 +90,15 @@ fn send_if_up<D: Device, B: Room>(
     ensures own { pass.new.table ≡ B.launches }
     ensures berth { IsLogBerthed pass.new.seen (Some result.0) }
     ensures launched { IfSome result.1 (λ f. HasLogLaunched D.state D.honest (here side) f (place_of (Some result.0))) }
+    ensures leaves { IsSome result.1 ↔ (IsUpThere side.node × HasNumber log.old.seen) }
     ensures stays { IfNone result.1 (place_of (Some result.0) ≡ here side) }
 {
     let number = launches.length(&mut log.log);
     if number == u64::MAX || !side.is_up() {
         return (Berth::Here(side, room), None);
     }
-    send(launches, log, pass, side, room, number)
+    let (berth, flight) = send(launches, log, pass, side, room, number);
+    (berth, Some(flight))
 }
 
 // Whatever its devices do now.
@@ -116,6 +116,7 @@ fn depart<D: Device, B: Room>(
     ensures own { pass.new.table ≡ B.launches }
     ensures berth { IsLogBerthed pass.new.seen (Some result.0) }
     ensures launched { IfSome result.1 (λ f. HasLogLaunched D.state D.honest (place_of (Some berth)) f (place_of (Some result.0))) }
+    ensures leaves { IsSome result.1 ↔ (IsLogUpHere (place_of (Some berth)) × HasNumber log.old.seen) }
     ensures stays { IfNone result.1 (place_of (Some result.0) ≡ place_of (Some berth)) }
 {
     match berth {
@@ -125,7 +126,7 @@ fn depart<D: Device, B: Room>(
 }
 
 impl<D: Device, B: Room> CoordinatorPlace<D, B> {
-    /// Its devices leave on a flight, with all that is staged. None where they are out already, or where it is not up: then all stays as it is.
+    /// Its devices leave on a flight, with all that is staged: where they are here, it is up, and one flight more can be numbered. Else all stays as it is.
     pub fn launch(
         &mut self,
         launches: &Published<Launch>,
@@ -133,6 +134,7 @@ impl<D: Device, B: Room> CoordinatorPlace<D, B> {
     ) -> Option<Flight<D, B>>
         requires own { launches.now ≡ B.launches }
         ensures launched { IfSome result (λ f. HasLogLaunched D.state D.honest self.old f self.new) }
+        ensures leaves { IsSome result ↔ (IsLogUpHere self.old × HasNumber log.old.seen) }
         ensures stays { IfNone result (self.new ≡ self.old) }
     {
         let Some(berth) = self.berth.take() else {

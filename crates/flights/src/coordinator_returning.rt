@@ -1,5 +1,5 @@
 // The coordinator's devices come back, and it is opened again.
-ghost use Rattle.std.specs.Prelude.{◌≡◌, IfErr, OnOk, true};
+ghost use Rattle.std.specs.Prelude.{◌≡◌, ◌↔◌, IfErr, IsOk, IsTrue, OnOk};
 ghost use Rattle.calls.specs.Belonging.{IsReplyTo};
 ghost use Rattle.calls.specs.Refusing.{Notes};
 ghost use Rattle.calls.specs.declared.call.NodeCall.TheVariants.{Coordinator as of_coordinator};
@@ -51,7 +51,7 @@ fn arrive<D: Device, B: Room>(
 impl<D: Device, B: Room> CoordinatorPlace<D, B> {
     // Whether this flight has its devices.
     fn awaits(&self, launch: u64) -> bool
-        ensures { result ≡ true → IsOutFor launch self.now }
+        ensures { IsTrue result ↔ IsOutFor launch self.now }
     {
         match &self.berth {
             Some(Berth::Out(_, number)) => *number == launch,
@@ -60,7 +60,7 @@ impl<D: Device, B: Room> CoordinatorPlace<D, B> {
     }
 
     /// Its devices come back from their flight. Where that went well, what flew is durable, and joins the list; else the coordinator is down. What was staged
-    /// since is staged still. Another flight comes back as it was, and nothing is changed.
+    /// since is staged still. Only another flight does not land: it comes back as it was, and nothing is changed.
     pub fn land(
         &mut self,
         words: &Published<Entry>,
@@ -69,6 +69,7 @@ impl<D: Device, B: Room> CoordinatorPlace<D, B> {
     ) -> Result<(), Flown<D, B>>
         requires own { (words.now ≡ B.log) × (launches.now ≡ B.launches) }
         ensures landed { OnOk result (HasLogLanded D.state D.honest self.old flown self.new) }
+        ensures lands { IsOk result ↔ IsOutFor flown.launch self.old }
         ensures stays { IfErr result (λ back. (back ≡ flown) × (self.new ≡ self.old)) }
     {
         if !self.awaits(flown.launch) {

@@ -1,8 +1,8 @@
 // A shard's devices leave.
-ghost use Rattle.std.specs.Prelude.{◌≡◌, ◌<◌, ◌+◌, ◌^◌, IfNone, IfSome, Some, length};
+ghost use Rattle.std.specs.Prelude.{◌≡◌, ◌↔◌, ◌<◌, ◌+◌, ◌^◌, IfNone, IfSome, IsSome, Some, length};
 ghost use Rattle.sides.specs.Lending.{IsSoundIn, IsUpIn};
-ghost use Rattle.flights.specs.Flights.{IsOut, IsReady, launch_of};
-ghost use Rattle.flights.specs.Places.{HasLaunched, IsBerthed, here, out as out_on, place_of};
+ghost use Rattle.flights.specs.Flights.{HasNumber, IsOut, IsReady, launch_of};
+ghost use Rattle.flights.specs.Places.{HasLaunched, IsBerthed, IsUpHere, here, out as out_on, place_of};
 
 use crate::berth::Berth;
 use crate::taking_off::take_off;
@@ -39,6 +39,7 @@ fn leave<D: Device, B: Room>(
 }
 
 // Lends the devices of a shard that is up.
+#[tactic(auto, using(crate::proofs::Launched::up_is_opened))]
 fn send<D: Device, B: Room>(
     launches: &Published<Launch>,
     log: &mut LaunchLog<B>,
@@ -46,18 +47,14 @@ fn send<D: Device, B: Room>(
     side: ShardSide<D, B>,
     room: BatchRoom,
     number: u64,
-) -> (
-    Berth<ShardSide<D, B>, ShardSide<Away<D>, B>>,
-    Option<Flight<D, B>>,
-)
+) -> (Berth<ShardSide<D, B>, ShardSide<Away<D>, B>>, Flight<D, B>)
     requires own { (launches.now ≡ B.launches) × (pass.old.table ≡ B.launches) }
     requires number { (number ≡ length log.old.seen) × (number + 1 < 2 ^ 64) }
     requires sound { IsSoundIn D.state D.honest side.node }
     requires up { IsUpIn side.node }
     ensures own { pass.new.table ≡ B.launches }
     ensures berth { IsBerthed D.state D.honest B.rests B.shards pass.new.seen (Some result.0) }
-    ensures launched { IfSome result.1 (λ f. HasLaunched D.state D.honest (here side) f (place_of (Some result.0))) }
-    ensures stays { IfNone result.1 (place_of (Some result.0) ≡ here side) }
+    ensures launched { HasLaunched D.state D.honest (here side) result.1 (place_of (Some result.0)) }
 {
     side.keeps();
     match side.lend(room) {
@@ -67,11 +64,9 @@ fn send<D: Device, B: Room>(
                 flight,
                 flying,
             },
-        ) => {
-            let (berth, flight) = leave(launches, log, pass, side, flight, flying, number);
-            (berth, Some(flight))
-        }
-        Err((side, room)) => (Berth::Here(side, room), None),
+        ) => leave(launches, log, pass, side, flight, flying, number),
+        // Only one whose opening was refused stays, and that is not up.
+        Err(_) => unreachable!(),
     }
 }
 
@@ -91,13 +86,15 @@ fn send_if_up<D: Device, B: Room>(
     ensures own { pass.new.table ≡ B.launches }
     ensures berth { IsBerthed D.state D.honest B.rests B.shards pass.new.seen (Some result.0) }
     ensures launched { IfSome result.1 (λ f. HasLaunched D.state D.honest (here side) f (place_of (Some result.0))) }
+    ensures leaves { IsSome result.1 ↔ (IsUpIn side.node × HasNumber log.old.seen) }
     ensures stays { IfNone result.1 (place_of (Some result.0) ≡ here side) }
 {
     let number = launches.length(&mut log.log);
     if number == u64::MAX || !side.is_up() {
         return (Berth::Here(side, room), None);
     }
-    send(launches, log, pass, side, room, number)
+    let (berth, flight) = send(launches, log, pass, side, room, number);
+    (berth, Some(flight))
 }
 
 // Whatever its devices do now.
@@ -115,6 +112,7 @@ fn depart<D: Device, B: Room>(
     ensures own { pass.new.table ≡ B.launches }
     ensures berth { IsBerthed D.state D.honest B.rests B.shards pass.new.seen (Some result.0) }
     ensures launched { IfSome result.1 (λ f. HasLaunched D.state D.honest (place_of (Some berth)) f (place_of (Some result.0))) }
+    ensures leaves { IsSome result.1 ↔ (IsUpHere (place_of (Some berth)) × HasNumber log.old.seen) }
     ensures stays { IfNone result.1 (place_of (Some result.0) ≡ place_of (Some berth)) }
 {
     match berth {
@@ -124,7 +122,7 @@ fn depart<D: Device, B: Room>(
 }
 
 impl<D: Device, B: Room> ShardPlace<D, B> {
-    /// Its devices leave on a flight, with all that is staged. None where they are out already, or where it is not up: then all stays as it is.
+    /// Its devices leave on a flight, with all that is staged: where they are here, it is up, and one flight more can be numbered. Else all stays as it is.
     pub fn launch(
         &mut self,
         launches: &Published<Launch>,
@@ -132,6 +130,7 @@ impl<D: Device, B: Room> ShardPlace<D, B> {
     ) -> Option<Flight<D, B>>
         requires own { launches.now ≡ B.launches }
         ensures launched { IfSome result (λ f. HasLaunched D.state D.honest self.old f self.new) }
+        ensures leaves { IsSome result ↔ (IsUpHere self.old × HasNumber log.old.seen) }
         ensures stays { IfNone result (self.new ≡ self.old) }
     {
         let Some(berth) = self.berth.take() else {

@@ -1,5 +1,5 @@
 // A shard's devices come back, and it is opened again.
-ghost use Rattle.std.specs.Prelude.{◌≡◌, IfErr, OnOk, Some, slice_get, true};
+ghost use Rattle.std.specs.Prelude.{◌≡◌, ◌↔◌, IfErr, IsOk, IsTrue, OnOk};
 ghost use Rattle.calls.specs.Refusing.{Notes};
 ghost use Rattle.calls.specs.Belonging.{IsReplyTo};
 ghost use Rattle.calls.specs.declared.call.NodeCall.TheVariants.{Shard as of_shard};
@@ -58,7 +58,7 @@ fn arrive<D: Device, B: Room>(
 impl<D: Device, B: Room> ShardPlace<D, B> {
     // Whether this flight has its devices.
     fn awaits(&self, launch: u64) -> bool
-        ensures { result ≡ true → IsOutFor launch self.now }
+        ensures { IsTrue result ↔ IsOutFor launch self.now }
     {
         match &self.berth {
             Some(Berth::Out(_, number)) => *number == launch,
@@ -67,7 +67,7 @@ impl<D: Device, B: Room> ShardPlace<D, B> {
     }
 
     /// Its devices come back from their flight. Where that went well, what flew is durable; else the shard is down. What was staged since is staged still.
-    /// Another flight comes back as it was, and nothing is changed.
+    /// Only another flight does not land: it comes back as it was, and nothing is changed.
     pub fn land(
         &mut self,
         launches: &Published<Launch>,
@@ -75,6 +75,7 @@ impl<D: Device, B: Room> ShardPlace<D, B> {
     ) -> Result<(), Flown<D, B>>
         requires own { launches.now ≡ B.launches }
         ensures landed { OnOk result (HasLanded D.state D.honest self.old flown self.new) }
+        ensures lands { IsOk result ↔ IsOutFor flown.launch self.old }
         ensures stays { IfErr result (λ back. (back ≡ flown) × (self.new ≡ self.old)) }
     {
         if !self.awaits(flown.launch) {

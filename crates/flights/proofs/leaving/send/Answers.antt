@@ -5,8 +5,8 @@ use Rattle.flights.specs.Flights.{AreRowsAround, launch_of}
 use Rattle.flights.proofs.Launched.{left_behind, lent_sound, rows_around}
 use Rattle.flights.proofs.leaving.send.Goals as goal
 
-pub leave-berth-requires-clause-out : goal.leave-berth-requires-clause-out
-leave-berth-requires-clause-out g c =
+pub leave-requires-clause-out : goal.leave-requires-clause-out
+leave-requires-clause-out g c =
     let lent = c.in-Ok.field-0 in
     let old = c.args.side.node in
     record {

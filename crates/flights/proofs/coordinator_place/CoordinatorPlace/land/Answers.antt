@@ -12,5 +12,5 @@ arrive-side-requires-clause-out g c =
     let is : c.self.inside.berth ≡ Some (Out side number) = search in
     let there = subst (IsLogBerthed c.self.inside.pass.seen) is c.self.invariant.1 in
     let waits : c.awaits.result ≡ true = search in
-    let same : number ≡ c.args.flown.launch = subst (λ (v : LogPlaceView g.row.D.Denot). IsOutFor c.args.flown.launch v) (sym c.self.view_is ∙ ap place_of is) (subst (λ (f : FlightView g.row.D.Denot). IsOutFor f.launch c.args.self.now) c.flown.view_is (c.awaits.ensures waits)) in
+    let same : number ≡ c.args.flown.launch = subst (λ (v : LogPlaceView g.row.D.Denot). IsOutFor c.args.flown.launch v) (sym c.self.view_is ∙ ap place_of is) (subst (λ (f : FlightView g.row.D.Denot). IsOutFor f.launch c.args.self.now) c.flown.view_is (c.awaits.ensures.0 waits)) in
     (there.0, ap (slice_get c.self.inside.pass.seen) (sym same) ∙ there.1, there.2)
