@@ -24,12 +24,12 @@ fn journal<D: Device>(alloc: Global, devices: &mut Vec<D>) -> Result<Journal<D>,
 }
 
 /// Stages a record, which is let go of here: within a `?` it would be taken apart once for each way out.
-fn stage<D: Device>(journal: &mut Journal<D>, record: Record) -> Result<(), Refusal>
-    requires spellable { IsRecord record }
-    requires plain { IsPlain record }
+fn stage<D: Device>(journal: &mut Journal<D>, next: Record) -> Result<(), Refusal>
+    requires spellable { IsRecord next }
+    requires plain { IsPlain next }
 {
-    let staged = journal.stage(&record);
-    drop(record);
+    let staged = journal.stage(&next);
+    drop(next);
     staged
 }
 
