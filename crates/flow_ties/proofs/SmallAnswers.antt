@@ -11,8 +11,9 @@ use Rattle.tuples.specs.Log.{is_at}
 use Rattle.tuples.specs.Reads.{IsSelection}
 use Rattle.decisions.specs.Flows.{exact, latest}
 use Rattle.flow_ties.specs.Reads.{AreRowsAt}
-use Rattle.flow_ties.specs.Checks.{IsMembershipAt}
+use Rattle.flow_ties.specs.Checks.{IsMembershipAt, IsTooFar}
 use Rattle.flow_ties.specs.Refusing.{HasReason}
+use Rattle.flow_ties.specs.Telling.{IsAsAsked}
 
 -- no tuple is there
 none_there : (t : Tuple) → is_at [] 0 t ≡ false
@@ -53,6 +54,13 @@ module _ (t : Tuple) where
 -- nobody is a member
 nobody : (x : Userset) (u : User) → IsMembershipAt [] latest x u 0 true → ⊥
 nobody x u answer = let member = answer.member.0 refl in true≢false (sym member.last ∙ none_there _)
+
+-- nor is it too far to go at a place where nobody asked, whatever can be reached there
+elsewhere : (x : Userset) → IsTooFar [] (IsAsAsked (exact 3)) x → ⊥
+elsewhere x far =
+    let there = far.there in
+    let wanted = far.wanted in
+    omega (arith, there, wanted)
 
 -- a place that lies above all that there is has a reason to be refused
 above_all : HasReason [] (exact 3) [] 0 Future

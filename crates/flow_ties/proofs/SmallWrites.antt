@@ -6,8 +6,10 @@ use Rattle.tuples.specs.declared.entry.Entry.{Entry}
 use Rattle.tuples.specs.Watching.{Placed, events}
 use Rattle.tuples.specs.Writes.{WriteValue}
 use Rattle.tuples.proofs.Examples.{numbered, viewed}
+use Rattle.commit_flow.specs.declared.end.WriteEnd.TheVariants.{Cancelled}
+use Rattle.commit_flow.specs.Views.{view_ended}
 use Rattle.flow_ties.specs.Watches.{AreEventsTo}
-use Rattle.flow_ties.specs.Writes.{IsWrittenAt}
+use Rattle.flow_ties.specs.Writes.{IsWrittenAt, RefusesAsTold}
 
 abbrev one_write : Entry
 one_write = numbered 1 (Touch (viewed 97) ∷ []) []
@@ -57,6 +59,10 @@ twice it = at it.stands.index (let is = it.stands.place_is in omega (arith, is))
     at : (i : ℕ) → i ≡ 0 → slice_get (one_write ∷ one_write ∷ []) i ≡ Some it.write → (one_write.id ≡ it.write.id → 1 ≡ i) → ⊥
     at zero is there once = absurd (let bad : 1 ≡ 0 = once (ap (λ (e : Entry). e.id) (same_Some one_write it.write there)) in cc)
     at (suc i) is there once = absurd (cc is)
+
+-- nor has one been cancelled, since nobody may
+cancelled : RefusesAsTold 1 [] (view_ended Cancelled) → ⊥
+cancelled it = it.ends_uncancelled refl
 
 module _ (names : List (List ℕ)) where
   -- A watch behind the beginning lists the change up to the place, or no change of no place: that only where no more had been seen.

@@ -35,7 +35,7 @@ use Rattle.laws.proofs.Walk.{all_reached, goes_on, many_reached, one_shard_is_as
 use Rattle.flow_ties.specs.Cares.{TellsCare}
 use Rattle.flow_ties.specs.Checks.{CheckHasReason, ChecksAtRestHaveReason, ChecksRefuseForAReason, HoldsWalk, IsCheckOf, IsTooFar}
 use Rattle.flow_ties.specs.Refusing.{HasReason, TellsReach}
-use Rattle.flow_ties.specs.Telling.{IsTold}
+use Rattle.flow_ties.specs.Telling.{IsAsAsked, IsTold}
 use Rattle.flow_ties.proofs.Places.{asked_place, kept_place}
 use Rattle.flow_ties.proofs.RefusedPlaces.{is_at_node, place_refused}
 use Rattle.flow_ties.proofs.SeenChecks.{begins_with}
@@ -55,7 +55,7 @@ module _ (fresh : Freshness) (x : Userset) (u : User) (marks : List Bool) (seen 
   answered place answer e is = absurd (let bad : Some (checked place answer) ≡ Some (refused e) = is in cc)
 
   abbrev Reason : AnyRefusal → Type 0
-  Reason e = HasReason marks fresh seen low e ⊎ ((e ≡ Full) × IsTooFar seen x)
+  Reason e = HasReason marks fresh seen low e ⊎ ((e ≡ Full) × IsTooFar seen (IsAsAsked fresh) x)
 
   is_refused : (e : AnyRefusal) → Reason e → Is (ended (refused e))
   is_refused e reason other is = subst Reason (same_refusal e other is) reason
@@ -67,10 +67,11 @@ module _ (fresh : Freshness) (x : Userset) (u : User) (marks : List Bool) (seen 
   lacks_memory after none = subst Is (sym none) (is_refused NoMemory (inl (inr (inl refl))))
 
   -- all that it has met can be reached, and what waits is one more than was walked
-  too_far : (place : ℕ) (h : CheckHolds) (y : Userset) → HoldsWalk seen fresh x u place h → max_walked ≤ length h.walked → Contains h.waiting y → IsTooFar seen x
+  too_far : (place : ℕ) (h : CheckHolds) (y : Userset) → HoldsWalk seen fresh x u place h → max_walked ≤ length h.walked → Contains h.waiting y → IsTooFar seen (IsAsAsked fresh) x
   too_far place h y holds many waits = record {
     place = place;
     there = holds.there;
+    wanted = holds.wanted;
     reaches = record {
       reached = h.walked ++ h.waiting;
       once = let walk = holds.walk in walk.once;

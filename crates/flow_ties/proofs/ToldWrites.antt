@@ -32,7 +32,7 @@ use Rattle.commit_flow.specs.WriteHolds as waits
 use Rattle.decisions.specs.declared.held.Held.{Held}
 use Rattle.decisions.specs.declared.held.Held.TheVariants.{Ticket, Vote as held_vote}
 use Rattle.commit_flow.specs.Views.{WriteView, as_tickets, at_rest, ticket_value, view_ended}
-use Rattle.commit_flow.specs.Writing.{Asks, AsksCoordinator, AsksShard}
+use Rattle.commit_flow.specs.Writing.{Asks, AsksCoordinator, AsksShard, IsOnItsWayOut}
 use Rattle.flow_ties.specs.Refusing.{Notices}
 use Rattle.flow_ties.specs.Writes.{AreThere, RefusesAsTold, WritesBeginUntold, WritesRefuseAsTold}
 use Rattle.flow_ties.proofs.CatchUps.{is_full}
@@ -55,6 +55,8 @@ module _ (shards : ℕ) (old new : List Bool) (v : WriteView) (reply : Reply) (n
     leaving = λ e is. notes.kept e (was.leaving e (sym same ∙ is));
     ended = λ e none. absurd (let bad : None ≡ Some (Refused e) = none in cc);
     tickets = there;
+    goes_uncancelled = λ is. was.goes_uncancelled (sym same ∙ is);
+    ends_uncancelled = λ none. let bad : None ≡ Some Cancelled = none in cc;
   }
 
   same_refusal : (e x : AnyRefusal) → outward (Some e) ≡ outward (Some x) → e ≡ x
@@ -71,6 +73,8 @@ module _ (shards : ℕ) (old new : List Bool) (v : WriteView) (reply : Reply) (n
     leaving = λ x same. carried x (is ∙ ap (λ (r : AnyRefusal). Some r) (same_refusal e x same));
     ended = λ x none. absurd (let bad : None ≡ Some (Refused x) = none in cc);
     tickets = there;
+    goes_uncancelled = λ is. let bad : outward (Some e) ≡ outward None = is in cc;
+    ends_uncancelled = λ none. let bad : None ≡ Some Cancelled = none in cc;
   }
 
   ends_refused : (e : AnyRefusal) → HasTold new e → IsTold (view_ended (Refused e))
@@ -78,6 +82,8 @@ module _ (shards : ℕ) (old new : List Bool) (v : WriteView) (reply : Reply) (n
     leaving = λ x same. subst (HasTold new) (same_refusal e x same) told_e;
     ended = λ x same. subst (HasTold new) (same_end e x same) told_e;
     tickets = no_tickets;
+    goes_uncancelled = λ is. let bad : outward (Some e) ≡ outward None = is in cc;
+    ends_uncancelled = λ is. let bad : Some (Refused e) ≡ Some Cancelled = is in cc;
   }
 
   ends_at : (place : ℕ) → IsTold (view_ended (Wrote place))
@@ -85,27 +91,23 @@ module _ (shards : ℕ) (old new : List Bool) (v : WriteView) (reply : Reply) (n
     leaving = λ e is. absurd (let bad : onward ≡ outward (Some e) = is in cc);
     ended = λ e is. absurd (let bad : Some (Wrote place) ≡ Some (Refused e) = is in cc);
     tickets = no_tickets;
+    goes_uncancelled = λ is. let bad : onward ≡ outward None = is in cc;
+    ends_uncancelled = λ is. let bad : Some (Wrote place) ≡ Some Cancelled = is in cc;
   }
 
-  ends_cancelled : IsTold (view_ended Cancelled)
-  ends_cancelled = record {
-    leaving = λ e is. absurd (let bad : outward None ≡ outward (Some e) = is in cc);
-    ended = λ e is. absurd (let bad : Some Cancelled ≡ Some (Refused e) = is in cc);
-    tickets = no_tickets;
-  }
+  -- one that is on its way out goes there with a refusal, since nobody has cancelled it
+  ends_by : IsOnItsWayOut v → (way : Way) → v.holds.way ≡ way → IsTold (view_ended (end_of way))
+  ends_by is_leaving onward is = absurd (let bad : onward ≡ outward is_leaving.0 = sym is ∙ is_leaving.1 in cc)
+  ends_by is_leaving (outward None) is = absurd (was.goes_uncancelled is)
+  ends_by is_leaving (outward (Some e)) is = ends_refused e (notes.kept e (was.leaving e is))
 
-  ends_by : (way : Way) → v.holds.way ≡ way → IsTold (view_ended (end_of way))
-  ends_by onward is = ends_cancelled
-  ends_by (outward None) is = ends_cancelled
-  ends_by (outward (Some e)) is = ends_refused e (notes.kept e (was.leaving e is))
+  leaves : IsOnItsWayOut v → (way : Way) (after : WriteView) → way ≡ v.holds.way → after ≡ view_ended (end_of way) → IsTold after
+  leaves is_leaving way after same is = subst IsTold (sym is) (ends_by is_leaving way (sym same))
 
-  leaves : (way : Way) (after : WriteView) → way ≡ v.holds.way → after ≡ view_ended (end_of way) → IsTold after
-  leaves way after same is = subst IsTold (sym is) (ends_by way (sym same))
-
-  drops : (out : WriteView) (id : WriteId) (after : WriteView) → out.holds.way ≡ v.holds.way → AreThere shards out.holds.tickets → GoesToDrop out id after → IsTold after
-  drops out id after same there gives = ⊎_elim
+  drops : IsOnItsWayOut v → (out : WriteView) (id : WriteId) (after : WriteView) → out.holds.way ≡ v.holds.way → AreThere shards out.holds.tickets → GoesToDrop out id after → IsTold after
+  drops is_leaving out id after same there gives = ⊎_elim
       (λ goes. subst IsTold (sym goes) (goes_on (record out.holds { verdict = Some id }) None false same there))
-      (λ (no_tickets, no_votes, is). leaves out.holds.way after same is)
+      (λ (no_tickets, no_votes, is). leaves is_leaving out.holds.way after same is)
       gives
 
   by_progress : (out : WriteView) (s : ℕ) (progress : Progress) (after : WriteView) → out.holds.way ≡ v.holds.way → AreThere shards out.holds.tickets → ((e : AnyRefusal) → progress ≡ is_refused e → refused_by reply ≡ Some e)
@@ -207,24 +209,24 @@ module _ (shards : ℕ) (old new : List Bool) (v after : WriteView) (was : Refus
   flushed_to_come_out (from_coordinator (told.Flush r)) notes gives = subst (RefusesAsTold shards new) (sym gives) (goes_on shards old new v (from_coordinator (told.Flush r)) notes was v.holds None false refl was.tickets)
   flushed_to_come_out reply notes gives = absurd gives
 
-  aborted : (out : WriteView) (reply : Reply) → Noted old reply new → out.holds.way ≡ v.holds.way → AreThere shards out.holds.tickets → GivesTo out waits.abort reply after → Is
-  aborted out (from_coordinator (told.Abort (Ok verdict))) notes same there gives = drops shards old new v (from_coordinator (told.Abort (Ok verdict))) notes was out verdict.id after same there gives
-  aborted out (from_coordinator (told.Abort (Err e))) notes same there gives = leaves shards old new v (from_coordinator (told.Abort (Err e))) notes was out.holds.way after same gives
-  aborted out reply notes same there gives = absurd gives
+  aborted : IsOnItsWayOut v → (out : WriteView) (reply : Reply) → Noted old reply new → out.holds.way ≡ v.holds.way → AreThere shards out.holds.tickets → GivesTo out waits.abort reply after → Is
+  aborted is_leaving out (from_coordinator (told.Abort (Ok verdict))) notes same there gives = drops shards old new v (from_coordinator (told.Abort (Ok verdict))) notes was is_leaving out verdict.id after same there gives
+  aborted is_leaving out (from_coordinator (told.Abort (Err e))) notes same there gives = leaves shards old new v (from_coordinator (told.Abort (Err e))) notes was is_leaving out.holds.way after same gives
+  aborted is_leaving out reply notes same there gives = absurd gives
 
-  inquired : (out : WriteView) (reply : Reply) → Noted old reply new → out.holds.way ≡ v.holds.way → AreThere shards out.holds.tickets → GivesTo out waits.inquire reply after → Is
-  inquired out (from_coordinator (told.Inquire (Ok (is_aborted verdict)))) notes same there gives = drops shards old new v (from_coordinator (told.Inquire (Ok (is_aborted verdict)))) notes was out verdict.id after same there gives
-  inquired out (from_coordinator (told.Inquire (Ok (Commit place)))) notes same there gives = leaves shards old new v (from_coordinator (told.Inquire (Ok (Commit place)))) notes was out.holds.way after same gives
-  inquired out (from_coordinator (told.Inquire (Ok Undecided))) notes same there gives = leaves shards old new v (from_coordinator (told.Inquire (Ok Undecided))) notes was out.holds.way after same gives
-  inquired out (from_coordinator (told.Inquire (Err e))) notes same there gives = leaves shards old new v (from_coordinator (told.Inquire (Err e))) notes was out.holds.way after same gives
-  inquired out reply notes same there gives = absurd gives
+  inquired : IsOnItsWayOut v → (out : WriteView) (reply : Reply) → Noted old reply new → out.holds.way ≡ v.holds.way → AreThere shards out.holds.tickets → GivesTo out waits.inquire reply after → Is
+  inquired is_leaving out (from_coordinator (told.Inquire (Ok (is_aborted verdict)))) notes same there gives = drops shards old new v (from_coordinator (told.Inquire (Ok (is_aborted verdict)))) notes was is_leaving out verdict.id after same there gives
+  inquired is_leaving out (from_coordinator (told.Inquire (Ok (Commit place)))) notes same there gives = leaves shards old new v (from_coordinator (told.Inquire (Ok (Commit place)))) notes was is_leaving out.holds.way after same gives
+  inquired is_leaving out (from_coordinator (told.Inquire (Ok Undecided))) notes same there gives = leaves shards old new v (from_coordinator (told.Inquire (Ok Undecided))) notes was is_leaving out.holds.way after same gives
+  inquired is_leaving out (from_coordinator (told.Inquire (Err e))) notes same there gives = leaves shards old new v (from_coordinator (told.Inquire (Err e))) notes was is_leaving out.holds.way after same gives
+  inquired is_leaving out reply notes same there gives = absurd gives
 
   -- What a shard answers that was to drop a write is of no account.
-  dropped : (out : WriteView) (reply : Reply) → ((e : AnyRefusal) → HasTold old e → HasTold new e) → out.holds.way ≡ v.holds.way → AreThere shards out.holds.tickets → GivesTo out waits.drop_write reply after → Is
-  dropped out (from_shard (told_by.DropWrite verdict r)) kept same there gives =
+  dropped : IsOnItsWayOut v → (out : WriteView) (reply : Reply) → ((e : AnyRefusal) → HasTold old e → HasTold new e) → out.holds.way ≡ v.holds.way → AreThere shards out.holds.tickets → GivesTo out waits.drop_write reply after → Is
+  dropped is_leaving out (from_shard (told_by.DropWrite verdict r)) kept same there gives =
       let done : Reply = from_shard (told_by.DropWrite verdict (Ok tt)) in
-      drops shards old new v done (record { kept = kept; carried = λ e none. absurd (let bad : None ≡ Some e = none in cc) }) was out verdict.id after same there gives
-  dropped out reply kept same there gives = absurd gives
+      drops shards old new v done (record { kept = kept; carried = λ e none. absurd (let bad : None ≡ Some e = none in cc) }) was is_leaving out verdict.id after same there gives
+  dropped is_leaving out reply kept same there gives = absurd gives
 
   -- behind what a shard gave, the other tickets
   behind_given : (s : ℕ) (given : Held) (tickets : List HeldTicket) → AreThere shards (as_tickets s given ++ tickets) → AreThere shards tickets
@@ -248,8 +250,8 @@ module _ (shards : ℕ) (old new : List Bool) (v after : WriteView) (was : Refus
         came_out (at holds waits.outcome) reply notes refl was.tickets (to holds waits.outcome asks.1)
     by_coordinator (calls.Abort intent) notes asks belongs =
         let holds : WriteHolds = record v.holds { intent = None } in
-        aborted (at holds waits.abort) reply notes refl was.tickets (to holds waits.abort asks.2)
-    by_coordinator (calls.Inquire id) notes asks belongs = inquired (at v.holds waits.inquire) reply notes refl was.tickets (to v.holds waits.inquire asks.3)
+        aborted asks.0 (at holds waits.abort) reply notes refl was.tickets (to holds waits.abort asks.2)
+    by_coordinator (calls.Inquire id) notes asks belongs = inquired asks.0 (at v.holds waits.inquire) reply notes refl was.tickets (to v.holds waits.inquire asks.3)
     by_coordinator (calls.Raise place settled) notes asks belongs = absurd asks
     by_coordinator calls.Checkpoint notes asks belongs = absurd asks
     by_coordinator calls.Flush notes asks belongs = ⊎_elim
@@ -280,7 +282,7 @@ module _ (shards : ℕ) (old new : List Bool) (v after : WriteView) (was : Refus
     by_shard s (shard_calls.DropWrite verdict None) kept noted asks belongs = absurd asks
     by_shard s (shard_calls.DropWrite verdict (Some given)) kept noted asks belongs =
         let (tickets, votes, tickets_are, votes_are, waits_for) = asks.2 in
-        dropped out reply kept (ap (λ (o : WriteView). o.holds.way) waits_for)
+        dropped asks.0 out reply kept (ap (λ (o : WriteView). o.holds.way) waits_for)
         (held (record v.holds { tickets = tickets; votes = votes; verdict = None }) waits.drop_write (behind_given s given tickets (subst (AreThere shards) tickets_are was.tickets)) waits_for)
         (gives waits.drop_write (ap (λ (o : WriteView). o.awaited) waits_for))
     by_shard s shard_calls.InDoubt kept noted asks belongs = absurd asks
@@ -307,6 +309,8 @@ writes_begin_untold shards marks write = record {
   leaving = λ e is. absurd (let bad : onward ≡ outward (Some e) = is in cc);
   ended = λ e none. absurd (let bad : None ≡ Some (Refused e) = none in cc);
   tickets = λ k t lt. absurd (omega (arith, lt));
+  goes_uncancelled = λ is. let bad : onward ≡ outward None = is in cc;
+  ends_uncancelled = λ none. let bad : None ≡ Some Cancelled = none in cc;
 }
 
 pub writes_refuse_as_told : WritesRefuseAsTold

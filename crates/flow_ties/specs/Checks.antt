@@ -79,15 +79,16 @@ abbrev pub ChecksAnswerWhatIsSeen : Type 0
 ChecksAnswerWhatIsSeen = (shards : ℕ) (seen later : List Entry) (fresh : Freshness) (x : Userset) (u : User) (v after : CheckView) → IsPrefix seen later → IsCheckOf seen fresh x u v
     → CheckTurns shards later u fresh v after → IsCheckOf later fresh x u after
 
--- more usersets than a check may walk can be reached at a place of the list
-pub record IsTooFar (seen : List Entry) (x : Userset) : Type 0 where
+-- more usersets than a check may walk can be reached at a place of the list, one that is wanted
+pub record IsTooFar (seen : List Entry) (is_wanted : ℕ → Type 0) (x : Userset) : Type 0 where
   pub place : ℕ
   pub there : place ≤ length seen
+  pub wanted : is_wanted place
   pub reaches : ReachesMoreThan max_walked (is_at seen place) x
 
--- a check that has ended with a refusal has a reason for it, and there is one more than a read has
+-- a check that has ended with a refusal has a reason for it, and there is one more than a read has: that it is too far to go at a place that was asked for
 abbrev pub CheckHasReason : List Bool → Freshness → List Entry → ℕ → Userset → CheckView → Type 0
-CheckHasReason marks fresh seen low x v = (e : Refusal) → v.ended ≡ Some (refused e) → HasReason marks fresh seen low e ⊎ ((e ≡ Full) × IsTooFar seen x)
+CheckHasReason marks fresh seen low x v = (e : Refusal) → v.ended ≡ Some (refused e) → HasReason marks fresh seen low e ⊎ ((e ≡ Full) × IsTooFar seen (IsAsAsked fresh) x)
 
 -- between two calls, and so where it begins, it has not ended
 abbrev pub ChecksAtRestHaveReason : Type 0

@@ -1,5 +1,5 @@
 -- What a write holds on its way to a place of the list, and what it tells at its end.
-use Rattle.std.specs.Prelude.{◌≡◌, ◌<◌, ℕ, Bool, List, Some, None, Ok, All}
+use Rattle.std.specs.Prelude.{◌≡◌, ◌≢◌, ◌<◌, ℕ, Bool, List, Some, None, Ok, All}
 use mathlib.Core.List.{IsPrefix}
 use Rattle.refusal.specs.declared.refusal.Refusal.{Refusal}
 use Rattle.tuples.specs.declared.entry.Entry.{Entry}
@@ -16,7 +16,7 @@ use Rattle.calls.specs.declared.call.ShardCall.TheVariants.{Learn}
 use Rattle.calls.specs.declared.reply.Reply.{Reply}
 use Rattle.calls.specs.declared.reply.Reply.TheVariants.{Coordinator as from_coordinator}
 use Rattle.calls.specs.declared.reply.CoordinatorReply.TheVariants as told
-use Rattle.commit_flow.specs.declared.end.WriteEnd.TheVariants.{Refused, Wrote}
+use Rattle.commit_flow.specs.declared.end.WriteEnd.TheVariants.{Cancelled, Refused, Wrote}
 use Rattle.commit_flow.specs.Answering.{GivesTo}
 use Rattle.commit_flow.specs.WriteHolds.{HeldTicket, WriteAwaited, nothing_begun, onward, outward}
 use Rattle.commit_flow.specs.Views.{WriteView, at_rest}
@@ -112,11 +112,13 @@ abbrev pub AreThere : ℕ → List HeldTicket → Type 0
 AreThere shards = All (λ (t : HeldTicket). t.shard < shards)
 
 -- The refusal that it goes out with, and the one that it ends with, was told; and its tickets are of shards that are there, so none of these was made up for a
--- shard that is not.
+-- shard that is not. Nobody has cancelled it: it never goes out without a refusal, and does not end so.
 pub record RefusesAsTold (shards : ℕ) (marks : List Bool) (v : WriteView) : Type 0 where
   pub leaving : (e : Refusal) → v.holds.way ≡ outward (Some e) → HasTold marks e
   pub ended : (e : Refusal) → v.ended ≡ Some (Refused e) → HasTold marks e
   pub tickets : AreThere shards v.holds.tickets
+  pub goes_uncancelled : v.holds.way ≢ outward None
+  pub ends_uncancelled : v.ended ≢ Some Cancelled
 
 -- a write that is not begun is refused by nothing
 abbrev pub WritesBeginUntold : Type 0

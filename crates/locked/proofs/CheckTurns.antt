@@ -12,11 +12,11 @@ use Rattle.calls.specs.declared.reply.Reply.{Reply}
 use Rattle.answer_flow.specs.Checking.{Asks, AsksFor, GivesTo}
 use Rattle.answer_flow.specs.CheckViews.{CheckAwaited, CheckEnding, CheckFlowValue, CheckStep, CheckView, at_rest, begins_at, heads, flush, catch_up, read}
 use Rattle.answer_flow.specs.Running.{AsksCheck, GivesCheck}
-use Rattle.flow_ties.specs.Checks.{CheckHasReason, CheckTurns, IsCheckOf, IsMembershipAt}
+use Rattle.flow_ties.specs.Checks.{CheckHasReason, CheckTurns, IsCheckOf, IsMembershipAt, IsTooFar}
 use Rattle.flow_ties.specs.Telling.{IsAsAsked}
 use Rattle.flow_ties.proofs.SeenChecks.{checks_answer_what_is_seen, checks_begin, checks_begin_at_places, checks_hand_over_what_is_seen, checks_stay_seen}
 use Rattle.flow_ties.proofs.ToldChecks.{checks_at_rest_have_reason, checks_refuse_for_a_reason}
-use Rattle.locked.specs.Answering.{CheckEnds, CheckRefuses, CheckRuns, IsBeyond, IsFresh, LiesBeyond}
+use Rattle.locked.specs.Answering.{CheckEnds, CheckRefuses, CheckRuns, IsBeyond, IsFresh, LiesBeyond, Narrows}
 use Rattle.locked.specs.Turning.{HandsWhatIsSeen, Turns}
 use Rattle.locked.proofs.FreshPlaces.{beyond_is_fresh, fresh_is_as_asked, place_is_reached, reason_asked}
 
@@ -134,10 +134,14 @@ check_has_reason rests shards old new marks later x v after of running is t h =
     (λ awaited awaits. gives_to v t.out awaited t.reply after.seen t.asked.1 awaits t.given.1)
     (t.serves.reach h) (t.serves.care h) t.notices
 
+-- a place at which it is too far to go is as fresh as asked
+too_far_as_asked : (narrow asked : Freshness) (before : ℕ) (seen : List Entry) (x : Userset) → Narrows narrow asked before → IsTooFar seen (IsAsAsked narrow) x → IsTooFar seen (IsFresh asked before) x
+too_far_as_asked narrow asked before seen x narrows far = record { place = far.place; there = far.there; wanted = narrows far.place far.wanted; reaches = far.reaches }
+
 -- the refusal that a check ends with has a reason in the words of what was asked for
 pub check_refuses : (rests : Type 0) (shards : ℕ) (seen longer : List Entry) (asked : Freshness) (before low : ℕ) (marks : List Bool) (x : Userset) (u : User) (flow : CheckFlowValue) (after : CheckView) (end : CheckEnding) → CheckRuns rests shards seen asked before x u flow
     → length seen ≤ length longer → CheckHasReason marks flow.fresh longer low x after → Some end ≡ after.ended → CheckRefuses marks longer low asked before x end
 check_refuses rests shards seen longer asked before low marks x u flow after end runs le reason ended e is = ⊎_elim
     (λ why. inl (reason_asked asked before (length seen) longer low e le marks flow.fresh runs.narrows runs.beyond why))
-    (λ far. inr far)
+    (λ (full, far). inr (full, too_far_as_asked flow.fresh asked before longer x runs.narrows far))
     (reason e (sym ended ∙ ap (λ (e : CheckEnding). Some e) is))

@@ -1,5 +1,5 @@
 -- A write of a shared store goes on to hold what is of it, turn by turn.
-use Rattle.std.proofs.Common.{◌≡◌, ◌≤◌, ℕ, Bool, List, length, Option, None, MatchOption, subst}
+use Rattle.std.proofs.Common.{◌≡◌, ◌≤◌, ℕ, Bool, List, length, Option, None, MatchOption, subst, sym}
 use mathlib.Core.List.{IsPrefix}
 use Rattle.tuples.specs.declared.entry.Entry.{Entry}
 use Rattle.tuples.specs.Writes.{WriteValue}
@@ -23,9 +23,9 @@ use Rattle.flights.specs.Serving.{Serves}
 use Rattle.flow_ties.specs.Cares.{HandsOver}
 use Rattle.flow_ties.specs.Telling.{IsTold}
 use Rattle.flow_ties.specs.Refusing.{Notices}
-use Rattle.flow_ties.specs.Writes.{Linking, RefusesAsTold, TellsWriter, WriteTurns}
+use Rattle.flow_ties.specs.Writes.{Linking, RefusesAsTold, TellsWriter, WriteTurns, unbegun}
 use Rattle.flow_ties.proofs.SeenWrites.{writes_are_relinked, writes_hand_over_what_is_seen, writes_tell_what_stands}
-use Rattle.flow_ties.proofs.ToldWrites.{writes_refuse_as_told}
+use Rattle.flow_ties.proofs.ToldWrites.{writes_begin_untold, writes_refuse_as_told}
 use Rattle.locked.specs.Writing.{IsKnownWriteOf}
 
 -- a turn of a write, in the words of its law
@@ -60,6 +60,10 @@ pub write_hands_over : (tried : List Attempt) (asked : WriteValue) (above shards
 write_hands_over tried asked above shards pass v out (Shard s (shard_calls.Learn b)) asks is = writes_hand_over_what_is_seen (IsTried tried) asked above v.shards s pass.seen v.seen out.seen b is asks.2
 write_hands_over tried asked above shards pass v out (Shard s (shard_calls.Collect h)) asks is = absurd asks.2.1
 write_hands_over tried asked above shards pass v out call asks is = tt
+
+-- nothing has refused a write that is not begun
+pub not_refused_yet : (shards : ℕ) (marks : List Bool) (write : WriteValue) (v : WriteView) → v ≡ unbegun write → RefusesAsTold shards marks v
+not_refused_yet shards marks write v is = subst (RefusesAsTold shards marks) (sym is) (writes_begin_untold shards marks write)
 
 -- what it is refused by was told, behind a turn too
 pub told_goes_on : (shards : ℕ) (old new : List Bool) (v out later : WriteFlowValue) (call : NodeCall) (reply : Reply) → v.shards ≡ shards → AsksWrite v call out → IsReplyTo call reply → GivesWrite out reply later

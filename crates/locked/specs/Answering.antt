@@ -79,9 +79,9 @@ module _ (marks : List Bool) (seen : List Entry) (low : ℕ) where
   abbrev pub ReadRefuses : Freshness → ℕ → ReadEnding → Type 0
   ReadRefuses asked before end = (e : Refusal) → end ≡ read_refused e → HasTold marks e ⊎ ((e ≡ NoMemory) ⊎ IsNotThere asked before seen low e)
 
-  -- or more usersets can be reached at a place of the list than a check may walk
+  -- or more usersets can be reached, at a place of the list that is as fresh as asked, than a check may walk
   abbrev pub CheckRefuses : Freshness → ℕ → Userset → CheckEnding → Type 0
-  CheckRefuses asked before x end = (e : Refusal) → end ≡ check_refused e → (HasTold marks e ⊎ ((e ≡ NoMemory) ⊎ IsNotThere asked before seen low e)) ⊎ ((e ≡ Full) × IsTooFar seen x)
+  CheckRefuses asked before x end = (e : Refusal) → end ≡ check_refused e → (HasTold marks e ⊎ ((e ≡ NoMemory) ⊎ IsNotThere asked before seen low e)) ⊎ ((e ≡ Full) × IsTooFar seen (IsFresh asked before) x)
 
   -- a watch's cursor is a place that is asked for
   abbrev pub WatchRefuses : ℕ → WatchEnding → Type 0

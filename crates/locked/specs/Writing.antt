@@ -4,6 +4,7 @@ use Rattle.refusal.specs.declared.refusal.Refusal.{Refusal}
 use Rattle.refusal.specs.declared.refusal.Refusal.TheVariants.{NoMemory}
 use Rattle.tuples.specs.declared.entry.Entry.{Entry}
 use Rattle.tuples.specs.Writes.{WriteValue}
+use Rattle.published.specs.Known.{Known}
 use Rattle.calls.specs.Refusing.{HasTold}
 use Rattle.commit_flow.specs.Views.{WriteView}
 use Rattle.commit_flow.specs.declared.end.WriteEnd.{WriteEnd}
@@ -16,9 +17,9 @@ use Rattle.flow_ties.specs.Writes.{IsWriteOf, IsWrittenAt}
 abbrev pub IsKnownWriteOf : List Attempt → WriteValue → ℕ → List Entry → WriteView → Type 0
 IsKnownWriteOf tried = IsWriteOf (IsTried tried)
 
--- The refusal, if it ends with one, was told by a node; or memory was refused before it began.
-abbrev pub WriteRefuses : List Bool → WriteEnd → Type 0
-WriteRefuses marks end = (e : Refusal) → end ≡ Refused e → HasTold marks e ⊎ (e ≡ NoMemory)
+-- The refusal, if it ends with one, was told by a node; or memory was refused before it began, and then its caller knows just what it knew.
+abbrev pub WriteRefuses : Known Entry → Known Entry → List Bool → WriteEnd → Type 0
+WriteRefuses old new marks end = (e : Refusal) → end ≡ Refused e → HasTold marks e ⊎ ((e ≡ NoMemory) × (new ≡ old))
 
 -- The place, if it ends with one, is that of the write that was asked for: it stands there in the list, above all that had been seen, and its id nowhere else.
 abbrev pub WriteEnds : WriteValue → ℕ → List Entry → WriteEnd → Type 0

@@ -1,5 +1,5 @@
 // Writes of a shared store.
-ghost use Rattle.std.specs.Prelude.{◌≡◌, ◌≤◌, ℕ, length, true, None, is_some};
+ghost use Rattle.std.specs.Prelude.{◌≡◌, ◌≢◌, ◌≤◌, ℕ, length, true, None, is_some};
 ghost use Rattle.flights.specs.Serving.{KnowsMore};
 ghost use Rattle.flow_ties.specs.Writes.{RefusesAsTold};
 ghost use Rattle.sides.specs.Sides.{IsLater};
@@ -94,8 +94,9 @@ impl<D: Device, B: Room, G: Gate> Store<D, B, G> {
     }
 
     /// Makes a write. At `Wrote` it stands at the place that is told, which is above all that the caller had seen, and its id nowhere else in the list. Where
-    /// memory is refused before it begins it ends with `NoMemory`; where a node refuses, with that refusal, which has then been told: hand in a `Told` that is empty; with `Unsure` where a device failed over its
-    /// decision, and only a new opening of the coordinator finds out what became of it.
+    /// memory is refused before it begins it ends with `NoMemory`, and the caller has seen no more than before; where a node refuses, with that refusal,
+    /// which has then been told: hand in a `Told` that is empty; with `Unsure` where a device failed over its decision, and only a new opening of the
+    /// coordinator finds out what became of it. Nobody cancels it, so it does not end as `Cancelled`.
     pub fn write<R: Wait>(
         &self,
         rt: &R,
@@ -106,7 +107,8 @@ impl<D: Device, B: Room, G: Gate> Store<D, B, G> {
     ) -> WriteEnd
         ensures caller { IsLater caller.old caller.new }
         ensures wrote { B.rests → WriteEnds write (length caller.old.seen) caller.new.seen result }
-        ensures refused { WriteRefuses told.new result }
+        ensures refused { WriteRefuses caller.old caller.new told.new result }
+        ensures uncancelled { result ≢ WriteEnd.Cancelled }
     {
         let flow = match WriteFlow::new(alloc, self.count, write) {
             Ok(flow) => flow,

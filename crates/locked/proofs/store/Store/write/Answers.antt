@@ -3,11 +3,10 @@ use Rattle.tuples.specs.declared.entry.Entry.{Entry}
 use Rattle.published.specs.Known.{Known}
 use Rattle.commit_flow.specs.Flows.{WriteFlowValue}
 use Rattle.commit_flow.specs.declared.end.WriteEnd.{WriteEnd}
-use Rattle.flow_ties.specs.Writes.{RefusesAsTold}
 use Rattle.flow_ties.proofs.SeenWrites.{writes_begin}
-use Rattle.flow_ties.proofs.ToldWrites.{writes_begin_untold}
 use Rattle.sides.specs.CoordinatorSides.{IsTried}
 use Rattle.locked.specs.Writing.{IsKnownWriteOf}
+use Rattle.locked.proofs.WriteTurns.{not_refused_yet}
 use Rattle.locked.proofs.store.Store.write.Goals as goal
 
 pub run_write-flow-requires-clause-asked : goal.run_write-flow-requires-clause-asked
@@ -28,5 +27,10 @@ returns-clause-wrote g c rests place is =
 
 pub returns-clause-refused : goal.returns-clause-refused
 returns-clause-refused g c e is =
-    let begins = subst (RefusesAsTold g.B.Room.shards c.args.told.now) (sym (ap (λ (f : WriteFlowValue). f.seen) c.in-Ok.ensures.ok)) (writes_begin_untold g.B.Room.shards c.args.told.now c.args.write) in
+    let begins = not_refused_yet g.B.Room.shards c.args.told.now c.args.write _ (ap (λ (f : WriteFlowValue). f.seen) c.in-Ok.ensures.ok) in
     inl ((c.run_write-flow.ensures.told begins).ended e (sym c.in-Some.ensures ∙ ap (λ (e : WriteEnd). Some e) is))
+
+pub returns-clause-uncancelled : goal.returns-clause-uncancelled
+returns-clause-uncancelled g c is =
+    let begins = not_refused_yet g.B.Room.shards c.args.told.now c.args.write _ (ap (λ (f : WriteFlowValue). f.seen) c.in-Ok.ensures.ok) in
+    (c.run_write-flow.ensures.told begins).ends_uncancelled (sym c.in-Some.ensures ∙ ap (λ (e : WriteEnd). Some e) is)
