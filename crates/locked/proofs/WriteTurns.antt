@@ -6,7 +6,7 @@ use Rattle.tuples.specs.Writes.{WriteValue}
 use Rattle.published.specs.Known.{Known}
 use Rattle.calls.specs.Belonging.{IsReplyTo}
 use Rattle.calls.specs.declared.call.NodeCall.{NodeCall}
-use Rattle.calls.specs.declared.call.NodeCall.TheVariants.{Coordinator, Shard}
+use Rattle.calls.specs.declared.call.NodeCall.TheVariants.{Shard}
 use Rattle.calls.specs.declared.call.ShardCall.TheVariants as shard_calls
 use Rattle.calls.specs.declared.reply.Reply.{Reply}
 use Rattle.commit_flow.specs.Answering.{GivesTo}
