@@ -77,12 +77,12 @@ check_at rests shards seen asked before place x u flow of fresh same there is_fr
 }
 
 -- a check at a place that lies above what was published asks for heads first
-pub check_beyond : (rests : Type 0) (shards : ℕ) (seen : List Entry) (asked : Freshness) (before : ℕ) (x : Userset) (u : User) (flow : CheckFlowValue) → flow.shards ≡ shards → flow.fresh ≡ asked → flow.user ≡ u → IsBeyond asked (length seen)
+pub check_beyond : (rests : Type 0) (shards : ℕ) (seen : List Entry) (asked : Freshness) (before : ℕ) (x : Userset) (u : User) (flow : CheckFlowValue) → flow.shards ≡ shards → flow.fresh ≡ asked → flow.user ≡ u → before ≤ length seen → IsBeyond asked (length seen)
     → flow.seen ≡ at_rest heads (begins_at x) → CheckRuns rests shards seen asked before x u flow
-check_beyond rests shards seen asked before x u flow of fresh same beyond begins = record {
+check_beyond rests shards seen asked before x u flow of fresh same rises beyond begins = record {
   of = of;
   user = same;
-  narrows = λ other as_asked. beyond_is_fresh asked before (length seen) other beyond (subst (λ (f : Freshness). IsAsAsked f other) fresh as_asked);
+  narrows = λ other as_asked. beyond_is_fresh asked before (length seen) other rises beyond (subst (λ (f : Freshness). IsAsAsked f other) fresh as_asked);
   beyond = λ n longer above. subst (λ (f : Freshness). IsBeyond f n) fresh above;
   held = λ h. subst (λ (v : CheckView). IsCheckOf seen flow.fresh x u v) (sym begins) (checks_begin seen flow.fresh x u);
 }
@@ -105,10 +105,10 @@ made_at rests shards count seen asked before place x u (Ok f) of same begins the
 made_at rests shards count seen asked before place x u (Err e) of same begins there is_fresh = tt
 
 pub made_beyond : {E : Type 0} (rests : Type 0) (shards count : ℕ) (seen : List Entry) (asked : Freshness) (before : ℕ) (x : Userset) (u : User) (name : Option CallName) (made : Result CheckFlowValue E) → count ≡ shards
-    → IfOk made (λ f. f ≡ record { shards = count; fresh = asked; user = u; seen = at_rest heads (begins_at x); next_name = name }) → IsBeyond asked (length seen) → IfOk made (λ f. CheckRuns rests shards seen asked before x u f)
-made_beyond rests shards count seen asked before x u name (Ok f) of same beyond =
-    check_beyond rests shards seen asked before x u f (ap (λ (f : CheckFlowValue). f.shards) same ∙ of) (ap (λ (f : CheckFlowValue). f.fresh) same) (ap (λ (f : CheckFlowValue). f.user) same) beyond (ap (λ (f : CheckFlowValue). f.seen) same)
-made_beyond rests shards count seen asked before x u name (Err e) of same beyond = tt
+    → IfOk made (λ f. f ≡ record { shards = count; fresh = asked; user = u; seen = at_rest heads (begins_at x); next_name = name }) → before ≤ length seen → IsBeyond asked (length seen) → IfOk made (λ f. CheckRuns rests shards seen asked before x u f)
+made_beyond rests shards count seen asked before x u name (Ok f) of same rises beyond =
+    check_beyond rests shards seen asked before x u f (ap (λ (f : CheckFlowValue). f.shards) same ∙ of) (ap (λ (f : CheckFlowValue). f.fresh) same) (ap (λ (f : CheckFlowValue). f.user) same) rises beyond (ap (λ (f : CheckFlowValue). f.seen) same)
+made_beyond rests shards count seen asked before x u name (Err e) of same rises beyond = tt
 
 -- a check that rests has not ended, and so it is refused by nothing
 rests_for_a_reason : (fresh : Freshness) (x : Userset) (marks : List Bool) (seen : List Entry) (low : ℕ) (step : CheckStep) (h : _) (v : CheckView) → v ≡ at_rest step h → CheckHasReason marks fresh seen low x v

@@ -9,15 +9,15 @@ use Rattle.flow_ties.specs.Refusing.{HasReason, IsPlaceRefused}
 use Rattle.flow_ties.specs.Telling.{IsAsAsked}
 use Rattle.locked.specs.Answering.{IsBeyond, IsFresh, IsNotThere, LiesBeyond, Narrows}
 
--- above what was published, a place that is as asked is as fresh as asked
-pub beyond_is_fresh : (asked : Freshness) (before published place : ℕ) → IsBeyond asked published → IsAsAsked asked place → IsFresh asked before place
-beyond_is_fresh latest before published place beyond is = absurd beyond
-beyond_is_fresh (at_least z) before published place beyond is = is
-beyond_is_fresh (exact z) before published place beyond is = is
+-- above what was published, which is no less than what had been seen, a place that is as asked is as fresh as asked
+pub beyond_is_fresh : (asked : Freshness) (before published place : ℕ) → before ≤ published → IsBeyond asked published → IsAsAsked asked place → IsFresh asked before place
+beyond_is_fresh latest before published place rises beyond is = absurd beyond
+beyond_is_fresh (at_least z) before published place rises beyond is = (is, omega (arith, rises, beyond, is))
+beyond_is_fresh (exact z) before published place rises beyond is = is
 
 pub fresh_is_as_asked : (asked : Freshness) (before place : ℕ) → IsFresh asked before place → IsAsAsked asked place
 fresh_is_as_asked latest before place is = tt
-fresh_is_as_asked (at_least z) before place is = is
+fresh_is_as_asked (at_least z) before place is = is.0
 fresh_is_as_asked (exact z) before place is = is
 
 -- a place of the list lies beyond nothing that is longer

@@ -1,15 +1,18 @@
 -- Of the devices of a store, node by node.
-use Rattle.std.proofs.Common.{All, ◌≡◌, ◌≤◌, ◌<◌, ◌+◌, ◌*◌, suc, ℕ, List, ◌∷◌, [], slice_index_or, subst, arith}
+use Rattle.std.proofs.Common.{All, ◌≡◌, ◌≤◌, ◌<◌, ◌+◌, ◌*◌, suc, ℕ, List, ◌∷◌, [], slice_index_or, Result, Ok, Err, IfErr, sym, subst, arith}
 use mathlib.Core.List.{IsPrefix}
 use Rattle.device.specs.Device.{State}
+use Rattle.refusal.specs.declared.refusal.Refusal.{Refusal}
 use Rattle.refusal.specs.declared.refusal.Refusal.TheVariants.{Damaged}
 use Rattle.tuples.specs.declared.entry.Entry.{Entry}
+use Rattle.records.specs.Identity.{Identity, coordinator_number}
 use Rattle.calls.specs.Views.{refused}
 use Rattle.ties.specs.ShardTies.{RowsAnywhere}
 use Rattle.ties.specs.Ties.{Anywhere}
 use Rattle.ties.proofs.ShardOpening.{longer_lists_stay_tied}
 use Rattle.ties.proofs.Unmade.{unmade_nodes_are_tied}
-use Rattle.locked.specs.Opening.{NewDevicesRest, RestAt, ShardsRest}
+use Rattle.sides.specs.Reopening.{LogReopens}
+use Rattle.locked.specs.Opening.{NewDevicesRest, RefusesCoordinator, RestAt, ShardsRest}
 
 -- the first two are honest, and so are those behind them
 pub two_honest : {D : Type 0} (honest : D → Type 0) (all : List D) (a b : D) (rest : List D) → all ≡ a ∷ b ∷ rest → All honest all → honest a × honest b
@@ -21,6 +24,16 @@ pub others_honest : {D : Type 0} (honest : D → Type 0) (all : List D) (a b : D
 others_honest {D} honest all a b rest is hon k any lt =
     let here : All honest (a ∷ b ∷ rest) = subst (λ (l : List D). All honest l) is hon in
     here (suc (suc k)) any (omega (arith, lt))
+
+-- what refused the coordinator over the two that were taken refused it over the first two of all
+pub first_two_refused : {D S : Type 0} (state : D → State) (honest : D → Type 0) (moment : D → ℕ) (left_since : D → ℕ → List ℕ → Type 0) (store shards : ℕ) (me : Identity) (all : List D) (a b : D) (rest : List D) (result : Result S Refusal)
+    → all ≡ a ∷ b ∷ rest → me ≡ record { store = store; shards = shards; node = coordinator_number } → IfErr result (λ e. (x : D) × (y : D) × LogReopens state honest moment left_since me a b (refused e x y))
+    → IfErr result (RefusesCoordinator state honest moment left_since store shards all)
+first_two_refused {D} {S} state honest moment left_since store shards me all a b rest (Ok side) is same why = tt
+first_two_refused {D} {S} state honest moment left_since store shards me all a b rest (Err e) is same why =
+    let own : (x : D) × (y : D) × LogReopens state honest moment left_since (record { store = store; shards = shards; node = coordinator_number }) a b (refused e x y) =
+    subst (λ (me : Identity). (x : D) × (y : D) × LogReopens state honest moment left_since me a b (refused e x y)) same why in
+    subst (λ (l : List D). RefusesCoordinator state honest moment left_since store shards l e) (sym is) (λ any. own)
 
 module _ {D : Type 0} (state : D → State) (honest : D → Type 0) (shards : ℕ) where
   module _ (first : List Entry) (low : ℕ) (all : List D) (a b : D) (rest : List D) (is : all ≡ a ∷ b ∷ rest) where

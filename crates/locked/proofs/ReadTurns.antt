@@ -83,12 +83,12 @@ read_at rests shards seen asked before place sets flow of fresh same there is_fr
 }
 
 -- a read of a place that lies above what was published asks for heads first
-pub read_beyond : (rests : Type 0) (shards : ℕ) (seen : List Entry) (asked : Freshness) (before : ℕ) (sets : List Tupleset) (flow : ReadFlowValue) → flow.shards ≡ shards → flow.fresh ≡ asked → flow.sets ≡ sets → IsBeyond asked (length seen)
+pub read_beyond : (rests : Type 0) (shards : ℕ) (seen : List Entry) (asked : Freshness) (before : ℕ) (sets : List Tupleset) (flow : ReadFlowValue) → flow.shards ≡ shards → flow.fresh ≡ asked → flow.sets ≡ sets → before ≤ length seen → IsBeyond asked (length seen)
     → flow.seen ≡ at_rest heads nothing_read → ReadRuns rests shards seen asked before sets flow
-read_beyond rests shards seen asked before sets flow of fresh same beyond begins = record {
+read_beyond rests shards seen asked before sets flow of fresh same rises beyond begins = record {
   of = of;
   asked_sets = same;
-  narrows = λ other as_asked. beyond_is_fresh asked before (length seen) other beyond (subst (λ (f : Freshness). IsAsAsked f other) fresh as_asked);
+  narrows = λ other as_asked. beyond_is_fresh asked before (length seen) other rises beyond (subst (λ (f : Freshness). IsAsAsked f other) fresh as_asked);
   beyond = λ n longer above. subst (λ (f : Freshness). IsBeyond f n) fresh above;
   held = λ h. subst (λ (v : ReadView). IsReadOf shards seen flow.fresh sets v) (sym begins) (reads_begin shards seen flow.fresh sets);
 }

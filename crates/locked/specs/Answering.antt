@@ -19,10 +19,10 @@ use Rattle.flow_ties.specs.Refusing.{HasReason}
 use Rattle.flow_ties.specs.Telling.{IsAsAsked}
 use Rattle.flow_ties.specs.Watches.{AreEventsTo}
 
--- The place is one that was asked for. The latest one is no less than what had been seen.
+-- The place is one that was asked for. Where any later one would do too, it is no less than what had been seen.
 abbrev pub IsFresh : Freshness → ℕ → ℕ → Type 0
 IsFresh latest before place = before ≤ place
-IsFresh (at_least z) before place = z ≤ place
+IsFresh (at_least z) before place = (z ≤ place) × (before ≤ place)
 IsFresh (exact z) before place = place ≡ z
 
 -- what is asked for lies above a place

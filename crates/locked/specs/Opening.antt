@@ -1,10 +1,15 @@
 -- Devices over which a store may be opened: those of the coordinator, and then those of each shard, bank a before bank b.
-use Rattle.std.specs.Prelude.{◌≡◌, ◌<◌, ◌+◌, ◌*◌, ℕ, List, [], All, length, slice_index_or}
+use Rattle.std.specs.Prelude.{◌≡◌, ◌⊎◌, ◌<◌, ◌+◌, ◌*◌, ℕ, List, [], All, length, slice_index_or}
+use Rattle.refusal.specs.declared.refusal.Refusal.{Refusal}
+use Rattle.refusal.specs.declared.refusal.Refusal.TheVariants.{NoMemory}
 use Rattle.tuples.specs.declared.entry.Entry.{Entry}
 use Rattle.device.specs.Device.{State}
+use Rattle.records.specs.Identity.{coordinator_number}
+use Rattle.calls.specs.Views.{refused}
 use Rattle.ties.specs.RestingLaws.{IsUnmade}
 use Rattle.ties.specs.ShardTies.{RowsAnywhere}
 use Rattle.ties.specs.Ties.{Anywhere}
+use Rattle.sides.specs.Reopening.{LogReopens}
 
 -- from this shard on a stop leaves of the two devices of each its rows of the list
 abbrev pub ShardsRest : {D : Type 0} → (D → State) → (D → Type 0) → ℕ → List Entry → ℕ → ℕ → List D → Type 0
@@ -24,3 +29,13 @@ pub record IsNew {D : Type 0} (state : D → State) (honest : D → Type 0) (d :
 -- new devices, two for the coordinator and for each shard, rest at the empty list
 abbrev pub NewDevicesRest : {D : Type 0} → (D → State) → (D → Type 0) → ℕ → Type 0
 NewDevicesRest {D} state honest shards = (devices : List D) → length devices ≡ 2 * (shards + 1) → All (IsNew state honest) devices → RestAt state honest shards [] 0 devices
+
+module _ {D : Type 0} (state : D → State) (honest : D → Type 0) (moment : D → ℕ) (left_since : D → ℕ → List ℕ → Type 0) (store shards : ℕ) (devices : List D) where
+  -- by this the opening of the coordinator over the first two devices was refused
+  abbrev pub RefusesCoordinator : Refusal → Type 0
+  RefusesCoordinator e = (any : D) → (x : D) × (y : D)
+      × LogReopens state honest moment left_since (record { store = store; shards = shards; node = coordinator_number }) (slice_index_or devices 0 any) (slice_index_or devices 1 any) (refused e x y)
+
+  -- or memory for the store was
+  abbrev pub RefusesStore : Refusal → Type 0
+  RefusesStore e = (e ≡ NoMemory) ⊎ RefusesCoordinator e

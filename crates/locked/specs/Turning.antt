@@ -1,12 +1,27 @@
 -- One turn of what runs over the nodes of a shared store.
-use Rattle.std.specs.Prelude.{ℕ, List, Bool}
+use Rattle.std.specs.Prelude.{◌≡◌, ℕ, List, Bool, Result, Ok}
+use Rattle.refusal.specs.declared.refusal.Refusal.{Refusal}
 use Rattle.tuples.specs.declared.entry.Entry.{Entry}
 use Rattle.published.specs.Known.{Known}
 use Rattle.calls.specs.declared.call.NodeCall.{NodeCall}
 use Rattle.calls.specs.declared.reply.Reply.{Reply}
+use Rattle.calls.specs.declared.reply.Reply.TheVariants.{Shard}
+use Rattle.calls.specs.declared.reply.ShardReply.TheVariants.{Read, ReadForCheck}
+use Rattle.shard.specs.declared.replies.ReadReply.{ReadReply}
+use Rattle.shard.specs.declared.replies.ReadReply.TheVariants.{Behind}
 use Rattle.flow_ties.specs.Cares.{HandsOver}
 use Rattle.flow_ties.specs.Refusing.{Notices}
 use Rattle.flights.specs.Serving.{Serves}
+
+-- in place of rows the shard told that it has not learned so far
+abbrev pub AreBehind : Result ReadReply Refusal → Type 0
+AreBehind rows = rows ≡ Ok Behind
+
+-- the reply is that of a shard that was to read, for a read or for a check, and it tells so
+abbrev pub TellsBehind : Reply → Type 0
+TellsBehind (Shard (Read set rows)) = AreBehind rows
+TellsBehind (Shard (ReadForCheck x u rows)) = AreBehind rows
+TellsBehind reply = ⊥
 
 module _ {F : Type 0} (asks : F → NodeCall → F → Type 0) where
   -- whichever call it makes, what it hands to a shard is of what the caller has seen

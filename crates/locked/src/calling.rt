@@ -1,6 +1,6 @@
 // One turn of what runs over the nodes: its next call, at the node that the call names, and the reply.
-ghost use Rattle.std.specs.Prelude.{◌≡◌, true, is_some};
-ghost use Rattle.locked.specs.Turning.{HandsWhatIsSeen, Turns};
+ghost use Rattle.std.specs.Prelude.{◌≡◌, ◌↔◌, IsTrue, true, is_some};
+ghost use Rattle.locked.specs.Turning.{AreBehind, HandsWhatIsSeen, TellsBehind, Turns};
 
 use crate::{Caller, Gate, Store};
 use calls::{Reply, Running, ShardReply, Told};
@@ -11,7 +11,9 @@ use std::sync::Wait;
 use tuples::Refusal;
 
 // Whether these are no rows, since the shard has not learned so far.
-fn are_behind(rows: &Result<ReadReply, Refusal>) -> bool {
+fn are_behind(rows: &Result<ReadReply, Refusal>) -> bool
+    ensures { IsTrue result ↔ AreBehind rows.now }
+{
     match rows {
         Ok(rows) => matches!(rows, ReadReply::Behind),
         Err(_) => false,
@@ -19,7 +21,9 @@ fn are_behind(rows: &Result<ReadReply, Refusal>) -> bool {
 }
 
 // Whether a shard that was to read has not learned so far.
-fn is_behind(reply: &Reply) -> bool {
+fn is_behind(reply: &Reply) -> bool
+    ensures { IsTrue result ↔ TellsBehind reply.now }
+{
     let Reply::Shard(answer) = reply else {
         return false;
     };

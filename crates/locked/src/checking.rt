@@ -91,10 +91,10 @@ impl<D: Device, B: Room, G: Gate> Store<D, B, G> {
         unreachable!()
     }
 
-    /// Whether the user is in the userset at one place, which it tells. The place is known from the published word where that is far enough. Where memory
-    /// is refused it ends with `NoMemory`; where more usersets would be walked than may be, with `Full`; where the place that was asked for lies above the
-    /// list, with `Future`, and below the horizon, with `Collected`; where a node refuses, with that refusal, which has then been told: hand in a `Told`
-    /// that is empty.
+    /// Whether the user is in the userset at one place, which it tells: just the one that was asked for, or else one no older than all that the caller had
+    /// seen. It is known from the published word where that is far enough. Where memory is refused it ends with `NoMemory`; where more usersets would be
+    /// walked than may be, with `Full`; where the place that was asked for lies above the list, with `Future`; where that of the answer lies below the
+    /// horizon, with `Collected`; where a node refuses, with that refusal, which has then been told: hand in a `Told` that is empty.
     pub fn check<R: Wait>(
         &self,
         rt: &R,

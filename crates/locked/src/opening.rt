@@ -1,9 +1,9 @@
 // A store is opened.
-ghost use Rattle.std.specs.Prelude.{◌≡◌, ◌≤◌, ◌<◌, ◌+◌, ◌*◌, ◌∷◌, [], All, IfOk};
+ghost use Rattle.std.specs.Prelude.{◌≡◌, ◌≤◌, ◌<◌, ◌+◌, ◌*◌, ◌∷◌, [], All, IfErr, IfOk};
 ghost use Rattle.std.specs.Vec.{vec_len};
 ghost use Rattle.records.specs.Identity.{max_shards};
 ghost use mathlib.Core.List.{IsPrefix};
-ghost use Rattle.locked.specs.Opening.{RestAt, ShardsRest};
+ghost use Rattle.locked.specs.Opening.{RefusesCoordinator, RefusesStore, RestAt, ShardsRest};
 
 use crate::{Gate, Store};
 use crossbeam_utils::sync::Unparker;
@@ -52,6 +52,7 @@ fn open_coordinator<D: Device, B: Room>(
     ensures honest { All D.honest devices.new.items }
     ensures rests { B.rests → ShardsRest D.state D.honest B.shards B.first B.low 0 devices.new.items }
     ensures list { IfOk result (λ side. B.rests → IsPrefix B.first side.seen × (B.low ≤ side.low)) }
+    ensures refused { IfErr result (RefusesCoordinator D.state D.honest D.moment D.left_since B.store B.shards devices.old.items) }
 {
     let (a, b) = take_two(devices);
     CoordinatorSide::open(
@@ -169,7 +170,7 @@ fn open_shards<D: Device + Send, B: Room + Send, R: Threads + Sync>(
 impl<D: Device, B: Room, G: Gate> Store<D, B, G> {
     /// Opens the store with this id and of 1 to 64 shards over its devices: those of the coordinator, and then those of each shard, by rising number, bank a
     /// before bank b. Where they rest at a list, all that is said of the list is said of that one and of what joins it. A shard whose opening is refused
-    /// holds that refusal, and can be restarted; the coordinator's, or memory for the shards, refuses the store. Whoever tends the store is woken by the
+    /// holds that refusal, and can be restarted; that of the coordinator's opening, or `NoMemory`, refuses the store. Whoever tends the store is woken by the
     /// bell. The attempts name the decisions that its coordinator stages, and the launches the flights of its nodes, so that a flush holds no lock while devices sync.
     /// Shards are opened side by side.
     pub fn open<R: Threads + Sync>(
@@ -198,6 +199,7 @@ impl<D: Device, B: Room, G: Gate> Store<D, B, G> {
         requires count { vec_len devices ≡ 2 * (shards + 1) }
         requires honest { All D.honest devices.items }
         requires rests { B.rests → RestAt D.state D.honest B.shards B.first B.low devices.items }
+        ensures { IfErr result (RefusesStore D.state D.honest D.moment D.left_since B.store B.shards devices.items) }
     {
         let (attempts, tried) = attempts.into_parts();
         let mut side = open_coordinator(alloc, &words, log, tried, store, shards, &mut devices)?;

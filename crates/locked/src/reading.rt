@@ -89,9 +89,10 @@ impl<D: Device, B: Room, G: Gate> Store<D, B, G> {
         unreachable!()
     }
 
-    /// The tuples of each tupleset at one place, which it tells. The place is known from the published word where that is far enough, so that no shard
-    /// waits for the coordinator. Where memory is refused it ends with `NoMemory`; where the place that was asked for lies above the list, with `Future`, and
-    /// below the horizon, with `Collected`; where a node refuses, with that refusal, which has then been told: hand in a `Told` that is empty.
+    /// The tuples of each tupleset at one place, which it tells: just the one that was asked for, or else one no older than all that the caller had seen. It
+    /// is known from the published word where that is far enough, so that no shard waits for the coordinator. Where memory is refused it ends with
+    /// `NoMemory`; where the place that was asked for lies above the list, with `Future`; where that of the answer lies below the horizon, with `Collected`;
+    /// where a node refuses, with that refusal, which has then been told: hand in a `Told` that is empty.
     pub fn read<R: Wait>(
         &self,
         rt: &R,

@@ -1,4 +1,5 @@
 // A node whose bank has grown makes a checkpoint in place of its records.
+ghost use Rattle.std.specs.Prelude.{◌≤◌, ◌<◌, ◌*◌, ◌^◌, max};
 ghost use Rattle.care_flow.specs.Cares.{IsThere, begun};
 ghost use Rattle.names.specs.declared.care.Care.TheVariants.{Checkpoint as checkpoint_of};
 ghost use Rattle.sides.specs.Sides.{IsLater};
@@ -18,7 +19,12 @@ const LARGE: u64 = 67_108_864;
 
 // Up to how many bytes the bank of a node may grow whose checkpoint left so many. Four times as many keep checkpoints to a quarter of all that is
 // written, and an opening to some four times of what one of the checkpoint alone takes.
-fn limit_behind(length: u64) -> u64 {
+fn limit_behind(length: u64) -> u64
+    ensures least { LEAST_LIMIT ≤ result }
+    ensures twice { 2 * length < 2 ^ 64 → 2 * length ≤ result }
+    ensures four_times { result ≤ max LEAST_LIMIT (4 * length) }
+    ensures large { result ≤ max LARGE (2 * length) }
+{
     let large = LARGE.max(length.saturating_mul(2));
     LEAST_LIMIT.max(large.min(length.saturating_mul(4)))
 }

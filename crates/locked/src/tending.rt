@@ -1,4 +1,5 @@
 // A store is tended beside its callers: what waits at its nodes is carried on.
+ghost use Rattle.std.specs.Prelude.{◌≡◌, ◌≤◌, ◌<◌, ◌+◌, ◌/◌, IfNone, IfSome};
 ghost use Rattle.care_flow.specs.Cares.{IsThere, begun};
 ghost use Rattle.names.specs.declared.care.Care.TheVariants.{Flush as flush_of};
 ghost use Rattle.sides.specs.Sides.{IsLater};
@@ -21,6 +22,19 @@ pub fn new_bell(alloc: Global) -> Result<(Parker, Unparker), AllocError> {
     let parker = Parker::new(alloc)?;
     let bell = parker.unparker().clone()?;
     Ok((parker, bell))
+}
+
+// The place to which the horizon is raised, so many places behind the latest one. None where it has not fallen an eighth more behind: each raise is a flush
+// of every node.
+fn raise_to(latest: u64, horizon: u64, window: u64) -> Option<u64>
+    ensures place { IfSome result (λ place. place + window ≡ latest) }
+    ensures behind { IfSome result (λ place. horizon + (window + window / 8) < latest) }
+    ensures near { IfNone result (latest ≤ horizon + (window + window / 8)) }
+{
+    if latest.saturating_sub(horizon) <= window.saturating_add(window / 8) {
+        return None;
+    }
+    Some(latest - window)
 }
 
 impl<D: Device, B: Room, G: Gate> Store<D, B, G> {
@@ -57,16 +71,14 @@ impl<D: Device, B: Room, G: Gate> Store<D, B, G> {
         }
     }
 
-    // The horizon follows the latest place, so many places behind it. It is raised only where it has fallen an eighth more behind, since each raise is
-    // a flush of every node.
+    // The horizon follows the latest place, so many places behind it, and shards forget what lies below.
     fn follow<R: Wait>(&self, rt: &R, alloc: Global, caller: &mut Caller<B>, window: u64)
         ensures caller { IsLater caller.old caller.new }
     {
         let latest = self.latest(caller);
         let horizon = self.horizon(caller);
-        let behind = latest.saturating_sub(horizon);
-        if behind > window.saturating_add(window / 8) {
-            self.try_care(rt, alloc, caller, Care::Raise(latest - window));
+        if let Some(place) = raise_to(latest, horizon, window) {
+            self.try_care(rt, alloc, caller, Care::Raise(place));
             self.collect_all(rt, alloc, caller);
         }
     }

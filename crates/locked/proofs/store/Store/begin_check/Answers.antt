@@ -1,5 +1,6 @@
 use Rattle.std.proofs.Common.{length, Some}
 use Rattle.answer_flow.specs.CheckViews.{begins_at, catch_up, heads}
+use Rattle.flow_ties.proofs.CatchUps.{prefix_length}
 use Rattle.names.specs.declared.call_name.CallName.TheVariants as names
 use Rattle.locked.proofs.CheckTurns.{made_at, made_beyond, made_for_a_reason, seen_of}
 use Rattle.locked.proofs.store.Store.begin_check.Goals as goal
@@ -12,7 +13,7 @@ returns-in-Some-clause-runs g c =
 pub returns-in-None-clause-runs : goal.returns-in-None-clause-runs
 returns-in-None-clause-runs g c =
     made_beyond g.B.Room.rests g.B.Room.shards c.shards-count.result c.known_place.new.caller.seen c.args.freshness (length c.args.caller.now.seen) c.args.userset.now c.args.user (Some names.Heads) c.new.result c.shards-count.ensures.of c.new.ensures
-    c.in-None.ensures.beyond
+    (prefix_length c.args.caller.now.seen c.known_place.new.caller.seen c.known_place.ensures.caller.seen) c.in-None.ensures.beyond
 
 pub returns-in-Some-clause-reason : goal.returns-in-Some-clause-reason
 returns-in-Some-clause-reason g c marks = made_for_a_reason catch_up (record (begins_at c.args.userset.now) { place = Some c.in-Some.place }) c.args.userset.now marks c.known_place.new.caller.seen c.known_place.new.caller.horizon c.at.result c.at.ensures.begins

@@ -1,5 +1,6 @@
 use Rattle.std.proofs.Common.{◌∙◌, ap, length}
 use Rattle.answer_flow.specs.ReadViews.{ReadFlowValue}
+use Rattle.flow_ties.proofs.CatchUps.{prefix_length}
 use Rattle.locked.proofs.ReadTurns.{begins_for_a_reason, read_at, read_beyond, rests_for_a_reason}
 use Rattle.locked.proofs.store.Store.begin_read.Goals as goal
 
@@ -13,7 +14,8 @@ pub returns-in-None-clause-runs : goal.returns-in-None-clause-runs
 returns-in-None-clause-runs g c =
     let asked = c.new.ensures in
     read_beyond g.B.Room.rests g.B.Room.shards c.known_place.new.caller.seen c.args.freshness (length c.args.caller.now.seen) c.args.sets.items c.new.result (ap (λ (f : ReadFlowValue). f.shards) asked ∙ c.shards-count.ensures.of)
-    (ap (λ (f : ReadFlowValue). f.fresh) asked) (ap (λ (f : ReadFlowValue). f.sets) asked) c.in-None.ensures.beyond (ap (λ (f : ReadFlowValue). f.seen) asked)
+    (ap (λ (f : ReadFlowValue). f.fresh) asked) (ap (λ (f : ReadFlowValue). f.sets) asked)
+    (prefix_length c.args.caller.now.seen c.known_place.new.caller.seen c.known_place.ensures.caller.seen) c.in-None.ensures.beyond (ap (λ (f : ReadFlowValue). f.seen) asked)
 
 pub returns-in-Some-clause-reason : goal.returns-in-Some-clause-reason
 returns-in-Some-clause-reason g c marks = begins_for_a_reason c.args.sets.items c.in-Some.place c.at.result.fresh marks c.known_place.new.caller.seen c.known_place.new.caller.horizon c.at.result.seen c.at.ensures.begins
