@@ -1,5 +1,5 @@
 // The acceptor puts each connection where the workers find it.
-ghost use Rattle.std.specs.Prelude.{◌≡◌, ◌≤◌, ◌+◌, OnOk, IfSome};
+ghost use Rattle.std.specs.Prelude.{◌≡◌, ◌≤◌, ◌+◌, ◌^◌, OnOk, IfNone, IfSome};
 
 use crate::hall::Hall;
 use connections::AcceptorPass;
@@ -34,16 +34,17 @@ pub(crate) struct Acceptor<'a> {
 }
 
 impl Acceptor<'_> {
-    /// Accepts until so many connections were put. 1,024 accepts that fail in a row end it.
+    /// Accepts until so many connections were put, or for ever. 1,024 accepts that fail in a row end it.
     pub(crate) fn accept_all<R: Wait + Clock>(
         &mut self,
         rt: &R,
         connections: Option<u64>,
     ) -> io::Result<()>
         requires { self.old.pass.put ≡ 0 }
-        ensures { OnOk result (IfSome connections (λ n. self.new.pass.put ≡ n)) }
+        ensures so_many { OnOk result (IfSome connections (λ n. self.new.pass.put ≡ n)) }
+        ensures for_ever { OnOk result (IfNone connections (2 ^ 62 ≤ self.new.pass.put)) }
     {
-        let most = connections.unwrap_or(CONNECTIONS);
+        let most = limit(connections);
         for _ in rt.forever() {
             if self.pass.count() >= most {
                 return Ok(());
@@ -88,6 +89,14 @@ impl Acceptor<'_> {
         self.hall.signs.close();
         self.ring();
     }
+}
+
+// How many connections are accepted.
+fn limit(connections: Option<u64>) -> u64
+    ensures so_many { IfSome connections (λ n. result ≡ n) }
+    ensures for_ever { IfNone connections (2 ^ 62 ≤ result) }
+{
+    connections.unwrap_or(CONNECTIONS)
 }
 
 fn set_up(stream: &TcpStream) -> io::Result<()> {

@@ -1,5 +1,5 @@
 // How long a session may be idle.
-ghost use Rattle.std.specs.Prelude.{◌≡◌, ◌+◌, ◌<◌, ◌≤◌, ◌⊎◌, true, false};
+ghost use Rattle.std.specs.Prelude.{◌≡◌, ◌+◌, ◌-◌, ◌^◌, ◌<◌, ◌≤◌, ◌⊎◌, min, true, false};
 
 use crate::signs::Signs;
 
@@ -14,15 +14,24 @@ pub struct Patience<'a> {
 }
 
 impl Patience<'_> {
-    /// One more tick, and whether the session is cut.
-    pub fn tick(&mut self) -> bool
+    /// One more tick, by what the signs told of it. Whether the session is cut: exactly where the server closes, or where others wait and it was idle for
+    /// the ticks that it may be.
+    pub fn tick(&mut self, others_wait: bool, is_closing: bool) -> bool
         ensures idle { self.new.idle ≡ self.old.idle }
-        ensures ticks { self.new.ticks ≤ self.old.ticks + 1 }
+        ensures ticks { self.new.ticks ≡ min (self.old.ticks + 1) (2 ^ 64 - 1) }
+        ensures cut { result ≡ true → (is_closing ≡ true) ⊎ ((others_wait ≡ true) × (0 < self.new.idle) × (self.new.idle ≤ self.new.ticks)) }
+        ensures kept { result ≡ false → (is_closing ≡ false) × ((others_wait ≡ false) ⊎ (self.new.idle ≡ 0) ⊎ (self.new.ticks < self.new.idle)) }
+    {
+        self.count();
+        is_cut(self.ticks, self.idle, others_wait, is_closing)
+    }
+
+    // One more tick.
+    fn count(&mut self)
+        ensures idle { self.new.idle ≡ self.old.idle }
+        ensures ticks { self.new.ticks ≡ min (self.old.ticks + 1) (2 ^ 64 - 1) }
     {
         self.ticks = self.ticks.saturating_add(1);
-        let others_wait = self.signs.has_waiting();
-        let is_closing = self.signs.is_closing();
-        is_cut(self.ticks, self.idle, others_wait, is_closing)
     }
 }
 

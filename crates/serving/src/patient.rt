@@ -32,7 +32,9 @@ impl<R: Read> Read for Patient<'_, R> {
                 Err(error) => match error.kind() {
                     ErrorKind::Interrupted => {}
                     ErrorKind::WouldBlock | ErrorKind::TimedOut => {
-                        if self.patience.tick() {
+                        let others_wait = self.patience.signs.has_waiting();
+                        let is_closing = self.patience.signs.is_closing();
+                        if self.patience.tick(others_wait, is_closing) {
                             return Err(error);
                         }
                     }

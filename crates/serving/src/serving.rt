@@ -1,5 +1,5 @@
 // A server over a listener.
-ghost use Rattle.std.specs.Prelude.{◌≡◌, All};
+ghost use Rattle.std.specs.Prelude.{◌≡◌, ◌+◌, All, IfOk, IsErr, vec_len};
 
 use crate::accepting::Acceptor;
 use crate::begun::Begun;
@@ -28,7 +28,7 @@ pub struct Serving {
 }
 
 /// Serves connections of the listener, by a thread for each worker, until so many have come and are served. Each thread tells that it runs before it looks
-/// for a connection; where one cannot be made, the server ends with an error, and not all have told so.
+/// for a connection; where one cannot be made, the server ends with an error, and not all have told so. Without workers it ends with an error at once.
 pub fn serve_on<R: Threads + Wait + Clock + Sync, A: Answers + Send + Drop, T: Begun + Sync>(
     rt: &R,
     alloc: Global,
@@ -36,7 +36,9 @@ pub fn serve_on<R: Threads + Wait + Clock + Sync, A: Answers + Send + Drop, T: B
     serving: &Serving,
     workers: Vec<A>,
     begun: &T,
-) -> io::Result<()> {
+) -> io::Result<()>
+    ensures { vec_len workers ≡ 0 → IsErr result }
+{
     let (queue, pass, passes) = Connections::new(alloc, workers.len())?;
     let hall = Hall {
         queue,
@@ -58,23 +60,29 @@ fn equipped<'a, A: Answers + Drop>(
     alloc: Global,
     hall: &'a Hall,
     mut passes: Vec<WorkerPass<TcpStream>>,
-    workers: Vec<A>,
+    mut workers: Vec<A>,
     bells: &mut Vec<Unparker>,
 ) -> Result<Vec<Worker<'a, A>>, AllocError>
-    requires { All (λ w. w.queue ≡ hall.now.queue) passes.items }
+    requires queue { All (λ w. w.queue ≡ hall.now.queue) passes.items }
+    requires count { vec_len passes ≡ vec_len workers }
+    ensures workers { IfOk result (λ made. vec_len made ≡ vec_len workers) }
+    ensures bells { IfOk result (λ made. vec_len bells.new ≡ vec_len bells.old + vec_len workers) }
 {
     let mut equipped = Vec::new(alloc);
-    for answers in workers {
+    let count = workers.len();
+    for _ in 0..count {
         if let Some(pass) = passes.pop() {
-            let parker = Parker::new(alloc)?;
-            bells.push(parker.unparker().clone()?)?;
-            let worker = Worker {
-                hall,
-                parker,
-                pass,
-                answers,
-            };
-            equipped.push(worker)?;
+            if let Some(answers) = workers.pop() {
+                let parker = Parker::new(alloc)?;
+                bells.push(parker.unparker().clone()?)?;
+                let worker = Worker {
+                    hall,
+                    parker,
+                    pass,
+                    answers,
+                };
+                equipped.push(worker)?;
+            }
         }
     }
     Ok(equipped)
@@ -90,6 +98,7 @@ fn run<R: Threads + Wait + Clock + Sync, A: Answers + Send + Drop, T: Begun + Sy
     begun: &T,
 ) -> io::Result<()>
     requires { acceptor.old.pass.put ≡ 0 }
+    ensures { vec_len workers.entry ≡ 0 → IsErr result }
 {
     if workers.is_empty() {
         return Err(ErrorKind::InvalidInput.into());

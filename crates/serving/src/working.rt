@@ -1,5 +1,6 @@
 // A worker serves one connection after another.
-ghost use Rattle.std.specs.Prelude.{◌≡◌};
+ghost use Rattle.std.specs.Prelude.{◌≡◌, List, OnErr, OnOk, Option, ℕ};
+ghost use Rattle.sessions.specs.Sessions.{Broke, Served};
 ghost use Rattle.serving.specs.Working.{HasServed};
 
 use crate::hall::Hall;
@@ -12,6 +13,7 @@ use connections::WorkerPass;
 use crossbeam_utils::sync::Parker;
 use sessions::Answers;
 use std::alloc::Global;
+use std::io::{self, Read, Write};
 use std::net::TcpStream;
 use std::sync::Wait;
 
@@ -33,7 +35,17 @@ impl<A: Answers> Worker<'_, A> {
             // Before the take, so that what was put before the close is taken.
             let is_closing = self.hall.signs.is_closing();
             match self.hall.take(rt, &mut self.pass) {
-                Some(stream) => serve(alloc, serving, &self.hall.signs, &stream, &mut self.answers),
+                Some(stream) => {
+                    let mut handle = &stream;
+                    // What ends its session ends no other one.
+                    let _ = serve(
+                        alloc,
+                        serving,
+                        &self.hall.signs,
+                        &mut handle,
+                        &mut self.answers,
+                    );
+                }
                 None => {
                     if is_closing {
                         return;
@@ -46,24 +58,26 @@ impl<A: Answers> Worker<'_, A> {
     }
 }
 
-// Serves one connection. What ends its session ends no other one.
-fn serve<A: Answers>(
+// Serves one connection by a handle of its stream: what was to be read there is asked, and answered there. Nothing is known of the bytes of a socket, so this
+// is said of any stream.
+fn serve<S: Read + Write + Copy, A: Answers>(
     alloc: Global,
     serving: &Serving,
     signs: &Signs,
-    stream: &TcpStream,
+    stream: &mut S,
     answers: &mut A,
-)
-    ensures { HasServed serving.now.store A.gives answers.old answers.new }
+) -> io::Result<()>
+    ensures ok { OnOk result ((left : Option (List ℕ)) × Served serving.now.store A.gives (S.remaining stream.old) left (S.contents stream.old) (S.contents stream.new) answers.old answers.new) }
+    ensures err { OnErr result ((left : Option (List ℕ)) × Broke serving.now.store A.gives (S.remaining stream.old) left (S.contents stream.old) (S.contents stream.new) answers.old answers.new) }
+    ensures asked { HasServed serving.now.store A.gives answers.old answers.new }
 {
     let mut input = Patient {
-        input: stream,
+        input: *stream,
         patience: Patience {
             signs,
             idle: serving.idle,
             ticks: 0,
         },
     };
-    let mut output = stream;
-    let _ = serve_one(alloc, serving.store, &mut input, &mut output, answers);
+    serve_one(alloc, serving.store, &mut input, stream, answers)
 }

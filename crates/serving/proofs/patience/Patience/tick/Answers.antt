@@ -1,5 +1,5 @@
 use Rattle.std.proofs.Common.{rules}
 use Rattle.serving.proofs.patience.Patience.tick.Goals as goal
 
-pub returns-clause-ticks : goal.returns-clause-ticks
-returns-clause-ticks c = search rules
+pub returns-clause-kept : goal.returns-clause-kept
+returns-clause-kept c = search rules
