@@ -10,7 +10,7 @@ use crate::start::{Start, tell_start};
 use calls::Told;
 use crossbeam_utils::sync::Parker;
 use device::Device;
-use locked::{Gate, Store};
+use locked::{Gate, LookedOver, Store};
 use serving::{Begun, Serving, serve_on};
 use settings::ServeSettings;
 use sides::Room;
@@ -60,7 +60,24 @@ fn start<D: Device, B: Room, G: Gate, R>(
 ) -> Result<Start, Fault>
 where
     R: Net<Listener = TcpListener, Stream = TcpStream> + Wait,
-    ensures { IfOk result (λ start. AreOfOneStore start.found.horizon start.found.latest start.found.learned.items) }
+    ensures one_store { IfOk result (λ start. AreOfOneStore start.found.horizon start.found.latest start.found.learned.items) }
+    ensures each_shard { IfOk result (λ start. vec_len start.found.learned ≡ B.shards) }
+{
+    let found = looked_over(rt, alloc, store)?;
+    match TcpListener::bind(rt, settings.listen.as_str()) {
+        Ok(listener) => Ok(Start { listener, found }),
+        Err(_) => Err(Fault::Listen),
+    }
+}
+
+// How far the nodes were, each shard of the store among them.
+fn looked_over<D: Device, B: Room, G: Gate, R: Wait>(
+    rt: &R,
+    alloc: Global,
+    store: &Store<D, B, G>,
+) -> Result<LookedOver, Fault>
+    ensures one_store { IfOk result (λ found. AreOfOneStore found.horizon found.latest found.learned.items) }
+    ensures each_shard { IfOk result (λ found. vec_len found.learned ≡ B.shards) }
 {
     let mut caller = store.session(rt);
     let found = match store.look_over(rt, alloc, &mut caller, &mut Told::new()) {
@@ -70,10 +87,7 @@ where
     if !found.is_of_one_store() {
         return Err(Fault::Refused(Refusal::Damaged));
     }
-    match TcpListener::bind(rt, settings.listen.as_str()) {
-        Ok(listener) => Ok(Start { listener, found }),
-        Err(_) => Err(Fault::Listen),
-    }
+    Ok(found)
 }
 
 // How it ended, as a status.
