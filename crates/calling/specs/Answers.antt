@@ -5,6 +5,7 @@ use Rattle.serde_json.specs.Find.{as_number, as_str, as_u64, get}
 use Rattle.serde_json.specs.Read.{max_depth, read}
 use Rattle.refusal.specs.declared.refusal.Refusal.{Refusal}
 use Rattle.refusal.specs.Refusals.{number_of}
+use Rattle.line_io.specs.Lines.{HasNoFeed}
 use Rattle.calling.specs.declared.answer.Answered.{Answered}
 
 -- the number that a refusal is told by
@@ -20,6 +21,13 @@ IsRefusal told None = (r : Refusal) → told ≡ Some (number_of r) → ⊥
 pub record Says (d : Data) (a : Answered) : Type 0 where
   pub refusal : IsRefusal (told_number d) a.refusal
   pub heartbeat : option_map string_bytes a.heartbeat ≡ option_and_then as_str (get (codes "heartbeat") d)
+
+-- it is one line, and what that says
+pub record IsAnswer (a : Answered) : Type 0 where
+  pub no_feed : HasNoFeed (string_bytes a.line)
+  pub json : Data
+  pub reads : read (string_bytes a.line) ≡ Some json
+  pub says : Says json a
 
 -- the members of an object, with the heartbeat as their cursor
 abbrev pub onward : List ℕ → Data → Data

@@ -1,12 +1,54 @@
--- What is sent of a request.
-use Rattle.std.specs.Prelude.{◌≡◌, ◌≤◌, ℕ, suc, zero, List, [], ◌∷◌, ◌++◌, Option}
-use Rattle.std.specs.Io.KnownBytes.{Appends}
+-- What is sent of a request, and which answers are read for it.
+use Rattle.std.specs.Prelude.{◌≡◌, ◌≤◌, ◌⊎◌, ℕ, suc, zero, List, [], ◌∷◌, ◌++◌, length, flat_map, All, Option, MatchOption, string_bytes}
+use Rattle.std.specs.Io.KnownBytes.{Appends, Consumes}
+use Rattle.line_io.specs.Outputs.{HasBegun}
+use Rattle.refusal.specs.declared.refusal.Refusal.{Refusal}
+use Rattle.refusal.specs.declared.refusal.Refusal.TheVariants.{Aborted, Busy, Full, NoMemory}
+use Rattle.calling.specs.declared.answer.Answered.{Answered}
+use Rattle.calling.specs.Answers.{IsAnswer}
 
 -- the line and its line feed, so many times
 abbrev pub times : ℕ → List ℕ → List ℕ
 times zero line = []
 times (suc n) line = times n line ++ (line ++ 10 ∷ [])
 
--- the line was sent once at least, and at most so many times more; nothing else was
-abbrev pub SendsAgain : ℕ → List ℕ → Option (List ℕ) → Option (List ℕ) → Type 0
-SendsAgain most line old new = (n : ℕ) × (n ≤ most) × Appends old new (times (suc n) line)
+-- behind it nothing was done, and what was in the way passes by itself
+abbrev pub IsSentAgain : Refusal → Type 0
+IsSentAgain r = (r ≡ Busy) ⊎ ((r ≡ Aborted) ⊎ ((r ≡ NoMemory) ⊎ (r ≡ Full)))
+
+-- a request that is answered so may be sent again
+abbrev pub IsAskedAgain : Option Refusal → Type 0
+IsAskedAgain refusal = MatchOption refusal ⊥ IsSentAgain
+
+-- the bytes of an answer, and of some, one behind the other
+abbrev pub answer_bytes : Answered → List ℕ
+answer_bytes a = string_bytes a.line ++ 10 ∷ []
+
+abbrev pub answers_bytes : List Answered → List ℕ
+answers_bytes = flat_map answer_bytes
+
+-- an answer behind which the request may be sent again
+pub record IsPassing (a : Answered) : Type 0 where
+  pub answer : IsAnswer a
+  pub again : IsAskedAgain a.refusal
+
+-- The line was sent once, and once more behind each earlier answer, of which there are at most so many: each was one behind which it may be sent again. These
+-- answers were read, and then this last one. Nothing else was read or sent.
+pub record SendsAgain (most : ℕ) (line : List ℕ) (in_before in_after out_before out_after : Option (List ℕ)) (last : Answered) : Type 0 where
+  pub earlier : List Answered
+  pub few : length earlier ≤ most
+  pub each : All IsPassing earlier
+  pub answer : IsAnswer last
+  pub read : Consumes in_before in_after (answers_bytes earlier ++ answer_bytes last)
+  pub sent : Appends out_before out_after (times (suc (length earlier)) line)
+
+-- The line was sent once behind each earlier answer, as it may be, and then a beginning of it once more at most; no answer to that was read.
+pub record StopsAsking (most : ℕ) (line : List ℕ) (in_before out_before out_after : Option (List ℕ)) : Type 0 where
+  pub earlier : List Answered
+  pub few : length earlier ≤ most
+  pub each : All IsPassing earlier
+  pub in_now : Option (List ℕ)
+  pub read : Consumes in_before in_now (answers_bytes earlier)
+  pub out_now : Option (List ℕ)
+  pub sent : Appends out_before out_now (times (length earlier) line)
+  pub begun : HasBegun out_now out_after (line ++ 10 ∷ [])

@@ -1,5 +1,6 @@
 // What is done about each refusal.
-ghost use Rattle.std.specs.Prelude.{◌≡◌, ◌⊎◌, ◌↔◌, IsTrue, MatchOption};
+ghost use Rattle.std.specs.Prelude.{◌≡◌, ◌↔◌, IsTrue, MatchOption};
+ghost use Rattle.calling.specs.Sent.{IsSentAgain};
 ghost use Rattle.refusal.specs.Refusals.{number_of};
 ghost use Rattle.refusal.specs.declared.refusal.Refusal.{Refusal as AnyRefusal};
 
@@ -32,7 +33,7 @@ pub fn refusal_of(number: u64) -> Option<Refusal>
 
 /// Whether the same request may be sent again, and may then be answered: nothing was done, and what was in the way passes by itself.
 pub fn is_sent_again(refusal: Refusal) -> bool
-    ensures { IsTrue result ↔ ((refusal ≡ Refusal.Busy) ⊎ ((refusal ≡ Refusal.Aborted) ⊎ ((refusal ≡ Refusal.NoMemory) ⊎ (refusal ≡ Refusal.Full)))) }
+    ensures { IsTrue result ↔ IsSentAgain refusal }
 {
     matches!(
         refusal,

@@ -1,6 +1,7 @@
 // What an answer line says.
-ghost use Rattle.std.specs.Prelude.{◌≡◌, Some, IfOk, OnOk, codes, option_and_then, option_map, string_bytes};
+ghost use Rattle.std.specs.Prelude.{◌≡◌, None, Some, IfErr, IfOk, OnOk, codes, option_and_then, option_map, string_bytes};
 ghost use Rattle.serde_json.specs.Data.{Data, put, string};
+ghost use Rattle.serde_json.specs.Errors.{IsMemory};
 ghost use Rattle.serde_json.specs.Find.{as_str, get};
 ghost use Rattle.serde_json.specs.Read.{read};
 ghost use Rattle.serde_json.specs.View.{members_view, view};
@@ -21,9 +22,10 @@ pub struct Answered {
     pub heartbeat: Option<String>,
 }
 
-/// What the line says.
+/// What the line says. An `Err` is for want of memory, or the line is no JSON.
 pub fn read_answer(alloc: Global, line: String) -> Result<Answered, Error>
-    ensures { IfOk result (λ a. (d : Data) × (a.line ≡ line) × (read (string_bytes line) ≡ Some d) × Says d a) }
+    ensures ok { IfOk result (λ a. (d : Data) × (a.line ≡ line) × (read (string_bytes line) ≡ Some d) × Says d a) }
+    ensures err { IfErr result (λ e. (IsMemory e → ⊥) → read (string_bytes line) ≡ None) }
 {
     let value = Value::from_str(alloc, line.as_str())?;
     let refusal = refusal_in(&value);
@@ -53,9 +55,11 @@ fn heartbeat_in(alloc: Global, value: &Value) -> Result<Option<String>, AllocErr
     }
 }
 
-/// The watch that goes on from the heartbeat: the request with this cursor in place of its own. A request that is no object goes on as it is.
+/// The watch that goes on from the heartbeat: the request with this cursor in place of its own. A request that is no object goes on as it is. An `Err` is for
+/// want of memory, or the request is no JSON.
 pub fn watch_on(alloc: Global, request: &str, heartbeat: &str) -> Result<String, Error>
-    ensures { IfOk result (λ line. GoesOn request.now heartbeat.now (string_bytes line)) }
+    ensures ok { IfOk result (λ line. GoesOn request.now heartbeat.now (string_bytes line)) }
+    ensures err { IfErr result (λ e. (IsMemory e → ⊥) → read request.now ≡ None) }
 {
     let mut value = Value::from_str(alloc, request)?;
     if let Some(object) = value.as_object_mut() {

@@ -1,7 +1,10 @@
 // A request is sent, and its answer is waited for.
-ghost use Rattle.std.specs.Prelude.{◌≡◌, ◌≤◌, ◌∷◌, ◌++◌, [], IfOk, OnOk, string_bytes};
-ghost use Rattle.std.specs.Io.KnownBytes.{Appends};
-ghost use Rattle.calling.specs.Sent.{SendsAgain};
+ghost use Rattle.std.specs.Prelude.{◌≡◌, ◌↔◌, ◌∷◌, ◌++◌, [], IfOk, IsTrue, OnErr, OnOk, string_bytes};
+ghost use Rattle.std.specs.Io.KnownBytes.{Appends, Consumes};
+ghost use Rattle.calling.specs.Answers.{IsAnswer};
+ghost use Rattle.calling.specs.Sent.{IsAskedAgain, SendsAgain, StopsAsking, answer_bytes};
+ghost use Rattle.line_io.specs.Lines.{HasNoFeed};
+ghost use Rattle.line_io.specs.Outputs.{HasBegun};
 
 use crate::advising::is_sent_again;
 use crate::answer::{Answered, read_answer};
@@ -19,7 +22,7 @@ const PAUSE_MILLISECONDS: u64 = 50;
 const LONGEST_MILLISECONDS: u64 = 2000;
 
 /// Sends the request, and again while its refusal is one of those behind which it may be, up to so many times more, after a pause that grows. The last
-/// answer.
+/// answer. Where it ends with an `Err`, too, it was sent again behind such answers alone.
 pub fn ask_again<C: Clock, I: BufRead, O: Write>(
     clock: &C,
     alloc: Global,
@@ -28,7 +31,8 @@ pub fn ask_again<C: Clock, I: BufRead, O: Write>(
     request: &str,
     retry: u64,
 ) -> Result<Answered, Fault>
-    ensures { OnOk result (SendsAgain retry request.now (O.contents output.old) (O.contents output.new)) }
+    ensures ok { IfOk result (SendsAgain retry request.now (I.remaining input.old) (I.remaining input.new) (O.contents output.old) (O.contents output.new)) }
+    ensures err { OnErr result (StopsAsking retry request.now (I.remaining input.old) (O.contents output.old) (O.contents output.new)) }
 {
     for number in 0..retry {
         let answered = ask(alloc, input, output, request)?;
@@ -40,7 +44,9 @@ pub fn ask_again<C: Clock, I: BufRead, O: Write>(
     ask(alloc, input, output, request)
 }
 
-fn is_asked_again(refusal: Option<Refusal>) -> bool {
+fn is_asked_again(refusal: Option<Refusal>) -> bool
+    ensures { IsTrue result ↔ IsAskedAgain refusal }
+{
     match refusal {
         Some(refusal) => is_sent_again(refusal),
         None => false,
@@ -61,7 +67,10 @@ fn ask<I: BufRead, O: Write>(
     output: &mut O,
     request: &str,
 ) -> Result<Answered, Fault>
-    ensures { OnOk result (Appends (O.contents output.old) (O.contents output.new) (request.now ++ 10 ∷ [])) }
+    ensures sent { OnOk result (Appends (O.contents output.old) (O.contents output.new) (request.now ++ 10 ∷ [])) }
+    ensures read { IfOk result (λ a. Consumes (I.remaining input.old) (I.remaining input.new) (answer_bytes a)) }
+    ensures answer { IfOk result IsAnswer }
+    ensures err { OnErr result (HasBegun (O.contents output.old) (O.contents output.new) (request.now ++ 10 ∷ [])) }
 {
     send(alloc, output, request)?;
     let line = receive(alloc, input)?;
@@ -69,7 +78,8 @@ fn ask<I: BufRead, O: Write>(
 }
 
 fn send<O: Write>(alloc: Global, output: &mut O, request: &str) -> Result<(), Fault>
-    ensures { OnOk result (Appends (O.contents output.old) (O.contents output.new) (request.now ++ 10 ∷ [])) }
+    ensures ok { OnOk result (Appends (O.contents output.old) (O.contents output.new) (request.now ++ 10 ∷ [])) }
+    ensures err { OnErr result (HasBegun (O.contents output.old) (O.contents output.new) (request.now ++ 10 ∷ [])) }
 {
     let bytes = with_feed(alloc, request)?;
     match write_all(output, &bytes) {
@@ -88,7 +98,10 @@ fn with_feed(alloc: Global, request: &str) -> Result<Vec<u8>, AllocError>
 }
 
 // The next line, without its line feed.
-fn receive<I: BufRead>(alloc: Global, input: &mut I) -> Result<String, Fault> {
+fn receive<I: BufRead>(alloc: Global, input: &mut I) -> Result<String, Fault>
+    ensures read { IfOk result (λ line. Consumes (I.remaining input.old) (I.remaining input.new) (string_bytes line ++ 10 ∷ [])) }
+    ensures no_feed { IfOk result (λ line. HasNoFeed (string_bytes line)) }
+{
     let mut line = String::new(alloc);
     match input.read_line(&mut line) {
         Ok(_) => {
