@@ -1,5 +1,5 @@
 -- One care more, and what a care that is served or refused is.
-use Rattle.std.proofs.Common.{◌≡◌, ◌++◌, ◌∷◌, [], ◌⊎◌, inl, inr, ⊎_elim, ℕ, List, Option, Some, Result, Ok, Err, Contains, length, refl, sym, subst, arith}
+use Rattle.std.proofs.Common.{◌≡◌, ◌++◌, ◌∷◌, [], ◌⊎◌, inl, inr, ⊎_elim, ℕ, List, Option, Some, Result, Ok, Err, length, refl, sym, subst, arith}
 use Rattle.std.specs.List.{AllByRecursion}
 use Rattle.std.specs.Result.{IfErr, OnOk}
 use Rattle.std.proofs.lemmas.List.Elements.{Contains-push}
@@ -18,7 +18,7 @@ use Rattle.names.specs.declared.node_name.NodeName.TheVariants.{Coordinator}
 use Rattle.refusal.specs.declared.refusal.Refusal.{Refusal}
 use Rattle.refusal.specs.declared.refusal.Refusal.TheVariants.{Damaged, NoMemory}
 use Rattle.reshard.specs.Caring.{Cares, CaresOn, IsCaredFor, IsCaring, IsOfClosing, Serves, TurnsOf}
-use Rattle.reshard.specs.Refusing.{BeginsNot, ComesTo, HasComeTo, IsRefusedCare, Plays, RefusesCare, TurnsTo}
+use Rattle.reshard.specs.Refusing.{BeginsNot, ComesTo, HasComeTo, Plays, RefusesCare, TurnsTo}
 
 all_more : (steps : List Step) (s : Step) → AllByRecursion IsCaring steps → IsCaring s → AllByRecursion IsCaring (steps ++ s ∷ [])
 all_more [] s all one = (one, tt)

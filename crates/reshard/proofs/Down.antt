@@ -1,5 +1,5 @@
 -- Which node is the first that is not up, there is one answer to.
-use Rattle.std.proofs.Common.{◌≡◌, ◌⊎◌, ◌<◌, inl, inr, ⊎_elim, ℕ, List, Option, None, Some, Result, Ok, Err, MatchOption, refl, sym, ◌∙◌, ap, subst, arith}
+use Rattle.std.proofs.Common.{◌≡◌, ◌⊎◌, ◌<◌, ⊎_elim, ℕ, Option, None, Some, Ok, Err, MatchOption, refl, sym, ◌∙◌, subst, arith}
 use Rattle.calls.specs.Carrying.{Reaches}
 use Rattle.calls.specs.Views as views
 use Rattle.calls.specs.Views.{NodeView}
@@ -7,10 +7,8 @@ use Rattle.calls.specs.declared.carrying.Reach.{Reach}
 use Rattle.cluster.specs.Openings.{name_at}
 use Rattle.cluster.specs.Worlds.{WorldView, node_at}
 use Rattle.device.specs.Device.{State}
-use Rattle.names.specs.declared.node_name.NodeName.{NodeName}
 use Rattle.refusal.specs.declared.refusal.Refusal.{Refusal}
 use Rattle.refusal.specs.declared.refusal.Refusal.TheVariants.{BadRequest}
-use Rattle.reshard.specs.Caring.{ReachesAt}
 use Rattle.reshard.specs.Refusing.{AreUp, IsFirstDown, RefusesAt}
 
 module _ {D : Type 0} (state : D → State) (honest : D → Type 0) where

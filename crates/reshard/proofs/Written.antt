@@ -1,5 +1,5 @@
 -- What a stop leaves of the coordinator's new devices, while they are written.
-use Rattle.std.proofs.Common.{◌≡◌, ◌⊎◌, inl, inr, ◌+◌, ℕ, suc, List, [], ◌∷◌, ◌++◌, All, Result, Ok, Err, None, Some, append-nil, get_or, length, set, refl, sym, ◌∙◌, ap, subst, arith}
+use Rattle.std.proofs.Common.{◌≡◌, ◌⊎◌, inl, inr, ◌+◌, ℕ, suc, List, [], ◌∷◌, ◌++◌, All, Result, Ok, Err, None, Some, append-nil, get_or, length, set, sym, ◌∙◌, ap, subst, arith}
 use Rattle.std.specs.Result.{OnErr, OnOk}
 use Rattle.std.proofs.lemmas.Option.{same_Some}
 use Rattle.calls.specs.Carrying.{Carries}

@@ -1,4 +1,5 @@
 pub mod Caring
+pub mod Folders
 pub mod Gathering
 pub mod Made
 pub mod Refusing

@@ -1,5 +1,5 @@
 -- Which refusal a carrying ends with.
-use Rattle.std.specs.Prelude.{◌≡◌, ◌⊎◌, ◌≤◌, ◌<◌, ℕ, List, [], ◌∷◌, Option, Some, Result, Err, MatchOption, MatchResult, Contains}
+use Rattle.std.specs.Prelude.{◌≡◌, ◌⊎◌, ◌≤◌, ◌<◌, ℕ, List, ◌∷◌, Option, Some, Result, Err, MatchOption, MatchResult, Contains}
 use Rattle.calls.specs.Carrying.{Reaches}
 use Rattle.calls.specs.Rows.{KnownOf}
 use Rattle.calls.specs.Views.{NodeView, coordinator, refused, shard}
@@ -10,7 +10,7 @@ use Rattle.cluster.specs.Worlds.{WorldView, node_at}
 use Rattle.cluster.specs.declared.event.Answer.{Answer}
 use Rattle.cluster.specs.declared.event.Event.{Event}
 use Rattle.cluster.specs.declared.event.What.{What}
-use Rattle.cluster.specs.declared.event.What.TheVariants.{Began, Ended, Refused}
+use Rattle.cluster.specs.declared.event.What.TheVariants.{Ended, Refused}
 use Rattle.cluster.specs.declared.step.Step.TheVariants.{Turn, Care as care_for}
 use Rattle.device.specs.Device.{State}
 use Rattle.names.specs.declared.care.Care.{Care}

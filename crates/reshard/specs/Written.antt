@@ -12,7 +12,7 @@ use Rattle.names.specs.declared.node_name.NodeName.TheVariants.{Coordinator}
 use Rattle.tuples.specs.declared.version.Version.{Version}
 use Rattle.reshard.specs.Caring.{HaveReached}
 use Rattle.reshard.specs.Gathering.{AreGathered}
-use Rattle.reshard.specs.Made.{AreHonest, HaveShards, devices_of}
+use Rattle.reshard.specs.Made.{HaveShards, devices_of}
 
 -- the first node is not touched
 abbrev pub KeepsFirst : {D : Type 0} → List (BegunView D) → List (BegunView D) → Type 0

@@ -1,6 +1,8 @@
 // A store that a folder keeps is carried over to another folder.
-ghost use Rattle.std.specs.Prelude.{◌≤◌, ◌≡◌, ◌+◌, ◌*◌, IfOk, vec_len};
+ghost use Rattle.std.specs.Prelude.{◌≤◌, ◌≡◌, ◌+◌, ◌*◌, All, IfErr, IfOk, List, OnOk, vec_len};
 ghost use Rattle.cluster.specs.Worlds.{flow_count};
+ghost use Rattle.node_files.specs.Devices.{IsFound};
+ghost use Rattle.reshard.specs.Folders.{CarriesFiles, CarriesWorldNot, HostDevice, CarriesWorld, CarriesDevices, CarriesDevicesNot, is_honest, left_since_of, moment_of, state_of};
 ghost use Rattle.tuples.specs.Limits.{max_shards};
 
 use crate::carry_over;
@@ -42,6 +44,7 @@ pub fn reshard_folder(
     requires few { shards ≤ max_shards }
     requires some_new { 1 ≤ new_shards }
     requires few_new { new_shards ≤ max_shards }
+    ensures { result ≡ 0 → (made : List HostDevice) × CarriesFiles store shards new_shards made }
 {
     match carry_folder(rt, folders, store, shards, new_shards) {
         Ok(()) => tell_done(rt),
@@ -49,6 +52,7 @@ pub fn reshard_folder(
     }
 }
 
+// That the devices are over files of these folders no clause can say.
 fn carry_folder(
     rt: &HostRuntime,
     folders: Folders<'_>,
@@ -60,28 +64,22 @@ fn carry_folder(
     requires few { shards ≤ max_shards }
     requires some_new { 1 ≤ new_shards }
     requires few_new { new_shards ≤ max_shards }
+    ensures { OnOk result ((made : List HostDevice) × CarriesFiles store shards new_shards made) }
 {
     let devices = open_all(rt, folders.dir, shards)?;
     match open_new(rt, folders.to, new_shards) {
-        Ok(new_devices) => carry_devices(
-            rt.alloc(),
-            devices,
-            store,
-            shards,
-            new_devices,
-            new_shards,
-        ),
+        Ok(new_devices) => carry_files(rt.alloc(), devices, store, shards, new_devices, new_shards),
         Err(refusal) => Err(refusal),
     }
 }
 
-// Opens a closed store over its devices, and carries it over to new ones.
-fn carry_devices<D: Device>(
+// As `carry_devices`, and the new files are let go, so that others may open them.
+fn carry_files(
     alloc: Global,
-    devices: Vec<D>,
+    devices: Vec<FileDevice<HostFile>>,
     store: u64,
     shards: u8,
-    new_devices: Vec<D>,
+    new_devices: Vec<FileDevice<HostFile>>,
     new_shards: u8,
 ) -> Result<(), Refusal>
     requires some { 1 ≤ shards }
@@ -90,6 +88,31 @@ fn carry_devices<D: Device>(
     requires some_new { 1 ≤ new_shards }
     requires few_new { new_shards ≤ max_shards }
     requires count_new { vec_len new_devices ≡ 2 * (new_shards + 1) }
+    ensures { OnOk result ((made : List HostDevice) × CarriesDevices state_of is_honest moment_of left_since_of store shards devices.items new_shards new_devices.items made) }
+{
+    match carry_devices(alloc, devices, store, shards, new_devices, new_shards) {
+        Ok(_) => Ok(()),
+        Err(refusal) => Err(refusal),
+    }
+}
+
+// Opens a closed store over its devices, and carries it over to new ones, which come back.
+fn carry_devices<D: Device>(
+    alloc: Global,
+    devices: Vec<D>,
+    store: u64,
+    shards: u8,
+    new_devices: Vec<D>,
+    new_shards: u8,
+) -> Result<Vec<D>, Refusal>
+    requires some { 1 ≤ shards }
+    requires few { shards ≤ max_shards }
+    requires count { vec_len devices ≡ 2 * (shards + 1) }
+    requires some_new { 1 ≤ new_shards }
+    requires few_new { new_shards ≤ max_shards }
+    requires count_new { vec_len new_devices ≡ 2 * (new_shards + 1) }
+    ensures ok { IfOk result (λ made. CarriesDevices D.state D.honest D.moment D.left_since store shards devices.items new_shards new_devices.items made.items) }
+    ensures err { IfErr result (CarriesDevicesNot D.state D.honest D.moment D.left_since store shards devices.items) }
 {
     match reopen(alloc, devices, store, shards) {
         Ok(world) => carry_world(alloc, world, new_devices, new_shards),
@@ -102,14 +125,16 @@ fn carry_world<D: Device>(
     mut world: World<D>,
     new_devices: Vec<D>,
     new_shards: u8,
-) -> Result<(), Refusal>
+) -> Result<Vec<D>, Refusal>
     requires quiet { flow_count world.flows ≡ 0 }
     requires some_new { 1 ≤ new_shards }
     requires few_new { new_shards ≤ max_shards }
     requires count_new { vec_len new_devices ≡ 2 * (new_shards + 1) }
+    ensures ok { IfOk result (λ made. CarriesWorld D.state D.honest D.moment D.left_since world new_shards new_devices.items made.items) }
+    ensures err { IfErr result (CarriesWorldNot D.state D.honest D.moment D.left_since world) }
 {
     match carry_over(alloc, &mut world, new_devices, new_shards) {
-        Ok(_) => Ok(()),
+        Ok(made) => Ok(made),
         Err((refusal, _)) => Err(refusal),
     }
 }
@@ -157,7 +182,8 @@ fn open_new(
     folder: &str,
     shards: u8,
 ) -> Result<Vec<FileDevice<HostFile>>, Refusal>
-    ensures { IfOk result (λ devices. vec_len devices ≡ 2 * (shards + 1)) }
+    ensures count { IfOk result (λ devices. vec_len devices ≡ 2 * (shards + 1)) }
+    ensures found { IfOk result (λ devices. All (λ d. IsFound d.history.events d.is_stopped d.failures) devices.items) }
 {
     if has_store(rt, folder)? {
         return Err(Refusal::Damaged);
@@ -165,7 +191,9 @@ fn open_new(
     open_all(rt, folder, shards)
 }
 
-fn tell(rt: &HostRuntime, refusal: Refusal) -> u8 {
+fn tell(rt: &HostRuntime, refusal: Refusal) -> u8
+    ensures { result ≡ 1 }
+{
     // A text that can't be printed changes nothing of the status.
     let _ = eprintln!(rt; "zanstore: {refusal}");
     FAILED

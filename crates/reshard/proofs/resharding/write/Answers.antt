@@ -1,12 +1,8 @@
-use Rattle.std.proofs.Common.{◌≡◌, ◌⊎◌, ◌+◌, ◌++◌, ◌∙◌, ℕ, List, All, inl, inr, length, take, drop, sym, subst, arith}
+use Rattle.std.proofs.Common.{◌≡◌, ◌⊎◌, ◌+◌, ◌++◌, ◌∙◌, All, inr, length, take, drop, sym, subst, arith}
 use Rattle.std.proofs.lemmas.Result.{IfErr-weaker, on_ok_weaker}
 use Rattle.cluster.proofs.Places.{whole}
-use Rattle.journal.specs.Beginnings.{BegunView}
 use Rattle.merging.specs.Merging.{merged}
-use Rattle.refusal.specs.declared.refusal.Refusal.{Refusal}
 use Rattle.refusal.specs.declared.refusal.Refusal.TheVariants.{Down, NoMemory}
-use Rattle.std.specs.Result.{OnOk}
-use Rattle.tuples.specs.declared.version.Version.{Version}
 use Rattle.reshard.specs.Made.{AreHonest, HasLog, HaveShards}
 use Rattle.reshard.specs.Refusing.{IsNotWritten, LacksLog}
 use Rattle.reshard.specs.Written.{EndsLast, HasTried}
