@@ -1,12 +1,13 @@
 """What a server answers over its connections."""
 import json
 import os
+import select
 import time
 
-from judge.worlds import must
+from judge.worlds import Wrong, must
 from serving.libraries import built_library
 from serving.rows import is_refused_before, rows
-from serving.server import Server
+from serving.server import LIMIT, Server
 from serving.wire import Session, check, delete, place_of, read, refusal, spelled, touch, watch, write
 from serving.wire import token as token_of
 
@@ -107,6 +108,62 @@ def two_inside(folder):
         must(found == wanted, f"with {workers} workers the syncs are reached {found!r}, and not {wanted!r}")
 
 
+def is_answered(session):
+    """Whether a session's next answer, or the beginning of it, is there."""
+    return session.socket in select.select([session.socket], [], [], 0)[0]
+
+
+def meets(path, text):
+    """Waits until the file says so."""
+    late = time.monotonic() + LIMIT
+    while time.monotonic() < late:
+        with open(path) as file:
+            if file.read() == text:
+                return
+        time.sleep(0.01)
+    raise Wrong(f"there is no {text!r} in {LIMIT} seconds")
+
+
+def answered_beside(held, other, release):
+    """While one write's flush is held, another session reads that shard, writes to the other one, and reads and checks what it wrote."""
+    before, after = [["doc:b#viewer@bob"]], [["doc:b#viewer@ann", "doc:b#viewer@bob"]]
+    is_told(other, read("doc:b"), {"sets": before, "zookie": token_of(1)})
+    is_told(other, write("+doc:a#viewer@ann"), {"zookie": token_of(2)})
+    is_told(other, check("doc:a#viewer@ann"), {"member": True, "zookie": token_of(2)})
+    is_told(other, read("doc:b", at_least=token_of(2)), {"sets": before, "zookie": token_of(2)})
+    must(not is_answered(held), "the write is answered, whose flush is held")
+    release()
+    must(held.answer() == {"zookie": token_of(3)}, "the write whose flush was held is answered otherwise")
+    is_told(other, read("doc:b"), {"sets": after, "zookie": token_of(3)})
+
+
+def waits_behind(held, other, release):
+    """Where one worker serves both, the other session is answered behind the held write."""
+    other.send(spelled(read("doc:b")))
+    time.sleep(1)
+    must(not is_answered(other), "a second session is answered, though the only worker is held")
+    release()
+    must(held.answer() == {"zookie": token_of(2)}, "the write whose flush was held is answered otherwise")
+    held.close()
+    must(place_of(other.answer()) == 2, "a read behind the write is not of its place")
+
+
+def beside_a_flush(folder):
+    """while a shard's flush is held, a read of that shard, a write of the other one and a check are answered; with one worker none is"""
+    for workers, meanwhile in ((2, answered_beside), (1, waits_behind)):
+        within = os.path.join(folder, str(workers))
+        os.mkdir(within)
+        note, go = within + ".held", within + ".go"
+        held = {"LD_PRELOAD": built_library("hold_syncs"), "HOLD_FOLDER": os.path.realpath(within), "HOLD_FILE": note, "HOLD_UNTIL": go}
+        with Server(within, environment=held, shards=2, workers=workers) as server, Session(server.port) as first:
+            is_told(first, write("+doc:b#viewer@bob"), {"zookie": token_of(1)})
+            open(note, "w").close()
+            first.send(spelled(write("+doc:b#viewer@ann")))
+            meets(note, "held\n")
+            with Session(server.port) as second:
+                meanwhile(first, second, lambda: open(go, "w").close())
+
+
 def lines_ahead(folder):
     """requests that are sent ahead, answered in their order"""
     count = 500
@@ -190,6 +247,7 @@ TRIES = {
     "fresh-reads": fresh_reads,
     "two-sessions": two_sessions,
     "two-inside": two_inside,
+    "beside-a-flush": beside_a_flush,
     "lines-ahead": lines_ahead,
     "ahead-is-faster": ahead_is_faster,
     "half-lines": half_lines,

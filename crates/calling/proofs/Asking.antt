@@ -1,5 +1,5 @@
 -- A request that is sent again and again, and a line that is read up to its line feed.
-use Rattle.std.proofs.Common.{◌≡◌, ◌≢◌, ◌≤◌, ◌+◌, ◌-◌, ℕ, suc, true, false, cond, eqb, List, [], ◌∷◌, ◌++◌, length, take, drop, All, Option, None, Some, IfSome, Result, Ok, Err, OnErr, refl, sym, ap, subst, ◌∙◌, append-nil, length-append, encode_utf8, eqb-true, arith}
+use Rattle.std.proofs.Common.{◌≡◌, ◌≢◌, ◌≤◌, ◌+◌, ◌-◌, ◌⊎◌, inl, inr, ⊎_elim, ℕ, suc, true, false, cond, eqb, List, [], ◌∷◌, ◌++◌, length, take, drop, All, Option, None, Some, IfSome, Result, Ok, Err, OnErr, refl, sym, ap, subst, ◌∙◌, append-nil, length-append, encode_utf8, eqb-true, arith}
 use Rattle.std.proofs.KnownBytes.{Appends-nil, Appends-trans, Consumes-nil, Consumes-trans}
 use Rattle.std.proofs.Math.Seq.{take-append_seam}
 use Rattle.std.proofs.lemmas.List.{flat_map_more}
@@ -49,13 +49,14 @@ asked_more count line i j k o p q a h answer again read sent =
     }
 
 pub asked_last : (most count : ℕ) (line : List ℕ) (i j k o p q : Option (List ℕ)) (a : Answered) → count ≤ most → HasAsked count line i j o p → IsAnswer a
-    → Consumes j k (answer_bytes a) → Appends p q (line ++ 10 ∷ []) → SendsAgain most line i k o q a
-asked_last most count line i j k o p q a few h answer read sent =
+    → (count ≡ most) ⊎ (IsAskedAgain a.refusal → ⊥) → Consumes j k (answer_bytes a) → Appends p q (line ++ 10 ∷ []) → SendsAgain most line i k o q a
+asked_last most count line i j k o p q a few h answer ends read sent =
     let counted = h.counted in record {
       earlier = h.earlier;
       few = omega arith;
       each = h.each;
       answer = answer;
+      ends = ⊎_elim (λ all. inl (counted ∙ all)) (λ none. inr none) ends;
       read = Consumes-trans i j k (answers_bytes h.earlier) (answer_bytes a) h.read read;
       sent = Appends-trans o p q (times (length h.earlier) line) (line ++ 10 ∷ []) h.sent sent;
     }

@@ -33,12 +33,13 @@ pub record IsPassing (a : Answered) : Type 0 where
   pub again : IsAskedAgain a.refusal
 
 -- The line was sent once, and once more behind each earlier answer, of which there are at most so many: each was one behind which it may be sent again. These
--- answers were read, and then this last one. Nothing else was read or sent.
+-- answers were read, and then this last one: there were as many as there may be, or it is none behind which it may be sent again. Nothing else was read or sent.
 pub record SendsAgain (most : ℕ) (line : List ℕ) (in_before in_after out_before out_after : Option (List ℕ)) (last : Answered) : Type 0 where
   pub earlier : List Answered
   pub few : length earlier ≤ most
   pub each : All IsPassing earlier
   pub answer : IsAnswer last
+  pub ends : (length earlier ≡ most) ⊎ (IsAskedAgain last.refusal → ⊥)
   pub read : Consumes in_before in_after (answers_bytes earlier ++ answer_bytes last)
   pub sent : Appends out_before out_after (times (suc (length earlier)) line)
 
