@@ -32,7 +32,7 @@ use tuples::Entry;
 /// |---|---|
 /// | `zanstore: 13 Down` | the folder or a file of it can't be opened, or another process has it |
 /// | `zanstore: 16 Damaged` | what is in the files was not left there by this store |
-/// | `zanstore: 14 NoMemory` | there is no memory for the store or its workers |
+/// | `zanstore: 14 NoMemory` | there is no memory for the store |
 /// | `zanstore: listen` | the address can't be bound |
 ///
 /// They are looked for in the order files, nodes (the coordinator, and then the shards by rising number), address; `ready` is printed behind them.

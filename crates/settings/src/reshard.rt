@@ -24,8 +24,8 @@ is in the new folder: the one of before is as good as it was.";
 
 const RESHARD: &str =
     "Carries a store in files over to another folder, with another number of shards. No server may have the
-folder open: a file that another process has is refused with 13 Down. The new folder must be there, and
-have no file of a store: 16 Damaged.";
+folder open: a file that another process has is refused with 13 Down. The new folder must be there, or
+it is 13 Down too, and have no file of a store, or it is 16 Damaged.";
 
 const MANUAL: Manual = Manual {
     name: "reshard",
