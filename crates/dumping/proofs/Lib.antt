@@ -5,4 +5,5 @@ mod Flows
 mod Covering
 mod Listing
 mod OneMore
+mod Looks
 pub mod Snapshots

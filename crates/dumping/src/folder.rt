@@ -1,5 +1,6 @@
 // A dump of a store that a folder keeps.
-ghost use Rattle.std.specs.Prelude.{◌≤◌};
+ghost use Rattle.std.specs.Prelude.{◌≡◌, ◌≤◌, ◌⊎◌, OnOk};
+ghost use Rattle.dumping.specs.Folders.{DumpsFiles};
 ghost use Rattle.tuples.specs.Limits.{max_shards};
 
 use crate::over_devices::{Fault, dump_over};
@@ -18,6 +19,8 @@ const FAILED: u8 = 1;
 pub fn dump_folder(rt: &HostRuntime, folder: &str, store: u64, shards: u8, at: Option<u64>) -> u8
     requires some { 1 ≤ shards }
     requires few { shards ≤ max_shards }
+    ensures status { (result ≡ 0) ⊎ (result ≡ 1) }
+    ensures dumped { result ≡ 0 → DumpsFiles store shards at }
 {
     match write_folder(rt, folder, store, shards, at) {
         Ok(()) => 0,
@@ -25,6 +28,7 @@ pub fn dump_folder(rt: &HostRuntime, folder: &str, store: u64, shards: u8, at: O
     }
 }
 
+// That the devices are over files of this folder, and the writer the standard output, no clause can say.
 fn write_folder(
     rt: &HostRuntime,
     folder: &str,
@@ -34,6 +38,7 @@ fn write_folder(
 ) -> Result<(), Fault>
     requires some { 1 ≤ shards }
     requires few { shards ≤ max_shards }
+    ensures { OnOk result (DumpsFiles store shards at) }
 {
     match open_all(rt, folder, shards) {
         Ok(devices) => {
@@ -44,7 +49,9 @@ fn write_folder(
     }
 }
 
-fn tell(rt: &HostRuntime, fault: Fault) -> u8 {
+fn tell(rt: &HostRuntime, fault: Fault) -> u8
+    ensures { result ≡ 1 }
+{
     // A text that can't be printed changes nothing of the status.
     let _ = match fault {
         Fault::Refused(refusal) => eprintln!(rt; "zanstore: {refusal}"),

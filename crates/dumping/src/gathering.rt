@@ -3,6 +3,7 @@ ghost use Rattle.std.specs.Prelude.{◌≡◌, [], List, true, OnOk};
 ghost use Rattle.cluster.specs.declared.event.Answer.TheVariants.{Done};
 ghost use Rattle.cluster.specs.declared.event.What.TheVariants.{Ended};
 ghost use Rattle.dumping.specs.Gathering.{AllTell, HasAll, Plays, TellsOne};
+ghost use Rattle.dumping.specs.Steps.{LooksOn};
 ghost use Rattle.holds.specs.Holds.{is_in};
 ghost use Rattle.std.specs.Prelude.{Some};
 ghost use Rattle.tuples.specs.declared.tuple.Tuple.{Tuple as AnyTuple};
@@ -17,7 +18,8 @@ use std::collections::BTreeSet;
 use tuples::{Refusal, Tuple, Version};
 
 fn learn<S: Store>(store: &mut S, shard: u8) -> Result<(), Refusal>
-    ensures { OnOk result (Plays S.takes S.nexts (Step.Care (Care.Learn shard)) store.old (Some (Ended Done)) store.new) }
+    ensures ok { OnOk result (Plays S.takes S.nexts (Step.Care (Care.Learn shard)) store.old (Some (Ended Done)) store.new) }
+    ensures looks { LooksOn S.takes store.old store.new }
 {
     match serve(store, Step::Care(Care::Learn(shard)))? {
         Answer::Done => Ok(()),
@@ -34,6 +36,7 @@ fn gather_one<S: Store>(
 ) -> Result<(), Refusal>
     ensures tells { OnOk result ((told : List AnyVersion) × TellsOne S.takes S.nexts S.shows shard store.old told store.new × HasAll found.new.keys told) }
     ensures keeps { OnOk result ((t : AnyTuple) → is_in found.old.keys t ≡ true → is_in found.new.keys t ≡ true) }
+    ensures looks { LooksOn S.takes store.old store.new }
 {
     learn(store, shard)?;
     let versions = store.rows(shard)?;
@@ -56,7 +59,8 @@ pub(crate) fn gather<S: Store>(
     shards: u8,
     found: &mut BTreeSet<Tuple>,
 ) -> Result<(), Refusal>
-    ensures { OnOk result ((told : List AnyVersion) × AllTell S.takes S.nexts S.shows shards store.old told store.new × HasAll found.new.keys told) }
+    ensures tell { OnOk result ((told : List AnyVersion) × AllTell S.takes S.nexts S.shows shards store.old told store.new × HasAll found.new.keys told) }
+    ensures looks { LooksOn S.takes store.old store.new }
 {
     for shard in 0..shards {
         gather_one(store, shard, found)?;

@@ -5,7 +5,8 @@
 //! Never: begins a write, raises a horizon, or opens a file.
 //! Callers rely on: what `dump_over` writes is the snapshot of the one list that the store stands for, and where it is refused nothing is written.
 //!
-//! Start at `specs/Dumped.antt`, what a dump tells, and `over_devices.rt`; `specs/Gathering.antt` says by which steps of a store it comes to it.
+//! Start at `specs/Dumped.antt`, what a dump tells, and `over_devices.rt`; `specs/Gathering.antt` says by which steps of a store it comes to it,
+//! and `specs/Steps.antt` which steps are taken at all, also where it is refused.
 #![tactic(auto)]
 
 mod dump_laws;

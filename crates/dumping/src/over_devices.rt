@@ -6,6 +6,7 @@ ghost use Rattle.cluster.specs.Worlds.{WorldView};
 ghost use Rattle.dumping.specs.Dumped.{IsDumped, Leaves, dump_text};
 ghost use Rattle.dumping.specs.Dumps.{Dumps};
 ghost use Rattle.dumping.specs.Looking.{AreOfOneMoment};
+ghost use Rattle.dumping.specs.Steps.{LooksOn};
 ghost use Rattle.line_io.specs.Outputs.{HasBegun};
 ghost use Rattle.scripts.specs.Stepping.{IsNext, ShowsRows};
 ghost use Rattle.std.specs.Io.KnownBytes.{Appends};
@@ -82,7 +83,8 @@ fn append<S: Store>(
     at: Option<u64>,
     text: &mut Vec<u8>,
 ) -> Result<(), Refusal>
-    ensures { OnOk result ((place : ℕ) × (rows : List AnyTuple) × Dumps S.takes S.nexts S.shows shards at store.old place rows store.new × (text.new.items ≡ text.old.items ++ dump_text id place rows)) }
+    ensures ok { OnOk result ((place : ℕ) × (rows : List AnyTuple) × Dumps S.takes S.nexts S.shows shards at store.old place rows store.new × (text.new.items ≡ text.old.items ++ dump_text id place rows)) }
+    ensures looks { LooksOn S.takes store.old store.new }
 {
     match take_dump(alloc, store, shards, at) {
         Ok(dump) => write_dump(id, &dump, text),

@@ -2,6 +2,7 @@
 ghost use Rattle.std.specs.Prelude.{◌≡◌, ◌∷◌, [], List, ℕ, IfOk};
 ghost use Rattle.answer_flow.specs.ReadViews.{rows_of};
 ghost use Rattle.dumping.specs.Gathering.{Reads};
+ghost use Rattle.dumping.specs.Steps.{LooksOn};
 ghost use Rattle.tuples.specs.declared.tuple.Tuple.{Tuple as AnyTuple};
 ghost use Rattle.tuples.specs.declared.tupleset.Tupleset.{Tupleset as AnyTupleset};
 
@@ -37,6 +38,7 @@ pub(crate) fn read<S: Store>(
     set: Tupleset,
 ) -> Result<Selected, Refusal>
     ensures ok { IfOk result (λ r. Reads S.takes S.nexts freshness set store.old r.place (rows_of r.sets.items) store.new) }
+    ensures looks { LooksOn S.takes store.old store.new }
 {
     let Ok(sets) = alone(alloc, set) else {
         return Err(Refusal::NoMemory);
@@ -56,6 +58,7 @@ pub(crate) fn place_of<S: Store>(
     freshness: Freshness,
 ) -> Result<u64, Refusal>
     ensures ok { IfOk result (λ place. (set : AnyTupleset) × (rows : List (List AnyTuple)) × Reads S.takes S.nexts freshness set store.old place rows store.new) }
+    ensures looks { LooksOn S.takes store.old store.new }
 {
     let set = Tupleset::parse(alloc, ANY)?;
     let selected = read(alloc, store, freshness, set)?;

@@ -3,6 +3,7 @@ ghost use Rattle.std.specs.Prelude.{◌≡◌, ◌∷◌, ◌++◌, [], List, �
 ghost use Rattle.answer_flow.specs.ReadViews.{rows_of};
 ghost use Rattle.dumping.specs.Gathering.{AllRead, Reads};
 ghost use Rattle.dumping.specs.Dumps.{Dumps, FindsAll, FindsPlace};
+ghost use Rattle.dumping.specs.Steps.{LooksOn};
 ghost use Rattle.std.specs.List.Sorted.{IsStrictlySortedBy};
 ghost use Rattle.tuples.specs.contracts.tuple.TupleOrd.TheImpl.{ghosts};
 ghost use Rattle.tuples.specs.declared.tuple.Tuple.{Tuple as AnyTuple};
@@ -44,7 +45,8 @@ fn read_one<S: Store>(
     tuple: &Tuple,
     tuples: &mut Vec<Tuple>,
 ) -> Result<(), Refusal>
-    ensures { OnOk result ((at : ℕ) × (row : List AnyTuple) × Reads S.takes S.nexts (Freshness.Exact place) (key_of tuple.now) store.old at (row ∷ []) store.new × (tuples.new.items ≡ tuples.old.items ++ row)) }
+    ensures ok { OnOk result ((at : ℕ) × (row : List AnyTuple) × Reads S.takes S.nexts (Freshness.Exact place) (key_of tuple.now) store.old at (row ∷ []) store.new × (tuples.new.items ≡ tuples.old.items ++ row)) }
+    ensures looks { LooksOn S.takes store.old store.new }
 {
     let Ok(set) = key(tuple) else {
         return Err(Refusal::NoMemory);
@@ -76,6 +78,7 @@ fn read_all<S: Store>(
 ) -> Result<(), Refusal>
     ensures sorted { IsStrictlySortedBy ghosts.cmp found.now.keys }
     ensures ok { OnOk result ((rows : List AnyTuple) × AllRead S.takes S.nexts place found.now.keys store.old rows store.new × (tuples.new.items ≡ tuples.old.items ++ rows)) }
+    ensures looks { LooksOn S.takes store.old store.new }
 {
     for tuple in found {
         read_one(alloc, store, place, tuple, tuples)?;
@@ -85,7 +88,8 @@ fn read_all<S: Store>(
 
 // The place that is asked for, once it is seen to be one that can be read; the latest where none is.
 fn find_place<S: Store>(alloc: Global, store: &mut S, at: Option<u64>) -> Result<u64, Refusal>
-    ensures { IfOk result (λ place. FindsPlace S.takes S.nexts at store.old place store.new) }
+    ensures ok { IfOk result (λ place. FindsPlace S.takes S.nexts at store.old place store.new) }
+    ensures looks { LooksOn S.takes store.old store.new }
 {
     // This asks each node, before the place is looked at.
     let latest = place_of(alloc, store, Freshness::Latest)?;
@@ -106,7 +110,8 @@ fn find_all<S: Store>(
     found: &mut BTreeSet<Tuple>,
     tuples: &mut Vec<Tuple>,
 ) -> Result<(), Refusal>
-    ensures { OnOk result ((rows : List AnyTuple) × FindsAll S.takes S.nexts S.shows shards place store.old rows store.new × (tuples.new.items ≡ tuples.old.items ++ rows)) }
+    ensures ok { OnOk result ((rows : List AnyTuple) × FindsAll S.takes S.nexts S.shows shards place store.old rows store.new × (tuples.new.items ≡ tuples.old.items ++ rows)) }
+    ensures looks { LooksOn S.takes store.old store.new }
 {
     gather(store, shards, found)?;
     // The place can be read still, so no shard has forgotten what was there.
@@ -115,14 +120,16 @@ fn find_all<S: Store>(
 }
 
 /// All tuples that are there at a place, or at the latest. `Future` where the place is above what is kept, `Collected` where it is below the horizon, and
-/// before that what a node was refused with, the coordinator first and then the shards by rising number.
+/// before that what a node was refused with, the coordinator first and then the shards by rising number. Whatever comes of it, all that is begun is reads, and
+/// that shards learn what is kept.
 pub fn take_dump<S: Store>(
     alloc: Global,
     store: &mut S,
     shards: u8,
     at: Option<u64>,
 ) -> Result<Dump, Refusal>
-    ensures { IfOk result (λ d. Dumps S.takes S.nexts S.shows shards at store.old d.place d.tuples.items store.new) }
+    ensures ok { IfOk result (λ d. Dumps S.takes S.nexts S.shows shards at store.old d.place d.tuples.items store.new) }
+    ensures looks { LooksOn S.takes store.old store.new }
 {
     let place = find_place(alloc, store, at)?;
     let mut found = BTreeSet::new(alloc);

@@ -1,13 +1,9 @@
--- What was done where a store that nobody has open is carried over, and of which devices over files this is said.
-use Rattle.std.specs.Prelude.{◌≡◌, ◌⊎◌, ◌+◌, ◌*◌, ℕ, List, length, All}
+-- What was done where a store that nobody has open is carried over.
+use Rattle.std.specs.Prelude.{◌≡◌, ◌⊎◌, ℕ, List}
 use Rattle.cluster.specs.Openings.{IsOpenedOver}
 use Rattle.cluster.specs.Worlds.{WorldView}
 use Rattle.device.specs.Device.{State}
-use Rattle.files.specs.Life.{LeftSince, life_state}
-use Rattle.files.specs.contracts.host_file.HostFileRawFile.TheImpl.{ghosts}
-use Rattle.files.specs.declared.file_device.FileDevice.{FileDevice}
-use Rattle.files.specs.declared.host_file.HostFile.{HostFile}
-use Rattle.node_files.specs.Devices.{IsFound}
+use Rattle.node_files.specs.Devices.{AreOpened, HostDevice, is_honest, left_since_of, moment_of, state_of}
 use Rattle.refusal.specs.declared.refusal.Refusal.{Refusal}
 use Rattle.refusal.specs.declared.refusal.Refusal.TheVariants.{NoMemory}
 use Rattle.reshard.specs.Caring.{IsCaredFor}
@@ -34,27 +30,6 @@ module _ {D : Type 0} (state : D → State) (honest : D → Type 0) (moment : D 
   -- there was no memory to open it, or it was not carried over
   abbrev pub CarriesDevicesNot : ℕ → ℕ → List D → Refusal → Type 0
   CarriesDevicesNot store shards devices e = (e ≡ NoMemory) ⊎ ((opened : WorldView D) × IsOpenedOver state honest moment left_since store shards devices opened × CarriesWorldNot opened e)
-
-abbrev pub HostDevice : Type 0
-HostDevice = FileDevice HostFile ghosts
-
--- what `Device` asks of every device, of one over a file
-abbrev pub state_of : HostDevice → State
-state_of d = life_state d.history.events d.is_stopped d.failures
-
-abbrev pub is_honest : HostDevice → Type 0
-is_honest d = Unit {0}
-
-abbrev pub moment_of : HostDevice → ℕ
-moment_of d = length d.history.events
-
-abbrev pub left_since_of : HostDevice → ℕ → List ℕ → Type 0
-left_since_of d t c = LeftSince d.history.events t c
-
--- two for each node, each of which was just opened
-pub record AreOpened (shards : ℕ) (devices : List HostDevice) : Type 0 where
-  pub count : length devices ≡ 2 * (shards + 1)
-  pub found : All (λ d. IsFound d.history.events d.is_stopped d.failures) devices
 
 -- Two files for each node were opened, and two for each new one; and these are the new devices, to which the store was carried over.
 pub record CarriesFiles (store shards new_shards : ℕ) (made : List HostDevice) : Type 0 where

@@ -1,8 +1,8 @@
 // A store that a folder keeps is carried over to another folder.
-ghost use Rattle.std.specs.Prelude.{◌≤◌, ◌≡◌, ◌+◌, ◌*◌, All, IfErr, IfOk, List, OnOk, vec_len};
+ghost use Rattle.std.specs.Prelude.{◌≤◌, ◌≡◌, ◌⊎◌, ◌+◌, ◌*◌, All, IfErr, IfOk, List, OnOk, vec_len};
 ghost use Rattle.cluster.specs.Worlds.{flow_count};
-ghost use Rattle.node_files.specs.Devices.{IsFound};
-ghost use Rattle.reshard.specs.Folders.{CarriesFiles, CarriesWorldNot, HostDevice, CarriesWorld, CarriesDevices, CarriesDevicesNot, is_honest, left_since_of, moment_of, state_of};
+ghost use Rattle.node_files.specs.Devices.{HostDevice, IsFound, is_honest, left_since_of, moment_of, state_of};
+ghost use Rattle.reshard.specs.Folders.{CarriesDevices, CarriesDevicesNot, CarriesFiles, CarriesWorld, CarriesWorldNot};
 ghost use Rattle.tuples.specs.Limits.{max_shards};
 
 use crate::carry_over;
@@ -44,7 +44,8 @@ pub fn reshard_folder(
     requires few { shards ≤ max_shards }
     requires some_new { 1 ≤ new_shards }
     requires few_new { new_shards ≤ max_shards }
-    ensures { result ≡ 0 → (made : List HostDevice) × CarriesFiles store shards new_shards made }
+    ensures status { (result ≡ 0) ⊎ (result ≡ 1) }
+    ensures carried { result ≡ 0 → (made : List HostDevice) × CarriesFiles store shards new_shards made }
 {
     match carry_folder(rt, folders, store, shards, new_shards) {
         Ok(()) => tell_done(rt),
@@ -199,7 +200,9 @@ fn tell(rt: &HostRuntime, refusal: Refusal) -> u8
     FAILED
 }
 
-fn tell_done(rt: &HostRuntime) -> u8 {
+fn tell_done(rt: &HostRuntime) -> u8
+    ensures { (result ≡ 0) ⊎ (result ≡ 1) }
+{
     match println!(rt; "done") {
         Ok(()) => 0,
         Err(_) => {

@@ -6,4 +6,4 @@ pub returns-clause-tells : goal.returns-clause-tells
 returns-clause-tells g c =
     let same : c.in_ok-versions.versions.items ≡ c.deref.result.now = search rules in
     let shown : g.S.Store.shows c.learn.new.store c.args.shard (Ok c.in_ok-versions.versions) = search rules in
-    ok_then c.put.result (λ all. (c.deref.result.now, record { listed = c.in_ok-versions.versions; listed_is = same; learns = c.in_ok-learn.ensures; shown = shown }, all)) c.put.ensures.all
+    ok_then c.put.result (λ all. (c.deref.result.now, record { listed = c.in_ok-versions.versions; listed_is = same; learns = c.in_ok-learn.ensures.ok; shown = shown }, all)) c.put.ensures.all

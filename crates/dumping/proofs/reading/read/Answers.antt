@@ -6,13 +6,11 @@ use Rattle.tuples.specs.declared.request.Request.TheVariants.{Read}
 use Rattle.dumping.specs.Gathering.{Plays}
 use Rattle.dumping.proofs.reading.read.Goals as goal
 
-pub returns-in-Selected : goal.returns-in-Selected
-returns-in-Selected g c = record {
-  ok = record {
-    asked = c.in-Ok.sets;
-    told = c.in-Selected.sets;
-    asked_is = c.in-Ok.ensures;
-    told_is = refl;
-    plays = subst (λ (a : Answer). Plays g.S.Store.takes g.S.Store.nexts (Start (Read c.args.freshness c.in-Ok.sets)) c.args.store.now (Some (Ended a)) c.serve.new.store) c.in-Selected.is c.in_ok-place.ensures.ok;
-  };
+pub returns-in-Selected-clause-ok : goal.returns-in-Selected-clause-ok
+returns-in-Selected-clause-ok g c = record {
+  asked = c.in-Ok.sets;
+  told = c.in-Selected.sets;
+  asked_is = c.in-Ok.ensures;
+  told_is = refl;
+  plays = subst (λ (a : Answer). Plays g.S.Store.takes g.S.Store.nexts (Start (Read c.args.freshness c.in-Ok.sets)) c.args.store.now (Some (Ended a)) c.serve.new.store) c.in-Selected.is c.in_ok-place.ensures.ok;
 }
