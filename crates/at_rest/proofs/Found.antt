@@ -23,7 +23,7 @@ pub leaves_only : (s : State) → IsFresh s.seen s → (c : List ℕ) → left s
 leaves_only s fresh c is = leaves_nothing_else s.seen c
     (subst (λ (w : List (ℕ × ℕ)). Leaves s.seen w c) fresh.written (subst (λ (d : List ℕ). Leaves d s.written c) fresh.durable is))
 
-found_is : {D : Type 0} (state : D → State) (devices : List D) (any : D) → 2 ≤ length devices
+pub found_is : {D : Type 0} (state : D → State) (devices : List D) (any : D) → 2 ≤ length devices
     → found_coordinator state devices ≡ coordinator_state (or_none (found (state (slice_index_or devices 0 any)).seen (state (slice_index_or devices 1 any)).seen))
 found_is state [] any le = absurd (omega (arith, le))
 found_is state (a ∷ []) any le = absurd (omega (arith, le))

@@ -1,11 +1,11 @@
 -- Devices that were just opened are at rest, where one store rests of them, or where they found what a stop left of devices at rest.
-use Rattle.std.proofs.Common.{◌≡◌, ◌<◌, ◌+◌, ◌*◌, ℕ, List, [], ◌++◌, length, take, drop, Some, All, slice_index_or, refl, sym, ◌∙◌, ap, subst, arith}
+use Rattle.std.proofs.Common.{◌≡◌, ◌≤◌, ◌<◌, ◌+◌, ◌*◌, ℕ, List, [], ◌++◌, length, take, Some, All, slice_index_or, refl, sym, ◌∙◌, ap, subst, arith}
 use Rattle.std.proofs.lemmas.List.{append-nil}
 use Rattle.calls.specs.Views.{refused}
 use Rattle.device.specs.Device.{State, left}
 use Rattle.device.specs.Disk.{IsFresh}
 use Rattle.headline.specs.Promised.{devices_at}
-use Rattle.journal.specs.Records.{Finds, found}
+use Rattle.journal.specs.Records.{Finds, found, or_none}
 use Rattle.laws.specs.Machines.{Machine}
 use Rattle.laws.specs.Nodes.{coordinator, shard}
 use Rattle.laws.specs.Worlds.{Means}
@@ -21,9 +21,9 @@ use Rattle.ties.proofs.ShardOpening.{longer_lists_stay_tied}
 use Rattle.tuples.specs.declared.entry.Entry.{Entry}
 use Rattle.turns.specs.Stands.{at_shards}
 use Rattle.turns.specs.Stores.{RestsOver, stops}
-use Rattle.at_rest.specs.AtRest.{AreAtRest}
+use Rattle.at_rest.specs.AtRest.{IsAtRest, found_coordinator}
 use Rattle.at_rest.specs.RestingLaws.{AreFoundOf, AreReadable, IsFoundOf, IsJustOpened, WhatIsFoundIsAtRest, WhatRestsIsAtRest}
-use Rattle.at_rest.proofs.Found.{at_rest_with, leaves_only, leaves_seen}
+use Rattle.at_rest.proofs.Found.{at_rest_with, found_is, leaves_only, leaves_seen}
 
 module _ {D : Type 0} (state : D → State) (honest : D → Type 0) (store shards : ℕ) (any : D) (devices : List D) (m : Machine)
     (count : length devices ≡ 2 * (shards + 1)) (fresh : All (IsJustOpened state honest) devices) (rests : RestsOver state honest store shards (devices_at any devices) m) where
@@ -95,11 +95,17 @@ module _ {D : Type 0} (state : D → State) (honest : D → Type 0) (store shard
       subst (λ (i : ℕ). RowsAnywhere state honest shards k (slice_index_or devices (2 * k + 2) any) (slice_index_or devices i any) whole s.horizon) other
       (subst (λ (i : ℕ). RowsAnywhere state honest shards k (slice_index_or devices i any) (slice_index_or devices (2 * (k + 1) + 1) any) whole s.horizon) one here)
 
-  rested : AreAtRest state honest shards devices
+  known : found_coordinator state devices ≡ s
+  known = found_is state devices any (omega (arith, count)) ∙ ap (λ o. coordinator_state (or_none o)) read.1
+
+  rested : (n : ℕ) × (m.kept ≤ n) × (n ≤ length m.log) × IsAtRest state honest shards (take n m.log) devices × (m.horizon ≤ (found_coordinator state devices).horizon)
   rested = (
-    whole,
+    n,
+    (rests.rests.each read.0 is_left).1,
+    (rests.rests.each read.0 is_left).2,
     at_rest_with state honest shards devices any count read.0 whole fresh_a fresh_b read.1 (rests.sound.honest_a coordinator tt) (rests.sound.honest_b coordinator tt)
         means.decided.decisions longer rows,
+    subst (λ (c : CoordinatorState). m.horizon ≤ c.horizon) (sym known) means.decided.above,
   )
 
 pub what_rests_is_at_rest : {D : Type 0} (state : D → State) (honest : D → Type 0) → WhatRestsIsAtRest state honest
@@ -161,11 +167,15 @@ module _ {D : Type 0} (state : D → State) (honest : D → Type 0) (shards : �
         );
       }
 
-  found_at_rest : AreAtRest state honest shards news
+  knows_now : found_coordinator state news ≡ now
+  knows_now = found_is state news any (omega (arith, count, same_count)) ∙ ap (λ o. coordinator_state (or_none o)) read_anew.1
+
+  found_at_rest : (more : List Entry) × IsAtRest state honest shards (first ++ more) news × (low ≤ (found_coordinator state news).horizon)
   found_at_rest = (
-    all,
+    was_longer.more,
     at_rest_with state honest shards news any (same_count ∙ count) read_anew.0 all of_a.opened of_b.opened read_anew.1 of_a.is_honest of_b.is_honest
         was_longer.are.decisions no_longer rows_found,
+    subst (λ (c : CoordinatorState). low ≤ c.horizon) (sym knows_now) was_longer.raised,
   )
 
 pub what_is_found_is_at_rest : {D : Type 0} (state : D → State) (honest : D → Type 0) → WhatIsFoundIsAtRest state honest

@@ -21,7 +21,3 @@ pub record RestsWith {D : Type 0} (state : D → State) (honest : D → Type 0) 
 -- The devices rest at the list, as they read. Where the coordinator has forgotten nothing, as before its first checkpoint, that is the list of its decisions.
 abbrev pub IsAtRest : {D : Type 0} → (D → State) → (D → Type 0) → ℕ → List Entry → List D → Type 0
 IsAtRest state honest shards first devices = RestsWith state honest shards first devices (found_coordinator state devices)
-
--- the devices rest at some list
-abbrev pub AreAtRest : {D : Type 0} → (D → State) → (D → Type 0) → ℕ → List D → Type 0
-AreAtRest state honest shards devices = (first : List Entry) × IsAtRest state honest shards first devices

@@ -1,5 +1,5 @@
 -- When devices that were just opened are at rest: the statements of the laws.
-use Rattle.std.specs.Prelude.{◌≡◌, ◌<◌, ◌+◌, ◌*◌, ℕ, List, length, Some, All, slice_index_or}
+use Rattle.std.specs.Prelude.{◌≡◌, ◌≤◌, ◌<◌, ◌+◌, ◌*◌, ◌++◌, ℕ, List, length, take, Some, All, slice_index_or}
 use Rattle.device.specs.Device.{State, left}
 use Rattle.device.specs.Disk.{IsFresh}
 use Rattle.headline.specs.Promised.{devices_at}
@@ -9,17 +9,19 @@ use Rattle.locked.specs.Opening.{RestAt}
 use Rattle.records.specs.declared.record.Record.{Record}
 use Rattle.tuples.specs.declared.entry.Entry.{Entry}
 use Rattle.turns.specs.Stores.{RestsOver}
-use Rattle.at_rest.specs.AtRest.{AreAtRest}
+use Rattle.at_rest.specs.AtRest.{IsAtRest, found_coordinator}
 
 module _ {D : Type 0} (state : D → State) (honest : D → Type 0) where
   -- it was just opened: what it reads is durable, and nothing was written since
   abbrev pub IsJustOpened : D → Type 0
   IsJustOpened d = IsFresh (state d).seen (state d)
 
-  -- Whatever machine a closed store rests at: where all its devices were just opened, they are at rest.
+  -- Whatever machine a closed store rests at: where all its devices were just opened, they are at rest at a beginning of its list, with all that
+  -- was kept, and at no lower horizon.
   abbrev pub WhatRestsIsAtRest : Type 0
   WhatRestsIsAtRest = (store shards : ℕ) (any : D) (devices : List D) (m : Machine) → length devices ≡ 2 * (shards + 1) → All IsJustOpened devices
-      → RestsOver state honest store shards (devices_at any devices) m → AreAtRest state honest shards devices
+      → RestsOver state honest store shards (devices_at any devices) m
+      → (n : ℕ) × (m.kept ≤ n) × (n ≤ length m.log) × IsAtRest state honest shards (take n m.log) devices × (m.horizon ≤ (found_coordinator state devices).horizon)
 
   -- whatever a stop leaves of the two devices holds records
   abbrev pub AreReadable : D → D → Type 0
@@ -35,7 +37,8 @@ module _ {D : Type 0} (state : D → State) (honest : D → Type 0) where
   abbrev pub AreFoundOf : List D → List D → Type 0
   AreFoundOf olds news = (i : ℕ) (any : D) → i < length olds → IsFoundOf (slice_index_or olds i any) (slice_index_or news i any)
 
-  -- Whatever list devices rest at, with more behind it or not: where the coordinator's can be read, those that find what a stop leaves are at rest.
+  -- Whatever list devices rest at, with more behind it or not: where the coordinator's can be read, those that find what a stop leaves are at rest at that list,
+  -- with more behind it or not, and at no lower horizon.
   --
   -- A store that is served rests at its list at each moment, whatever it calls: what a stop leaves of a node within a call has the node's old records, with
   -- what was staged or without, or those of a checkpoint (`any_moment` of the calls), and by each of these a coordinator has the list from its base on
@@ -43,4 +46,5 @@ module _ {D : Type 0} (state : D → State) (honest : D → Type 0) where
   -- is the whole one still: a checkpoint moves the base, and what lies below it the shards have.
   abbrev pub WhatIsFoundIsAtRest : Type 0
   WhatIsFoundIsAtRest = (shards : ℕ) (any : D) (first : List Entry) (low : ℕ) (olds news : List D) → length olds ≡ 2 * (shards + 1) → length news ≡ length olds
-      → RestAt state honest shards first low olds → AreReadable (slice_index_or olds 0 any) (slice_index_or olds 1 any) → AreFoundOf olds news → AreAtRest state honest shards news
+      → RestAt state honest shards first low olds → AreReadable (slice_index_or olds 0 any) (slice_index_or olds 1 any) → AreFoundOf olds news
+      → (more : List Entry) × IsAtRest state honest shards (first ++ more) news × (low ≤ (found_coordinator state news).horizon)

@@ -3,14 +3,14 @@ ghost use Rattle.at_rest.specs.RestingLaws.{WhatIsFoundIsAtRest, WhatRestsIsAtRe
 
 use device::Device;
 
-/// Devices that were just opened, and of which one store rests, are at rest: so what a store leaves that was run by steps may be served, whatever its
-/// coordinator has forgotten.
+/// Devices that were just opened, and of which one store rests, are at rest at its list, or at a beginning of it that has all that was kept: so what a store
+/// leaves that was run by steps may be served, whatever its coordinator has forgotten.
 pub fn what_rests_is_at_rest<D: Device>()
     ensures { WhatRestsIsAtRest D.state D.honest }
 {}
 
-/// Where devices rest at a list, as at each moment of a store that is served, those that find what a stop left of them are at rest: so a server may be
-/// started again and again, behind checkpoints too.
+/// Where devices rest at a list, as at each moment of a store that is served, those that find what a stop left of them are at rest at that list, or at one
+/// that goes on from it: so a server may be started again and again, behind checkpoints too.
 pub fn what_is_found_is_at_rest<D: Device>()
     ensures { WhatIsFoundIsAtRest D.state D.honest }
 {}
