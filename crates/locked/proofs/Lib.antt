@@ -13,3 +13,4 @@ mod WriteTurns
 mod NoFlush
 pub mod NewDevices
 pub mod Crosses
+pub mod Shared

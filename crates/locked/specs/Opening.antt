@@ -1,5 +1,7 @@
 -- Devices over which a store may be opened: those of the coordinator, and then those of each shard, bank a before bank b.
-use Rattle.std.specs.Prelude.{◌≡◌, ◌⊎◌, ◌<◌, ◌+◌, ◌*◌, ℕ, List, [], All, length, slice_index_or}
+use Rattle.std.specs.Prelude.{◌≡◌, ◌≤◌, ◌⊎◌, ◌<◌, ◌+◌, ◌*◌, ℕ, List, [], All, length, slice_index_or}
+use mathlib.Core.List.{IsPrefix}
+use Rattle.published.specs.Known.{Known}
 use Rattle.refusal.specs.declared.refusal.Refusal.{Refusal}
 use Rattle.refusal.specs.declared.refusal.Refusal.TheVariants.{NoMemory}
 use Rattle.tuples.specs.declared.entry.Entry.{Entry}
@@ -20,6 +22,10 @@ ShardsRest {D} state honest shards first low from devices = (k : ℕ) (any : D) 
 pub record RestAt {D : Type 0} (state : D → State) (honest : D → Type 0) (shards : ℕ) (first : List Entry) (low : ℕ) (devices : List D) : Type 0 where
   pub coordinator : (any : D) → Anywhere state honest (slice_index_or devices 0 any) (slice_index_or devices 1 any) first low []
   pub each_shard : (k : ℕ) (any : D) → k < shards → RowsAnywhere state honest shards k (slice_index_or devices (2 * k + 2) any) (slice_index_or devices (2 * k + 3) any) first low
+
+-- A pass knows what was found where a store rested at the list: that list, perhaps with more behind it, and no lower horizon.
+abbrev pub HasFound : List Entry → ℕ → Known Entry → Type 0
+HasFound first low known = IsPrefix first known.seen × (low ≤ known.horizon)
 
 -- the device is honest, and nobody has written it yet
 pub record IsNew {D : Type 0} (state : D → State) (honest : D → Type 0) (d : D) : Type 0 where

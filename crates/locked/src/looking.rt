@@ -76,7 +76,7 @@ impl<D: Device, B: Room, G: Gate> Store<D, B, G> {
         Ok(())
     }
 
-    /// How far each node is, of a store that nobody asks yet. The refusal of the first shard whose opening was refused.
+    /// How far each node is, of a store that nobody asks yet: no less than its caller knows. The refusal of the first shard whose opening was refused.
     pub fn look_over<R: Wait>(
         &self,
         rt: &R,
@@ -87,6 +87,7 @@ impl<D: Device, B: Room, G: Gate> Store<D, B, G> {
         ensures caller { IsLater caller.old caller.new }
         ensures all { IfOk result (λ found. vec_len found.learned ≡ B.shards) }
         ensures known { IfOk result (λ found. (found.horizon ≤ found.latest) × (found.latest ≤ length caller.new.seen)) }
+        ensures rises { IfOk result (λ found. (caller.old.horizon ≤ found.horizon) × (length caller.old.seen ≤ found.latest)) }
         ensures refused { IfErr result (λ e. HasTold told.new e ⊎ (e ≡ AnyRefusal.NoMemory)) }
     {
         let horizon = self.horizon(caller);

@@ -3,13 +3,13 @@ ghost use Rattle.std.specs.Prelude.{◌≡◌, ◌≤◌, ◌<◌, ◌+◌, ◌*
 ghost use Rattle.std.specs.Vec.{vec_len};
 ghost use Rattle.records.specs.Identity.{max_shards};
 ghost use mathlib.Core.List.{IsPrefix};
-ghost use Rattle.locked.specs.Opening.{RefusesCoordinator, RefusesStore, RestAt, ShardsRest};
+ghost use Rattle.locked.specs.Opening.{HasFound, RefusesCoordinator, RefusesStore, RestAt, ShardsRest};
 
-use crate::{Gate, Store};
+use crate::{Caller, Gate, Store};
 use crossbeam_utils::sync::Unparker;
 use device::Device;
 use flights::{
-    ClosedShard, CoordinatorCell, CoordinatorPlace, Launch, LaunchLog, Launches, ShardCell,
+    ClosedShard, CoordinatorCell, CoordinatorPlace, Launch, LaunchLog, Launches, ShardCell, Tried,
 };
 use journal::BatchRoom;
 use published::{LogPass, Published};
@@ -64,6 +64,21 @@ fn open_coordinator<D: Device, B: Room>(
         log,
         attempts,
     )
+}
+
+// The first caller, which knows what the coordinator has found.
+fn first_caller<D: Device, B: Room>(
+    words: &Published<Entry>,
+    attempts: &Published<Attempt>,
+    coordinator: &mut CoordinatorSide<D, B>,
+) -> Caller<B>
+    requires own { (words.now ≡ B.log) × (attempts.now ≡ B.attempts) }
+    ensures same { coordinator.new ≡ coordinator.old }
+    ensures all { (result.seen ≡ coordinator.old.seen) × (result.horizon ≡ coordinator.old.low) }
+{
+    let pass = coordinator.session(words);
+    let tried = Tried::new(coordinator.attempts(attempts));
+    Caller::new(pass, tried)
 }
 
 // The next shard, which is to be opened over the next two devices. What the coordinator has found it knows.
@@ -170,8 +185,8 @@ fn open_shards<D: Device + Send, B: Room + Send, R: Threads + Sync>(
 impl<D: Device, B: Room, G: Gate> Store<D, B, G> {
     /// Opens the store with this id and of 1 to 64 shards over its devices: those of the coordinator, and then those of each shard, by rising number, bank a
     /// before bank b. Where they rest at a list, all that is said of the list is said of that one and of what joins it. A shard whose opening is refused
-    /// holds that refusal, and can be restarted; that of the coordinator's opening, or `NoMemory`, refuses the store. Whoever tends the store is woken by the
-    /// bell. The attempts name the decisions that its coordinator stages, and the launches the flights of its nodes, so that a flush holds no lock while devices sync.
+    /// holds that refusal, and can be restarted; that of the coordinator's opening, or `NoMemory`, refuses the store. With it comes a first caller, which knows
+    /// what was found, and can tell the others. Whoever tends the store is woken by the bell. The attempts name the decisions that its coordinator stages, and the launches the flights of its nodes, so that a flush holds no lock while devices sync.
     /// Shards are opened side by side.
     pub fn open<R: Threads + Sync>(
         rt: &R,
@@ -185,7 +200,7 @@ impl<D: Device, B: Room, G: Gate> Store<D, B, G> {
         mut devices: Vec<D>,
         store: u64,
         shards: u8,
-    ) -> Result<Store<D, B, G>, Refusal>
+    ) -> Result<(Store<D, B, G>, Caller<B>), Refusal>
     where
         D: Send,
         B: Send,
@@ -199,10 +214,12 @@ impl<D: Device, B: Room, G: Gate> Store<D, B, G> {
         requires count { vec_len devices ≡ 2 * (shards + 1) }
         requires honest { All D.honest devices.items }
         requires rests { B.rests → RestAt D.state D.honest B.shards B.first B.low devices.items }
-        ensures { IfErr result (RefusesStore D.state D.honest D.moment D.left_since B.store B.shards devices.items) }
+        ensures found { IfOk result (λ opened. B.rests → HasFound B.first B.low opened.1) }
+        ensures refused { IfErr result (RefusesStore D.state D.honest D.moment D.left_since B.store B.shards devices.items) }
     {
         let (attempts, tried) = attempts.into_parts();
         let mut side = open_coordinator(alloc, &words, log, tried, store, shards, &mut devices)?;
+        let caller = first_caller(&words, &attempts, &mut side);
         let (launches, mut launch_log) = launches.into_parts();
         let closed = closed_shards(
             alloc,
@@ -216,7 +233,7 @@ impl<D: Device, B: Room, G: Gate> Store<D, B, G> {
         )?;
         let coordinator = coordinator_cell(alloc, &launches, &mut launch_log, side)?;
         let cells = open_shards(rt, closed)?;
-        Ok(Store::new(
+        let store = Store::new(
             gate,
             bell,
             words,
@@ -226,6 +243,7 @@ impl<D: Device, B: Room, G: Gate> Store<D, B, G> {
             coordinator,
             cells,
             shards,
-        ))
+        );
+        Ok((store, caller))
     }
 }

@@ -206,7 +206,9 @@ where
         settings.store,
         settings.shards,
     ) {
-        Ok(store) => serve_store(rt, alloc, &store, parker, settings, progress, began),
+        Ok((store, first)) => serve_store(
+            rt, alloc, &store, first, parker, settings, progress, began,
+        ),
         Err(refusal) => tell(rt, &Fault::Refused(refusal)),
     }
 }

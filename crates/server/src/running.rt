@@ -1,6 +1,7 @@
 // An open store is looked over, and served while it is tended.
 ghost use Rattle.locked.specs.Looking.{AreOfOneStore};
-ghost use Rattle.std.specs.Prelude.{◌≡◌, ◌⊎◌, ◌≤◌, None, Some, IfErr, IfOk, vec_len};
+ghost use Rattle.locked.specs.Opening.{HasFound};
+ghost use Rattle.std.specs.Prelude.{◌≡◌, ◌⊎◌, ◌≤◌, None, Some, All, IfErr, IfOk, length, vec_len};
 
 use crate::down::DownLines;
 use crate::fault::{Fault, tell};
@@ -10,7 +11,7 @@ use crate::start::{Start, tell_start};
 use calls::Told;
 use crossbeam_utils::sync::Parker;
 use device::Device;
-use locked::{Gate, LookedOver, Store};
+use locked::{Caller, Gate, LookedOver, Store};
 use serving::{Begun, Serving, serve_on};
 use settings::ServeSettings;
 use sides::Room;
@@ -24,11 +25,12 @@ use std::time::{Clock, Instant};
 use store_sessions::StoreSession;
 use tuples::Refusal;
 
-/// Looks the store over that was begun to be opened then, binds the address, and serves. The status.
+/// Looks the store over that was begun to be opened then, binds the address, and serves. Its first caller knows what was found in its devices. The status.
 pub(crate) fn serve_store<D: Device + Send, B: Room + Send + Sync, G: Gate + Sync, R>(
     rt: &R,
     alloc: Global,
     store: &Store<D, B, G>,
+    mut first: Caller<B>,
     parker: Parker,
     settings: &ServeSettings,
     progress: &Progress,
@@ -36,15 +38,16 @@ pub(crate) fn serve_store<D: Device + Send, B: Room + Send + Sync, G: Gate + Syn
 ) -> u8
 where
     R: Runtime + Net<Listener = TcpListener, Stream = TcpStream> + Threads + Wait + Sync,
+    requires found { B.rests → HasFound B.first B.low first }
     ensures { (result ≡ 0) ⊎ (result ≡ 1) }
 {
-    match start(rt, alloc, store, settings) {
+    match start(rt, alloc, store, &mut first, settings) {
         Ok(start) => {
             progress.end();
             tell_start(rt, settings, &start, began);
             ended(
                 rt,
-                serve_at(rt, alloc, store, parker, settings, &start.listener),
+                serve_at(rt, alloc, store, &mut first, parker, settings, &start),
             )
         }
         Err(fault) => tell(rt, &fault),
@@ -56,14 +59,18 @@ fn start<D: Device, B: Room, G: Gate, R>(
     rt: &R,
     alloc: Global,
     store: &Store<D, B, G>,
+    first: &mut Caller<B>,
     settings: &ServeSettings,
 ) -> Result<Start, Fault>
 where
     R: Net<Listener = TcpListener, Stream = TcpStream> + Wait,
+    requires found { B.rests → HasFound B.first B.low first.old }
+    ensures found { B.rests → HasFound B.first B.low first.new }
+    ensures reaches { IfOk result (λ start. B.rests → (B.low ≤ start.found.horizon) × (length B.first ≤ start.found.latest)) }
     ensures one_store { IfOk result (λ start. AreOfOneStore start.found.horizon start.found.latest start.found.learned.items) }
     ensures each_shard { IfOk result (λ start. vec_len start.found.learned ≡ B.shards) }
 {
-    let found = looked_over(rt, alloc, store)?;
+    let found = looked_over(rt, alloc, store, first)?;
     match TcpListener::bind(rt, settings.listen.as_str()) {
         Ok(listener) => Ok(Start { listener, found }),
         Err(_) => Err(Fault::Listen),
@@ -75,12 +82,15 @@ fn looked_over<D: Device, B: Room, G: Gate, R: Wait>(
     rt: &R,
     alloc: Global,
     store: &Store<D, B, G>,
+    first: &mut Caller<B>,
 ) -> Result<LookedOver, Fault>
+    requires found { B.rests → HasFound B.first B.low first.old }
+    ensures found { B.rests → HasFound B.first B.low first.new }
+    ensures reaches { IfOk result (λ found. B.rests → (B.low ≤ found.horizon) × (length B.first ≤ found.latest)) }
     ensures one_store { IfOk result (λ found. AreOfOneStore found.horizon found.latest found.learned.items) }
     ensures each_shard { IfOk result (λ found. vec_len found.learned ≡ B.shards) }
 {
-    let mut caller = store.session(rt);
-    let found = match store.look_over(rt, alloc, &mut caller, &mut Told::new()) {
+    let found = match store.look_over(rt, alloc, first, &mut Told::new()) {
         Ok(found) => found,
         Err(refusal) => return Err(Fault::Refused(refusal)),
     };
@@ -101,19 +111,37 @@ fn ended(rt: &impl Eprint, served: io::Result<()>) -> u8
     }
 }
 
-// A session for each worker.
+// A new caller, which knows what the first one does.
+fn later_caller<D: Device, B: Room, G: Gate, R: Wait>(
+    rt: &R,
+    store: &Store<D, B, G>,
+    first: &mut Caller<B>,
+) -> Caller<B>
+    requires found { B.rests → HasFound B.first B.low first.old }
+    ensures found { B.rests → HasFound B.first B.low first.new }
+    ensures told { B.rests → HasFound B.first B.low result }
+{
+    let mut caller = store.session(rt);
+    store.tell(first, &mut caller);
+    caller
+}
+
+// A session for each worker, each of which answers of what was found and of what joins it.
 fn sessions<'a, D: Device, B: Room, G: Gate, R: Wait>(
     rt: &'a R,
     alloc: Global,
     store: &'a Store<D, B, G>,
+    first: &mut Caller<B>,
     workers: u8,
 ) -> Result<Vec<StoreSession<'a, D, B, G, R>>, AllocError>
-    ensures { IfOk result (λ made. vec_len made ≡ workers) }
+    requires found { B.rests → HasFound B.first B.low first.old }
+    ensures count { IfOk result (λ made. vec_len made ≡ workers) }
+    ensures told { IfOk result (λ made. All (λ session. B.rests → HasFound B.first B.low session) made.items) }
 {
     let mut sessions = Vec::new(alloc);
     for _ in 0..workers {
         sessions.reserve(1)?;
-        let caller = store.session(rt);
+        let caller = later_caller(rt, store, first);
         sessions.push_reserved(StoreSession::new(rt, alloc, store, caller));
     }
     Ok(sessions)
@@ -142,14 +170,18 @@ fn serve_at<D: Device + Send, B: Room + Send + Sync, G: Gate + Sync, R>(
     rt: &R,
     alloc: Global,
     store: &Store<D, B, G>,
+    first: &mut Caller<B>,
     parker: Parker,
     settings: &ServeSettings,
-    listener: &TcpListener,
+    start: &Start,
 ) -> io::Result<()>
 where
     R: Runtime + Threads + Wait + Clock + Sync,
+    requires found { B.rests → HasFound B.first B.low first.old }
+    requires one_store { AreOfOneStore start.now.found.horizon start.now.found.latest start.now.found.learned.items }
 {
-    let sessions = sessions(rt, alloc, store, settings.workers)?;
+    let sessions = sessions(rt, alloc, store, first, settings.workers)?;
+    let listener = &start.listener;
     let serving = serving_of(settings);
     let window = settings.window;
     let mut keeper = store.session(rt);

@@ -63,8 +63,7 @@ impl<'a, D: Device, B: Room, G: Gate, R: Wait> Answers for StoreSession<'a, D, B
         {
             WriteEnd::Wrote(place) => Ok(Written { place }),
             WriteEnd::Refused(refusal) => Err(refusal),
-            // Nobody cancels it.
-            WriteEnd::Cancelled => Err(Refusal::Aborted),
+            WriteEnd::Cancelled => unreachable!(),
         }
     }
 

@@ -80,8 +80,7 @@ impl<B: Room> Worker<B> {
         match end {
             WriteEnd::Wrote(place) => self.push_told(b" wrote ", place),
             WriteEnd::Refused(refusal) => self.push_refused(refusal, b" write"),
-            // Nobody cancels a write: the judge refuses the line.
-            WriteEnd::Cancelled => self.page.push(b" cancelled"),
+            WriteEnd::Cancelled => unreachable!(),
         }
         self.page.push(self.draft.bytes());
         self.page.push(b"\n");

@@ -113,7 +113,7 @@ fn run_over<D: Device + Send, B: Room + Send + Sync, R: Runtime + Threads + Wait
         STORE,
         SHARDS,
     ) {
-        Ok(store) => run_asked(rt, alloc, &store, parker, meeting, asked),
+        Ok((store, _first)) => run_asked(rt, alloc, &store, parker, meeting, asked),
         Err(_) => FAILED,
     }
 }

@@ -44,8 +44,7 @@ pub(crate) fn write<D: Device, B: Room, G: Gate, R: Wait>(
     match store.write(rt, alloc, caller, &mut Told::new(), write) {
         WriteEnd::Wrote(place) => Ok(place),
         WriteEnd::Refused(refusal) => Err(refusal),
-        // Nobody cancels it.
-        WriteEnd::Cancelled => Err(Refusal::Aborted),
+        WriteEnd::Cancelled => unreachable!(),
     }
 }
 

@@ -4,7 +4,7 @@ use Rattle.std.proofs.MapsCrossing.{crosses as maps_cross}
 use Rattle.std.proofs.MapsCrossingOver.{crosses as sets_cross}
 use Rattle.atomic_table.proofs.shared.Seat.TheSendSync as seat
 use Rattle.atomic_table.proofs.shared.Shared.TheSendSync as shared
-use Rattle.threads_run.proofs.Crosses.{caller_send, lease_send, lease_sync, store_sync}
+use Rattle.locked.proofs.Shared.{caller_send, lease_send, lease_sync, store_sync}
 use Rattle.threads_run.proofs.two_callers.a_writes.Goals as goal
 
 pub join-place-requires-send-F : goal.join-place-requires-send-F

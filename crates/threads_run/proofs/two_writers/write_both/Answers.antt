@@ -4,7 +4,7 @@ use Rattle.std.proofs.MapsCrossing.{crosses as maps_cross}
 use Rattle.std.proofs.MapsCrossingOver.{crosses as sets_cross}
 use Rattle.atomic_table.proofs.shared.Seat.TheSendSync as seat
 use Rattle.atomic_table.proofs.shared.Shared.TheSendSync as shared
-use Rattle.threads_run.proofs.Crosses.{caller_send, lease_send, lease_sync, store_sync}
+use Rattle.locked.proofs.Shared.{caller_send, lease_send, lease_sync, store_sync}
 use Rattle.threads_run.proofs.two_writers.write_both.Goals as goal
 
 pub join-one-requires-send-F : goal.join-one-requires-send-F
