@@ -88,7 +88,7 @@ impl<D: Device, B: Room, G: Gate> Store<D, B, G> {
         self.count
     }
 
-    /// A new caller, which has seen all that there is; what of that contracts see another caller has to tell it (`tell`).
+    /// A new caller, which has seen all that there is. No clause says so: what it is to know by contract, another caller has to `tell` it.
     pub fn session<R: Wait>(&self, rt: &R) -> Caller<B> {
         let mut place = self.coordinator.lock(rt);
         let pass = place.session(&self.words);
