@@ -18,7 +18,7 @@ Image = namedtuple("Image", "node store shards a b")
 
 
 def scripts_program():
-    return os.environ.get("FILE_SCRIPTS", os.path.join(TOP, "crates", "file_scripts", "out", "file_scripts"))
+    return os.environ.get("SCRIPT_RUNS", os.path.join(TOP, "crates", "script_runs", "out", "script_runs"))
 
 
 def few_shards(count):
@@ -27,11 +27,11 @@ def few_shards(count):
 
 
 def run(folder, maker, lines):
-    words = [scripts_program(), folder, str(maker.store), str(maker.shards)]
+    words = [scripts_program(), "files", folder, str(maker.store), str(maker.shards)]
     given = "".join(line + "\n" for line in lines).encode()
     ran = subprocess.run(words, input=given, stdout=subprocess.PIPE, stderr=subprocess.DEVNULL, timeout=60)
     if ran.returncode:
-        raise SystemExit(f"file_scripts ended with status {ran.returncode}")
+        raise SystemExit(f"script_runs ended with status {ran.returncode}")
 
 
 def real_images(seed):

@@ -22,7 +22,7 @@ Pace = namedtuple("Pace", "opening write")
 
 
 def program():
-    return os.environ.get("FILE_SCRIPTS", os.path.join(TOP, "crates", "file_scripts", "out", "file_scripts"))
+    return os.environ.get("SCRIPT_RUNS", os.path.join(TOP, "crates", "script_runs", "out", "script_runs"))
 
 
 class Running:
@@ -32,7 +32,7 @@ class Running:
         with tempfile.TemporaryFile() as given:
             given.write("".join(line + "\n" for line in lines).encode())
             given.seek(0)
-            words = [program(), folder, str(STORE), str(SHARDS)]
+            words = [program(), "files", folder, str(STORE), str(SHARDS)]
             self.child = subprocess.Popen(words, stdin=given, stdout=subprocess.PIPE, stderr=subprocess.DEVNULL)
         self.told = []
         self.is_late = False

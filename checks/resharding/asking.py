@@ -14,7 +14,7 @@ def program():
 
 
 def scripts():
-    return os.environ.get("FILE_SCRIPTS", os.path.join(TOP, "crates", "file_scripts", "out", "file_scripts"))
+    return os.environ.get("SCRIPT_RUNS", os.path.join(TOP, "crates", "script_runs", "out", "script_runs"))
 
 
 def token(place, store=1):
@@ -34,7 +34,7 @@ def fault(text):
 def script(folder, shards, *lines, limit=LIMIT):
     """What the script prints, line by line."""
     given = "".join(line + "\n" for line in lines)
-    ran = subprocess.run([scripts(), folder, "1", str(shards)], input=given, capture_output=True, text=True, timeout=limit)
+    ran = subprocess.run([scripts(), "files", folder, "1", str(shards)], input=given, capture_output=True, text=True, timeout=limit)
     must(ran.returncode, 0, "the script")
     return ran.stdout.split("\n")[:-1]
 

@@ -47,7 +47,7 @@ Run = namedtuple("Run", "carried came fault")
 
 
 def program():
-    return os.environ.get("CARRIED_SCRIPTS", os.path.join(TOP, "crates", "carried_scripts", "out", "carried_scripts"))
+    return os.environ.get("SCRIPT_RUNS", os.path.join(TOP, "crates", "script_runs", "out", "script_runs"))
 
 
 def lines():
@@ -56,7 +56,7 @@ def lines():
 
 
 def printed_by(disk, call, byte):
-    words = [program(), str(disk), str(call), str(byte)]
+    words = [program(), "failing", str(disk), str(call), str(byte)]
     ran = subprocess.run(words, input="".join(line + "\n" for line in lines()), capture_output=True, text=True, timeout=LIMIT)
     if ran.returncode != 0:
         raise ValueError(f"the program ended with status {ran.returncode}")
@@ -101,7 +101,7 @@ def is_down_at_first(disk, call, byte):
     """Whether a node of the new store was not opened: it refuses the first line that asks it."""
     node = ("c", "0", "1", "2")[disk // 2]
     asked = [line for line, _ in BEFORE] + [f"reshard {SHARDS}", f"flush {node}"]
-    words = [program(), str(disk), str(call), str(byte)]
+    words = [program(), "failing", str(disk), str(call), str(byte)]
     ran = subprocess.run(words, input="".join(line + "\n" for line in asked), capture_output=True, text=True, timeout=LIMIT)
     return ran.stdout.splitlines()[-1:] == [DOWN]
 

@@ -1,5 +1,5 @@
 // Empty disks, one of which is set to fail.
-use crate::asked::Asked;
+use crate::asked::OneFails;
 use device::{Device, SimDisk, Tear};
 use scripts::Supply;
 use std::alloc::{AllocError, Global};
@@ -7,12 +7,12 @@ use std::alloc::{AllocError, Global};
 /// Empty disks in memory, each of which knows its number by how many were given before it.
 #[derive(Drop)]
 pub(crate) struct Failing {
-    asked: Asked,
+    asked: OneFails,
     given: u64,
 }
 
 impl Failing {
-    pub(crate) fn new(asked: Asked) -> Failing {
+    pub(crate) fn new(asked: OneFails) -> Failing {
         Failing { asked, given: 0 }
     }
 }
