@@ -16,7 +16,7 @@ use Rattle.tuples.specs.Reads.{AreAscending, same_name}
 use Rattle.tuples.specs.Walking.{IsCheckSelection, is_set, meets_check}
 use Rattle.tuples.proofs.Ordered.{object_total, tuple_eq_refl}
 use Rattle.tuples.proofs.Same.{object_same, name_same, tuple_same}
-use Rattle.versions.specs.Rows.{IsPicked, is_set_of}
+use Rattle.versions.specs.Rows.{IsPicked, is_one_of, is_own_or_set, is_set_of}
 use Rattle.versions.proofs.Selected.{picked_any, picked_of}
 
 -- ---- the test of a check
@@ -88,7 +88,7 @@ found_sets true s h is = ap (λ (b : Bool). s && b) (is refl) ∙ and_false s �
     and_false false = refl
 found_sets false s h is = refl
 
-selection_from : (there : Tuple → Bool) (x : Userset) (u : User) (rows : List Tuple) → IsPicked there (meets_check x u) rows → IsCheckSelection there x u rows
+pub selection_from : (there : Tuple → Bool) (x : Userset) (u : User) (rows : List Tuple) → IsPicked there (meets_check x u) rows → IsCheckSelection there x u rows
 selection_from there x u rows picked = record { ascending = picked.ascending; exact = picked.exact }
 
 pub of_user : (there : Tuple → Bool) (x : Userset) (i : List ℕ) (rows : List Tuple) → IsPicked there (is_set_of x) rows
@@ -108,3 +108,21 @@ of_user there x i rows picked =
           ∙ found_sets (tuple_eq t h) (is_set_of x t) (there t) (λ same. ap there (tuple_same t h same) ∙ gone)
           ∙ ap (λ (b : Bool). b && there t) (sym (either x (Id i) t)))))
     ]
+
+-- ---- the test, once the tuple is known to be of the userset
+
+asked_then : (a b c : Bool) → (a && b) ≡ true → (a && (b && c)) ≡ c
+asked_then true true c is = refl
+asked_then true false c is = absurd cc
+asked_then false b c is = absurd cc
+
+pub asked_of : (x : Userset) (u : User) (t : Tuple) → is_one_of x t ≡ true → meets_check x u t ≡ is_own_or_set u t
+asked_of x u t is = asked_then (is_eq (object_cmp t.object x.object)) (same_name t.relation x.relation) (is_own_or_set u t) is
+
+unasked_then : (a b c : Bool) → (a && b) ≡ false → (a && (b && c)) ≡ false
+unasked_then true true c out = absurd cc
+unasked_then true false c out = refl
+unasked_then false b c out = refl
+
+pub unasked_of : (x : Userset) (u : User) (t : Tuple) → is_one_of x t ≡ false → meets_check x u t ≡ false
+unasked_of x u t out = unasked_then (is_eq (object_cmp t.object x.object)) (same_name t.relation x.relation) (is_own_or_set u t) out

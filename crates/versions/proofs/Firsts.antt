@@ -1,5 +1,5 @@
 -- Where the tuples of an object begin, in the order of tuples.
-use Rattle.std.proofs.Common.{◌≡◌, ℕ, Bool, true, false, ◌&&◌, nat_le, List, [], ◌∷◌, Option, None, Some, refl, sym, ap, subst, ◌∙◌, arith}
+use Rattle.std.proofs.Common.{◌≡◌, ℕ, Bool, true, false, ◌&&◌, ◌||◌, nat_le, List, [], ◌∷◌, Option, None, Some, refl, sym, ap, subst, ◌∙◌, arith}
 use Rattle.std.specs.Ordering.{is_eq, is_le, nat_cmp, ordering_reverse, ordering_then}
 use Rattle.std.specs.List.{list_all}
 use Rattle.std.specs.declared.cmp.Ordering.{Ordering}
@@ -15,12 +15,13 @@ use Rattle.tuples.specs.declared.user.User.TheVariants.{Id, Set}
 use Rattle.tuples.specs.Names.{IsId, IsName, is_id_byte, is_name_byte}
 use Rattle.tuples.specs.Order.{name_cmp, object_cmp, tuple_cmp, user_cmp, userset_cmp}
 use Rattle.tuples.specs.Reads.{has_relation, meets, same_name}
-use Rattle.tuples.specs.Walking.{is_set}
+use Rattle.tuples.specs.Checking.{holding}
+use Rattle.tuples.specs.Walking.{is_set, meets_check}
 use Rattle.tuples.specs.Texts.{IsUser, IsUserset}
 use Rattle.tuples.proofs.Ordered.{object_total, tuple_total, user_total}
 use Rattle.tuples.proofs.Same.{name_same, object_same, tuple_same, user_same}
 use Rattle.versions.specs.Index.{IsFirstOf, by_user_cmp}
-use Rattle.versions.specs.Rows.{IsFirst, first_relation, is_set_of, lowest_userset}
+use Rattle.versions.specs.Rows.{IsFirst, first_relation, is_one_of, is_set_of, lowest_userset}
 
 -- ---- orders
 
@@ -202,6 +203,49 @@ set_first_is x = record {
       (joined (same_name t.relation x.relation) (is_set t.user) relation
       (user_is_set t.user (le_next (name_cmp x.relation t.relation) (user_cmp (Set lowest_userset) t.user) after rest)));
 }
+
+-- ---- the tuple of a plain user, and those that a check asks for
+
+user_low : (u v : User) → is_set u ≡ false → (is_eq (user_cmp v u) || is_set v) ≡ true → is_le (user_cmp u v) ≡ true
+user_low (Id i) (Id j) plain own = eq_le (name_cmp i j) (eq_back (name_cmp i j) (name_cmp j i) (nat_list_cmp_total.antisymm i j) (or_false (is_eq (name_cmp j i)) own))
+  where
+    or_false : (b : Bool) → (b || false) ≡ true → b ≡ true
+    or_false true h = refl
+    or_false false h = h
+user_low (Id i) (Set y) plain own = refl
+user_low (Set x) v plain own = absurd cc
+
+-- none of them stands before that of the user
+pub check_before : (x : Userset) (u : User) → is_set u ≡ false → (t : Tuple) → meets_check x u t ≡ true → is_le (tuple_cmp (holding x u) t) ≡ true
+check_before x u plain t has =
+    let parts = both (is_eq (object_cmp t.object x.object)) (same_name t.relation x.relation && (is_eq (user_cmp t.user u) || is_set t.user)) has in
+    let more = both (same_name t.relation x.relation) (is_eq (user_cmp t.user u) || is_set t.user) parts.1 in
+    le_then (object_cmp x.object t.object) (ordering_then (name_cmp x.relation t.relation) (user_cmp u t.user))
+    (eq_le (object_cmp x.object t.object) (eq_back (object_cmp x.object t.object) (object_cmp t.object x.object) (object_total.antisymm x.object t.object) parts.0))
+    (le_then (name_cmp x.relation t.relation) (user_cmp u t.user)
+    (eq_le (name_cmp x.relation t.relation) (eq_back (name_cmp x.relation t.relation) (name_cmp t.relation x.relation) (nat_list_cmp_total.antisymm x.relation t.relation) more.0))
+    (user_low u t.user plain more.1))
+
+-- what stands between that of the user and one of them is of the userset
+pub check_within : (x : Userset) (u : User) (t v : Tuple) → is_le (tuple_cmp (holding x u) t) ≡ true → tuple_cmp t v ≡ Less → meets_check x u v ≡ true → is_one_of x t ≡ true
+check_within x u t v low less has =
+    let parts = both (is_eq (object_cmp v.object x.object)) (same_name v.relation x.relation && (is_eq (user_cmp v.user u) || is_set v.user)) has in
+    let more = both (same_name v.relation x.relation) (is_eq (user_cmp v.user u) || is_set v.user) parts.1 in
+    let high : is_le (tuple_cmp t v) ≡ true = less_le (tuple_cmp t v) less in
+    let object : is_eq (object_cmp t.object x.object) ≡ true =
+    same_object x.object t v (le_first (object_cmp x.object t.object) (ordering_then (name_cmp x.relation t.relation) (user_cmp u t.user)) low)
+    (le_first (object_cmp t.object v.object) (ordering_then (name_cmp t.relation v.relation) (user_cmp t.user v.user)) high) parts.0
+    in
+    let from : is_eq (object_cmp x.object t.object) ≡ true = eq_back (object_cmp x.object t.object) (object_cmp t.object x.object) (object_total.antisymm x.object t.object) object in
+    let to : is_eq (object_cmp t.object v.object) ≡ true = ap (λ (o : Object). is_eq (object_cmp t.object o)) (object_same v.object x.object parts.0) ∙ object in
+    let relation : same_name t.relation x.relation ≡ true =
+    same_relation (Some x.relation) t v
+    (le_first (name_cmp x.relation t.relation) (user_cmp u t.user)
+    (le_next (object_cmp x.object t.object) (ordering_then (name_cmp x.relation t.relation) (user_cmp u t.user)) from low))
+    (le_first (name_cmp t.relation v.relation) (user_cmp t.user v.user)
+    (le_next (object_cmp t.object v.object) (ordering_then (name_cmp t.relation v.relation) (user_cmp t.user v.user)) to high)) more.0
+    in
+    joined (is_eq (object_cmp t.object x.object)) (same_name t.relation x.relation) object relation
 
 -- ---- the first tuple of a namespace that names a user
 

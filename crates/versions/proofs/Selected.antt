@@ -219,3 +219,25 @@ keeps_first place q t h es has there = rw has (rw there refl)
 
 pub skips_first : (place : ℕ) (q : Tuple → Bool) (t : Tuple) (h : Vec Row) (es : Entries) → there_at (versions_of t h.items) place t ≡ false → kept_of place q ((t, h) ∷ es) ≡ kept_of place q es
 skips_first place q t h es gone = ap (λ (b : Bool). cond (q t && b) (t ∷ kept_of place q es) (kept_of place q es)) gone ∙ ap (λ (b : Bool). cond b (t ∷ kept_of place q es) (kept_of place q es)) (and_false (q t))
+
+-- a walk that goes past those that miss the test, as long as another one is passed
+
+none_beyond : (place : ℕ) (q p : Tuple → Bool) (first t : Tuple) → ((v u : Tuple) → is_le (tuple_cmp first v) ≡ true → tuple_cmp v u ≡ Less → q u ≡ true → p v ≡ true) → is_le (tuple_cmp first t) ≡ true → p t ≡ false → (es : Entries) → AllByRecursion (λ y. ghosts.cmp t y ≡ Less) (keys_of es) → kept_of place q es ≡ []
+none_beyond place q p first t within low out [] above = refl
+none_beyond place q p first t within low out ((u, h) ∷ es) above =
+    ap (λ (b : Bool). cond (b && there_at (versions_of u h.items) place u) (u ∷ kept_of place q es) (kept_of place q es)) (missed (q u) (within t u low (sym (same_order t u) ∙ above.0)))
+    ∙ none_beyond place q p first t within low out es above.1
+  where
+    missed : (m : Bool) → (m ≡ true → p t ≡ true) → m ≡ false
+    missed true implies = sym (implies refl) ∙ out
+    missed false implies = refl
+
+-- behind one that does not pass the wider test none passes the other
+pub none_past : (place : ℕ) (q p : Tuple → Bool) (first t : Tuple) (h : Vec Row) (es : Entries) → ((v u : Tuple) → is_le (tuple_cmp first v) ≡ true → tuple_cmp v u ≡ Less → q u ≡ true → p v ≡ true) → q t ≡ false → IsWalk first ((t, h) ∷ es) → p t ≡ false → kept_of place q ((t, h) ∷ es) ≡ []
+unfolding IsStrictlySortedBy
+none_past place q p first t h es within misses walk out =
+    ap (λ (b : Bool). cond (b && there_at (versions_of t h.items) place t) (t ∷ kept_of place q es) (kept_of place q es)) misses
+    ∙ none_beyond place q p first t within walk.above.0 out es walk.in_order.0
+
+pub passes_first : (place : ℕ) (q : Tuple → Bool) (t : Tuple) (h : Vec Row) (es : Entries) → q t ≡ false → kept_of place q ((t, h) ∷ es) ≡ kept_of place q es
+passes_first place q t h es misses = ap (λ (b : Bool). cond (b && there_at (versions_of t h.items) place t) (t ∷ kept_of place q es) (kept_of place q es)) misses

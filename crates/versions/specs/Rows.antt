@@ -12,10 +12,11 @@ use Rattle.tuples.specs.declared.change.Change.{Change}
 use Rattle.tuples.specs.declared.change.Change.TheVariants.{Touch, Delete}
 use Rattle.tuples.specs.declared.tuple.Tuple.{Tuple}
 use Rattle.tuples.specs.declared.object.Userset.{Userset}
+use Rattle.tuples.specs.declared.user.User.{User}
 use Rattle.tuples.specs.declared.version.Version.{Version}
 use Rattle.tuples.specs.contracts.tuple.TupleOrd.TheImpl.{ghosts}
 use Rattle.tuples.specs.Changes.{tuple_of}
-use Rattle.tuples.specs.Order.{object_cmp, tuple_cmp}
+use Rattle.tuples.specs.Order.{object_cmp, tuple_cmp, user_cmp}
 use Rattle.tuples.specs.Reads.{AreAscending, same_name}
 use Rattle.tuples.specs.Walking.{is_set}
 use Rattle.tuples.specs.Texts.{IsTuple}
@@ -59,6 +60,14 @@ pub record IsPicked (there test : Tuple → Bool) (rows : List Tuple) : Type 0 w
 pub record IsFirst (test : Tuple → Bool) (first : Tuple) : Type 0 where
   pub before : (t : Tuple) → IsTuple t → test t ≡ true → is_le (tuple_cmp first t) ≡ true
   pub within : (t u : Tuple) → is_le (tuple_cmp first t) ≡ true → tuple_cmp t u ≡ Less → test u ≡ true → test t ≡ true
+
+-- the tuple is one of the userset
+abbrev pub is_one_of : Userset → Tuple → Bool
+is_one_of x t = is_eq (object_cmp t.object x.object) && same_name t.relation x.relation
+
+-- its user is this one, or a userset
+abbrev pub is_own_or_set : User → Tuple → Bool
+is_own_or_set u t = is_eq (user_cmp t.user u) || is_set t.user
 
 -- the tuple is one of the userset, and its user is a userset
 abbrev pub is_set_of : Userset → Tuple → Bool

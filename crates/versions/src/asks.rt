@@ -2,6 +2,7 @@
 ghost use Rattle.std.specs.Prelude.{◌≡◌};
 ghost use Rattle.tuples.specs.Reads.{has_relation};
 ghost use Rattle.tuples.specs.Walking.{is_set as is_userset};
+ghost use Rattle.versions.specs.Rows.{is_one_of, is_own_or_set};
 
 use tuples::{Relation, Tuple, Tupleset, User, Userset};
 
@@ -59,6 +60,22 @@ pub(crate) fn has_given(relation: &Option<Relation>, tuple: &Tuple) -> bool
         Some(relation) => tuple.relation == *relation,
         None => true,
     }
+}
+
+/// Whether the tuple is one of the userset.
+#[tactic(auto, using(crate::proofs::Equal::same_relation, crate::proofs::Equal::same_object))]
+pub(crate) fn is_of(userset: &Userset, tuple: &Tuple) -> bool
+    ensures { result ≡ is_one_of userset.now tuple.now }
+{
+    tuple.object == userset.object && tuple.relation == userset.relation
+}
+
+/// Whether a check of the user asks for the tuple, where it is one of the userset.
+#[tactic(auto, using(crate::proofs::Equal::same_user))]
+pub(crate) fn is_asked(user: &User, tuple: &Tuple) -> bool
+    ensures { result ≡ is_own_or_set user.now tuple.now }
+{
+    tuple.user == *user || is_set(&tuple.user)
 }
 
 fn is_set(user: &User) -> bool

@@ -1,22 +1,81 @@
 // What a check asks of a userset: whether it holds the user, and which usersets it holds.
-ghost use Rattle.std.specs.Prelude.{◌≡◌, ◌∷◌, IfOk, if◌then◌else◌};
+ghost use Rattle.std.specs.Prelude.{◌≡◌, ◌∷◌, false, IfOk, IfSome, if◌then◌else◌};
 ghost use Rattle.tuples.specs.Checking.{holding as holding_of};
 ghost use Rattle.tuples.specs.Versions.{there_at};
-ghost use Rattle.tuples.specs.Walking.{IsCheckSelection};
+ghost use Rattle.tuples.specs.Walking.{IsCheckSelection, is_set as is_userset};
 ghost use Rattle.versions.specs.Rows.{IsTable, listed};
 
 use crate::Steps;
+use crate::asks::{is_asked, is_of};
 use crate::first::first_set_of;
 use crate::history::{Row, is_there_at};
 use crate::kept::kept_from;
-use crate::table::rows_of;
+use crate::table::{copy, rows_of};
 use std::alloc::{AllocError, Global};
 use std::collections::BTreeMap;
 use std::sync::ledger::Ledger;
 use tuples::{Tuple, User, Userset};
 
+// How many other plain users are passed from the user on before the first userset is searched for.
+const MOST_PASSED: u8 = 16;
+
 /// Copies of the tuples that are there at a place and by which the userset holds the user or a userset, ascending.
 pub(crate) fn asked_at<L: Ledger>(
+    table: &BTreeMap<Tuple, Vec<Row>>,
+    alloc: Global,
+    place: u64,
+    userset: &Userset,
+    user: &User,
+    steps: &mut Steps<L>,
+) -> Result<Vec<Tuple>, AllocError>
+    requires { IsTable table.now.entries }
+    ensures { IfOk result (λ tuples. IsCheckSelection (there_at (listed table.now.entries) place) userset.now user.now tuples.items) }
+{
+    if let User::Id(_) = user {
+        // Mostly few users stand between, and to pass these takes less than to search once more.
+        if let Some(tuples) = nearby(table, alloc, place, userset, user, steps)? {
+            return Ok(tuples);
+        }
+    }
+    searched(table, alloc, place, userset, user, steps)
+}
+
+// By one search for a plain user, and from there on; none where many other plain users stand between the user and the usersets.
+fn nearby<L: Ledger>(
+    table: &BTreeMap<Tuple, Vec<Row>>,
+    alloc: Global,
+    place: u64,
+    userset: &Userset,
+    user: &User,
+    steps: &mut Steps<L>,
+) -> Result<Option<Vec<Tuple>>, AllocError>
+    requires table { IsTable table.now.entries }
+    requires plain { is_userset user.now ≡ false }
+    ensures { IfOk result (λ found. IfSome found (λ tuples. IsCheckSelection (there_at (listed table.now.entries) place) userset.now user.now tuples.items)) }
+{
+    let first = holding(userset, user)?;
+    let mut tuples = Vec::new(alloc);
+    let mut passed = 0u8;
+    for (tuple, rows) in table.range(first..) {
+        if !is_of(userset, tuple) {
+            return Ok(Some(tuples));
+        }
+        if is_asked(user, tuple) {
+            if is_there_at(rows, place, steps) {
+                tuples.push(copy(tuple)?)?;
+            }
+        } else {
+            if passed == MOST_PASSED {
+                return Ok(None);
+            }
+            passed = passed.saturating_add(1);
+        }
+    }
+    Ok(Some(tuples))
+}
+
+// By a search for the usersets, and one for a plain user.
+fn searched<L: Ledger>(
     table: &BTreeMap<Tuple, Vec<Row>>,
     alloc: Global,
     place: u64,

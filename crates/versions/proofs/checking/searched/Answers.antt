@@ -8,7 +8,7 @@ use Rattle.tuples.specs.Versions.{there_at}
 use Rattle.tuples.specs.Walking.{IsCheckSelection}
 use Rattle.versions.specs.Rows.{IsPicked, is_set_of, listed}
 use Rattle.versions.proofs.Asked.{of_user}
-use Rattle.versions.proofs.checking.asked_at.Goals as goal
+use Rattle.versions.proofs.checking.searched.Goals as goal
 
 pub returns-in_ok-holding-in-Id : goal.returns-in_ok-holding-in-Id
 returns-in_ok-holding-in-Id g c =
