@@ -1,7 +1,8 @@
 // Holds a sync of the file 0.a of a folder until one of 1.a is reached, and the other way round, for a try of `served` alone; no part of the program.
 // HOLD_FOLDER names the folder, by its real path. Syncs are held once the file HOLD_FILE is there; it is one line longer, `both` or `late`, as soon as both
-// were reached or two seconds were over, and from then on nothing is held. HOLD_ONLY names the one call that is held, where it is not both. With HOLD_UNTIL only
-// those of 0.a are held, until a file of that name is there, however long that takes: the line is `held`, as soon as the first is reached.
+// were reached or HOLD_SECONDS were over, ten where there is no such word, and from then on nothing is held. HOLD_ONLY names the one call that is held, where
+// it is not both. With HOLD_UNTIL only those of 0.a are held, until a file of that name is there, however long that takes: the line is `held`, as soon as the
+// first is reached.
 #define _GNU_SOURCE
 #include <dlfcn.h>
 #include <fcntl.h>
@@ -14,7 +15,7 @@
 #include <time.h>
 #include <unistd.h>
 
-#define SECONDS 2
+#define SECONDS 10
 static pthread_mutex_t lock = PTHREAD_MUTEX_INITIALIZER;
 static pthread_cond_t reached = PTHREAD_COND_INITIALIZER;
 static int is_reached[2], is_over;
@@ -62,7 +63,7 @@ static void hold(int shard) {
   }
   struct timespec late;
   clock_gettime(CLOCK_REALTIME, &late);
-  late.tv_sec += SECONDS;
+  late.tv_sec += getenv("HOLD_SECONDS") ? atoi(getenv("HOLD_SECONDS")) : SECONDS;
   pthread_mutex_lock(&lock);
   is_reached[shard] = 1;
   if (!is_over && is_reached[!shard]) tell("both\n");

@@ -37,7 +37,7 @@ class Lanes:
     def __init__(self, count=0):
         self.count = count or rt.processors()
         self.memory = 0.85 * rt.free()
-        self.running, self.given, self.took = {}, {}, {}
+        self.running, self.given, self.took, self.behind = {}, {}, {}, {}
         # the keys of the tasks that raised, so that nobody knows what they come to
         self.broken = []
 
@@ -47,10 +47,15 @@ class Lanes:
     def idle(self):
         return self.count - sum(jobs for _, _, jobs in self.running.values())
 
-    def jobs_for(self, task, ready):
-        """Jobs for a task that begins now: the processors that the other ready ones leave, where memory holds them."""
+    def jobs_for(self, task, ready, wanted):
+        """Jobs for a task that begins now: the processors that the other ready ones leave, or as many as its chain wants, where memory holds them."""
         by_memory = 1 + int((self.room() / task.memory - 1) / MORE) if task.memory else 1
-        return max(1, min(task.jobs, self.idle() // max(ready, 1), by_memory))
+        return max(1, min(task.jobs, max(self.idle() // max(ready, 1), wanted), by_memory))
+
+    def wanted(self, key, left, tasks):
+        """With how many jobs the chain behind a task, and it, end no later than all that is left does on these processors: the others then end beside it."""
+        rest = sum(tasks[it].seconds for it in [*left, *(it for it, _, _ in self.running.values())])
+        return min(self.count, int(-(-self.behind[key] * self.count // rest))) if rest else 1
 
     def timed(self, key, call, jobs):
         """What the task gives, and None where it raises, as where no space is left: then the run fails, but tells all the rest first."""
@@ -72,15 +77,15 @@ class Lanes:
             # Who has the longest chain behind it waits for memory alone, and none that could do with less takes it meanwhile.
             if self.idle() <= 0 or (self.running and task.memory > self.room()):
                 break
+            jobs = self.jobs_for(task, len(ready) - at, self.wanted(key, left, tasks))
             left.remove(key)
-            jobs = self.jobs_for(task, len(ready) - at)
             run = pool.submit(self.timed, key, task.call, jobs)
             self.running[run] = key, task.memory * (1 + MORE * (jobs - 1)), jobs
 
     def run(self, tasks, ended=lambda key: None):
         """Runs all, and returns what each gave: None where it raised."""
-        behind = chains(tasks)
-        left = sorted(tasks, key=lambda key: -behind[key])
+        self.behind = chains(tasks)
+        left = sorted(tasks, key=lambda key: -self.behind[key])
         with ThreadPoolExecutor(self.count) as pool:
             while left or self.running:
                 self.begin(pool, left, tasks)

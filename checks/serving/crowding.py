@@ -143,12 +143,13 @@ def idle_sessions(folder):
 
 def busy_sessions(folder):
     """a session that asks and asks has its worker, though another waits"""
-    with Server(folder, workers=1, idle=1) as server, Session(server.port) as busy:
+    with Server(folder, workers=1, idle=3) as server, Session(server.port) as busy:
         is_answered(busy)
         with Session(server.port) as other:
             other.send(spelled(ASKED))
-            for _ in range(10):
-                time.sleep(0.3)
+            # Together more than it may be idle, each far less.
+            for _ in range(8):
+                time.sleep(0.7)
                 is_answered(busy)
             busy.close()
             must(other.answer() == NO, "the one that waited is answered otherwise")

@@ -4,7 +4,7 @@ import threading
 import time
 
 from judge.worlds import must
-from serving.server import SHARDS, Server, is_start
+from serving.server import LIMIT, SHARDS, Server, is_start
 from serving.talking import is_told
 from serving.wire import Gone, Session, check, place_of, read, refusal, watch, write
 from serving.wire import token as token_of
@@ -33,8 +33,8 @@ def killed(folder):
         second.kill()
 
 
-def writes_on(port, told):
-    """Writes until the server is gone; `told` gets the numbers that were answered."""
+def writes_on(port, told, faults):
+    """Writes until the server is gone; `told` gets the numbers that were answered, and `faults` why it ended otherwise."""
     try:
         with Session(port) as session:
             for number in range(1, 1000000):
@@ -43,13 +43,15 @@ def writes_on(port, told):
                 told.append(number)
     except Gone:
         pass
+    except Exception as fault:
+        faults.append(fault)
 
 
 def killed_writing(folder):
     """kill -9 in the midst of writes: each that was answered is there, and at most one more"""
-    told = []
+    told, faults = [], []
     with Server(folder) as first:
-        writer = threading.Thread(target=writes_on, args=(first.port, told))
+        writer = threading.Thread(target=writes_on, args=(first.port, told, faults))
         writer.start()
         late = time.monotonic() + 10
         while len(told) < 50 and time.monotonic() < late:
@@ -57,6 +59,7 @@ def killed_writing(folder):
         time.sleep(random.uniform(0, 0.01))
         first.kill()
         writer.join()
+    must(not faults, f"the writer ended before the server: {faults}")
     must(told, "no write was answered")
     with Server(folder) as second, Session(second.port) as session:
         answer = session.ask(read("doc@ann"))
@@ -98,8 +101,9 @@ def full_disk(folder):
                 must(place_of(answer) == len(told), f"write {number} is told {answer}, and {len(told) - 1} were told before")
             else:
                 refused.append((number, answer["error"]))
-        must(10 <= len(told) < COUNT and {error for _, error in refused} <= {12, 13}, f"{len(told)} were told, and refused {refused[:5]}")
-        must(sum(error == 12 for _, error in refused) <= 1 and refused[-1] == (COUNT, 13), f"refused {refused[:5]} and at last {refused[-1]}")
+        must(10 <= len(told) < COUNT and told == [*range(1, len(told) + 1)], f"{len(told)} were told, and refused {refused[:5]}")
+        errors = [error for _, error in refused]
+        must(errors[0] in (12, 13) and {*errors[1:]} == {13}, f"refused {refused[:5]} and at last {refused[-1]}")
         with Session(server.port) as other:
             answer = other.ask(write("+doc:more#viewer@ann"))
             must(answer == refusal(13, "Down"), f"answers {answer} to another session")
@@ -114,14 +118,19 @@ def full_disk(folder):
 
 
 def narrow_window(folder):
-    """`--window 0`: what is latest is told, and an older exact place may be refused with `8 Collected`"""
+    """`--window 0`: what is latest is told; an older exact place may be refused with `8 Collected`, and is behind a start"""
     with Server(folder, window=0) as server, Session(server.port) as session:
         for number in range(1, COUNT + 1):
             is_told(session, write(f"+doc:d{number % 5}#viewer@u{number}"), {"zookie": token_of(number)})
             answer = session.ask(check("doc:d1#viewer@u1", exact=token_of(1)))
             must(answer in (refusal(8, "Collected"), {"member": True, "zookie": token_of(1)}), f"answers {answer} of place 1")
         is_told(session, check("doc:d1#viewer@u1", at_least=token_of(1)), {"member": True, "zookie": token_of(COUNT)})
-    with Server(folder) as server, Session(server.port) as session:
+    with Server(folder, window=0) as server, Session(server.port) as session:
+        # The horizon follows once the first round of cares is made.
+        late = time.monotonic() + LIMIT
+        while session.ask(check("doc:d1#viewer@u1", exact=token_of(1))) != refusal(8, "Collected"):
+            must(time.monotonic() < late, "place 1 is answered for ever")
+            time.sleep(0.05)
         is_told(session, check("doc:d1#viewer@u1"), {"member": True, "zookie": token_of(COUNT)})
 
 

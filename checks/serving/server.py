@@ -18,6 +18,7 @@ SHARDS = 3
 LIMIT = 60
 # Below the ports that a system chooses by itself: a client that tries one of those while nobody listens may be connected to itself.
 PORTS = range(20000, 32000)
+PORT_TRIES = 5
 
 
 def program():
@@ -67,15 +68,22 @@ def limit_files(longest):
 class Server:
     """A server over a folder. It is ready once this is made, unless `ready` is asked for later; no file of it gets longer than `longest` bytes."""
 
-    def __init__(self, folder, waits=True, environment=None, longest=None, **options):
-        self.port = options.pop("port", None) or free_port()
-        given = {"dir": folder, "store": STORE, "shards": SHARDS, "listen": f"{HOST}:{self.port}", "workers": 4, **options}
-        words = [program(), "serve", *words_of(given)]
+    def __init__(self, folder, waits=True, environment=None, longest=None, port=None, **options):
+        for left in reversed(range(PORT_TRIES)):
+            self.port = port or free_port()
+            given = {"dir": folder, "store": STORE, "shards": SHARDS, "listen": f"{HOST}:{self.port}", "workers": 4, **options}
+            self.begin([program(), "serve", *words_of(given)], environment, longest)
+            if not waits or self.is_ready():
+                return
+            ended = self.ended()
+            # Another server may have taken the port that was free.
+            if port or not left or not ended[2].endswith("zanstore: listen\n"):
+                raise Wrong(f"a server is not ready: {ended}")
+
+    def begin(self, words, environment, longest):
         pipes = {"stdin": subprocess.DEVNULL, "stdout": subprocess.PIPE, "stderr": subprocess.PIPE}
         limited = (lambda: limit_files(longest)) if longest else None
         self.child = subprocess.Popen(words, **pipes, env={**os.environ, **(environment or {})}, preexec_fn=limited)
-        if waits and not self.is_ready():
-            raise Wrong(f"a server is not ready: {self.ended()}")
 
     def __enter__(self):
         return self

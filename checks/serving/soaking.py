@@ -27,7 +27,7 @@ class Lives:
         self.life = self.killed = self.openings = 0
         self.stopped, self.change = False, threading.Condition()
         self.greatest, self.given, self.names, self.faults, self.writes = 0, [0], [], [], 0
-        self.dumps, self.has_dump = [], run("dump", "--help")[0] == 0
+        self.dumps = []
 
     def started(self, waits):
         return Server(self.folder, waits, self.power and self.power.environment(), workers=WRITERS + READERS + 2)
@@ -50,9 +50,7 @@ class Lives:
             self.power.fails()
 
     def dump(self):
-        """What the program prints of the files, where it has the command."""
-        if not self.has_dump:
-            return
+        """What the program prints of the files."""
         status, out, err = run("dump", "--dir", self.folder, "--store", str(STORE), "--shards", str(SHARDS))
         first, *rows = out.splitlines() or [""]
         must(status == 0 and first.startswith("at ") and not err, f"a dump ends with status {status}, {first[:80]} and {err[:200]}")

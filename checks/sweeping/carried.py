@@ -39,11 +39,14 @@ LOOKS = [
     (f"write +{D} if ?{C} !{B}", [f"ok {Z[5]}"]),
     ("read latest doc:d", [f"at {Z[5]}", f"1 {D}"]),
 ]
+# The nodes that each of these asks: of three shards doc:a and doc:d lie in the first, doc:b in the second and doc:c in the last.
+ASKED = ["c012", "c01", "c", "c", "c012", "c0"]
 # How the two stores differ: by the shard of doc:c.
 LAST = {True: ("rows 2", [f"4 +{C}"]), False: ("rows 2", [NO_SHARD])}
 
-# A run: whether the store was carried over, whether the failing call came, and what is wrong.
-Run = namedtuple("Run", "carried came fault")
+# A run: whether the store was carried over, whether the failing call came within the resharding or the opening behind it, whether it came in the next opening,
+# and what is wrong.
+Run = namedtuple("Run", "carried came is_past fault")
 
 
 def program():
@@ -63,43 +66,51 @@ def printed_by(disk, call, byte):
     return ran.stdout.splitlines()
 
 
-# What was printed: whether the store was carried over, whether a node was found down behind it, whether the nodes' next opening found one, and what is wrong.
+# What was printed: whether the store was carried over, whether its node was found down behind it, whether the nodes' next opening found it, and what is wrong.
 Judged = namedtuple("Judged", "carried failed is_past fault")
 
 
-def judged(printed):
+def judged(printed, node):
+    """Of the store that is carried over only this node's disks may fail."""
     before = [text for _, answer in BEFORE for text in answer]
     at, carried = len(before), printed[len(before) : len(before) + 1] == ["done"]
+    up, down = usual_openings(carried), [DOWN if it == node else "up" for it in NODES]
     opened = printed[at + 1 : at + 1 + 2 * len(NODES)]
-    is_past = carried and DOWN in opened[len(NODES) :]
-    # A node whose opening fails is found by the next one; the old store has no third shard, and its disks do not fail.
-    failed = [carried and i < len(NODES) and either == DOWN for i, either in enumerate(opened)]
-    openings = [DOWN if i < len(failed) and failed[i] else usual for i, usual in enumerate(2 * usual_openings(carried))]
-    looks = [text for _, answer in [*LOOKS, LAST[carried]] for text in answer]
-    wanted = [*before, "done" if carried else DOWN, *openings, *looks]
-    return Judged(carried, any(failed), is_past, None if printed == wanted else f"printed {printed}\nwanted {wanted}")
+    # A node whose opening fails is found by the next one; the old store's disks do not fail.
+    failed, is_past = carried and opened == down + up, carried and opened == up + down
+    openings = opened if failed or is_past else up + up
+    wanted = [*before, "done" if carried else DOWN, *openings, *(looks_where_down(node) if is_past else looks(carried))]
+    return Judged(carried, failed, is_past, None if printed == wanted else f"printed {printed}\nwanted {wanted}")
 
 
 def usual_openings(carried):
     return [NO_SHARD if not carried and node == "2" else "up" for node in NODES]
 
 
+def looks(carried):
+    return [text for _, answer in [*LOOKS, LAST[carried]] for text in answer]
+
+
+def looks_where_down(node):
+    """What is told where this node alone is down. The write is refused, so the read behind it finds nothing."""
+    answers = [answer for _, answer in LOOKS[:-1]] + [[f"at {Z[4]}"], LAST[True][1]]
+    return [text for answer, asked in zip(answers, [*ASKED, "2"]) for text in ([DOWN] if node in asked else answer)]
+
+
 def run(disk, call, byte):
     try:
         printed = printed_by(disk, call, byte)
     except (ValueError, subprocess.SubprocessError) as wrong:
-        return Run(False, True, f"disk {disk}, call {call}, byte {byte:02x}: {wrong}")
-    found = judged(printed)
-    if found.is_past:
-        # Each call up to the last of the first restart has failed in a run before.
-        return Run(found.carried, False, None)
-    came = not found.carried or found.failed or is_down_at_first(disk, call, byte)
-    return Run(found.carried, came, found.fault and f"disk {disk}, call {call}, byte {byte:02x}:\n{found.fault}")
+        return Run(False, True, False, f"disk {disk}, call {call}, byte {byte:02x}: {wrong}")
+    found = judged(printed, NODES[disk // 2])
+    # Each call up to the last of the first restart has failed in a run before one that comes in the next opening.
+    came = not found.is_past and (not found.carried or found.failed or is_down_at_first(disk, call, byte))
+    return Run(found.carried, came, found.is_past, found.fault and f"disk {disk}, call {call}, byte {byte:02x}:\n{found.fault}")
 
 
 def is_down_at_first(disk, call, byte):
     """Whether a node of the new store was not opened: it refuses the first line that asks it."""
-    node = ("c", "0", "1", "2")[disk // 2]
+    node = NODES[disk // 2]
     asked = [line for line, _ in BEFORE] + [f"reshard {SHARDS}", f"flush {node}"]
     words = [program(), "failing", str(disk), str(call), str(byte)]
     ran = subprocess.run(words, input="".join(line + "\n" for line in asked), capture_output=True, text=True, timeout=LIMIT)
@@ -114,22 +125,28 @@ def sweep(job):
         runs.append(run(disk, call, byte))
         if runs[-1].fault or not runs[-1].came:
             return job, runs
-    return job, [*runs, Run(True, True, f"disk {disk}: the calls have no end")]
+    return job, [*runs, Run(True, True, False, f"disk {disk}: the calls have no end")]
 
 
 def carried(pool):
     """The number of runs, how many of them ended in a refusal, and what is wrong."""
     swept = list(pool.map(sweep, [(disk, byte) for disk in range(DISKS) for byte in TEARS]))
     faults = [each.fault for _, runs in swept for each in runs if each.fault]
-    short = [f"disk {disk}: {len(runs)} calls" for (disk, _), runs in swept if len(runs) <= FEWEST[disk % 2]]
+    short = [f"disk {disk}: {len(runs)} calls" for (disk, _), runs in swept if len(runs) <= FEWEST[disk % 2] or not runs[-1].is_past]
     refused = sum(1 for _, runs in swept for each in runs if not each.carried)
     return sum(len(runs) for _, runs in swept), refused, faults or short
 
 
-def right(carried):
+def right(carried, openings=None, told=None):
     """What is printed where no call fails, or where the resharding is refused."""
-    looks = [text for _, answer in [*LOOKS, LAST[carried]] for text in answer]
-    return [*(text for _, answer in BEFORE for text in answer), "done" if carried else DOWN, *2 * usual_openings(carried), *looks]
+    before = [text for _, answer in BEFORE for text in answer]
+    return [*before, "done" if carried else DOWN, *(openings or 2 * usual_openings(carried)), *(told or looks(carried))]
+
+
+def all_right(node):
+    """What may be printed where this node's disks fail."""
+    up, down = usual_openings(True), [DOWN if it == node else "up" for it in NODES]
+    return [right(True), right(False), right(True, down + up), right(True, up + down, looks_where_down(node))]
 
 
 def spoilings(printed):
@@ -137,7 +154,7 @@ def spoilings(printed):
     for at, line in enumerate(printed):
         yield f"line {at} is missing", printed[:at] + printed[at + 1 :]
         yield f"line {at} is there twice", printed[: at + 1] + printed[at:]
-        for other in ("refused 16 Damaged", f"ok {Z[3]}", f"at {Z[0]}", f"4 +{D}", "done", "up"):
+        for other in (DOWN, "refused 16 Damaged", f"ok {Z[3]}", f"at {Z[0]}", f"4 +{D}", "done", "up"):
             if other != line:
                 yield f"line {at} is {other}", [*printed[:at], other, *printed[at + 1 :]]
 
@@ -145,12 +162,14 @@ def spoilings(printed):
 def unnoticed():
     """What of spoiled lines is taken for right, and of right ones for wrong."""
     faults, count = [], 0
-    for carried in (True, False):
-        if judged(right(carried)).fault:
-            faults.append(f"right lines are refused: {judged(right(carried)).fault}")
-        for what, printed in spoilings(right(carried)):
-            count += 1
-            if not judged(printed).fault:
-                faults.append(f"not noticed: {what}")
+    for node in NODES:
+        for lines in all_right(node):
+            if judged(lines, node).fault:
+                faults.append(f"right lines are refused: {judged(lines, node).fault}")
+            for what, printed in spoilings(lines):
+                # Spoiled lines may be right ones of another run.
+                if printed not in all_right(node):
+                    count += 1
+                    faults += [] if judged(printed, node).fault else [f"not noticed: {what}"]
     print(f"sweep of a resharding: {count} spoiled runs, {len(faults)} not noticed")
     return faults

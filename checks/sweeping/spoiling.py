@@ -129,4 +129,4 @@ def spoiled_looks(pool):
         print(f"{what}: {count} times, the judge's help was needed {count - alone[what]} times")
     print(f"spoiled looks: {sum(tried.values())} of {len(tried)} kinds, {len(passed)} not noticed")
     found = passed + [f"{what} is never noticed without the judge" for what in tried if not alone[what]]
-    return found + ([] if len(tried) >= 15 else ["too few kinds of spoiling"])
+    return found + ([] if len(tried) >= 18 else ["too few kinds of spoiling"])
