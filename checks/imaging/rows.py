@@ -1,5 +1,4 @@
 """Images whose answers were worked out by hand, each with a name: the first bank of a shard with one change, both banks beside each other, and version 1."""
-import os
 
 from imaging.format import (
     CLOSED,
@@ -17,7 +16,7 @@ from imaging.format import (
     device_bytes,
     number,
 )
-from imaging.making import TOP, Image
+from imaging.making import Image
 from imaging.replaying import COORDINATOR
 
 STORE, SHARDS, SHARD = 1, 2, 1

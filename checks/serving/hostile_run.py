@@ -35,14 +35,12 @@ class Caller:
     """Sends lines over a session of its own, and judges the answers as they come."""
 
     def __init__(self, port):
-        self.session, self.judge, self.sent, self.tried, self.stopped = Session(port), Judge(), queue.Queue(AHEAD), Counter(), False
+        self.session, self.judge, self.sent, self.tried = Session(port), Judge(), queue.Queue(AHEAD), Counter()
 
     def send(self, made):
         try:
             for piece in pieces(made):
                 self.sent.put(piece)
-                if self.stopped:
-                    break
                 self.session.send(b"".join(asked.line + b"\n" for asked in piece))
         except Gone:
             pass  # the one who reads tells it

@@ -2,9 +2,7 @@
 import itertools
 import random
 from collections import Counter, namedtuple
-from functools import partial
 
-from judge.worlds import Wrong
 from sweeping.looking import looked
 from sweeping.scripts import BANKS, SCRIPTS
 
