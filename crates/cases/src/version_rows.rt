@@ -14,27 +14,46 @@ fn apply(alloc: Global, versions: &mut Versions, place: u64, text: &str) -> Resu
     Ok(())
 }
 
-// How many tuples are read.
-fn read_counted(alloc: Global, versions: &Versions, place: u64, set: &str) -> Result<usize, Fail> {
+// How many tuples are read; none where memory was refused.
+fn read_counted(
+    alloc: Global,
+    versions: &Versions,
+    place: u64,
+    set: &str,
+) -> Result<Option<usize>, Fail> {
     let set = Tupleset::parse(alloc, set.as_bytes())?;
-    counted::<Brand>(alloc, versions, place, set, Blank::new(1))
+    Ok(counted::<Brand>(alloc, versions, place, &set, Blank::new(1)))
 }
 
 fn counted<L: Ledger>(
     alloc: Global,
     versions: &Versions,
     place: u64,
-    set: Tupleset,
+    set: &Tupleset,
     blank: Blank,
-) -> Result<usize, Fail>
+) -> Option<usize>
     requires name { blank.name ≡ L.name }
     requires parts { blank.parts ≡ L.parts }
     requires some { 0 < blank.parts }
 {
     let mut steps = Steps::<L>::new(blank);
-    match versions.at_counted(alloc, place, &set, &mut steps) {
-        Ok(tuples) => Ok(tuples.len()),
-        Err(_) => Err("memory was refused".into()),
+    counted_by(alloc, versions, place, set, &mut steps)
+}
+
+fn counted_by<L: Ledger>(
+    alloc: Global,
+    versions: &Versions,
+    place: u64,
+    set: &Tupleset,
+    steps: &mut Steps<L>,
+) -> Option<usize> {
+    match versions.at_counted(alloc, place, set, steps) {
+        Ok(tuples) => {
+            let count = tuples.len();
+            drop(tuples);
+            Some(count)
+        }
+        Err(_) => None,
     }
 }
 
@@ -56,7 +75,7 @@ fn a_read_that_is_counted_finds_its_tuples(rt: HostRuntime) -> Result<(), Fail> 
         (2, "doc#viewer@u1", 2),
     ] {
         let found = read_counted(alloc, &versions, place, set)?;
-        assert!(rt; found == wanted, "{set} at {place}");
+        assert!(rt; found == Some(wanted), "{set} at {place}");
     }
     Ok(())
 }
