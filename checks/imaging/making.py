@@ -4,6 +4,7 @@ import subprocess
 import tempfile
 from collections import namedtuple
 
+import harness
 from imaging.format import CLOSED, NOT_AFTER, Begins, Ends, Epoch, Horizon, Learned, Row, Rules, batches_of, device_bytes
 from imaging.replaying import COORDINATOR, found, node_of
 from judge.making import Maker
@@ -17,21 +18,17 @@ MOST_LINES = 60
 Image = namedtuple("Image", "node store shards a b")
 
 
-def scripts_program():
-    return os.environ.get("SCRIPT_RUNS", os.path.join(TOP, "crates", "script_runs", "out", "script_runs"))
-
-
 def few_shards(count):
     """The seeds of so many scripts of stores with a few shards."""
     return [seed for seed in range(10 * count) if Maker(seed).shards <= 5][:count]
 
 
 def run(folder, maker, lines):
-    words = [scripts_program(), "files", folder, str(maker.store), str(maker.shards)]
+    words = harness.command("files", folder, maker.store, maker.shards)
     given = "".join(line + "\n" for line in lines).encode()
     ran = subprocess.run(words, input=given, stdout=subprocess.PIPE, stderr=subprocess.DEVNULL, timeout=60)
     if ran.returncode:
-        raise SystemExit(f"script_runs ended with status {ran.returncode}")
+        raise SystemExit(f"harness ended with status {ran.returncode}")
 
 
 def real_images(seed):

@@ -7,11 +7,11 @@ import time
 from collections import namedtuple
 from random import Random
 
+import harness
 from judge.worlds import Wrong
 from killing.asking import MOST_WRITES, SHARDS, STORE, Life, script, some_writes
 from killing.judging import Judge, tuples_of
 
-TOP = os.path.dirname(os.path.dirname(os.path.dirname(os.path.abspath(__file__))))
 # Far more seconds than a life takes where much else runs.
 LIMIT = 60
 
@@ -21,10 +21,6 @@ Moment = namedtuple("Moment", "answers seconds")
 Pace = namedtuple("Pace", "opening write")
 
 
-def program():
-    return os.environ.get("SCRIPT_RUNS", os.path.join(TOP, "crates", "script_runs", "out", "script_runs"))
-
-
 class Running:
     """The program over the script, and the whole lines that it printed so far."""
 
@@ -32,7 +28,7 @@ class Running:
         with tempfile.TemporaryFile() as given:
             given.write("".join(line + "\n" for line in lines).encode())
             given.seek(0)
-            words = [program(), "files", folder, str(STORE), str(SHARDS)]
+            words = harness.command("files", folder, STORE, SHARDS)
             self.child = subprocess.Popen(words, stdin=given, stdout=subprocess.PIPE, stderr=subprocess.DEVNULL)
         self.told = []
         self.is_late = False

@@ -4,6 +4,8 @@ import os
 import struct
 import subprocess
 
+import harness
+
 TOP = os.path.dirname(os.path.dirname(os.path.dirname(os.path.abspath(__file__))))
 # Far more seconds than a dump takes where much else runs.
 LIMIT = 60
@@ -11,10 +13,6 @@ LIMIT = 60
 
 def program():
     return os.environ.get("ZANSTORE", os.path.join(TOP, "crates", "zanstore", "out", "zanstore"))
-
-
-def scripts():
-    return os.environ.get("SCRIPT_RUNS", os.path.join(TOP, "crates", "script_runs", "out", "script_runs"))
 
 
 def token(place, store=1):
@@ -34,7 +32,7 @@ def fault(text):
 def script(folder, shards, *lines, limit=LIMIT):
     """What the script prints, line by line."""
     given = "".join(line + "\n" for line in lines)
-    ran = subprocess.run([scripts(), "files", folder, "1", str(shards)], input=given, capture_output=True, text=True, timeout=limit)
+    ran = subprocess.run(harness.command("files", folder, 1, shards), input=given, capture_output=True, text=True, timeout=limit)
     must(ran.returncode, 0, "the script")
     return ran.stdout.split("\n")[:-1]
 

@@ -1,24 +1,11 @@
 """The program that runs a store among threads, and what it prints."""
-import os
 import subprocess
 
+import harness
 from judge.worlds import Wrong
 
-TOP = os.path.dirname(os.path.dirname(os.path.dirname(os.path.abspath(__file__))))
 # Far more seconds than a run takes behind those that it was asked for, where much else runs.
 LIMIT = 120
-
-
-def program():
-    return os.environ.get("THREADS_RUN", os.path.join(TOP, "crates", "threads_run", "out", "threads_run"))
-
-
-def built():
-    """Whether the program is there. It is built where the gate did not leave it."""
-    folder = os.path.join(TOP, "crates", "threads_run")
-    if not os.path.exists(program()) and os.path.isdir(folder):
-        subprocess.run(["rt", "run"], cwd=folder, stdin=subprocess.DEVNULL, capture_output=True)
-    return os.access(program(), os.X_OK)
 
 
 def lines_in(text):
@@ -33,7 +20,7 @@ def lines_in(text):
 def printed(seconds, seed):
     """The lines of a run of the program, or raises `Wrong` where it doesn't end as it has to."""
     try:
-        done = subprocess.run([program(), str(seconds), str(seed)], stdin=subprocess.DEVNULL, capture_output=True, timeout=seconds + LIMIT)
+        done = subprocess.run(harness.command("threads", seconds, seed), stdin=subprocess.DEVNULL, capture_output=True, timeout=seconds + LIMIT)
     except subprocess.TimeoutExpired as late:
         raise Wrong(f"no end {LIMIT} seconds behind the {seconds} that it was to run") from late
     if done.returncode != 0:

@@ -1,10 +1,10 @@
 """The sweep of a store that is carried over: each device call on each new disk fails in turn, and the old store, or the new one, answers as it did."""
-import os
 import subprocess
 from collections import namedtuple
 
+import harness
 from judge.lines import token
-from sweeping.asking import LIMIT, TOP
+from sweeping.asking import LIMIT
 from sweeping.scripts import STORE
 
 A, B, C, D = (f"doc:{id}#viewer@u1" for id in "abcd")
@@ -49,17 +49,13 @@ LAST = {True: ("rows 2", [f"4 +{C}"]), False: ("rows 2", [NO_SHARD])}
 Run = namedtuple("Run", "carried came is_past fault")
 
 
-def program():
-    return os.environ.get("SCRIPT_RUNS", os.path.join(TOP, "crates", "script_runs", "out", "script_runs"))
-
-
 def lines():
     restarts = [f"restart {node}" for node in NODES]
     return [line for line, _ in BEFORE] + [f"reshard {SHARDS}"] + restarts + restarts + [line for line, _ in LOOKS] + [LAST[True][0]]
 
 
 def printed_by(disk, call, byte):
-    words = [program(), "failing", str(disk), str(call), str(byte)]
+    words = harness.command("failing", disk, call, byte)
     ran = subprocess.run(words, input="".join(line + "\n" for line in lines()), capture_output=True, text=True, timeout=LIMIT)
     if ran.returncode != 0:
         raise ValueError(f"the program ended with status {ran.returncode}")
@@ -112,7 +108,7 @@ def is_down_at_first(disk, call, byte):
     """Whether a node of the new store was not opened: it refuses the first line that asks it."""
     node = NODES[disk // 2]
     asked = [line for line, _ in BEFORE] + [f"reshard {SHARDS}", f"flush {node}"]
-    words = [program(), "failing", str(disk), str(call), str(byte)]
+    words = harness.command("failing", disk, call, byte)
     ran = subprocess.run(words, input="".join(line + "\n" for line in asked), capture_output=True, text=True, timeout=LIMIT)
     return ran.stdout.splitlines()[-1:] == [DOWN]
 

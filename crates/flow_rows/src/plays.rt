@@ -6,13 +6,12 @@ use crate::caring::{self, begin_care};
 use crate::logging::{log_care, log_write};
 use crate::steps::MOST_TURNS;
 use crate::stores::Store;
-use crate::texts::command;
+use crate::texts::write;
 use crate::turning::Turning;
 use calls::{CoordinatorCall, NodeCall, ShardCall, Told};
 use care_flow::CareFlow;
 use commit_flow::WriteEnd;
 use device::{Device, Tear};
-use lines::Command;
 use names::{Care, NodeName};
 use std::alloc::{AllocError, Global};
 use tuples::{Refusal, Request, Write};
@@ -36,10 +35,7 @@ fn leave_writes(mut writes: Vec<Turning>) {
 impl<D: Device> Playing<D> {
     /// Begins the write of this line, which makes no call yet.
     pub(crate) fn start(&mut self, alloc: Global, line: &str) -> Result<(), Refusal> {
-        match command(alloc, line)? {
-            Command::Ask(Request::Write(write)) => self.begin_write(alloc, write),
-            _ => Err(Refusal::BadRequest),
-        }
+        self.begin_write(alloc, write(alloc, line)?)
     }
 
     pub(crate) fn begin_write(&mut self, alloc: Global, write: Write) -> Result<(), Refusal> {
@@ -214,13 +210,16 @@ impl<D: Device> Playing<D> {
     // Spends the flows, and keeps what they did.
     fn leave(self) -> String {
         let Playing {
-            store: _,
+            store,
             writes,
-            questions: _,
-            told: _,
+            questions,
+            told,
             log,
         } = self;
+        drop(store);
         leave_writes(writes);
+        drop(questions);
+        drop(told);
         log
     }
 

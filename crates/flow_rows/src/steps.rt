@@ -1,7 +1,7 @@
 // The steps of a row, a line each. Write flows are numbered in the order in which they were begun, from 0 on; of the other flows a step names
 // the one that was begun last.
 use crate::plays::Playing;
-use crate::texts::{care, command, number, refusal, two_numbers};
+use crate::texts::{care, command, flushed, number, refusal, request, two_numbers};
 use device::Device;
 use lines::Command;
 use names::NodeName;
@@ -92,10 +92,7 @@ impl<D: Device> Playing<D> {
     }
 
     fn begin_by(&mut self, alloc: Global, rest: &str) -> Result<(), Refusal> {
-        match command(alloc, rest)? {
-            Command::Ask(request) => self.begin(alloc, request),
-            _ => Err(Refusal::BadRequest),
-        }
+        self.begin(alloc, request(alloc, rest)?)
     }
 
     fn answer_by(&mut self, alloc: Global, rest: &str) -> Result<(), Refusal> {
@@ -124,13 +121,9 @@ impl<D: Device> Playing<D> {
     }
 
     fn flush_by(&mut self, alloc: Global, rest: &str) -> Result<(), Refusal> {
-        match command(alloc, rest)? {
-            Command::Care(names::Care::Flush(node)) => {
-                self.flush(node);
-                Ok(())
-            }
-            _ => Err(Refusal::BadRequest),
-        }
+        let node = flushed(alloc, rest)?;
+        self.flush(node);
+        Ok(())
     }
 
     fn across_by(&mut self, alloc: Global, rest: &str) -> Result<(), Refusal> {
@@ -145,20 +138,39 @@ impl<D: Device> Playing<D> {
         self.refuse(number(n)?, refusal(name)?)
     }
 
-    // A line of a script goes to its end: a write unlogged, a question or a care logged, a restart or a failure of a node's first device.
+    // A line of a script goes to its end.
     fn carry_out(&mut self, alloc: Global, line: &str) -> Result<(), Refusal> {
         match command(alloc, line)? {
-            Command::Ask(Request::Write(write)) => {
+            Command::Ask(request) => self.answer(alloc, request),
+            other => {
+                let done = self.tend(alloc, &other);
+                drop(other);
+                done
+            }
+        }
+    }
+
+    // A write goes to its end unlogged, and a question logged.
+    fn answer(&mut self, alloc: Global, request: Request) -> Result<(), Refusal> {
+        match request {
+            Request::Write(write) => {
                 self.begin_write(alloc, write)?;
                 self.turn_quietly(MOST_TURNS);
                 Ok(())
             }
-            Command::Ask(request) => {
-                self.begin(alloc, request)?;
+            question => {
+                self.begin(alloc, question)?;
                 self.end(alloc)
             }
-            Command::Care(_) => self.care(alloc, care(alloc, line)?),
+        }
+    }
+
+    // A care goes to its end, logged; a node is opened again, or its first device is set to fail.
+    fn tend(&mut self, alloc: Global, command: &Command) -> Result<(), Refusal> {
+        match command {
+            Command::Care(care) => self.care(alloc, *care),
             Command::Restart(node) => {
+                let node = *node;
                 self.restart(node);
                 Ok(())
             }

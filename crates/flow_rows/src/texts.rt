@@ -1,9 +1,9 @@
 // The words of a step.
 use crate::stores::{SHARDS, STORE};
 use lines::Command;
-use names::Care;
+use names::{Care, NodeName};
 use std::alloc::Global;
-use tuples::Refusal;
+use tuples::{Refusal, Request, Write};
 
 pub(crate) fn number(text: &str) -> Result<usize, Refusal> {
     text.parse::<usize>().map_err(|_| Refusal::BadRequest)
@@ -18,6 +18,36 @@ pub(crate) fn two_numbers(text: &str) -> Result<(usize, usize), Refusal> {
 /// The line of a script, in which no flow has a name.
 pub(crate) fn command(alloc: Global, line: &str) -> Result<Command, Refusal> {
     Command::parse(alloc, line.as_bytes(), STORE, SHARDS, &[])
+}
+
+/// A request, as a script spells it.
+pub(crate) fn request(alloc: Global, line: &str) -> Result<Request, Refusal> {
+    match command(alloc, line)? {
+        Command::Ask(request) => Ok(request),
+        other => {
+            drop(other);
+            Err(Refusal::BadRequest)
+        }
+    }
+}
+
+/// A write, as a script spells it.
+pub(crate) fn write(alloc: Global, line: &str) -> Result<Write, Refusal> {
+    match request(alloc, line)? {
+        Request::Write(write) => Ok(write),
+        other => {
+            drop(other);
+            Err(Refusal::BadRequest)
+        }
+    }
+}
+
+/// The node that a line of a script flushes.
+pub(crate) fn flushed(alloc: Global, line: &str) -> Result<NodeName, Refusal> {
+    match care(alloc, line)? {
+        Care::Flush(node) => Ok(node),
+        _ => Err(Refusal::BadRequest),
+    }
 }
 
 /// A care, as a script spells it.

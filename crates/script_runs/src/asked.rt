@@ -6,7 +6,7 @@ use tuples::MAX_SHARDS;
 
 /// The folder of a store, the store's id, and its number of shards.
 #[derive(Clone, Copy)]
-pub(crate) struct InFiles<'a> {
+pub struct InFiles<'a> {
     pub(crate) folder: &'a str,
     pub(crate) store: u64,
     pub(crate) shards: u8,
@@ -16,7 +16,7 @@ pub(crate) struct InFiles<'a> {
 
 /// Which of the disks that are given fails, at which of its calls, and which byte is found then in what was written since its last sync.
 #[derive(Clone, Copy)]
-pub(crate) struct OneFails {
+pub struct OneFails {
     pub(crate) disk: u64,
     pub(crate) call: u64,
     pub(crate) byte: u8,
@@ -24,19 +24,19 @@ pub(crate) struct OneFails {
 
 /// Over which devices the script runs.
 #[derive(Clone, Copy)]
-pub(crate) enum Asked<'a> {
+pub enum Asked<'a> {
     Files(InFiles<'a>),
     Failing(OneFails),
 }
 
 impl<'a> Asked<'a> {
-    /// What the words ask for, the name of the program first; none where they are other words.
-    pub(crate) fn read(words: &'a [String]) -> Option<Asked<'a>> {
-        let [_, kind, first, second, third] = words else {
+    /// What the words ask for: `files` with a folder, the id of a store and its number of shards, or `failing` with the number of
+    /// a disk, from 0, the number of its call that fails, from 1, and the byte that is found then. None where they are other words.
+    pub fn read(words: &[&'a str]) -> Option<Asked<'a>> {
+        let [kind, first, second, third] = *words else {
             return None;
         };
-        let (first, second, third) = (first.as_str(), second.as_str(), third.as_str());
-        match kind.as_str() {
+        match kind {
             "files" => Some(Asked::Files(in_files(first, second, third)?)),
             "failing" => Some(Asked::Failing(one_fails(first, second, third)?)),
             _ => None,

@@ -4,14 +4,14 @@ const LONGEST: u64 = 3_600;
 
 /// For how many seconds the threads ask, and what chooses what they ask.
 #[derive(Clone, Copy)]
-pub(crate) struct Stress {
+pub struct Stress {
     pub(crate) seconds: u64,
     pub(crate) seed: u64,
 }
 
 /// What is to be run.
 #[derive(Clone, Copy)]
-pub(crate) enum Asked {
+pub enum Asked {
     /// Threads of all kinds, for some seconds.
     Stress(Stress),
     /// Two callers, one of whom is told what the other was told.
@@ -21,15 +21,12 @@ pub(crate) enum Asked {
 }
 
 impl Asked {
-    /// What the words ask for, the name of the program first; none where they are other words.
-    pub(crate) fn read(words: &[String]) -> Option<Asked> {
-        match words {
-            [_, word] => match word.as_str() {
-                "two-callers" => Some(Asked::TwoCallers),
-                "two-writers" => Some(Asked::TwoWriters),
-                _ => None,
-            },
-            [_, seconds, seed] => read_stress(seconds.as_str(), seed.as_str()),
+    /// What the words ask for: `two-callers`, `two-writers`, or `threads` with the seconds of a run and its seed. None where they are other words.
+    pub fn read(words: &[&str]) -> Option<Asked> {
+        match *words {
+            ["two-callers"] => Some(Asked::TwoCallers),
+            ["two-writers"] => Some(Asked::TwoWriters),
+            ["threads", seconds, seed] => read_stress(seconds, seed),
             _ => None,
         }
     }

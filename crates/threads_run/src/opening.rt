@@ -29,7 +29,7 @@ const SHARDS: u8 = 4;
 pub(crate) const FAILED: u8 = 1;
 
 /// Opens a store, and runs what was asked for. The status.
-pub(crate) fn run<R: Runtime + Threads + Wait + Sync>(rt: &R, alloc: Global, asked: Asked) -> u8 {
+pub fn run<R: Runtime + Threads + Wait + Sync>(rt: &R, alloc: Global, asked: Asked) -> u8 {
     match new_bell(alloc) {
         Ok((parker, bell)) => run_with_bell(rt, alloc, parker, bell, asked),
         Err(_) => FAILED,

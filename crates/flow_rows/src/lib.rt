@@ -1,5 +1,5 @@
-//! Flows over the nodes of a store of two shards, by rows of steps: which calls each flow makes, one after another, and how it ends. It is what
-//! `checks/flow_rows` runs.
+//! Flows over the nodes of a store of two shards, by rows of steps: which calls each flow makes, one after another, and how it ends. `checks/flow_rows` runs
+//! it by the program `harness`.
 //!
 //! Keeps: each row has a store of its own, over disks in memory.
 //! Never: makes a call that no flow asks for, but for a flush and an opening that a step names.
@@ -23,7 +23,6 @@ mod turning;
 use plays::play;
 use std::alloc::Global;
 use std::io::{self, Read, Write};
-use std::process::ExitCode;
 use stores::new_disks;
 use tuples::Refusal;
 
@@ -32,7 +31,8 @@ fn played(alloc: Global, row: &str) -> Result<String, Refusal> {
     play(alloc, new_disks(alloc, 6)?, row)
 }
 
-fn run<R: Read + Drop, W: Write>(alloc: Global, reader: R, writer: &mut W) -> io::Result<()> {
+/// Plays each row of the text, and writes what it did, a line a row; of one that could not be played why not.
+pub fn run<R: Read + Drop, W: Write>(alloc: Global, reader: R, writer: &mut W) -> io::Result<()> {
     let text = io::read_to_string(alloc, reader)?;
     for row in text.split("\n\n") {
         match played(alloc, row.trim()) {
@@ -41,12 +41,4 @@ fn run<R: Read + Drop, W: Write>(alloc: Global, reader: R, writer: &mut W) -> io
         }
     }
     Ok(())
-}
-
-fn main(rt: HostRuntime) -> ExitCode {
-    let mut writer = io::writer(&rt);
-    match run(rt.alloc(), rt.reader(), &mut writer) {
-        Ok(()) => ExitCode::SUCCESS,
-        Err(_) => ExitCode::FAILURE,
-    }
 }

@@ -1,4 +1,5 @@
-//! Nodes that are opened over images, by rows: what each finds, or why it is refused. It is what `checks/images` runs.
+//! Nodes that are opened over images, by rows: what each finds, or why it is refused. `checks/images` runs it by the program
+//! `harness`.
 //!
 //! Keeps: each row has two disks in memory of its own, with the bytes that it spells.
 //! Never: makes more of a node than its opening, and asks what it found.
@@ -16,7 +17,6 @@ use printed::Printed;
 use row::Row;
 use std::alloc::{AllocError, Global};
 use std::io::{self, Read, Write};
-use std::process::ExitCode;
 use tuples::Refusal;
 
 // What is told of a row; where it can't be told all, why not.
@@ -31,7 +31,8 @@ fn answer(alloc: Global, row: &str, out: &mut Vec<u8>) -> Result<(), AllocError>
     out.extend_from_slice(b";\n")
 }
 
-fn run<R: Read + Drop, W: Write>(alloc: Global, reader: R, writer: &mut W) -> io::Result<()> {
+/// Opens the nodes of each row of the text, and writes what is told of it.
+pub fn run<R: Read + Drop, W: Write>(alloc: Global, reader: R, writer: &mut W) -> io::Result<()> {
     let text = io::read_to_string(alloc, reader)?;
     let mut out = Vec::new(alloc);
     for row in text.lines() {
@@ -40,12 +41,4 @@ fn run<R: Read + Drop, W: Write>(alloc: Global, reader: R, writer: &mut W) -> io
         writer.write_all(&out)?;
     }
     Ok(())
-}
-
-fn main(rt: HostRuntime) -> ExitCode {
-    let mut writer = io::writer(&rt);
-    match run(rt.alloc(), rt.reader(), &mut writer) {
-        Ok(()) => ExitCode::SUCCESS,
-        Err(_) => ExitCode::FAILURE,
-    }
 }
