@@ -156,7 +156,7 @@ def busy_sessions(folder):
 
 
 def counted(folder):
-    """`--connections 3`: three are served, and it ends with status 0"""
+    """`--connections 3`: three are served, by two workers or by one, and it ends with status 0"""
     with Server(folder, workers=2, connections=3) as server:
         sessions = [Session(server.port) for _ in range(3)]
         for session in sessions[:2]:
@@ -169,6 +169,13 @@ def counted(folder):
             session.close()
         status, out, err = server.ended()
         must((status, out) == (0, "") and is_start(err, folder, SHARDS, 0, 0), f"ends with (status, output, error) {(status, out, err)}")
+    with Server(folder, workers=1, connections=3) as server:
+        # All are there at once, and each has the worker once the one before it has left.
+        sessions = [Session(server.port) for _ in range(3)]
+        for session in sessions:
+            is_answered(session)
+            session.close()
+        must(server.ended()[:2] == (0, ""), "with one worker it ends otherwise")
     with Server(folder) as server, Session(server.port) as session:
         is_answered(session)
 

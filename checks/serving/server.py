@@ -56,7 +56,7 @@ def run(*words):
 def is_start(text, folder, shards, horizon, latest):
     """Whether the text is just the line that a server of a new store, or of one with these places, prints on standard error as it begins."""
     wanted = re.escape(f"zanstore: {folder}: {shards} shards, places {horizon} to {latest}, opened in ")
-    return re.fullmatch(wanted + r"[0-9]+\.[0-9]{3} s\n", text) is not None
+    return re.fullmatch(wanted + rf"[0-9]+\.[0-9]{{3}} s from [0-9]+ bytes of {2 * (shards + 1)} files\n", text) is not None
 
 
 def limit_files(longest):

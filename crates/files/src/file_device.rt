@@ -1,5 +1,5 @@
 // A device over a file, of which no contract tells anything: each life reads only what it found when it was opened.
-ghost use Rattle.std.specs.Prelude.{◌≡◌, ◌≤◌, ◌+◌, ◌<◌, ◌⊎◌, ◌^◌, ◌-◌, [], ◌∷◌, true, false, List, ℕ, IfOk, IfErr, IfSome, None, IsErr, IsOk, OnOk, OnErr, length, take, drop};
+ghost use Rattle.std.specs.Prelude.{◌≡◌, ◌≤◌, ◌+◌, ◌<◌, ◌⊎◌, ◌^◌, ◌-◌, [], ◌∷◌, true, false, List, ℕ, IfOk, IfErr, IfSome, None, IsErr, IsOk, OnOk, OnErr, length, take, drop, vec_len};
 ghost use Rattle.std.proofs.Common.{subst, arith};
 ghost use Rattle.std.proofs.Props.{props};
 ghost use Rattle.device.specs.Device.{Elapses, Failed, Keeps, Revived, Synced, Tore, Wrote, left};
@@ -62,6 +62,17 @@ impl<F: RawFile> FileDevice<F> {
             failures: 0,
             history,
         })
+    }
+
+    /// How many bytes were found, as long as nothing was written; behind the first write 0.
+    pub fn found_len(&self) -> usize
+        ensures found { IfSome self.now.found (λ v. result ≡ vec_len v) }
+        ensures none { self.now.found ≡ None → result ≡ 0 }
+    {
+        match &self.found {
+            Some(found) => found.len(),
+            None => 0,
+        }
     }
 
     // Counts a failure: from now on each call fails.

@@ -99,6 +99,7 @@ where
             rt,
             files.alloc(),
             settings,
+            found_in(&devices),
             Open,
             parker,
             bell,
@@ -112,13 +113,23 @@ where
     }
 }
 
-/// Opens the store over its devices, and serves it as `serve` does. Where the devices rest at the room's first list, all that sessions answer is said of that
+// How many bytes were found in the files.
+fn found_in(devices: &[FileDevice<HostFile>]) -> u64 {
+    let mut found = 0u64;
+    for device in devices {
+        found = found.saturating_add(device.found_len() as u64);
+    }
+    found
+}
+
+/// Opens the store over its devices, in which so many bytes were found, and serves it as `serve` does. Where the devices rest at the room's first list, all that sessions answer is said of that
 /// list and of what joins it; no other premise is taken. Of a list at which they rest the coordinator's devices have what is behind its base, which is the
 /// whole of it before its first checkpoint.
 pub fn serve_over<D: Device + Send, B: Room + Send + Sync, G: Gate + Sync, R>(
     rt: &R,
     alloc: Global,
     settings: &ServeSettings,
+    found: u64,
     gate: G,
     parker: Parker,
     bell: Unparker,
@@ -139,7 +150,7 @@ where
     requires rests { B.rests ↔ IsAtRest D.state D.honest B.shards B.first devices.items }
     ensures { (result ≡ 0) ⊎ (result ≡ 1) }
 {
-    let progress = Progress::new();
+    let progress = Progress::new(found);
     let progress = &progress;
     thread::scope(
         thread::scope_env(),

@@ -10,19 +10,21 @@ const FIRST: u64 = 1;
 
 const LAST: u64 = 60;
 
-/// Whether a store is being opened still, for whoever tells of it.
+/// Whether a store is being opened still, for whoever tells of it, and how many bytes were found in its files.
 #[derive(Drop)]
 pub(crate) struct Progress {
     parker: Parker,
     ended: AtomicU64,
+    pub found: u64,
 }
 
 impl Progress {
     /// It is.
-    pub(crate) fn new() -> Progress {
+    pub(crate) fn new(found: u64) -> Progress {
         Progress {
             parker: Parker::new(),
             ended: AtomicU64::new(0),
+            found,
         }
     }
 

@@ -44,7 +44,7 @@ where
     match start(rt, alloc, store, &mut first, settings) {
         Ok(start) => {
             progress.end();
-            tell_start(rt, settings, &start, began);
+            tell_start(rt, settings, &start, progress.found, began);
             ended(
                 rt,
                 serve_at(rt, alloc, store, &mut first, parker, settings, &start),

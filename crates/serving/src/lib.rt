@@ -4,7 +4,7 @@
 //! Never: cuts a session that was not idle for the ticks that it may be; one that may be idle for ever is cut only while the server closes.
 //! Callers rely on: a worker serves one connection at a time, from its first line to its last.
 //!
-//! Only tested: that each connection is served once, that sessions of several workers go on beside one another, and that the server ends.
+//! Only tested, over the program: that each connection is served once, that sessions of several workers go on beside one another, and that the server ends.
 //! No contract says that a call returns: threads wait for connections, and each for its caller.
 //!
 //! Start at `serve_one`, a session over any reader and writer, and then `serve_on`.
@@ -18,8 +18,6 @@ mod patient;
 mod serving;
 mod session;
 mod signs;
-#[cfg(test)]
-mod tests;
 mod working;
 
 pub use begun::Begun;
