@@ -153,8 +153,7 @@ def goes_on_beside(session, place):
 
 
 def full_shard(folder):
-    """a shard's file that gets no longer: what needs that shard is refused with `13 Down`, another one and watches go on, standard error tells of it once, and
-    a start with room finds what was told"""
+    """a shard's file that gets no longer: that shard alone is refused with `13 Down` and told of, once, and a start with room finds what was told"""
     with Server(folder, longest=4000) as server, Session(server.port) as session, Session(server.port) as other:
         told = fills_shard(session)
         needs_shard(session)
