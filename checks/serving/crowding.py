@@ -12,6 +12,9 @@ CROWD = 1100
 PLACES = 1024
 ASKED = check("doc:a#viewer@ann")
 NO = {"member": False, "zookie": token_of(0)}
+# For so many seconds a write of answers waits for who takes nothing, and then the connection is closed; but where the system's buffers took a part of it, the
+# next write waits as long. So it is a minute or two in the end, and far more is a fault.
+SLOWEST, LATEST = 30, 300
 
 
 def is_answered(session):
@@ -114,6 +117,32 @@ def never_reads(folder):
                 must(answer.get("member") is True, f"answers {answer} once that client has gone")
 
 
+def is_cut(one):
+    """Whether the server has ended a connection: behind what was sent there comes nothing more."""
+    try:
+        while one.recv(1 << 20):
+            pass
+    except TimeoutError:
+        return False
+    except OSError:
+        pass
+    return True
+
+
+def unread_answers(folder):
+    """a client that never reads has the only worker for half a minute at least, loses it in the end, and who waits is answered"""
+    with Server(folder, workers=1) as server:
+        with Session(server.port) as session:
+            fill(session)
+        begin = time.monotonic()
+        with filled(server.port) as unread, Session(server.port, LATEST) as other:
+            answer = other.ask(ASKED)
+            waited = time.monotonic() - begin
+            must(answer == {"member": False, "zookie": token_of(8)}, f"answers {answer} to the one that waited")
+            must(waited >= SLOWEST, f"a client that reads nothing gave its worker up after {waited:.1f} s")
+            must(is_cut(unread), "the client that reads nothing has a connection still, and there is one worker")
+
+
 def resets(folder):
     """clients that end in the midst of their answers"""
     with Server(folder, workers=2) as server:
@@ -141,16 +170,41 @@ def idle_sessions(folder):
         must(waited >= 0.5, f"a session that was asked something gave its worker up after {waited:.1f} s")
 
 
+def paused_lines(folder):
+    """a client that sent half a line and pauses has its worker while nobody waits, and gives it up where someone does; its half is not made"""
+    asked, half = spelled(ASKED), spelled(write("+doc:a#viewer@ann"))[:-1]
+    with Server(folder, workers=1, idle=1) as server, Session(server.port) as paused:
+        paused.send(asked[:20])
+        time.sleep(3)
+        paused.send(asked[20:])
+        must(paused.answer() == NO, "a line that came in two pieces is answered otherwise")
+        paused.send(half)
+        begin = time.monotonic()
+        with Session(server.port) as other:
+            is_answered(other)
+            waited = time.monotonic() - begin
+            # Less than where `--idle` is not given.
+            must(0.5 <= waited < 8, f"a client gave its worker up {waited:.1f} s behind half a line")
+            must(paused.lines.read() == b"", "half a line is answered")
+            is_answered(other)
+
+
 def busy_sessions(folder):
-    """a session that asks and asks has its worker, though another waits"""
+    """a session that asks and asks has its worker, though another waits, and so has one whose line comes byte by byte"""
+    line = spelled(ASKED)
     with Server(folder, workers=1, idle=3) as server, Session(server.port) as busy:
         is_answered(busy)
         with Session(server.port) as other:
-            other.send(spelled(ASKED))
+            other.send(line)
             # Together more than it may be idle, each far less.
             for _ in range(8):
                 time.sleep(0.7)
                 is_answered(busy)
+            for at in range(8):
+                time.sleep(0.7)
+                busy.send(line[at : at + 1])
+            busy.send(line[8:])
+            must(busy.answer() == NO, "a line that came byte by byte is answered otherwise")
             busy.close()
             must(other.answer() == NO, "the one that waited is answered otherwise")
 
@@ -185,6 +239,9 @@ TRIES = {
     "never-reads": never_reads,
     "resets": resets,
     "idle-sessions": idle_sessions,
+    "paused-lines": paused_lines,
     "busy-sessions": busy_sessions,
     "counted": counted,
 }
+# It takes longer than all others together, so it comes behind them.
+LONG = {"unread-answers": unread_answers}

@@ -10,8 +10,10 @@ from serving.wire import Gone, Session, check, place_of, read, refusal, watch, w
 from serving.wire import token as token_of
 
 COUNT = 100
-# The coordinator's file is the first that is full, since it has every change.
+# Where each shard has some of the changes, the coordinator's file is the first that is full, since it has every one.
 DOWN_LINE = "zanstore: the coordinator is down, and no write is taken until the server is started again\n"
+# Where one shard has all of them, its own is: it has each as the coordinator does, and what it learned besides.
+SHARD_LINE = "zanstore: shard 0 is down until the server is started again\n"
 
 
 def killed(folder):
@@ -117,6 +119,58 @@ def full_disk(folder):
         is_told(session, write("+doc:more#viewer@ann"), {"zookie": token_of(len(found) + 1)})
 
 
+def fills_shard(session):
+    """Writes to shard 0 until its file is full; the tuples that were told."""
+    told = []
+    for number in range(1, COUNT + 1):
+        tuple = f"doc:a#viewer@u{number:03}"
+        answer = session.ask(write("+" + tuple))
+        if answer != {"zookie": token_of(number)}:
+            must(answer == refusal(13, "Down"), f"answers {answer} to write {number}")
+            break
+        told.append(tuple)
+    must(10 <= len(told) < COUNT, f"{len(told)} writes were told before one was refused")
+    return told
+
+
+def needs_shard(session):
+    """What needs shard 0, be it with another shard, is refused."""
+    both = write("+doc:b#viewer@both", "+doc:a#viewer@both")
+    for asked in (read("doc:a"), read("doc@u001"), check("doc:a#viewer@u001", exact=token_of(1)), write("-doc:a#viewer@u001"), both):
+        is_told(session, asked, refusal(13, "Down"))
+
+
+def goes_on_beside(session, place):
+    """Another shard takes writes behind this place, and answers of them, and a watch tells them; its tuples."""
+    told = [f"doc:b#viewer@u{number:03}" for number in range(1, 11)]
+    for number, tuple in enumerate(told, 1):
+        is_told(session, write("+" + tuple), {"zookie": token_of(place + number)})
+        is_told(session, check(tuple), {"member": True, "zookie": token_of(place + number)})
+    is_told(session, read("doc:b"), {"sets": [told], "zookie": token_of(place + 10)})
+    events = [{"change": "touch", "place": place + number, "tuple": tuple} for number, tuple in enumerate(told, 1)]
+    is_told(session, watch(token_of(place), "doc"), {"events": events, "heartbeat": token_of(place + 10)})
+    return told
+
+
+def full_shard(folder):
+    """a shard's file that gets no longer: that shard alone is refused with `13 Down` and told of, once, and a start with room finds what was told"""
+    with Server(folder, longest=4000) as server, Session(server.port) as session, Session(server.port) as other:
+        told = fills_shard(session)
+        needs_shard(session)
+        more = goes_on_beside(other, len(told))
+        needs_shard(other)
+        begin, down = (server.next_line(server.child.stderr).decode() for _ in range(2))
+        must(is_start(begin, folder, SHARDS, 0, 0) and down == SHARD_LINE, f"standard error says {begin}{down}")
+        must(server.goes_on(), "the server has ended")
+        server.child.kill()
+        rest = server.child.stderr.read().decode()
+        must(not rest, f"standard error goes on: {rest}")
+    with Server(folder) as server, Session(server.port) as session:
+        place = len(told) + len(more)
+        is_told(session, read("doc:a", "doc:b"), {"sets": [told, more], "zookie": token_of(place)})
+        is_told(session, write("+doc:a#viewer@more", "+doc:b#viewer@more"), {"zookie": token_of(place + 1)})
+
+
 def narrow_window(folder):
     """`--window 0`: what is latest is told; an older exact place may be refused with `8 Collected`, and is behind a start"""
     with Server(folder, window=0) as server, Session(server.port) as session:
@@ -139,5 +193,6 @@ TRIES = {
     "killed-writing": killed_writing,
     "followed": followed,
     "full-disk": full_disk,
+    "full-shard": full_shard,
     "narrow-window": narrow_window,
 }

@@ -1,12 +1,15 @@
 """How a server starts, and when it doesn't."""
 import os
 import re
+import shutil
 import socket
 
 from judge.worlds import must
 from serving.libraries import built_library
 from serving.server import HOST, SHARDS, STORE, Server, free_port, is_start, run, words_of
-from serving.wire import Session, check, write
+from serving.talking import is_told
+from serving.wire import Session, check, read, refusal, write
+from serving.wire import token as token_of
 
 # Values that an option can't have.
 COUNTED = {name: ("x", "-1", "4294967296") for name in ("store", "window", "connections", "idle")}
@@ -80,16 +83,38 @@ def taken_port(folder):
     is_status_2(*words_of(options(os.path.join(folder, "none"), shards=0)))
 
 
+def life(folder, *changes, **more):
+    """A server that ends behind one session, which makes this write: in a last round each shard has learned it, so nothing is left to do."""
+    with Server(folder, connections=1, **more) as server:
+        with Session(server.port) as session:
+            answer = session.ask(write(*changes))
+            must("zookie" in answer, f"answers {answer} to {changes}")
+        status, out, err = server.ended()
+        must((status, out) == (0, ""), f"ends with (status, output, error) {(status, out, err)}")
+
+
+def bytes_of(folder):
+    """What each file of the folder has."""
+    found = {}
+    for name in os.listdir(folder):
+        with open(os.path.join(folder, name), "rb") as file:
+            found[name] = file.read()
+    return found
+
+
 def second_server(folder):
-    """a second server on the folder: `13 Down`, and the first goes on"""
+    """a second server on the folder: `13 Down`, no file has another byte, and the first goes on"""
+    life(folder, "+doc:a#viewer@ann")
     with Server(folder) as first, Session(first.port) as session:
-        session.ask(write("+doc:a#viewer@ann"))
+        # Nothing is left to do and nobody writes, so the first one has written all that it does.
+        before = bytes_of(folder)
         refused(DOWN, options(folder))
-        answer = session.ask(check("doc:a#viewer@ann"))
-        must(answer.get("member") is True, f"the first answers {answer}")
-    with Server(folder) as later, Session(later.port) as session:
-        answer = session.ask(check("doc:a#viewer@ann"))
-        must(answer.get("member") is True, f"a later one answers {answer}")
+        changed = {name for name, _ in before.items() ^ bytes_of(folder).items()}
+        must(not changed, f"a second server changes the files {sorted(changed)}")
+        is_told(session, check("doc:a#viewer@ann"), {"member": True, "zookie": token_of(1)})
+        is_told(session, write("+doc:b#viewer@ann"), {"zookie": token_of(2)})
+    finds(folder, "doc:a#viewer@ann")
+    finds(folder, "doc:b#viewer@ann")
 
 
 def spoil(path, at):
@@ -131,6 +156,61 @@ def other_stores(folder):
     refused(DAMAGED, options(folder))
 
 
+def put_back(source, folder, node):
+    """The files of this node are those of the copy again."""
+    for bank in "ab":
+        shutil.copy(os.path.join(source, f"{node}.{bank}"), os.path.join(folder, f"{node}.{bank}"))
+
+
+def remove(folder, node):
+    for bank in "ab":
+        os.remove(os.path.join(folder, f"{node}.{bank}"))
+
+
+def is_found(folder, horizon, latest, *rows):
+    """A server over the folder is ready, and has just these tuples, and these places."""
+    with Server(folder) as server, Session(server.port) as session:
+        line = server.next_line(server.child.stderr).decode()
+        must(is_start(line, folder, SHARDS, horizon, latest), f"tells of its start: {line}")
+        is_told(session, read("doc@ann"), {"sets": [list(rows)], "zookie": token_of(latest)})
+
+
+def lacks_shard(folder, rows):
+    """Where the coordinator has forgotten nothing, a server starts without what shard 1 had, and refuses what needs it."""
+    with Server(folder) as server, Session(server.port) as session:
+        for asked in (read("doc:b"), read("doc@ann"), check("doc:b#viewer@ann"), write("+doc:b#viewer@bob")):
+            is_told(session, asked, refusal(16, "Damaged"))
+        is_told(session, read("doc:a"), {"sets": [rows], "zookie": token_of(2)})
+
+
+def mixed_files(folder):
+    """files of two moments, or some that are gone: `16 Damaged`; with those of one moment again: ready, and what was told is there"""
+    store, older, newer = (os.path.join(folder, name) for name in ("store", "older", "newer"))
+    os.mkdir(store)
+    # Each shard has one of these.
+    rows = [f"doc:{name}#viewer@ann" for name in "abc"]
+    life(store, *("+" + row for row in rows))
+    shutil.copytree(store, older)
+    life(store, *("-" + row for row in rows[1:]))
+    shutil.copytree(store, newer)
+    # The shards have learned more than this coordinator has.
+    put_back(older, store, "c")
+    refused(DAMAGED, options(store))
+    put_back(newer, store, "c")
+    is_found(store, 0, 2, rows[0])
+    remove(store, 1)
+    lacks_shard(store, rows[:1])
+    put_back(newer, store, 1)
+    # From now on the coordinator has forgotten what shard 1 has learned.
+    life(store, "+" + rows[2], window=0)
+    shutil.copytree(store, newer, dirs_exist_ok=True)
+    for lose in (lambda: put_back(older, store, 1), lambda: remove(store, 1)):
+        lose()
+        refused(DAMAGED, options(store))
+        put_back(newer, store, 1)
+    is_found(store, 3, 3, rows[0], rows[2])
+
+
 def long_opening(folder):
     """a line on standard error while an opening takes long"""
     # The only shard's first sync behind the making of its files, which takes the other call, waits two seconds for that of another one.
@@ -151,5 +231,6 @@ TRIES = {
     "second-server": second_server,
     "damaged-files": damaged_files,
     "other-stores": other_stores,
+    "mixed-files": mixed_files,
     "long-opening": long_opening,
 }

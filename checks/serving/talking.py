@@ -7,12 +7,28 @@ import time
 from judge.worlds import Wrong, must
 from serving.libraries import built_library
 from serving.rows import is_refused_before, rows
-from serving.server import LIMIT, Server
+from serving.server import LIMIT, Server, is_start, run
 from serving.wire import Session, check, delete, place_of, read, refusal, spelled, touch, watch, write
 from serving.wire import token as token_of
 
 MAX_LINE = 262144
 TOO_LARGE = refusal(3, "TooLarge")
+# Lines, each with its answer, worked out by hand: those over the first connection to a new store with id 1, and the one over the second.
+BAD_REQUEST = b'{"error":1,"name":"BadRequest"}'
+FIRST = [
+    (b'{"op":"read","sets":["doc:a","doc:b"]}', b'{"sets":[[],[]],"zookie":"AQAAAAAAAAAAAQAAAAAAAAAA"}'),
+    (b'{"op":"write","changes":[{"op":"touch","tuple":"doc:a#viewer@u1"}]}', b'{"zookie":"AQAAAAAAAAAAAQAAAAAAAAAB"}'),
+    (b'{"op":"check","tuple":"doc:a#viewer@u1"}', b'{"member":true,"zookie":"AQAAAAAAAAAAAQAAAAAAAAAB"}'),
+    (b'{"op":"read","sets":["doc:a","doc:b"]}', b'{"sets":[["doc:a#viewer@u1"],[]],"zookie":"AQAAAAAAAAAAAQAAAAAAAAAB"}'),
+    (
+        b'{"op":"watch","from":"AQAAAAAAAAAAAQAAAAAAAAAA","limit":1,"namespaces":["doc"]}',
+        b'{"events":[{"change":"touch","place":1,"tuple":"doc:a#viewer@u1"}],"heartbeat":"AQAAAAAAAAAAAQAAAAAAAAAB"}',
+    ),
+    (b'{"op":"read","sets":[]}', BAD_REQUEST),
+]
+HALF = b'{"op":"read"'
+SECOND = (b'{"op":"read","sets":["doc:a"],"at_least":"AQAAAAAAAAAAAQAAAAAAAAAB"}', b'{"sets":[["doc:a#viewer@u1"]],"zookie":"AQAAAAAAAAAAAQAAAAAAAAAB"}')
+DUMPED = "at AQAAAAAAAAAAAQAAAAAAAAAB\ndoc:a#viewer@u1\n"
 
 
 def is_told(session, request, wanted):
@@ -20,6 +36,36 @@ def is_told(session, request, wanted):
     session.send(spelled(request))
     answer, text = session.line(), json.dumps(wanted, sort_keys=True, separators=(",", ":")).encode()
     must(answer == text, f"answers {answer[:300]} to {str(request)[:200]}, and not {text[:300]}")
+
+
+def is_line(session, line, wanted):
+    session.send(line + b"\n")
+    answer = session.line()
+    must(answer == wanted, f"answers {answer} to {line}, and not {wanted}")
+
+
+def ends_with(session, half, wanted):
+    """Where a client sends these bytes and ends, just this is answered before the server ends as well."""
+    session.send(half)
+    session.end()
+    rest = session.lines.read()
+    must(rest == wanted, f"answers {rest} to a client that ends behind {half}, and not {wanted}")
+
+
+def loopback(folder):
+    """two sessions whose answers were worked out by hand, to the byte; behind them the server ends with status 0, and a dump prints the one tuple"""
+    with Server(folder, store=1, shards=2, workers=2, connections=2) as server:
+        with Session(server.port) as session:
+            for line, wanted in FIRST:
+                is_line(session, line, wanted)
+            ends_with(session, HALF, BAD_REQUEST + b"\n")
+        with Session(server.port) as session:
+            is_line(session, *SECOND)
+            ends_with(session, b"", b"")
+        status, out, err = server.ended()
+        must((status, out) == (0, "") and is_start(err, folder, 2, 0, 0), f"ends with (status, output, error) {(status, out, err)}")
+    found = run("dump", "--dir", folder, "--store", "1", "--shards", "2")
+    must(found == (0, DUMPED, ""), f"a dump has (status, output, error) {found}, and not {(0, DUMPED, '')}")
 
 
 def each_request(folder):
@@ -242,6 +288,7 @@ def long_lines(folder):
 
 
 TRIES = {
+    "loopback": loopback,
     "each-request": each_request,
     "refused-lines": refused_lines,
     "fresh-reads": fresh_reads,
