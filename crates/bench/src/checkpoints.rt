@@ -66,9 +66,10 @@ fn open<D: Device>(
 ) -> anyhow::Result<()> {
     let start = Instant::now(rt)?;
     let shard = new_shard(alloc, a, b)?;
-    let elapsed = start.elapsed(rt)?;
+    let elapsed = start.elapsed(rt);
     let learned = shard.learned();
     drop(shard);
+    let elapsed = elapsed?;
     let done = Done {
         amount: u64::from(writes),
         answer: learned?,

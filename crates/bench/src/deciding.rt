@@ -55,7 +55,9 @@ pub(crate) fn measure(
 fn time(rt: &impl Clock, alloc: Global, groups: u32) -> anyhow::Result<Spent> {
     let (a, b) = two_disks(alloc)?;
     let mut shard = new_shard(alloc, a, b)?;
-    time_at(rt, alloc, &mut shard, groups)
+    let spent = time_at(rt, alloc, &mut shard, groups);
+    drop(shard);
+    spent
 }
 
 fn time_at(

@@ -1,6 +1,7 @@
 // Records staged and flushed, to a disk in memory.
 ghost use Rattle.records.specs.Format.{AreRecords};
 
+use crate::openings::new_journal;
 use crate::touches::two_disks;
 use device::{Device, SimDisk};
 use journal::{Journal, is_plain};
@@ -14,13 +15,6 @@ use tuples::Refusal;
 
 /// How many records are flushed in all, at least.
 const RECORDS: u32 = 200_000;
-
-fn open<D: Device>(alloc: Global, a: D, b: D) -> Result<Journal<D>, Refusal> {
-    match Journal::open(alloc, a, b) {
-        Ok((journal, _)) => Ok(journal),
-        Err(refused) => Err(refused.refusal),
-    }
-}
 
 fn stage_and_flush<D: Device>(journal: &mut Journal<D>, records: &[Record]) -> Result<(), Refusal>
     requires { AreRecords records.now }
@@ -57,7 +51,7 @@ fn measure_of(
     requires { AreRecords records.now }
 {
     let (a, b) = two_disks(alloc)?;
-    let mut journal = open(alloc, a, b)?;
+    let mut journal = new_journal(alloc, a, b)?;
     measure_in(rt, &mut journal, records, size, count)
 }
 

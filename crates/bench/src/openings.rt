@@ -1,6 +1,8 @@
 // How long an opening of a coordinator takes over a log of so many decisions, and how much memory.
 ghost use Rattle.std.specs.Prelude.{◌≤◌, IfOk};
 ghost use Rattle.decisions.specs.Values.{IsIntent};
+ghost use Rattle.journal.specs.Rest.{IsPlain};
+ghost use Rattle.records.specs.Format.{IsRecord};
 
 use crate::touches::{STORE, open_coordinator, touch, two_disks};
 use device::Device;
@@ -75,8 +77,25 @@ fn open<D: Device>(
 pub(crate) fn new_journal<D: Device>(alloc: Global, a: D, b: D) -> Result<Journal<D>, Refusal> {
     match Journal::open(alloc, a, b) {
         Ok((journal, _)) => Ok(journal),
-        Err(refused) => Err(refused.refusal),
+        Err(refused) => {
+            let refusal = refused.refusal;
+            drop(refused);
+            Err(refusal)
+        }
     }
+}
+
+/// Stages the first opening of a node of a store of one shard.
+pub(crate) fn stage_opening<D: Device>(journal: &mut Journal<D>, node: u8) -> Result<(), Refusal> {
+    let opening = Record::Epoch {
+        epoch: 1,
+        store: STORE,
+        shards: 1,
+        node,
+    };
+    let staged = journal.stage(&opening);
+    drop(opening);
+    staged
 }
 
 // Makes a first opening and so many decisions durable.
@@ -85,12 +104,7 @@ fn stage_all<D: Device>(
     journal: &mut Journal<D>,
     decisions: u32,
 ) -> Result<(), Refusal> {
-    journal.stage(&Record::Epoch {
-        epoch: 1,
-        store: STORE,
-        shards: 1,
-        node: COORDINATOR,
-    })?;
+    stage_opening(journal, COORDINATOR)?;
     for before in 0..decisions {
         let place = u64::from(before) + 1;
         let entry = entry(alloc, place)?;
@@ -99,15 +113,25 @@ fn stage_all<D: Device>(
     journal.flush()
 }
 
-// Stages a decision; a full batch goes out first.
+// Stages a decision. It is lent to what can fail: a record is let go in one place.
 fn stage<D: Device>(journal: &mut Journal<D>, place: u64, entry: Entry) -> Result<(), Refusal>
     requires { IsIntent entry }
 {
     let decision = Record::Decision { place, entry };
-    if !journal.has_room(&decision) {
+    let staged = stage_next(journal, &decision);
+    drop(decision);
+    staged
+}
+
+// Stages a record; a full batch goes out first.
+fn stage_next<D: Device>(journal: &mut Journal<D>, next: &Record) -> Result<(), Refusal>
+    requires spellable { IsRecord next.now }
+    requires plain { IsPlain next.now }
+{
+    if !journal.has_room(next) {
         journal.flush()?;
     }
-    journal.stage(&decision)
+    journal.stage(next)
 }
 
 // The write with this number of the first epoch.

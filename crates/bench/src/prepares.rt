@@ -90,7 +90,9 @@ fn time(
 ) -> anyhow::Result<(Spent, u64)> {
     let (a, b) = two_disks(alloc)?;
     let mut shard = new_shard(alloc, a, b)?;
-    time_over(rt, alloc, &mut shard, in_doubt, groups)
+    let spent = time_over(rt, alloc, &mut shard, in_doubt, groups);
+    drop(shard);
+    spent
 }
 
 fn time_over(
@@ -102,8 +104,9 @@ fn time_over(
 ) -> anyhow::Result<(Spent, u64)> {
     let (a, b) = two_disks(alloc)?;
     let mut coordinator = open_coordinator(alloc, a, b)?;
-    let text = Vec::from_slice(alloc, TEXT)?;
-    time_at(rt, alloc, &mut coordinator, shard, text, in_doubt, groups)
+    let spent = time_at(rt, alloc, &mut coordinator, shard, in_doubt, groups);
+    drop(coordinator);
+    spent
 }
 
 fn time_at<D: Device>(
@@ -111,10 +114,10 @@ fn time_at<D: Device>(
     alloc: Global,
     coordinator: &mut Coordinator<D>,
     shard: &mut Shard<D>,
-    text: Vec<u8>,
     in_doubt: u32,
     groups: u32,
 ) -> anyhow::Result<(Spent, u64)> {
+    let text = Vec::from_slice(alloc, TEXT)?;
     let mut group = Group {
         text,
         intents: Vec::new(alloc),

@@ -3,8 +3,8 @@ ghost use Rattle.std.specs.Prelude.{◌≤◌, IfOk};
 ghost use Rattle.journal.specs.Rest.{IsPlain};
 ghost use Rattle.records.specs.Format.{IsPrepared, IsRecord};
 
-use crate::openings::{entry, new_journal, print_made};
-use crate::touches::{STORE, new_shard, two_disks};
+use crate::openings::{entry, new_journal, print_made, stage_opening};
+use crate::touches::{new_shard, two_disks};
 use device::Device;
 use journal::Journal;
 use measures::timing::{Done, print};
@@ -54,7 +54,9 @@ fn open<D: Device>(
 ) -> anyhow::Result<()> {
     let start = Instant::now(rt)?;
     let shard = new_shard(alloc, a, b)?;
-    print_opened(rt, start, &shard, writes)
+    let printed = print_opened(rt, start, &shard, writes);
+    drop(shard);
+    printed
 }
 
 fn print_opened<D: Device>(
@@ -84,12 +86,7 @@ fn stage_all<D: Device>(
     journal: &mut Journal<D>,
     writes: u32,
 ) -> Result<(), Refusal> {
-    journal.stage(&Record::Epoch {
-        epoch: 1,
-        store: STORE,
-        shards: 1,
-        node: 0,
-    })?;
+    stage_opening(journal, 0)?;
     for before in 0..writes {
         stage_write(alloc, journal, u64::from(before) + 1)?;
     }
@@ -107,7 +104,9 @@ fn stage_write<D: Device>(
 {
     stage_prepare_of(alloc, journal, number)?;
     let learned = learned(alloc, number)?;
-    stage_learned(journal, &learned)
+    let staged = stage_learned(journal, &learned);
+    drop(learned);
+    staged
 }
 
 fn stage_prepare_of<D: Device>(

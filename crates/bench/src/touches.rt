@@ -26,7 +26,11 @@ pub(crate) fn open_coordinator<D: Device>(
 ) -> Result<Coordinator<D>, Refusal> {
     match Coordinator::open(alloc, a, b, Identity::coordinator(STORE, 1)) {
         Ok(coordinator) => Ok(coordinator),
-        Err(refused) => Err(refused.refusal),
+        Err(refused) => {
+            let refusal = refused.refusal;
+            drop(refused);
+            Err(refusal)
+        }
     }
 }
 
@@ -34,7 +38,11 @@ pub(crate) fn open_coordinator<D: Device>(
 pub(crate) fn new_shard<D: Device>(alloc: Global, a: D, b: D) -> Result<Shard<D>, Refusal> {
     match Shard::open(alloc, a, b, Identity::shard(STORE, 1, 0)) {
         Ok(shard) => Ok(shard),
-        Err(refused) => Err(refused.refusal),
+        Err(refused) => {
+            let refusal = refused.refusal;
+            drop(refused);
+            Err(refusal)
+        }
     }
 }
 
@@ -50,9 +58,8 @@ pub(crate) fn touch(alloc: Global, number: u64) -> Result<Write, Refusal>
 pub(crate) fn write_of(alloc: Global, text: &[u8]) -> Result<Write, Refusal>
     ensures { IfOk result (λ w. AskOfLog w.conditions) }
 {
-    let tuple = Tuple::parse(alloc, text)?;
     let mut changes = Vec::new(alloc);
     changes.reserve(1)?;
-    changes.push_reserved(Change::Touch(tuple));
+    changes.push_reserved(Change::Touch(Tuple::parse(alloc, text)?));
     Write::new(changes, Vec::new(alloc))
 }

@@ -103,6 +103,26 @@ const MEMBER: &str = r#"{"member":true,"zookie":"AQAAAAAAAAAAAQAAAAAAAAAB"}"#;
 
 const BAD: &str = r#"{"error":1,"name":"BadRequest"}"#;
 
+// How a session ends over these lines, with so much room for its answers and a reader that fails behind them or not: whether it ended well,
+// and whether it wrote the beginning of the whole, as long as its room, or this long where there is room for more.
+fn serve(
+    alloc: Global,
+    input: &[u8],
+    whole: &[u8],
+    all: usize,
+    (room, fails): (usize, bool),
+) -> (bool, bool) {
+    let mut reader = Slow { rest: input, fails };
+    let mut writer = Narrow {
+        taken: Vec::new(alloc),
+        room,
+    };
+    let served = serve_stream(alloc, 1, &mut reader, &mut writer, &mut Fake { place: 0 });
+    let taken = writer.taken.as_slice();
+    let is_beginning = whole.starts_with(taken) && taken.len() == room.min(all);
+    (served.is_ok(), is_beginning)
+}
+
 #[test]
 fn a_failure_leaves_a_beginning_of_the_session(rt: HostRuntime) -> Result<(), Fail> {
     let alloc = rt.alloc();
@@ -110,15 +130,6 @@ fn a_failure_leaves_a_beginning_of_the_session(rt: HostRuntime) -> Result<(), Fa
     let whole = format!(in alloc; "{WRITTEN}\n{MEMBER}\n{BAD}\n")?;
     for room in [0, 1, 7, 36, 37, 38, 90, 1_000] {
         for fails in [false, true] {
-            let mut reader = Slow {
-                rest: input.as_bytes(),
-                fails,
-            };
-            let mut writer = Narrow {
-                taken: Vec::new(alloc),
-                room,
-            };
-            let served = serve_stream(alloc, 1, &mut reader, &mut writer, &mut Fake { place: 0 });
             // The last line is not ended, so a failing reader leaves its answer out.
             let all = if fails {
                 whole.len().saturating_sub(BAD.len() + 1)
@@ -126,12 +137,15 @@ fn a_failure_leaves_a_beginning_of_the_session(rt: HostRuntime) -> Result<(), Fa
                 whole.len()
             };
             let is_whole = room >= all && !fails;
-            let taken = writer.taken.as_slice();
-            assert!(rt; served.is_ok() == is_whole, "{room} {fails}");
-            assert!(rt;
-                whole.as_bytes().starts_with(taken) && taken.len() == room.min(all),
-                "{room} {fails}"
+            let (is_served, is_beginning) = serve(
+                alloc,
+                input.as_bytes(),
+                whole.as_bytes(),
+                all,
+                (room, fails),
             );
+            assert!(rt; is_served == is_whole, "{room} {fails}");
+            assert!(rt; is_beginning, "{room} {fails}");
         }
     }
     Ok(())

@@ -1,5 +1,5 @@
 // How long a check takes to look into a userset of many plain users.
-ghost use Rattle.std.specs.Prelude.{IfOk};
+ghost use Rattle.std.specs.Prelude.{◌≡◌, IfOk};
 ghost use Rattle.measures.specs.Reads.{FoundForCheck};
 
 use crate::timing::{Done, print_since};
@@ -64,16 +64,23 @@ fn check(
     print_since(rt, "check", start, done)
 }
 
+fn userset_of(asked: &Tuple) -> Result<Userset, AllocError>
+    ensures { IfOk result (λ s. s ≡ record { object = asked.now.object; relation = asked.now.relation }) }
+{
+    Ok(Userset {
+        object: asked.object.clone()?,
+        relation: asked.relation.clone()?,
+    })
+}
+
 // How many tuples a check finds at the userset of this tuple, for its user.
 fn found(alloc: Global, versions: &Versions, asked: &Tuple) -> Result<usize, AllocError>
     ensures { IfOk result (λ n. FoundForCheck versions.now 1 asked.now n) }
 {
-    let userset = Userset {
-        object: asked.object.clone()?,
-        relation: asked.relation.clone()?,
-    };
-    let tuples = versions.asked_at(alloc, 1, &userset, &asked.user)?;
-    Ok(tuples.len())
+    let userset = userset_of(asked)?;
+    let tuples = versions.asked_at(alloc, 1, &userset, &asked.user);
+    drop(userset);
+    Ok(tuples?.len())
 }
 
 fn touch_users(alloc: Global, versions: &mut Versions, users: u32) -> Result<(), Refusal> {

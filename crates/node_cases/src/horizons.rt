@@ -89,10 +89,22 @@ fn wrong_row<D: Device>(
     Ok(None)
 }
 
+/// The same of a coordinator over two of the devices. Each node is owned by a function of its own, since each way out of one that owns both
+/// is proved.
+fn wrong_row_beside<D: Device>(
+    alloc: Global,
+    devices: &mut Vec<D>,
+    shard: &Shard<D>,
+) -> Result<Option<usize>, Refusal> {
+    let mut coordinator = coordinator_with(alloc, devices, 3, 0)?;
+    wrong_row(alloc, &mut coordinator, shard)
+}
+
 fn first_wrong<D: Device>(alloc: Global, devices: &mut Vec<D>) -> Result<Option<usize>, Refusal> {
     let shard = shard_with(alloc, devices, 4)?;
-    let mut coordinator = coordinator_with(alloc, devices, 3, 0)?;
-    wrong_row(alloc, &mut coordinator, &shard)
+    let wrong = wrong_row_beside(alloc, devices, &shard);
+    drop(shard);
+    wrong
 }
 
 #[test]
@@ -136,10 +148,20 @@ fn is_refused_once<D: Device>(
     )
 }
 
+fn is_refused_once_beside<D: Device>(
+    alloc: Global,
+    devices: &mut Vec<D>,
+    shard: &Shard<D>,
+) -> Result<bool, Refusal> {
+    let mut coordinator = coordinator_with(alloc, devices, 65_536, 0)?;
+    is_refused_once(alloc, &mut coordinator, shard)
+}
+
 fn is_full_once<D: Device>(alloc: Global, devices: &mut Vec<D>) -> Result<bool, Refusal> {
     let shard = shard_with(alloc, devices, 65_536)?;
-    let mut coordinator = coordinator_with(alloc, devices, 65_536, 0)?;
-    is_refused_once(alloc, &mut coordinator, &shard)
+    let is_full = is_refused_once_beside(alloc, devices, &shard);
+    drop(shard);
+    is_full
 }
 
 #[test]

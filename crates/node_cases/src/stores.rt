@@ -56,7 +56,11 @@ pub(crate) fn open_coordinator<D: Device>(
 {
     match Coordinator::open(alloc, a, b, me) {
         Ok(coordinator) => Ok(coordinator),
-        Err(refused) => Err(refused.refusal),
+        Err(refused) => {
+            let refusal = refused.refusal;
+            drop(refused);
+            Err(refusal)
+        }
     }
 }
 
@@ -70,7 +74,11 @@ pub(crate) fn open_shard<D: Device>(
 {
     match Shard::open(alloc, a, b, me) {
         Ok(shard) => Ok(shard),
-        Err(refused) => Err(refused.refusal),
+        Err(refused) => {
+            let refusal = refused.refusal;
+            drop(refused);
+            Err(refusal)
+        }
     }
 }
 

@@ -24,19 +24,42 @@ fn fill<R: Wait>(rt: &R, queue: &Connections<u64>, acceptor: &mut AcceptorPass<u
     count
 }
 
+// Whether as many connections as there are places go in, and the next one comes back.
+fn is_filled<R: Wait>(rt: &R, queue: &Connections<u64>, acceptor: &mut AcceptorPass<u64>) -> bool
+    requires queue { acceptor.old.queue ≡ queue.now }
+    requires none { acceptor.old.put ≡ 0 }
+    ensures queue { acceptor.new.queue ≡ queue.now }
+    ensures room { acceptor.new.put ≤ 1025 }
+{
+    let filled = fill(rt, queue, acceptor);
+    let back = queue.put(rt, acceptor, 5);
+    filled == 1024 && back == Err(5) && acceptor.count() == 1024
+}
+
+// Whether a full queue has a place again once a connection was taken.
+fn is_free_again<R: Wait>(
+    rt: &R,
+    queue: &Connections<u64>,
+    acceptor: &mut AcceptorPass<u64>,
+    worker: &mut WorkerPass<u64>,
+) -> bool
+    requires queue { (acceptor.old.queue ≡ queue.now) × (worker.old.queue ≡ queue.now) }
+    requires room { acceptor.old.put ≤ 1025 }
+{
+    let first = queue.take(rt, worker);
+    let put = queue.put(rt, acceptor, 6);
+    let second = queue.take(rt, worker);
+    first == Some((1, 0)) && put == Ok(()) && second == Some((2, 7)) && acceptor.count() == 1025
+}
+
 #[test]
 fn a_full_queue_gives_the_connection_back(rt: HostRuntime) -> Result<(), Fail> {
     let (queue, mut acceptor, mut workers) = Connections::new(rt.alloc(), 3)?;
     assert_eq!(rt; workers.len(), 3);
     let mut worker = workers.pop().ok_or("a worker")?;
     assert!(rt; queue.take(&rt, &mut worker).is_none());
-    assert_eq!(rt; fill(&rt, &queue, &mut acceptor), 1024);
-    assert_eq!(rt; queue.put(&rt, &mut acceptor, 5), Err(5));
-    assert_eq!(rt; acceptor.count(), 1024);
-    assert_eq!(rt; queue.take(&rt, &mut worker), Some((1, 0)));
-    assert_eq!(rt; queue.put(&rt, &mut acceptor, 6), Ok(()));
-    assert_eq!(rt; queue.take(&rt, &mut worker), Some((2, 7)));
-    assert_eq!(rt; acceptor.count(), 1025);
+    assert!(rt; is_filled(&rt, &queue, &mut acceptor));
+    assert!(rt; is_free_again(&rt, &queue, &mut acceptor, &mut worker));
     Ok(())
 }
 
