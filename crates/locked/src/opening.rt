@@ -182,6 +182,87 @@ fn open_shards<D: Device + Send, B: Room + Send, R: Threads + Sync>(
     )
 }
 
+// The shards, opened side by side over the devices that are left.
+fn shard_cells<D: Device + Send, B: Room + Send, R: Threads + Sync>(
+    rt: &R,
+    alloc: Global,
+    words: &Published<Entry>,
+    launches: &Published<Launch>,
+    launch_log: &mut LaunchLog<B>,
+    coordinator: &mut CoordinatorSide<D, B>,
+    store: u64,
+    shards: u8,
+    devices: &mut Vec<D>,
+) -> Result<Vec<ShardCell<D, B>>, AllocError>
+    requires own { (words.now ≡ B.log) × (launches.now ≡ B.launches) }
+    requires of { (store ≡ B.store) × (shards ≡ B.shards) }
+    requires few { shards ≤ max_shards }
+    requires left { 2 * shards ≤ vec_len devices.old }
+    requires honest { All D.honest devices.old.items }
+    requires rests { B.rests → ShardsRest D.state D.honest B.shards B.first B.low 0 devices.old.items }
+    requires list { B.rests → IsPrefix B.first coordinator.old.seen × (B.low ≤ coordinator.old.low) }
+    ensures all { IfOk result (λ cells. vec_len cells ≡ shards) }
+{
+    let closed = closed_shards(
+        alloc,
+        words,
+        launches,
+        launch_log,
+        coordinator,
+        store,
+        shards,
+        devices,
+    )?;
+    open_shards(rt, closed)
+}
+
+// The first caller, the coordinator and the shards. What the store is made of beside them stays with who asks for it, so that it is let go in one place.
+fn open_nodes<D: Device + Send, B: Room + Send, R: Threads + Sync>(
+    rt: &R,
+    alloc: Global,
+    words: &Published<Entry>,
+    attempts: &Published<Attempt>,
+    launches: &Published<Launch>,
+    launch_log: &mut LaunchLog<B>,
+    log: LogPass<Entry>,
+    tried: LogPass<Attempt>,
+    store: u64,
+    shards: u8,
+    devices: &mut Vec<D>,
+) -> Result<(Caller<B>, CoordinatorCell<D, B>, Vec<ShardCell<D, B>>), Refusal>
+    requires own { (words.now ≡ B.log) × (log.table ≡ B.log) × (launches.now ≡ B.launches) }
+    requires own_attempts { (attempts.now ≡ B.attempts) × (tried.table ≡ B.attempts) }
+    requires empty { (log.seen ≡ []) × (log.horizon ≡ 0) × (tried.seen ≡ []) }
+    requires of { (store ≡ B.store) × (shards ≡ B.shards) }
+    requires some { 1 ≤ shards }
+    requires few { shards ≤ max_shards }
+    requires count { vec_len devices.old ≡ 2 * (shards + 1) }
+    requires honest { All D.honest devices.old.items }
+    requires rests { B.rests → RestAt D.state D.honest B.shards B.first B.low devices.old.items }
+    ensures found { IfOk result (λ opened. B.rests → HasFound B.first B.low opened.0) }
+    ensures all { IfOk result (λ opened. vec_len opened.2 ≡ shards) }
+    ensures refused { IfErr result (RefusesStore D.state D.honest D.moment D.left_since B.store B.shards devices.old.items) }
+{
+    let mut side = open_coordinator(alloc, words, log, tried, store, shards, devices)?;
+    let caller = first_caller(words, attempts, &mut side);
+    let cells = shard_cells(
+        rt, alloc, words, launches, launch_log, &mut side, store, shards, devices,
+    );
+    let Ok(cells) = cells else {
+        drop(side);
+        drop(caller);
+        return Err(Refusal::NoMemory);
+    };
+    match coordinator_cell(alloc, launches, launch_log, side) {
+        Ok(coordinator) => Ok((caller, coordinator, cells)),
+        Err(_) => {
+            drop(cells);
+            drop(caller);
+            Err(Refusal::NoMemory)
+        }
+    }
+}
+
 impl<D: Device, B: Room, G: Gate> Store<D, B, G> {
     /// Opens the store with this id and of 1 to 64 shards over its devices: those of the coordinator, and then those of each shard, by rising number, bank a
     /// before bank b. Where they rest at a list, all that is said of the list is said of that one and of what joins it. A shard whose opening is refused
@@ -218,32 +299,45 @@ impl<D: Device, B: Room, G: Gate> Store<D, B, G> {
         ensures refused { IfErr result (RefusesStore D.state D.honest D.moment D.left_since B.store B.shards devices.items) }
     {
         let (attempts, tried) = attempts.into_parts();
-        let mut side = open_coordinator(alloc, &words, log, tried, store, shards, &mut devices)?;
-        let caller = first_caller(&words, &attempts, &mut side);
         let (launches, mut launch_log) = launches.into_parts();
-        let closed = closed_shards(
+        let opened = open_nodes(
+            rt,
             alloc,
             &words,
+            &attempts,
             &launches,
             &mut launch_log,
-            &mut side,
+            log,
+            tried,
             store,
             shards,
             &mut devices,
-        )?;
-        let coordinator = coordinator_cell(alloc, &launches, &mut launch_log, side)?;
-        let cells = open_shards(rt, closed)?;
-        let store = Store::new(
-            gate,
-            bell,
-            words,
-            attempts,
-            launches,
-            launch_log,
-            coordinator,
-            cells,
-            shards,
         );
-        Ok((store, caller))
+        drop(devices);
+        match opened {
+            Ok((caller, coordinator, cells)) => {
+                let store = Store::new(
+                    gate,
+                    bell,
+                    words,
+                    attempts,
+                    launches,
+                    launch_log,
+                    coordinator,
+                    cells,
+                    shards,
+                );
+                Ok((store, caller))
+            }
+            Err(refusal) => {
+                drop(gate);
+                drop(bell);
+                drop(words);
+                drop(attempts);
+                drop(launches);
+                drop(launch_log);
+                Err(refusal)
+            }
+        }
     }
 }

@@ -119,8 +119,13 @@ fn check_of(
     ensures err { IfErr result (ListCause store 1 ((t : AnyTuple) × IsTuple t × (tuple.now ≡ tuple_text t)) (λ IsBad. IsFresh IsBad freshness.entry)) }
 {
     let tuple = parse_tuple(alloc, tuple)?;
-    let freshness = decode_freshness(freshness, store)?;
-    Ok(Request::Check { freshness, tuple })
+    match decode_freshness(freshness, store) {
+        Ok(freshness) => Ok(Request::Check { freshness, tuple }),
+        Err(refusal) => {
+            drop(tuple);
+            Err(refusal)
+        }
+    }
 }
 
 fn watch_of(

@@ -55,8 +55,13 @@ pub(crate) fn decode_conditions(
     let mut conditions = Vec::with_capacity(alloc, shapes.len())?;
     for tuple in tuples {
         let shape = &shapes[conditions.len()];
-        let want = decode_want(shape.want, store)?;
-        conditions.push_reserved(Condition { tuple, want });
+        match decode_want(shape.want, store) {
+            Ok(want) => conditions.push_reserved(Condition { tuple, want }),
+            Err(refusal) => {
+                drop(tuple);
+                return Err(refusal);
+            }
+        }
     }
     Ok(conditions)
 }

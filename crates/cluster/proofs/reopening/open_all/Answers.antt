@@ -1,5 +1,5 @@
 -- With each node that is opened, one more of them is.
-use Rattle.std.proofs.Common.{rules, ◌+◌, ◌∙◌, ℕ, length, ap, sym}
+use Rattle.std.proofs.Common.{rules, ◌+◌, ◌∙◌, ℕ, length, ap, sym, arith}
 use Rattle.std.specs.Vec.{vec_len}
 use Rattle.cluster.proofs.Openings.{count_all, first, first_two, more, next_two, one_up, opened}
 use Rattle.cluster.proofs.reopening.open_all.Goals as goal
@@ -25,3 +25,27 @@ returns-clause-opened g c = opened g.D.Device.state g.D.Device.honest g.D.Device
 
 pub returns-clause-count : goal.returns-clause-count
 returns-clause-count g c = count_all (length c.loop-shard.nodes.items) (vec_len c.loop-shard.nodes) c.loop-shard.shard c.args.shards c.loop-shard.nodes.ok.0 c.loop-shard.invariant.opened c.loop-shard-test.false c.loop-shard.auto.shard-end
+
+pub open_next-requires-clause-some : goal.open_next-requires-clause-some
+open_next-requires-clause-some g c = c.requires.some
+
+pub open_next-requires-clause-few : goal.open_next-requires-clause-few
+open_next-requires-clause-few g c = c.requires.few
+
+pub open_next-requires-clause-left : goal.open_next-requires-clause-left
+open_next-requires-clause-left g c = omega (arith, c.requires.count, c.requires.some)
+
+pub open_next-requires-in-loop-shard-clause-some : goal.open_next-requires-in-loop-shard-clause-some
+open_next-requires-in-loop-shard-clause-some g c = c.requires.some
+
+pub open_next-requires-in-loop-shard-clause-few : goal.open_next-requires-in-loop-shard-clause-few
+open_next-requires-in-loop-shard-clause-few g c = c.requires.few
+
+pub open_next-requires-in-loop-shard-clause-there : goal.open_next-requires-in-loop-shard-clause-there
+open_next-requires-in-loop-shard-clause-there g c = c.loop-shard-test.true
+
+pub open_next-requires-in-loop-shard-clause-left : goal.open_next-requires-in-loop-shard-clause-left
+open_next-requires-in-loop-shard-clause-left g c = omega (arith, c.loop-shard.invariant.left, c.loop-shard-test.true)
+
+pub open_next-requires-in-loop-shard-clause-room : goal.open_next-requires-in-loop-shard-clause-room
+open_next-requires-in-loop-shard-clause-room g c = omega (arith, c.loop-shard.invariant.opened, c.loop-shard.invariant.room, c.loop-shard-test.true)
