@@ -30,10 +30,10 @@ const HEADING: &str = "== ";
 
 fn main(rt: HostRuntime) -> ExitCode {
     let Ok(args) = env::args(&rt) else {
-        return ExitCode::from(USAGE);
+        return ExitCode::from(FAILED);
     };
     let Ok(words) = args.collect::<Vec<String>>(rt.alloc()) else {
-        return ExitCode::from(USAGE);
+        return ExitCode::from(FAILED);
     };
     match run_words(&rt, &rt, &words) {
         Ok(USAGE) => ExitCode::from(tell_usage(&rt)),
