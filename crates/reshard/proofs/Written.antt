@@ -1,18 +1,21 @@
 -- What a stop leaves of the coordinator's new devices, while they are written.
-use Rattle.std.proofs.Common.{◌≡◌, ◌⊎◌, inl, inr, ◌+◌, ℕ, suc, List, [], ◌∷◌, ◌++◌, All, Result, Ok, Err, None, Some, append-nil, get_or, length, set, sym, ◌∙◌, ap, subst, arith}
+use Rattle.std.proofs.Common.{◌≡◌, ◌⊎◌, ◌≤◌, inl, inr, ◌+◌, ℕ, suc, List, [], ◌∷◌, ◌++◌, All, Result, Ok, Err, None, Some, append-nil, get_or, length, set, slice_get, sym, ◌∙◌, ap, subst, arith}
 use Rattle.std.specs.Result.{OnErr, OnOk}
+use Rattle.std.proofs.lemmas.List.Elements.{All-set}
 use Rattle.std.proofs.lemmas.Option.{same_Some}
 use Rattle.calls.specs.Carrying.{Carries}
-use Rattle.calls.specs.Views.{NodeView, coordinator}
+use Rattle.calls.specs.Views.{NodeView, coordinator, refused, shard}
 use Rattle.calls.specs.declared.carrying.Reach.{Reach}
 use Rattle.cluster.specs.Worlds.{WorldView, node_at}
+use Rattle.decisions.specs.Checkpoints.{carried_checkpoint}
 use Rattle.device.specs.Device.{State}
 use Rattle.journal.specs.Beginnings.{BegunView}
+use Rattle.journal.specs.Records.{HasRecords}
 use Rattle.names.specs.declared.node_name.NodeName.TheVariants.{Coordinator}
 use Rattle.refusal.specs.declared.refusal.Refusal.{Refusal}
 use Rattle.refusal.specs.declared.refusal.Refusal.TheVariants.{Down, NoMemory}
 use Rattle.tuples.specs.declared.version.Version.{Version}
-use Rattle.reshard.specs.Made.{HaveShards, devices_of}
+use Rattle.reshard.specs.Made.{AreHonest, HasLog, HaveShards, devices_of}
 use Rattle.reshard.specs.Refusing.{IsNotWritten, LacksLog}
 use Rattle.reshard.specs.Written.{AreLeft, AreWrittenInOrder, BeginsNode, EndsFirst, EndsLast, FirstTwo, HasBegunOn, HasTried, HeadBegins, KeepsFirst, PutsTwoBack}
 
@@ -61,6 +64,41 @@ module _ {D : Type 0} (state : D → State) (honest : D → Type 0) (moment : D 
               subst (λ (n : BegunView D). Carries state honest moment left_since shards (coordinator v) n r new) same (subst (λ (n : NodeView D). Carries state honest moment left_since shards n was r new) is_node carries) in
               (carried.moments runs is_open fine, carried.same),
         )
+
+    first_fine : (nodes : List (BegunView D)) (was : BegunView D) → 1 ≤ length nodes → was ≡ get_or nodes 0 was → AreHonest honest nodes → honest was.a × honest was.b
+    first_fine nodes was some is all = subst (λ (n : BegunView D). honest n.a × honest n.b) (sym is) (all 0 was some)
+
+    still_fine : (node : NodeView D) (was new : BegunView D) (r : Result (Unit {0}) Refusal) → Carries state honest moment left_since shards node was r new → honest was.a × honest was.b → honest new.a × honest new.b
+    still_fine (coordinator v) was new r carries fine = (carries.still_honest.0.0 fine.0, carries.still_honest.1.0 fine.1)
+    still_fine (shard v) was new r carries fine = subst (λ (n : BegunView D). honest n.a × honest n.b) (sym carries.1) fine
+    still_fine (refused e a b) was new r carries fine = subst (λ (n : BegunView D). honest n.a × honest n.b) (sym carries.1) fine
+
+    -- whatever comes of it, the devices are as honest as before
+    pub honest_first : (node : NodeView D) (nodes : List (BegunView D)) (was new : BegunView D) (r : Result (Unit {0}) Refusal) → 1 ≤ length nodes → was ≡ get_or nodes 0 was
+        → Carries state honest moment left_since shards node was r new → AreHonest honest nodes → AreHonest honest (set nodes 0 new)
+    honest_first node nodes was new r some is carries all =
+        All-set (λ (n : BegunView D). honest n.a × honest n.b) nodes 0 new (still_fine node was new r carries (first_fine nodes was some is all)) all
+
+    -- and no other node has changed
+    pub others_stay : (nodes : List (BegunView D)) (new n : BegunView D) (s : ℕ) → slice_get (set nodes 0 new) (s + 1) ≡ Some n → slice_get nodes (s + 1) ≡ Some n
+    others_stay [] new n s there = there
+    others_stay (x ∷ xs) new n s there =
+        let e : s + 1 ≡ suc s = omega arith in
+        subst (λ (i : ℕ). slice_get (x ∷ xs) i ≡ Some n) (sym e) (subst (λ (i : ℕ). slice_get (new ∷ xs) i ≡ Some n) e there)
+
+    first_is : (nodes : List (BegunView D)) (new n : BegunView D) → slice_get (set nodes 0 new) 0 ≡ Some n → new ≡ n
+    first_is [] new n there = absurd (let bad : None ≡ Some n = there in cc)
+    first_is (x ∷ xs) new n there = same_Some new n there
+
+    -- where it went well, the first node has what the old coordinator knows
+    pub has_log : (node : NodeView D) (nodes : List (BegunView D)) (was new : BegunView D) (r : Result (Unit {0}) Refusal) → 1 ≤ length nodes → was ≡ get_or nodes 0 was
+        → node_at old.nodes Coordinator ≡ Some node → Carries state honest moment left_since shards node was r new → AreHonest honest nodes → OnOk r (HasLog state honest old shards (set nodes 0 new))
+    has_log node nodes was new (Err e) some is at carries all = tt
+    has_log node nodes was new (Ok x) some is at carries all = λ v here runs n there.
+        let is_node : node ≡ coordinator v = same_Some node (coordinator v) (sym at ∙ here) in
+        let carried : Carries state honest moment left_since shards (coordinator v) was (Ok x) new = subst (λ (m : NodeView D). Carries state honest moment left_since shards m was (Ok x) new) is_node carries in
+        let fine = first_fine nodes was some is all in
+        subst (λ (m : BegunView D). HasRecords (state m.a) (state m.b) (carried_checkpoint shards v)) (first_is nodes new n there) (carried.ok runs fine.0 fine.1)
 
     pub ends_none : (nodes : List (BegunView D)) → node_at old.nodes Coordinator ≡ None → EndsFirst state honest moment left_since old shards nodes nodes
     ends_none nodes none head others nodes_are = (head, nodes_are, λ v here. absurd (let bad : None ≡ Some (coordinator v) = sym none ∙ here in cc))
