@@ -16,7 +16,6 @@ mod asked;
 mod failing;
 
 pub use asked::Asked;
-
 use asked::{InFiles, OneFails};
 use failing::Failing;
 use node_files::open_all;
@@ -67,7 +66,15 @@ fn run_failing<R: Read, W: Write>(
 ) -> u8 {
     let mut first = InMemory;
     match devices(alloc, &mut first, SHARDS) {
-        Ok(disks) => run_over(alloc, STORE, SHARDS, disks, Failing::new(asked), reader, writer),
+        Ok(disks) => run_over(
+            alloc,
+            STORE,
+            SHARDS,
+            disks,
+            Failing::new(asked),
+            reader,
+            writer,
+        ),
         Err(_) => FAILED,
     }
 }

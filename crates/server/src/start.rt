@@ -38,7 +38,9 @@ pub(crate) fn tell_start(
             )
         }
         None => {
-            eprintln!(rt; "zanstore: {dir}: {shards} shards, places {horizon} to {latest}, opened from {found} bytes of {files} files")
+            eprintln!(rt;
+                "zanstore: {dir}: {shards} shards, places {horizon} to {latest}, opened from {found} bytes of {files} files"
+            )
         }
     };
 }
