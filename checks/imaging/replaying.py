@@ -1,4 +1,4 @@
-"""What a node finds on its device, as docs/FORMAT.md says, and what `image_rows` has to print of it."""
+"""What a node finds on its device, as docs/FORMAT.md says, and what the part `images` of `harness` has to print of it."""
 from imaging.format import (
     ABSENT,
     CLOSED,

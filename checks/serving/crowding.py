@@ -1,11 +1,12 @@
 """More connections than workers, and clients that do not care."""
+import select
 import selectors
 import socket
 import time
 
 from judge.worlds import Wrong, must
 from serving.server import HOST, SHARDS, Server, is_start
-from serving.wire import LIMIT, Session, check, read, spelled, write
+from serving.wire import LIMIT, Gone, Session, check, read, spelled, write
 from serving.wire import token as token_of
 
 CROWD = 1100
@@ -13,7 +14,7 @@ PLACES = 1024
 ASKED = check("doc:a#viewer@ann")
 NO = {"member": False, "zookie": token_of(0)}
 # For so many seconds a write of answers waits for who takes nothing, and then the connection is closed; but where the system's buffers took a part of it, the
-# next write waits as long. So it is a minute or two in the end, and far more is a fault.
+# next write waits as long. So it is a minute in the end. A line that has begun, and does not end, keeps others waiting for as long.
 SLOWEST, LATEST = 30, 300
 
 
@@ -90,9 +91,13 @@ def fill(session):
         must("zookie" in session.ask(write(*rows)), "a write of 64 changes is refused")
 
 
-def filled(port):
-    """A connection over which reads were sent until no more are taken, and no answer is read."""
-    one = socket.create_connection((HOST, port), timeout=3)
+def filled(port, room=None):
+    """A connection over which reads were sent until no more are taken, and no answer is read; of so much room for answers, where that is told."""
+    one = socket.socket()
+    if room:
+        one.setsockopt(socket.SOL_SOCKET, socket.SO_RCVBUF, room)
+    one.settimeout(3)
+    one.connect((HOST, port))
     lines = spelled(read("doc:list")) * 1000
     try:
         for _ in range(10000):
@@ -141,6 +146,61 @@ def unread_answers(folder):
             must(answer == {"member": False, "zookie": token_of(8)}, f"answers {answer} to the one that waited")
             must(waited >= SLOWEST, f"a client that reads nothing gave its worker up after {waited:.1f} s")
             must(is_cut(unread), "the client that reads nothing has a connection still, and there is one worker")
+
+
+def sipped_answers(folder):
+    """a client that takes a little of its answers now and then loses the only worker too, where another waits"""
+    with Server(folder, workers=1) as server:
+        with Session(server.port) as session:
+            fill(session)
+        with filled(server.port, 4096) as sipping, Session(server.port, LATEST) as other:
+            other.send(spelled(ASKED))
+            begin = time.monotonic()
+            while not select.select([other.socket], [], [], 0.5)[0] and time.monotonic() < begin + LATEST:
+                try:
+                    sipping.recv(100)
+                except OSError:
+                    pass
+            waited = time.monotonic() - begin
+            must(SLOWEST <= waited < 4 * SLOWEST, f"a client that takes 200 bytes a second kept its worker for {waited:.1f} s")
+            answer = other.answer()
+            must(answer == {"member": False, "zookie": token_of(8)}, f"answers {answer} to the one that waited")
+
+
+def drips(session, line, pause):
+    """Whether a session is ended while it is sent a line byte by byte."""
+    for at in range(len(line)):
+        try:
+            session.send(line[at : at + 1])
+        except Gone:
+            return True
+        if select.select([session.socket], [], [], pause)[0]:
+            return session.is_ended()
+    return False
+
+
+def dripped_line(folder):
+    """a client that sends a byte of a line now and then loses the only worker where another waits, behind half a minute, and its line is not made"""
+    half = spelled(write("+doc:a#viewer@ann"))[:-1]
+    with Server(folder, workers=1, idle=3) as server, Session(server.port) as slow:
+        is_answered(slow)
+        with Session(server.port, LATEST) as other:
+            other.send(spelled(ASKED))
+            begin = time.monotonic()
+            must(drips(slow, half, 0.7), "a client that sends a byte now and then has its worker still")
+            waited = time.monotonic() - begin
+            must(SLOWEST - 1 <= waited < SLOWEST + 15, f"a client that sends a byte now and then gave its worker up after {waited:.1f} s")
+            must(other.answer() == NO, "the one that waited is answered otherwise")
+            is_answered(other)
+
+
+def unhurried_line(folder):
+    """a client that sends a byte of a line now and then has the only worker for as long as it likes while nobody waits"""
+    line = spelled(ASKED)
+    with Server(folder, workers=1, idle=3) as server, Session(server.port) as slow:
+        must(not drips(slow, line[:-1], 1), "a client that sends a byte now and then is cut, and nobody waits")
+        slow.send(line[-1:])
+        must(slow.answer() == NO, "a line that took its time is answered otherwise")
 
 
 def resets(folder):
@@ -243,5 +303,5 @@ TRIES = {
     "busy-sessions": busy_sessions,
     "counted": counted,
 }
-# It takes longer than all others together, so it comes behind them.
-LONG = {"unread-answers": unread_answers}
+# They take longer than all others together, and mostly wait, so they are tried behind them, side by side.
+LONG = {"unread-answers": unread_answers, "sipped-answers": sipped_answers, "dripped-line": dripped_line, "unhurried-line": unhurried_line}

@@ -1,15 +1,18 @@
 //! What the checks run besides the program itself, in one program: rows of flows, images that nodes are opened over, request lines, scripts over files and over
 //! disks that fail, and threads that share a store.
 //!
-//! Keeps: the words say which part is run, over standard input; each part is a crate of its own, which says what it does.
-//! Never: owns a node, a store or a device, so that what a part owns is proved there alone; and one program is linked and compiled, not one a part.
+//! Keeps: the words say which part is run, over standard input; a part that is long is a crate of its own (`flow_rows`, `threads_run`), and each says what it does.
+//! Never: promises anything but its status; and one program is linked and compiled, not one a part.
 //! Callers rely on: status 0 where the part was run to its end, 1 where it was not, and 2 where the words name no part. With the word `parts` alone the input
 //! has several parts, each behind a line `== ` and the words of its own, and the status is 0 where all of them were run to their end.
 //!
 //! Start at `part.rt`, what can be asked for.
 #![tactic(auto)]
 
+mod images;
 mod part;
+mod script;
+mod session;
 
 use part::Part;
 use std::io::Read;

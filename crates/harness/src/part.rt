@@ -1,5 +1,6 @@
 // The parts that the words can name.
-use script_runs::Asked as Script;
+use crate::script::Asked as Script;
+use crate::{images, script, session};
 use std::io::{self, Read};
 use std::rt::Runtime;
 use std::sync::Wait;
@@ -50,9 +51,9 @@ impl<'a> Part<'a> {
         let mut writer = io::writer(files);
         match self {
             Part::Flows => flow_rows::run(alloc, reader, &mut writer)?,
-            Part::Images => image_rows::run(alloc, reader, &mut writer)?,
-            Part::Session => plain_session::run(alloc, reader, &mut writer)?,
-            Part::Script(asked) => return Ok(script_runs::run(files, asked, reader, &mut writer)),
+            Part::Images => images::run(alloc, reader, &mut writer)?,
+            Part::Session => session::run(alloc, reader, &mut writer)?,
+            Part::Script(asked) => return Ok(script::run(files, asked, reader, &mut writer)),
             Part::Sharing(asked) => return Ok(threads_run::run(rt, alloc, asked)),
         }
         Ok(0)

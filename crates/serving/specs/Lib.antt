@@ -1,1 +1,2 @@
+pub mod Slowness
 pub mod Working

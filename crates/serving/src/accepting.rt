@@ -2,6 +2,7 @@
 ghost use Rattle.std.specs.Prelude.{◌≡◌, ◌≤◌, ◌+◌, ◌^◌, OnOk, IfNone, IfSome};
 
 use crate::hall::Hall;
+use crate::slowness::SLOWEST_SECONDS;
 use connections::AcceptorPass;
 use crossbeam_utils::sync::Unparker;
 use std::net::{TcpListener, TcpStream};
@@ -11,9 +12,6 @@ use std::{io, thread};
 
 // A read that waits longer is a tick.
 const TICK_SECONDS: u64 = 1;
-
-// A caller who takes nothing for so long is not waited for.
-const SLOWEST_SECONDS: u64 = 30;
 
 // How long it waits behind an accept that failed, as where too many files are open.
 const PAUSE_MILLISECONDS: u64 = 10;

@@ -15,14 +15,17 @@ mod begun;
 mod hall;
 mod patience;
 mod patient;
+mod pressing;
 mod serving;
 mod session;
 mod signs;
+mod slowness;
 mod working;
 
 pub use begun::Begun;
 pub use patience::Patience;
 pub use patient::Patient;
+pub use pressing::Pressing;
 pub use serving::{Serving, serve_on};
 pub use session::serve_one;
 pub use signs::Signs;

@@ -1,32 +1,71 @@
 // A reader that reads again where a read found nothing in time.
-ghost use Rattle.std.specs.Prelude.{◌≡◌, OnOk};
+ghost use Rattle.std.specs.Prelude.{◌≡◌, ◌≢◌, ◌<◌, IfOk, IsTrue, None, OnOk, take};
 ghost use Rattle.std.specs.Io.{ReadsAtMost};
 ghost use Rattle.std.specs.Io.KnownBytes.{ReadConsumes};
+ghost use Rattle.serving.specs.Slowness.{GoesOn};
 
 use crate::patience::Patience;
+use crate::slowness::has_lasted;
 use std::io::{self, ErrorKind, Read};
+use std::time::{Clock, Instant};
 
 /// Reads as its input does. But each read that found nothing in time is a tick, and it reads again, until its patience ends: then the read
-/// fails as that one did.
+/// fails as that one did. Where a line has not ended for too long and others wait, no more of it is read.
 #[derive(Drop)]
-pub struct Patient<'a, R> {
+pub struct Patient<'a, R, C> {
     pub input: R,
+    pub clock: &'a C,
     pub patience: Patience<'a>,
+    /// Since when there is a part of a line without its end. None where the last that was read had the end of one.
+    pub line_since: Option<Instant>,
 }
 
-impl<R: Read> Read for Patient<'_, R> {
+impl<R, C: Clock> Patient<'_, R, C> {
+    // Whether a line has kept others waiting for as long as it may. One whose session may be idle for ever may take as long as it likes.
+    fn is_late(&self) -> io::Result<bool>
+        ensures only { IfOk result (λ late. IsTrue late → (self.now.line_since ≢ None) × (0 < self.now.patience.idle)) }
+    {
+        if self.line_since.is_none() || self.patience.idle == 0 {
+            return Ok(false);
+        }
+        if !self.patience.signs.has_waiting() {
+            return Ok(false);
+        }
+        Ok(has_lasted(self.line_since, Instant::now(self.clock)?))
+    }
+
+    // Notes what was read: the end of a line, or a part of one alone. Where the clock can't be read, a line begins with its next part.
+    fn note(&mut self, part: &[u8])
+        ensures line { GoesOn part.now self.old.line_since self.new.line_since }
+        ensures input { self.new.input ≡ self.old.input }
+        ensures patience { self.new.patience ≡ self.old.patience }
+    {
+        if part.contains(&b'\n') {
+            self.line_since = None;
+        } else if self.line_since.is_none() {
+            self.line_since = Instant::now(self.clock).ok();
+        }
+    }
+}
+
+impl<R: Read, C: Clock> Read for Patient<'_, R, C> {
     ghost remaining = { λ p. R.remaining p.input };
 
     fn read(&mut self, buf: &mut [u8]) -> io::Result<usize>
         ensures bound { ReadsAtMost result buf.new }
         ensures bytes { ReadConsumes (R.remaining self.old.input) (R.remaining self.new.input) result buf.new }
         ensures ticks { OnOk result (self.new.patience.ticks ≡ 0) }
+        ensures line { IfOk result (λ count. GoesOn (take count buf.new) self.old.line_since self.new.line_since) }
         ensures idle { self.new.patience.idle ≡ self.old.patience.idle }
     {
+        if self.is_late()? {
+            return Err(ErrorKind::TimedOut.into());
+        }
         for _ in 0..u64::MAX {
             match self.input.read(buf) {
                 Ok(count) => {
                     self.patience.ticks = 0;
+                    self.note(&buf[..count]);
                     return Ok(count);
                 }
                 Err(error) => match error.kind() {

@@ -6,6 +6,7 @@ ghost use Rattle.serving.specs.Working.{HasServed};
 use crate::hall::Hall;
 use crate::patience::Patience;
 use crate::patient::Patient;
+use crate::pressing::Pressing;
 use crate::serving::Serving;
 use crate::session::serve_one;
 use crate::signs::Signs;
@@ -16,6 +17,7 @@ use std::alloc::Global;
 use std::io::{self, Read, Write};
 use std::net::TcpStream;
 use std::sync::Wait;
+use std::time::Clock;
 
 #[derive(Drop)]
 pub(crate) struct Worker<'a, A> {
@@ -28,7 +30,7 @@ pub(crate) struct Worker<'a, A> {
 
 impl<A: Answers> Worker<'_, A> {
     /// Takes connections and serves them, until the server closes and none waits.
-    pub(crate) fn work<R: Wait>(&mut self, rt: &R, alloc: Global, serving: &Serving)
+    pub(crate) fn work<R: Wait + Clock>(&mut self, rt: &R, alloc: Global, serving: &Serving)
         ensures { HasServed serving.now.store A.gives self.old.answers self.new.answers }
     {
         for _ in rt.forever() {
@@ -39,6 +41,7 @@ impl<A: Answers> Worker<'_, A> {
                     let mut handle = &stream;
                     // What ends its session ends no other one.
                     let _ = serve(
+                        rt,
                         alloc,
                         serving,
                         &self.hall.signs,
@@ -60,7 +63,8 @@ impl<A: Answers> Worker<'_, A> {
 
 // Serves one connection by a handle of its stream: what was to be read there is asked, and answered there. Nothing is known of the bytes of a socket, so this
 // is said of any stream.
-fn serve<S: Read + Write + Copy, A: Answers>(
+fn serve<S: Read + Write + Copy, C: Clock, A: Answers>(
+    clock: &C,
     alloc: Global,
     serving: &Serving,
     signs: &Signs,
@@ -73,11 +77,23 @@ fn serve<S: Read + Write + Copy, A: Answers>(
 {
     let mut input = Patient {
         input: *stream,
+        clock,
         patience: Patience {
             signs,
             idle: serving.idle,
             ticks: 0,
         },
+        line_since: None,
     };
-    serve_one(alloc, serving.store, &mut input, stream, answers)
+    let mut output = Pressing {
+        output: *stream,
+        clock,
+        signs,
+        since: None,
+        taken: 0,
+    };
+    let served = serve_one(alloc, serving.store, &mut input, &mut output, answers);
+    // What was written by this handle, the stream has.
+    *stream = output.output;
+    served
 }

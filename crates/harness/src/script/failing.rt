@@ -1,5 +1,5 @@
 // Empty disks, one of which is set to fail.
-use crate::asked::OneFails;
+use crate::script::asked::OneFails;
 use device::{Device, SimDisk, Tear};
 use scripts::Supply;
 use std::alloc::{AllocError, Global};

@@ -3,7 +3,7 @@ ghost use Rattle.std.specs.Prelude.{◌≤◌, ◌<◌};
 ghost use Rattle.std.specs.Option.{ForSome};
 ghost use Rattle.tuples.specs.Limits.{max_shards};
 
-use crate::opening::{open_coordinator, open_shard};
+use crate::images::opening::{open_coordinator, open_shard};
 use device::SimDisk;
 use records::Identity;
 use std::alloc::Global;

@@ -1,21 +1,16 @@
-//! A script over devices that no command of the program has: over files that a folder keeps, which `checks/killed` kills, or over disks in memory of which one
-//! that is given for a new node fails, which `checks/sweep --carried` runs. The program `harness` runs it.
-//!
-//! Keeps: each node has two files, the coordinator `c.a` and `c.b`, the first shard `0.a` and `0.b`, and so on. What was found in them when they were opened
-//! is what the store is opened over, and what lines print is what they print over that store (`run_over` of `scripts`).
-//! Never: looks at what a line says, or opens a file again: a node that was restarted behind its first write stays down until the next life.
-//! Callers rely on: status 0 at the end of the script, 1 where a file can't be opened, a read or a write failed or there was no memory for the disks.
-//!
-//! Each life of a store in files is an opening and a run as the headline promises them (`headline`: `Headline`, at any device), since a device over a file
-//! keeps the contract of a device. From one life to the next it goes on where what is found in each file is a content that a stop may leave: what was told stays.
-//!
-//! Start at `run`; `node_files` opens the files, `failing.rt` gives the disks, and `asked.rt` has the words of the command line.
-#![tactic(auto)]
-
+// A script over devices that no command of the program has: over files that a folder keeps, which `checks/killed` kills, or over disks in memory of which one
+// that is given for a new node fails, which `checks/sweep --carried` runs.
+//
+// Each node has two files, the coordinator `c.a` and `c.b`, the first shard `0.a` and `0.b`, and so on. What was found in them when they were opened is what
+// the store is opened over, and what lines print is what they print over that store (`run_over` of `scripts`). No file is opened again: a node that was
+// restarted behind its first write stays down until the next life.
+//
+// Each life of a store in files is an opening and a run as the headline promises them (`headline`: `Headline`, at any device), since a device over a file
+// keeps the contract of a device. From one life to the next it goes on where what is found in each file is a content that a stop may leave: what was told stays.
 mod asked;
 mod failing;
 
-pub use asked::Asked;
+pub(crate) use asked::Asked;
 use asked::{InFiles, OneFails};
 use failing::Failing;
 use node_files::open_all;
@@ -32,8 +27,9 @@ const SHARDS: u8 = 2;
 // The status where there are no devices.
 const FAILED: u8 = 1;
 
-/// Runs the script over what was asked for, and gives the status.
-pub fn run<R: Read, W: Write>(
+/// Runs the script over what was asked for, and gives the status: 0 at its end, 1 where a file can't be opened, a read or a write failed or there was no memory
+/// for the disks.
+pub(crate) fn run<R: Read, W: Write>(
     rt: &HostRuntime,
     asked: Asked<'_>,
     reader: &mut R,

@@ -6,7 +6,7 @@ use tuples::MAX_SHARDS;
 
 /// The folder of a store, the store's id, and its number of shards.
 #[derive(Clone, Copy)]
-pub struct InFiles<'a> {
+pub(crate) struct InFiles<'a> {
     pub(crate) folder: &'a str,
     pub(crate) store: u64,
     pub(crate) shards: u8,
@@ -16,7 +16,7 @@ pub struct InFiles<'a> {
 
 /// Which of the disks that are given fails, at which of its calls, and which byte is found then in what was written since its last sync.
 #[derive(Clone, Copy)]
-pub struct OneFails {
+pub(crate) struct OneFails {
     pub(crate) disk: u64,
     pub(crate) call: u64,
     pub(crate) byte: u8,
@@ -24,7 +24,7 @@ pub struct OneFails {
 
 /// Over which devices the script runs.
 #[derive(Clone, Copy)]
-pub enum Asked<'a> {
+pub(crate) enum Asked<'a> {
     Files(InFiles<'a>),
     Failing(OneFails),
 }
@@ -32,7 +32,7 @@ pub enum Asked<'a> {
 impl<'a> Asked<'a> {
     /// What the words ask for: `files` with a folder, the id of a store and its number of shards, or `failing` with the number of
     /// a disk, from 0, the number of its call that fails, from 1, and the byte that is found then. None where they are other words.
-    pub fn read(words: &[&'a str]) -> Option<Asked<'a>> {
+    pub(crate) fn read(words: &[&'a str]) -> Option<Asked<'a>> {
         let [kind, first, second, third] = *words else {
             return None;
         };

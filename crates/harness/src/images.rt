@@ -1,15 +1,8 @@
-//! Nodes that are opened over images, by rows: what each finds, or why it is refused. `checks/images` runs it by the program
-//! `harness`.
-//!
-//! Keeps: each row has two disks in memory of its own, with the bytes that it spells.
-//! Never: makes more of a node than its opening, and asks what it found.
-//! Callers rely on: for each row its lines, and a line `;`. A row is `NODE STORE SHARDS A B`: `c` or a shard's number, and the bytes of the two devices in
-//! hexadecimal digits, `-` for none.
-//!
-//! Start at `row.rt`, what a row says, and `opening.rt`, what is told of a node. Whatever calls a node is generic over its devices: a call at a disk in
-//! memory itself takes longer to prove.
-#![tactic(auto)]
-
+// Nodes that are opened over images, by rows: what each finds, or why it is refused. `checks/images` runs it.
+//
+// Each row has two disks in memory of its own, with the bytes that it spells, and no more is made of a node than its opening. A row is
+// `NODE STORE SHARDS A B`: `c` or a shard's number, and the bytes of the two devices in hexadecimal digits, `-` for none. For each row come its lines, and a
+// line `;`. Whatever calls a node is generic over its devices: a call at a disk in memory itself takes longer to prove.
 mod opening;
 mod row;
 
@@ -32,7 +25,11 @@ fn answer(alloc: Global, row: &str, out: &mut Vec<u8>) -> Result<(), AllocError>
 }
 
 /// Opens the nodes of each row of the text, and writes what is told of it.
-pub fn run<R: Read + Drop, W: Write>(alloc: Global, reader: R, writer: &mut W) -> io::Result<()> {
+pub(crate) fn run<R: Read + Drop, W: Write>(
+    alloc: Global,
+    reader: R,
+    writer: &mut W,
+) -> io::Result<()> {
     let text = io::read_to_string(alloc, reader)?;
     let mut out = Vec::new(alloc);
     for row in text.lines() {
