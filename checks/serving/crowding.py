@@ -13,8 +13,8 @@ CROWD = 1100
 PLACES = 1024
 ASKED = check("doc:a#viewer@ann")
 NO = {"member": False, "zookie": token_of(0)}
-# For so many seconds a write of answers waits for who takes nothing, and then the connection is closed; but where the system's buffers took a part of it, the
-# next write waits as long. So it is a minute in the end. A line that has begun, and does not end, keeps others waiting for as long.
+# For so many seconds a client may take nothing of its answers, and a line that has begun, or answers of which little is taken, may keep others waiting. Far more
+# is a fault.
 SLOWEST, LATEST = 30, 300
 
 
@@ -148,6 +148,17 @@ def unread_answers(folder):
             must(is_cut(unread), "the client that reads nothing has a connection still, and there is one worker")
 
 
+def sips(one, seconds, waits):
+    """For how long bytes of answers were taken, two hundred a second, until somebody else's answer is there."""
+    begin = time.monotonic()
+    while time.monotonic() < begin + seconds and not select.select(waits, [], [], 0.5)[0]:
+        try:
+            one.recv(100)
+        except OSError:
+            pass
+    return time.monotonic() - begin
+
+
 def sipped_answers(folder):
     """a client that takes a little of its answers now and then loses the only worker too, where another waits"""
     with Server(folder, workers=1) as server:
@@ -155,16 +166,26 @@ def sipped_answers(folder):
             fill(session)
         with filled(server.port, 4096) as sipping, Session(server.port, LATEST) as other:
             other.send(spelled(ASKED))
-            begin = time.monotonic()
-            while not select.select([other.socket], [], [], 0.5)[0] and time.monotonic() < begin + LATEST:
-                try:
-                    sipping.recv(100)
-                except OSError:
-                    pass
-            waited = time.monotonic() - begin
-            must(SLOWEST <= waited < 4 * SLOWEST, f"a client that takes 200 bytes a second kept its worker for {waited:.1f} s")
+            waited = sips(sipping, LATEST, [other.socket])
+            # It has kept the worker since before, while it was filled.
+            must(SLOWEST - 10 <= waited < SLOWEST + 30, f"a client that takes 200 bytes a second kept its worker for {waited:.1f} s")
             answer = other.answer()
             must(answer == {"member": False, "zookie": token_of(8)}, f"answers {answer} to the one that waited")
+
+
+def sipped_alone(folder):
+    """a client that takes a little of its answers now and then has the only worker for as long as it likes while nobody waits"""
+    with Server(folder, workers=1) as server:
+        with Session(server.port) as session:
+            fill(session)
+        with filled(server.port, 4096) as sipping:
+            sips(sipping, SLOWEST + 15, [])
+            taken, late = 0, time.monotonic() + LIMIT
+            while taken < 1 << 20 and time.monotonic() < late:
+                some = sipping.recv(1 << 16)
+                must(some, f"its connection was ended behind {taken} bytes more")
+                taken += len(some)
+            must(taken >= 1 << 20, f"it got no more than {taken} bytes of its answers")
 
 
 def drips(session, line, pause):
@@ -179,25 +200,40 @@ def drips(session, line, pause):
     return False
 
 
+def gives_up(server, slow, end):
+    """That a session gives the only worker up to another one, behind half a minute; `end` tells whether it was ended."""
+    with Session(server.port, LATEST) as other:
+        other.send(spelled(ASKED))
+        begin = time.monotonic()
+        must(end(), "a client whose line does not end has its worker still")
+        waited = time.monotonic() - begin
+        must(SLOWEST - 3 <= waited < SLOWEST + 15, f"a client whose line does not end gave its worker up after {waited:.1f} s")
+        must(other.answer() == NO, "the one that waited is answered otherwise, or the line was made")
+        is_answered(other)
+
+
 def dripped_line(folder):
     """a client that sends a byte of a line now and then loses the only worker where another waits, behind half a minute, and its line is not made"""
-    half = spelled(write("+doc:a#viewer@ann"))[:-1]
-    with Server(folder, workers=1, idle=3) as server, Session(server.port) as slow:
+    with Server(folder, workers=1, idle=10) as server, Session(server.port) as slow:
         is_answered(slow)
-        with Session(server.port, LATEST) as other:
-            other.send(spelled(ASKED))
-            begin = time.monotonic()
-            must(drips(slow, half, 0.7), "a client that sends a byte now and then has its worker still")
-            waited = time.monotonic() - begin
-            must(SLOWEST - 1 <= waited < SLOWEST + 15, f"a client that sends a byte now and then gave its worker up after {waited:.1f} s")
-            must(other.answer() == NO, "the one that waited is answered otherwise")
-            is_answered(other)
+        slow.send(spelled(write("+doc:a#viewer@ann"))[:-1])
+        gives_up(server, slow, lambda: drips(slow, b" " * 100, 0.7))
+
+
+def silent_line(folder):
+    """so does one that sends half a line and is silent, though it may be idle for longer"""
+    with Server(folder, workers=1, idle=3600) as server, Session(server.port) as slow:
+        is_answered(slow)
+        # With a whole line in the same bytes, behind which the half one begins.
+        slow.send(spelled(ASKED) + spelled(write("+doc:a#viewer@ann"))[:-1])
+        must(slow.answer() == NO, "a line with half of the next one behind it is answered otherwise")
+        gives_up(server, slow, slow.is_ended)
 
 
 def unhurried_line(folder):
     """a client that sends a byte of a line now and then has the only worker for as long as it likes while nobody waits"""
     line = spelled(ASKED)
-    with Server(folder, workers=1, idle=3) as server, Session(server.port) as slow:
+    with Server(folder, workers=1, idle=10) as server, Session(server.port) as slow:
         must(not drips(slow, line[:-1], 1), "a client that sends a byte now and then is cut, and nobody waits")
         slow.send(line[-1:])
         must(slow.answer() == NO, "a line that took its time is answered otherwise")
@@ -304,4 +340,11 @@ TRIES = {
     "counted": counted,
 }
 # They take longer than all others together, and mostly wait, so they are tried behind them, side by side.
-LONG = {"unread-answers": unread_answers, "sipped-answers": sipped_answers, "dripped-line": dripped_line, "unhurried-line": unhurried_line}
+LONG = {
+    "unread-answers": unread_answers,
+    "sipped-answers": sipped_answers,
+    "sipped-alone": sipped_alone,
+    "dripped-line": dripped_line,
+    "silent-line": silent_line,
+    "unhurried-line": unhurried_line,
+}

@@ -53,8 +53,14 @@ def run(*words):
     return done.returncode, done.stdout, done.stderr
 
 
+def without_progress(text):
+    """What a server prints on standard error without the lines that tell how long its opening has taken so far, as they come on a slow machine."""
+    return re.sub(r"zanstore: \S+: being opened, for [0-9]+ s so far\n", "", text)
+
+
 def is_start(text, folder, shards, horizon, latest):
     """Whether the text is just the line that a server of a new store, or of one with these places, prints on standard error as it begins."""
+    text = without_progress(text)
     wanted = re.escape(f"zanstore: {folder}: {shards} shards, places {horizon} to {latest}, opened in ")
     return re.fullmatch(wanted + rf"[0-9]+\.[0-9]{{3}} s from [0-9]+ bytes of {2 * (shards + 1)} files\n", text) is not None
 

@@ -6,7 +6,7 @@ import socket
 
 from judge.worlds import must
 from serving.libraries import built_library
-from serving.server import HOST, SHARDS, STORE, Server, free_port, is_start, run, words_of
+from serving.server import HOST, SHARDS, STORE, Server, free_port, is_start, run, without_progress, words_of
 from serving.talking import is_told
 from serving.wire import Session, check, read, refusal, write
 from serving.wire import token as token_of
@@ -23,8 +23,8 @@ def options(folder, **other):
 
 def refused(wanted, given):
     """A server with these options ends with status 1, and prints just this fault."""
-    found = run("serve", *words_of(given))
-    must(found == (1, "", wanted), f"is (status, output, error) {found}, and not {(1, '', wanted)}")
+    status, out, err = run("serve", *words_of(given))
+    must((status, out, without_progress(err)) == (1, "", wanted), f"is (status, output, error) {(status, out, err)}, and not {(1, '', wanted)}")
 
 
 def makes_files(folder, *changes):
@@ -218,7 +218,10 @@ def long_opening(folder):
     open(note, "w").close()
     held = {"LD_PRELOAD": built_library("hold_syncs"), "HOLD_FOLDER": os.path.realpath(folder), "HOLD_FILE": note, "HOLD_ONLY": "fdatasync", "HOLD_SECONDS": "2"}
     with Server(folder, environment=held, shards=1) as server:
-        first, then = (server.next_line(server.child.stderr).decode() for _ in range(2))
+        first = then = server.next_line(server.child.stderr).decode()
+        # One more may come on a slow machine.
+        while then and not without_progress(then):
+            then = server.next_line(server.child.stderr).decode()
     must(re.fullmatch(re.escape(f"zanstore: {folder}: being opened, for ") + "[1-9] s so far\n", first) is not None, f"tells {first!r} after a second")
     must(is_start(then, folder, 1, 0, 0), f"tells {then!r} behind it")
 

@@ -1,5 +1,5 @@
 -- How long a slow client may keep others waiting.
-use Rattle.std.specs.Prelude.{◌≡◌, ◌≢◌, ◌≤◌, ◌<◌, ◌-◌, ◌+◌, ◌/◌, ℕ, List, Contains, Option, Some, None}
+use Rattle.std.specs.Prelude.{◌≡◌, ◌≢◌, ◌≤◌, ◌<◌, ◌-◌, ◌+◌, ◌/◌, ℕ, List, Contains, length, slice_get, Option, Some, None}
 use Rattle.std.specs.Time.{instant_nanos}
 use Rattle.std.specs.declared.time.Instant.{Instant}
 
@@ -12,17 +12,22 @@ abbrev pub HasLasted : Option Instant → Instant → Type 0
 HasLasted None now = ⊥
 HasLasted (Some since) now = slowest_seconds ≤ (instant_nanos now - instant_nanos since) / 1_000_000_000
 
--- Bytes were read: where a line feed is among them, no line has begun since; else a line that had begun goes on.
+-- the bytes end with a line feed
+abbrev pub EndsLine : List ℕ → Type 0
+EndsLine part = slice_get part (length part - 1) ≡ Some 10
+
+-- Bytes were read: where they end with a line feed, no line has begun since; where none is among them, a line that had begun goes on.
 pub record GoesOn (part : List ℕ) (old new : Option Instant) : Type 0 where
-  pub ended : Contains part 10 → new ≡ None
+  pub ended : EndsLine part → new ≡ None
   pub lasts : (since : Instant) → (Contains part 10 → ⊥) → old ≡ Some since → new ≡ Some since
 
 -- a client that takes so many bytes is given the time anew
 abbrev pub enough : ℕ
 enough = 16_384
 
--- Of the bytes that were to be taken so many were: where that is all, or enough with those since, it is no more waited; else it is waited as before.
+-- Of the bytes that were to be taken so many were: where that is all, or enough with those since, it is no more waited, and counted anew; else it is waited as
+-- before.
 pub record IsTaken (count wanted : ℕ) (since : Option Instant) (taken : ℕ) (since_now : Option Instant) (taken_now : ℕ) : Type 0 where
-  pub all : count ≡ wanted → since_now ≡ None
-  pub much : enough ≤ taken + count → since_now ≡ None
+  pub all : count ≡ wanted → (since_now ≡ None) × (taken_now ≡ 0)
+  pub much : enough ≤ taken + count → (since_now ≡ None) × (taken_now ≡ 0)
   pub lasts : (began : Instant) → count ≢ wanted → taken + count < enough → since ≡ Some began → (since_now ≡ Some began) × (taken_now ≡ taken + count)

@@ -2,7 +2,6 @@
 ghost use Rattle.std.specs.Prelude.{◌≡◌, ◌≤◌, ◌+◌, ◌^◌, OnOk, IfNone, IfSome};
 
 use crate::hall::Hall;
-use crate::slowness::SLOWEST_SECONDS;
 use connections::AcceptorPass;
 use crossbeam_utils::sync::Unparker;
 use std::net::{TcpListener, TcpStream};
@@ -10,7 +9,7 @@ use std::sync::Wait;
 use std::time::{Clock, Duration};
 use std::{io, thread};
 
-// A read that waits longer is a tick.
+// A read that waits longer is a tick, and a write that does is made again.
 const TICK_SECONDS: u64 = 1;
 
 // How long it waits behind an accept that failed, as where too many files are open.
@@ -100,5 +99,5 @@ fn limit(connections: Option<u64>) -> u64
 fn set_up(stream: &TcpStream) -> io::Result<()> {
     stream.set_nodelay(true)?;
     stream.set_read_timeout(Some(Duration::from_secs(TICK_SECONDS)))?;
-    stream.set_write_timeout(Some(Duration::from_secs(SLOWEST_SECONDS)))
+    stream.set_write_timeout(Some(Duration::from_secs(TICK_SECONDS)))
 }

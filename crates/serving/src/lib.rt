@@ -1,7 +1,8 @@
 //! Serving: sessions over TCP, one connection a session, by as many threads as there are workers.
 //!
 //! Keeps: what a connection is written is the session of what was read from it, or a beginning of it where the session broke off.
-//! Never: cuts a session that was not idle for the ticks that it may be; one that may be idle for ever is cut only while the server closes.
+//! Never: cuts a session that was neither idle for the ticks that it may be, nor slow over a line or its answers for half a minute; one that may be idle for
+//! ever is cut only for answers that are not taken, or while the server closes.
 //! Callers rely on: a worker serves one connection at a time, from its first line to its last.
 //!
 //! Only tested, over the program: that each connection is served once, that sessions of several workers go on beside one another, and that the server ends.

@@ -1,8 +1,8 @@
 // A reader that reads again where a read found nothing in time.
-ghost use Rattle.std.specs.Prelude.{◌≡◌, ◌≢◌, ◌<◌, IfOk, IsTrue, None, OnOk, take};
+ghost use Rattle.std.specs.Prelude.{◌≡◌, ◌≢◌, ◌<◌, ◌↔◌, IfOk, IsTrue, None, OnOk, take};
 ghost use Rattle.std.specs.Io.{ReadsAtMost};
 ghost use Rattle.std.specs.Io.KnownBytes.{ReadConsumes};
-ghost use Rattle.serving.specs.Slowness.{GoesOn};
+ghost use Rattle.serving.specs.Slowness.{EndsLine, GoesOn};
 
 use crate::patience::Patience;
 use crate::slowness::has_lasted;
@@ -16,33 +16,48 @@ pub struct Patient<'a, R, C> {
     pub input: R,
     pub clock: &'a C,
     pub patience: Patience<'a>,
-    /// Since when there is a part of a line without its end. None where the last that was read had the end of one.
+    /// Since when there is a part of a line without its end. None where the last that was read ended one.
     pub line_since: Option<Instant>,
 }
 
+// Whether it ends with a line feed.
+fn ends_line(part: &[u8]) -> bool
+    ensures { IsTrue result ↔ EndsLine part.now }
+{
+    match part.last() {
+        Some(byte) => *byte == b'\n',
+        None => false,
+    }
+}
+
 impl<R, C: Clock> Patient<'_, R, C> {
-    // Whether a line has kept others waiting for as long as it may. One whose session may be idle for ever may take as long as it likes.
-    fn is_late(&self) -> io::Result<bool>
-        ensures only { IfOk result (λ late. IsTrue late → (self.now.line_since ≢ None) × (0 < self.now.patience.idle)) }
+    // Whether a line has kept others waiting for as long as it may. One whose session may be idle for ever may take as long as it likes. Nothing is late where
+    // the clock can't be read.
+    fn is_late(&self) -> bool
+        ensures only { IsTrue result → (self.now.line_since ≢ None) × (0 < self.now.patience.idle) }
     {
         if self.line_since.is_none() || self.patience.idle == 0 {
-            return Ok(false);
+            return false;
         }
-        if !self.patience.signs.has_waiting() {
-            return Ok(false);
+        if !self.patience.signs.is_pressed() {
+            return false;
         }
-        Ok(has_lasted(self.line_since, Instant::now(self.clock)?))
+        match Instant::now(self.clock) {
+            Ok(now) => has_lasted(self.line_since, now),
+            Err(_) => false,
+        }
     }
 
-    // Notes what was read: the end of a line, or a part of one alone. Where the clock can't be read, a line begins with its next part.
+    // Notes what was read: a part that ends a line, one behind whose last line feed the next line begins, or one of the same line. Where the clock can't be
+    // read, a line begins with its next part.
     fn note(&mut self, part: &[u8])
         ensures line { GoesOn part.now self.old.line_since self.new.line_since }
         ensures input { self.new.input ≡ self.old.input }
         ensures patience { self.new.patience ≡ self.old.patience }
     {
-        if part.contains(&b'\n') {
+        if ends_line(part) {
             self.line_since = None;
-        } else if self.line_since.is_none() {
+        } else if self.line_since.is_none() || part.contains(&b'\n') {
             self.line_since = Instant::now(self.clock).ok();
         }
     }
@@ -58,7 +73,7 @@ impl<R: Read, C: Clock> Read for Patient<'_, R, C> {
         ensures line { IfOk result (λ count. GoesOn (take count buf.new) self.old.line_since self.new.line_since) }
         ensures idle { self.new.patience.idle ≡ self.old.patience.idle }
     {
-        if self.is_late()? {
+        if self.is_late() {
             return Err(ErrorKind::TimedOut.into());
         }
         for _ in 0..u64::MAX {
@@ -73,7 +88,7 @@ impl<R: Read, C: Clock> Read for Patient<'_, R, C> {
                     ErrorKind::WouldBlock | ErrorKind::TimedOut => {
                         let others_wait = self.patience.signs.has_waiting();
                         let is_closing = self.patience.signs.is_closing();
-                        if self.patience.tick(others_wait, is_closing) {
+                        if self.patience.tick(others_wait, is_closing) || self.is_late() {
                             return Err(error);
                         }
                     }

@@ -1,19 +1,21 @@
 // What sessions are told of their server.
 use std::sync::atomic::{AtomicBool, AtomicU64, Ordering};
 
-/// What sessions are told of their server: how many connections wait for a worker, and whether the server closes.
+/// What sessions are told of their server: how many connections wait for a worker, how many workers are free, and whether the server closes.
 /// Other threads change it at any time, so contracts see nothing of it.
 #[derive(Drop)]
 pub struct Signs {
     waiting: AtomicU64,
+    free: AtomicU64,
     closing: AtomicBool,
 }
 
 impl Signs {
-    /// None waits, and the server does not close.
+    /// None waits, no worker is free yet, and the server does not close.
     pub fn new() -> Signs {
         Signs {
             waiting: AtomicU64::new(0),
+            free: AtomicU64::new(0),
             closing: AtomicBool::new(false),
         }
     }
@@ -28,8 +30,24 @@ impl Signs {
         self.waiting.fetch_sub(1, Ordering::SeqCst);
     }
 
+    /// One more worker is free.
+    pub fn add_free(&self) {
+        self.free.fetch_add(1, Ordering::SeqCst);
+    }
+
+    /// A worker looks for a connection. It was free before.
+    pub fn remove_free(&self) {
+        self.free.fetch_sub(1, Ordering::SeqCst);
+    }
+
+    /// Whether one waits for which there is no free worker.
     pub fn has_waiting(&self) -> bool {
-        self.waiting.load(Ordering::SeqCst) > 0
+        self.waiting.load(Ordering::SeqCst) > self.free.load(Ordering::SeqCst)
+    }
+
+    /// Whether slow clients have to end: one waits, or the server closes.
+    pub fn is_pressed(&self) -> bool {
+        self.has_waiting() || self.is_closing()
     }
 
     /// From now on the server closes.

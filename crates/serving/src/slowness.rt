@@ -5,7 +5,7 @@ ghost use Rattle.serving.specs.Slowness.{HasLasted};
 use std::time::Instant;
 
 /// For how many seconds a client may take nothing of its answers, and a line that does not end, or answers that are not taken, may keep others waiting.
-pub(crate) const SLOWEST_SECONDS: u64 = 30;
+const SLOWEST_SECONDS: u64 = 30;
 
 /// A client that takes so many bytes of its answers is given the time anew.
 pub(crate) const ENOUGH: usize = 16_384;

@@ -53,7 +53,9 @@ impl<A: Answers> Worker<'_, A> {
                     if is_closing {
                         return;
                     }
+                    self.hall.signs.add_free();
                     self.parker.park(rt);
+                    self.hall.signs.remove_free();
                 }
             }
         }
