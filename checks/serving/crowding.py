@@ -167,7 +167,8 @@ def sipped_answers(folder):
         with filled(server.port, 4096) as sipping, Session(server.port, LATEST) as other:
             other.send(spelled(ASKED))
             waited = sips(sipping, LATEST, [other.socket])
-            # It has kept the worker since before, while it was filled; and what the system's buffers take in between counts as taken.
+            # It has kept the worker since before, while it was filled. Behind 16 KiB, what was taken before it waited among them, the time begins anew with
+            # the next part, for which it waits as long.
             must(SLOWEST - 10 <= waited < 4 * SLOWEST, f"a client that takes 200 bytes a second kept its worker for {waited:.1f} s")
             answer = other.answer()
             must(answer == {"member": False, "zookie": token_of(8)}, f"answers {answer} to the one that waited")
