@@ -148,28 +148,63 @@ def unread_answers(folder):
             must(is_cut(unread), "the client that reads nothing has a connection still, and there is one worker")
 
 
-def sips(one, seconds, waits):
-    """For how long bytes of answers were taken, two hundred a second, until somebody else's answer is there."""
+def sips(one, seconds, is_over, most=100):
+    """For how long bytes of answers were taken, up to so many twice a second, until it is over."""
     begin = time.monotonic()
-    while time.monotonic() < begin + seconds and not select.select(waits, [], [], 0.5)[0]:
+    while time.monotonic() < begin + seconds and not is_over():
         try:
-            one.recv(100)
+            one.recv(most)
         except OSError:
             pass
     return time.monotonic() - begin
 
 
+def comes(session):
+    """Whether something of an answer comes within half a second."""
+    return bool(select.select([session.socket], [], [], 0.5)[0])
+
+
+def half_a_second():
+    time.sleep(0.5)
+    return False
+
+
 def sipped_answers(folder):
-    """a client that takes a little of its answers now and then loses the only worker too, where another waits"""
+    """a client that takes a little of its answers now and then loses the only worker too, where another waits, behind half a minute"""
     with Server(folder, workers=1) as server:
         with Session(server.port) as session:
             fill(session)
         with filled(server.port, 4096) as sipping, Session(server.port, LATEST) as other:
             other.send(spelled(ASKED))
-            waited = sips(sipping, LATEST, [other.socket])
-            # It has kept the worker since before, while it was filled. Behind 16 KiB, what was taken before it waited among them, the time begins anew with
-            # the next part, for which it waits as long.
-            must(SLOWEST - 10 <= waited < 4 * SLOWEST, f"a client that takes 200 bytes a second kept its worker for {waited:.1f} s")
+            waited = sips(sipping, LATEST, lambda: comes(other))
+            # It has kept the worker since before, while it was filled.
+            must(SLOWEST - 10 <= waited < SLOWEST + 15, f"a client that takes 200 bytes a second kept its worker for {waited:.1f} s")
+            answer = other.answer()
+            must(answer == {"member": False, "zookie": token_of(8)}, f"answers {answer} to the one that waited")
+
+
+def sipped_last(folder):
+    """nor does it keep a server that is about to end"""
+    with Server(folder, workers=1, connections=2) as server:
+        with Session(server.port) as session:
+            fill(session)
+        with filled(server.port, 4096) as sipping:
+            waited = sips(sipping, LATEST, lambda: half_a_second() or not server.goes_on())
+            must(SLOWEST - 10 <= waited < SLOWEST + 15, f"a client that takes 200 bytes a second kept a server for {waited:.1f} s")
+            status, out, _ = server.ended()
+            must((status, out) == (0, ""), f"the server ends with (status, output) {(status, out)}")
+
+
+def taken_answers(folder):
+    """one that takes them at some kilobytes a second keeps the only worker, though another waits"""
+    with Server(folder, workers=1) as server:
+        with Session(server.port) as session:
+            fill(session)
+        with filled(server.port, 4096) as taking, Session(server.port) as other:
+            other.send(spelled(ASKED))
+            waited = sips(taking, 2 * SLOWEST, lambda: comes(other), most=1 << 14)
+            must(waited >= 2 * SLOWEST, f"a client that takes up to 32 KiB a second lost its worker behind {waited:.1f} s")
+            taking.close()
             answer = other.answer()
             must(answer == {"member": False, "zookie": token_of(8)}, f"answers {answer} to the one that waited")
 
@@ -180,7 +215,7 @@ def sipped_alone(folder):
         with Session(server.port) as session:
             fill(session)
         with filled(server.port, 4096) as sipping:
-            sips(sipping, SLOWEST + 15, [])
+            sips(sipping, SLOWEST + 15, half_a_second)
             taken, late = 0, time.monotonic() + LIMIT
             while taken < 1 << 20 and time.monotonic() < late:
                 some = sipping.recv(1 << 16)
@@ -344,6 +379,8 @@ TRIES = {
 LONG = {
     "unread-answers": unread_answers,
     "sipped-answers": sipped_answers,
+    "sipped-last": sipped_last,
+    "taken-answers": taken_answers,
     "sipped-alone": sipped_alone,
     "dripped-line": dripped_line,
     "silent-line": silent_line,

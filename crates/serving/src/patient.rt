@@ -5,7 +5,7 @@ ghost use Rattle.std.specs.Io.KnownBytes.{ReadConsumes};
 ghost use Rattle.serving.specs.Slowness.{EndsLine, GoesOn};
 
 use crate::patience::Patience;
-use crate::slowness::has_lasted;
+use crate::slowness::is_over;
 use std::io::{self, ErrorKind, Read};
 use std::time::{Clock, Instant};
 
@@ -42,10 +42,7 @@ impl<R, C: Clock> Patient<'_, R, C> {
         if !self.patience.signs.is_pressed() {
             return false;
         }
-        match Instant::now(self.clock) {
-            Ok(now) => has_lasted(self.line_since, now),
-            Err(_) => false,
-        }
+        is_over(self.line_since, self.clock)
     }
 
     // Notes what was read: a part that ends a line, one behind whose last line feed the next line begins, or one of the same line. Where the clock can't be

@@ -5,7 +5,7 @@ ghost use Rattle.std.specs.Io.KnownBytes.{WriteAppends};
 ghost use Rattle.serving.specs.Slowness.{IsTaken};
 
 use crate::signs::Signs;
-use crate::slowness::{ENOUGH, has_lasted};
+use crate::slowness::{ENOUGH, begun, is_over};
 use std::io::{self, ErrorKind, Write};
 use std::time::{Clock, Instant};
 
@@ -16,30 +16,10 @@ pub struct Pressing<'a, W, C> {
     pub output: W,
     pub clock: &'a C,
     pub signs: &'a Signs,
-    /// Since when a part of what was to be written is not taken. None where all was, or enough since.
+    /// Since when a part of what was to be written is not taken, or since it last was enough. None where all was.
     pub since: Option<Instant>,
-    /// How many bytes were taken since.
+    /// How many bytes were taken since. Nothing where that is none.
     pub taken: usize,
-}
-
-// An instant now, where there is none; none where the clock can't be read either.
-fn begun<C: Clock>(since: Option<Instant>, clock: &C) -> Option<Instant>
-    ensures { since ≢ None → result ≡ since }
-{
-    match since {
-        Some(since) => Some(since),
-        None => Instant::now(clock).ok(),
-    }
-}
-
-// Whether what began then has lasted for as long as it may. Nothing has where the clock can't be read.
-fn is_over<C: Clock>(since: Option<Instant>, clock: &C) -> bool
-    ensures only { IsTrue result → since ≢ None }
-{
-    match Instant::now(clock) {
-        Ok(now) => has_lasted(since, now),
-        Err(_) => false,
-    }
 }
 
 impl<W, C: Clock> Pressing<'_, W, C> {
@@ -53,18 +33,25 @@ impl<W, C: Clock> Pressing<'_, W, C> {
         is_over(self.since, self.clock)
     }
 
-    // Notes that so many of these bytes were taken. Where the clock can't be read, it is waited from the next part on.
-    fn note(&mut self, count: usize, wanted: usize)
+    // Notes that so many of these bytes were taken, for which it was waited since then. Where the clock can't be read, the time begins with the next part.
+    fn note(&mut self, count: usize, wanted: usize, waited: Option<Instant>)
         ensures taken { IsTaken count wanted self.old.since self.old.taken self.new.since self.new.taken }
         ensures output { self.new.output ≡ self.old.output }
     {
-        self.taken = self.taken.saturating_add(count);
-        if count == wanted || ENOUGH <= self.taken {
+        if count == wanted {
             self.since = None;
             self.taken = 0;
             return;
         }
-        self.since = begun(self.since, self.clock);
+        if self.since.is_none() {
+            self.since = waited;
+            self.taken = 0;
+        }
+        self.taken = self.taken.saturating_add(count);
+        if self.since.is_none() || ENOUGH <= self.taken {
+            self.since = Instant::now(self.clock).ok();
+            self.taken = 0;
+        }
     }
 }
 
@@ -76,20 +63,20 @@ impl<W: Write, C: Clock> Write for Pressing<'_, W, C> {
         ensures bytes { WriteAppends (W.contents self.old.output) (W.contents self.new.output) result buf.now }
         ensures taken { IfOk result (λ count. IsTaken count (length buf.now) self.old.since self.old.taken self.new.since self.new.taken) }
     {
-        let mut nothing_since = None;
+        let mut waited = None;
         for _ in 0..u64::MAX {
             if self.is_late() {
                 return Err(ErrorKind::TimedOut.into());
             }
             match self.output.write(buf) {
                 Ok(count) => {
-                    self.note(count, buf.len());
+                    self.note(count, buf.len(), waited);
                     return Ok(count);
                 }
                 Err(error) => match error.kind() {
                     ErrorKind::WouldBlock | ErrorKind::TimedOut => {
-                        nothing_since = begun(nothing_since, self.clock);
-                        if is_over(nothing_since, self.clock) {
+                        waited = begun(waited, self.clock);
+                        if is_over(waited, self.clock) {
                             return Err(error);
                         }
                     }
