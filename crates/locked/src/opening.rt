@@ -5,16 +5,15 @@ ghost use Rattle.records.specs.Identity.{max_shards};
 ghost use mathlib.Core.List.{IsPrefix};
 ghost use Rattle.locked.specs.Opening.{HasFound, RefusesCoordinator, RefusesStore, RestAt, ShardsRest};
 
-use crate::{Caller, Gate, Store};
-use crossbeam_utils::sync::Unparker;
+use crate::{Caller, Gate, Parts, Store};
 use device::Device;
 use flights::{
-    ClosedShard, CoordinatorCell, CoordinatorPlace, Launch, LaunchLog, Launches, ShardCell, Tried,
+    ClosedShard, CoordinatorCell, CoordinatorPlace, Launch, LaunchLog, ShardCell, Tried,
 };
 use journal::BatchRoom;
 use published::{LogPass, Published};
 use records::Identity;
-use sides::{Attempt, Attempts, CoordinatorSide, Room};
+use sides::{Attempt, CoordinatorSide, Room};
 use std::alloc::{AllocError, Global};
 use std::thread::{self, Threads};
 use tuples::{Entry, Refusal};
@@ -267,17 +266,12 @@ impl<D: Device, B: Room, G: Gate> Store<D, B, G> {
     /// Opens the store with this id and of 1 to 64 shards over its devices: those of the coordinator, and then those of each shard, by rising number, bank a
     /// before bank b. Where they rest at a list, all that is said of the list is said of that one and of what joins it. A shard whose opening is refused
     /// holds that refusal, and can be restarted; that of the coordinator's opening, or `NoMemory`, refuses the store. With it comes a first caller, which knows
-    /// what was found, and can tell the others. Whoever tends the store is woken by the bell. The attempts name the decisions that its coordinator stages, and the launches the flights of its nodes, so that a flush holds no lock while devices sync.
-    /// Shards are opened side by side.
+    /// what was found, and can tell the others. Shards are opened side by side.
     pub fn open<R: Threads + Sync>(
         rt: &R,
         alloc: Global,
         gate: G,
-        bell: Unparker,
-        words: Published<Entry>,
-        log: LogPass<Entry>,
-        attempts: Attempts,
-        launches: Launches,
+        parts: Parts,
         mut devices: Vec<D>,
         store: u64,
         shards: u8,
@@ -285,10 +279,10 @@ impl<D: Device, B: Room, G: Gate> Store<D, B, G> {
     where
         D: Send,
         B: Send,
-        requires own { (words ≡ B.log) × (log.table ≡ B.log) }
-        requires empty { (log.seen ≡ []) × (log.horizon ≡ 0) }
-        requires tried { attempts ≡ B.attempts }
-        requires flights { launches ≡ B.launches }
+        requires own { (parts.words ≡ B.log) × (parts.log.table ≡ B.log) }
+        requires empty { (parts.log.seen ≡ []) × (parts.log.horizon ≡ 0) }
+        requires tried { parts.attempts ≡ B.attempts }
+        requires flights { parts.launches ≡ B.launches }
         requires of { (store ≡ B.store) × (shards ≡ B.shards) }
         requires some { 1 ≤ shards }
         requires few { shards ≤ max_shards }
@@ -298,6 +292,13 @@ impl<D: Device, B: Room, G: Gate> Store<D, B, G> {
         ensures found { IfOk result (λ opened. B.rests → HasFound B.first B.low opened.1) }
         ensures refused { IfErr result (RefusesStore D.state D.honest D.moment D.left_since B.store B.shards devices.items) }
     {
+        let Parts {
+            bell,
+            words,
+            log,
+            attempts,
+            launches,
+        } = parts;
         let (attempts, tried) = attempts.into_parts();
         let (launches, mut launch_log) = launches.into_parts();
         let opened = open_nodes(

@@ -1,5 +1,5 @@
 // The place of an answer that needs no call of the coordinator.
-ghost use Rattle.std.specs.Prelude.{◌≡◌, ◌≤◌, ◌<◌, length, IfSome, IfNone};
+ghost use Rattle.std.specs.Prelude.{◌≤◌, ◌<◌, length, IfSome, IfNone};
 ghost use Rattle.sides.specs.Sides.{IsLater};
 ghost use Rattle.locked.specs.Answering.{IsBeyond, IsFresh};
 

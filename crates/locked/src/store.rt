@@ -1,7 +1,6 @@
 // The store: its words, and each node under a lock of its own.
 ghost use Rattle.std.specs.Prelude.{◌≡◌, ◌≤◌, ◌<◌, length, vec_len};
 ghost use Rattle.std.specs.Sync.Mutex.{mutex_guard_value};
-ghost use mathlib.Core.List.{IsPrefix};
 ghost use Rattle.records.specs.Identity.{max_shards};
 ghost use Rattle.flights.specs.Places.{number_at};
 ghost use Rattle.sides.specs.Sides.{IsLater};

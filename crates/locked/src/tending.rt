@@ -18,7 +18,7 @@ use std::sync::atomic::Ordering;
 use tuples::Refusal;
 
 /// What wakes whoever tends a store, and what sleeps there: the bell is for `Store::open`, and the parker for `Store::keep`.
-pub fn new_bell(alloc: Global) -> Result<(Parker, Unparker), AllocError> {
+pub(crate) fn new_bell(alloc: Global) -> Result<(Parker, Unparker), AllocError> {
     let parker = Parker::new(alloc)?;
     let bell = parker.unparker().clone()?;
     Ok((parker, bell))

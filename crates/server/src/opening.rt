@@ -6,16 +6,14 @@ ghost use Rattle.tuples.specs.declared.entry.Entry.{Entry as AnyEntry};
 use crate::fault::{Fault, tell};
 use crate::progress::Progress;
 use crate::running::serve_store;
-use crossbeam_utils::sync::{Parker, Unparker};
+use crossbeam_utils::sync::Parker;
 use device::Device;
 use files::{FileDevice, HostFile};
-use flights::Launches;
-use locked::{Gate, Open, Store, new_bell};
+use locked::{Gate, Open, Parts, Store};
 use node_files::open_all;
-use published::{LogPass, Published};
 use refusal::Refusal;
 use settings::ServeSettings;
-use sides::{Attempts, Room};
+use sides::Room;
 use std::alloc::Global;
 use std::marker::Brand;
 use std::net::{Net, TcpListener, TcpStream};
@@ -23,7 +21,6 @@ use std::rt::Runtime;
 use std::sync::Wait;
 use std::thread::{self, Threads};
 use std::time::Instant;
-use tuples::Entry;
 
 /// Serves the store that the folder keeps, or a new one where its files are missing, to those who connect. The status: 0 once as many connections were
 /// served as the settings ask for, and 1 behind a fault, of which standard error is told:
@@ -44,34 +41,8 @@ where
     ghost first: { List AnyEntry }
     ensures { (result ≡ 0) ⊎ (result ≡ 1) }
 {
-    match new_bell(files.alloc()) {
-        Ok((parker, bell)) => serve_with_bell(rt, files, settings, parker, bell),
-        Err(_) => tell(rt, &Fault::Refused(Refusal::NoMemory)),
-    }
-}
-
-fn serve_with_bell<R>(
-    rt: &R,
-    files: &HostRuntime,
-    settings: &ServeSettings,
-    parker: Parker,
-    bell: Unparker,
-) -> u8
-where
-    R: Runtime + Net<Listener = TcpListener, Stream = TcpStream> + Threads + Wait + Sync,
-    ghost first: { List AnyEntry }
-    ensures { (result ≡ 0) ⊎ (result ≡ 1) }
-{
-    let Ok(launches) = Launches::new(files.alloc()) else {
-        return tell(rt, &Fault::Refused(Refusal::NoMemory));
-    };
-    let Ok(attempts) = Attempts::new(files.alloc()) else {
-        return tell(rt, &Fault::Refused(Refusal::NoMemory));
-    };
-    match Published::new(files.alloc()) {
-        Ok((words, log)) => serve_files(
-            rt, files, settings, parker, bell, words, log, attempts, launches,
-        ),
+    match Parts::new(files.alloc()) {
+        Ok((parker, parts)) => serve_files(rt, files, settings, parker, parts),
         Err(_) => tell(rt, &Fault::Refused(Refusal::NoMemory)),
     }
 }
@@ -81,17 +52,13 @@ fn serve_files<R>(
     files: &HostRuntime,
     settings: &ServeSettings,
     parker: Parker,
-    bell: Unparker,
-    words: Published<Entry>,
-    log: LogPass<Entry>,
-    attempts: Attempts,
-    launches: Launches,
+    parts: Parts,
 ) -> u8
 where
     R: Runtime + Net<Listener = TcpListener, Stream = TcpStream> + Threads + Wait + Sync,
     ghost first: { List AnyEntry }
-    requires own { log.table ≡ words }
-    requires empty { (log.seen ≡ []) × (log.horizon ≡ 0) }
+    requires own { parts.log.table ≡ parts.words }
+    requires empty { (parts.log.seen ≡ []) × (parts.log.horizon ≡ 0) }
     ensures { (result ≡ 0) ⊎ (result ≡ 1) }
 {
     match open_all(files, settings.dir.as_str(), settings.shards) {
@@ -102,11 +69,7 @@ where
             found_in(&devices),
             Open,
             parker,
-            bell,
-            words,
-            log,
-            attempts,
-            launches,
+            parts,
             devices,
         ),
         Err(refusal) => tell(rt, &Fault::Refused(refusal)),
@@ -132,17 +95,13 @@ pub fn serve_over<D: Device + Send, B: Room + Send + Sync, G: Gate + Sync, R>(
     found: u64,
     gate: G,
     parker: Parker,
-    bell: Unparker,
-    words: Published<Entry>,
-    log: LogPass<Entry>,
-    attempts: Attempts,
-    launches: Launches,
+    parts: Parts,
     devices: Vec<D>,
 ) -> u8
 where
     R: Runtime + Net<Listener = TcpListener, Stream = TcpStream> + Threads + Wait + Sync,
-    requires own { (words ≡ B.log) × (log.table ≡ B.log) × (attempts ≡ B.attempts) × (launches ≡ B.launches) }
-    requires empty { (log.seen ≡ []) × (log.horizon ≡ 0) }
+    requires own { (parts.words ≡ B.log) × (parts.log.table ≡ B.log) × (parts.attempts ≡ B.attempts) × (parts.launches ≡ B.launches) }
+    requires empty { (parts.log.seen ≡ []) × (parts.log.horizon ≡ 0) }
     requires of { (B.store ≡ settings.now.store) × (B.shards ≡ settings.now.shards) }
     requires count { vec_len devices ≡ 2 * (settings.now.shards + 1) }
     requires honest { All D.honest devices.items }
@@ -156,8 +115,8 @@ where
         thread::scope_env(),
         rt,
         move |scope| -> u8
-            requires own { (words ≡ B.log) × (log.table ≡ B.log) × (attempts ≡ B.attempts) × (launches ≡ B.launches) }
-            requires empty { (log.seen ≡ []) × (log.horizon ≡ 0) }
+            requires own { (parts.words ≡ B.log) × (parts.log.table ≡ B.log) × (parts.attempts ≡ B.attempts) × (parts.launches ≡ B.launches) }
+            requires empty { (parts.log.seen ≡ []) × (parts.log.horizon ≡ 0) }
             requires of { (B.store ≡ settings.now.store) × (B.shards ≡ settings.now.shards) }
             requires count { vec_len devices ≡ 2 * (settings.now.shards + 1) }
             requires honest { All D.honest devices.items }
@@ -168,8 +127,7 @@ where
             // Where there is no thread for it, nobody is told how long the opening takes.
             let _ = scope.spawn(move || progress.tell(rt, settings.dir.as_str()));
             let status = open_and_serve::<D, B, G, R>(
-                rt, alloc, settings, progress, gate, parker, bell, words, log, attempts, launches,
-                devices,
+                rt, alloc, settings, progress, gate, parker, parts, devices,
             );
             progress.end();
             status
@@ -185,17 +143,13 @@ fn open_and_serve<D: Device + Send, B: Room + Send + Sync, G: Gate + Sync, R>(
     progress: &Progress,
     gate: G,
     parker: Parker,
-    bell: Unparker,
-    words: Published<Entry>,
-    log: LogPass<Entry>,
-    attempts: Attempts,
-    launches: Launches,
+    parts: Parts,
     devices: Vec<D>,
 ) -> u8
 where
     R: Runtime + Net<Listener = TcpListener, Stream = TcpStream> + Threads + Wait + Sync,
-    requires own { (words ≡ B.log) × (log.table ≡ B.log) × (attempts ≡ B.attempts) × (launches ≡ B.launches) }
-    requires empty { (log.seen ≡ []) × (log.horizon ≡ 0) }
+    requires own { (parts.words ≡ B.log) × (parts.log.table ≡ B.log) × (parts.attempts ≡ B.attempts) × (parts.launches ≡ B.launches) }
+    requires empty { (parts.log.seen ≡ []) × (parts.log.horizon ≡ 0) }
     requires of { (B.store ≡ settings.now.store) × (B.shards ≡ settings.now.shards) }
     requires count { vec_len devices ≡ 2 * (settings.now.shards + 1) }
     requires honest { All D.honest devices.items }
@@ -208,11 +162,7 @@ where
         rt,
         alloc,
         gate,
-        bell,
-        words,
-        log,
-        attempts,
-        launches,
+        parts,
         devices,
         settings.store,
         settings.shards,

@@ -6,18 +6,15 @@ use crate::asked::Asked;
 use crate::disks::new_disks;
 use crate::meeting::{Door, Meeting};
 use crate::{stress, two_callers, two_writers};
-use crossbeam_utils::sync::{Parker, Unparker};
+use crossbeam_utils::sync::Parker;
 use device::{Device, SimDisk};
-use flights::Launches;
-use locked::{Gate, Store, new_bell};
-use published::{LogPass, Published};
-use sides::{Attempts, Room};
+use locked::{Gate, Parts, Store};
+use sides::Room;
 use std::alloc::Global;
 use std::marker::Brand;
 use std::rt::Runtime;
 use std::sync::Wait;
 use std::thread::Threads;
-use tuples::Entry;
 
 /// The number of the store.
 const STORE: u64 = 1;
@@ -30,51 +27,26 @@ pub(crate) const FAILED: u8 = 1;
 
 /// Opens a store, and runs what was asked for. The status.
 pub fn run<R: Runtime + Threads + Wait + Sync>(rt: &R, alloc: Global, asked: Asked) -> u8 {
-    match new_bell(alloc) {
-        Ok((parker, bell)) => run_with_bell(rt, alloc, parker, bell, asked),
+    match Parts::new(alloc) {
+        Ok((parker, parts)) => run_over_parts(rt, alloc, parker, parts, asked),
         Err(_) => FAILED,
     }
 }
 
-fn run_with_bell<R: Runtime + Threads + Wait + Sync>(
+fn run_over_parts<R: Runtime + Threads + Wait + Sync>(
     rt: &R,
     alloc: Global,
     parker: Parker,
-    bell: Unparker,
-    asked: Asked,
-) -> u8 {
-    let Ok(launches) = Launches::new(alloc) else {
-        return FAILED;
-    };
-    let Ok(attempts) = Attempts::new(alloc) else {
-        return FAILED;
-    };
-    match Published::new(alloc) {
-        Ok((words, log)) => run_over_words(
-            rt, alloc, parker, bell, words, log, attempts, launches, asked,
-        ),
-        Err(_) => FAILED,
-    }
-}
-
-fn run_over_words<R: Runtime + Threads + Wait + Sync>(
-    rt: &R,
-    alloc: Global,
-    parker: Parker,
-    bell: Unparker,
-    words: Published<Entry>,
-    log: LogPass<Entry>,
-    attempts: Attempts,
-    launches: Launches,
+    parts: Parts,
     asked: Asked,
 ) -> u8
-    requires own { log.table ≡ words }
-    requires empty { (log.seen ≡ []) × (log.horizon ≡ 0) }
+    requires own { parts.log.table ≡ parts.words }
+    requires empty { (parts.log.seen ≡ []) × (parts.log.horizon ≡ 0) }
 {
     let meeting = Meeting::of(asked.guests());
     match new_disks(alloc, SHARDS, asked.failing()) {
         Ok(disks) => run_over::<SimDisk, Brand, R>(
-            rt, alloc, parker, bell, &meeting, words, log, attempts, launches, disks, asked,
+            rt, alloc, parker, &meeting, parts, disks, asked,
         ),
         Err(_) => FAILED,
     }
@@ -84,17 +56,13 @@ fn run_over<D: Device + Send, B: Room + Send + Sync, R: Runtime + Threads + Wait
     rt: &R,
     alloc: Global,
     parker: Parker,
-    bell: Unparker,
     meeting: &Meeting,
-    words: Published<Entry>,
-    log: LogPass<Entry>,
-    attempts: Attempts,
-    launches: Launches,
+    parts: Parts,
     devices: Vec<D>,
     asked: Asked,
 ) -> u8
-    requires own { (words ≡ B.log) × (log.table ≡ B.log) × (attempts ≡ B.attempts) × (launches ≡ B.launches) }
-    requires empty { (log.seen ≡ []) × (log.horizon ≡ 0) }
+    requires own { (parts.words ≡ B.log) × (parts.log.table ≡ B.log) × (parts.attempts ≡ B.attempts) × (parts.launches ≡ B.launches) }
+    requires empty { (parts.log.seen ≡ []) × (parts.log.horizon ≡ 0) }
     requires of { (B.store ≡ STORE) × (B.shards ≡ SHARDS) }
     requires count { vec_len devices ≡ 2 * (SHARDS + 1) }
     requires honest { All D.honest devices.items }
@@ -104,11 +72,7 @@ fn run_over<D: Device + Send, B: Room + Send + Sync, R: Runtime + Threads + Wait
         rt,
         alloc,
         Door { meeting },
-        bell,
-        words,
-        log,
-        attempts,
-        launches,
+        parts,
         devices,
         STORE,
         SHARDS,

@@ -1,4 +1,4 @@
 use Rattle.server.proofs.opening.serve.Given as goal
 
-abbrev pub ghost-serve_with_bell : goal.ghost-serve_with_bell
-ghost-serve_with_bell g a = g.first
+abbrev pub ghost-serve_files : goal.ghost-serve_files
+ghost-serve_files g a = g.first

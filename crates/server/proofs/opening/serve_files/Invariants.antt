@@ -16,9 +16,9 @@ rests_in shards first devices state = IsAtRest state (λ d. Unit {0}) shards fir
 -- What is said is said of the list, where the devices rest at it as they were found.
 abbrev pub ghosts-serve_over : goal.ghosts-serve_over
 ghosts-serve_over g a = record {
-  log = a.words;
-  attempts = a.attempts;
-  launches = a.launches;
+  log = a.parts.words;
+  attempts = a.parts.attempts;
+  launches = a.parts.launches;
   store = a.settings.now.store;
   shards = a.settings.now.shards;
   rests = rests_in a.settings.now.shards g.first a.devices.items (λ d. life_state d.history.events d.is_stopped d.failures);

@@ -1,7 +1,7 @@
 use Rattle.std.proofs.Common.{arith}
 use Rattle.device.specs.Disk.{state_of}
 use Rattle.locked.proofs.NewDevices.{new_devices_rest}
-use Rattle.threads_run.proofs.opening.run_over_words.Goals as goal
+use Rattle.threads_run.proofs.opening.run_over_parts.Goals as goal
 
 -- New disks rest at the empty list.
 pub run_over-requires-clause-rests : goal.run_over-requires-clause-rests

@@ -1,5 +1,0 @@
-use Rattle.std.proofs.Common.{[]}
-use Rattle.threads_run.proofs.opening.run_over_words.Given as goal
-
-abbrev pub ghosts-run_over : goal.ghosts-run_over
-ghosts-run_over g a = record { log = a.words; attempts = a.attempts; launches = a.launches; store = 1; shards = 4; rests = Unit {0}; first = []; low = 0 }
