@@ -1,8 +1,9 @@
 // Bytes of batches that were worked out by hand.
-use records::decode_batch;
+ghost use Rattle.records.specs.Format.{AreRecords};
+
+use records::{Record, decode_batch};
 use refusal::Refusal;
-use std::alloc::Global;
-use std::test::Fail;
+use std::alloc::{AllocError, Global};
 
 /// The first opening of node 1 of two shards, store 1.
 const OPENING: [u8; 22] = [
@@ -53,72 +54,99 @@ const CHECKPOINT: [u8; 51] = [
     0x61, 6, 0x76, 0x69, 0x65, 0x77, 0x65, 0x72, 1, 2, 0x75, 0x31, 7, 2, 0, 0, 0, 0, 0, 0, 0, 1,
 ];
 
-/// What is written of the records that the bytes spell, without the head of a batch.
-fn written(alloc: Global, bytes: &[u8]) -> Option<Vec<u8>> {
-    let records = decode_batch(alloc, bytes).ok()?;
-    let mut out = Vec::new(alloc);
-    for record in &records {
-        record.encode(&mut out).ok()?;
-    }
-    Some(out)
-}
-
-#[test]
-fn what_is_read_is_written_again(rt: HostRuntime) -> Result<(), Fail> {
-    for (bytes, again) in [
-        (OPENING.as_slice(), &OPENING[3..]),
-        (TOUCHING.as_slice(), &TOUCHING[3..]),
-        (TOUCHING_TWO.as_slice(), &TOUCHING_TWO[3..]),
-        (WHERE_ABSENT.as_slice(), &WHERE_ABSENT[3..]),
-        (WHERE_UNCHANGED.as_slice(), &WHERE_UNCHANGED_LATER[3..]),
-        (LEARNING.as_slice(), &LEARNING[3..]),
-        (CHECKPOINT.as_slice(), &CHECKPOINT[3..]),
-    ] {
-        let out = written(rt.alloc(), bytes).ok_or("it is a batch")?;
-        assert_eq!(rt; out.as_slice(), again);
+/// Appends what is written of the records.
+fn encode_all(records: &[Record], out: &mut Vec<u8>) -> Result<(), AllocError>
+    requires { AreRecords records.now }
+{
+    for record in records {
+        record.encode(out)?;
     }
     Ok(())
 }
 
+/// Whether that is written of the records, behind the three bytes of a head.
+fn are_written_as(alloc: Global, records: &[Record], wanted: &[u8]) -> bool
+    requires { AreRecords records.now }
+{
+    let mut out = Vec::new(alloc);
+    encode_all(records, &mut out).is_ok() && wanted.get(3..) == Some(out.as_slice())
+}
+
+/// Whether the bytes are a batch of which that is written. The records are lent: what owns them has one way out.
+fn is_written_as(alloc: Global, bytes: &[u8], wanted: &[u8]) -> bool {
+    match decode_batch(alloc, bytes) {
+        Ok(records) => {
+            let are_alike = are_written_as(alloc, &records, wanted);
+            drop(records);
+            are_alike
+        }
+        Err(_) => false,
+    }
+}
+
+/// Batches, and what is written of them.
+const READ: &[(&[u8], &[u8])] = &[
+    (&OPENING, &OPENING),
+    (&TOUCHING, &TOUCHING),
+    (&TOUCHING_TWO, &TOUCHING_TWO),
+    (&WHERE_ABSENT, &WHERE_ABSENT),
+    (&WHERE_UNCHANGED, &WHERE_UNCHANGED_LATER),
+    (&LEARNING, &LEARNING),
+    (&CHECKPOINT, &CHECKPOINT),
+];
+
+#[test]
+fn what_is_read_is_written_again(rt: HostRuntime) {
+    for &(bytes, wanted) in READ {
+        assert!(rt; is_written_as(rt.alloc(), bytes, wanted), "{bytes:?}");
+    }
+}
+
+/// Whether the bytes are no batch.
+fn is_damaged(alloc: Global, bytes: &[u8]) -> bool {
+    match decode_batch(alloc, bytes) {
+        Ok(records) => {
+            drop(records);
+            false
+        }
+        Err(refusal) => refusal == Refusal::Damaged,
+    }
+}
+
 /// Whether the bytes are no batch with one of them changed, and the last so many left out.
-fn is_damaged(
-    alloc: Global,
-    bytes: &[u8],
-    i: usize,
-    byte: u8,
-    left_out: usize,
-) -> Result<bool, Fail> {
-    let mut changed = bytes.to_vec(alloc)?;
+fn is_damaged_by(alloc: Global, bytes: &[u8], i: usize, byte: u8, left_out: usize) -> bool {
+    let Ok(mut changed) = bytes.to_vec(alloc) else {
+        return false;
+    };
     if let Some(place) = changed.get_mut(i) {
         *place = byte;
     }
     changed.truncate(bytes.len().saturating_sub(left_out));
-    Ok(matches!(decode_batch(alloc, &changed), Err(Refusal::Damaged)))
+    is_damaged(alloc, &changed)
 }
 
+/// Batches, the byte of each that is changed and to what, how many are left out, and why that is no batch.
+const DAMAGED: &[(&[u8], usize, u8, usize, &str)] = &[
+    (&OPENING, 0, 1, 22, "there is nothing"),
+    (&OPENING, 0, 1, 1, "it is cut short"),
+    (&OPENING, 0, 3, 0, "there is no version 3"),
+    (&OPENING, 2, 0, 0, "there is no record"),
+    (&OPENING, 2, 2, 0, "there are fewer records"),
+    (&LEARNING, 2, 1, 0, "a record stands behind it"),
+    (&OPENING, 3, 8, 0, "there is no kind 8"),
+    (&OPENING, 20, 0, 0, "there is no shard"),
+    (&OPENING, 20, 65, 0, "there are too many shards"),
+    (&TOUCHING_TWO, 56, 0x31, 0, "a tuple is changed twice"),
+    (&CHECKPOINT, 42, 3, 0, "there is no mark 3"),
+    (&CHECKPOINT, 23, 0, 0, "there is no change 0"),
+];
+
 #[test]
-fn what_is_no_batch_is_damaged(rt: HostRuntime) -> Result<(), Fail> {
-    for (bytes, i, byte, left_out, why) in [
-        (OPENING.as_slice(), 0, 1, 22, "there is nothing"),
-        (OPENING.as_slice(), 0, 1, 1, "it is cut short"),
-        (OPENING.as_slice(), 0, 3, 0, "there is no version 3"),
-        (OPENING.as_slice(), 2, 0, 0, "there is no record"),
-        (OPENING.as_slice(), 2, 2, 0, "there are fewer records"),
-        (LEARNING.as_slice(), 2, 1, 0, "a record stands behind it"),
-        (OPENING.as_slice(), 3, 8, 0, "there is no kind 8"),
-        (OPENING.as_slice(), 20, 0, 0, "there is no shard"),
-        (OPENING.as_slice(), 20, 65, 0, "there are too many shards"),
-        (
-            TOUCHING_TWO.as_slice(),
-            56,
-            0x31,
-            0,
-            "a tuple is changed twice",
-        ),
-        (CHECKPOINT.as_slice(), 42, 3, 0, "there is no mark 3"),
-        (CHECKPOINT.as_slice(), 23, 0, 0, "there is no change 0"),
-    ] {
-        assert!(rt; is_damaged(rt.alloc(), bytes, i, byte, left_out)?, "{why}");
+fn what_is_no_batch_is_damaged(rt: HostRuntime) {
+    for &(bytes, i, byte, left_out, why) in DAMAGED {
+        assert!(rt;
+            is_damaged_by(rt.alloc(), bytes, i, byte, left_out),
+            "{why}"
+        );
     }
-    Ok(())
 }

@@ -1,12 +1,12 @@
 // Devices over files in memory and of the operating system, a life at a time.
-use device::{Device, SimDisk, Stopped};
+use crate::disks::disk_of;
+use device::{Device, Stopped};
 use files::{Broken, FileDevice, RawFile, open};
 use gated::GatedLog;
 use refusal::Refusal;
 use std::alloc::Global;
-use std::fs;
 use std::os::unix::fs::symlink;
-use std::test::Fail;
+use std::{fs, io};
 
 const NAME: &str = "0.a";
 
@@ -65,19 +65,25 @@ impl RawFile for Struck {
     }
 }
 
-// Whether these are its first bytes.
-fn begins_with<D: Device>(device: &mut D, bytes: &[u8; 8]) -> Result<bool, Stopped> {
-    let mut buf = [0; 8];
-    if device.len()? < 8 {
-        return Ok(false);
+// The eight bytes there; none where it ends before them.
+fn word_at<D: Device>(device: &mut D, at: usize) -> Result<Option<u64>, Stopped> {
+    let len = device.len()?;
+    if len < 8 || at > len - 8 {
+        return Ok(None);
     }
-    device.read_at(0, &mut buf)?;
-    Ok(buf == *bytes)
+    let mut buf = [0; 8];
+    device.read_at(at, &mut buf)?;
+    Ok(Some(u64::from_be_bytes(buf)))
+}
+
+// Whether these are its first bytes.
+fn begins_with<D: Device>(device: &mut D, bytes: &[u8; 8]) -> bool {
+    word_at(device, 0) == Ok(Some(u64::from_be_bytes(*bytes)))
 }
 
 // How many of these succeed: a read, a sync, a write and a sync behind it.
 fn done_by<D: Device>(device: &mut D) -> u64 {
-    if begins_with(device, &[7; 8]) != Ok(true) {
+    if !begins_with(device, &[7; 8]) {
         return 0;
     }
     if device.sync().is_err() {
@@ -98,35 +104,38 @@ fn life_of(alloc: Global, struck: u64, len: usize) -> Result<(u64, bool), Refusa
     };
     let mut device = FileDevice::open(alloc, file)?;
     let done = done_by(&mut device);
-    let is_revived = device.revive().is_ok() && begins_with(&mut device, &[7; 8]) == Ok(true);
+    let is_revived = device.revive().is_ok() && begins_with(&mut device, &[7; 8]);
     Ok((done, is_revived))
 }
 
+// Which call fails, the length of the file, and what becomes of the life.
+const LIVES: &[(u64, usize, Result<(u64, bool), Refusal>)] = &[
+    (1, 8, Err(Refusal::Down)),
+    (2, 8, Err(Refusal::Down)),
+    (3, 8, Err(Refusal::Down)),
+    (0, 1 << 62, Err(Refusal::NoMemory)),
+    (4, 8, Ok((1, true))),
+    (5, 8, Ok((2, false))),
+    (6, 8, Ok((3, false))),
+    (0, 8, Ok((4, false))),
+];
+
 #[test]
-fn a_file_that_fails_behind_a_write_ends_the_life(rt: HostRuntime) -> Result<(), Fail> {
-    // which call fails, the length of the file, and what becomes of the life
-    for (struck, len, wanted) in [
-        (1, 8, Err(Refusal::Down)),
-        (2, 8, Err(Refusal::Down)),
-        (3, 8, Err(Refusal::Down)),
-        (0, 1 << 62, Err(Refusal::NoMemory)),
-        (4, 8, Ok((1, true))),
-        (5, 8, Ok((2, false))),
-        (6, 8, Ok((3, false))),
-        (0, 8, Ok((4, false))),
-    ] {
-        assert!(rt;
-            life_of(rt.alloc(), struck, len) == wanted,
-            "{struck} {len}"
-        );
+fn a_file_that_fails_behind_a_write_ends_the_life(rt: HostRuntime) {
+    for &(struck, len, wanted) in LIVES {
+        let life = life_of(rt.alloc(), struck, len);
+        assert!(rt; life == wanted, "{struck} {len}");
     }
-    Ok(())
 }
 
-fn make_folder(rt: &HostRuntime, folder: &str) -> Result<(), Fail> {
+// Makes a folder anew.
+fn make_folder(rt: &HostRuntime, folder: &str) -> bool {
     let _ = fs::remove_dir_all(rt, folder);
-    fs::create_dir(rt, folder)?;
-    Ok(())
+    fs::create_dir(rt, folder).is_ok()
+}
+
+fn remove_folder(rt: &HostRuntime, folder: &str) -> bool {
+    fs::remove_dir_all(rt, folder).is_ok()
 }
 
 // The next of a fixed row of numbers.
@@ -136,31 +145,19 @@ fn next(seed: u64) -> u64 {
     seed ^ (seed << 17)
 }
 
-// Whether they read alike there, as far as they go.
-fn read_both<A: Device, B: Device>(a: &mut A, b: &mut B, at: usize) -> Result<bool, Stopped> {
-    let mut buf = [0; 8];
-    let mut other = [0; 8];
-    let len = a.len()?;
-    if len < 8 || at > len - 8 {
-        return Ok(b.len()? == len);
+// Whether they are as long, and read alike at every eighth place.
+fn are_alike<A: Device, B: Device>(a: &mut A, b: &mut B) -> bool {
+    let len = a.len();
+    if len.is_err() || len != b.len() {
+        return false;
     }
-    a.read_at(at, &mut buf)?;
-    let len = b.len()?;
-    if len < 8 || at > len - 8 {
-        return Ok(false);
-    }
-    b.read_at(at, &mut other)?;
-    Ok(buf == other)
-}
-
-// Whether they read alike at every eighth place.
-fn are_alike<A: Device, B: Device>(a: &mut A, b: &mut B) -> Result<bool, Stopped> {
     for i in 0..32 {
-        if !read_both(a, b, 8 * i)? {
-            return Ok(false);
+        let word = word_at(a, 8 * i);
+        if word.is_err() || word != word_at(b, 8 * i) {
+            return false;
         }
     }
-    Ok(true)
+    true
 }
 
 // Writes at a place inside, durably.
@@ -170,62 +167,81 @@ fn write_synced<D: Device>(device: &mut D, at: usize, bytes: &[u8]) -> Result<()
     device.sync()
 }
 
-// A life of the file: whether it finds what the disk has. Then both have the same bytes written.
-fn lives_as<D: Device>(
-    rt: &HostRuntime,
-    folder: &str,
-    disk: &mut D,
-    seed: u64,
-) -> Result<bool, Fail> {
-    let mut device = open(rt, rt.alloc(), folder, NAME)?;
-    Ok(has_life(&mut device, disk, seed)?)
+// Whether one finds what the other has. Then both have the same bytes written.
+fn has_life<A: Device, B: Device>(a: &mut A, b: &mut B, seed: u64) -> bool {
+    let at = (seed >> 8) as usize % 256;
+    let bytes = seed.to_be_bytes();
+    are_alike(a, b) && write_synced(a, at, &bytes).is_ok() && write_synced(b, at, &bytes).is_ok()
 }
 
-fn has_life<A: Device, B: Device>(a: &mut A, b: &mut B, seed: u64) -> Result<bool, Stopped> {
-    let at = (seed >> 8) as usize % 256;
-    if !are_alike(a, b)? {
-        return Ok(false);
+// A life of the file: whether it finds what the disk has.
+fn lives_as<D: Device>(rt: &HostRuntime, folder: &str, disk: &mut D, seed: u64) -> bool {
+    match open(rt, rt.alloc(), folder, NAME) {
+        Ok(mut device) => has_life(&mut device, disk, seed),
+        Err(_) => false,
     }
-    write_synced(a, at, &seed.to_be_bytes())?;
-    write_synced(b, at, &seed.to_be_bytes())?;
-    Ok(true)
+}
+
+// Whether each of so many lives finds what the disk has.
+fn live_as<D: Device>(rt: &HostRuntime, folder: &str, disk: &mut D, lives: u64) -> bool {
+    let mut seed = 88_172_645_463_325_252;
+    for _ in 0..lives {
+        seed = next(seed);
+        if !lives_as(rt, folder, disk, seed) {
+            return false;
+        }
+    }
+    true
+}
+
+// The same of a new disk.
+fn live_as_disk(rt: &HostRuntime, folder: &str, lives: u64) -> bool {
+    match disk_of(rt.alloc(), &[]) {
+        Ok(mut disk) => live_as(rt, folder, &mut disk, lives),
+        Err(_) => false,
+    }
 }
 
 #[test]
-fn each_life_finds_what_the_one_before_it_wrote(rt: HostRuntime) -> Result<(), Fail> {
+fn each_life_finds_what_the_one_before_it_wrote(rt: HostRuntime) {
     const FOLDER: &str = "files_lives";
-    make_folder(&rt, FOLDER)?;
-    let mut disk = SimDisk::new(rt.alloc(), Vec::new(rt.alloc()))?;
-    let mut seed = 88_172_645_463_325_252;
-    for _ in 0..50 {
-        seed = next(seed);
-        assert!(rt; lives_as(&rt, FOLDER, &mut disk, seed)?);
-    }
-    fs::remove_dir_all(&rt, FOLDER)?;
-    Ok(())
+    assert!(rt; make_folder(&rt, FOLDER));
+    assert!(rt; live_as_disk(&rt, FOLDER, 50));
+    assert!(rt; remove_folder(&rt, FOLDER));
 }
 
 // How many bodies a log finds on a device. Then one more is appended.
 fn found_by<D: Device>(alloc: Global, device: D) -> Result<usize, Refusal> {
     match GatedLog::open(alloc, device) {
         Ok((mut log, bodies)) => {
+            let found = bodies.len();
+            drop(bodies);
             log.append(&mut [7; 45])?;
-            Ok(bodies.len())
+            Ok(found)
         }
         Err((refusal, _device)) => Err(refusal),
     }
 }
 
+// The same of the file.
+fn found_in(rt: &HostRuntime, folder: &str) -> Result<usize, Refusal> {
+    let device = open(rt, rt.alloc(), folder, NAME)?;
+    found_by(rt.alloc(), device)
+}
+
 #[test]
-fn a_log_is_found_by_the_next_life_of_its_file(rt: HostRuntime) -> Result<(), Fail> {
+fn a_log_is_found_by_the_next_life_of_its_file(rt: HostRuntime) {
     const FOLDER: &str = "files_log";
-    make_folder(&rt, FOLDER)?;
+    assert!(rt; make_folder(&rt, FOLDER));
     for bodies in 0..4 {
-        let device = open(&rt, rt.alloc(), FOLDER, NAME)?;
-        assert!(rt; found_by(rt.alloc(), device)? == bodies);
+        assert!(rt; found_in(&rt, FOLDER) == Ok(bodies), "{bodies}");
     }
-    fs::remove_dir_all(&rt, FOLDER)?;
-    Ok(())
+    assert!(rt; remove_folder(&rt, FOLDER));
+}
+
+// Whether the file is refused to another life.
+fn is_taken(rt: &HostRuntime, folder: &str) -> bool {
+    matches!(open(rt, rt.alloc(), folder, NAME), Err(Refusal::Down))
 }
 
 // Whether its file is refused to another life while this one goes on.
@@ -235,50 +251,61 @@ fn keeps_others_out<D: Device>(
     device: &mut D,
 ) -> Result<bool, Stopped> {
     write_synced(device, 0, b"abcdefgh")?;
-    let is_refused = matches!(open(rt, rt.alloc(), folder, NAME), Err(Refusal::Down));
+    let is_taken = is_taken(rt, folder);
     device.write_at(0, b"ABCD")?;
     device.sync()?;
-    Ok(is_refused)
+    Ok(is_taken)
 }
 
-fn is_kept(rt: &HostRuntime, folder: &str) -> Result<bool, Fail> {
-    let mut device = open(rt, rt.alloc(), folder, NAME)?;
-    Ok(keeps_others_out(rt, folder, &mut device)?)
-}
-
-fn is_found(rt: &HostRuntime, folder: &str) -> Result<bool, Fail> {
-    let mut device = open(rt, rt.alloc(), folder, NAME)?;
-    Ok(begins_with(&mut device, b"ABCDefgh")?)
-}
-
-#[test]
-fn a_file_has_one_life_at_a_time(rt: HostRuntime) -> Result<(), Fail> {
-    const FOLDER: &str = "files_locked";
-    make_folder(&rt, FOLDER)?;
-    assert!(rt; is_kept(&rt, FOLDER)?);
-    assert!(rt; is_found(&rt, FOLDER)?);
-    fs::remove_dir_all(&rt, FOLDER)?;
-    Ok(())
-}
-
-#[test]
-fn what_is_no_file_is_down(rt: HostRuntime) -> Result<(), Fail> {
-    const FOLDER: &str = "files_refused";
-    make_folder(&rt, FOLDER)?;
-    fs::File::create(&rt, "files_refused/long")?.set_len((1 << 40) + 1)?;
-    fs::File::create(&rt, "files_refused/file")?;
-    symlink(&rt, "file", "files_refused/link")?;
-    for (folder, name, opens) in [
-        (FOLDER, "file", true),
-        (FOLDER, "long", false),
-        (FOLDER, "link", false),
-        ("/dev", "full", false),
-        ("/", "dev", false),
-        ("/no_such_folder", "0.a", false),
-    ] {
-        let opened = open(&rt, rt.alloc(), folder, name);
-        assert!(rt; opened.is_ok() == opens, "{folder}/{name}");
+fn is_kept(rt: &HostRuntime, folder: &str) -> bool {
+    match open(rt, rt.alloc(), folder, NAME) {
+        Ok(mut device) => keeps_others_out(rt, folder, &mut device) == Ok(true),
+        Err(_) => false,
     }
-    fs::remove_dir_all(&rt, FOLDER)?;
-    Ok(())
+}
+
+fn is_found(rt: &HostRuntime, folder: &str) -> bool {
+    match open(rt, rt.alloc(), folder, NAME) {
+        Ok(mut device) => begins_with(&mut device, b"ABCDefgh"),
+        Err(_) => false,
+    }
+}
+
+#[test]
+fn a_file_has_one_life_at_a_time(rt: HostRuntime) {
+    const FOLDER: &str = "files_locked";
+    assert!(rt; make_folder(&rt, FOLDER));
+    assert!(rt; is_kept(&rt, FOLDER));
+    assert!(rt; is_found(&rt, FOLDER));
+    assert!(rt; remove_folder(&rt, FOLDER));
+}
+
+// In that folder a file, one that is too long, and a link.
+fn make_files(rt: &HostRuntime) -> io::Result<()> {
+    fs::File::create(rt, "files_refused/long")?.set_len((1 << 40) + 1)?;
+    fs::File::create(rt, "files_refused/file")?;
+    symlink(rt, "file", "files_refused/link")
+}
+
+fn opens(rt: &HostRuntime, folder: &str, name: &str) -> bool {
+    open(rt, rt.alloc(), folder, name).is_ok()
+}
+
+const OPENED: &[(&str, &str, bool)] = &[
+    ("files_refused", "file", true),
+    ("files_refused", "long", false),
+    ("files_refused", "link", false),
+    ("/dev", "full", false),
+    ("/", "dev", false),
+    ("/no_such_folder", "0.a", false),
+];
+
+#[test]
+fn what_is_no_file_is_down(rt: HostRuntime) {
+    const FOLDER: &str = "files_refused";
+    assert!(rt; make_folder(&rt, FOLDER) && make_files(&rt).is_ok());
+    for &(folder, name, wanted) in OPENED {
+        assert!(rt; opens(&rt, folder, name) == wanted, "{folder}/{name}");
+    }
+    assert!(rt; remove_folder(&rt, FOLDER));
 }

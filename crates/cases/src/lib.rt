@@ -7,6 +7,8 @@
 #[cfg(test)]
 mod batch_bytes;
 #[cfg(test)]
+mod disks;
+#[cfg(test)]
 mod file_devices;
 #[cfg(test)]
 mod journal_bytes;

@@ -1,13 +1,18 @@
 // A gated log over a disk in memory: its bytes, and what is found after a failure.
-use device::{Device, SimDisk, Tear};
+use crate::disks::{changed, disk_of, has_bytes};
+use device::{Device, Tear};
 use gated::GatedLog;
 use refusal::Refusal;
-use std::alloc::{AllocError, Global};
-use std::test::Fail;
+use std::alloc::Global;
 
 // One batch, in 22 bytes, behind an open gate, and then a closed gate.
-const BATCH: [u8; 28] = [
+const BATCH: &[u8] = &[
     0xa5, 0, 0, 0, 0x16, 1, 0, 1, 4, 0, 0, 0, 0, 0, 0, 0, 1, 0, 0, 0, 0, 0, 0, 0, 1, 2, 1, 0,
+];
+
+// The same behind a closed gate.
+const CLOSED: &[u8] = &[
+    0, 0, 0, 0, 0x16, 1, 0, 1, 4, 0, 0, 0, 0, 0, 0, 0, 1, 0, 0, 0, 0, 0, 0, 0, 1, 2, 1, 0,
 ];
 
 // A batch of one prepare, in 40 bytes: write 1.1 touches `doc:a#viewer@u1`.
@@ -16,129 +21,134 @@ const PREPARE: [u8; 40] = [
     6, 0x76, 0x69, 0x65, 0x77, 0x65, 0x72, 1, 2, 0x75, 0x31, 0,
 ];
 
-fn disk_of(alloc: Global, content: &[u8]) -> Result<SimDisk, AllocError> {
-    SimDisk::new(alloc, content.to_vec(alloc)?)
-}
+// The first batch, and the prepare behind it, behind an open gate each.
+const BOTH: [u8; 73] = [
+    0xa5, 0, 0, 0, 0x16, 1, 0, 1, 4, 0, 0, 0, 0, 0, 0, 0, 1, 0, 0, 0, 0, 0, 0, 0, 1, 2, 1, 0xa5, 0,
+    0, 0, 0x28, 1, 0, 1, 1, 0, 0, 0, 0, 0, 0, 0, 1, 0, 0, 0, 0, 0, 0, 0, 1, 1, 1, 3, 0x64, 0x6f,
+    0x63, 1, 0x61, 6, 0x76, 0x69, 0x65, 0x77, 0x65, 0x72, 1, 2, 0x75, 0x31, 0, 0,
+];
 
-fn opened(alloc: Global, disk: SimDisk) -> Result<(GatedLog<SimDisk>, Vec<Vec<u8>>), Refusal> {
-    GatedLog::open(alloc, disk).map_err(|(refusal, _disk)| refusal)
-}
-
-fn content_of(alloc: Global, disk: &mut SimDisk) -> Result<Vec<u8>, Fail> {
-    let n = disk.len()?;
-    let mut content = vec![in alloc; 0u8; n]?;
-    disk.read_at(0, &mut content)?;
-    Ok(content)
-}
-
-/// The bytes of one batch with one of them changed.
-fn changed(place: usize, byte: u8) -> [u8; 28] {
-    let mut content = BATCH;
-    if place < content.len() {
-        content[place] = byte;
-    }
-    content
-}
-
-/// How many bodies a device of these bytes is opened with, how many calls that takes, and its bytes then. None where it is damaged.
-fn opening_of(alloc: Global, content: &[u8]) -> Result<Option<(usize, u64, Vec<u8>)>, Fail> {
-    match opened(alloc, disk_of(alloc, content)?) {
+/// A log over the device, and how many bodies it has.
+fn opened<D: Device>(alloc: Global, device: D) -> Result<(GatedLog<D>, usize), Refusal> {
+    match GatedLog::open(alloc, device) {
         Ok((log, bodies)) => {
-            let calls = log.device().calls();
-            let after = content_of(alloc, &mut log.into_device())?;
-            Ok(Some((bodies.len(), calls, after)))
+            let count = bodies.len();
+            drop(bodies);
+            Ok((log, count))
         }
-        Err(Refusal::Damaged) => Ok(None),
-        Err(_) => Err("a device failed, or memory ran out".into()),
+        Err((refusal, device)) => {
+            drop(device);
+            Err(refusal)
+        }
     }
 }
 
 /// Whether a device of these bytes is opened by three calls with so many bodies, and has those bytes then.
-fn is_found(alloc: Global, content: &[u8], bodies: usize, bytes: &[u8]) -> Result<bool, Fail> {
-    match opening_of(alloc, content)? {
-        Some((found, calls, after)) => Ok(
-            found == bodies && calls == 3 && after.as_slice() == bytes,
-        ),
-        None => Ok(false),
-    }
+fn is_found(alloc: Global, content: &[u8], bodies: usize, bytes: &[u8]) -> Result<bool, Refusal> {
+    let (log, found) = opened(alloc, disk_of(alloc, content)?)?;
+    let mut disk = log.into_device();
+    let is_opened = found == bodies && disk.calls() == 3;
+    Ok(is_opened && has_bytes(alloc, &mut disk, bytes))
 }
+
+const FOUND: &[(&[u8], usize, &[u8])] = &[
+    // A device of at most one byte is made anew.
+    (&[], 0, &[0]),
+    (&[0xa5], 0, &[0]),
+    (&[7], 0, &[0]),
+    (BATCH, 1, BATCH),
+    // A closed gate ends the list.
+    (CLOSED, 0, CLOSED),
+];
+
+/// Why no device is opened of the batch with one byte changed, and the last so many left out.
+fn refusal_of(alloc: Global, place: usize, byte: u8, left_out: usize) -> Option<Refusal> {
+    let content = changed(alloc, BATCH, place, byte, left_out).ok()?;
+    let disk = disk_of(alloc, &content);
+    drop(content);
+    opened(alloc, disk.ok()?).err()
+}
+
+const DAMAGED: &[(usize, u8, usize, &str)] = &[
+    (4, 0, 0, "no body"),
+    (4, 0x17, 0, "a body that is too long"),
+    (0, 0xa5, 1, "a record that was cut off"),
+    (0, 0xa5, 24, "a length that was cut off"),
+];
 
 #[test]
-fn an_opening_finds_the_bodies_or_damage(rt: HostRuntime) -> Result<(), Fail> {
+fn an_opening_finds_the_bodies_or_damage(rt: HostRuntime) {
     let alloc = rt.alloc();
-    for (content, bodies, bytes) in [
-        // A device of at most one byte is made anew.
-        ([].as_slice(), 0, [0].as_slice()),
-        (&[0xa5], 0, &[0]),
-        (&[7], 0, &[0]),
-        (&BATCH, 1, &BATCH),
-        // A closed gate ends the list.
-        (&changed(0, 0), 0, &changed(0, 0)),
-    ] {
-        assert!(rt; is_found(alloc, content, bodies, bytes)?, "{content:?}");
+    for &(content, bodies, bytes) in FOUND {
+        assert!(rt;
+            is_found(alloc, content, bodies, bytes) == Ok(true),
+            "{content:?}"
+        );
     }
-    // No body, a body that is too long, and two records that were cut off.
-    for content in [
-        &changed(4, 0)[..],
-        &changed(4, 0x17)[..],
-        &BATCH[..27],
-        &BATCH[..4],
-    ] {
-        assert!(rt; opening_of(alloc, content)?.is_none(), "{content:?}");
+    for &(place, byte, left_out, why) in DAMAGED {
+        let refusal = refusal_of(alloc, place, byte, left_out);
+        assert!(rt; refusal == Some(Refusal::Damaged), "{why}");
     }
-    Ok(())
 }
 
-/// What is found of an append behind the batch whose n-th call failed, or of a whole one, which makes four.
-fn left_by(alloc: Global, n: u64, tear: Tear) -> Result<Vec<u8>, Fail> {
-    let (mut log, _) = opened(alloc, disk_of(alloc, &BATCH)?)?;
+/// Whether an append of the prepare fails where its n-th call is struck, which is one of four.
+fn append_struck<D: Device>(log: &mut GatedLog<D>, n: u64, tear: Tear) -> bool {
     log.fail(n, tear);
     let mut buf = [7; 45];
     buf[4..44].copy_from_slice(&PREPARE);
-    if log.append(&mut buf).is_ok() != (n > 4) {
-        return Err("the script failed another call".into());
+    log.append(&mut buf).is_ok() == (n > 4)
+}
+
+/// Whether these bytes are left by an append behind what the device has, whose n-th call failed, or by a whole one.
+fn is_left_with<D: Device>(alloc: Global, device: D, n: u64, tear: Tear, bytes: &[u8]) -> bool {
+    let Ok((mut log, _)) = opened(alloc, device) else {
+        return false;
+    };
+    let is_as_scripted = append_struck(&mut log, n, tear);
+    let mut device = log.into_device();
+    is_as_scripted && device.revive().is_ok() && has_bytes(alloc, &mut device, bytes)
+}
+
+/// The same behind the batch.
+fn leaves(alloc: Global, n: u64, tear: Tear, bytes: &[u8]) -> bool {
+    match disk_of(alloc, BATCH) {
+        Ok(disk) => is_left_with(alloc, disk, n, tear, bytes),
+        Err(_) => false,
     }
-    let mut disk = log.into_device();
-    disk.revive()?;
-    content_of(alloc, &mut disk)
 }
 
 /// The batch, and behind it the prepare behind this gate.
-fn with_prepare(alloc: Global, gate: u8) -> Result<Vec<u8>, AllocError> {
-    let mut content = BATCH[..27].to_vec(alloc)?;
-    content.extend_from_slice(&[gate, 0, 0, 0, 0x28])?;
-    content.extend_from_slice(&PREPARE)?;
-    content.push(0)?;
-    Ok(content)
+fn with_prepare(gate: u8) -> [u8; 73] {
+    let mut content = BOTH;
+    content[27] = gate;
+    content
 }
 
-/// Whether such an append leaves the prepare behind this gate.
-fn is_left_with(alloc: Global, n: u64, tear: Tear, gate: u8) -> Result<bool, Fail> {
-    let wanted = with_prepare(alloc, gate)?;
-    let left = left_by(alloc, n, tear);
-    Ok(left? == wanted)
+/// Whether such an append leaves the prepare behind this gate, or with no gate the batch alone.
+fn leaves_gate(alloc: Global, n: u64, tear: Tear, gate: Option<u8>) -> bool {
+    match gate {
+        Some(gate) => leaves(alloc, n, tear, &with_prepare(gate)),
+        None => leaves(alloc, n, tear, BATCH),
+    }
 }
+
+/// Which call of an append is struck and how, and what it leaves.
+const APPENDED: &[(u64, Tear, Option<u8>)] = &[
+    (1, Tear::Old, None),
+    (2, Tear::Old, None),
+    (1, Tear::New, Some(0)),
+    (2, Tear::New, Some(0)),
+    (3, Tear::Old, Some(0)),
+    (3, Tear::New, Some(0xa5)),
+    (3, Tear::Fill(7), Some(7)),
+    (4, Tear::Old, Some(0)),
+    (4, Tear::New, Some(0xa5)),
+    (9, Tear::Old, Some(0xa5)),
+];
 
 #[test]
-fn an_append_writes_the_record_and_then_its_gate(rt: HostRuntime) -> Result<(), Fail> {
-    let alloc = rt.alloc();
-    for n in [1, 2] {
-        assert!(rt;
-            left_by(alloc, n, Tear::Old)?.as_slice() == &BATCH[..],
-            "{n}"
-        );
+fn an_append_writes_the_record_and_then_its_gate(rt: HostRuntime) {
+    for &(n, tear, gate) in APPENDED {
+        assert!(rt; leaves_gate(rt.alloc(), n, tear, gate), "{n} {tear:?}");
     }
-    for (n, tear, gate) in [
-        (1, Tear::New, 0),
-        (2, Tear::New, 0),
-        (3, Tear::Old, 0),
-        (3, Tear::New, 0xa5),
-        (3, Tear::Fill(7), 7),
-        (4, Tear::Old, 0),
-        (4, Tear::New, 0xa5),
-        (9, Tear::Old, 0xa5),
-    ] {
-        assert!(rt; is_left_with(alloc, n, tear, gate)?, "{n} {tear:?}");
-    }
-    Ok(())
 }

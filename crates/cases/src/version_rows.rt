@@ -4,25 +4,23 @@ ghost use Rattle.std.specs.Prelude.{◌≡◌, ◌<◌};
 use std::alloc::Global;
 use std::marker::Brand;
 use std::sync::ledger::{Blank, Ledger};
-use std::test::Fail;
-use tuples::{Change, Tuple, Tupleset};
+use tuples::{Change, Refusal, Tuple, Tupleset};
 use versions::{Steps, Versions};
 
-fn apply(alloc: Global, versions: &mut Versions, place: u64, text: &str) -> Result<(), Fail> {
+fn apply(alloc: Global, versions: &mut Versions, place: u64, text: &str) -> Result<(), Refusal> {
     let tuple = Tuple::parse(alloc, text.as_bytes())?;
     versions.apply(place, &[Change::Touch(tuple)])?;
     Ok(())
 }
 
 // How many tuples are read; none where memory was refused.
-fn read_counted(
-    alloc: Global,
-    versions: &Versions,
-    place: u64,
-    set: &str,
-) -> Result<Option<usize>, Fail> {
-    let set = Tupleset::parse(alloc, set.as_bytes())?;
-    Ok(counted::<Brand>(alloc, versions, place, &set, Blank::new(1)))
+fn read_counted(alloc: Global, versions: &Versions, place: u64, text: &str) -> Option<usize> {
+    let Ok(set) = Tupleset::parse(alloc, text.as_bytes()) else {
+        return None;
+    };
+    let found = counted::<Brand>(alloc, versions, place, &set, Blank::new(1));
+    drop(set);
+    found
 }
 
 fn counted<L: Ledger>(
@@ -57,25 +55,40 @@ fn counted_by<L: Ledger>(
     }
 }
 
-#[test]
-fn a_read_that_is_counted_finds_its_tuples(rt: HostRuntime) -> Result<(), Fail> {
-    let alloc = rt.alloc();
-    let mut versions = Versions::new(alloc);
-    for (place, text) in [
-        (1, "doc:a#viewer@u1"),
-        (1, "doc:b#viewer@u1"),
-        (2, "doc:a#owner@u1"),
-    ] {
-        apply(alloc, &mut versions, place, text)?;
-    }
-    for (place, set, wanted) in [
-        (0, "doc:a", 0),
-        (1, "doc:a", 1),
-        (2, "doc:a", 2),
-        (2, "doc#viewer@u1", 2),
-    ] {
-        let found = read_counted(alloc, &versions, place, set)?;
-        assert!(rt; found == Some(wanted), "{set} at {place}");
+const TOUCHED: &[(u64, &str)] = &[
+    (1, "doc:a#viewer@u1"),
+    (1, "doc:b#viewer@u1"),
+    (2, "doc:a#owner@u1"),
+];
+
+const READ: &[(u64, &str, usize)] = &[
+    (0, "doc:a", 0),
+    (1, "doc:a", 1),
+    (2, "doc:a", 2),
+    (2, "doc#viewer@u1", 2),
+];
+
+fn apply_all(alloc: Global, versions: &mut Versions) -> Result<(), Refusal> {
+    for &(place, text) in TOUCHED {
+        apply(alloc, versions, place, text)?;
     }
     Ok(())
+}
+
+// How many tuples of a set are read at a place behind these.
+fn read_behind(alloc: Global, place: u64, text: &str) -> Option<usize> {
+    let mut versions = Versions::new(alloc);
+    let applied = apply_all(alloc, &mut versions);
+    let found = read_counted(alloc, &versions, place, text);
+    drop(versions);
+    applied.ok()?;
+    found
+}
+
+#[test]
+fn a_read_that_is_counted_finds_its_tuples(rt: HostRuntime) {
+    for &(place, set, wanted) in READ {
+        let found = read_behind(rt.alloc(), place, set);
+        assert!(rt; found == Some(wanted), "{set} at {place}");
+    }
 }
