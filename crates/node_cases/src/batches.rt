@@ -1,12 +1,12 @@
 // The decisions that a coordinator hands to the shards, and the places that its log has.
-use crate::logs::store_with;
-use crate::stores::{Store, new_disks};
+use crate::logs::coordinator_with;
+use crate::stores::{new_disks, open_only_shard};
 use crate::writes::{begin, decide, touch, touch_since};
 use coordinator::Coordinator;
 use decisions::Batch;
 use device::Device;
+use shard::Shard;
 use std::alloc::Global;
-use std::test::Fail;
 use tuples::Refusal;
 
 /// The numbers of the first write and the last one of a batch from a place on; the write with a number stands at the place of that number.
@@ -32,22 +32,26 @@ fn batch<D: Device>(
         return Err(Refusal::BadRequest);
     }
     let batch = coordinator.batch(alloc, from, to)?;
-    ends(&batch, from)
+    let ends = ends(&batch, from);
+    drop(batch);
+    ends
 }
+
+/// Two places, and the ends of the batch that is handed out for them.
+const BATCHES: &[(u64, u64, Result<Option<(u64, u64)>, Refusal>)] = &[
+    (19, 300, Err(Refusal::Collected)),
+    (20, 301, Err(Refusal::Future)),
+    (19, 301, Err(Refusal::Future)),
+    // 256 at most.
+    (20, 300, Ok(Some((21, 276)))),
+    (20, 276, Ok(Some((21, 276)))),
+    (290, 300, Ok(Some((291, 300)))),
+    (300, 300, Ok(None)),
+];
 
 /// The first batch that is not as wanted. The coordinator has 300 kept decisions with the horizon at 20, and a staged one.
 fn wrong_batch<D: Device>(alloc: Global, coordinator: &Coordinator<D>) -> Option<usize> {
-    let rows = [
-        (19, 300, Err(Refusal::Collected)),
-        (20, 301, Err(Refusal::Future)),
-        (19, 301, Err(Refusal::Future)),
-        // 256 at most.
-        (20, 300, Ok(Some((21, 276)))),
-        (20, 276, Ok(Some((21, 276)))),
-        (290, 300, Ok(Some((291, 300)))),
-        (300, 300, Ok(None)),
-    ];
-    for (i, (from, to, wanted)) in rows.into_iter().enumerate() {
+    for (i, &(from, to, wanted)) in BATCHES.iter().enumerate() {
         if batch(alloc, coordinator, from, to) != wanted {
             return Some(i);
         }
@@ -65,19 +69,21 @@ fn refusal_since<D: Device>(
     Ok(begin(coordinator, write).err())
 }
 
+/// Places, and why a condition on each is refused.
+const PLACES: &[(u64, Option<Refusal>)] = &[
+    (19, Some(Refusal::Collected)),
+    (20, None),
+    // The staged decision counts here.
+    (301, None),
+    (302, Some(Refusal::Future)),
+];
+
 /// The first place of a condition that is not refused as wanted, at the same coordinator.
 fn wrong_place<D: Device>(
     alloc: Global,
     coordinator: &mut Coordinator<D>,
 ) -> Result<Option<usize>, Refusal> {
-    let rows = [
-        (19, Some(Refusal::Collected)),
-        (20, None),
-        // The staged decision counts here.
-        (301, None),
-        (302, Some(Refusal::Future)),
-    ];
-    for (i, (place, wanted)) in rows.into_iter().enumerate() {
+    for (i, &(place, wanted)) in PLACES.iter().enumerate() {
         if refusal_since(alloc, coordinator, place)? != wanted {
             return Ok(Some(i));
         }
@@ -103,17 +109,38 @@ fn are_right<D: Device>(alloc: Global, coordinator: &mut Coordinator<D>) -> Resu
     Ok(staged == (301, 300, 20, 300) && kept == (301, 301, 20, 301))
 }
 
-fn stage<D: Device>(alloc: Global, store: &mut Store<D>) -> Result<(), Refusal> {
+fn stage<D: Device>(
+    alloc: Global,
+    coordinator: &mut Coordinator<D>,
+    shard: &mut Shard<D>,
+) -> Result<(), Refusal> {
     let write = touch(alloc, "doc:a#viewer@u1")?;
-    decide(alloc, store, write)?.leave();
+    decide(alloc, coordinator, shard, write)?.leave();
     Ok(())
 }
 
-/// The coordinator that the tables are of.
+/// The coordinator that the tables are of, beside its shard. Each node is owned by a function of its own, since each way out of one that owns
+/// both is proved.
+fn long_beside<D: Device>(
+    alloc: Global,
+    devices: &mut Vec<D>,
+    shard: &mut Shard<D>,
+) -> Result<Coordinator<D>, Refusal> {
+    let mut coordinator = coordinator_with(alloc, devices, 300, 20)?;
+    match stage(alloc, &mut coordinator, shard) {
+        Ok(()) => Ok(coordinator),
+        Err(refusal) => {
+            drop(coordinator);
+            Err(refusal)
+        }
+    }
+}
+
 fn long<D: Device>(alloc: Global, devices: &mut Vec<D>) -> Result<Coordinator<D>, Refusal> {
-    let mut store = store_with(alloc, devices, 300, 20)?;
-    stage(alloc, &mut store)?;
-    Ok(store.coordinator)
+    let mut shard = open_only_shard(alloc, devices)?;
+    let coordinator = long_beside(alloc, devices, &mut shard);
+    drop(shard);
+    coordinator
 }
 
 fn first_wrong_batch<D: Device>(
@@ -121,7 +148,9 @@ fn first_wrong_batch<D: Device>(
     devices: &mut Vec<D>,
 ) -> Result<Option<usize>, Refusal> {
     let coordinator = long(alloc, devices)?;
-    Ok(wrong_batch(alloc, &coordinator))
+    let wrong = wrong_batch(alloc, &coordinator);
+    drop(coordinator);
+    Ok(wrong)
 }
 
 fn first_wrong_place<D: Device>(
@@ -129,30 +158,50 @@ fn first_wrong_place<D: Device>(
     devices: &mut Vec<D>,
 ) -> Result<Option<usize>, Refusal> {
     let mut coordinator = long(alloc, devices)?;
-    wrong_place(alloc, &mut coordinator)
+    let wrong = wrong_place(alloc, &mut coordinator);
+    drop(coordinator);
+    wrong
 }
 
 fn are_right_numbers<D: Device>(alloc: Global, devices: &mut Vec<D>) -> Result<bool, Refusal> {
     let mut coordinator = long(alloc, devices)?;
-    are_right(alloc, &mut coordinator)
+    let are_right = are_right(alloc, &mut coordinator);
+    drop(coordinator);
+    are_right
+}
+
+fn first_wrong_batch_on_disks(alloc: Global) -> Result<Option<usize>, Refusal> {
+    let mut disks = new_disks(alloc, 4)?;
+    let wrong = first_wrong_batch(alloc, &mut disks);
+    drop(disks);
+    wrong
 }
 
 #[test]
-fn a_batch_is_of_kept_decisions_from_the_horizon_on(rt: HostRuntime) -> Result<(), Fail> {
-    let wrong = first_wrong_batch(rt.alloc(), &mut new_disks(rt.alloc(), 4)?)?;
-    assert_eq!(rt; wrong, None);
-    Ok(())
+fn a_batch_is_of_kept_decisions_from_the_horizon_on(rt: HostRuntime) {
+    assert_eq!(rt; first_wrong_batch_on_disks(rt.alloc()), Ok(None));
+}
+
+fn first_wrong_place_on_disks(alloc: Global) -> Result<Option<usize>, Refusal> {
+    let mut disks = new_disks(alloc, 4)?;
+    let wrong = first_wrong_place(alloc, &mut disks);
+    drop(disks);
+    wrong
 }
 
 #[test]
-fn a_condition_names_a_place_within_the_log(rt: HostRuntime) -> Result<(), Fail> {
-    let wrong = first_wrong_place(rt.alloc(), &mut new_disks(rt.alloc(), 4)?)?;
-    assert_eq!(rt; wrong, None);
-    Ok(())
+fn a_condition_names_a_place_within_the_log(rt: HostRuntime) {
+    assert_eq!(rt; first_wrong_place_on_disks(rt.alloc()), Ok(None));
+}
+
+fn are_right_numbers_on_disks(alloc: Global) -> Result<bool, Refusal> {
+    let mut disks = new_disks(alloc, 4)?;
+    let are_right = are_right_numbers(alloc, &mut disks);
+    drop(disks);
+    are_right
 }
 
 #[test]
-fn a_staged_decision_lengthens_the_log_alone(rt: HostRuntime) -> Result<(), Fail> {
-    assert!(rt; are_right_numbers(rt.alloc(), &mut new_disks(rt.alloc(), 4)?)?);
-    Ok(())
+fn a_staged_decision_lengthens_the_log_alone(rt: HostRuntime) {
+    assert!(rt; are_right_numbers_on_disks(rt.alloc()) == Ok(true));
 }

@@ -1,13 +1,10 @@
 // Raising the horizon of a coordinator.
-ghost use Rattle.std.specs.Prelude.{◌≤◌};
-
 use crate::logs::{coordinator_with, shard_with};
-use crate::stores::{self, new_disks, push};
+use crate::stores::{self, new_disks, only};
 use coordinator::{Coordinator, Inquiry, NotRaised};
 use device::Device;
 use shard::Shard;
 use std::alloc::Global;
-use std::test::Fail;
 use tuples::{Refusal, WriteId};
 
 /// What became of a call of `raise`.
@@ -38,13 +35,27 @@ fn raise<D: Device>(
 ) -> Result<Raising, Refusal> {
     let one = shard.settle()?;
     let settled_place = one.place();
-    let mut settled = Vec::new(alloc);
-    push(&mut settled, one)?;
+    let settled = only(alloc, one)?;
     match stores::raise(coordinator, place, settled) {
         None => Ok(Raising::NotSettled),
         Some(Ok(())) => Ok(Raising::Raised),
-        Some(Err(not_raised)) => Ok(refused(&not_raised, settled_place)),
+        Some(Err(not_raised)) => {
+            let raising = refused(&not_raised, settled_place);
+            drop(not_raised);
+            Ok(raising)
+        }
     }
+}
+
+/// Whether an inquiry for the second write finds it at place 2.
+fn is_found<D: Device>(coordinator: &Coordinator<D>) -> Result<bool, Refusal> {
+    let inquiry = coordinator.inquire(WriteId {
+        epoch: 1,
+        number: 2,
+    })?;
+    let is_found = matches!(&inquiry, Inquiry::Commit(2));
+    drop(inquiry);
+    Ok(is_found)
 }
 
 /// Whether the durable horizon is at this place by the heads, by a batch from below place 2 on, and by an inquiry for the write there.
@@ -53,14 +64,33 @@ fn is_at<D: Device>(
     coordinator: &Coordinator<D>,
     horizon: u64,
 ) -> Result<bool, Refusal> {
-    let id = WriteId {
-        epoch: 1,
-        number: 2,
-    };
     let is_served = coordinator.batch(alloc, 1, 3).is_ok();
-    let is_found = matches!(coordinator.inquire(id)?, Inquiry::Commit(2));
+    let is_found = is_found(coordinator)?;
     let is_below = horizon < 2;
     Ok(coordinator.heads()?.horizon() == horizon && is_served == is_below && is_found == is_below)
+}
+
+/// A place, what becomes of the call, and the durable horizon before the next flush and behind it.
+const RAISINGS: &[(u64, Raising, u64, u64)] = &[
+    (5, Raising::NotSettled, 0, 0),
+    (4, Raising::Refused(Refusal::Future), 0, 0),
+    (2, Raising::Raised, 0, 2),
+    (1, Raising::Refused(Refusal::Collected), 2, 2),
+    (2, Raising::Raised, 2, 2),
+    (3, Raising::Raised, 2, 3),
+];
+
+/// Whether a call of `raise` comes to that, and the durable horizon is as told before the next flush and behind it.
+fn is_raised<D: Device>(
+    alloc: Global,
+    coordinator: &mut Coordinator<D>,
+    shard: &Shard<D>,
+    (place, wanted, before, behind): (u64, Raising, u64, u64),
+) -> Result<bool, Refusal> {
+    let raising = raise(alloc, coordinator, shard, place)?;
+    let is_before = is_at(alloc, coordinator, before)?;
+    coordinator.flush()?;
+    Ok(raising == wanted && is_before && is_at(alloc, coordinator, behind)?)
 }
 
 /// The first row that is wrong, of a coordinator that has kept three decisions. The shard has settled place 4, as one of another store does.
@@ -69,20 +99,8 @@ fn wrong_row<D: Device>(
     coordinator: &mut Coordinator<D>,
     shard: &Shard<D>,
 ) -> Result<Option<usize>, Refusal> {
-    let rows = [
-        // A place, what becomes of the call, and the durable horizon before the next flush and behind it.
-        (5, Raising::NotSettled, 0, 0),
-        (4, Raising::Refused(Refusal::Future), 0, 0),
-        (2, Raising::Raised, 0, 2),
-        (1, Raising::Refused(Refusal::Collected), 2, 2),
-        (2, Raising::Raised, 2, 2),
-        (3, Raising::Raised, 2, 3),
-    ];
-    for (i, (place, wanted, before, behind)) in rows.into_iter().enumerate() {
-        let raising = raise(alloc, coordinator, shard, place)?;
-        let is_before = is_at(alloc, coordinator, before)?;
-        coordinator.flush()?;
-        if raising != wanted || !is_before || !is_at(alloc, coordinator, behind)? {
+    for (i, row) in RAISINGS.iter().enumerate() {
+        if !is_raised(alloc, coordinator, shard, *row)? {
             return Ok(Some(i));
         }
     }
@@ -97,7 +115,9 @@ fn wrong_row_beside<D: Device>(
     shard: &Shard<D>,
 ) -> Result<Option<usize>, Refusal> {
     let mut coordinator = coordinator_with(alloc, devices, 3, 0)?;
-    wrong_row(alloc, &mut coordinator, shard)
+    let wrong = wrong_row(alloc, &mut coordinator, shard);
+    drop(coordinator);
+    wrong
 }
 
 fn first_wrong<D: Device>(alloc: Global, devices: &mut Vec<D>) -> Result<Option<usize>, Refusal> {
@@ -107,11 +127,16 @@ fn first_wrong<D: Device>(alloc: Global, devices: &mut Vec<D>) -> Result<Option<
     wrong
 }
 
+fn first_wrong_on_disks(alloc: Global) -> Result<Option<usize>, Refusal> {
+    let mut disks = new_disks(alloc, 4)?;
+    let wrong = first_wrong(alloc, &mut disks);
+    drop(disks);
+    wrong
+}
+
 #[test]
-fn a_horizon_counts_from_its_flush_on(rt: HostRuntime) -> Result<(), Fail> {
-    let wrong = first_wrong(rt.alloc(), &mut new_disks(rt.alloc(), 4)?)?;
-    assert_eq!(rt; wrong, None);
-    Ok(())
+fn a_horizon_counts_from_its_flush_on(rt: HostRuntime) {
+    assert_eq!(rt; first_wrong_on_disks(rt.alloc()), Ok(None));
 }
 
 /// Whether the horizon is raised to each place from 1 to this one.
@@ -154,7 +179,9 @@ fn is_refused_once_beside<D: Device>(
     shard: &Shard<D>,
 ) -> Result<bool, Refusal> {
     let mut coordinator = coordinator_with(alloc, devices, 65_536, 0)?;
-    is_refused_once(alloc, &mut coordinator, shard)
+    let is_refused = is_refused_once(alloc, &mut coordinator, shard);
+    drop(coordinator);
+    is_refused
 }
 
 fn is_full_once<D: Device>(alloc: Global, devices: &mut Vec<D>) -> Result<bool, Refusal> {
@@ -164,8 +191,14 @@ fn is_full_once<D: Device>(alloc: Global, devices: &mut Vec<D>) -> Result<bool, 
     is_full
 }
 
+fn is_full_once_on_disks(alloc: Global) -> Result<bool, Refusal> {
+    let mut disks = new_disks(alloc, 4)?;
+    let is_full = is_full_once(alloc, &mut disks);
+    drop(disks);
+    is_full
+}
+
 #[test]
-fn a_full_batch_takes_no_horizon(rt: HostRuntime) -> Result<(), Fail> {
-    assert!(rt; is_full_once(rt.alloc(), &mut new_disks(rt.alloc(), 4)?)?);
-    Ok(())
+fn a_full_batch_takes_no_horizon(rt: HostRuntime) {
+    assert!(rt; is_full_once_on_disks(rt.alloc()) == Ok(true));
 }

@@ -4,7 +4,7 @@ ghost use Rattle.decisions.specs.Values.{IsIntent};
 ghost use Rattle.journal.specs.Rest.{IsPlain};
 ghost use Rattle.records.specs.Format.{IsRecord};
 
-use crate::stores::{STORE, Store, open_coordinator, open_shard, open_shards, two_of};
+use crate::stores::{STORE, open_coordinator, open_shard, two_of};
 use crate::writes::touch;
 use coordinator::Coordinator;
 use device::Device;
@@ -18,8 +18,15 @@ use tuples::{Entry, Refusal, WriteId};
 fn journal<D: Device>(alloc: Global, devices: &mut Vec<D>) -> Result<Journal<D>, Refusal> {
     let (a, b) = two_of(devices)?;
     match Journal::open(alloc, a, b) {
-        Ok((journal, _)) => Ok(journal),
-        Err(refused) => Err(refused.refusal),
+        Ok((journal, records)) => {
+            drop(records);
+            Ok(journal)
+        }
+        Err(refused) => {
+            let refusal = refused.refusal;
+            drop(refused);
+            Err(refusal)
+        }
     }
 }
 
@@ -128,6 +135,20 @@ fn keep<D: Device>(
     journal.flush()
 }
 
+/// The devices of a journal behind what was done to it, unless that was refused.
+fn devices_behind<D: Device>(
+    journal: Journal<D>,
+    done: Result<(), Refusal>,
+) -> Result<(D, D), Refusal> {
+    match done {
+        Ok(()) => Ok(journal.into_devices()),
+        Err(refusal) => {
+            drop(journal);
+            Err(refusal)
+        }
+    }
+}
+
 /// The coordinator at its second opening, over so many decisions and a horizon.
 pub(crate) fn coordinator_with<D: Device>(
     alloc: Global,
@@ -138,8 +159,8 @@ pub(crate) fn coordinator_with<D: Device>(
     requires fits { decisions ≤ 1000000 }
 {
     let mut journal = opened_once(alloc, devices, COORDINATOR)?;
-    keep(alloc, &mut journal, decisions, horizon)?;
-    let (a, b) = journal.into_devices();
+    let kept = keep(alloc, &mut journal, decisions, horizon);
+    let (a, b) = devices_behind(journal, kept)?;
     open_coordinator(alloc, a, b, Identity::coordinator(STORE, 1))
 }
 
@@ -157,24 +178,7 @@ pub(crate) fn shard_with<D: Device>(
     to: u64,
 ) -> Result<Shard<D>, Refusal> {
     let mut journal = opened_once(alloc, devices, 0)?;
-    learn(alloc, &mut journal, to)?;
-    let (a, b) = journal.into_devices();
+    let learned = learn(alloc, &mut journal, to);
+    let (a, b) = devices_behind(journal, learned)?;
     open_shard(alloc, a, b, Identity::shard(STORE, 1, 0))
-}
-
-/// A store of one shard: its coordinator is that of `coordinator_with`, its shard is new.
-pub(crate) fn store_with<D: Device>(
-    alloc: Global,
-    devices: &mut Vec<D>,
-    decisions: u64,
-    horizon: u64,
-) -> Result<Store<D>, Refusal>
-    requires fits { decisions ≤ 1000000 }
-{
-    let shards = open_shards(alloc, 1, devices)?;
-    let coordinator = coordinator_with(alloc, devices, decisions, horizon)?;
-    Ok(Store {
-        coordinator,
-        shards,
-    })
 }

@@ -1,28 +1,30 @@
-// Stores over disks in memory: their coordinator and their shards.
-ghost use Rattle.std.specs.Prelude.{◌≡◌, ◌≤◌, ◌<◌};
-ghost use Rattle.records.specs.Identity.{coordinator_number, max_shards};
+// The nodes of a store over disks in memory: its coordinator and its shard.
+ghost use Rattle.std.specs.Prelude.{◌≡◌, ◌<◌};
+ghost use Rattle.records.specs.Identity.{coordinator_number};
 
 use coordinator::{Coordinator, NotRaised, settles};
 use decisions::Settled;
 use device::{Device, SimDisk};
 use records::Identity;
 use shard::Shard;
-use std::alloc::Global;
+use std::alloc::{AllocError, Global};
 use tuples::Refusal;
 
 /// The number of each store.
 pub(crate) const STORE: u64 = 1;
 
-/// The nodes of a store.
-#[derive(Drop)]
-pub(crate) struct Store<D: Device> {
-    pub(crate) coordinator: Coordinator<D>,
-    pub(crate) shards: Vec<Shard<D>>,
-}
-
-pub(crate) fn push<T: Drop>(list: &mut Vec<T>, item: T) -> Result<(), Refusal> {
+/// The list of one item.
+pub(crate) fn only<T: Drop>(alloc: Global, item: T) -> Result<Vec<T>, AllocError> {
+    let mut list = Vec::new(alloc);
     list.reserve(1)?;
     list.push_reserved(item);
+    Ok(list)
+}
+
+fn add_disk(alloc: Global, disks: &mut Vec<SimDisk>) -> Result<(), Refusal> {
+    disks.reserve(1)?;
+    let disk = SimDisk::new(alloc, Vec::new(alloc))?;
+    disks.push_reserved(disk);
     Ok(())
 }
 
@@ -30,19 +32,22 @@ pub(crate) fn push<T: Drop>(list: &mut Vec<T>, item: T) -> Result<(), Refusal> {
 pub(crate) fn new_disks(alloc: Global, count: usize) -> Result<Vec<SimDisk>, Refusal> {
     let mut disks = Vec::new(alloc);
     for _ in 0..count {
-        match SimDisk::new(alloc, Vec::new(alloc)) {
-            Ok(disk) => push(&mut disks, disk)?,
-            Err(_) => return Err(Refusal::NoMemory),
-        }
+        add_disk(alloc, &mut disks)?;
     }
     Ok(disks)
 }
 
 /// Two of the devices.
 pub(crate) fn two_of<D: Device>(devices: &mut Vec<D>) -> Result<(D, D), Refusal> {
-    match (devices.pop(), devices.pop()) {
-        (Some(a), Some(b)) => Ok((a, b)),
-        _ => Err(Refusal::Full),
+    let Some(a) = devices.pop() else {
+        return Err(Refusal::Full);
+    };
+    match devices.pop() {
+        Some(b) => Ok((a, b)),
+        None => {
+            drop(a);
+            Err(Refusal::Full)
+        }
     }
 }
 
@@ -82,21 +87,13 @@ pub(crate) fn open_shard<D: Device>(
     }
 }
 
-/// The shards of a store of so many, each over two of the devices.
-pub(crate) fn open_shards<D: Device>(
+/// The shard of a store of one, over two of the devices.
+pub(crate) fn open_only_shard<D: Device>(
     alloc: Global,
-    shards: u8,
     devices: &mut Vec<D>,
-) -> Result<Vec<Shard<D>>, Refusal>
-    requires { shards ≤ max_shards }
-{
-    let mut opened = Vec::new(alloc);
-    for node in 0..shards {
-        let (a, b) = two_of(devices)?;
-        let shard = open_shard(alloc, a, b, Identity::shard(STORE, shards, node))?;
-        push(&mut opened, shard)?;
-    }
-    Ok(opened)
+) -> Result<Shard<D>, Refusal> {
+    let (a, b) = two_of(devices)?;
+    open_shard(alloc, a, b, Identity::shard(STORE, 1, 0))
 }
 
 /// Raises the horizon of a coordinator; none where the values don't settle the place at each shard of its store.

@@ -1,8 +1,8 @@
-// One write on its way: it is begun, prepared and voted for at its shards, and decided.
+// One write on its way in a store of one shard: it is begun, prepared and voted for, and decided.
 ghost use Rattle.std.specs.Prelude.{IfOk};
 ghost use Rattle.records.specs.Replays.{AskOfLog};
 
-use crate::stores::{Store, push};
+use crate::stores::only;
 use coordinator::{Coordinator, Decided, NotDecided, votes_match};
 use decisions::{Intent, Ticket, Vote};
 use device::Device;
@@ -10,33 +10,34 @@ use shard::{Shard, VoteReply};
 use std::alloc::Global;
 use tuples::{Change, Condition, Refusal, Tuple, Want, Write, WriteId};
 
-fn touches(alloc: Global, texts: &str) -> Result<Vec<Change>, Refusal> {
-    let mut changes = Vec::new(alloc);
-    for text in texts.split(' ') {
-        let tuple = Tuple::parse(alloc, text.as_bytes())?;
-        push(&mut changes, Change::Touch(tuple))?;
-    }
-    Ok(changes)
+fn touches(alloc: Global, text: &str) -> Result<Vec<Change>, Refusal> {
+    let tuple = Tuple::parse(alloc, text.as_bytes())?;
+    Ok(only(alloc, Change::Touch(tuple))?)
 }
 
-/// The write that touches the tuples of these texts, set apart by spaces.
-pub(crate) fn touch(alloc: Global, texts: &str) -> Result<Write, Refusal>
+/// The write that touches the tuple of this text.
+pub(crate) fn touch(alloc: Global, text: &str) -> Result<Write, Refusal>
     ensures { IfOk result (λ w. AskOfLog w.conditions) }
 {
-    let changes = touches(alloc, texts)?;
-    Write::new(changes, Vec::new(alloc))
+    Write::new(touches(alloc, text)?, Vec::new(alloc))
+}
+
+fn not_after(alloc: Global, text: &str, place: u64) -> Result<Vec<Condition>, Refusal> {
+    let tuple = Tuple::parse(alloc, text.as_bytes())?;
+    let want = Want::NotAfter(place);
+    Ok(only(alloc, Condition { tuple, want })?)
 }
 
 /// The write that touches one tuple where that has no change after the place.
 pub(crate) fn touch_since(alloc: Global, text: &str, place: u64) -> Result<Write, Refusal> {
-    let (changes, _) = touch(alloc, text)?.into_parts();
-    let condition = Condition {
-        tuple: Tuple::parse(alloc, text.as_bytes())?,
-        want: Want::NotAfter(place),
-    };
-    let mut conditions = Vec::new(alloc);
-    push(&mut conditions, condition)?;
-    Write::new(changes.into_vec(), conditions)
+    let changes = touches(alloc, text)?;
+    match not_after(alloc, text, place) {
+        Ok(conditions) => Write::new(changes, conditions),
+        Err(refusal) => {
+            drop(changes);
+            Err(refusal)
+        }
+    }
 }
 
 /// The id of a write that is begun and stays open, and the place that is kept then.
@@ -74,21 +75,20 @@ fn vote<D: Device>(shard: &mut Shard<D>, ticket: Ticket) -> Result<Vote, Refusal
     }
 }
 
-/// Puts one vote of each shard that takes part to the others.
+/// Puts the vote of the shard there, if it takes part.
 fn gather<D: Device>(
     alloc: Global,
-    shards: &mut [Shard<D>],
+    shard: &mut Shard<D>,
     intent: &Intent,
     votes: &mut Vec<Vote>,
 ) -> Result<(), Refusal> {
-    for shard in shards.iter_mut() {
-        if shard.takes_part(intent) {
-            votes.reserve(1)?;
-            let ticket = shard.stage_prepare(alloc, intent)?;
-            let vote = vote(shard, ticket)?;
-            votes.push_reserved(vote);
-        }
+    if !shard.takes_part(intent) {
+        return Ok(());
     }
+    votes.reserve(1)?;
+    let ticket = shard.stage_prepare(alloc, intent)?;
+    let vote = vote(shard, ticket)?;
+    votes.push_reserved(vote);
     Ok(())
 }
 
@@ -121,16 +121,17 @@ fn decide_by<D: Device>(
     }
 }
 
-/// Begins a write, prepares it at its shards and decides it.
+/// Begins a write, prepares it at the shard and decides it.
 pub(crate) fn decide<D: Device>(
     alloc: Global,
-    store: &mut Store<D>,
+    coordinator: &mut Coordinator<D>,
+    shard: &mut Shard<D>,
     write: Write,
 ) -> Result<Decided, Refusal> {
-    let intent = store.coordinator.begin(write)?;
+    let intent = coordinator.begin(write)?;
     let mut votes = Vec::new(alloc);
-    match gather(alloc, &mut store.shards, &intent, &mut votes) {
-        Ok(()) => decide_by(&mut store.coordinator, intent, votes),
+    match gather(alloc, shard, &intent, &mut votes) {
+        Ok(()) => decide_by(coordinator, intent, votes),
         Err(refusal) => Err(leave(refusal, intent, votes)),
     }
 }
