@@ -1,6 +1,7 @@
 // Bytes of batches that were worked out by hand.
 ghost use Rattle.records.specs.Format.{AreRecords};
 
+use crate::disks::changed;
 use records::{Record, decode_batch};
 use refusal::Refusal;
 use std::alloc::{AllocError, Global};
@@ -85,20 +86,24 @@ fn is_written_as(alloc: Global, bytes: &[u8], wanted: &[u8]) -> bool {
 }
 
 /// Batches, and what is written of them.
-const READ: &[(&[u8], &[u8])] = &[
-    (&OPENING, &OPENING),
-    (&TOUCHING, &TOUCHING),
-    (&TOUCHING_TWO, &TOUCHING_TWO),
-    (&WHERE_ABSENT, &WHERE_ABSENT),
-    (&WHERE_UNCHANGED, &WHERE_UNCHANGED_LATER),
-    (&LEARNING, &LEARNING),
-    (&CHECKPOINT, &CHECKPOINT),
+const READ: &[(&[u8], &[u8], &str)] = &[
+    (&OPENING, &OPENING, "an opening"),
+    (&TOUCHING, &TOUCHING, "a touch"),
+    (&TOUCHING_TWO, &TOUCHING_TWO, "two touches"),
+    (&WHERE_ABSENT, &WHERE_ABSENT, "where it is absent"),
+    (
+        &WHERE_UNCHANGED,
+        &WHERE_UNCHANGED_LATER,
+        "where it is unchanged",
+    ),
+    (&LEARNING, &LEARNING, "learned, and a horizon"),
+    (&CHECKPOINT, &CHECKPOINT, "a checkpoint"),
 ];
 
 #[test]
 fn what_is_read_is_written_again(rt: HostRuntime) {
-    for &(bytes, wanted) in READ {
-        assert!(rt; is_written_as(rt.alloc(), bytes, wanted), "{bytes:?}");
+    for &(bytes, wanted, what) in READ {
+        assert!(rt; is_written_as(rt.alloc(), bytes, wanted), "{what}");
     }
 }
 
@@ -113,16 +118,12 @@ fn is_damaged(alloc: Global, bytes: &[u8]) -> bool {
     }
 }
 
-/// Whether the bytes are no batch with one of them changed, and the last so many left out.
+/// The same with one of them changed, and the last so many left out.
 fn is_damaged_by(alloc: Global, bytes: &[u8], i: usize, byte: u8, left_out: usize) -> bool {
-    let Ok(mut changed) = bytes.to_vec(alloc) else {
-        return false;
-    };
-    if let Some(place) = changed.get_mut(i) {
-        *place = byte;
+    match changed(alloc, bytes, i, byte, left_out) {
+        Ok(bytes) => is_damaged(alloc, &bytes),
+        Err(_) => false,
     }
-    changed.truncate(bytes.len().saturating_sub(left_out));
-    is_damaged(alloc, &changed)
 }
 
 /// Batches, the byte of each that is changed and to what, how many are left out, and why that is no batch.

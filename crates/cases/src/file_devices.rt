@@ -1,8 +1,8 @@
 // Devices over files in memory and of the operating system, a life at a time.
 use crate::disks::disk_of;
+use crate::log_bytes::opened;
 use device::{Device, Stopped};
 use files::{Broken, FileDevice, RawFile, open};
-use gated::GatedLog;
 use refusal::Refusal;
 use std::alloc::Global;
 use std::os::unix::fs::symlink;
@@ -212,14 +212,12 @@ fn each_life_finds_what_the_one_before_it_wrote(rt: HostRuntime) {
 
 // How many bodies a log finds on a device. Then one more is appended.
 fn found_by<D: Device>(alloc: Global, device: D) -> Result<usize, Refusal> {
-    match GatedLog::open(alloc, device) {
-        Ok((mut log, bodies)) => {
-            let found = bodies.len();
-            drop(bodies);
-            log.append(&mut [7; 45])?;
-            Ok(found)
-        }
-        Err((refusal, _device)) => Err(refusal),
+    let (mut log, found) = opened(alloc, device)?;
+    let appended = log.append(&mut [7; 45]);
+    drop(log);
+    match appended {
+        Ok(()) => Ok(found),
+        Err(refusal) => Err(refusal),
     }
 }
 
@@ -280,11 +278,19 @@ fn a_file_has_one_life_at_a_time(rt: HostRuntime) {
     assert!(rt; remove_folder(&rt, FOLDER));
 }
 
+// A file of this length.
+fn make_file(rt: &HostRuntime, path: &str, len: u64) -> bool {
+    match fs::File::create(rt, path) {
+        Ok(file) => file.set_len(len).is_ok(),
+        Err(_) => false,
+    }
+}
+
 // In that folder a file, one that is too long, and a link.
-fn make_files(rt: &HostRuntime) -> io::Result<()> {
-    fs::File::create(rt, "files_refused/long")?.set_len((1 << 40) + 1)?;
-    fs::File::create(rt, "files_refused/file")?;
-    symlink(rt, "file", "files_refused/link")
+fn make_files(rt: &HostRuntime) -> bool {
+    make_file(rt, "files_refused/long", (1 << 40) + 1)
+        && make_file(rt, "files_refused/file", 0)
+        && symlink(rt, "file", "files_refused/link").is_ok()
 }
 
 fn opens(rt: &HostRuntime, folder: &str, name: &str) -> bool {
@@ -303,7 +309,7 @@ const OPENED: &[(&str, &str, bool)] = &[
 #[test]
 fn what_is_no_file_is_down(rt: HostRuntime) {
     const FOLDER: &str = "files_refused";
-    assert!(rt; make_folder(&rt, FOLDER) && make_files(&rt).is_ok());
+    assert!(rt; make_folder(&rt, FOLDER) && make_files(&rt));
     for &(folder, name, wanted) in OPENED {
         assert!(rt; opens(&rt, folder, name) == wanted, "{folder}/{name}");
     }

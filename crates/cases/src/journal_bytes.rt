@@ -196,20 +196,25 @@ fn leaves(alloc: Global, content: &[u8], batch: &[u8], wanted: &[u8]) -> Result<
 }
 
 /// Bytes, a batch that is flushed over them, and the bytes then.
-const WRITTEN: &[(&[u8], &[u8], &[u8])] = &[
-    (&[], OPENING, OPENED_NOW),
-    (&[], TOUCHING, TOUCHED),
-    (&[], LEARNING, LEARNED),
-    (CLOSED, TOUCHING, TOUCHED),
-    (OPENED, TOUCHING, OPENED_AND_TOUCHED),
+const WRITTEN: &[(&[u8], &[u8], &[u8], &str)] = &[
+    (&[], OPENING, OPENED_NOW, "an opening"),
+    (&[], TOUCHING, TOUCHED, "a touch"),
+    (&[], LEARNING, LEARNED, "learned, and a horizon"),
+    (CLOSED, TOUCHING, TOUCHED, "a touch over a closed gate"),
+    (
+        OPENED,
+        TOUCHING,
+        OPENED_AND_TOUCHED,
+        "a touch behind an opening",
+    ),
 ];
 
 #[test]
 fn a_batch_is_written_behind_the_closed_gate(rt: HostRuntime) {
-    for &(content, batch, wanted) in WRITTEN {
+    for &(content, batch, wanted, what) in WRITTEN {
         assert!(rt;
             leaves(rt.alloc(), content, batch, wanted) == Ok(true),
-            "{batch:?}"
+            "{what}"
         );
     }
 }

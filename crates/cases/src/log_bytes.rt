@@ -29,7 +29,7 @@ const BOTH: [u8; 73] = [
 ];
 
 /// A log over the device, and how many bodies it has.
-fn opened<D: Device>(alloc: Global, device: D) -> Result<(GatedLog<D>, usize), Refusal> {
+pub(crate) fn opened<D: Device>(alloc: Global, device: D) -> Result<(GatedLog<D>, usize), Refusal> {
     match GatedLog::open(alloc, device) {
         Ok((log, bodies)) => {
             let count = bodies.len();
@@ -51,14 +51,14 @@ fn is_found(alloc: Global, content: &[u8], bodies: usize, bytes: &[u8]) -> Resul
     Ok(is_opened && has_bytes(alloc, &mut disk, bytes))
 }
 
-const FOUND: &[(&[u8], usize, &[u8])] = &[
+const FOUND: &[(&[u8], usize, &[u8], &str)] = &[
     // A device of at most one byte is made anew.
-    (&[], 0, &[0]),
-    (&[0xa5], 0, &[0]),
-    (&[7], 0, &[0]),
-    (BATCH, 1, BATCH),
+    (&[], 0, &[0], "nothing"),
+    (&[0xa5], 0, &[0], "an open gate alone"),
+    (&[7], 0, &[0], "one byte"),
+    (BATCH, 1, BATCH, "a batch"),
     // A closed gate ends the list.
-    (CLOSED, 0, CLOSED),
+    (CLOSED, 0, CLOSED, "a batch behind a closed gate"),
 ];
 
 /// Why no device is opened of the batch with one byte changed, and the last so many left out.
@@ -79,10 +79,10 @@ const DAMAGED: &[(usize, u8, usize, &str)] = &[
 #[test]
 fn an_opening_finds_the_bodies_or_damage(rt: HostRuntime) {
     let alloc = rt.alloc();
-    for &(content, bodies, bytes) in FOUND {
+    for &(content, bodies, bytes, what) in FOUND {
         assert!(rt;
             is_found(alloc, content, bodies, bytes) == Ok(true),
-            "{content:?}"
+            "{what}"
         );
     }
     for &(place, byte, left_out, why) in DAMAGED {

@@ -135,30 +135,32 @@ fn take_all(alloc: Global, replay: &mut Replay, batches: &[&[u8]]) -> usize {
 }
 
 /// How many tuples are there at a place.
-fn there(alloc: Global, memory: &Memory, place: u64, set: &Tupleset) -> Result<u64, AllocError> {
+fn there(alloc: Global, memory: &Memory, place: u64, set: &Tupleset) -> Result<usize, AllocError> {
     let tuples = memory.at(alloc, place, set)?;
-    Ok(tuples.len() as u64)
+    let count = tuples.len();
+    drop(tuples);
+    Ok(count)
 }
 
-/// Its openings, what it has learned, its horizon, and how many tuples are there before the write and after it.
-fn known(alloc: Global, memory: &Memory, set: &Tupleset) -> Result<[u64; 5], AllocError> {
-    let before = there(alloc, memory, 2, set)?;
-    let after = there(alloc, memory, 5, set)?;
+/// How many tuples of `doc:a#viewer` are there at a place.
+fn viewers(alloc: Global, memory: &Memory, place: u64) -> Result<usize, Refusal> {
+    let set = Tupleset::parse(alloc, b"doc:a#viewer")?;
+    let count = there(alloc, memory, place, &set);
+    drop(set);
+    Ok(count?)
+}
+
+/// Its openings, what it has learned, its horizon, and how many viewers are there before the write and after it.
+fn known(alloc: Global, memory: &Memory) -> Result<[u64; 5], Refusal> {
+    let before = viewers(alloc, memory, 2)?;
+    let after = viewers(alloc, memory, 5)?;
     Ok([
         memory.epoch(),
         memory.learned(),
         memory.horizon(),
-        before,
-        after,
+        before as u64,
+        after as u64,
     ])
-}
-
-/// The same of the tuples of `doc:a#viewer`.
-fn known_of_viewers(alloc: Global, memory: &Memory) -> Result<[u64; 5], Refusal> {
-    let set = Tupleset::parse(alloc, b"doc:a#viewer")?;
-    let known = known(alloc, memory, &set);
-    drop(set);
-    Ok(known?)
 }
 
 /// A shard after these records; `Damaged` where one of them may not come next, or a checkpoint has not ended.
@@ -175,7 +177,7 @@ fn memory_after(alloc: Global, batches: &[&[u8]]) -> Result<Memory, Refusal> {
 fn known_after(alloc: Global, batches: &[&[u8]]) -> Result<[u64; 5], Refusal> {
     match memory_after(alloc, batches) {
         Ok(memory) => {
-            let known = known_of_viewers(alloc, &memory);
+            let known = known(alloc, &memory);
             drop(memory);
             known
         }
@@ -216,16 +218,16 @@ const BEGUN_ALONE: &[&[u8]] = &[
     PREPARED_LATER,
 ];
 
-const KNOWN: &[(&[&[u8]], Result<[u64; 5], Refusal>)] = &[
-    (LIVED, Ok([2, 5, 4, 0, 1])),
-    (CHECKPOINTED, Ok([2, 5, 4, 0, 1])),
-    (BEGUN_ALONE, Err(Refusal::Damaged)),
+const KNOWN: &[(&[&[u8]], Result<[u64; 5], Refusal>, &str)] = &[
+    (LIVED, Ok([2, 5, 4, 0, 1]), "a shard that lived"),
+    (CHECKPOINTED, Ok([2, 5, 4, 0, 1]), "a checkpoint"),
+    (BEGUN_ALONE, Err(Refusal::Damaged), "one that has not ended"),
 ];
 
 #[test]
 fn a_shard_knows_what_its_records_stand_for(rt: HostRuntime) {
-    for &(batches, wanted) in KNOWN {
-        assert!(rt; known_after(rt.alloc(), batches) == wanted, "{wanted:?}");
+    for &(batches, wanted, what) in KNOWN {
+        assert!(rt; known_after(rt.alloc(), batches) == wanted, "{what}");
     }
 }
 
