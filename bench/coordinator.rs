@@ -1,4 +1,4 @@
-// The measures of crates/bench/src/deciding.rt and openings.rt in plain Rust: the same decisions in the same journal, with the same
+// The measures of crates/bench/src/writes.rt and openings.rt in plain Rust: the same decisions in the same journal, with the same
 // tests, and the decisions by place in a queue and by id in a map.
 mod log;
 
@@ -10,6 +10,8 @@ use std::process::ExitCode;
 use std::time::{Duration, Instant};
 
 const GROUP: u64 = 100;
+// The first write that is decided: as in the proved program its number has eight digits.
+const FIRST: u64 = 10_000_001;
 const MAX_OPEN: usize = 1_024;
 const MAX_NUMBER: u64 = (1 << 63) - 1;
 const SHARDS: u8 = 1;
@@ -312,7 +314,7 @@ fn decide(groups: u64) -> Option<()> {
     let (mut beginning, mut deciding) = (Duration::ZERO, Duration::ZERO);
     let mut sum = 0u64;
     for group in 0..groups {
-        let mut writes: Vec<Write> = (0..GROUP).map(|i| write(group * GROUP + i)).collect();
+        let mut writes: Vec<Write> = (0..GROUP).map(|i| write(FIRST + group * GROUP + i)).collect();
 
         let start = Instant::now();
         let mut intents = Vec::new();

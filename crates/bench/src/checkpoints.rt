@@ -1,8 +1,8 @@
 // How long a shard is held while it makes a checkpoint of so many rows, and how long the next opening takes.
-use crate::shard_openings::made;
-use crate::touches::{new_shard, two_disks};
+use crate::openings::{Node, made, time_shard};
+use crate::touches::open_shard;
 use device::Device;
-use measures::timing::{Done, print};
+use measures::timing::{Done, print_since};
 use shard::Shard;
 use std::alloc::Global;
 use std::rt::Clock;
@@ -16,26 +16,23 @@ pub(crate) fn measure(
     alloc: Global,
     writes: u32,
 ) -> anyhow::Result<()> {
-    let (a, b) = two_disks(alloc)?;
-    let (a, b) = made(alloc, a, b, writes)?;
-    let shard = new_shard(alloc, a, b)?;
-    let (a, b) = point_twice(rt, alloc, shard, writes)?;
-    open(rt, alloc, a, b, writes)
+    let (a, b) = made(alloc, Node::Shard, writes)?;
+    let mut shard = open_shard(alloc, a, b)?;
+    let amount = u64::from(writes);
+    let pointed = point_twice(rt, alloc, &mut shard, amount);
+    let (a, b) = shard.into_devices();
+    pointed?;
+    time_shard(rt, alloc, a, b, "behind", amount)
 }
 
-// The devices behind two checkpoints.
 fn point_twice<D: Device>(
     rt: &(impl Clock + Eprint),
     alloc: Global,
-    mut shard: Shard<D>,
-    writes: u32,
-) -> anyhow::Result<(D, D)> {
-    let first = point(rt, alloc, &mut shard, "checkpoint", writes);
-    let second = point(rt, alloc, &mut shard, "again", writes);
-    let devices = shard.into_devices();
-    first?;
-    second?;
-    Ok(devices)
+    shard: &mut Shard<D>,
+    amount: u64,
+) -> anyhow::Result<()> {
+    point(rt, alloc, shard, "checkpoint", amount)?;
+    point(rt, alloc, shard, "again", amount)
 }
 
 // One checkpoint, by this name.
@@ -44,35 +41,13 @@ fn point<D: Device>(
     alloc: Global,
     shard: &mut Shard<D>,
     name: &str,
-    writes: u32,
+    amount: u64,
 ) -> anyhow::Result<()> {
     let start = Instant::now(rt)?;
     shard.checkpoint(alloc)?;
-    let elapsed = start.elapsed(rt)?;
     let done = Done {
-        amount: u64::from(writes),
+        amount,
         answer: shard.bank_len(),
     };
-    print(rt, name, elapsed, done)
-}
-
-// What opening a shard over these devices takes.
-fn open<D: Device>(
-    rt: &(impl Clock + Eprint),
-    alloc: Global,
-    a: D,
-    b: D,
-    writes: u32,
-) -> anyhow::Result<()> {
-    let start = Instant::now(rt)?;
-    let shard = new_shard(alloc, a, b)?;
-    let elapsed = start.elapsed(rt);
-    let learned = shard.learned();
-    drop(shard);
-    let elapsed = elapsed?;
-    let done = Done {
-        amount: u64::from(writes),
-        answer: learned?,
-    };
-    print(rt, "behind", elapsed, done)
+    print_since(rt, name, start, done)
 }

@@ -1,8 +1,7 @@
 // Records staged and flushed, to a disk in memory.
 ghost use Rattle.records.specs.Format.{AreRecords};
 
-use crate::openings::new_journal;
-use crate::touches::two_disks;
+use crate::touches::{open_journal, two_disks};
 use device::{Device, SimDisk};
 use journal::{Journal, is_plain};
 use measures::sample::{batch_of, records_of};
@@ -10,7 +9,7 @@ use measures::timing::{Done, print};
 use records::Record;
 use std::alloc::Global;
 use std::rt::Clock;
-use std::time::{Duration, Instant};
+use std::time::Instant;
 use tuples::Refusal;
 
 /// How many records are flushed in all, at least.
@@ -28,13 +27,29 @@ fn stage_and_flush<D: Device>(journal: &mut Journal<D>, records: &[Record]) -> R
     journal.flush()
 }
 
+fn flush_rounds<D: Device>(
+    journal: &mut Journal<D>,
+    records: &[Record],
+    rounds: u32,
+) -> Result<(), Refusal>
+    requires { AreRecords records.now }
+{
+    for _ in 0..rounds {
+        stage_and_flush(journal, records)?;
+    }
+    Ok(())
+}
+
 fn calls_of_a(journal: &Journal<SimDisk>) -> u64 {
     let (a, _) = journal.devices();
     a.calls()
 }
 
 /// Flushes batches of so many records, and prints the bytes and how long they took. What it answers is the device calls of a flush.
-pub(crate) fn measure(rt: &(impl Clock + Eprint), alloc: Global, count: u16) -> anyhow::Result<()> {
+pub(crate) fn measure(rt: &(impl Clock + Eprint), alloc: Global, count: u32) -> anyhow::Result<()> {
+    let Ok(count) = u16::try_from(count) else {
+        anyhow::bail!("a measure is wanted, with its count where it takes one");
+    };
     let bytes = batch_of(alloc, count)?;
     let records = records_of(alloc, &bytes)?;
     measure_of(rt, alloc, &records, bytes.len(), count)
@@ -51,8 +66,10 @@ fn measure_of(
     requires { AreRecords records.now }
 {
     let (a, b) = two_disks(alloc)?;
-    let mut journal = new_journal(alloc, a, b)?;
-    measure_in(rt, &mut journal, records, size, count)
+    let mut journal = open_journal(alloc, a, b)?;
+    let printed = measure_in(rt, &mut journal, records, size, count);
+    drop(journal);
+    printed
 }
 
 fn measure_in(
@@ -66,25 +83,12 @@ fn measure_in(
 {
     let rounds = RECORDS / u32::from(count).max(1);
     let before = calls_of_a(journal);
-    let elapsed = flush_rounds(rt, journal, records, rounds)?;
+    let start = Instant::now(rt)?;
+    flush_rounds(journal, records, rounds)?;
+    let elapsed = start.elapsed(rt)?;
     let done = Done {
         amount: u64::from(rounds).saturating_mul(size as u64),
         answer: calls_of_a(journal).saturating_sub(before) / u64::from(rounds).max(1),
     };
     print(rt, "flush", elapsed, done)
-}
-
-fn flush_rounds<D: Device>(
-    rt: &impl Clock,
-    journal: &mut Journal<D>,
-    records: &[Record],
-    rounds: u32,
-) -> anyhow::Result<Duration>
-    requires { AreRecords records.now }
-{
-    let start = Instant::now(rt)?;
-    for _ in 0..rounds {
-        stage_and_flush(journal, records)?;
-    }
-    Ok(start.elapsed(rt)?)
 }

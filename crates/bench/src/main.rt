@@ -9,13 +9,12 @@
 
 mod appends;
 mod checkpoints;
-mod deciding;
+mod clearing;
 mod flush;
 mod measure;
 mod openings;
-mod prepares;
-mod shard_openings;
 mod touches;
+mod writes;
 
 use measure::Measure;
 use std::alloc::Global;
@@ -67,7 +66,7 @@ fn run<R: Runtime + Threads + Wait + Sync>(
         return Ok(());
     }
     match Measure::read(words) {
-        Some(measure) => measure.run(rt, alloc),
+        Some((measure, count)) => measure.run(rt, alloc, count),
         None => anyhow::bail!("a measure is wanted, with its count where it takes one"),
     }
 }

@@ -1,129 +1,210 @@
-// How long an opening of a coordinator takes over a log of so many decisions, and how much memory.
+// How long an opening of a node takes over the records of so many writes, and how much memory.
 ghost use Rattle.std.specs.Prelude.{◌≤◌, IfOk};
 ghost use Rattle.decisions.specs.Values.{IsIntent};
 ghost use Rattle.journal.specs.Rest.{IsPlain};
 ghost use Rattle.records.specs.Format.{IsRecord};
 
-use crate::touches::{STORE, open_coordinator, touch, two_disks};
-use device::Device;
+use crate::touches::{STORE, open_coordinator, open_journal, open_shard, two_disks, write_of};
+use device::{Device, SimDisk};
 use journal::Journal;
 use measures::timing::{Done, print, print_since};
-use records::{COORDINATOR, Record};
-use std::alloc::Global;
+use records::{COORDINATOR, PlacedId, PlacedIds, Record};
+use shard::Shard;
+use std::alloc::{AllocError, Global};
 use std::rt::Clock;
 use std::time::Instant;
 use tuples::{Entry, Refusal, WriteId};
 
-/// Makes a log of so many decisions (`log`), and prints how long that took; its answer is the bytes of the log. Until it opens a coordinator,
-/// `opening` takes the same memory.
-pub(crate) fn log(rt: &(impl Clock + Eprint), alloc: Global, decisions: u32) -> anyhow::Result<()> {
-    let start = Instant::now(rt)?;
-    let (a, b) = two_disks(alloc)?;
-    let devices = made(alloc, a, b, decisions)?;
-    print_made(rt, "log", start, devices, u64::from(decisions))
+/// The node whose records are made: the coordinator, or the only shard of its store.
+#[derive(Clone, Copy)]
+pub(crate) enum Node {
+    Coordinator,
+    Shard,
 }
 
-/// Opens a coordinator over such a log (`opening`), and prints how long that took. What it answers is the place of the last decision.
-pub(crate) fn opening(
-    rt: &(impl Clock + Eprint),
-    alloc: Global,
-    decisions: u32,
-) -> anyhow::Result<()> {
-    let (a, b) = two_disks(alloc)?;
-    let (a, b) = made(alloc, a, b, decisions)?;
-    open(rt, alloc, a, b, decisions)
-}
+impl Node {
+    // What its measures are called: the records, and the opening.
+    fn names(self) -> (&'static str, &'static str) {
+        match self {
+            Node::Coordinator => ("log", "opening"),
+            Node::Shard => ("records", "shard-opening"),
+        }
+    }
 
-// Devices with a log of so many decisions.
-fn made<D: Device>(alloc: Global, a: D, b: D, decisions: u32) -> Result<(D, D), Refusal> {
-    let mut journal = new_journal(alloc, a, b)?;
-    stage_all(alloc, &mut journal, decisions)?;
-    Ok(journal.into_devices())
-}
-
-/// Prints what making devices with so many records took since then.
-pub(crate) fn print_made<D: Device>(
-    rt: &(impl Clock + Eprint),
-    name: &str,
-    start: Instant,
-    (mut a, _b): (D, D),
-    records: u64,
-) -> anyhow::Result<()> {
-    let elapsed = start.elapsed(rt)?;
-    let done = Done {
-        amount: records,
-        answer: a.len().unwrap_or(0) as u64,
-    };
-    print(rt, name, elapsed, done)
-}
-
-// Prints what opening a coordinator over these devices takes.
-fn open<D: Device>(
-    rt: &(impl Clock + Eprint),
-    alloc: Global,
-    a: D,
-    b: D,
-    decisions: u32,
-) -> anyhow::Result<()> {
-    let start = Instant::now(rt)?;
-    let coordinator = open_coordinator(alloc, a, b)?;
-    let done = Done {
-        amount: u64::from(decisions),
-        answer: coordinator.kept(),
-    };
-    print_since(rt, "opening", start, done)
-}
-
-pub(crate) fn new_journal<D: Device>(alloc: Global, a: D, b: D) -> Result<Journal<D>, Refusal> {
-    match Journal::open(alloc, a, b) {
-        Ok((journal, _)) => Ok(journal),
-        Err(refused) => {
-            let refusal = refused.refusal;
-            drop(refused);
-            Err(refusal)
+    // How many records it has of so many writes: of each a decision, or a prepare and what was learned of it.
+    fn records_of(self, writes: u32) -> u64 {
+        match self {
+            Node::Coordinator => u64::from(writes),
+            Node::Shard => u64::from(writes) * 2,
         }
     }
 }
 
-/// Stages the first opening of a node of a store of one shard.
-pub(crate) fn stage_opening<D: Device>(journal: &mut Journal<D>, node: u8) -> Result<(), Refusal> {
+/// Makes the records of a node that has seen so many writes of one touch to their end (`log`, `records`), and prints how long that took; its
+/// answer is the bytes of the log. Until it opens a node, an opening takes the same memory.
+pub(crate) fn records(
+    rt: &(impl Clock + Eprint),
+    alloc: Global,
+    node: Node,
+    writes: u32,
+) -> anyhow::Result<()> {
+    let start = Instant::now(rt)?;
+    let (mut a, _b) = made(alloc, node, writes)?;
+    let done = Done {
+        amount: node.records_of(writes),
+        answer: a.len().unwrap_or(0) as u64,
+    };
+    print_since(rt, node.names().0, start, done)
+}
+
+/// Opens a node over such records (`opening`, `shard-opening`), and prints how long that took. What it answers is the place of the last write.
+pub(crate) fn opening(
+    rt: &(impl Clock + Eprint),
+    alloc: Global,
+    node: Node,
+    writes: u32,
+) -> anyhow::Result<()> {
+    let (a, b) = made(alloc, node, writes)?;
+    let (_, name) = node.names();
+    let records = node.records_of(writes);
+    match node {
+        Node::Coordinator => time_coordinator(rt, alloc, a, b, name, records),
+        Node::Shard => time_shard(rt, alloc, a, b, name, records),
+    }
+}
+
+fn time_coordinator<D: Device>(
+    rt: &(impl Clock + Eprint),
+    alloc: Global,
+    a: D,
+    b: D,
+    name: &str,
+    amount: u64,
+) -> anyhow::Result<()> {
+    let start = Instant::now(rt)?;
+    let coordinator = open_coordinator(alloc, a, b)?;
+    let done = Done {
+        amount,
+        answer: coordinator.kept(),
+    };
+    print_since(rt, name, start, done)
+}
+
+/// Prints what opening a shard over these devices takes.
+pub(crate) fn time_shard<D: Device>(
+    rt: &(impl Clock + Eprint),
+    alloc: Global,
+    a: D,
+    b: D,
+    name: &str,
+    amount: u64,
+) -> anyhow::Result<()> {
+    let start = Instant::now(rt)?;
+    let shard = open_shard(alloc, a, b)?;
+    let printed = print_opened(rt, name, start, &shard, amount);
+    drop(shard);
+    printed
+}
+
+fn print_opened<D: Device>(
+    rt: &(impl Clock + Eprint),
+    name: &str,
+    start: Instant,
+    shard: &Shard<D>,
+    amount: u64,
+) -> anyhow::Result<()> {
+    let elapsed = start.elapsed(rt)?;
+    let done = Done {
+        amount,
+        answer: shard.learned()?,
+    };
+    print(rt, name, elapsed, done)
+}
+
+/// Devices with a node's records of so many writes.
+pub(crate) fn made(alloc: Global, node: Node, writes: u32) -> Result<(SimDisk, SimDisk), Refusal> {
+    let (a, b) = two_disks(alloc)?;
+    let mut journal = open_journal(alloc, a, b)?;
+    let staged = stage_all(alloc, &mut journal, node, writes);
+    let devices = journal.into_devices();
+    staged?;
+    Ok(devices)
+}
+
+// Makes a first opening and the records of so many writes durable.
+fn stage_all<D: Device>(
+    alloc: Global,
+    journal: &mut Journal<D>,
+    node: Node,
+    writes: u32,
+) -> Result<(), Refusal> {
+    stage_opening(journal, node)?;
+    for before in 0..writes {
+        let number = u64::from(before) + 1;
+        match node {
+            Node::Coordinator => stage_decision(alloc, journal, number)?,
+            Node::Shard => stage_write(alloc, journal, number)?,
+        }
+    }
+    journal.flush()
+}
+
+fn stage_opening<D: Device>(journal: &mut Journal<D>, node: Node) -> Result<(), Refusal> {
+    let node = match node {
+        Node::Coordinator => COORDINATOR,
+        Node::Shard => 0,
+    };
     let opening = Record::Epoch {
         epoch: 1,
         store: STORE,
         shards: 1,
         node,
     };
-    let staged = journal.stage(&opening);
-    drop(opening);
-    staged
+    stage(journal, opening)
 }
 
-// Makes a first opening and so many decisions durable.
-fn stage_all<D: Device>(
+fn stage_decision<D: Device>(
     alloc: Global,
     journal: &mut Journal<D>,
-    decisions: u32,
-) -> Result<(), Refusal> {
-    stage_opening(journal, COORDINATOR)?;
-    for before in 0..decisions {
-        let place = u64::from(before) + 1;
-        let entry = entry(alloc, place)?;
-        stage(journal, place, entry)?;
-    }
-    journal.flush()
+    number: u64,
+) -> Result<(), Refusal>
+    requires some { 1 ≤ number }
+    requires fits { number ≤ 4294967296 }
+{
+    let entry = entry(alloc, number)?;
+    let decision = Record::Decision {
+        place: number,
+        entry,
+    };
+    stage(journal, decision)
 }
 
-// Stages a decision. It is lent to what can fail: a record is let go in one place.
-fn stage<D: Device>(journal: &mut Journal<D>, place: u64, entry: Entry) -> Result<(), Refusal>
-    requires { IsIntent entry }
+// The two records of the write with this number, which has that place too.
+fn stage_write<D: Device>(
+    alloc: Global,
+    journal: &mut Journal<D>,
+    number: u64,
+) -> Result<(), Refusal>
+    requires some { 1 ≤ number }
+    requires fits { number ≤ 4294967296 }
 {
-    let decision = Record::Decision { place, entry };
-    let staged = stage_next(journal, &decision);
-    drop(decision);
+    let prepare = Record::Prepare(entry(alloc, number)?);
+    stage(journal, prepare)?;
+    let learned = learned(alloc, number)?;
+    stage(journal, learned)
+}
+
+// A record is lent to what can fail, so that it is let go in one place.
+fn stage<D: Device>(journal: &mut Journal<D>, made: Record) -> Result<(), Refusal>
+    requires spellable { IsRecord made }
+    requires plain { IsPlain made }
+{
+    let staged = stage_next(journal, &made);
+    drop(made);
     staged
 }
 
-// Stages a record; a full batch goes out first.
+// A full batch goes out first.
 fn stage_next<D: Device>(journal: &mut Journal<D>, next: &Record) -> Result<(), Refusal>
     requires spellable { IsRecord next.now }
     requires plain { IsPlain next.now }
@@ -134,16 +215,36 @@ fn stage_next<D: Device>(journal: &mut Journal<D>, next: &Record) -> Result<(), 
     journal.stage(next)
 }
 
-// The write with this number of the first epoch.
-pub(crate) fn entry(alloc: Global, number: u64) -> Result<Entry, Refusal>
+// The write with this number of the first epoch, a touch of a tuple of its own.
+fn entry(alloc: Global, number: u64) -> Result<Entry, Refusal>
     requires some { 1 ≤ number }
     requires fits { number ≤ 4294967296 }
     ensures { IfOk result IsIntent }
 {
-    let (changes, conditions) = touch(alloc, number)?.into_parts();
+    let text = format!(in alloc; "doc:d{number}#viewer@u1")?;
+    let (changes, conditions) = write_of(alloc, text.as_bytes())?.into_parts();
     Ok(Entry {
         id: WriteId { epoch: 1, number },
         changes,
         conditions,
+    })
+}
+
+fn learned(alloc: Global, number: u64) -> Result<Record, AllocError>
+    requires some { 1 ≤ number }
+    requires fits { number ≤ 4294967296 }
+    ensures spellable { IfOk result IsRecord }
+    ensures plain { IfOk result IsPlain }
+{
+    let placed_id = PlacedId {
+        id: WriteId { epoch: 1, number },
+        place: number,
+    };
+    let mut placed_ids = Vec::new(alloc);
+    placed_ids.reserve(1)?;
+    placed_ids.push_reserved(placed_id);
+    Ok(Record::Learned {
+        to: number,
+        placed_ids: PlacedIds::from_vec(placed_ids),
     })
 }

@@ -4,10 +4,12 @@ ghost use Rattle.records.specs.Replays.{AskOfLog};
 
 use coordinator::Coordinator;
 use device::{Device, SimDisk};
+use journal::Journal;
+use measures::changes::push_touch;
 use records::Identity;
 use shard::Shard;
 use std::alloc::{AllocError, Global};
-use tuples::{Change, Refusal, Tuple, Write};
+use tuples::{Refusal, Write};
 
 /// The number of the store, which has one shard.
 pub(crate) const STORE: u64 = 1;
@@ -35,7 +37,7 @@ pub(crate) fn open_coordinator<D: Device>(
 }
 
 /// The only shard of the store.
-pub(crate) fn new_shard<D: Device>(alloc: Global, a: D, b: D) -> Result<Shard<D>, Refusal> {
+pub(crate) fn open_shard<D: Device>(alloc: Global, a: D, b: D) -> Result<Shard<D>, Refusal> {
     match Shard::open(alloc, a, b, Identity::shard(STORE, 1, 0)) {
         Ok(shard) => Ok(shard),
         Err(refused) => {
@@ -46,12 +48,15 @@ pub(crate) fn new_shard<D: Device>(alloc: Global, a: D, b: D) -> Result<Shard<D>
     }
 }
 
-/// A write of one touch; each number has a tuple of its own.
-pub(crate) fn touch(alloc: Global, number: u64) -> Result<Write, Refusal>
-    ensures { IfOk result (λ w. AskOfLog w.conditions) }
-{
-    let text = format!(in alloc; "doc:d{number}#viewer@u1")?;
-    write_of(alloc, text.as_bytes())
+pub(crate) fn open_journal<D: Device>(alloc: Global, a: D, b: D) -> Result<Journal<D>, Refusal> {
+    match Journal::open(alloc, a, b) {
+        Ok((journal, _)) => Ok(journal),
+        Err(refused) => {
+            let refusal = refused.refusal;
+            drop(refused);
+            Err(refusal)
+        }
+    }
 }
 
 /// A touch of the tuple with this text.
@@ -59,7 +64,6 @@ pub(crate) fn write_of(alloc: Global, text: &[u8]) -> Result<Write, Refusal>
     ensures { IfOk result (λ w. AskOfLog w.conditions) }
 {
     let mut changes = Vec::new(alloc);
-    changes.reserve(1)?;
-    changes.push_reserved(Change::Touch(Tuple::parse(alloc, text)?));
+    push_touch(alloc, &mut changes, text)?;
     Write::new(changes, Vec::new(alloc))
 }

@@ -5,9 +5,9 @@ use crate::sample::{batch_of, records_of};
 use crate::timing::{Done, print_since};
 use records::Record;
 use std::alloc::{AllocError, Global};
-use std::io;
 use std::rt::Clock;
 use std::time::Instant;
+use tuples::Refusal;
 
 const RECORDS: u16 = 1_000;
 
@@ -37,7 +37,7 @@ fn encode_rounds(records: &[Record], out: &mut Vec<u8>, rounds: u32) -> Result<u
 }
 
 // How many records were read in so many rounds.
-fn decode_rounds(alloc: Global, bytes: &[u8], rounds: u32) -> io::Result<u64> {
+fn decode_rounds(alloc: Global, bytes: &[u8], rounds: u32) -> Result<u64, Refusal> {
     let mut count: u64 = 0;
     for _ in 0..rounds {
         count = count.saturating_add(records_of(alloc, bytes)?.len() as u64);
@@ -59,27 +59,13 @@ fn measure_of(
     rounds: u32,
 ) -> anyhow::Result<()> {
     let records = records_of(alloc, bytes)?;
-    measure_writing(rt, alloc, bytes, &records, rounds)?;
-    let start = Instant::now(rt)?;
-    let answer = decode_rounds(alloc, bytes, rounds)?;
-    print_since(rt, "decode", start, done_in(rounds, answer))
+    let mut out = Vec::new(alloc);
+    measure_in(rt, alloc, bytes, &records, &mut out, rounds)
 }
 
-fn measure_writing(
+fn measure_in(
     rt: &(impl Clock + Eprint),
     alloc: Global,
-    bytes: &[u8],
-    records: &[Record],
-    rounds: u32,
-) -> anyhow::Result<()>
-    requires { AreRecords records.now }
-{
-    let mut out = Vec::with_capacity(alloc, bytes.len())?;
-    measure_writing_to(rt, bytes, records, &mut out, rounds)
-}
-
-fn measure_writing_to(
-    rt: &(impl Clock + Eprint),
     bytes: &[u8],
     records: &[Record],
     out: &mut Vec<u8>,
@@ -90,10 +76,12 @@ fn measure_writing_to(
     let start = Instant::now(rt)?;
     let answer = encode_rounds(records, out, rounds)?;
     print_since(rt, "encode", start, done_in(rounds, answer))?;
-    if !is_written(bytes, out, rounds, answer) {
+    if !is_written(bytes, out) {
         anyhow::bail!("what was written is not what was read");
     }
-    Ok(())
+    let start = Instant::now(rt)?;
+    let answer = decode_rounds(alloc, bytes, rounds)?;
+    print_since(rt, "decode", start, done_in(rounds, answer))
 }
 
 fn done_in(rounds: u32, answer: u64) -> Done {
@@ -103,8 +91,10 @@ fn done_in(rounds: u32, answer: u64) -> Done {
     }
 }
 
-// Whether what was written, this much in all rounds, is what was read.
-fn is_written(bytes: &[u8], out: &[u8], rounds: u32, size: u64) -> bool {
-    let wanted = bytes.get(HEAD..).unwrap_or(&[]);
-    out == wanted && size == u64::from(rounds).saturating_mul(wanted.len() as u64)
+// Whether what was written is what was read.
+fn is_written(bytes: &[u8], out: &[u8]) -> bool {
+    match bytes.get(HEAD..) {
+        Some(wanted) => out == wanted,
+        None => false,
+    }
 }

@@ -2,13 +2,20 @@
 ghost use Rattle.std.specs.Prelude.{◌≡◌};
 
 use crate::timing::{Done, print_since};
-use published::{Published, SessionPass};
+use published::{LogPass, Published, SessionPass};
 use std::alloc::Global;
 use std::thread::{Threads, join};
 use std::time::{Clock, Instant};
 
 // A constant, so that a compiler may unroll the loop as far as it can.
 const LOADS: u64 = 100_000_000;
+
+/// How many threads load.
+#[derive(Clone, Copy)]
+pub enum By {
+    One,
+    Four,
+}
 
 /// Whether the load stands in the loop, or in a function that the loop calls.
 #[derive(Clone, Copy)]
@@ -68,19 +75,6 @@ fn look(words: &Published<u64>, pass: SessionPass<u64>) -> (u64, SessionPass<u64
     words.latest(pass)
 }
 
-/// Loads by one thread; prints how long they took.
-pub fn by_one<R: Clock + Eprint>(rt: &R, alloc: Global, way: Way) -> anyhow::Result<()> {
-    let start = Instant::now(rt)?;
-    let (words, mut log) = Published::new(alloc)?;
-    let pass = words.session(&mut log);
-    let answer = load(&words, pass, way);
-    let done = Done {
-        amount: LOADS,
-        answer,
-    };
-    print_since(rt, "latest", start, done)
-}
-
 // Loads by two threads at once.
 fn load_by_two<R: Threads + Sync>(
     rt: &R,
@@ -103,17 +97,17 @@ fn load_by_two<R: Threads + Sync>(
     one.wrapping_add(other)
 }
 
-/// Loads by four threads at once; prints how long they took.
-pub fn by_four<R: Clock + Eprint + Threads + Sync>(
+// Loads by four threads at once.
+fn load_by_four<R: Threads + Sync>(
     rt: &R,
-    alloc: Global,
+    words: &Published<u64>,
+    log: &mut LogPass<u64>,
     way: Way,
-) -> anyhow::Result<()> {
-    let start = Instant::now(rt)?;
-    let (words, mut log) = Published::new(alloc)?;
-    let one = (words.session(&mut log), words.session(&mut log));
-    let other = (words.session(&mut log), words.session(&mut log));
-    let words = &words;
+) -> u64
+    requires { log.old.table ≡ words.now }
+{
+    let one = (words.session(log), words.session(log));
+    let other = (words.session(log), words.session(log));
     let (one, other) = join(
         rt,
         move ||
@@ -123,9 +117,39 @@ pub fn by_four<R: Clock + Eprint + Threads + Sync>(
             requires { (other.0.table ≡ words.now) × (other.1.table ≡ words.now) }
         { load_by_two(rt, words, other, way) },
     );
-    let done = Done {
-        amount: 4 * LOADS,
-        answer: one.wrapping_add(other),
-    };
+    one.wrapping_add(other)
+}
+
+fn load_by<R: Threads + Sync>(
+    rt: &R,
+    words: &Published<u64>,
+    log: &mut LogPass<u64>,
+    by: By,
+    way: Way,
+) -> Done
+    requires { log.old.table ≡ words.now }
+{
+    match by {
+        By::One => Done {
+            amount: LOADS,
+            answer: load(words, words.session(log), way),
+        },
+        By::Four => Done {
+            amount: 4 * LOADS,
+            answer: load_by_four(rt, words, log, way),
+        },
+    }
+}
+
+/// Loads by so many threads at once; prints how long they took.
+pub fn measure<R: Clock + Eprint + Threads + Sync>(
+    rt: &R,
+    alloc: Global,
+    by: By,
+    way: Way,
+) -> anyhow::Result<()> {
+    let start = Instant::now(rt)?;
+    let (words, mut log) = Published::new(alloc)?;
+    let done = load_by(rt, &words, &mut log, by, way);
     print_since(rt, "latest", start, done)
 }

@@ -7,6 +7,7 @@
 //! Each measure has a file; `timing.rt` prints what one found, and `sample.rt` has the records of two.
 #![tactic(auto)]
 
+pub mod changes;
 pub mod codec;
 pub mod crowd;
 pub mod doubts;

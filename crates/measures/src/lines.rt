@@ -90,13 +90,12 @@ impl Answers for Idle {
 }
 
 // So many lines of this kind.
-fn input_of(alloc: Global, kind: Kind, count: u32) -> Result<Vec<u8>, AllocError> {
-    let mut input = Vec::new(alloc);
+fn push_lines(input: &mut Vec<u8>, kind: Kind, count: u32) -> Result<(), AllocError> {
     for _ in 0..count {
         input.extend_from_slice(kind.line().as_bytes())?;
         input.extend_from_slice(b"\n")?;
     }
-    Ok(input)
+    Ok(())
 }
 
 /// Answers so many lines of one kind, and prints how long they took. What it answers is how many were asked, and the bytes of the answers.
@@ -106,7 +105,8 @@ pub fn measure(
     kind: Kind,
     count: u32,
 ) -> anyhow::Result<()> {
-    let input = input_of(alloc, kind, count)?;
+    let mut input = Vec::new(alloc);
+    push_lines(&mut input, kind, count)?;
     let mut idle = Idle { alloc, asked: 0 };
     let mut output = Vec::new(alloc);
     measure_in(rt, alloc, &input, &mut output, &mut idle, count)

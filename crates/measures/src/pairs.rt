@@ -1,5 +1,5 @@
 // Connections that are put and taken.
-ghost use Rattle.std.specs.Prelude.{◌≡◌};
+ghost use Rattle.std.specs.Prelude.{◌≡◌, All};
 
 use crate::timing::{Done, print_since};
 use connections::{AcceptorPass, Connections, WorkerPass};
@@ -8,21 +8,29 @@ use std::sync::Wait;
 use std::thread::{self, Threads, join};
 use std::time::{Clock, Instant};
 
+/// Whether one thread puts and takes, or two do one each.
+#[derive(Clone, Copy)]
+pub enum By {
+    One,
+    Two,
+}
+
 // Puts connections and takes each at once, and adds up their numbers.
 fn put_and_take<R: Wait>(
     rt: &R,
     queue: &Connections<u64>,
-    acceptor: &mut AcceptorPass<u64>,
+    acceptor: AcceptorPass<u64>,
     worker: WorkerPass<u64>,
     count: u32,
 ) -> u64
-    requires acceptor { (acceptor.old.queue ≡ queue.now) × (acceptor.old.put ≡ 0) }
+    requires acceptor { (acceptor.queue ≡ queue.now) × (acceptor.put ≡ 0) }
     requires worker { worker.queue ≡ queue.now }
 {
+    let mut acceptor = acceptor;
     let mut worker = worker;
     let mut sum = 0u64;
     for connection in 0..u64::from(count) {
-        if queue.put(rt, acceptor, connection).is_err() {
+        if queue.put(rt, &mut acceptor, connection).is_err() {
             break;
         }
         if let Some((number, _connection)) = queue.take(rt, &mut worker) {
@@ -30,21 +38,6 @@ fn put_and_take<R: Wait>(
         }
     }
     sum
-}
-
-/// So many pairs of a put and a take by one thread; prints how long they took.
-pub fn by_one<R: Clock + Eprint + Wait>(rt: &R, alloc: Global, count: u32) -> anyhow::Result<()> {
-    let start = Instant::now(rt)?;
-    let (queue, mut acceptor, mut workers) = Connections::new(alloc, 1)?;
-    let Some(worker) = workers.pop() else {
-        anyhow::bail!("no worker");
-    };
-    let answer = put_and_take(rt, &queue, &mut acceptor, worker, count);
-    let done = Done {
-        amount: u64::from(count),
-        answer,
-    };
-    print_since(rt, "pairs", start, done)
 }
 
 // Puts all connections. One that comes back is put again.
@@ -106,21 +99,39 @@ fn hand_over<R: Threads + Wait + Sync>(
     sum
 }
 
-/// So many pairs of a put by one thread and a take by another; prints how long they took.
-pub fn by_two<R: Clock + Eprint + Threads + Wait + Sync>(
+// The sum of the numbers that were taken, where there is a worker.
+fn pass_on<R: Threads + Wait + Sync>(
+    rt: &R,
+    queue: &Connections<u64>,
+    acceptor: AcceptorPass<u64>,
+    mut workers: Vec<WorkerPass<u64>>,
+    by: By,
+    count: u32,
+) -> u64
+    requires acceptor { (acceptor.queue ≡ queue.now) × (acceptor.put ≡ 0) }
+    requires workers { All (λ w. w.queue ≡ queue.now) workers.items }
+{
+    let Some(worker) = workers.pop() else {
+        return 0;
+    };
+    match by {
+        By::One => put_and_take(rt, queue, acceptor, worker, count),
+        By::Two => hand_over(rt, queue, acceptor, worker, count),
+    }
+}
+
+/// So many pairs of a put and a take, by one thread or by one each; prints how long they took.
+pub fn measure<R: Clock + Eprint + Threads + Wait + Sync>(
     rt: &R,
     alloc: Global,
+    by: By,
     count: u32,
 ) -> anyhow::Result<()> {
     let start = Instant::now(rt)?;
-    let (queue, acceptor, mut workers) = Connections::new(alloc, 1)?;
-    let Some(worker) = workers.pop() else {
-        anyhow::bail!("no worker");
-    };
-    let answer = hand_over(rt, &queue, acceptor, worker, count);
+    let (queue, acceptor, workers) = Connections::new(alloc, 1)?;
     let done = Done {
         amount: u64::from(count),
-        answer,
+        answer: pass_on(rt, &queue, acceptor, workers, by, count),
     };
     print_since(rt, "pairs", start, done)
 }

@@ -2,11 +2,12 @@
 ghost use Rattle.std.specs.Prelude.{IfOk};
 ghost use Rattle.measures.specs.Reads.{Found};
 
+use crate::changes::{push_touch, push_touches};
 use crate::timing::{Done, print, print_since};
 use std::alloc::{AllocError, Global};
 use std::rt::Clock;
 use std::time::Instant;
-use tuples::{Change, Refusal, Tuple, Tupleset};
+use tuples::{Change, Refusal, Tupleset};
 use versions::Versions;
 
 // How many tuples an object has.
@@ -18,14 +19,20 @@ const READS: u64 = 10_000;
 // How many users the crowd has.
 const CROWD: u32 = 10_000;
 
+// What is read of the rows, and with the crowd beside them, each with its name.
+const OF_ROWS: &[(&str, &str)] = &[("key", "doc:d5#viewer@u3"), ("object", "doc:d5")];
+
+const OF_CROWD: &[(&str, &str)] = &[("crowded", "doc:crowd#editor"), ("user", "doc@me")];
+
 /// Applies so many rows, a write of one change each (`apply`), reads a key (`key`) and an object (`object`) of them, and with a crowd beside
 /// them the ten editors of what it views (`crowded`) and the ten objects of one user (`user`). Then it asks for the newest place of each
 /// tuple (`last`), and forgets half of the rows once each tuple was changed again (`collect`). It prints how long each took. What a read
 /// answers is how many tuples it found.
 pub fn measure(rt: &(impl Clock + Eprint), alloc: Global, rows: u32) -> anyhow::Result<()> {
-    let changes = changes(alloc, rows)?;
     let mut versions = Versions::new(alloc);
-    measure_all(rt, alloc, &mut versions, &changes, rows)
+    let mut changes = Vec::new(alloc);
+    let mut crowd = Vec::new(alloc);
+    measure_all(rt, alloc, &mut versions, &mut changes, &mut crowd, rows)
 }
 
 // What is measured is lent, since each way out of a function that owns it is proved.
@@ -33,14 +40,16 @@ fn measure_all(
     rt: &(impl Clock + Eprint),
     alloc: Global,
     versions: &mut Versions,
-    changes: &[Change],
+    changes: &mut Vec<Change>,
+    crowd: &mut Vec<Change>,
     rows: u32,
 ) -> anyhow::Result<()> {
+    push_rows(alloc, changes, rows)?;
     let place = u64::from(rows);
     apply(rt, versions, changes)?;
-    read_all(rt, alloc, versions, place)?;
-    apply_crowd(alloc, versions, place + 1)?;
-    read_crowd(rt, alloc, versions)?;
+    read_each(rt, alloc, versions, place, OF_ROWS)?;
+    apply_crowd(alloc, versions, crowd, place + 1)?;
+    read_each(rt, alloc, versions, u64::MAX, OF_CROWD)?;
     last(rt, versions, changes)?;
     apply_all(versions, place + 1, changes)?;
     collect(rt, versions, changes, place + place / 2)
@@ -53,20 +62,13 @@ fn apply(
 ) -> anyhow::Result<()> {
     let start = Instant::now(rt)?;
     apply_all(versions, 1, changes)?;
-    let done = Done {
-        amount: changes.len() as u64,
-        answer: changes.len() as u64,
-    };
-    print_since(rt, "apply", start, done)
+    print_since(rt, "apply", start, done_of(changes, changes.len() as u64))
 }
 
 fn last(rt: &(impl Clock + Eprint), versions: &Versions, changes: &[Change]) -> anyhow::Result<()> {
     let start = Instant::now(rt)?;
-    let done = Done {
-        amount: changes.len() as u64,
-        answer: newest(versions, changes),
-    };
-    print_since(rt, "last", start, done)
+    let newest = newest(versions, changes);
+    print_since(rt, "last", start, done_of(changes, newest))
 }
 
 // What lies below the horizon is forgotten.
@@ -79,11 +81,15 @@ fn collect(
     let start = Instant::now(rt)?;
     versions.collect(horizon);
     let elapsed = start.elapsed(rt)?;
-    let done = Done {
+    let newest = newest(versions, changes);
+    print(rt, "collect", elapsed, done_of(changes, newest))
+}
+
+fn done_of(changes: &[Change], answer: u64) -> Done {
+    Done {
         amount: changes.len() as u64,
-        answer: newest(versions, changes),
-    };
-    print(rt, "collect", elapsed, done)
+        answer,
+    }
 }
 
 // The newest place of all tuples.
@@ -95,49 +101,24 @@ fn newest(versions: &Versions, changes: &[Change]) -> u64 {
     newest
 }
 
-fn read_all(
+// Reads the tupleset of each text, and prints by its name how long that took.
+fn read_each(
     rt: &(impl Clock + Eprint),
     alloc: Global,
     versions: &Versions,
     place: u64,
+    reads: &[(&str, &str)],
 ) -> anyhow::Result<()> {
-    read(rt, alloc, versions, place, "key", "doc:d5#viewer@u3")?;
-    read(rt, alloc, versions, place, "object", "doc:d5")
-}
-
-fn read_crowd(
-    rt: &(impl Clock + Eprint),
-    alloc: Global,
-    versions: &Versions,
-) -> anyhow::Result<()> {
-    read(rt, alloc, versions, u64::MAX, "crowded", "doc:crowd#editor")?;
-    read(rt, alloc, versions, u64::MAX, "user", "doc@me")
+    for (name, text) in reads {
+        let set = Tupleset::parse(alloc, text.as_bytes())?;
+        let read = read(rt, alloc, versions, place, name, &set);
+        drop(set);
+        read?;
+    }
+    Ok(())
 }
 
 fn read(
-    rt: &(impl Clock + Eprint),
-    alloc: Global,
-    versions: &Versions,
-    place: u64,
-    name: &str,
-    text: &str,
-) -> anyhow::Result<()> {
-    let sets = sets_of(alloc, text)?;
-    let Some(set) = sets.first() else {
-        return Ok(());
-    };
-    read_set(rt, alloc, versions, place, name, set)
-}
-
-// The tupleset with this text, alone in a list: on the heap its parts take no part in the proof of who owns them.
-fn sets_of(alloc: Global, text: &str) -> Result<Vec<Tupleset>, Refusal> {
-    let mut sets = Vec::new(alloc);
-    sets.reserve(1)?;
-    sets.push_reserved(Tupleset::parse(alloc, text.as_bytes())?);
-    Ok(sets)
-}
-
-fn read_set(
     rt: &(impl Clock + Eprint),
     alloc: Global,
     versions: &Versions,
@@ -172,46 +153,26 @@ fn found(
 }
 
 // Touches of the tuples of `doc:d0`, then of those of `doc:d1`, and so on.
-fn changes(alloc: Global, rows: u32) -> Result<Vec<Change>, Refusal> {
-    let mut changes = Vec::new(alloc);
+fn push_rows(alloc: Global, changes: &mut Vec<Change>, rows: u32) -> Result<(), Refusal> {
     for row in 0..rows {
         let text = format!(in alloc; "doc:d{}#viewer@u{}", row / USERS, row % USERS)?;
-        touch(alloc, &mut changes, text.as_str())?;
+        push_touch(alloc, changes, text.as_bytes())?;
     }
-    Ok(changes)
+    Ok(())
 }
 
 // Many users view one object that ten of them edit, and one user views ten objects.
-fn apply_crowd(alloc: Global, versions: &mut Versions, from: u64) -> Result<(), Refusal> {
-    let mut changes = Vec::new(alloc);
-    touch_each(alloc, &mut changes, CROWD, "doc:crowd#viewer@u", "")?;
-    touch_each(alloc, &mut changes, USERS, "doc:crowd#editor@u", "")?;
-    touch_each(alloc, &mut changes, USERS, "doc:m", "#viewer@me")?;
-    apply_all(versions, from, &changes)?;
-    Ok(())
-}
-
-// Touches of tuples whose texts have a number from 0 on between these parts.
-fn touch_each(
+fn apply_crowd(
     alloc: Global,
-    changes: &mut Vec<Change>,
-    count: u32,
-    before: &str,
-    after: &str,
+    versions: &mut Versions,
+    crowd: &mut Vec<Change>,
+    from: u64,
 ) -> Result<(), Refusal> {
-    for number in 0..count {
-        let text = format!(in alloc; "{before}{number}{after}")?;
-        touch(alloc, changes, text.as_str())?;
-    }
+    push_touches(alloc, crowd, CROWD, "doc:crowd#viewer@u", "")?;
+    push_touches(alloc, crowd, USERS, "doc:crowd#editor@u", "")?;
+    push_touches(alloc, crowd, USERS, "doc:m", "#viewer@me")?;
+    apply_all(versions, from, crowd)?;
     Ok(())
-}
-
-fn touch(alloc: Global, changes: &mut Vec<Change>, text: &str) -> Result<(), Refusal> {
-    let change = Change::Touch(Tuple::parse(alloc, text.as_bytes())?);
-    match changes.push(change) {
-        Ok(()) => Ok(()),
-        Err(error) => Err(AllocError::from(error).into()),
-    }
 }
 
 // Each at a place of its own, from this one on.

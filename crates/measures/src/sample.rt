@@ -4,59 +4,64 @@ ghost use Rattle.records.specs.Format.{AreRecords};
 
 use records::{Record, VERSION, decode_batch};
 use std::alloc::{AllocError, Global};
-use std::io::{self, ErrorKind};
+use tuples::Refusal;
 
-// A touch of `doc:a#viewer@u1`, and the condition that it is not there.
-const TOUCH_WHERE_ABSENT: [u8; 38] = [
+// A batch up to how many records it has.
+const HEAD: &[&[u8]] = &[&[VERSION]];
+
+// A prepare up to the number of its write in epoch 1, of whose eight bytes the last two follow.
+const PREPARE: &[&[u8]] = &[&[1, 0, 0, 0, 0, 0, 0, 0, 1, 0, 0, 0, 0, 0, 0]];
+
+// Behind it a touch of `doc:a#viewer@u1`, and the condition that it is not there.
+const TOUCH_WHERE_ABSENT: &[u8] = &[
     1, 1, 3, 0x64, 0x6f, 0x63, 1, 0x61, 6, 0x76, 0x69, 0x65, 0x77, 0x65, 0x72, 1, 2, 0x75, 0x31, 1,
     3, 0x64, 0x6f, 0x63, 1, 0x61, 6, 0x76, 0x69, 0x65, 0x77, 0x65, 0x72, 1, 2, 0x75, 0x31, 3,
 ];
 
-fn push_u64(bytes: &mut Vec<u8>, number: u16) -> Result<(), AllocError> {
-    bytes.extend_from_slice(&u64::from(number).to_be_bytes())
+// That a write of epoch 1 was learned, up to the place that was learned, the number of the one write, and its place.
+const LEARNED: &[&[u8]] = &[
+    &[2, 0, 0, 0, 0, 0, 0],
+    &[0, 1, 0, 0, 0, 0, 0, 0, 0, 1, 0, 0, 0, 0, 0, 0],
+    &[0, 0, 0, 0, 0, 0],
+];
+
+// These bytes, the number behind each of them, and then the rest.
+fn push_numbered(
+    bytes: &mut Vec<u8>,
+    parts: &[&[u8]],
+    number: u16,
+    rest: &[u8],
+) -> Result<(), AllocError> {
+    for part in parts {
+        bytes.extend_from_slice(part)?;
+        bytes.extend_from_slice(&number.to_be_bytes())?;
+    }
+    bytes.extend_from_slice(rest)
 }
 
-// The id of the write of this number, in epoch 1.
-fn push_id(bytes: &mut Vec<u8>, number: u16) -> Result<(), AllocError> {
-    push_u64(bytes, 1)?;
-    push_u64(bytes, number)
-}
-
-fn push_prepare(bytes: &mut Vec<u8>, number: u16) -> Result<(), AllocError> {
-    bytes.push(1)?;
-    push_id(bytes, number)?;
-    bytes.extend_from_slice(&TOUCH_WHERE_ABSENT)
-}
-
-// The write of this number was learned, at the place of its number.
-fn push_learned(bytes: &mut Vec<u8>, number: u16) -> Result<(), AllocError> {
-    bytes.push(2)?;
-    push_u64(bytes, number)?;
-    bytes.extend_from_slice(&[0, 1])?;
-    push_id(bytes, number)?;
-    push_u64(bytes, number)
+// What was learned of the write of a number has that place.
+fn push_batch(bytes: &mut Vec<u8>, count: u16) -> Result<(), AllocError> {
+    push_numbered(bytes, HEAD, count, &[])?;
+    for i in 0..count {
+        if i % 2 == 0 {
+            push_numbered(bytes, PREPARE, i + 1, TOUCH_WHERE_ABSENT)?;
+        } else {
+            push_numbered(bytes, LEARNED, i, &[])?;
+        }
+    }
+    Ok(())
 }
 
 /// The bytes of a batch of so many records.
 pub fn batch_of(alloc: Global, count: u16) -> Result<Vec<u8>, AllocError> {
-    let mut bytes = vec![in alloc; VERSION]?;
-    bytes.extend_from_slice(&count.to_be_bytes())?;
-    for i in 0..count {
-        if i % 2 == 0 {
-            push_prepare(&mut bytes, i + 1)?;
-        } else {
-            push_learned(&mut bytes, i)?;
-        }
-    }
+    let mut bytes = Vec::new(alloc);
+    push_batch(&mut bytes, count)?;
     Ok(bytes)
 }
 
 /// The records of a batch.
-pub fn records_of(alloc: Global, bytes: &[u8]) -> io::Result<Vec<Record>>
+pub fn records_of(alloc: Global, bytes: &[u8]) -> Result<Vec<Record>, Refusal>
     ensures { IfOk result (λ rs. AreRecords rs.items) }
 {
-    match decode_batch(alloc, bytes) {
-        Ok(records) => Ok(records),
-        Err(_) => Err(io::Error::from(ErrorKind::InvalidData)),
-    }
+    decode_batch(alloc, bytes)
 }

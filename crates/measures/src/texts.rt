@@ -15,63 +15,63 @@ const TEXTS: u32 = 1000;
 /// Reads so many tuples, to the next thousand below, from their texts (`parse`) and writes them (`write`), and prints how long
 /// each took. What it answers is how many tuples or bytes the last pass made.
 pub fn measure(rt: &(impl Clock + Eprint), alloc: Global, count: u32) -> anyhow::Result<()> {
-    let texts = texts(alloc)?;
+    let mut texts = Vec::new(alloc);
     let mut tuples = Vec::new(alloc);
     let mut out = Vec::new(alloc);
-    measure_all(rt, alloc, &texts, &mut tuples, &mut out, count)
+    measure_all(rt, alloc, &mut texts, &mut tuples, &mut out, count)
 }
 
 // What is measured is lent, since each way out of a function that owns it is proved.
 fn measure_all(
     rt: &(impl Clock + Eprint),
     alloc: Global,
-    texts: &[Vec<u8>],
+    texts: &mut Vec<Vec<u8>>,
     tuples: &mut Vec<Tuple>,
     out: &mut Vec<u8>,
     count: u32,
 ) -> anyhow::Result<()> {
-    measure_reading(rt, alloc, texts, tuples, count)?;
+    push_texts(alloc, texts)?;
+    let passes = count / TEXTS;
     let start = Instant::now(rt)?;
-    for _ in 0..count / TEXTS {
-        write_all(tuples, out)?;
-    }
-    print_since(rt, "write", start, done_in(count, out.len()))
+    parse_again(alloc, texts, tuples, passes)?;
+    print_since(rt, "parse", start, done_in(passes, tuples.len()))?;
+    let start = Instant::now(rt)?;
+    write_again(tuples, out, passes)?;
+    print_since(rt, "write", start, done_in(passes, out.len()))
 }
 
-fn measure_reading(
-    rt: &(impl Clock + Eprint),
-    alloc: Global,
-    texts: &[Vec<u8>],
-    tuples: &mut Vec<Tuple>,
-    count: u32,
-) -> anyhow::Result<()> {
-    let start = Instant::now(rt)?;
-    for _ in 0..count / TEXTS {
-        parse_all(alloc, texts, tuples)?;
-    }
-    print_since(rt, "parse", start, done_in(count, tuples.len()))
-}
-
-// So many, to the next thousand below.
-fn done_in(count: u32, answer: usize) -> Done {
+fn done_in(passes: u32, answer: usize) -> Done {
     Done {
-        amount: u64::from(count - count % TEXTS),
+        amount: u64::from(passes) * u64::from(TEXTS),
         answer: answer as u64,
     }
 }
 
 // Half of them name a user, and half a userset.
-fn texts(alloc: Global) -> Result<Vec<Vec<u8>>, AllocError> {
-    let mut texts = Vec::new(alloc);
+fn push_texts(alloc: Global, texts: &mut Vec<Vec<u8>>) -> Result<(), AllocError> {
     for number in 0..TEXTS {
-        let text = if number % 2 == 0 {
-            format!(in alloc; "doc:d{number}#viewer@u{number}")?
+        let (before, after) = if number % 2 == 0 {
+            ("u", "")
         } else {
-            format!(in alloc; "doc:d{number}#viewer@group:g{number}#member")?
+            ("group:g", "#member")
         };
-        texts.push(text.into_bytes())?;
+        texts.reserve(1)?;
+        let text = format!(in alloc; "doc:d{number}#viewer@{before}{number}{after}")?;
+        texts.push_reserved(text.into_bytes());
     }
-    Ok(texts)
+    Ok(())
+}
+
+fn parse_again(
+    alloc: Global,
+    texts: &[Vec<u8>],
+    tuples: &mut Vec<Tuple>,
+    passes: u32,
+) -> Result<(), Refusal> {
+    for _ in 0..passes {
+        parse_all(alloc, texts, tuples)?;
+    }
+    Ok(())
 }
 
 // The tuples of the texts, in place of those that were there.
@@ -80,10 +80,15 @@ fn parse_all(alloc: Global, texts: &[Vec<u8>], tuples: &mut Vec<Tuple>) -> Resul
 {
     tuples.clear();
     for text in texts {
-        let tuple = Tuple::parse(alloc, text)?;
-        if let Err(error) = tuples.push(tuple) {
-            return Err(AllocError::from(error).into());
-        }
+        tuples.reserve(1)?;
+        tuples.push_reserved(Tuple::parse(alloc, text)?);
+    }
+    Ok(())
+}
+
+fn write_again(tuples: &[Tuple], out: &mut Vec<u8>, passes: u32) -> Result<(), AllocError> {
+    for _ in 0..passes {
+        write_all(tuples, out)?;
     }
     Ok(())
 }

@@ -1,6 +1,7 @@
 // What a measure found.
 use std::rt::Clock;
 use std::time::{Duration, Instant};
+use tuples::Refusal;
 
 /// How much was done, and what it gave.
 #[derive(Clone, Copy)]
@@ -27,4 +28,20 @@ pub fn print(rt: &impl Eprint, name: &str, elapsed: Duration, done: Done) -> any
     let nanoseconds = elapsed.as_nanos();
     eprintln!(rt; "{name} {} {nanoseconds} {}", done.amount, done.answer)?;
     Ok(())
+}
+
+/// What the clock says, where a step is timed that may be refused itself; `Down` where it says nothing.
+pub fn now(rt: &impl Clock) -> Result<Instant, Refusal> {
+    match Instant::now(rt) {
+        Ok(now) => Ok(now),
+        Err(_) => Err(Refusal::Down),
+    }
+}
+
+/// How long ago that was, likewise.
+pub fn since(rt: &impl Clock, start: Instant) -> Result<Duration, Refusal> {
+    match start.elapsed(rt) {
+        Ok(elapsed) => Ok(elapsed),
+        Err(_) => Err(Refusal::Down),
+    }
 }

@@ -1,4 +1,4 @@
-use Rattle.bench.proofs.deciding.leave_intents.Given as goal
+use Rattle.bench.proofs.clearing.clear_intents.Given as goal
 
 abbrev pub decreases-loop-intent : goal.decreases-loop-intent
 decreases-loop-intent l = goal.left-loop-intent l

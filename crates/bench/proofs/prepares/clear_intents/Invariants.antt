@@ -1,4 +1,0 @@
-use Rattle.bench.proofs.prepares.clear_intents.Given as goal
-
-abbrev pub decreases-loop-intent : goal.decreases-loop-intent
-decreases-loop-intent l = goal.left-loop-intent l
