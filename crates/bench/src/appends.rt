@@ -2,11 +2,12 @@
 use device::Device;
 use files::open;
 use gated::GatedLog;
-use measures::timing::{Done, print};
+use measures::timing::{now, print, since};
 use std::alloc::Global;
 use std::fs;
 use std::rt::Clock;
-use std::time::{Duration, Instant};
+use std::time::Duration;
+use tuples::Refusal;
 
 // The file in the current folder, which the measure makes and removes.
 const NAME: &str = "bench.log";
@@ -28,20 +29,15 @@ pub(crate) fn count_of(words: &[String]) -> Option<u32> {
 }
 
 /// Appends so many bodies to a log over a file of the current folder, and prints how long they took. What it answers is the bytes of the file.
-pub(crate) fn measure(rt: &HostRuntime, alloc: Global, count: u32) -> anyhow::Result<()> {
+pub(crate) fn measure(rt: &HostRuntime, alloc: Global, count: u32) -> Result<(), Refusal> {
     let _ = fs::remove_file(rt, NAME);
-    let elapsed = append_to_file(rt, alloc, count)?;
-    let done = Done {
-        amount: u64::from(count),
-        answer: fs::metadata(rt, NAME)?.len(),
-    };
-    fs::remove_file(rt, NAME)?;
-    print(rt, "append", elapsed, done)
-}
-
-fn append_to_file(rt: &HostRuntime, alloc: Global, count: u32) -> anyhow::Result<Duration> {
     let device = open(rt, alloc, ".", NAME)?;
-    append_to(rt, alloc, device, count)
+    let elapsed = append_to(rt, alloc, device, count)?;
+    let Ok(file) = fs::metadata(rt, NAME) else {
+        return Err(Refusal::Down);
+    };
+    let _ = fs::remove_file(rt, NAME);
+    print(rt, "append", elapsed, u64::from(count), file.len())
 }
 
 fn append_to<D: Device>(
@@ -49,10 +45,10 @@ fn append_to<D: Device>(
     alloc: Global,
     device: D,
     count: u32,
-) -> anyhow::Result<Duration> {
+) -> Result<Duration, Refusal> {
     match GatedLog::open(alloc, device) {
         Ok((mut log, _)) => append_all(rt, &mut log, count),
-        Err((refusal, _)) => Err(refusal.into()),
+        Err((refusal, _)) => Err(refusal),
     }
 }
 
@@ -60,11 +56,11 @@ fn append_all<D: Device>(
     rt: &impl Clock,
     log: &mut GatedLog<D>,
     count: u32,
-) -> anyhow::Result<Duration> {
+) -> Result<Duration, Refusal> {
     let mut buffer = [7; BUFFER];
-    let start = Instant::now(rt)?;
+    let start = now(rt)?;
     for _ in 0..count {
         log.append(&mut buffer)?;
     }
-    Ok(start.elapsed(rt)?)
+    since(rt, start)
 }

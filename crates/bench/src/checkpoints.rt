@@ -2,11 +2,11 @@
 use crate::openings::{Node, made, time_shard};
 use crate::touches::open_shard;
 use device::Device;
-use measures::timing::{Done, print_since};
+use measures::timing::{now, print_since};
 use shard::Shard;
 use std::alloc::Global;
 use std::rt::Clock;
-use std::time::Instant;
+use tuples::Refusal;
 
 /// Opens a shard over the records of so many writes of one touch, each of a tuple of its own, and prints how long three steps take: its checkpoint
 /// (`checkpoint`, whose answer is how many bytes the bank then has), the same once more into the other bank (`again`), and an opening behind them
@@ -15,7 +15,7 @@ pub(crate) fn measure(
     rt: &(impl Clock + Eprint),
     alloc: Global,
     writes: u32,
-) -> anyhow::Result<()> {
+) -> Result<(), Refusal> {
     let (a, b) = made(alloc, Node::Shard, writes)?;
     let mut shard = open_shard(alloc, a, b)?;
     let amount = u64::from(writes);
@@ -30,7 +30,7 @@ fn point_twice<D: Device>(
     alloc: Global,
     shard: &mut Shard<D>,
     amount: u64,
-) -> anyhow::Result<()> {
+) -> Result<(), Refusal> {
     point(rt, alloc, shard, "checkpoint", amount)?;
     point(rt, alloc, shard, "again", amount)
 }
@@ -42,12 +42,8 @@ fn point<D: Device>(
     shard: &mut Shard<D>,
     name: &str,
     amount: u64,
-) -> anyhow::Result<()> {
-    let start = Instant::now(rt)?;
+) -> Result<(), Refusal> {
+    let start = now(rt);
     shard.checkpoint(alloc)?;
-    let done = Done {
-        amount,
-        answer: shard.bank_len(),
-    };
-    print_since(rt, name, start, done)
+    print_since(rt, name, start, amount, Ok(shard.bank_len()))
 }

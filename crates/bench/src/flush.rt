@@ -5,11 +5,10 @@ use crate::touches::{open_journal, two_disks};
 use device::{Device, SimDisk};
 use journal::{Journal, is_plain};
 use measures::sample::{batch_of, records_of};
-use measures::timing::{Done, print};
+use measures::timing::{now, print_since};
 use records::Record;
 use std::alloc::Global;
 use std::rt::Clock;
-use std::time::Instant;
 use tuples::Refusal;
 
 /// How many records are flushed in all, at least.
@@ -46,9 +45,13 @@ fn calls_of_a(journal: &Journal<SimDisk>) -> u64 {
 }
 
 /// Flushes batches of so many records, and prints the bytes and how long they took. What it answers is the device calls of a flush.
-pub(crate) fn measure(rt: &(impl Clock + Eprint), alloc: Global, count: u32) -> anyhow::Result<()> {
+pub(crate) fn measure(
+    rt: &(impl Clock + Eprint),
+    alloc: Global,
+    count: u32,
+) -> Result<(), Refusal> {
     let Ok(count) = u16::try_from(count) else {
-        anyhow::bail!("a measure is wanted, with its count where it takes one");
+        return Err(Refusal::TooLarge);
     };
     let bytes = batch_of(alloc, count)?;
     let records = records_of(alloc, &bytes)?;
@@ -62,7 +65,7 @@ fn measure_of(
     records: &[Record],
     size: usize,
     count: u16,
-) -> anyhow::Result<()>
+) -> Result<(), Refusal>
     requires { AreRecords records.now }
 {
     let (a, b) = two_disks(alloc)?;
@@ -78,17 +81,14 @@ fn measure_in(
     records: &[Record],
     size: usize,
     count: u16,
-) -> anyhow::Result<()>
+) -> Result<(), Refusal>
     requires { AreRecords records.now }
 {
     let rounds = RECORDS / u32::from(count).max(1);
     let before = calls_of_a(journal);
-    let start = Instant::now(rt)?;
+    let start = now(rt);
     flush_rounds(journal, records, rounds)?;
-    let elapsed = start.elapsed(rt)?;
-    let done = Done {
-        amount: u64::from(rounds).saturating_mul(size as u64),
-        answer: calls_of_a(journal).saturating_sub(before) / u64::from(rounds).max(1),
-    };
-    print(rt, "flush", elapsed, done)
+    let calls = calls_of_a(journal).saturating_sub(before) / u64::from(rounds).max(1);
+    let amount = u64::from(rounds).saturating_mul(size as u64);
+    print_since(rt, "flush", start, amount, Ok(calls))
 }

@@ -13,6 +13,7 @@ mod clearing;
 mod flush;
 mod measure;
 mod openings;
+mod steps;
 mod touches;
 mod writes;
 
@@ -50,7 +51,8 @@ fn main(rt: HostRuntime) -> ExitCode {
 
 // The one measure over a file of the system, which only the host's own runtime opens.
 fn append(rt: &HostRuntime, alloc: Global, count: u32) -> anyhow::Result<()> {
-    appends::measure(rt, alloc, count)
+    appends::measure(rt, alloc, count)?;
+    Ok(())
 }
 
 // The words of the command line, the program's own first.
@@ -66,7 +68,8 @@ fn run<R: Runtime + Threads + Wait + Sync>(
         return Ok(());
     }
     match Measure::read(words) {
-        Some((measure, count)) => measure.run(rt, alloc, count),
+        Some((measure, count)) => measure.run(rt, alloc, count)?,
         None => anyhow::bail!("a measure is wanted, with its count where it takes one"),
     }
+    Ok(())
 }

@@ -8,6 +8,7 @@ use std::alloc::Global;
 use std::rt::Clock;
 use std::sync::Wait;
 use std::thread::Threads;
+use tuples::Refusal;
 
 /// What was asked for; how much of it stands beside it.
 #[derive(Clone, Copy)]
@@ -103,12 +104,19 @@ impl Measure {
             [_, name] => Some((find(UNCOUNTED, name.as_str())?, 0)),
             [_, name, count] => {
                 let count = count.as_str().parse::<u32>().ok()?;
-                if count == 0 && name.as_str() != "prepares" {
-                    return None;
-                }
-                Some((find(COUNTED, name.as_str())?, count))
+                let measure = find(COUNTED, name.as_str())?;
+                measure.takes(count).then_some((measure, count))
             }
             _ => None,
+        }
+    }
+
+    // A batch has at most 65,535 records, and of writes in doubt there may be none.
+    fn takes(self, count: u32) -> bool {
+        match self {
+            Measure::Prepares => true,
+            Measure::Flush => count != 0 && count <= u32::from(u16::MAX),
+            _ => count != 0,
         }
     }
 
@@ -118,7 +126,7 @@ impl Measure {
         rt: &R,
         alloc: Global,
         count: u32,
-    ) -> anyhow::Result<()> {
+    ) -> Result<(), Refusal> {
         match self {
             Measure::Texts => texts::measure(rt, alloc, count),
             Measure::Codec => codec::measure(rt, alloc, count),

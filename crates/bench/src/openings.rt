@@ -7,12 +7,10 @@ ghost use Rattle.records.specs.Format.{IsRecord};
 use crate::touches::{STORE, open_coordinator, open_journal, open_shard, two_disks, write_of};
 use device::{Device, SimDisk};
 use journal::Journal;
-use measures::timing::{Done, print, print_since};
+use measures::timing::{now, print_since};
 use records::{COORDINATOR, PlacedId, PlacedIds, Record};
-use shard::Shard;
 use std::alloc::{AllocError, Global};
 use std::rt::Clock;
-use std::time::Instant;
 use tuples::{Entry, Refusal, WriteId};
 
 /// The node whose records are made: the coordinator, or the only shard of its store.
@@ -47,14 +45,12 @@ pub(crate) fn records(
     alloc: Global,
     node: Node,
     writes: u32,
-) -> anyhow::Result<()> {
-    let start = Instant::now(rt)?;
+) -> Result<(), Refusal> {
+    let start = now(rt);
     let (mut a, _b) = made(alloc, node, writes)?;
-    let done = Done {
-        amount: node.records_of(writes),
-        answer: a.len().unwrap_or(0) as u64,
-    };
-    print_since(rt, node.names().0, start, done)
+    let size = a.len().unwrap_or(0) as u64;
+    let (name, _) = node.names();
+    print_since(rt, name, start, node.records_of(writes), Ok(size))
 }
 
 /// Opens a node over such records (`opening`, `shard-opening`), and prints how long that took. What it answers is the place of the last write.
@@ -63,7 +59,7 @@ pub(crate) fn opening(
     alloc: Global,
     node: Node,
     writes: u32,
-) -> anyhow::Result<()> {
+) -> Result<(), Refusal> {
     let (a, b) = made(alloc, node, writes)?;
     let (_, name) = node.names();
     let records = node.records_of(writes);
@@ -80,14 +76,12 @@ fn time_coordinator<D: Device>(
     b: D,
     name: &str,
     amount: u64,
-) -> anyhow::Result<()> {
-    let start = Instant::now(rt)?;
+) -> Result<(), Refusal> {
+    let start = now(rt);
     let coordinator = open_coordinator(alloc, a, b)?;
-    let done = Done {
-        amount,
-        answer: coordinator.kept(),
-    };
-    print_since(rt, name, start, done)
+    let printed = print_since(rt, name, start, amount, Ok(coordinator.kept()));
+    drop(coordinator);
+    printed
 }
 
 /// Prints what opening a shard over these devices takes.
@@ -98,27 +92,12 @@ pub(crate) fn time_shard<D: Device>(
     b: D,
     name: &str,
     amount: u64,
-) -> anyhow::Result<()> {
-    let start = Instant::now(rt)?;
+) -> Result<(), Refusal> {
+    let start = now(rt);
     let shard = open_shard(alloc, a, b)?;
-    let printed = print_opened(rt, name, start, &shard, amount);
+    let printed = print_since(rt, name, start, amount, shard.learned());
     drop(shard);
     printed
-}
-
-fn print_opened<D: Device>(
-    rt: &(impl Clock + Eprint),
-    name: &str,
-    start: Instant,
-    shard: &Shard<D>,
-    amount: u64,
-) -> anyhow::Result<()> {
-    let elapsed = start.elapsed(rt)?;
-    let done = Done {
-        amount,
-        answer: shard.learned()?,
-    };
-    print(rt, name, elapsed, done)
 }
 
 /// Devices with a node's records of so many writes.

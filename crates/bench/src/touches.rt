@@ -4,7 +4,7 @@ ghost use Rattle.records.specs.Replays.{AskOfLog};
 
 use coordinator::Coordinator;
 use device::{Device, SimDisk};
-use journal::Journal;
+use journal::{Journal, Refused};
 use measures::changes::push_touch;
 use records::Identity;
 use shard::Shard;
@@ -28,11 +28,13 @@ pub(crate) fn open_coordinator<D: Device>(
 ) -> Result<Coordinator<D>, Refusal> {
     match Coordinator::open(alloc, a, b, Identity::coordinator(STORE, 1)) {
         Ok(coordinator) => Ok(coordinator),
-        Err(refused) => {
-            let refusal = refused.refusal;
-            drop(refused);
-            Err(refusal)
-        }
+        Err(
+            Refused {
+                refusal,
+                a: _,
+                b: _,
+            },
+        ) => Err(refusal),
     }
 }
 
@@ -40,22 +42,26 @@ pub(crate) fn open_coordinator<D: Device>(
 pub(crate) fn open_shard<D: Device>(alloc: Global, a: D, b: D) -> Result<Shard<D>, Refusal> {
     match Shard::open(alloc, a, b, Identity::shard(STORE, 1, 0)) {
         Ok(shard) => Ok(shard),
-        Err(refused) => {
-            let refusal = refused.refusal;
-            drop(refused);
-            Err(refusal)
-        }
+        Err(
+            Refused {
+                refusal,
+                a: _,
+                b: _,
+            },
+        ) => Err(refusal),
     }
 }
 
 pub(crate) fn open_journal<D: Device>(alloc: Global, a: D, b: D) -> Result<Journal<D>, Refusal> {
     match Journal::open(alloc, a, b) {
         Ok((journal, _)) => Ok(journal),
-        Err(refused) => {
-            let refusal = refused.refusal;
-            drop(refused);
-            Err(refusal)
-        }
+        Err(
+            Refused {
+                refusal,
+                a: _,
+                b: _,
+            },
+        ) => Err(refusal),
     }
 }
 

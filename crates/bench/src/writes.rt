@@ -1,19 +1,19 @@
 // How fast a coordinator and its shard take writes of one touch, a hundred in a flush: read from their texts, begun, staged, flushed, voted,
 // decided, flushed, told and learned. Three measures go by the same turns, and each prints its own steps.
 use crate::clearing::{clear_ballots, clear_decided, clear_intents, clear_tickets, clear_votes};
+use crate::steps::{
+    GROUP, abort_all, begin_all, decide_all, learn_kept, list_all, stage_all, tell_all, vote_all,
+};
 use crate::touches::{open_coordinator, open_shard, two_disks, write_of};
-use coordinator::{Coordinator, Decided, NotDecided, Outcome, votes_match};
-use decisions::{Batch, Intent, Ticket, Vote};
+use coordinator::{Coordinator, Decided};
+use decisions::{Intent, Ticket, Vote};
 use device::Device;
-use measures::timing::{Done, now, print, since};
-use shard::{Shard, VoteReply};
+use measures::timing::{now, print, since};
+use shard::Shard;
 use std::alloc::Global;
 use std::rt::Clock;
 use std::time::Duration;
 use tuples::{Refusal, Write};
-
-// How many writes are flushed, decided and learned together.
-const GROUP: u32 = 100;
 
 // How many groups go through beside the writes in doubt.
 const GROUPS: u32 = 100;
@@ -69,24 +69,25 @@ pub(crate) fn prepares(
     rt: &(impl Clock + Eprint),
     alloc: Global,
     in_doubt: u32,
-) -> anyhow::Result<()> {
+) -> Result<(), Refusal> {
     let spent = time(rt, alloc, in_doubt / GROUP, GROUPS)?;
-    let done = done_in(GROUPS, spent.learned);
-    print(rt, "prepare", spent.staging, done)?;
-    print(rt, "vote", spent.voting, done)?;
-    print(rt, "learn", spent.learning, done)
+    let amount = writes_in(GROUPS);
+    print(rt, "prepare", spent.staging, amount, spent.learned)?;
+    print(rt, "vote", spent.voting, amount, spent.learned)?;
+    print(rt, "learn", spent.learning, amount, spent.learned)
 }
 
 /// Takes so many writes through a coordinator and its shard, to the next hundred below, each from its text on (`write-path`), and prints how
 /// long that took. What it answers is the place that the shard has learned at the end.
-pub(crate) fn path(rt: &(impl Clock + Eprint), alloc: Global, writes: u32) -> anyhow::Result<()> {
+pub(crate) fn path(rt: &(impl Clock + Eprint), alloc: Global, writes: u32) -> Result<(), Refusal> {
     let groups = writes / GROUP;
     let spent = time(rt, alloc, 0, groups)?;
     print(
         rt,
         "write-path",
         spent.whole,
-        done_in(groups, spent.learned),
+        writes_in(groups),
+        spent.learned,
     )
 }
 
@@ -96,22 +97,15 @@ pub(crate) fn decisions(
     rt: &(impl Clock + Eprint),
     alloc: Global,
     groups: u32,
-) -> anyhow::Result<()> {
+) -> Result<(), Refusal> {
     let spent = time(rt, alloc, 0, groups)?;
-    let done = done_in(groups, spent.places);
-    let begun = Done {
-        answer: done.amount,
-        ..done
-    };
-    print(rt, "begin", spent.beginning, begun)?;
-    print(rt, "decide", spent.deciding, done)
+    let amount = writes_in(groups);
+    print(rt, "begin", spent.beginning, amount, amount)?;
+    print(rt, "decide", spent.deciding, amount, spent.places)
 }
 
-fn done_in(groups: u32, answer: u64) -> Done {
-    Done {
-        amount: u64::from(groups) * u64::from(GROUP),
-        answer,
-    }
+fn writes_in(groups: u32) -> u64 {
+    u64::from(groups) * u64::from(GROUP)
 }
 
 // What so many groups take beside so many that are in doubt. The nodes are lent, since each way out of a function that owns one is proved.
@@ -167,19 +161,6 @@ fn leave_in_doubt<C: Device, D: Device>(
         shard.flush()?;
         clear_tickets(&mut group.tickets);
         abort_all(coordinator, &mut group.intents)?;
-    }
-    Ok(())
-}
-
-fn abort_all<D: Device>(
-    coordinator: &mut Coordinator<D>,
-    intents: &mut Vec<Intent>,
-) -> Result<(), Refusal> {
-    for _ in 0..GROUP {
-        let Some(intent) = intents.pop() else {
-            return Ok(());
-        };
-        let _verdict = coordinator.abort(intent)?;
     }
     Ok(())
 }
@@ -250,91 +231,6 @@ fn count_up(text: &mut [u8]) {
     }
 }
 
-// How long it takes to begin the writes, the last of them first.
-fn begin_all<D: Device>(
-    rt: &impl Clock,
-    coordinator: &mut Coordinator<D>,
-    writes: &mut Vec<Write>,
-    intents: &mut Vec<Intent>,
-) -> Result<Duration, Refusal> {
-    let start = now(rt)?;
-    for _ in 0..GROUP {
-        intents.reserve(1)?;
-        let Some(write) = writes.pop() else {
-            break;
-        };
-        intents.push_reserved(coordinator.begin(write)?);
-    }
-    since(rt, start)
-}
-
-fn stage_all<D: Device>(
-    rt: &impl Clock,
-    alloc: Global,
-    shard: &mut Shard<D>,
-    intents: &[Intent],
-    tickets: &mut Vec<Ticket>,
-) -> Result<Duration, Refusal> {
-    let start = now(rt)?;
-    for intent in intents {
-        if !shard.takes_part(intent) {
-            return Err(Refusal::BadRequest);
-        }
-        tickets.reserve(1)?;
-        tickets.push_reserved(shard.stage_prepare(alloc, intent)?);
-    }
-    since(rt, start)
-}
-
-fn vote_all<D: Device>(
-    rt: &impl Clock,
-    shard: &Shard<D>,
-    tickets: &mut Vec<Ticket>,
-    votes: &mut Vec<Vote>,
-) -> Result<Duration, Refusal> {
-    let start = now(rt)?;
-    for _ in 0..GROUP {
-        votes.reserve(1)?;
-        let Some(ticket) = tickets.pop() else {
-            break;
-        };
-        votes.push_reserved(vote(shard, ticket)?);
-    }
-    since(rt, start)
-}
-
-fn vote<D: Device>(shard: &Shard<D>, ticket: Ticket) -> Result<Vote, Refusal> {
-    match shard.vote(ticket) {
-        VoteReply::Yes(vote) => Ok(vote),
-        VoteReply::No(refusal) => Err(refusal),
-        VoteReply::Later(ticket) => {
-            ticket.leave();
-            Err(Refusal::BadRequest)
-        }
-    }
-}
-
-// Each vote alone in a list: the store has one shard.
-fn list_all(
-    alloc: Global,
-    votes: &mut Vec<Vote>,
-    ballots: &mut Vec<Vec<Vote>>,
-) -> Result<(), Refusal> {
-    for _ in 0..GROUP {
-        ballots.reserve(1)?;
-        let mut ballot = Vec::new(alloc);
-        if ballot.reserve(1).is_err() {
-            ballot.destroy_empty();
-            return Err(Refusal::NoMemory);
-        }
-        if let Some(vote) = votes.pop() {
-            ballot.push_reserved(vote);
-        }
-        ballots.push_reserved(ballot);
-    }
-    Ok(())
-}
-
 // Each write by its vote, all in one flush, and then what became of each.
 fn decide_group<D: Device>(
     rt: &impl Clock,
@@ -355,95 +251,6 @@ fn decide_group<D: Device>(
     spent.deciding = spent.deciding.saturating_add(deciding);
     spent.places = spent.places.wrapping_add(places);
     Ok(())
-}
-
-fn decide_all<D: Device>(
-    coordinator: &mut Coordinator<D>,
-    intents: &mut Vec<Intent>,
-    ballots: &mut Vec<Vec<Vote>>,
-    decided: &mut Vec<Decided>,
-) -> Result<(), Refusal> {
-    for _ in 0..GROUP {
-        decided.reserve(1)?;
-        let Some(intent) = intents.pop() else {
-            return Ok(());
-        };
-        let Some(votes) = ballots.pop() else {
-            intent.leave();
-            return Err(Refusal::BadRequest);
-        };
-        decided.push_reserved(decide(coordinator, intent, votes)?);
-    }
-    Ok(())
-}
-
-// Stages the decision of a write by these votes.
-fn decide<D: Device>(
-    coordinator: &mut Coordinator<D>,
-    intent: Intent,
-    votes: Vec<Vote>,
-) -> Result<Decided, Refusal> {
-    let not_decided = if votes_match(coordinator.identity().shards(), &intent, &votes) {
-        match coordinator.decide(intent, votes) {
-            Ok(decided) => return Ok(decided),
-            Err(not_decided) => not_decided,
-        }
-    } else {
-        NotDecided {
-            refusal: Refusal::BadRequest,
-            intent: Some(intent),
-            votes,
-        }
-    };
-    let refusal = not_decided.refusal;
-    not_decided.leave();
-    Err(refusal)
-}
-
-// The sum of the places at which the decisions are kept.
-fn tell_all<D: Device>(
-    coordinator: &Coordinator<D>,
-    decided: &mut Vec<Decided>,
-) -> Result<u64, Refusal> {
-    let mut sum = 0u64;
-    for _ in 0..GROUP {
-        let Some(one) = decided.pop() else {
-            return Ok(sum);
-        };
-        match coordinator.outcome(one) {
-            Outcome::Kept(place) => sum = sum.wrapping_add(place),
-            Outcome::Later(later) => later.leave(),
-            Outcome::Unsure => return Err(Refusal::Unsure),
-        }
-    }
-    Ok(sum)
-}
-
-// Only the shard's own work is timed, and not that the coordinator makes the batch.
-fn learn_kept<C: Device, D: Device>(
-    rt: &impl Clock,
-    alloc: Global,
-    coordinator: &Coordinator<C>,
-    shard: &mut Shard<D>,
-) -> Result<Duration, Refusal> {
-    let from = shard.learned()?;
-    let to = coordinator.kept();
-    if to < from {
-        return Err(Refusal::Future);
-    }
-    let batch = coordinator.batch(alloc, from, to)?;
-    learn(rt, alloc, shard, &batch)
-}
-
-fn learn<D: Device>(
-    rt: &impl Clock,
-    alloc: Global,
-    shard: &mut Shard<D>,
-    batch: &Batch,
-) -> Result<Duration, Refusal> {
-    let start = now(rt)?;
-    shard.learn(alloc, batch)?;
-    since(rt, start)
 }
 
 // Only spends what is left of a group.

@@ -2,11 +2,10 @@
 ghost use Rattle.records.specs.Format.{AreRecords};
 
 use crate::sample::{batch_of, records_of};
-use crate::timing::{Done, print_since};
+use crate::timing::{now, print_since};
 use records::Record;
 use std::alloc::{AllocError, Global};
 use std::rt::Clock;
-use std::time::Instant;
 use tuples::Refusal;
 
 const RECORDS: u16 = 1_000;
@@ -25,7 +24,7 @@ fn encode_all(records: &[Record], out: &mut Vec<u8>) -> Result<(), AllocError>
 }
 
 // How many bytes were written in so many rounds.
-fn encode_rounds(records: &[Record], out: &mut Vec<u8>, rounds: u32) -> Result<u64, AllocError>
+fn encode_rounds(records: &[Record], out: &mut Vec<u8>, rounds: u32) -> Result<u64, Refusal>
     requires { AreRecords records.now }
 {
     let mut size: u64 = 0;
@@ -46,7 +45,7 @@ fn decode_rounds(alloc: Global, bytes: &[u8], rounds: u32) -> Result<u64, Refusa
 }
 
 /// Writes (`encode`) and reads (`decode`) a batch so often, and prints how many records that were, and how long each took.
-pub fn measure(rt: &(impl Clock + Eprint), alloc: Global, rounds: u32) -> anyhow::Result<()> {
+pub fn measure(rt: &(impl Clock + Eprint), alloc: Global, rounds: u32) -> Result<(), Refusal> {
     let bytes = batch_of(alloc, RECORDS)?;
     measure_of(rt, alloc, &bytes, rounds)
 }
@@ -57,7 +56,7 @@ fn measure_of(
     alloc: Global,
     bytes: &[u8],
     rounds: u32,
-) -> anyhow::Result<()> {
+) -> Result<(), Refusal> {
     let records = records_of(alloc, bytes)?;
     let mut out = Vec::new(alloc);
     measure_in(rt, alloc, bytes, &records, &mut out, rounds)
@@ -70,25 +69,19 @@ fn measure_in(
     records: &[Record],
     out: &mut Vec<u8>,
     rounds: u32,
-) -> anyhow::Result<()>
+) -> Result<(), Refusal>
     requires { AreRecords records.now }
 {
-    let start = Instant::now(rt)?;
-    let answer = encode_rounds(records, out, rounds)?;
-    print_since(rt, "encode", start, done_in(rounds, answer))?;
+    let amount = u64::from(rounds) * u64::from(RECORDS);
+    let start = now(rt);
+    let size = encode_rounds(records, out, rounds);
+    print_since(rt, "encode", start, amount, size)?;
     if !is_written(bytes, out) {
-        anyhow::bail!("what was written is not what was read");
+        return Err(Refusal::Damaged);
     }
-    let start = Instant::now(rt)?;
-    let answer = decode_rounds(alloc, bytes, rounds)?;
-    print_since(rt, "decode", start, done_in(rounds, answer))
-}
-
-fn done_in(rounds: u32, answer: u64) -> Done {
-    Done {
-        amount: u64::from(rounds).saturating_mul(u64::from(RECORDS)),
-        answer,
-    }
+    let start = now(rt);
+    let count = decode_rounds(alloc, bytes, rounds);
+    print_since(rt, "decode", start, amount, count)
 }
 
 // Whether what was written is what was read.

@@ -3,10 +3,9 @@ ghost use Rattle.std.specs.Prelude.{◌≡◌, IfOk};
 ghost use Rattle.measures.specs.Reads.{FoundForCheck};
 
 use crate::changes::push_touches;
-use crate::timing::{Done, print_since};
+use crate::timing::{now, print_since};
 use std::alloc::{AllocError, Global};
 use std::rt::Clock;
-use std::time::Instant;
 use tuples::{Change, Refusal, Tuple, Userset};
 use versions::Versions;
 
@@ -18,11 +17,13 @@ const READS: u64 = 1000;
 
 /// Gives a userset so many plain users and ten usersets, and asks of it what a check asks, for one of the users (`check`), and prints how
 /// long it took. What it answers is how many tuples were found.
-pub fn measure(rt: &(impl Clock + Eprint), alloc: Global, users: u32) -> anyhow::Result<()> {
+pub fn measure(rt: &(impl Clock + Eprint), alloc: Global, users: u32) -> Result<(), Refusal> {
     let asked = Tuple::parse(alloc, b"doc:d#viewer@u0")?;
     let mut versions = Versions::new(alloc);
     let mut changes = Vec::new(alloc);
-    measure_in(rt, alloc, &mut versions, &mut changes, &asked, users)
+    let measured = measure_in(rt, alloc, &mut versions, &mut changes, &asked, users);
+    drop(asked);
+    measured
 }
 
 // What is measured is lent, since each way out of a function that owns it is proved.
@@ -33,14 +34,11 @@ fn measure_in(
     changes: &mut Vec<Change>,
     asked: &Tuple,
     users: u32,
-) -> anyhow::Result<()> {
+) -> Result<(), Refusal> {
     apply(alloc, versions, changes, users)?;
-    let start = Instant::now(rt)?;
-    let done = Done {
-        amount: READS,
-        answer: ask(alloc, versions, asked)? as u64,
-    };
-    print_since(rt, "check", start, done)
+    let start = now(rt);
+    let tuples = ask(alloc, versions, asked);
+    print_since(rt, "check", start, READS, tuples)
 }
 
 fn apply(
@@ -56,12 +54,12 @@ fn apply(
 }
 
 // How many tuples the last of all reads found.
-fn ask(alloc: Global, versions: &Versions, asked: &Tuple) -> Result<usize, AllocError> {
+fn ask(alloc: Global, versions: &Versions, asked: &Tuple) -> Result<u64, Refusal> {
     let mut tuples = 0;
     for _ in 0..READS {
         tuples = found(alloc, versions, asked)?;
     }
-    Ok(tuples)
+    Ok(tuples as u64)
 }
 
 fn userset_of(asked: &Tuple) -> Result<Userset, AllocError>

@@ -1,10 +1,9 @@
 // How long a write takes to be held and released beside others that are in doubt.
 use crate::changes::push_touch;
-use crate::timing::{Done, print_since};
+use crate::timing::{now, print_since};
 use holds::Holds;
 use std::alloc::Global;
 use std::rt::Clock;
-use std::time::Instant;
 use tuples::{Changes, Conditions, Entry, Refusal, WriteId};
 
 // How often a write is taken and released.
@@ -12,7 +11,7 @@ const TURNS: u32 = 1000;
 
 /// Holds so many writes of one change each, and takes and releases one write more, again and again (`holds`), and prints how long it took.
 /// What it answers is how many writes are held at the end.
-pub fn measure(rt: &(impl Clock + Eprint), alloc: Global, writes: u32) -> anyhow::Result<()> {
+pub fn measure(rt: &(impl Clock + Eprint), alloc: Global, writes: u32) -> Result<(), Refusal> {
     let mut holds = Holds::new(alloc);
     measure_in(rt, alloc, &mut holds, writes)
 }
@@ -23,15 +22,11 @@ fn measure_in(
     alloc: Global,
     holds: &mut Holds,
     writes: u32,
-) -> anyhow::Result<()> {
+) -> Result<(), Refusal> {
     hold_all(alloc, holds, writes)?;
-    let start = Instant::now(rt)?;
-    take_and_release(alloc, holds, writes)?;
-    let done = Done {
-        amount: u64::from(TURNS),
-        answer: holds.len() as u64,
-    };
-    print_since(rt, "holds", start, done)
+    let start = now(rt);
+    let held = take_and_release(alloc, holds, writes);
+    print_since(rt, "holds", start, u64::from(TURNS), held)
 }
 
 fn hold_all(alloc: Global, holds: &mut Holds, writes: u32) -> Result<(), Refusal> {
@@ -41,12 +36,13 @@ fn hold_all(alloc: Global, holds: &mut Holds, writes: u32) -> Result<(), Refusal
     Ok(())
 }
 
-fn take_and_release(alloc: Global, holds: &mut Holds, writes: u32) -> Result<(), Refusal> {
+// How many writes are held at the end.
+fn take_and_release(alloc: Global, holds: &mut Holds, writes: u32) -> Result<u64, Refusal> {
     for _ in 0..TURNS {
         holds.take(write(alloc, writes)?)?;
         drop(holds.release(id(writes)));
     }
-    Ok(())
+    Ok(holds.len() as u64)
 }
 
 fn id(number: u32) -> WriteId {

@@ -1,11 +1,12 @@
 // Loads of the safe place.
 ghost use Rattle.std.specs.Prelude.{◌≡◌};
 
-use crate::timing::{Done, print_since};
+use crate::timing::{now, print_since};
 use published::{LogPass, Published, SessionPass};
 use std::alloc::Global;
 use std::thread::{Threads, join};
-use std::time::{Clock, Instant};
+use std::time::Clock;
+use tuples::Refusal;
 
 // A constant, so that a compiler may unroll the loop as far as it can.
 const LOADS: u64 = 100_000_000;
@@ -120,24 +121,19 @@ fn load_by_four<R: Threads + Sync>(
     one.wrapping_add(other)
 }
 
+// How many loads there were, and what they found.
 fn load_by<R: Threads + Sync>(
     rt: &R,
     words: &Published<u64>,
     log: &mut LogPass<u64>,
     by: By,
     way: Way,
-) -> Done
+) -> (u64, u64)
     requires { log.old.table ≡ words.now }
 {
     match by {
-        By::One => Done {
-            amount: LOADS,
-            answer: load(words, words.session(log), way),
-        },
-        By::Four => Done {
-            amount: 4 * LOADS,
-            answer: load_by_four(rt, words, log, way),
-        },
+        By::One => (LOADS, load(words, words.session(log), way)),
+        By::Four => (4 * LOADS, load_by_four(rt, words, log, way)),
     }
 }
 
@@ -147,9 +143,9 @@ pub fn measure<R: Clock + Eprint + Threads + Sync>(
     alloc: Global,
     by: By,
     way: Way,
-) -> anyhow::Result<()> {
-    let start = Instant::now(rt)?;
+) -> Result<(), Refusal> {
+    let start = now(rt);
     let (words, mut log) = Published::new(alloc)?;
-    let done = load_by(rt, &words, &mut log, by, way);
-    print_since(rt, "latest", start, done)
+    let (loads, last) = load_by(rt, &words, &mut log, by, way);
+    print_since(rt, "latest", start, loads, Ok(last))
 }

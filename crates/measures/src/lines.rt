@@ -1,10 +1,9 @@
 // How many request lines a session answers, over memory, where what it asks costs nothing.
-use crate::timing::{Done, print_since};
+use crate::timing::{now, print_since};
 use answers::{Events, Membership, Rows, Written};
 use sessions::{Answers, serve_stream};
 use std::alloc::{AllocError, Global};
 use std::rt::Clock;
-use std::time::Instant;
 use tuples::{Freshness, Namespace, Refusal, Tuple, Tupleset, Write};
 
 const PLACE: u64 = 1;
@@ -104,7 +103,7 @@ pub fn measure(
     alloc: Global,
     kind: Kind,
     count: u32,
-) -> anyhow::Result<()> {
+) -> Result<(), Refusal> {
     let mut input = Vec::new(alloc);
     push_lines(&mut input, kind, count)?;
     let mut idle = Idle { alloc, asked: 0 };
@@ -120,13 +119,12 @@ fn measure_in(
     output: &mut Vec<u8>,
     idle: &mut Idle,
     count: u32,
-) -> anyhow::Result<()> {
+) -> Result<(), Refusal> {
     let mut rest = input;
-    let start = Instant::now(rt)?;
-    serve_stream(alloc, 1, &mut rest, output, idle)?;
-    let done = Done {
-        amount: u64::from(count),
-        answer: idle.asked.saturating_add(output.len() as u64),
-    };
-    print_since(rt, "lines", start, done)
+    let start = now(rt);
+    if serve_stream(alloc, 1, &mut rest, output, idle).is_err() {
+        return Err(Refusal::Down);
+    }
+    let answer = idle.asked.saturating_add(output.len() as u64);
+    print_since(rt, "lines", start, u64::from(count), Ok(answer))
 }

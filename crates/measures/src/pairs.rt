@@ -1,12 +1,13 @@
 // Connections that are put and taken.
 ghost use Rattle.std.specs.Prelude.{◌≡◌, All};
 
-use crate::timing::{Done, print_since};
+use crate::timing::{now, print_since};
 use connections::{AcceptorPass, Connections, WorkerPass};
 use std::alloc::Global;
 use std::sync::Wait;
 use std::thread::{self, Threads, join};
-use std::time::{Clock, Instant};
+use std::time::Clock;
+use tuples::Refusal;
 
 /// Whether one thread puts and takes, or two do one each.
 #[derive(Clone, Copy)]
@@ -126,12 +127,9 @@ pub fn measure<R: Clock + Eprint + Threads + Wait + Sync>(
     alloc: Global,
     by: By,
     count: u32,
-) -> anyhow::Result<()> {
-    let start = Instant::now(rt)?;
+) -> Result<(), Refusal> {
+    let start = now(rt);
     let (queue, acceptor, workers) = Connections::new(alloc, 1)?;
-    let done = Done {
-        amount: u64::from(count),
-        answer: pass_on(rt, &queue, acceptor, workers, by, count),
-    };
-    print_since(rt, "pairs", start, done)
+    let sum = pass_on(rt, &queue, acceptor, workers, by, count);
+    print_since(rt, "pairs", start, u64::from(count), Ok(sum))
 }

@@ -3,10 +3,9 @@ ghost use Rattle.std.specs.Prelude.{IfOk};
 ghost use Rattle.measures.specs.Reads.{Found};
 
 use crate::changes::{push_touch, push_touches};
-use crate::timing::{Done, print, print_since};
+use crate::timing::{now, print, print_since, since};
 use std::alloc::{AllocError, Global};
 use std::rt::Clock;
-use std::time::Instant;
 use tuples::{Change, Refusal, Tupleset};
 use versions::Versions;
 
@@ -28,7 +27,7 @@ const OF_CROWD: &[(&str, &str)] = &[("crowded", "doc:crowd#editor"), ("user", "d
 /// them the ten editors of what it views (`crowded`) and the ten objects of one user (`user`). Then it asks for the newest place of each
 /// tuple (`last`), and forgets half of the rows once each tuple was changed again (`collect`). It prints how long each took. What a read
 /// answers is how many tuples it found.
-pub fn measure(rt: &(impl Clock + Eprint), alloc: Global, rows: u32) -> anyhow::Result<()> {
+pub fn measure(rt: &(impl Clock + Eprint), alloc: Global, rows: u32) -> Result<(), Refusal> {
     let mut versions = Versions::new(alloc);
     let mut changes = Vec::new(alloc);
     let mut crowd = Vec::new(alloc);
@@ -43,32 +42,20 @@ fn measure_all(
     changes: &mut Vec<Change>,
     crowd: &mut Vec<Change>,
     rows: u32,
-) -> anyhow::Result<()> {
+) -> Result<(), Refusal> {
     push_rows(alloc, changes, rows)?;
     let place = u64::from(rows);
-    apply(rt, versions, changes)?;
+    let start = now(rt);
+    let applied = apply_all(versions, 1, changes);
+    print_since(rt, "apply", start, place, applied)?;
     read_each(rt, alloc, versions, place, OF_ROWS)?;
     apply_crowd(alloc, versions, crowd, place + 1)?;
     read_each(rt, alloc, versions, u64::MAX, OF_CROWD)?;
-    last(rt, versions, changes)?;
+    let start = now(rt);
+    let newest = newest(versions, changes);
+    print_since(rt, "last", start, place, Ok(newest))?;
     apply_all(versions, place + 1, changes)?;
     collect(rt, versions, changes, place + place / 2)
-}
-
-fn apply(
-    rt: &(impl Clock + Eprint),
-    versions: &mut Versions,
-    changes: &[Change],
-) -> anyhow::Result<()> {
-    let start = Instant::now(rt)?;
-    apply_all(versions, 1, changes)?;
-    print_since(rt, "apply", start, done_of(changes, changes.len() as u64))
-}
-
-fn last(rt: &(impl Clock + Eprint), versions: &Versions, changes: &[Change]) -> anyhow::Result<()> {
-    let start = Instant::now(rt)?;
-    let newest = newest(versions, changes);
-    print_since(rt, "last", start, done_of(changes, newest))
 }
 
 // What lies below the horizon is forgotten.
@@ -77,19 +64,12 @@ fn collect(
     versions: &mut Versions,
     changes: &[Change],
     horizon: u64,
-) -> anyhow::Result<()> {
-    let start = Instant::now(rt)?;
+) -> Result<(), Refusal> {
+    let start = now(rt)?;
     versions.collect(horizon);
-    let elapsed = start.elapsed(rt)?;
+    let elapsed = since(rt, start)?;
     let newest = newest(versions, changes);
-    print(rt, "collect", elapsed, done_of(changes, newest))
-}
-
-fn done_of(changes: &[Change], answer: u64) -> Done {
-    Done {
-        amount: changes.len() as u64,
-        answer,
-    }
+    print(rt, "collect", elapsed, changes.len() as u64, newest)
 }
 
 // The newest place of all tuples.
@@ -108,7 +88,7 @@ fn read_each(
     versions: &Versions,
     place: u64,
     reads: &[(&str, &str)],
-) -> anyhow::Result<()> {
+) -> Result<(), Refusal> {
     for (name, text) in reads {
         let set = Tupleset::parse(alloc, text.as_bytes())?;
         let read = read(rt, alloc, versions, place, name, &set);
@@ -125,18 +105,14 @@ fn read(
     place: u64,
     name: &str,
     set: &Tupleset,
-) -> anyhow::Result<()> {
+) -> Result<(), Refusal> {
     // One read stands before the clock, so that what came before the reads, as memory that was just given back, does not count.
     let mut tuples = found(alloc, versions, place, set)?;
-    let start = Instant::now(rt)?;
+    let start = now(rt);
     for _ in 0..READS {
         tuples = found(alloc, versions, place, set)?;
     }
-    let done = Done {
-        amount: READS,
-        answer: tuples as u64,
-    };
-    print_since(rt, name, start, done)
+    print_since(rt, name, start, READS, Ok(tuples as u64))
 }
 
 // How many tuples a read finds.
@@ -167,18 +143,17 @@ fn apply_crowd(
     versions: &mut Versions,
     crowd: &mut Vec<Change>,
     from: u64,
-) -> Result<(), Refusal> {
+) -> Result<u64, Refusal> {
     push_touches(alloc, crowd, CROWD, "doc:crowd#viewer@u", "")?;
     push_touches(alloc, crowd, USERS, "doc:crowd#editor@u", "")?;
     push_touches(alloc, crowd, USERS, "doc:m", "#viewer@me")?;
-    apply_all(versions, from, crowd)?;
-    Ok(())
+    apply_all(versions, from, crowd)
 }
 
-// Each at a place of its own, from this one on.
-fn apply_all(versions: &mut Versions, from: u64, changes: &[Change]) -> Result<(), AllocError> {
+// Each at a place of its own, from this one on; gives how many they are.
+fn apply_all(versions: &mut Versions, from: u64, changes: &[Change]) -> Result<u64, Refusal> {
     for i in 0..changes.len() {
         versions.apply(from.saturating_add(i as u64), &changes[i..i + 1])?;
     }
-    Ok(())
+    Ok(changes.len() as u64)
 }

@@ -3,10 +3,9 @@ ghost use Rattle.std.specs.Prelude.{◌≡◌, OnOk, map};
 ghost use Rattle.std.specs.List.{flat_map};
 ghost use Rattle.tuples.specs.Texts.{tuple_text};
 
-use crate::timing::{Done, print_since};
+use crate::timing::{now, print_since};
 use std::alloc::{AllocError, Global};
 use std::rt::Clock;
-use std::time::Instant;
 use tuples::{Refusal, Tuple};
 
 // How many texts there are; a longer measure goes over them again.
@@ -14,7 +13,7 @@ const TEXTS: u32 = 1000;
 
 /// Reads so many tuples, to the next thousand below, from their texts (`parse`) and writes them (`write`), and prints how long
 /// each took. What it answers is how many tuples or bytes the last pass made.
-pub fn measure(rt: &(impl Clock + Eprint), alloc: Global, count: u32) -> anyhow::Result<()> {
+pub fn measure(rt: &(impl Clock + Eprint), alloc: Global, count: u32) -> Result<(), Refusal> {
     let mut texts = Vec::new(alloc);
     let mut tuples = Vec::new(alloc);
     let mut out = Vec::new(alloc);
@@ -29,37 +28,33 @@ fn measure_all(
     tuples: &mut Vec<Tuple>,
     out: &mut Vec<u8>,
     count: u32,
-) -> anyhow::Result<()> {
+) -> Result<(), Refusal> {
     push_texts(alloc, texts)?;
     let passes = count / TEXTS;
-    let start = Instant::now(rt)?;
-    parse_again(alloc, texts, tuples, passes)?;
-    print_since(rt, "parse", start, done_in(passes, tuples.len()))?;
-    let start = Instant::now(rt)?;
-    write_again(tuples, out, passes)?;
-    print_since(rt, "write", start, done_in(passes, out.len()))
+    let amount = u64::from(passes) * u64::from(TEXTS);
+    let start = now(rt);
+    let count = parse_again(alloc, texts, tuples, passes);
+    print_since(rt, "parse", start, amount, count)?;
+    let start = now(rt);
+    let size = write_again(tuples, out, passes);
+    print_since(rt, "write", start, amount, size)
 }
 
-fn done_in(passes: u32, answer: usize) -> Done {
-    Done {
-        amount: u64::from(passes) * u64::from(TEXTS),
-        answer: answer as u64,
+fn push_texts(alloc: Global, texts: &mut Vec<Vec<u8>>) -> Result<(), AllocError> {
+    for number in 0..TEXTS {
+        texts.reserve(1)?;
+        texts.push_reserved(text_of(alloc, number)?.into_bytes());
     }
+    Ok(())
 }
 
 // Half of them name a user, and half a userset.
-fn push_texts(alloc: Global, texts: &mut Vec<Vec<u8>>) -> Result<(), AllocError> {
-    for number in 0..TEXTS {
-        let (before, after) = if number % 2 == 0 {
-            ("u", "")
-        } else {
-            ("group:g", "#member")
-        };
-        texts.reserve(1)?;
-        let text = format!(in alloc; "doc:d{number}#viewer@{before}{number}{after}")?;
-        texts.push_reserved(text.into_bytes());
+fn text_of(alloc: Global, number: u32) -> Result<String, AllocError> {
+    if number % 2 == 0 {
+        format!(in alloc; "doc:d{number}#viewer@u{number}")
+    } else {
+        format!(in alloc; "doc:d{number}#viewer@group:g{number}#member")
     }
-    Ok(())
 }
 
 fn parse_again(
@@ -67,11 +62,11 @@ fn parse_again(
     texts: &[Vec<u8>],
     tuples: &mut Vec<Tuple>,
     passes: u32,
-) -> Result<(), Refusal> {
+) -> Result<u64, Refusal> {
     for _ in 0..passes {
         parse_all(alloc, texts, tuples)?;
     }
-    Ok(())
+    Ok(tuples.len() as u64)
 }
 
 // The tuples of the texts, in place of those that were there.
@@ -86,11 +81,11 @@ fn parse_all(alloc: Global, texts: &[Vec<u8>], tuples: &mut Vec<Tuple>) -> Resul
     Ok(())
 }
 
-fn write_again(tuples: &[Tuple], out: &mut Vec<u8>, passes: u32) -> Result<(), AllocError> {
+fn write_again(tuples: &[Tuple], out: &mut Vec<u8>, passes: u32) -> Result<u64, Refusal> {
     for _ in 0..passes {
         write_all(tuples, out)?;
     }
-    Ok(())
+    Ok(out.len() as u64)
 }
 
 // The texts of the tuples, one behind the other, in place of what was there.
