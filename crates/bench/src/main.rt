@@ -4,7 +4,8 @@
 //! Never: measures anything without arguments, where it says which measures there are and ends.
 //! Callers rely on: each line on standard error is a name, how much was done, the nanoseconds, and what it answered.
 //!
-//! Start at `measure.rt`, what can be asked for. Each measure of a node has a file; those of values and tables are in `measures`.
+//! Start at `measure.rt`, what can be asked for; `writes.rt` has the three measures that take writes through a coordinator and its shard. Those of values and tables
+//! are in `measures`.
 #![tactic(auto)]
 
 mod appends;
