@@ -75,17 +75,19 @@ class Lanes:
         for at, key in enumerate(ready):
             task = tasks[key]
             # Who has the longest chain behind it waits for memory alone, and none that could do with less takes it meanwhile.
-            if self.idle() <= 0 or (self.running and task.memory > self.room()):
+            memory = task.memory if task.seconds else 0
+            if self.idle() <= 0 or (self.running and memory > self.room()):
                 break
-            jobs = self.jobs_for(task, len(ready) - at, self.wanted(key, left, tasks))
+            jobs = self.jobs_for(task, len(ready) - at, self.wanted(key, left, tasks)) if task.seconds else 1
             left.remove(key)
             run = pool.submit(self.timed, key, task.call, jobs)
-            self.running[run] = key, task.memory * (1 + MORE * (jobs - 1)), jobs
+            self.running[run] = key, memory * (1 + MORE * (jobs - 1)), jobs
 
     def run(self, tasks, ended=lambda key: None):
         """Runs all, and returns what each gave: None where it raised."""
         self.behind = chains(tasks)
-        left = sorted(tasks, key=lambda key: -self.behind[key])
+        # What takes no time comes first, since it keeps what others found: a run that is ended before its time leaves that to the next one.
+        left = sorted(tasks, key=lambda key: (tasks[key].seconds > 0, -self.behind[key]))
         with ThreadPoolExecutor(self.count) as pool:
             while left or self.running:
                 self.begin(pool, left, tasks)
