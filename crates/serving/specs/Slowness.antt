@@ -26,9 +26,9 @@ abbrev pub enough : ℕ
 enough = 16_384
 
 -- Of the bytes that were to be taken so many were. Where that is all, it is no more waited. Else a time that runs goes on, and these count in it, until they
--- are enough: then none are counted, as at first, where what was taken before the time began does not count.
+-- are enough: then a time runs of which none are counted, as at first, where what was taken before the time began does not count.
 pub record IsTaken (count wanted : ℕ) (since : Option Instant) (taken : ℕ) (since_now : Option Instant) (taken_now : ℕ) : Type 0 where
   pub all : count ≡ wanted → (since_now ≡ None) × (taken_now ≡ 0)
-  pub much : (began : Instant) → count ≢ wanted → since ≡ Some began → enough ≤ taken + count → taken_now ≡ 0
+  pub much : (began : Instant) → count ≢ wanted → since ≡ Some began → enough ≤ taken + count → (since_now ≢ None) × (taken_now ≡ 0)
   pub lasts : (began : Instant) → count ≢ wanted → since ≡ Some began → taken + count < enough → (since_now ≡ Some began) × (taken_now ≡ taken + count)
   pub begins : since ≡ None → taken_now ≤ count

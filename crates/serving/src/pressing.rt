@@ -33,7 +33,8 @@ impl<W, C: Clock> Pressing<'_, W, C> {
         is_over(self.since, self.clock)
     }
 
-    // Notes that so many of these bytes were taken, for which it was waited since then. Where the clock can't be read, the time begins with the next part.
+    // Notes that so many of these bytes were taken, for which it was waited since then. Where the clock can't be read, a time that runs goes on, and else one
+    // begins with the next part.
     fn note(&mut self, count: usize, wanted: usize, waited: Option<Instant>)
         ensures taken { IsTaken count wanted self.old.since self.old.taken self.new.since self.new.taken }
         ensures output { self.new.output ≡ self.old.output }
@@ -49,7 +50,9 @@ impl<W, C: Clock> Pressing<'_, W, C> {
         }
         self.taken = self.taken.saturating_add(count);
         if self.since.is_none() || ENOUGH <= self.taken {
-            self.since = Instant::now(self.clock).ok();
+            if let Ok(now) = Instant::now(self.clock) {
+                self.since = Some(now);
+            }
             self.taken = 0;
         }
     }
