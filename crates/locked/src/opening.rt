@@ -15,6 +15,9 @@ use published::{LogPass, Published};
 use records::Identity;
 use sides::{Attempt, CoordinatorSide, Room};
 use std::alloc::{AllocError, Global};
+use std::marker::PhantomData;
+use std::sync::Mutex;
+use std::sync::atomic::AtomicBool;
 use std::thread::{self, Threads};
 use tuples::{Entry, Refusal};
 
@@ -29,21 +32,30 @@ fn take_two<D>(devices: &mut Vec<D>) -> (D, D)
     (a, b)
 }
 
-// The coordinator over the first two devices.
-fn open_coordinator<D: Device, B: Room>(
+// What each node of the store is opened with. It is lent, so that it is let go in one place.
+#[derive(Drop)]
+struct Ground<'a, B: Room> {
     alloc: Global,
-    words: &Published<Entry>,
-    log: LogPass<Entry>,
-    attempts: LogPass<Attempt>,
+    words: &'a Published<Entry>,
+    launches: &'a Published<Launch>,
     store: u64,
     shards: u8,
+    room: PhantomData<B>,
+    ghost own: { (words.now ≡ B.log) × (launches.now ≡ B.launches) },
+    ghost of: { (store ≡ B.store) × (shards ≡ B.shards) },
+    ghost some: { 1 ≤ shards },
+    ghost few: { shards ≤ max_shards },
+}
+
+// The coordinator over the first two devices.
+fn open_coordinator<D: Device, B: Room>(
+    ground: &Ground<'_, B>,
+    log: LogPass<Entry>,
+    attempts: LogPass<Attempt>,
     devices: &mut Vec<D>,
 ) -> Result<CoordinatorSide<D, B>, Refusal>
-    requires own { (words.now ≡ B.log) × (log.table ≡ B.log) × (attempts.table ≡ B.attempts) }
+    requires own { (log.table ≡ B.log) × (attempts.table ≡ B.attempts) }
     requires empty { (log.seen ≡ []) × (log.horizon ≡ 0) × (attempts.seen ≡ []) }
-    requires of { (store ≡ B.store) × (shards ≡ B.shards) }
-    requires some { 1 ≤ shards }
-    requires few { shards ≤ max_shards }
     requires left { 2 ≤ vec_len devices.old }
     requires honest { All D.honest devices.old.items }
     requires rests { B.rests → RestAt D.state D.honest B.shards B.first B.low devices.old.items }
@@ -55,11 +67,11 @@ fn open_coordinator<D: Device, B: Room>(
 {
     let (a, b) = take_two(devices);
     CoordinatorSide::open(
-        words,
-        alloc,
+        ground.words,
+        ground.alloc,
         a,
         b,
-        Identity::coordinator(store, shards),
+        Identity::coordinator(ground.store, ground.shards),
         log,
         attempts,
     )
@@ -67,36 +79,29 @@ fn open_coordinator<D: Device, B: Room>(
 
 // The first caller, which knows what the coordinator has found.
 fn first_caller<D: Device, B: Room>(
-    words: &Published<Entry>,
+    ground: &Ground<'_, B>,
     attempts: &Published<Attempt>,
     coordinator: &mut CoordinatorSide<D, B>,
 ) -> Caller<B>
-    requires own { (words.now ≡ B.log) × (attempts.now ≡ B.attempts) }
+    requires own { attempts.now ≡ B.attempts }
     ensures same { coordinator.new ≡ coordinator.old }
     ensures all { (result.seen ≡ coordinator.old.seen) × (result.horizon ≡ coordinator.old.low) }
 {
-    let pass = coordinator.session(words);
+    let pass = coordinator.session(ground.words);
     let tried = Tried::new(coordinator.attempts(attempts));
     Caller::new(pass, tried)
 }
 
 // The next shard, which is to be opened over the next two devices. What the coordinator has found it knows.
 fn next_shard<D: Device, B: Room>(
-    alloc: Global,
-    words: &Published<Entry>,
-    launches: &Published<Launch>,
+    ground: &Ground<'_, B>,
     launch_log: &mut LaunchLog<B>,
     coordinator: &mut CoordinatorSide<D, B>,
-    store: u64,
-    shards: u8,
     shard: u8,
     devices: &mut Vec<D>,
     room: BatchRoom,
 ) -> ClosedShard<D, B>
-    requires own { (words.now ≡ B.log) × (launches.now ≡ B.launches) }
-    requires of { (store ≡ B.store) × (shards ≡ B.shards) }
-    requires few { shards ≤ max_shards }
-    requires there { shard < shards }
+    requires there { shard < B.shards }
     requires left { 2 ≤ vec_len devices.old }
     requires honest { All D.honest devices.old.items }
     requires rests { B.rests → ShardsRest D.state D.honest B.shards B.first B.low shard devices.old.items }
@@ -107,64 +112,42 @@ fn next_shard<D: Device, B: Room>(
     ensures same { coordinator.new ≡ coordinator.old }
 {
     let (a, b) = take_two(devices);
-    let pass = coordinator.session(words);
-    let me = Identity::shard(store, shards, shard);
-    let known = launch_log.session(launches);
-    ClosedShard::new(alloc, a, b, me, pass, room, known)
+    let pass = coordinator.session(ground.words);
+    let me = Identity::shard(ground.store, ground.shards, shard);
+    let known = launch_log.session(ground.launches);
+    ClosedShard::new(ground.alloc, a, b, me, pass, room, known)
 }
 
 // All shards that are to be opened, in the order of their numbers, each with the memory for one flight.
 fn closed_shards<D: Device, B: Room>(
-    alloc: Global,
-    words: &Published<Entry>,
-    launches: &Published<Launch>,
+    ground: &Ground<'_, B>,
     launch_log: &mut LaunchLog<B>,
     coordinator: &mut CoordinatorSide<D, B>,
-    store: u64,
-    shards: u8,
     devices: &mut Vec<D>,
 ) -> Result<Vec<ClosedShard<D, B>>, AllocError>
-    requires own { (words.now ≡ B.log) × (launches.now ≡ B.launches) }
-    requires of { (store ≡ B.store) × (shards ≡ B.shards) }
-    requires few { shards ≤ max_shards }
-    requires left { 2 * shards ≤ vec_len devices.old }
+    requires left { 2 * B.shards ≤ vec_len devices.old }
     requires honest { All D.honest devices.old.items }
     requires rests { B.rests → ShardsRest D.state D.honest B.shards B.first B.low 0 devices.old.items }
     requires list { B.rests → IsPrefix B.first coordinator.old.seen × (B.low ≤ coordinator.old.low) }
-    ensures all { IfOk result (λ closed. vec_len closed ≡ shards) }
+    ensures all { IfOk result (λ closed. vec_len closed ≡ B.shards) }
 {
-    let mut closed = Vec::with_capacity(alloc, shards as usize)?;
-    for shard in 0..shards {
-        let room = BatchRoom::new(alloc)?;
-        let next = next_shard(
-            alloc,
-            words,
-            launches,
-            launch_log,
-            coordinator,
-            store,
-            shards,
-            shard,
-            devices,
-            room,
-        );
-        closed.push_reserved(next);
+    let mut closed = Vec::with_capacity(ground.alloc, ground.shards as usize)?;
+    for shard in 0..ground.shards {
+        let room = BatchRoom::new(ground.alloc)?;
+        closed.push_reserved(next_shard(ground, launch_log, coordinator, shard, devices, room));
     }
     Ok(closed)
 }
 
-// The coordinator in its cell, with the memory for one flight.
+// The coordinator in its cell, with this room for a flight.
 fn coordinator_cell<D: Device, B: Room>(
-    alloc: Global,
-    launches: &Published<Launch>,
+    ground: &Ground<'_, B>,
     launch_log: &mut LaunchLog<B>,
     side: CoordinatorSide<D, B>,
-) -> Result<CoordinatorCell<D, B>, AllocError>
-    requires own { launches.now ≡ B.launches }
-{
-    let room = BatchRoom::new(alloc)?;
-    let known = launch_log.session(launches);
-    Ok(CoordinatorCell::new(CoordinatorPlace::new(side, room, known)))
+    room: BatchRoom,
+) -> CoordinatorCell<D, B> {
+    let known = launch_log.session(ground.launches);
+    CoordinatorCell::new(CoordinatorPlace::new(side, room, known))
 }
 
 // Opens them, each by a thread of its own, since each reads its own devices alone.
@@ -184,78 +167,52 @@ fn open_shards<D: Device + Send, B: Room + Send, R: Threads + Sync>(
 // The shards, opened side by side over the devices that are left.
 fn shard_cells<D: Device + Send, B: Room + Send, R: Threads + Sync>(
     rt: &R,
-    alloc: Global,
-    words: &Published<Entry>,
-    launches: &Published<Launch>,
+    ground: &Ground<'_, B>,
     launch_log: &mut LaunchLog<B>,
     coordinator: &mut CoordinatorSide<D, B>,
-    store: u64,
-    shards: u8,
     devices: &mut Vec<D>,
 ) -> Result<Vec<ShardCell<D, B>>, AllocError>
-    requires own { (words.now ≡ B.log) × (launches.now ≡ B.launches) }
-    requires of { (store ≡ B.store) × (shards ≡ B.shards) }
-    requires few { shards ≤ max_shards }
-    requires left { 2 * shards ≤ vec_len devices.old }
+    requires left { 2 * B.shards ≤ vec_len devices.old }
     requires honest { All D.honest devices.old.items }
     requires rests { B.rests → ShardsRest D.state D.honest B.shards B.first B.low 0 devices.old.items }
     requires list { B.rests → IsPrefix B.first coordinator.old.seen × (B.low ≤ coordinator.old.low) }
-    ensures all { IfOk result (λ cells. vec_len cells ≡ shards) }
+    ensures all { IfOk result (λ cells. vec_len cells ≡ B.shards) }
 {
-    let closed = closed_shards(
-        alloc,
-        words,
-        launches,
-        launch_log,
-        coordinator,
-        store,
-        shards,
-        devices,
-    )?;
+    let closed = closed_shards(ground, launch_log, coordinator, devices)?;
     open_shards(rt, closed)
 }
 
-// The first caller, the coordinator and the shards. What the store is made of beside them stays with who asks for it, so that it is let go in one place.
+// The first caller, the coordinator and the shards.
 fn open_nodes<D: Device + Send, B: Room + Send, R: Threads + Sync>(
     rt: &R,
-    alloc: Global,
-    words: &Published<Entry>,
+    ground: &Ground<'_, B>,
     attempts: &Published<Attempt>,
-    launches: &Published<Launch>,
     launch_log: &mut LaunchLog<B>,
     log: LogPass<Entry>,
     tried: LogPass<Attempt>,
-    store: u64,
-    shards: u8,
     devices: &mut Vec<D>,
 ) -> Result<(Caller<B>, CoordinatorCell<D, B>, Vec<ShardCell<D, B>>), Refusal>
-    requires own { (words.now ≡ B.log) × (log.table ≡ B.log) × (launches.now ≡ B.launches) }
-    requires own_attempts { (attempts.now ≡ B.attempts) × (tried.table ≡ B.attempts) }
+    requires own { (log.table ≡ B.log) × (attempts.now ≡ B.attempts) × (tried.table ≡ B.attempts) }
     requires empty { (log.seen ≡ []) × (log.horizon ≡ 0) × (tried.seen ≡ []) }
-    requires of { (store ≡ B.store) × (shards ≡ B.shards) }
-    requires some { 1 ≤ shards }
-    requires few { shards ≤ max_shards }
-    requires count { vec_len devices.old ≡ 2 * (shards + 1) }
+    requires count { vec_len devices.old ≡ 2 * (B.shards + 1) }
     requires honest { All D.honest devices.old.items }
     requires rests { B.rests → RestAt D.state D.honest B.shards B.first B.low devices.old.items }
     ensures found { IfOk result (λ opened. B.rests → HasFound B.first B.low opened.0) }
-    ensures all { IfOk result (λ opened. vec_len opened.2 ≡ shards) }
+    ensures all { IfOk result (λ opened. vec_len opened.2 ≡ B.shards) }
     ensures refused { IfErr result (RefusesStore D.state D.honest D.moment D.left_since B.store B.shards devices.old.items) }
 {
-    let mut side = open_coordinator(alloc, words, log, tried, store, shards, devices)?;
-    let caller = first_caller(words, attempts, &mut side);
-    let cells = shard_cells(
-        rt, alloc, words, launches, launch_log, &mut side, store, shards, devices,
-    );
-    let Ok(cells) = cells else {
-        drop(side);
-        drop(caller);
-        return Err(Refusal::NoMemory);
-    };
-    match coordinator_cell(alloc, launches, launch_log, side) {
-        Ok(coordinator) => Ok((caller, coordinator, cells)),
+    // Taken first, while there is little to let go where there is no memory for it.
+    let room = BatchRoom::new(ground.alloc)?;
+    let mut side = open_coordinator(ground, log, tried, devices)?;
+    let caller = first_caller(ground, attempts, &mut side);
+    match shard_cells(rt, ground, launch_log, &mut side, devices) {
+        Ok(cells) => {
+            let coordinator = coordinator_cell(ground, launch_log, side, room);
+            Ok((caller, coordinator, cells))
+        }
         Err(_) => {
-            drop(cells);
+            drop(side);
+            drop(room);
             drop(caller);
             Err(Refusal::NoMemory)
         }
@@ -301,33 +258,39 @@ impl<D: Device, B: Room, G: Gate> Store<D, B, G> {
         } = parts;
         let (attempts, tried) = attempts.into_parts();
         let (launches, mut launch_log) = launches.into_parts();
+        let ground = Ground {
+            alloc,
+            words: &words,
+            launches: &launches,
+            store,
+            shards,
+            room: PhantomData,
+        };
         let opened = open_nodes(
             rt,
-            alloc,
-            &words,
+            &ground,
             &attempts,
-            &launches,
             &mut launch_log,
             log,
             tried,
-            store,
-            shards,
             &mut devices,
         );
+        drop(ground);
         drop(devices);
         match opened {
             Ok((caller, coordinator, cells)) => {
-                let store = Store::new(
+                let store = Store {
                     gate,
                     bell,
+                    closed: AtomicBool::new(false),
                     words,
                     attempts,
-                    launches,
-                    launch_log,
                     coordinator,
-                    cells,
-                    shards,
-                );
+                    launches,
+                    launch_log: Mutex::new(launch_log),
+                    shards: cells,
+                    count: shards,
+                };
                 Ok((store, caller))
             }
             Err(refusal) => {

@@ -44,40 +44,6 @@ pub struct Store<D: Device, B: Room, G: Gate> {
 }
 
 impl<D: Device, B: Room, G: Gate> Store<D, B, G> {
-    /// A store of these nodes, the shards in the order of their numbers.
-    pub fn new(
-        gate: G,
-        bell: Unparker,
-        words: Published<Entry>,
-        attempts: Published<Attempt>,
-        launches: Published<Launch>,
-        launch_log: LaunchLog<B>,
-        coordinator: CoordinatorCell<D, B>,
-        shards: Vec<ShardCell<D, B>>,
-        count: u8,
-    ) -> Store<D, B, G>
-        requires own { words ≡ B.log }
-        requires tried { attempts ≡ B.attempts }
-        requires flights { launches ≡ B.launches }
-        requires of { count ≡ B.shards }
-        requires all { vec_len shards ≡ count }
-        requires some { 1 ≤ count }
-        requires few { count ≤ max_shards }
-    {
-        Store {
-            gate,
-            bell,
-            closed: AtomicBool::new(false),
-            words,
-            attempts,
-            coordinator,
-            launches,
-            launch_log: Mutex::new(launch_log),
-            shards,
-            count,
-        }
-    }
-
     /// How many shards it has.
     pub fn shards(&self) -> u8
         ensures of { result ≡ B.shards }

@@ -18,7 +18,7 @@ returns-clause-honest g c = others_honest g.D.Device.honest c.args.devices.now.i
 
 pub returns-clause-refused : goal.returns-clause-refused
 returns-clause-refused g c =
-    let own = subst (λ (n : ℕ). c.coordinator.result ≡ record { store = n; shards = c.args.shards; node = coordinator_number }) c.requires.of.0 c.coordinator.ensures in
-    let same = subst (λ (n : ℕ). c.coordinator.result ≡ record { store = g.B.Room.store; shards = n; node = coordinator_number }) c.requires.of.1 own in
+    let own = subst (λ (n : ℕ). c.coordinator.result ≡ record { store = n; shards = c.args.ground.now.shards; node = coordinator_number }) c.args.ground.now.of.0 c.coordinator.ensures in
+    let same = subst (λ (n : ℕ). c.coordinator.result ≡ record { store = g.B.Room.store; shards = n; node = coordinator_number }) c.args.ground.now.of.1 own in
     first_two_refused g.D.Device.state g.D.Device.honest g.D.Device.moment g.D.Device.left_since g.B.Room.store g.B.Room.shards c.coordinator.result c.args.devices.now.items c.take_two-a.result.0 c.take_two-a.result.1
     c.take_two-a.new.devices.items c.open.result c.take_two-a.ensures.items same c.open.ensures.refused

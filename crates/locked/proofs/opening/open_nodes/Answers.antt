@@ -4,10 +4,10 @@ use Rattle.tuples.specs.declared.entry.Entry.{Entry}
 use Rattle.locked.proofs.opening.open_nodes.Goals as goal
 
 pub open_coordinator-requires-clause-left : goal.open_coordinator-requires-clause-left
-open_coordinator-requires-clause-left g c = omega (arith, c.requires.count, c.requires.some)
+open_coordinator-requires-clause-left g c = omega (arith, c.requires.count)
 
-pub returns-in-Ok-coordinator_cell-clause-found : goal.returns-in-Ok-coordinator_cell-clause-found
-returns-in-Ok-coordinator_cell-clause-found g c rests =
+pub returns-in-Ok-clause-found : goal.returns-in-Ok-clause-found
+returns-in-Ok-clause-found g c rests =
     let list = c.in_ok-side.ensures.list rests in
     let all = c.first_caller-caller.ensures.all in
     let raised : c.first_caller-caller.result.horizon ≡ c.in_ok-side.side.low = all.1 in
