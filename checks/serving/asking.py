@@ -249,6 +249,9 @@ def command_lines(folder):
         must(status == 2 and not out and err, f"is {(status, out, err)}: {words}")
     status, out, err = run("call", "--help")
     must((status, err) == (0, ""), f"help has status {status}, and says {err}")
+    for command in ("call", "dump", "reshard", "serve"):
+        asked, named = run(command, "--help"), run("help", command)
+        must(named == asked, f"is {named}, and `zanstore {command} --help` {asked}")
     for word in ("ADDR", "--retry", "--follow", "write", "read", "check", "watch", "at-least", "exact"):
         must(word in out, f"help does not tell {word}")
     told = run("--help")[1]

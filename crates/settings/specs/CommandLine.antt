@@ -43,6 +43,12 @@ program =
     with_subcommand (on_top (λ s. record s { subcommand_required = true })
     (new_app (codes "zanstore"))) sim.top
 
+-- ---- which command a command line is for
+
+-- by the words behind the program's name: the second one is the command's name, or `help`, and the command's name stands behind that
+abbrev pub IsFor : Option Text → Option Text → Text → Type 0
+IsFor second third command = (second ≡ Some command) ⊎ ((second ≡ Some (codes "help")) × (third ≡ Some command))
+
 -- ---- a command line, in its own words
 
 -- the number that decimal digits spell, where a plus may stand first

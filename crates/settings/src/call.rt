@@ -1,11 +1,12 @@
 // What a call is asked for, and the words that say so.
-ghost use Rattle.std.specs.Prelude.{◌≡◌, ◌≤◌, ◌⊎◌, ◌↔◌, IfErr, IfSome, IsTrue, Some, codes};
+ghost use Rattle.std.specs.Prelude.{◌≡◌, ◌≤◌, ◌⊎◌, ◌↔◌, IfErr, IfSome, IsTrue, codes};
 ghost use Rattle.std.specs.Prelude.{option_map, slice_get, string_bytes};
+ghost use Rattle.settings.specs.CommandLine.{IsFor};
 ghost use Rattle.settings.specs.declared.limits.TheConstants.{MAX_RETRY};
 
 use crate::limits::{MAX_RETRY, USAGE};
 use crate::parameter::{Manual, Otherwise, Parameter, Takes, program};
-use crate::reading::{Asked, is_named, read};
+use crate::reading::{Asked, are_for, read};
 use clap::{ArgMatches, Command, Error};
 use std::alloc::{AllocError, Global};
 use std::io::{Eprint, Print};
@@ -82,11 +83,11 @@ pub struct CallSettings {
 }
 
 impl CallSettings {
-    /// Whether the words of the command line, the program's name first, are for this command: the second one is `call`.
+    /// Whether the words of the command line, the program's name first, are for this command: the second one is `call`, or `help`, and `call` stands behind that.
     pub fn are_for(words: &[String]) -> bool
-        ensures { IsTrue result ↔ (option_map string_bytes (slice_get words.now 1) ≡ Some (codes "call")) }
+        ensures { IsTrue result ↔ IsFor (option_map string_bytes (slice_get words.now 1)) (option_map string_bytes (slice_get words.now 2)) (codes "call") }
     {
-        is_named(words, "call")
+        are_for(words, "call")
     }
 
     /// Reads the words. An `Err` is the status to end with, 0 for help and else 2, once the user is told.

@@ -1,13 +1,14 @@
 // What a dump is asked for, and the words that say so.
-ghost use Rattle.std.specs.Prelude.{◌≡◌, ◌≤◌, ◌⊎◌, ◌↔◌, IfErr, IsTrue, Some, codes};
+ghost use Rattle.std.specs.Prelude.{◌≡◌, ◌≤◌, ◌⊎◌, ◌↔◌, IfErr, IsTrue, codes};
 ghost use Rattle.std.specs.Prelude.{option_map, slice_get, string_bytes};
+ghost use Rattle.settings.specs.CommandLine.{IsFor};
 ghost use Rattle.settings.specs.declared.limits.TheConstants.{MAX_STORE};
 ghost use Rattle.tuples.specs.Limits.{max_shards};
 
 use crate::given::{number_in, store_in};
 use crate::limits::{MAX_PLACE, USAGE};
 use crate::parameter::{DIR, Manual, Otherwise, Parameter, SHARDS, STORE, Takes, program};
-use crate::reading::{Asked, is_named, read};
+use crate::reading::{Asked, are_for, read};
 use clap::{ArgMatches, Command, Error};
 use std::alloc::{AllocError, Global};
 use std::io::{Eprint, Print};
@@ -65,11 +66,11 @@ pub struct DumpSettings {
 }
 
 impl DumpSettings {
-    /// Whether the words of the command line, the program's name first, are for this command: the second one is `dump`.
+    /// Whether the words of the command line, the program's name first, are for this command: the second one is `dump`, or `help`, and `dump` stands behind that.
     pub fn are_for(words: &[String]) -> bool
-        ensures { IsTrue result ↔ (option_map string_bytes (slice_get words.now 1) ≡ Some (codes "dump")) }
+        ensures { IsTrue result ↔ IsFor (option_map string_bytes (slice_get words.now 1)) (option_map string_bytes (slice_get words.now 2)) (codes "dump") }
     {
-        is_named(words, "dump")
+        are_for(words, "dump")
     }
 
     /// Reads the words. An `Err` is the status to end with, 0 for help and else 2, once the user is told.

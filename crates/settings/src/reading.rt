@@ -1,5 +1,6 @@
 // How the words of a command are read.
 ghost use Rattle.std.specs.Prelude.{◌≡◌, ◌⊎◌, ◌↔◌, IfErr, IsTrue, Some, option_map, slice_get, string_bytes};
+ghost use Rattle.settings.specs.CommandLine.{IsFor};
 
 use crate::limits::USAGE;
 use crate::telling::tell;
@@ -16,14 +17,21 @@ pub(crate) trait Asked: Sized {
     fn given(alloc: Global, matches: &ArgMatches) -> Result<Option<Self>, AllocError>;
 }
 
-/// Whether the second word, behind the program's name, is the name of the command.
-pub(crate) fn is_named(words: &[String], command: &str) -> bool
-    ensures { IsTrue result ↔ (option_map string_bytes (slice_get words.now 1) ≡ Some command.now) }
+// Whether the word at this place is that one.
+fn is_word(words: &[String], at: usize, wanted: &str) -> bool
+    ensures { IsTrue result ↔ (option_map string_bytes (slice_get words.now at) ≡ Some wanted.now) }
 {
-    match words.get(1) {
-        Some(word) => word.as_str() == command,
+    match words.get(at) {
+        Some(word) => word.as_str() == wanted,
         None => false,
     }
+}
+
+/// Whether the words, the program's name first, are for the command: the second one is its name, or `help`, and its name stands behind that.
+pub(crate) fn are_for(words: &[String], command: &str) -> bool
+    ensures { IsTrue result ↔ IsFor (option_map string_bytes (slice_get words.now 1)) (option_map string_bytes (slice_get words.now 2)) command.now }
+{
+    is_word(words, 1, command) || is_word(words, 1, "help") && is_word(words, 2, command)
 }
 
 /// Reads the words. An `Err` is the status to end with, 0 for help and else 2, once the user is told.

@@ -84,14 +84,17 @@ zanstore call --help => Err(0)
 zanstore call -h => Err(0)
 zanstore help call => Err(0)"#;
 
-// Lines, and whether the second word says that they are for the command.
+// Lines, and whether they are for the command.
 const NAMED: &[(Reader, &str, bool)] = &[
     (
         Reader::Serve,
         "zanstore serve --dir data --store=7 --shards 2 --listen 127.0.0.1:7700 --workers=4",
         true,
     ),
+    (Reader::Serve, "zanstore help serve", true),
     (Reader::Serve, "zanstore", false),
+    (Reader::Serve, "zanstore help", false),
+    (Reader::Serve, "zanstore help dump", false),
     (Reader::Serve, "zanstore sim", false),
     (Reader::Serve, "serve", false),
     (Reader::Serve, "zanstore sim serve", false),
@@ -183,7 +186,7 @@ fn each_line_gets_its_settings_or_its_status(rt: HostRuntime) -> Result<(), Fail
 }
 
 #[test]
-fn the_second_word_says_for_whom_they_are(rt: HostRuntime) -> Result<(), Fail> {
+fn each_line_is_for_its_command(rt: HostRuntime) -> Result<(), Fail> {
     for (reader, line, wanted) in NAMED {
         let words = words_of(&rt, line)?;
         assert_eq!(rt; is_for(*reader, &words), *wanted, "at {line}");
