@@ -2,16 +2,18 @@
 //!
 //! Keeps: nobody is served before each node was opened and looked over and the address was bound; `ready` is printed once all its threads run behind that,
 //! and not before.
-//! Never: keeps a fact of an answer in memory of its own: each worker answers by a session over the one store (`store_sessions`).
+//! Never: answers from what an earlier request has found: each worker answers by a session over the one store, which goes on knowing what was seen.
 //! Callers rely on: the status, 0 where as many connections as were asked for came and were served, and 1 behind a fault, once standard error is told of it.
 //!
-//! What each answer line says is the contract of `serve_one` (`serving`) at a session of the store (`store_sessions`): the definition's value on the list that
-//! its caller has then seen. It has one premise, the only one of `serve_over`: that what was found in the files rests at one list, of which the
-//! coordinator's files have what is behind its base (`IsAtRest`, whose laws say that what a stop leaves meets it, behind checkpoints too).
+//! What each answer line says is the contract of `serve_one` (`serving`) at a session of the store (`StoreSession`): the definition's value on the list that
+//! its caller has then seen, so a write stands there at its place, and rows, membership and events are those of the place that is told, as fresh as asked.
+//! It has one premise, the only one of `serve_over`: that what was found in the files rests at one list, of which the coordinator's files have what is behind
+//! its base (`IsAtRest`, whose laws say that what a stop leaves meets it, behind checkpoints too). Why a request is refused the calls of `Store` say, and not
+//! these: the refusals that nodes told are let go with each request.
 //!
 //! Only tested: which fault is told, what is told of a start and while it lasts, that `ready` is printed and when, and that the server ends.
 //!
-//! Start at `serve`.
+//! Start at `serve`, and for what is answered at `specs/Answered.antt`.
 #![tactic(auto)]
 
 mod down;
@@ -20,6 +22,8 @@ mod opening;
 mod progress;
 mod readiness;
 mod running;
+mod session;
 mod start;
 
 pub use opening::{serve, serve_over};
+pub use session::StoreSession;

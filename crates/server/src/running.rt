@@ -7,6 +7,7 @@ use crate::down::DownLines;
 use crate::fault::{Fault, tell};
 use crate::progress::Progress;
 use crate::readiness::Readiness;
+use crate::session::StoreSession;
 use crate::start::{Start, tell_start};
 use calls::Told;
 use crossbeam_utils::sync::Parker;
@@ -22,7 +23,6 @@ use std::rt::Runtime;
 use std::sync::Wait;
 use std::thread::{self, Threads};
 use std::time::{Clock, Instant};
-use store_sessions::StoreSession;
 use tuples::Refusal;
 
 /// Looks the store over that was begun to be opened then, binds the address, and serves. Its first caller knows what was found in its devices. The status.

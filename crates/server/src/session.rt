@@ -1,6 +1,6 @@
 // A session over a store.
 ghost use Rattle.std.specs.Prelude.{◌≡◌};
-ghost use Rattle.store_sessions.specs.Answered.{Answered};
+ghost use Rattle.server.specs.Answered.{Answered};
 
 use answer_flow::{CheckEnd, ReadEnd, WatchEnd};
 use answers::{Events, Membership, Rows, Written};

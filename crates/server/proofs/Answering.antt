@@ -6,7 +6,7 @@ use Rattle.tuples.specs.declared.request.Request.{Request}
 use Rattle.published.specs.Known.{Known}
 use Rattle.answers.specs.declared.answer.Answer.{Answer}
 use Rattle.sides.specs.Sides.{IsLater}
-use Rattle.store_sessions.specs.Answered.{Answered, AnswersIfAny, IsAnswerTo}
+use Rattle.server.specs.Answered.{Answered, AnswersIfAny, IsAnswerTo}
 
 module _ (rests : Type 0) (caller old new : Known Entry) (same : caller ≡ old) (request : Request) (result : Result Answer Refusal) where
   pub what_is_found_answers : IsLater caller new → (rests → AnswersIfAny (IsAnswerTo (length caller.seen) new.seen request) result) → Answered rests old new request result

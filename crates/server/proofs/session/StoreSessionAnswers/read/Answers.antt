@@ -1,5 +1,5 @@
-use Rattle.store_sessions.proofs.Answering.{what_is_found_answers}
-use Rattle.store_sessions.proofs.session.StoreSessionAnswers.read.Goals as goal
+use Rattle.server.proofs.Answering.{what_is_found_answers}
+use Rattle.server.proofs.session.StoreSessionAnswers.read.Goals as goal
 
 pub returns-in-Answered : goal.returns-in-Answered
 returns-in-Answered g c =

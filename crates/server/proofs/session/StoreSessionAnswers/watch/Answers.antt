@@ -1,9 +1,9 @@
 use Rattle.std.proofs.Common.{ℕ, Ok, subst}
 use Rattle.answers.specs.declared.answer.Answer.TheVariants as answer
 use Rattle.tuples.specs.declared.request.Request.TheVariants as requests
-use Rattle.store_sessions.specs.Answered.{Answered}
-use Rattle.store_sessions.proofs.Answering.{what_is_found_answers}
-use Rattle.store_sessions.proofs.session.StoreSessionAnswers.watch.Goals as goal
+use Rattle.server.specs.Answered.{Answered}
+use Rattle.server.proofs.Answering.{what_is_found_answers}
+use Rattle.server.proofs.session.StoreSessionAnswers.watch.Goals as goal
 
 -- The limit that was handed over is the one that was asked for.
 pub returns-in-Answered : goal.returns-in-Answered
