@@ -7,6 +7,7 @@ import traceback
 from concurrent.futures import FIRST_COMPLETED, ThreadPoolExecutor, wait
 
 from .kit import rt
+from .seconds import Memory
 
 # waits: the keys of the tasks that come before it; seconds: what it is likely to take; memory: in bytes; jobs: how many processors
 # it can use where no other task waits for them; call: gets what the tasks gave so far, and the number of its jobs.
@@ -85,6 +86,8 @@ class Lanes:
 
     def run(self, tasks, ended=lambda key: None):
         """Runs all, and returns what each gave: None where it raised."""
+        memory = Memory()
+        tasks = {key: task._replace(memory=memory.of(*key[:2], task.memory)) for key, task in tasks.items()}
         self.behind = chains(tasks)
         # What takes no time comes first, since it keeps what others found: a run that is ended before its time leaves that to the next one.
         left = sorted(tasks, key=lambda key: (tasks[key].seconds > 0, -self.behind[key]))
@@ -143,9 +146,9 @@ sys.exit(os.waitstatus_to_exitcode(status))
         rtlib.guarded = guarded
 
     def rows(self):
-        """Each command's name and kind, with its seconds of clock and of processors."""
+        """Each command's name and kind, with its seconds of clock and of processors, and its memory in MB."""
         if not os.path.isfile(self.file):
             return []
         with open(self.file, encoding="utf-8") as file:
             rows = [line.rstrip("\n").split("\t") for line in file]
-        return [(name, kind, float(wall), float(user) + float(system)) for name, kind, wall, user, system, _ in rows]
+        return [(name, kind, float(wall), float(user) + float(system), int(memory) / 1000) for name, kind, wall, user, system, memory in rows]

@@ -1,4 +1,4 @@
-"""What earlier runs took, by which the tasks with the longest chain begin first, and the table of docs/GATE.md."""
+"""What earlier runs took, by which the tasks with the longest chain begin first and as many as memory holds, and the table of docs/GATE.md."""
 
 import collections
 import os
@@ -7,6 +7,10 @@ HERE = os.path.dirname(os.path.realpath(__file__))
 # The record that is kept with the sources, and what the last run here took.
 KEPT, LAST = f"{HERE}/seconds.tsv", "out/gate/seconds.tsv"
 KINDS = ("proof", "tests", "edits", "building")
+# The same of memory: the most that one command had, in MB.
+KEPT_MEMORY, LAST_MEMORY = f"{HERE}/memory.tsv", "out/gate/memory.tsv"
+# What a check may take beyond the record, as a part of it.
+SPARE = 0.1
 
 
 def rows_of(file):
@@ -27,17 +31,31 @@ class Seconds:
 
     def write(self, took, commands):
         """Writes what this run took, for `checks/gate --record` and `--table`."""
-        sums = collections.Counter()
-        for name, kind, _, processors in commands:
+        sums, most = collections.Counter(), collections.Counter()
+        for name, kind, _, processors, memory in commands:
             sums[name, kind] += processors
-        with open(LAST, "w", encoding="utf-8") as it:
-            for (name, kind), spent in sorted(sums.items()):
-                it.write(f"{name}\t{kind}\t{spent:.0f}\n")
+            most[name, kind] = max(most[name, kind], memory)
+        for file, found in ((LAST, sums), (LAST_MEMORY, most)):
+            with open(file, "w", encoding="utf-8") as it:
+                for (name, kind), spent in sorted(found.items()):
+                    it.write(f"{name}\t{kind}\t{spent:.0f}\n")
         print(self.summary(sums))
 
     def summary(self, sums):
         parts = [f"{kind} {sum(it for (_, k), it in sums.items() if k == kind) / 60:.0f}" for kind in (*KINDS, "other")]
         return f"gate: processor minutes: {', '.join(parts)}"
+
+
+class Memory:
+    """The most memory that a command of each crate's proof, tests and edits had, by the record."""
+
+    def __init__(self):
+        self.known = {(name, kind): 1e6 * float(most) for name, kind, most in rows_of(KEPT_MEMORY)}
+
+    def of(self, name, kind, reckoned):
+        """What a task is likely to have, in bytes: by the record, where `rt` reckons more, as it does of what has many lines below it."""
+        known = self.known.get((name, kind.split()[0]))
+        return min(reckoned, (1 + SPARE) * known) if known else reckoned
 
 
 def lines_of(folder, ending):
@@ -89,8 +107,9 @@ def table():
 
 def record():
     """Keeps what the last run here took."""
-    if not os.path.isfile(LAST):
-        raise SystemExit("no run of the gate has left its seconds here")
-    with open(LAST, encoding="utf-8") as source, open(KEPT, "w", encoding="utf-8") as to:
-        to.write(source.read())
+    for last, kept in ((LAST, KEPT), (LAST_MEMORY, KEPT_MEMORY)):
+        if not os.path.isfile(last):
+            raise SystemExit("no run of the gate has left its seconds here")
+        with open(last, encoding="utf-8") as source, open(kept, "w", encoding="utf-8") as to:
+            to.write(source.read())
     return 0
