@@ -17,7 +17,7 @@ from .seconds import Seconds
 
 ONE_JOB = ["--jobs", "1"]
 # The processor seconds that a batch of edits may take, by the record.
-LONG_BATCH = 200
+LONG_BATCH = 400
 # What of these scripts a verdict rests on: what other forms of them passed counts for nothing.
 JUDGES = ("kit.py", "batches.py", "wrong.py", "controls.py", "gating.py")
 SEEDING = threading.Lock()

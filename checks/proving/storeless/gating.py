@@ -16,7 +16,7 @@ from ..seconds import Seconds
 
 ONE_JOB = ["--jobs", "1"]
 # The processor seconds that a batch of edits may take, by the record.
-LONG_BATCH = 200
+LONG_BATCH = 400
 # How much of the memory that rt reckons with a check was seen to take at most: of a library, and of a program or of tests.
 TAKEN, TAKEN_WHOLE = 0.8, 1.1
 # Kept work is let go early where the disk has fewer bytes left: that of all crates together takes more than half as much.
