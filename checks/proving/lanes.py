@@ -1,8 +1,8 @@
 """Runs tasks side by side: one a processor, as many as memory holds, the longest chain first."""
 
 import collections
-import math
 import os
+import threading
 import time
 import traceback
 from concurrent.futures import FIRST_COMPLETED, ThreadPoolExecutor, wait
@@ -15,9 +15,13 @@ from .seconds import Memory
 Task = collections.namedtuple("Task", "waits seconds memory jobs call")
 # What one job more of a check adds, as a part of the memory of the first.
 MORE = 0.6
-# How much longer than all that is left a chain has to be for a second processor: that one takes a third more of processor time, since each job reads all types,
-# and saves a fifth of the clock's.
-LONGER = 1.25
+# What a second job does to a check: so much of the clock is saved, and so much processor time is added, since each job reads all types.
+SAVED, ADDED = 0.2, 0.3
+# A chain that takes so much of the time of all that is left waits for no processor: up to so many tasks of such chains begin beside those that run, and the
+# commands of all others are polite to theirs.
+URGENT, BEYOND, POLITE = 0.8, 2, 10
+# How polite the commands of a thread's task are.
+MANNERS = threading.local()
 
 
 def chains(tasks):
@@ -57,15 +61,22 @@ class Lanes:
         by_memory = 1 + int((self.room() / task.memory - 1) / MORE) if task.memory else 1
         return max(1, min(task.jobs, max(self.idle() // max(ready, 1), wanted), by_memory))
 
-    def wanted(self, key, left, tasks):
-        """With how many jobs the chain behind a task, and it, end no later than all that is left does on these processors: the others then end beside it."""
-        rest = sum(tasks[it].seconds for it in [*left, *(it for it, _, _ in self.running.values())])
-        share = self.behind[key] * self.count / rest if rest else 1
-        return min(self.count, math.ceil(share)) if share > LONGER else 1
+    def rest(self, left, tasks):
+        """What is left to do, in processor seconds."""
+        return sum(tasks[it].seconds for it in [*left, *(it for it, _, _ in self.running.values())])
 
-    def timed(self, key, call, jobs):
+    def is_urgent(self, key, left, tasks):
+        return tasks[key].seconds > 0 and self.behind[key] * self.count > URGENT * self.rest(left, tasks)
+
+    def wanted(self, key, left, tasks):
+        """Two jobs where all then ends earlier: the chain that begins with the task, or all that is left on these processors, whichever takes longer."""
+        rest, seconds = self.rest(left, tasks), tasks[key].seconds
+        end = lambda saved, added: max(self.behind[key] - saved * seconds, (rest + added * seconds) / self.count)
+        return 2 if self.count > 1 and end(SAVED, ADDED) < end(0, 0) else 1
+
+    def timed(self, key, call, jobs, politeness):
         """What the task gives, and None where it raises, as where no space is left: then the run fails, but tells all the rest first."""
-        start = time.monotonic()
+        start, MANNERS.politeness = time.monotonic(), politeness
         try:
             return call(self.given, jobs)
         except Exception:
@@ -81,12 +92,12 @@ class Lanes:
         for at, key in enumerate(ready):
             task = tasks[key]
             # Who has the longest chain behind it waits for memory alone, and none that could do with less takes it meanwhile.
-            memory = task.memory if task.seconds else 0
-            if self.idle() <= 0 or (self.running and memory > self.room()):
+            memory, is_urgent = task.memory if task.seconds else 0, self.is_urgent(key, left, tasks)
+            if self.idle() <= -BEYOND * (is_urgent or not task.seconds) or (self.running and memory > self.room()):
                 break
             jobs = self.jobs_for(task, len(ready) - at, self.wanted(key, left, tasks)) if task.seconds else 1
             left.remove(key)
-            run = pool.submit(self.timed, key, task.call, jobs)
+            run = pool.submit(self.timed, key, task.call, jobs, 0 if is_urgent else POLITE)
             self.running[run] = key, memory * (1 + MORE * (jobs - 1)), jobs
 
     def run(self, tasks, ended=lambda key: None):
@@ -96,7 +107,7 @@ class Lanes:
         self.behind = chains(tasks)
         # What takes no time comes first, since it keeps what others found: a run that is ended before its time leaves that to the next one.
         left = sorted(tasks, key=lambda key: (tasks[key].seconds > 0, -self.behind[key]))
-        with ThreadPoolExecutor(self.count) as pool:
+        with ThreadPoolExecutor(self.count + BEYOND) as pool:
             while left or self.running:
                 self.begin(pool, left, tasks)
                 for run in wait(self.running, return_when=FIRST_COMPLETED).done:
@@ -111,14 +122,14 @@ class Meter:
 
     CODE = """
 import os, signal, sys, time
-log, start, child = sys.argv[1], time.monotonic(), os.fork()
+log, start, child, words = sys.argv[1], time.monotonic(), os.fork(), sys.argv[3:]
 if not child:
     try:
-        os.execvp(sys.argv[2], sys.argv[2:])
+        os.nice(int(sys.argv[2]))
+        os.execvp(words[0], words)
     finally:
         os._exit(127)
 status, used = os.wait4(child, 0)[1:]
-words = sys.argv[2:]
 name = words[words.index("--crate-name") + 1] if "--crate-name" in words else os.path.basename(words[-1])
 kind = "tests" if "--test" in words else "edits" if "rt-edit-" in os.getcwd() else "proof"
 kind = "building" if "--crate-checked" in words or os.path.basename(words[0]) == "rattle-link" else kind if "--crate-name" in words else "other"
@@ -146,7 +157,7 @@ sys.exit(os.waitstatus_to_exitcode(status))
 
         def guarded():
             words = plain()
-            return [*words, words[0], "-ISc", self.CODE, self.file]
+            return [*words, words[0], "-ISc", self.CODE, self.file, str(getattr(MANNERS, "politeness", 0))]
 
         rtlib.guarded = guarded
 
