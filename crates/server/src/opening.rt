@@ -167,8 +167,8 @@ where
         settings.store,
         settings.shards,
     ) {
-        Ok((store, first)) => serve_store(
-            rt, alloc, &store, first, parker, settings, progress, began,
+        Ok((store, mut first)) => serve_store(
+            rt, alloc, &store, &mut first, parker, settings, progress, began,
         ),
         Err(refusal) => tell(rt, &Fault::Refused(refusal)),
     }

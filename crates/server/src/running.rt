@@ -30,7 +30,7 @@ pub(crate) fn serve_store<D: Device + Send, B: Room + Send + Sync, G: Gate + Syn
     rt: &R,
     alloc: Global,
     store: &Store<D, B, G>,
-    mut first: Caller<B>,
+    first: &mut Caller<B>,
     parker: Parker,
     settings: &ServeSettings,
     progress: &Progress,
@@ -38,16 +38,16 @@ pub(crate) fn serve_store<D: Device + Send, B: Room + Send + Sync, G: Gate + Syn
 ) -> u8
 where
     R: Runtime + Net<Listener = TcpListener, Stream = TcpStream> + Threads + Wait + Sync,
-    requires found { B.rests → HasFound B.first B.low first }
+    requires found { B.rests → HasFound B.first B.low first.old }
     ensures { (result ≡ 0) ⊎ (result ≡ 1) }
 {
-    match start(rt, alloc, store, &mut first, settings) {
+    match start(rt, alloc, store, first, settings) {
         Ok(start) => {
             progress.end();
             tell_start(rt, settings, &start, progress.found, began);
             ended(
                 rt,
-                serve_at(rt, alloc, store, &mut first, parker, settings, &start),
+                serve_at(rt, alloc, store, first, parker, settings, &start),
             )
         }
         Err(fault) => tell(rt, &fault),
