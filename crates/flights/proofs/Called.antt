@@ -3,33 +3,19 @@ use Rattle.std.proofs.Common.{◌≡◌, ◌⊎◌, ◌≤◌, ◌<◌, ◌+◌,
 use Rattle.std.proofs.lemmas.Bool.{cases_lt}
 use Rattle.std.proofs.lemmas.List.{append-nil}
 use mathlib.Core.List.{IsPrefix}
-use Rattle.refusal.specs.declared.refusal.Refusal.{Refusal}
-use Rattle.away.specs.declared.away.Away.{Away}
-use Rattle.device.specs.Device.{State}
-use Rattle.published.proofs.Prefixes.{prefix_trans}
-use Rattle.records.specs.declared.record.Record.{Record}
+use Rattle.flights.proofs.Words.{Answered, AnsweredIn, Away, batch_size, Checkpoint, from_shard, IntentValue, is_up, IsSoundIn, IsSoundShard, Launch, NodeView, prefix_trans, Record, Refusal, refused, Reply, shard, ShardAnswers, ShardReply, ShardView, State, StaysIn, VerdictValue}
 use Rattle.records.specs.declared.record.Record.TheVariants.{Dropped}
 use Rattle.records.specs.Replays.{find_in_doubt}
 use Rattle.gated.specs.Gated.{max_body}
-use Rattle.journal.specs.Records.{HasNoRoom, batch_size, max_records}
-use Rattle.decisions.specs.Values.{BatchValue, HeadsValue, IntentValue, TicketValue, VerdictValue}
-use Rattle.shard.specs.Shards.{IsUp, ShardView, Stages, memory}
+use Rattle.journal.specs.Records.{HasNoRoom, max_records}
+use Rattle.decisions.specs.Values.{BatchValue, HeadsValue, TicketValue}
+use Rattle.shard.specs.Shards.{IsUp, Stages, memory}
 use Rattle.calls.specs.declared.call.NodeCall.TheVariants.{Shard}
 use Rattle.calls.specs.declared.call.ShardCall.{ShardCall}
-use Rattle.calls.specs.declared.call.ShardCall.TheVariants.{Learned, Learn, StagePrepare, Vote, DropWrite, InDoubt, Read, ReadForCheck, Settle, Collect, Flush, Checkpoint}
-use Rattle.calls.specs.declared.reply.Reply.{Reply}
-use Rattle.calls.specs.declared.reply.Reply.TheVariants.{Shard as from_shard}
-use Rattle.calls.specs.declared.reply.ShardReply.{ShardReply}
+use Rattle.calls.specs.declared.call.ShardCall.TheVariants.{Learned, Learn, StagePrepare, Vote, DropWrite, InDoubt, Read, ReadForCheck, Settle, Collect, Flush}
 use Rattle.calls.specs.declared.reply.ShardReply.TheVariants as told_by
-use Rattle.calls.specs.Asking.{Answered, ShardAnswers}
 use Rattle.calls.specs.ShardAnswers.{CollectAnswers, DropAnswers, LearnAnswers, PrepareAnswers}
-use Rattle.calls.specs.Views.{NodeView, shard, refused}
-use Rattle.sides.specs.Lending.{IsSoundIn, IsSoundShard}
-use Rattle.sides.specs.Sides.{AnsweredIn}
-use Rattle.sides.proofs.ShardCalls.{is_up}
-use Rattle.flights.specs.Flights.{StaysIn}
 use Rattle.flights.specs.Places.{is_flush}
-use Rattle.flights.specs.declared.launch.Launch.{Launch}
 
 has_room : (staged : List Record) (r : Record) → HasNoRoom staged r ⊎ (HasNoRoom staged r → ⊥)
 has_room staged r = ⊎_elim

@@ -4,25 +4,13 @@ use Rattle.std.specs.Prelude.{IfErr, OnOk}
 use Rattle.std.proofs.lemmas.List.{append-nil}
 use Rattle.std.proofs.lemmas.Option.{same_Some}
 use mathlib.Core.List.{IsPrefix}
-use Rattle.away.specs.Aways.{lent_honest, lent_state}
-use Rattle.away.specs.declared.away.Away.{Away}
-use Rattle.records.specs.declared.record.Record.{Record}
-use Rattle.records.specs.Replays.{shard_state}
-use Rattle.device.specs.Device.{State, left}
-use Rattle.journal.specs.Records.{HasOldOrNew, HasRecords, LeavesBoth, View, batch_size}
-use Rattle.published.specs.Known.{Known}
-use Rattle.tuples.specs.declared.entry.Entry.{Entry}
+use Rattle.flights.proofs.Words.{AreRowsAround, AreRowsOf, Away, batch_size, Coordinator, coordinator, Entry, Flying, HasFlown, IsReady, IsSoundIn, IsSoundShard, Known, Launch, launch_of, lent_honest, lent_state, MayLandIn, NodeView, OfShard, Record, refused, Shard, shard, shard_state, ShardView, State, StaysIn, View}
+use Rattle.device.specs.Device.{left}
+use Rattle.journal.specs.Records.{HasOldOrNew, HasRecords, LeavesBoth}
 use Rattle.shard.specs.Keeping.{prepared_ids}
-use Rattle.shard.specs.Shards.{ShardView}
-use Rattle.shard.specs.declared.lending.Flying.{Flying as OfShard}
 use Rattle.calls.specs.Lending.{ShardLands, ShardMayLand}
-use Rattle.calls.specs.Views.{NodeView, coordinator, refused, shard}
-use Rattle.calls.specs.declared.lending.Flying.{Flying}
-use Rattle.calls.specs.declared.lending.Flying.TheVariants.{Coordinator, Shard}
-use Rattle.ties.specs.ShardTies.{AreRowsOf}
-use Rattle.sides.specs.Lending.{IsSoundIn, IsSoundShard, LandsIn, LandsRows, MayLandIn}
-use Rattle.flights.specs.Flights.{AreRowsAround, HasFlown, IsReady, StaysBehind, StaysIn, launch_of}
-use Rattle.flights.specs.declared.launch.Launch.{Launch}
+use Rattle.sides.specs.Lending.{LandsIn, LandsRows}
+use Rattle.flights.specs.Flights.{StaysBehind}
 
 went_well : {T E P : Type 0} (Q : E → Type 0) (r : Result T E) (down : Bool) → IfErr r (λ e. Q e × (down ≡ true)) → down ≡ false → OnOk r P → P
 went_well Q (Ok x) down err up ok = ok

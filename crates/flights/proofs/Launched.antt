@@ -1,21 +1,10 @@
 -- What leaves, and what stays behind it.
 use Rattle.std.proofs.Common.{◌≡◌, ◌++◌, ℕ, zero, suc, false, List, [], ◌∷◌, length, Option, Some, None, slice_get, refl, sym, ◌∙◌, ap, subst, arith}
 use Rattle.std.proofs.lemmas.List.{append-nil}
-use Rattle.away.specs.Aways.{lent_honest, lent_state}
-use Rattle.away.specs.declared.away.Away.{Away}
-use Rattle.device.specs.Device.{State}
-use Rattle.journal.specs.Records.{View}
-use Rattle.published.specs.Known.{Known}
-use Rattle.tuples.specs.declared.entry.Entry.{Entry}
-use Rattle.shard.specs.Shards.{ShardView}
-use Rattle.shard.specs.declared.lending.Flying.{Flying as OfShard}
+use Rattle.flights.proofs.Words.{AreRowsAround, Away, Coordinator, coordinator, Entry, Flying, IsReady, IsSoundIn, IsSoundShard, Known, launch_of, LendsIn, lent_honest, lent_state, NodeView, OfShard, refusal_in, refused, Shard, shard, ShardView, State, StaysIn, View}
 use Rattle.calls.specs.Lending.{ShardLends}
-use Rattle.calls.specs.Views.{NodeView, coordinator, refused, shard}
-use Rattle.calls.specs.declared.lending.Flying.{Flying}
-use Rattle.calls.specs.declared.lending.Flying.TheVariants.{Coordinator, Shard}
-use Rattle.sides.specs.Lending.{IsSoundIn, IsSoundShard, IsUpIn, LendsIn, refusal_in}
+use Rattle.sides.specs.Lending.{IsUpIn}
 use Rattle.sides.specs.Sides.{IsTiedIn}
-use Rattle.flights.specs.Flights.{AreRowsAround, IsReady, StaysIn, launch_of}
 
 -- what is added to a list stands at its end
 pub at_the_end : {X : Type 0} (xs : List X) (x : X) (n : ℕ) → n ≡ length xs → slice_get (xs ++ x ∷ []) n ≡ Some x

@@ -3,37 +3,25 @@ use Rattle.std.proofs.Common.{◌≡◌, ◌≤◌, ⊎_elim, false, ℕ, List, 
 use Rattle.std.proofs.lemmas.List.{append-nil}
 use Rattle.std.specs.Global.{Vec}
 use mathlib.Core.List.{IsPrefix}
-use Rattle.refusal.specs.declared.refusal.Refusal.{Refusal}
-use Rattle.away.specs.declared.away.Away.{Away}
-use Rattle.tuples.specs.declared.entry.Entry.{Entry}
+use Rattle.flights.proofs.Words.{Answered, Attempt, Away, coordinator, CoordinatorView, Entry, IntentValue, is_up, IsSound, IsSoundThere, Launch, LogStaysIn, NodeView, prefix_trans, Record, Refusal, refused, Reply, State, VerdictValue}
 use Rattle.tuples.specs.Writes.{WriteValue}
-use Rattle.device.specs.Device.{State}
-use Rattle.published.proofs.Prefixes.{prefix_trans}
-use Rattle.records.specs.declared.record.Record.{Record}
-use Rattle.decisions.specs.Coordinators.{CoordinatorView}
 use Rattle.decisions.specs.Standing.{DecidedValue}
-use Rattle.decisions.specs.Values.{IntentValue, SettledValue, VerdictValue, VoteValue}
+use Rattle.decisions.specs.Values.{SettledValue, VoteValue}
 use Rattle.coordinator.specs.declared.decided.NotDecided.{NotDecided}
 use Rattle.coordinator.specs.declared.raising.NotRaised.{NotRaised}
 use Rattle.coordinator.specs.declared.telling.Outcome.TheVariants.{Kept, Later}
 use Rattle.calls.specs.declared.call.NodeCall.TheVariants.{Coordinator}
 use Rattle.calls.specs.declared.call.CoordinatorCall.{CoordinatorCall}
 use Rattle.calls.specs.declared.call.CoordinatorCall.TheVariants.{Begin, Heads, Batch, Decide, Outcome, Abort, Inquire, Raise, Flush, Checkpoint}
-use Rattle.calls.specs.declared.reply.Reply.{Reply}
 use Rattle.calls.specs.declared.reply.Reply.TheVariants.{Coordinator as from_coordinator}
 use Rattle.calls.specs.declared.reply.CoordinatorReply.{CoordinatorReply}
 use Rattle.calls.specs.declared.reply.CoordinatorReply.TheVariants as told
-use Rattle.calls.specs.Asking.{Answered, CoordinatorAnswers}
+use Rattle.calls.specs.Asking.{CoordinatorAnswers}
 use Rattle.calls.specs.CoordinatorAnswers.{AbortAnswers, BeginAnswers, DecideAnswers, RaiseAnswers}
-use Rattle.calls.specs.Views.{NodeView, coordinator, refused}
 use Rattle.ties.specs.DecidingLaws.{attempt}
-use Rattle.ties.specs.Ties.{Attempt}
 use Rattle.flow_ties.specs.Writes.{TellsWriter}
-use Rattle.sides.specs.CoordinatorSides.{AnsweredThere, IsSound, IsSoundThere, IsTried, TellsDecided, TellsKept, tried_by}
-use Rattle.sides.proofs.ShardCalls.{is_up}
-use Rattle.flights.specs.Flights.{LogStaysIn}
+use Rattle.sides.specs.CoordinatorSides.{AnsweredThere, IsTried, TellsDecided, TellsKept, tried_by}
 use Rattle.flights.specs.LogPlaces.{is_log_flush}
-use Rattle.flights.specs.declared.launch.Launch.{Launch}
 use Rattle.flights.proofs.Launched.{at_the_end}
 
 module _ {D : Type 0} (state : D → State) (honest : D → Type 0) (moment : D → ℕ) (left_since : D → ℕ → List ℕ → Type 0) (store shards : ℕ) where

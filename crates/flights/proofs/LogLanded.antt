@@ -1,22 +1,11 @@
 -- What comes back to a coordinator is what left it.
 use Rattle.std.proofs.Common.{◌≡◌, ◌++◌, ⊎_elim, inl, inr, ℕ, true≢false, List, [], take, Option, Some, None, sym, ◌∙◌, ap, subst, arith}
 use Rattle.std.proofs.lemmas.List.{append-nil}
-use Rattle.away.specs.Aways.{lent_honest, lent_state}
-use Rattle.away.specs.declared.away.Away.{Away}
-use Rattle.records.specs.declared.record.Record.{Record}
-use Rattle.device.specs.Device.{State}
-use Rattle.journal.specs.Records.{View, batch_size}
-use Rattle.decisions.specs.Coordinators.{CoordinatorView}
+use Rattle.flights.proofs.Words.{Away, batch_size, Coordinator, coordinator, CoordinatorView, Flying, HasFlown, IsSound, IsSoundThere, Launch, lent_honest, lent_state, LogStaysIn, MayLandIn, NodeView, OfCoordinator, Record, refused, Shard, shard, State, View}
 use Rattle.coordinator.specs.Lending.{IsToldOf}
-use Rattle.coordinator.specs.declared.lending.Flying.{Flying as OfCoordinator}
 use Rattle.calls.specs.Lending.{CoordinatorMayLand}
-use Rattle.calls.specs.Views.{NodeView, coordinator, refused, shard}
-use Rattle.calls.specs.declared.lending.Flying.{Flying}
-use Rattle.calls.specs.declared.lending.Flying.TheVariants.{Coordinator, Shard}
-use Rattle.sides.specs.CoordinatorSides.{IsSound, IsSoundThere}
-use Rattle.sides.specs.Lending.{ComesBack, ComesBackIn, MayLandIn}
-use Rattle.flights.specs.Flights.{HasFlown, LogStaysBehind, LogStaysIn}
-use Rattle.flights.specs.declared.launch.Launch.{Launch}
+use Rattle.sides.specs.Lending.{ComesBack, ComesBackIn}
+use Rattle.flights.specs.Flights.{LogStaysBehind}
 use Rattle.flights.proofs.Landed.{no_longer, taken}
 
 module _ {D : Type 0} (state : D → State) (honest : D → Type 0) (store shards : ℕ) where

@@ -1,18 +1,9 @@
 -- What leaves of a coordinator, and what stays behind it.
 use Rattle.std.proofs.Common.{◌≡◌, ℕ, false, [], Option, Some, None, refl, sym, ◌∙◌, ap, subst}
 use Rattle.std.proofs.lemmas.List.{append-nil}
-use Rattle.away.specs.declared.away.Away.{Away}
-use Rattle.device.specs.Device.{State}
-use Rattle.journal.specs.Records.{View}
-use Rattle.decisions.specs.Coordinators.{CoordinatorView}
-use Rattle.coordinator.specs.declared.lending.Flying.{Flying as OfCoordinator}
+use Rattle.flights.proofs.Words.{Away, Coordinator, coordinator, CoordinatorView, Flying, IsReady, IsSound, IsSoundThere, launch_of, LendsIn, LogStaysIn, NodeView, OfCoordinator, refusal_in, refused, Shard, shard, State, View}
 use Rattle.calls.specs.Lending.{CoordinatorLends}
-use Rattle.calls.specs.Views.{NodeView, coordinator, refused, shard}
-use Rattle.calls.specs.declared.lending.Flying.{Flying}
-use Rattle.calls.specs.declared.lending.Flying.TheVariants.{Coordinator, Shard}
-use Rattle.sides.specs.CoordinatorSides.{IsSound, IsSoundThere}
-use Rattle.sides.specs.Lending.{IsUpThere, LendsIn, refusal_in}
-use Rattle.flights.specs.Flights.{IsReady, LogStaysIn, launch_of}
+use Rattle.sides.specs.Lending.{IsUpThere}
 
 -- the opening of a coordinator that is up was not refused
 pub log_up_is_opened : {D : Type 0} (node : Option (NodeView D)) → IsUpThere node → refusal_in node ≡ None

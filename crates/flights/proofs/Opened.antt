@@ -1,11 +1,9 @@
 -- A shard that is opened over honest devices is sound.
 use Rattle.std.proofs.Common.{⊎_elim, ℕ, List, Option, Some, None, sym, subst}
-use Rattle.refusal.specs.declared.refusal.Refusal.{Refusal}
-use Rattle.device.specs.Device.{State}
+use Rattle.flights.proofs.Words.{coordinator, IsSoundIn, NodeView, Refusal, refused, shard, State}
 use Rattle.records.specs.Replays.{Identity}
 use Rattle.calls.specs.Opening.{ShardOpens}
-use Rattle.calls.specs.Views.{NodeView, coordinator, devices_of, refused, shard}
-use Rattle.sides.specs.Lending.{IsSoundIn}
+use Rattle.calls.specs.Views.{devices_of}
 use Rattle.sides.specs.Reopening.{OpenedIn, RestartedIn, ShardReopens}
 use Rattle.sides.proofs.Revived.{still}
 

@@ -1,20 +1,9 @@
 -- A checkpoint leaves a shard sound.
 use Rattle.std.proofs.Common.{⊎_elim, true≢false, ℕ, List, Result, Option, Some, Ok, Err, sym, ◌∙◌, subst}
-use Rattle.refusal.specs.declared.refusal.Refusal.{Refusal}
-use Rattle.device.specs.Device.{State}
-use Rattle.shard.specs.Shards.{ShardView}
+use Rattle.flights.proofs.Words.{Answered, AnsweredIn, Checkpoint, from_shard, is_up, IsSoundIn, IsSoundShard, NodeView, Refusal, refused, Reply, shard, ShardAnswers, ShardReply, ShardView, State}
 use Rattle.calls.specs.declared.call.NodeCall.TheVariants.{Shard}
-use Rattle.calls.specs.declared.call.ShardCall.TheVariants.{Checkpoint}
-use Rattle.calls.specs.declared.reply.Reply.{Reply}
-use Rattle.calls.specs.declared.reply.Reply.TheVariants.{Shard as from_shard}
-use Rattle.calls.specs.declared.reply.ShardReply.{ShardReply}
 use Rattle.calls.specs.declared.reply.ShardReply.TheVariants as told_by
-use Rattle.calls.specs.Asking.{Answered, ShardAnswers}
 use Rattle.calls.specs.ShardAnswers.{CheckpointAnswers}
-use Rattle.calls.specs.Views.{NodeView, shard, refused}
-use Rattle.sides.specs.Lending.{IsSoundIn, IsSoundShard}
-use Rattle.sides.specs.Sides.{AnsweredIn}
-use Rattle.sides.proofs.ShardCalls.{is_up}
 
 module _ {D : Type 0} (state : D → State) (honest : D → Type 0) (moment : D → ℕ) (left_since : D → ℕ → List ℕ → Type 0) where
   sound_behind : (old new : ShardView D) (r : Result (Unit {0}) Refusal) → IsSoundShard state honest old → CheckpointAnswers state honest moment left_since old r new → IsSoundShard state honest new

@@ -1,16 +1,12 @@
 -- Rows of a list are those of each longer one.
 use Rattle.std.proofs.Common.{◌≡◌, ◌≤◌, ◌++◌, ℕ, List, length, sym, ap, subst, arith, length-append}
 use Rattle.std.proofs.lemmas.List.{take-append-le}
-use Rattle.tuples.specs.declared.entry.Entry.{Entry}
+use Rattle.flights.proofs.Words.{AreRowsAround, AreRowsOf, Entry, Known, Launch, shard_state}
 use Rattle.tuples.specs.Versions.{changes_from, collected, of_shard, versions}
-use Rattle.records.specs.Replays.{ShardState, shard_state}
-use Rattle.published.specs.Known.{Known}
+use Rattle.records.specs.Replays.{ShardState}
 use Rattle.versions.specs.Alike.{AreAlike}
 use Rattle.laws.specs.Worlds.{AreWhole}
-use Rattle.ties.specs.ShardTies.{AreRowsOf}
 use Rattle.sides.specs.Sides.{IsLater}
-use Rattle.flights.specs.Flights.{AreRowsAround}
-use Rattle.flights.specs.declared.launch.Launch.{Launch}
 
 same_versions : (seen more : List Entry) (p h : ℕ) → p ≤ length seen → versions (seen ++ more) p h ≡ versions seen p h
 unfolding versions

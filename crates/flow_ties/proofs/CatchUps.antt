@@ -4,26 +4,13 @@ use Rattle.std.proofs.lemmas.Bool.{cases_Bool, cases_lt}
 use Rattle.std.proofs.lemmas.List.{length-take, take-append-le}
 use Rattle.std.proofs.lemmas.Option.{same_Some}
 use mathlib.Core.List.{IsPrefix}
-use Rattle.refusal.specs.declared.refusal.Refusal.{Refusal}
-use Rattle.refusal.specs.declared.refusal.Refusal.TheVariants.{Collected, Full}
-use Rattle.tuples.specs.declared.entry.Entry.{Entry}
-use Rattle.decisions.specs.Values.{BatchValue}
-use Rattle.calls.specs.Belonging.{IsReplyTo}
-use Rattle.calls.specs.declared.call.NodeCall.{NodeCall}
-use Rattle.calls.specs.declared.call.NodeCall.TheVariants.{Coordinator, Shard}
+use Rattle.flow_ties.proofs.Words.{AreOfLog, Asks, BatchValue, CatchUpCallValue, CatchUpValue, Coordinator, Entry, from_coordinator, from_shard, Full, Gives, IsBatchOf, IsHeld, IsReplyTo, IsTold, learning, Next, NodeCall, Progress, Refusal, Refused, Reply, Shard, There}
+use Rattle.refusal.specs.declared.refusal.Refusal.TheVariants.{Collected}
 use Rattle.calls.specs.declared.call.CoordinatorCall.TheVariants as calls
 use Rattle.calls.specs.declared.call.ShardCall.TheVariants as shard_calls
-use Rattle.calls.specs.declared.reply.Reply.{Reply}
-use Rattle.calls.specs.declared.reply.Reply.TheVariants.{Coordinator as from_coordinator, Shard as from_shard}
 use Rattle.calls.specs.declared.reply.CoordinatorReply.TheVariants as told
 use Rattle.calls.specs.declared.reply.ShardReply.TheVariants as told_by
-use Rattle.catch_up.specs.CatchingUp.{Asks, BatchGives, Gives, LearnGives}
-use Rattle.catch_up.specs.Held.{CatchUpCallValue, CatchUpValue, learning}
-use Rattle.catch_up.specs.declared.caught.Progress.{Progress}
-use Rattle.catch_up.specs.declared.caught.Progress.TheVariants.{Next, There, Refused}
-use Rattle.laws.specs.ShardLaws.{AreOfLog}
-use Rattle.ties.specs.TellingLaws.{IsBatchOf}
-use Rattle.flow_ties.specs.Telling.{IsHeld, IsTold}
+use Rattle.catch_up.specs.CatchingUp.{BatchGives, LearnGives}
 
 stretch_longer : (seen more : List Entry) (from : ℕ) (writes : List Entry) → AreOfLog seen from writes → AreOfLog (seen ++ more) from writes
 stretch_longer seen more zero writes of_list =

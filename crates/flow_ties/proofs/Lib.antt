@@ -1,3 +1,4 @@
+mod Words
 pub mod CatchUps
 pub mod Places
 pub mod SeenReads

@@ -4,12 +4,9 @@ use Rattle.std.proofs.Math.Path.{fun_ext}
 use Rattle.std.proofs.lemmas.List.{take-append-le}
 use Rattle.std.specs.List.{flat_map}
 use mathlib.Core.List.{IsPrefix}
-use Rattle.tuples.specs.declared.entry.Entry.{Entry}
+use Rattle.flow_ties.proofs.Words.{at_least, Entry, exact, Freshness, HeadsValue, IsAsAsked, latest}
 use Rattle.tuples.specs.Log.{is_at, there_after}
-use Rattle.decisions.specs.Flows.{Freshness, at_least, exact, latest}
-use Rattle.decisions.specs.Standing.{HeadsValue}
 use Rattle.answer_flow.specs.Finding.{FindsPlace}
-use Rattle.flow_ties.specs.Telling.{IsAsAsked}
 
 -- what was at a place of a list is at that place of each longer one
 at_longer : (seen more : List Entry) (place : ℕ) → place ≤ length seen → is_at seen place ≡ is_at (seen ++ more) place

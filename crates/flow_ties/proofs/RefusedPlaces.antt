@@ -1,14 +1,8 @@
 -- A place that heads refuse is not there, where they tell no less than what is seen, and no horizon above the one that is. A call that may be made is one of a
 -- node that is there.
 use Rattle.std.proofs.Common.{inl, inr, ⊎_elim, ℕ, ◌≤◌, List, length, arith}
-use Rattle.refusal.specs.declared.refusal.Refusal.{Refusal}
-use Rattle.tuples.specs.declared.entry.Entry.{Entry}
-use Rattle.decisions.specs.Flows.{Freshness, at_least, exact, latest}
-use Rattle.decisions.specs.Standing.{HeadsValue}
+use Rattle.flow_ties.proofs.Words.{at_least, Coordinator, Entry, exact, Freshness, HeadsValue, latest, MayBeMade, NodeCall, Refusal, Shard}
 use Rattle.answer_flow.specs.Finding.{IsRefused}
-use Rattle.calls.specs.Asking.{MayBeMade}
-use Rattle.calls.specs.declared.call.NodeCall.{NodeCall}
-use Rattle.calls.specs.declared.call.NodeCall.TheVariants.{Coordinator, Shard}
 use Rattle.flow_ties.specs.Refusing.{IsAtNode, IsPlaceRefused}
 
 module _ (seen : List Entry) (low : ℕ) (v : HeadsValue) (e : Refusal) (reach : length seen ≤ v.length) (horizon : v.horizon ≤ low) where

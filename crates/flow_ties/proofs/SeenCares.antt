@@ -4,33 +4,20 @@ use Rattle.std.specs.Global.{Vec}
 use Rattle.std.specs.Prelude.{MatchOption}
 use Rattle.std.proofs.lemmas.Bool.{cases_Bool, cases_eq, cases_lt}
 use Rattle.std.proofs.lemmas.Option.{same_Some}
-use Rattle.refusal.specs.declared.refusal.Refusal.{Refusal}
-use Rattle.refusal.specs.declared.refusal.Refusal.TheVariants.{Future, NoMemory}
-use Rattle.tuples.specs.declared.entry.Entry.{Entry}
-use Rattle.tuples.specs.declared.entry.WriteId.{WriteId}
-use Rattle.decisions.specs.Flows.{HeadsHeld, RaiseHolds, ResolveHolds, undecided}
-use Rattle.decisions.specs.Standing.{HeadsValue}
-use Rattle.decisions.specs.Values.{BatchValue, SettledValue}
+use Rattle.flow_ties.proofs.Words.{Awaited, BatchValue, CatchUpValue, Commit, Coordinator, Entry, from_coordinator, from_shard, Future, HeadsHeld, HeadsValue, Inquiry, IsBatchOf, IsHeld, IsReplyTo, IsTold, Next, NodeCall, NoMemory, Progress, Refusal, Refused, Reply, Shard, TellsCare, There, Undecided, WriteId}
+use Rattle.decisions.specs.Flows.{RaiseHolds, ResolveHolds, undecided}
+use Rattle.decisions.specs.Values.{SettledValue}
 use Rattle.coordinator.specs.declared.raising.NotRaised.{NotRaised}
-use Rattle.coordinator.specs.declared.telling.Inquiry.{Inquiry}
-use Rattle.coordinator.specs.declared.telling.Inquiry.TheVariants.{Abort, Commit, Undecided}
+use Rattle.coordinator.specs.declared.telling.Inquiry.TheVariants.{Abort}
 use Rattle.names.specs.declared.care.Care.TheVariants as cares
 use Rattle.names.specs.declared.node_name.NodeName.{NodeName}
 use Rattle.names.specs.declared.node_name.NodeName.TheVariants as named
-use Rattle.calls.specs.Belonging.{IsReplyTo}
 use Rattle.calls.specs.Names.{name_of}
-use Rattle.calls.specs.declared.call.NodeCall.{NodeCall}
-use Rattle.calls.specs.declared.call.NodeCall.TheVariants.{Coordinator, Shard}
 use Rattle.calls.specs.declared.call.CoordinatorCall.TheVariants as calls
 use Rattle.calls.specs.declared.call.ShardCall.TheVariants as shard_calls
-use Rattle.calls.specs.declared.reply.Reply.{Reply}
-use Rattle.calls.specs.declared.reply.Reply.TheVariants.{Coordinator as from_coordinator, Shard as from_shard}
 use Rattle.calls.specs.declared.reply.CoordinatorReply.TheVariants as told
 use Rattle.calls.specs.declared.reply.ShardReply.TheVariants as told_by
 use Rattle.catch_up.specs.CatchingUp as catching
-use Rattle.catch_up.specs.Held.{Awaited, CatchUpValue}
-use Rattle.catch_up.specs.declared.caught.Progress.{Progress}
-use Rattle.catch_up.specs.declared.caught.Progress.TheVariants.{Next, There, Refused}
 use Rattle.care_flow.specs.declared.care.CareFlow.{CareFlow}
 use Rattle.care_flow.specs.declared.care.CareFlow.TheVariants.{Collect, Flush, Learn, Raise, Resolve}
 use Rattle.care_flow.specs.Cares.{Answered, NextCall}
@@ -41,9 +28,7 @@ use Rattle.care_flow.specs.Learning as learning
 use Rattle.care_flow.specs.Raising as raising
 use Rattle.care_flow.specs.Resolving as resolving
 use Rattle.care_flow.specs.Views.{out, ready}
-use Rattle.ties.specs.TellingLaws.{IsBatchOf}
-use Rattle.flow_ties.specs.Cares.{CaresBegin, CaresGoOn, CaresHandOverWhatIsSeen, CaresStaySeen, IsCareOf, TellsCare, on_the_way}
-use Rattle.flow_ties.specs.Telling.{IsHeld, IsTold}
+use Rattle.flow_ties.specs.Cares.{CaresBegin, CaresGoOn, CaresHandOverWhatIsSeen, CaresStaySeen, IsCareOf, on_the_way}
 use Rattle.flow_ties.proofs.CatchUps.{HoldsOn, caught, handed_over, held_longer, is_full, none_held}
 
 -- what is said of an option that is not empty is said of its value

@@ -3,42 +3,18 @@ use Rattle.std.proofs.Common.{◌≡◌, ◌≢◌, ⊎_elim, ℕ, Bool, true, f
 use Rattle.std.proofs.lemmas.Bool.{cases_lt}
 use Rattle.std.proofs.lemmas.Option.{same_Some}
 use mathlib.Core.List.{IsPrefix}
-use Rattle.refusal.specs.declared.refusal.Refusal.{Refusal}
-use Rattle.refusal.specs.declared.refusal.Refusal.TheVariants.{Full, NoMemory}
-use Rattle.tuples.specs.declared.entry.Entry.{Entry}
-use Rattle.tuples.specs.declared.object.Userset.{Userset}
-use Rattle.tuples.specs.declared.tuple.Tuple.{Tuple}
-use Rattle.tuples.specs.declared.user.User.{User}
-use Rattle.tuples.specs.Checking.{IsMember, holding}
-use Rattle.tuples.specs.Limits.{max_walked}
+use Rattle.flow_ties.proofs.Words.{AsksFor, at_rest, BatchValue, Behind, catch_up, catch_up_call, CatchesUp, CatchUpGives, CheckAwaited, checked, CheckHolds, CheckStep, CheckView, Continues, Coordinator, ended, Entry, flush, flush_call, FlushGives, Freshness, from_coordinator, from_shard, Full, GivesTo, goes_on, has_or_not, heads, heads_call, HeadsGive, HeadsValue, holding, HoldsWalk, IsAsAsked, IsBatchOf, IsCheckOf, IsCheckSelection, IsHeld, IsMembershipAt, IsReplyTo, IsTold, max_walked, Next, NodeCall, NoMemory, one_shard_is_asked, Progress, ProgressGives, read, read_call, ReadGives, ReadReply, Refusal, Refused, refused, Reply, Rows, RowsGive, Shard, shard_of, There, Tuple, User, Userset}
+use Rattle.tuples.specs.Checking.{IsMember}
 use Rattle.tuples.specs.Log.{is_at}
-use Rattle.tuples.specs.Parts.{shard_of}
-use Rattle.tuples.specs.Walking.{IsCheckSelection}
-use Rattle.decisions.specs.Flows.{CheckHolds, Freshness}
-use Rattle.decisions.specs.Standing.{HeadsValue}
-use Rattle.decisions.specs.Values.{BatchValue}
-use Rattle.shard.specs.declared.replies.ReadReply.{ReadReply}
-use Rattle.shard.specs.declared.replies.ReadReply.TheVariants.{Behind, Rows}
-use Rattle.calls.specs.Belonging.{IsReplyTo}
-use Rattle.calls.specs.declared.call.NodeCall.{NodeCall}
-use Rattle.calls.specs.declared.call.NodeCall.TheVariants.{Coordinator, Shard}
 use Rattle.calls.specs.declared.call.CoordinatorCall.TheVariants as calls
 use Rattle.calls.specs.declared.call.ShardCall.TheVariants as shard_calls
-use Rattle.calls.specs.declared.reply.Reply.{Reply}
-use Rattle.calls.specs.declared.reply.Reply.TheVariants.{Coordinator as from_coordinator, Shard as from_shard}
 use Rattle.calls.specs.declared.reply.CoordinatorReply.TheVariants as told
 use Rattle.calls.specs.declared.reply.ShardReply.TheVariants as told_by
-use Rattle.catch_up.specs.declared.caught.Progress.{Progress}
-use Rattle.catch_up.specs.declared.caught.Progress.TheVariants.{Next, There, Refused}
-use Rattle.answer_flow.specs.Checking.{AsksFor, CatchUpGives, CatchesUp, Continues, FlushGives, GivesTo, HeadsGive, ProgressGives, ReadGives, RowsGive}
-use Rattle.answer_flow.specs.CheckViews.{CheckAwaited, CheckEnding, CheckStep, CheckView, at_rest, begins_at, catch_up, catch_up_call, checked, ended, flush, flush_call, heads, heads_call, read, read_call, refused}
+use Rattle.answer_flow.specs.CheckViews.{CheckEnding, begins_at}
 use Rattle.laws.specs.Walks.{IsWalk}
 use Rattle.laws.proofs.Lists.{contained_from}
-use Rattle.laws.proofs.TupleLists.{has_or_not}
-use Rattle.laws.proofs.Walk.{goes_on, one_shard_is_asked, says_no, says_yes, walk_begins}
-use Rattle.ties.specs.TellingLaws.{IsBatchOf}
-use Rattle.flow_ties.specs.Checks.{AnswersMembership, ChecksAnswerWhatIsSeen, ChecksBegin, ChecksBeginAtPlaces, ChecksHandOverWhatIsSeen, ChecksStaySeen, HoldsWalk, IsCheckOf, IsMembershipAt}
-use Rattle.flow_ties.specs.Telling.{IsAsAsked, IsHeld, IsTold}
+use Rattle.laws.proofs.Walk.{says_no, says_yes, walk_begins}
+use Rattle.flow_ties.specs.Checks.{AnswersMembership, ChecksAnswerWhatIsSeen, ChecksBegin, ChecksBeginAtPlaces, ChecksHandOverWhatIsSeen, ChecksStaySeen}
 use Rattle.flow_ties.proofs.Places.{asked_place, at_prefix, kept_place}
 use Rattle.flow_ties.proofs.CatchUps.{HoldsOn, caught, held_longer, none_held, prefix_length}
 

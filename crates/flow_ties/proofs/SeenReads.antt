@@ -4,41 +4,20 @@ use Rattle.std.proofs.lemmas.Bool.{cases_lt}
 use Rattle.std.proofs.lemmas.List.{length_push}
 use Rattle.std.proofs.lemmas.Option.{same_Some, slice_get_within}
 use mathlib.Core.List.{IsPrefix}
-use Rattle.refusal.specs.declared.refusal.Refusal.{Refusal}
-use Rattle.refusal.specs.declared.refusal.Refusal.TheVariants.{NoMemory}
-use Rattle.tuples.specs.declared.entry.Entry.{Entry}
-use Rattle.tuples.specs.declared.tuple.Tuple.{Tuple}
-use Rattle.tuples.specs.declared.tupleset.Tupleset.{Tupleset}
-use Rattle.tuples.specs.declared.tupleset.Tupleset.TheVariants.{Key, OfObject, OfUser}
+use Rattle.flow_ties.proofs.Words.{AreRowsAt, BatchValue, Behind, Coordinator, Entry, Finishes, Freshness, from_coordinator, from_shard, HeadsValue, IsAsAsked, IsBatchOf, IsHeld, IsReplyTo, IsSelection, IsTold, Key, MayBeMade, Next, NodeCall, NoMemory, nothing_read, OfObject, OfUser, Progress, ReadAwaited, ReadHolds, ReadReply, ReadStep, ReadView, Refusal, Refused, Reply, Rows, selected, Shard, shard_of, There, Tuple, Tupleset}
 use Rattle.tuples.specs.Log.{is_at}
-use Rattle.tuples.specs.Parts.{shard_of}
-use Rattle.tuples.specs.Reads.{AreAscending, IsSelection}
-use Rattle.decisions.specs.Flows.{Freshness, ReadHolds, nothing_read}
+use Rattle.tuples.specs.Reads.{AreAscending}
 use Rattle.decisions.specs.Merging.{IsMerged, NeedsOnly}
-use Rattle.decisions.specs.Standing.{HeadsValue}
-use Rattle.decisions.specs.Values.{BatchValue}
-use Rattle.shard.specs.declared.replies.ReadReply.{ReadReply}
-use Rattle.shard.specs.declared.replies.ReadReply.TheVariants.{Behind, Rows}
-use Rattle.calls.specs.Asking.{MayBeMade}
-use Rattle.calls.specs.Belonging.{IsReplyTo}
-use Rattle.calls.specs.declared.call.NodeCall.{NodeCall}
-use Rattle.calls.specs.declared.call.NodeCall.TheVariants.{Coordinator, Shard}
 use Rattle.calls.specs.declared.call.CoordinatorCall.TheVariants as calls
 use Rattle.calls.specs.declared.call.ShardCall.TheVariants as shard_calls
-use Rattle.calls.specs.declared.reply.Reply.{Reply}
-use Rattle.calls.specs.declared.reply.Reply.TheVariants.{Coordinator as from_coordinator, Shard as from_shard}
 use Rattle.calls.specs.declared.reply.CoordinatorReply.TheVariants as told
 use Rattle.calls.specs.declared.reply.ShardReply.TheVariants as told_by
-use Rattle.catch_up.specs.declared.caught.Progress.{Progress}
-use Rattle.catch_up.specs.declared.caught.Progress.TheVariants.{Next, There, Refused}
-use Rattle.answer_flow.specs.Reading.{Asks, AsksFor, CatchUpGives, CatchesUp, Continues, Finishes, FlushGives, GivesTo, HeadsGive, Merges, ProgressGives, ReadGives, RowsGive}
-use Rattle.answer_flow.specs.ReadViews.{ReadAwaited, ReadEnding, ReadStep, ReadView, at_rest, catch_up, catch_up_call, ended, flush, flush_call, heads, heads_call, read, read_call, refused, selected, shard_for, waiting}
+use Rattle.answer_flow.specs.Reading.{Asks, AsksFor, CatchUpGives, CatchesUp, Continues, FlushGives, GivesTo, HeadsGive, Merges, ProgressGives, ReadGives, RowsGive}
+use Rattle.answer_flow.specs.ReadViews.{ReadEnding, at_rest, catch_up, catch_up_call, ended, flush, flush_call, heads, heads_call, read, read_call, refused, shard_for, waiting}
 use Rattle.laws.specs.Shards.{there_below, there_of}
 use Rattle.laws.proofs.Lists.{slice_get_push}
 use Rattle.laws.proofs.ReadRows.{none_below, one_shard_is_enough, rows_go_on, rows_of_all}
-use Rattle.ties.specs.TellingLaws.{IsBatchOf}
-use Rattle.flow_ties.specs.Reads.{AnswersRows, AreRowsAt, HoldsRows, IsReadOf, ReadsAnswerWhatIsSeen, ReadsBegin, ReadsBeginAtPlaces, ReadsHandOverWhatIsSeen, ReadsStaySeen}
-use Rattle.flow_ties.specs.Telling.{IsAsAsked, IsHeld, IsTold}
+use Rattle.flow_ties.specs.Reads.{AnswersRows, HoldsRows, IsReadOf, ReadsAnswerWhatIsSeen, ReadsBegin, ReadsBeginAtPlaces, ReadsHandOverWhatIsSeen, ReadsStaySeen}
 use Rattle.flow_ties.proofs.Places.{asked_place, at_prefix, kept_place}
 use Rattle.flow_ties.proofs.CatchUps.{HoldsOn, caught, held_longer, none_held, prefix_length}
 

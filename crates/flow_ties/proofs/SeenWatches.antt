@@ -2,25 +2,14 @@
 use Rattle.std.proofs.Common.{◌≡◌, ◌⊎◌, inl, inr, ⊎_elim, ℕ, ◌≤◌, ◌<◌, ◌+◌, ◌-◌, List, length, take, drop, Some, None, Result, Ok, Err, sym, ◌∙◌, ap, subst, arith}
 use Rattle.std.proofs.lemmas.Bool.{cases_lt}
 use Rattle.std.proofs.lemmas.Option.{same_Some}
-use Rattle.refusal.specs.declared.refusal.Refusal.{Refusal}
-use Rattle.refusal.specs.declared.refusal.Refusal.TheVariants.{NoMemory}
-use Rattle.tuples.specs.declared.entry.Entry.{Entry}
+use Rattle.flow_ties.proofs.Words.{AreEventsTo, AreOfLog, batch, BatchGives, BatchValue, Coordinator, Entry, events_from, from_coordinator, HeadsHeld, HeadsValue, heartbeat, IsTold, listed, no_heads, NodeCall, NoMemory, Placed, Refusal, Reply, Shard, waiting, WatchCall, WatchView, with_heads}
 use Rattle.tuples.specs.Limits.{max_watched}
-use Rattle.tuples.specs.Watching.{Placed, events, events_from}
-use Rattle.decisions.specs.Flows.{HeadsHeld, no_heads}
-use Rattle.decisions.specs.Standing.{HeadsValue}
-use Rattle.decisions.specs.Values.{BatchValue}
-use Rattle.calls.specs.declared.call.NodeCall.{NodeCall}
-use Rattle.calls.specs.declared.call.NodeCall.TheVariants.{Coordinator, Shard}
+use Rattle.tuples.specs.Watching.{events}
 use Rattle.calls.specs.declared.call.CoordinatorCall.TheVariants as calls
-use Rattle.calls.specs.declared.reply.Reply.{Reply}
-use Rattle.calls.specs.declared.reply.Reply.TheVariants.{Coordinator as from_coordinator}
 use Rattle.calls.specs.declared.reply.CoordinatorReply.TheVariants as told
-use Rattle.answer_flow.specs.Watching.{AsksFor, BatchGives, FlushGives, GivesTo, HeadsGive, heartbeat}
-use Rattle.answer_flow.specs.WatchViews.{WatchCall, WatchEnding, WatchView, at_rest, batch, ended, flush, heads, listed, refused, waiting, with_heads}
-use Rattle.laws.specs.ShardLaws.{AreOfLog}
-use Rattle.flow_ties.specs.Telling.{IsTold}
-use Rattle.flow_ties.specs.Watches.{AreEventsTo, AreHeadsOf, IsWatchOf, TellsWatcher, WatchesBegin, WatchesListWhatIsSeen, WatchesStaySeen}
+use Rattle.answer_flow.specs.Watching.{AsksFor, FlushGives, GivesTo, HeadsGive}
+use Rattle.answer_flow.specs.WatchViews.{WatchEnding, at_rest, ended, flush, heads, refused}
+use Rattle.flow_ties.specs.Watches.{AreHeadsOf, IsWatchOf, TellsWatcher, WatchesBegin, WatchesListWhatIsSeen, WatchesStaySeen}
 use Rattle.flow_ties.proofs.CatchUps.{prefix_length}
 
 module _ (cursor limit : ℕ) (names : List (List ℕ)) (before shards : ℕ) (seen : List Entry) where

@@ -3,43 +3,23 @@ use Rattle.std.proofs.Common.{◌≡◌, inl, inr, ⊎_elim, ◌<◌, ℕ, Bool,
 use Rattle.std.proofs.lemmas.Bool.{cases_Bool}
 use Rattle.std.proofs.lemmas.Option.{same_Some}
 use mathlib.Core.List.{IsPrefix}
-use Rattle.refusal.specs.declared.refusal.Refusal.{Refusal as AnyRefusal}
-use Rattle.refusal.specs.declared.refusal.Refusal.TheVariants.{Unsure}
-use Rattle.tuples.specs.declared.entry.Entry.{Entry}
-use Rattle.tuples.specs.declared.entry.WriteId.{WriteId}
-use Rattle.tuples.specs.Writes.{WriteValue}
+use Rattle.flow_ties.proofs.Words.{AnyRefusal, AsksCoordinator, AsksShard, BatchValue, Commit, Coordinator, CoordinatorCall, decisions, end_of, Entry, flushing, from_coordinator, from_shard, GoesToDrop, Inquiry, IntentValue, is_aborted, is_refused, is_unsure, IsBatchOf, IsHeld, IsReplyTo, IsTold, IsWrittenAt, Kept, Later, learned, learning, Next, No, NodeCall, NotDecidedGives, onward, outward, Progress, Reply, Shard, ShardCall, There, Undecided, Unsure, view_ended, votes_later, VoteValue, Way, WriteAwaited, WriteHolds, WriteId, WriteValue, WriteView, Wrote, Yes}
 use Rattle.decisions.specs.Standing.{DecidedValue}
-use Rattle.decisions.specs.Values.{BatchValue, IntentValue, TicketValue, VerdictValue, VoteValue}
-use Rattle.coordinator.specs.declared.telling.Inquiry.{Inquiry}
-use Rattle.coordinator.specs.declared.telling.Inquiry.TheVariants.{Abort as is_aborted, Commit, Undecided}
+use Rattle.decisions.specs.Values.{TicketValue, VerdictValue}
 use Rattle.coordinator.specs.declared.telling.Outcome.{Outcome}
-use Rattle.coordinator.specs.declared.telling.Outcome.TheVariants.{Kept, Later, Unsure as is_unsure}
 use Rattle.shard.specs.declared.replies.VoteReply.{VoteReply}
-use Rattle.shard.specs.declared.replies.VoteReply.TheVariants.{Later as votes_later, No, Yes}
-use Rattle.calls.specs.Belonging.{IsIntentBack, IsReplyTo}
-use Rattle.calls.specs.declared.call.NodeCall.{NodeCall}
-use Rattle.calls.specs.declared.call.NodeCall.TheVariants.{Coordinator, Shard}
-use Rattle.calls.specs.declared.call.CoordinatorCall.{CoordinatorCall}
+use Rattle.calls.specs.Belonging.{IsIntentBack}
 use Rattle.calls.specs.declared.call.CoordinatorCall.TheVariants as calls
-use Rattle.calls.specs.declared.call.ShardCall.{ShardCall}
 use Rattle.calls.specs.declared.call.ShardCall.TheVariants as shard_calls
-use Rattle.calls.specs.declared.reply.Reply.{Reply}
-use Rattle.calls.specs.declared.reply.Reply.TheVariants.{Coordinator as from_coordinator, Shard as from_shard}
 use Rattle.calls.specs.declared.reply.CoordinatorReply.TheVariants as told
 use Rattle.calls.specs.declared.reply.ShardReply.TheVariants as told_by
-use Rattle.catch_up.specs.Held.{decisions, flushing, learned, learning}
-use Rattle.catch_up.specs.declared.caught.Progress.{Progress}
-use Rattle.catch_up.specs.declared.caught.Progress.TheVariants.{Next, There, Refused as is_refused}
 use Rattle.commit_flow.specs.declared.end.WriteEnd.{WriteEnd}
-use Rattle.commit_flow.specs.declared.end.WriteEnd.TheVariants.{Refused, Wrote}
-use Rattle.commit_flow.specs.Answering.{AbortGives, BeginGives, CatchUpGives, FlushGives, GivesTo, GoesToDrop, InquireGives, NotDecidedGives, OutcomeGives, PrepareGives, ProgressGives, VoteGives, end_of}
-use Rattle.commit_flow.specs.WriteHolds.{Way, WriteAwaited, WriteHolds, onward, outward}
+use Rattle.commit_flow.specs.declared.end.WriteEnd.TheVariants.{Refused}
+use Rattle.commit_flow.specs.Answering.{AbortGives, BeginGives, CatchUpGives, FlushGives, GivesTo, InquireGives, OutcomeGives, PrepareGives, ProgressGives, VoteGives}
 use Rattle.commit_flow.specs.WriteHolds as waits
-use Rattle.commit_flow.specs.Views.{WriteView, at_rest, view_ended}
-use Rattle.commit_flow.specs.Writing.{Asks, AsksCoordinator, AsksShard}
-use Rattle.ties.specs.TellingLaws.{IsBatchOf}
-use Rattle.flow_ties.specs.Telling.{IsHeld, IsTold}
-use Rattle.flow_ties.specs.Writes.{IsDecisionOf, IsOfRequest, IsWriteOf, IsWrittenAt, Linking, TellsWriter, WritesAreRelinked, WritesBegin, WritesHandOverWhatIsSeen, WritesStaySeen, WritesTellWhatStands}
+use Rattle.commit_flow.specs.Views.{at_rest}
+use Rattle.commit_flow.specs.Writing.{Asks}
+use Rattle.flow_ties.specs.Writes.{IsDecisionOf, IsOfRequest, IsWriteOf, Linking, TellsWriter, WritesAreRelinked, WritesBegin, WritesHandOverWhatIsSeen, WritesStaySeen, WritesTellWhatStands}
 use Rattle.flow_ties.proofs.CatchUps.{HoldsOn, by_batch, by_flush, by_learn, by_learned, held_longer, is_full, none_held}
 
 -- a way out ends at no place

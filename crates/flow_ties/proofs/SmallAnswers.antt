@@ -1,19 +1,8 @@
 -- Small answers: over a list of no writes, what is one, and what is none; and what is a reason to give none.
 use Rattle.std.proofs.Common.{◌≡◌, inl, inr, ⊎_elim, ℕ, zero, suc, true, false, true≢false, List, [], ◌∷◌, Some, slice_get, refl, sym, ◌∙◌, subst, arith}
 use Rattle.std.proofs.lemmas.Option.{same_Some}
-use Rattle.refusal.specs.declared.refusal.Refusal.TheVariants.{Future}
-use Rattle.tuples.specs.declared.object.Userset.{Userset}
-use Rattle.tuples.specs.declared.tuple.Tuple.{Tuple}
-use Rattle.tuples.specs.declared.tupleset.Tupleset.{Tupleset}
-use Rattle.tuples.specs.declared.tupleset.Tupleset.TheVariants.{Key}
-use Rattle.tuples.specs.declared.user.User.{User}
+use Rattle.flow_ties.proofs.Words.{AreRowsAt, exact, Future, HasReason, IsAsAsked, IsMembershipAt, IsSelection, IsTooFar, Key, latest, Tuple, Tupleset, User, Userset}
 use Rattle.tuples.specs.Log.{is_at}
-use Rattle.tuples.specs.Reads.{IsSelection}
-use Rattle.decisions.specs.Flows.{exact, latest}
-use Rattle.flow_ties.specs.Reads.{AreRowsAt}
-use Rattle.flow_ties.specs.Checks.{IsMembershipAt, IsTooFar}
-use Rattle.flow_ties.specs.Refusing.{HasReason}
-use Rattle.flow_ties.specs.Telling.{IsAsAsked}
 
 -- no tuple is there
 none_there : (t : Tuple) → is_at [] 0 t ≡ false

@@ -2,14 +2,9 @@
 use Rattle.std.proofs.Common.{◌≡◌, inr, ⊎_elim, ℕ, zero, suc, List, [], ◌∷◌, Some, slice_get, refl, ◌∙◌, ap, arith}
 use Rattle.std.proofs.lemmas.Option.{same_Some}
 use Rattle.tuples.specs.declared.change.Change.TheVariants.{Delete, Touch}
-use Rattle.tuples.specs.declared.entry.Entry.{Entry}
-use Rattle.tuples.specs.Watching.{Placed, events}
-use Rattle.tuples.specs.Writes.{WriteValue}
+use Rattle.flow_ties.proofs.Words.{AreEventsTo, Cancelled, Entry, IsWrittenAt, Placed, RefusesAsTold, view_ended, WriteValue}
+use Rattle.tuples.specs.Watching.{events}
 use Rattle.tuples.proofs.Examples.{numbered, viewed}
-use Rattle.commit_flow.specs.declared.end.WriteEnd.TheVariants.{Cancelled}
-use Rattle.commit_flow.specs.Views.{view_ended}
-use Rattle.flow_ties.specs.Watches.{AreEventsTo}
-use Rattle.flow_ties.specs.Writes.{IsWrittenAt, RefusesAsTold}
 
 abbrev one_write : Entry
 one_write = numbered 1 (Touch (viewed 97) ∷ []) []

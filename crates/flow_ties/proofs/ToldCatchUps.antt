@@ -1,22 +1,11 @@
 -- A catch-up is refused by what the reply to its call carries.
 use Rattle.std.proofs.Common.{◌≡◌, inl, inr, ⊎_elim, ℕ, Bool, ◌≤◌, ◌<◌, Some, Result, Ok, Err, sym, ◌∙◌, ap}
 use Rattle.std.proofs.lemmas.Bool.{cases_Bool, cases_lt}
-use Rattle.refusal.specs.declared.refusal.Refusal.{Refusal as AnyRefusal}
-use Rattle.decisions.specs.Values.{BatchValue}
-use Rattle.calls.specs.Belonging.{IsReplyTo}
-use Rattle.calls.specs.Refusing.{refused_by}
-use Rattle.calls.specs.declared.call.NodeCall.{NodeCall}
-use Rattle.calls.specs.declared.call.NodeCall.TheVariants.{Coordinator, Shard}
+use Rattle.flow_ties.proofs.Words.{AnyRefusal, Asks, BatchValue, CatchUpCallValue, CatchUpValue, Coordinator, from_coordinator, from_shard, Gives, IsReplyTo, learning, Next, NodeCall, Progress, Refused, refused_by, Reply, Shard, There}
 use Rattle.calls.specs.declared.call.CoordinatorCall.TheVariants as calls
 use Rattle.calls.specs.declared.call.ShardCall.TheVariants as shard_calls
-use Rattle.calls.specs.declared.reply.Reply.{Reply}
-use Rattle.calls.specs.declared.reply.Reply.TheVariants.{Coordinator as from_coordinator, Shard as from_shard}
 use Rattle.calls.specs.declared.reply.CoordinatorReply.TheVariants as told
 use Rattle.calls.specs.declared.reply.ShardReply.TheVariants as told_by
-use Rattle.catch_up.specs.CatchingUp.{Asks, Gives}
-use Rattle.catch_up.specs.Held.{CatchUpCallValue, CatchUpValue, learning}
-use Rattle.catch_up.specs.declared.caught.Progress.{Progress}
-use Rattle.catch_up.specs.declared.caught.Progress.TheVariants.{Next, There, Refused}
 use Rattle.flow_ties.proofs.CatchUps.{is_collected, is_full}
 
 goes_on : (c : _) (progress : Progress) (e : AnyRefusal) → progress ≡ Next c → progress ≡ Refused e → ⊥

@@ -1,41 +1,15 @@
 -- A check that is refused has a reason: a reply has told it, memory is refused, the place is not there, or more usersets can be reached than it may walk.
 use Rattle.std.proofs.Common.{◌≡◌, ◌≢◌, inl, inr, ⊎_elim, ◌⊎◌, ℕ, Bool, true, false, ◌≤◌, ◌<◌, List, [], ◌∷◌, ◌++◌, length, Some, None, Contains, Result, Ok, Err, slice_get, refl, sym, ◌∙◌, ap, subst, arith}
 use Rattle.std.proofs.lemmas.Bool.{cases_lt}
-use Rattle.refusal.specs.declared.refusal.Refusal.{Refusal as AnyRefusal}
-use Rattle.refusal.specs.declared.refusal.Refusal.TheVariants.{Full, NoMemory}
-use Rattle.tuples.specs.declared.entry.Entry.{Entry}
-use Rattle.tuples.specs.declared.object.Userset.{Userset}
-use Rattle.tuples.specs.declared.tuple.Tuple.{Tuple}
-use Rattle.tuples.specs.declared.user.User.{User}
-use Rattle.tuples.specs.Checking.{holding}
-use Rattle.tuples.specs.Limits.{max_walked}
+use Rattle.flow_ties.proofs.Words.{AnyRefusal, AsksFor, at_rest, Behind, catch_up, catch_up_call, CatchesUp, CatchUpGives, CheckAwaited, checked, CheckHolds, CheckStep, CheckView, Continues, Coordinator, ended, Entry, error_of, flush, flush_call, FlushGives, Freshness, from_coordinator, from_shard, Full, GivesTo, goes_on, has_or_not, HasReason, HasTold, heads, heads_call, HeadsGive, HeadsValue, holding, HoldsWalk, IsAsAsked, IsCheckOf, IsCheckSelection, IsReplyTo, IsTold, IsTooFar, max_walked, Next, NodeCall, NoMemory, one_shard_is_asked, Progress, ProgressGives, read, read_call, ReadGives, ReadReply, Refused, refused, refused_by, Reply, Rows, RowsGive, Shard, shard_of, TellsCare, TellsReach, There, Tuple, User, Userset}
 use Rattle.tuples.specs.Log.{is_at}
-use Rattle.tuples.specs.Parts.{shard_of}
-use Rattle.tuples.specs.Walking.{IsCheckSelection}
-use Rattle.decisions.specs.Flows.{CheckHolds, Freshness}
-use Rattle.decisions.specs.Standing.{HeadsValue}
-use Rattle.shard.specs.declared.replies.ReadReply.{ReadReply}
-use Rattle.shard.specs.declared.replies.ReadReply.TheVariants.{Behind, Rows}
-use Rattle.calls.specs.Belonging.{IsReplyTo}
-use Rattle.calls.specs.Refusing.{HasTold, error_of, refused_by}
-use Rattle.calls.specs.declared.call.NodeCall.{NodeCall}
-use Rattle.calls.specs.declared.call.NodeCall.TheVariants.{Coordinator, Shard}
 use Rattle.calls.specs.declared.call.CoordinatorCall.TheVariants as calls
 use Rattle.calls.specs.declared.call.ShardCall.TheVariants as shard_calls
-use Rattle.calls.specs.declared.reply.Reply.{Reply}
-use Rattle.calls.specs.declared.reply.Reply.TheVariants.{Coordinator as from_coordinator, Shard as from_shard}
 use Rattle.calls.specs.declared.reply.CoordinatorReply.TheVariants as told
 use Rattle.calls.specs.declared.reply.ShardReply.TheVariants as told_by
-use Rattle.catch_up.specs.declared.caught.Progress.{Progress}
-use Rattle.catch_up.specs.declared.caught.Progress.TheVariants.{Next, There, Refused}
-use Rattle.answer_flow.specs.Checking.{AsksFor, CatchUpGives, CatchesUp, Continues, FlushGives, GivesTo, HeadsGive, LacksMemory, ProgressGives, ReadGives, RowsGive}
-use Rattle.answer_flow.specs.CheckViews.{CheckAwaited, CheckStep, CheckView, at_rest, catch_up, catch_up_call, checked, ended, flush, flush_call, heads, heads_call, read, read_call, refused}
-use Rattle.laws.proofs.TupleLists.{has_or_not}
-use Rattle.laws.proofs.Walk.{all_reached, goes_on, many_reached, one_shard_is_asked}
-use Rattle.flow_ties.specs.Cares.{TellsCare}
-use Rattle.flow_ties.specs.Checks.{CheckHasReason, ChecksAtRestHaveReason, ChecksRefuseForAReason, HoldsWalk, IsCheckOf, IsTooFar}
-use Rattle.flow_ties.specs.Refusing.{HasReason, TellsReach}
-use Rattle.flow_ties.specs.Telling.{IsAsAsked, IsTold}
+use Rattle.answer_flow.specs.Checking.{LacksMemory}
+use Rattle.laws.proofs.Walk.{all_reached, many_reached}
+use Rattle.flow_ties.specs.Checks.{CheckHasReason, ChecksAtRestHaveReason, ChecksRefuseForAReason}
 use Rattle.flow_ties.proofs.Places.{asked_place, kept_place}
 use Rattle.flow_ties.proofs.RefusedPlaces.{is_at_node, place_refused}
 use Rattle.flow_ties.proofs.SeenChecks.{begins_with}

@@ -1,31 +1,12 @@
 -- A read that is refused has a reason: a reply has told it, memory is refused, or the place is not there.
 use Rattle.std.proofs.Common.{◌≡◌, inl, inr, ⊎_elim, ℕ, Bool, ◌≤◌, ◌<◌, ◌+◌, List, [], ◌∷◌, ◌++◌, length, Some, None, Result, Ok, Err, refl, sym, ◌∙◌, ap, subst}
 use Rattle.std.proofs.lemmas.Bool.{cases_lt}
-use Rattle.refusal.specs.declared.refusal.Refusal.{Refusal as AnyRefusal}
-use Rattle.refusal.specs.declared.refusal.Refusal.TheVariants.{NoMemory}
-use Rattle.tuples.specs.declared.entry.Entry.{Entry}
-use Rattle.tuples.specs.declared.tuple.Tuple.{Tuple}
-use Rattle.tuples.specs.declared.tupleset.Tupleset.{Tupleset}
-use Rattle.tuples.specs.declared.tupleset.Tupleset.TheVariants.{Key, OfObject, OfUser}
-use Rattle.decisions.specs.Flows.{Freshness, ReadHolds, nothing_read}
-use Rattle.decisions.specs.Standing.{HeadsValue}
-use Rattle.shard.specs.declared.replies.ReadReply.{ReadReply}
-use Rattle.shard.specs.declared.replies.ReadReply.TheVariants.{Behind, Rows}
-use Rattle.calls.specs.Belonging.{IsReplyTo}
-use Rattle.calls.specs.Refusing.{HasTold, error_of, refused_by}
-use Rattle.calls.specs.declared.call.NodeCall.{NodeCall}
-use Rattle.calls.specs.declared.call.NodeCall.TheVariants.{Coordinator}
+use Rattle.flow_ties.proofs.Words.{AnyRefusal, Behind, Coordinator, Entry, error_of, Finishes, Freshness, from_coordinator, from_shard, HasReason, HasTold, HeadsValue, IsReplyTo, Key, Next, NodeCall, NoMemory, nothing_read, OfObject, OfUser, Progress, ReadAwaited, ReadHolds, ReadReply, ReadStep, ReadView, Refused, refused_by, Reply, Rows, selected, TellsCare, TellsReach, There, Tuple, Tupleset}
 use Rattle.calls.specs.declared.call.CoordinatorCall.TheVariants as calls
-use Rattle.calls.specs.declared.reply.Reply.{Reply}
-use Rattle.calls.specs.declared.reply.Reply.TheVariants.{Coordinator as from_coordinator, Shard as from_shard}
 use Rattle.calls.specs.declared.reply.CoordinatorReply.TheVariants as told
 use Rattle.calls.specs.declared.reply.ShardReply.TheVariants as told_by
-use Rattle.catch_up.specs.declared.caught.Progress.{Progress}
-use Rattle.catch_up.specs.declared.caught.Progress.TheVariants.{Next, There, Refused}
-use Rattle.answer_flow.specs.Reading.{AsksFor, CatchUpGives, CatchesUp, Continues, Finishes, FlushGives, GivesTo, HeadsGive, LacksMemory, ProgressGives, ReadGives, RowsGive}
-use Rattle.answer_flow.specs.ReadViews.{ReadAwaited, ReadStep, ReadView, at_rest, catch_up, catch_up_call, ended, flush, flush_call, heads, heads_call, read, read_call, refused, selected}
-use Rattle.flow_ties.specs.Cares.{TellsCare}
-use Rattle.flow_ties.specs.Refusing.{HasReason, TellsReach}
+use Rattle.answer_flow.specs.Reading.{AsksFor, CatchUpGives, CatchesUp, Continues, FlushGives, GivesTo, HeadsGive, LacksMemory, ProgressGives, ReadGives, RowsGive}
+use Rattle.answer_flow.specs.ReadViews.{at_rest, catch_up, catch_up_call, ended, flush, flush_call, heads, heads_call, read, read_call, refused}
 use Rattle.flow_ties.specs.Reads.{ReadHasReason, ReadsAtRestHaveReason, ReadsBeginForAReason, ReadsRefuseForAReason}
 use Rattle.flow_ties.proofs.RefusedPlaces.{is_at_node, place_refused}
 use Rattle.flow_ties.proofs.ToldCatchUps.{call_carries}

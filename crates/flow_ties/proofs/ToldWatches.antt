@@ -1,23 +1,10 @@
 -- A watch that is refused has a reason: a reply has told it, memory is refused, or its cursor is not there.
 use Rattle.std.proofs.Common.{◌≡◌, inl, inr, ⊎_elim, ℕ, Bool, ◌+◌, List, [], Some, None, Result, Ok, Err, refl, sym, ◌∙◌, ap, subst}
-use Rattle.refusal.specs.declared.refusal.Refusal.{Refusal}
-use Rattle.refusal.specs.declared.refusal.Refusal.TheVariants.{NoMemory}
-use Rattle.tuples.specs.declared.entry.Entry.{Entry}
-use Rattle.tuples.specs.Watching.{Placed, events_from}
-use Rattle.decisions.specs.Flows.{HeadsHeld, exact, no_heads}
-use Rattle.decisions.specs.Standing.{HeadsValue}
-use Rattle.decisions.specs.Values.{BatchValue}
-use Rattle.calls.specs.Refusing.{HasTold, error_of, refused_by}
-use Rattle.calls.specs.declared.call.NodeCall.{NodeCall}
-use Rattle.calls.specs.declared.call.NodeCall.TheVariants.{Coordinator, Shard}
+use Rattle.flow_ties.proofs.Words.{batch, BatchGives, BatchValue, Coordinator, Entry, error_of, events_from, exact, from_coordinator, HasReason, HasTold, HeadsHeld, HeadsValue, heartbeat, listed, no_heads, NodeCall, NoMemory, Placed, Refusal, refused_by, Reply, Shard, TellsCare, TellsReach, waiting, WatchCall, WatchView, with_heads}
 use Rattle.calls.specs.declared.call.CoordinatorCall.TheVariants as calls
-use Rattle.calls.specs.declared.reply.Reply.{Reply}
-use Rattle.calls.specs.declared.reply.Reply.TheVariants.{Coordinator as from_coordinator}
 use Rattle.calls.specs.declared.reply.CoordinatorReply.TheVariants as told
-use Rattle.answer_flow.specs.Watching.{AsksFor, BatchGives, FlushGives, GivesTo, HeadsGive, heartbeat}
-use Rattle.answer_flow.specs.WatchViews.{WatchCall, WatchView, at_rest, batch, ended, flush, heads, listed, refused, waiting, with_heads}
-use Rattle.flow_ties.specs.Cares.{TellsCare}
-use Rattle.flow_ties.specs.Refusing.{HasReason, TellsReach}
+use Rattle.answer_flow.specs.Watching.{AsksFor, FlushGives, GivesTo, HeadsGive}
+use Rattle.answer_flow.specs.WatchViews.{at_rest, ended, flush, heads, refused}
 use Rattle.flow_ties.specs.Watches.{WatchHasReason, WatchesAtRestHaveReason, WatchesRefuseForAReason}
 use Rattle.flow_ties.proofs.RefusedPlaces.{is_at_node, place_refused}
 

@@ -2,39 +2,21 @@
 use Rattle.std.proofs.Common.{◌≡◌, inl, inr, ⊎_elim, ℕ, Bool, true, false, List, [], Option, Some, None, Result, Ok, Err, refl, sym, ◌∙◌, ap, subst, ◌∷◌, ◌++◌, ◌<◌, arith}
 use Rattle.std.proofs.lemmas.Bool.{cases_Bool}
 use Rattle.std.proofs.lemmas.List.Elements.{All-cons, All-head, All-push, All-tail}
-use Rattle.refusal.specs.declared.refusal.Refusal.{Refusal as AnyRefusal}
-use Rattle.refusal.specs.declared.refusal.Refusal.TheVariants.{Unsure}
-use Rattle.tuples.specs.declared.entry.WriteId.{WriteId}
-use Rattle.decisions.specs.Values.{BatchValue, IntentValue, VoteValue}
-use Rattle.coordinator.specs.declared.telling.Inquiry.TheVariants.{Abort as is_aborted, Commit, Undecided}
-use Rattle.coordinator.specs.declared.telling.Outcome.TheVariants.{Kept, Later, Unsure as is_unsure}
-use Rattle.shard.specs.declared.replies.VoteReply.TheVariants.{Later as votes_later, No, Yes}
-use Rattle.calls.specs.Belonging.{IsReplyTo}
-use Rattle.calls.specs.Refusing.{HasTold, error_of, refused_by}
-use Rattle.calls.specs.declared.call.NodeCall.{NodeCall}
-use Rattle.calls.specs.declared.reply.Reply.{Reply}
-use Rattle.calls.specs.declared.reply.Reply.TheVariants.{Coordinator as from_coordinator, Shard as from_shard}
+use Rattle.flow_ties.proofs.Words.{AnyRefusal, AsksCoordinator, AsksShard, Awaited, BatchValue, Cancelled, Commit, Coordinator, CoordinatorCall, decisions, end_of, error_of, flushing, from_coordinator, from_shard, GoesToDrop, HasTold, IntentValue, is_aborted, is_refused, is_unsure, IsReplyTo, Kept, Later, learned, learning, Next, No, NodeCall, NotDecidedGives, onward, outward, Progress, refused_by, RefusesAsTold, Reply, Shard, ShardCall, There, Undecided, Unsure, view_ended, votes_later, VoteValue, Way, WriteAwaited, WriteHolds, WriteId, WriteView, Wrote, Yes}
 use Rattle.calls.specs.declared.reply.CoordinatorReply.TheVariants as told
 use Rattle.calls.specs.declared.reply.ShardReply.TheVariants as told_by
-use Rattle.catch_up.specs.Held.{Awaited}
-use Rattle.catch_up.specs.declared.caught.Progress.{Progress}
-use Rattle.catch_up.specs.declared.caught.Progress.TheVariants.{Next, There, Refused as is_refused}
-use Rattle.calls.specs.declared.call.NodeCall.TheVariants.{Coordinator, Shard}
-use Rattle.calls.specs.declared.call.CoordinatorCall.{CoordinatorCall}
 use Rattle.calls.specs.declared.call.CoordinatorCall.TheVariants as calls
-use Rattle.calls.specs.declared.call.ShardCall.{ShardCall}
 use Rattle.calls.specs.declared.call.ShardCall.TheVariants as shard_calls
-use Rattle.catch_up.specs.Held.{decisions, flushing, learned, learning}
-use Rattle.commit_flow.specs.declared.end.WriteEnd.TheVariants.{Cancelled, Refused, Wrote}
-use Rattle.commit_flow.specs.Answering.{CatchUpGives, FlushGives, GivesTo, GoesToDrop, NotDecidedGives, ProgressGives, end_of}
-use Rattle.commit_flow.specs.WriteHolds.{HeldTicket, Way, WriteAwaited, WriteHolds, onward, outward}
+use Rattle.commit_flow.specs.declared.end.WriteEnd.TheVariants.{Refused}
+use Rattle.commit_flow.specs.Answering.{CatchUpGives, FlushGives, GivesTo, ProgressGives}
+use Rattle.commit_flow.specs.WriteHolds.{HeldTicket}
 use Rattle.commit_flow.specs.WriteHolds as waits
 use Rattle.decisions.specs.declared.held.Held.{Held}
 use Rattle.decisions.specs.declared.held.Held.TheVariants.{Ticket, Vote as held_vote}
-use Rattle.commit_flow.specs.Views.{WriteView, as_tickets, at_rest, ticket_value, view_ended}
-use Rattle.commit_flow.specs.Writing.{Asks, AsksCoordinator, AsksShard, IsOnItsWayOut}
+use Rattle.commit_flow.specs.Views.{as_tickets, at_rest, ticket_value}
+use Rattle.commit_flow.specs.Writing.{Asks, IsOnItsWayOut}
 use Rattle.flow_ties.specs.Refusing.{Notices}
-use Rattle.flow_ties.specs.Writes.{AreThere, RefusesAsTold, WritesBeginUntold, WritesRefuseAsTold}
+use Rattle.flow_ties.specs.Writes.{AreThere, WritesBeginUntold, WritesRefuseAsTold}
 use Rattle.flow_ties.proofs.CatchUps.{is_full}
 use Rattle.flow_ties.proofs.ToldCatchUps.{batch_carries, flush_carries, learn_carries, learned_carries}
 

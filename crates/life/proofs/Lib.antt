@@ -1,3 +1,4 @@
+mod Words
 mod Done
 mod Whole
 mod Empty

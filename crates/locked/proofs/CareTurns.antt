@@ -1,12 +1,10 @@
 -- A care of a shared store goes on to hold what is of the list and of the horizon, turn by turn.
 use Rattle.std.proofs.Common.{ℕ, List, Bool}
-use Rattle.tuples.specs.declared.entry.Entry.{Entry}
-use Rattle.published.specs.Known.{Known}
+use Rattle.locked.proofs.Words.{Entry, HandsWhatIsSeen, IsCareOf, Known, Turns}
 use Rattle.care_flow.specs.declared.care.CareFlow.{CareFlow}
 use Rattle.care_flow.specs.Cares.{AsksCare, GivesCare}
-use Rattle.flow_ties.specs.Cares.{CareTurns, IsCareOf}
+use Rattle.flow_ties.specs.Cares.{CareTurns}
 use Rattle.flow_ties.proofs.SeenCares.{cares_go_on, cares_hand_over_what_is_seen}
-use Rattle.locked.specs.Turning.{HandsWhatIsSeen, Turns}
 
 -- what it hands to a shard is of the list, or of the horizon
 pub cares_hand_over : (pass : Known Entry) (v : CareFlow) → IsCareOf pass.seen pass.horizon v → HandsWhatIsSeen AsksCare pass v

@@ -1,23 +1,14 @@
 -- A check of a shared store goes on to hold what is of the list, turn by turn.
 use Rattle.std.proofs.Common.{◌≡◌, inl, inr, ⊎_elim, ◌≤◌, ℕ, List, length, Bool, Option, Some, None, Result, Ok, Err, IfOk, MatchOption, refl, sym, ◌∙◌, ap, subst}
-use Rattle.tuples.specs.declared.object.Userset.{Userset}
-use Rattle.tuples.specs.declared.user.User.{User}
-use Rattle.tuples.specs.declared.entry.Entry.{Entry}
-use Rattle.published.specs.Known.{Known}
-use Rattle.decisions.specs.Flows.{Freshness, exact}
-use Rattle.names.specs.declared.call_name.CallName.{CallName}
-use Rattle.calls.specs.declared.call.NodeCall.TheVariants.{Shard}
+use Rattle.locked.proofs.Words.{at_rest, begins_at, CallName, catch_up, CheckFlowValue, CheckHasReason, checks_at_rest_have_reason, CheckView, Entry, exact, Freshness, HandsWhatIsSeen, heads, IsAsAsked, IsBeyond, IsCheckOf, IsFresh, Known, LiesBeyond, Narrows, read, Reply, Shard, Turns, User, Userset}
 use Rattle.calls.specs.declared.call.ShardCall.TheVariants as shard_calls
-use Rattle.calls.specs.declared.reply.Reply.{Reply}
 use Rattle.answer_flow.specs.Checking.{Asks, AsksFor, GivesTo}
-use Rattle.answer_flow.specs.CheckViews.{CheckAwaited, CheckEnding, CheckFlowValue, CheckStep, CheckView, at_rest, begins_at, heads, flush, catch_up, read}
+use Rattle.answer_flow.specs.CheckViews.{CheckAwaited, CheckEnding, CheckStep, flush}
 use Rattle.answer_flow.specs.Running.{AsksCheck, GivesCheck}
-use Rattle.flow_ties.specs.Checks.{CheckHasReason, CheckTurns, IsCheckOf, IsMembershipAt, IsTooFar}
-use Rattle.flow_ties.specs.Telling.{IsAsAsked}
+use Rattle.flow_ties.specs.Checks.{CheckTurns, IsMembershipAt, IsTooFar}
 use Rattle.flow_ties.proofs.SeenChecks.{checks_answer_what_is_seen, checks_begin, checks_begin_at_places, checks_hand_over_what_is_seen, checks_stay_seen}
-use Rattle.flow_ties.proofs.ToldChecks.{checks_at_rest_have_reason, checks_refuse_for_a_reason}
-use Rattle.locked.specs.Answering.{CheckEnds, CheckRefuses, CheckRuns, IsBeyond, IsFresh, LiesBeyond, Narrows}
-use Rattle.locked.specs.Turning.{HandsWhatIsSeen, Turns}
+use Rattle.flow_ties.proofs.ToldChecks.{checks_refuse_for_a_reason}
+use Rattle.locked.specs.Answering.{CheckEnds, CheckRefuses, CheckRuns}
 use Rattle.locked.proofs.FreshPlaces.{beyond_is_fresh, fresh_is_as_asked, place_is_reached, reason_asked}
 
 -- a check calls no shard to collect

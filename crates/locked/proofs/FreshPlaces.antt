@@ -1,13 +1,10 @@
 -- Places that are as fresh as asked.
 use Rattle.std.proofs.Common.{ℕ, ◌≤◌, ◌⊎◌, ◌≡◌, inl, inr, ⊎_elim, List, Bool, length, refl, arith}
-use Rattle.refusal.specs.declared.refusal.Refusal.{Refusal}
-use Rattle.refusal.specs.declared.refusal.Refusal.TheVariants.{NoMemory}
-use Rattle.tuples.specs.declared.entry.Entry.{Entry}
+use Rattle.locked.proofs.Words.{Entry, exact, Freshness, HasReason, IsAsAsked, IsBeyond, IsFresh, LiesBeyond, Narrows, NoMemory, Refusal}
 use Rattle.calls.specs.Refusing.{HasTold}
-use Rattle.decisions.specs.Flows.{Freshness, at_least, exact, latest}
-use Rattle.flow_ties.specs.Refusing.{HasReason, IsPlaceRefused}
-use Rattle.flow_ties.specs.Telling.{IsAsAsked}
-use Rattle.locked.specs.Answering.{IsBeyond, IsFresh, IsNotThere, LiesBeyond, Narrows}
+use Rattle.decisions.specs.Flows.{at_least, latest}
+use Rattle.flow_ties.specs.Refusing.{IsPlaceRefused}
+use Rattle.locked.specs.Answering.{IsNotThere}
 
 -- above what was published, which is no less than what had been seen, a place that is as asked is as fresh as asked
 pub beyond_is_fresh : (asked : Freshness) (before published place : ℕ) → before ≤ published → IsBeyond asked published → IsAsAsked asked place → IsFresh asked before place

@@ -1,15 +1,9 @@
 -- A check of a shared store that has a shard read before it is asked how far it has learned.
 use Rattle.std.proofs.Common.{◌≡◌, inl, inr, ℕ, List, Bool, Some, None, sym, ◌∙◌, ap, subst}
-use Rattle.refusal.specs.declared.refusal.Refusal.TheVariants.{NoMemory}
-use Rattle.tuples.specs.declared.object.Userset.{Userset}
-use Rattle.tuples.specs.declared.user.User.{User}
-use Rattle.tuples.specs.declared.entry.Entry.{Entry}
-use Rattle.published.specs.Known.{Known}
-use Rattle.decisions.specs.Flows.{Freshness}
+use Rattle.locked.proofs.Words.{at_rest, CheckFlowValue, CheckHasReason, checks_at_rest_have_reason, CheckView, Entry, Freshness, IsCheckOf, Known, NoMemory, read, User, Userset}
 use Rattle.answer_flow.specs.Checking.{HastensCheck, LacksMemory}
-use Rattle.answer_flow.specs.CheckViews.{CheckFlowValue, CheckView, at_rest, read, refused}
-use Rattle.flow_ties.specs.Checks.{CheckHasReason, HoldsWalk, IsCheckOf}
-use Rattle.flow_ties.proofs.ToldChecks.{checks_at_rest_have_reason}
+use Rattle.answer_flow.specs.CheckViews.{refused}
+use Rattle.flow_ties.specs.Checks.{HoldsWalk}
 
 -- what it holds is as it was
 reads : (seen : List Entry) (fresh : Freshness) (x : Userset) (u : User) (v after : CheckView) → v.ended ≡ None → after ≡ at_rest read (record v.holds { batch = None }) → IsCheckOf seen fresh x u v → IsCheckOf seen fresh x u after

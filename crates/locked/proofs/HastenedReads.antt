@@ -1,13 +1,10 @@
 -- A read of a shared store that has a shard read before it is asked how far it has learned.
 use Rattle.std.proofs.Common.{◌≡◌, inl, inr, ℕ, List, Bool, None, sym, ◌∙◌, ap, subst}
-use Rattle.tuples.specs.declared.tupleset.Tupleset.{Tupleset}
-use Rattle.tuples.specs.declared.entry.Entry.{Entry}
-use Rattle.published.specs.Known.{Known}
-use Rattle.decisions.specs.Flows.{Freshness, ReadHolds}
+use Rattle.locked.proofs.Words.{Entry, Freshness, IsReadOf, Known, ReadFlowValue, ReadHasReason, reads_at_rest_have_reason, ReadView, Tupleset}
+use Rattle.decisions.specs.Flows.{ReadHolds}
 use Rattle.answer_flow.specs.Reading.{HastensRead}
-use Rattle.answer_flow.specs.ReadViews.{ReadFlowValue, ReadView, read}
-use Rattle.flow_ties.specs.Reads.{HoldsRows, IsReadOf, ReadHasReason}
-use Rattle.flow_ties.proofs.ToldReads.{reads_at_rest_have_reason}
+use Rattle.answer_flow.specs.ReadViews.{read}
+use Rattle.flow_ties.specs.Reads.{HoldsRows}
 
 held : (shards : ℕ) (seen : List Entry) (fresh : Freshness) (sets : List Tupleset) (v after : ReadView) → HastensRead v after → IsReadOf shards seen fresh sets v → IsReadOf shards seen fresh sets after
 held shards seen fresh sets v after (inl same) is = subst (IsReadOf shards seen fresh sets) (sym same) is

@@ -1,3 +1,4 @@
+mod Words
 mod Served
 mod Passes
 mod NextCalls

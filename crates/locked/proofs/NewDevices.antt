@@ -2,17 +2,13 @@
 use Rattle.std.proofs.Common.{All, ◌≡◌, ◌≤◌, ◌<◌, ◌+◌, ◌*◌, suc, ℕ, List, ◌∷◌, [], slice_index_or, Result, Ok, Err, IfErr, sym, subst, arith}
 use mathlib.Core.List.{IsPrefix}
 use Rattle.device.specs.Device.{State}
-use Rattle.refusal.specs.declared.refusal.Refusal.{Refusal}
-use Rattle.refusal.specs.declared.refusal.Refusal.TheVariants.{Damaged}
-use Rattle.tuples.specs.declared.entry.Entry.{Entry}
-use Rattle.records.specs.Identity.{Identity, coordinator_number}
+use Rattle.locked.proofs.Words.{coordinator_number, Damaged, Entry, Identity, Refusal, RowsAnywhere, ShardsRest}
 use Rattle.calls.specs.Views.{refused}
-use Rattle.ties.specs.ShardTies.{RowsAnywhere}
 use Rattle.ties.specs.Ties.{Anywhere}
 use Rattle.ties.proofs.ShardOpening.{longer_lists_stay_tied}
 use Rattle.ties.proofs.Unmade.{unmade_nodes_are_tied}
 use Rattle.sides.specs.Reopening.{LogReopens}
-use Rattle.locked.specs.Opening.{NewDevicesRest, RefusesCoordinator, RestAt, ShardsRest}
+use Rattle.locked.specs.Opening.{NewDevicesRest, RefusesCoordinator, RestAt}
 
 -- the first two are honest, and so are those behind them
 pub two_honest : {D : Type 0} (honest : D → Type 0) (all : List D) (a b : D) (rest : List D) → all ≡ a ∷ b ∷ rest → All honest all → honest a × honest b

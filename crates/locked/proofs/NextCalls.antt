@@ -1,6 +1,6 @@
 -- What the name of a next call tells.
 use Rattle.std.proofs.Common.{◌≡◌, true, false, Option, Some, None, is_some, refl}
-use Rattle.names.specs.declared.call_name.CallName.{CallName}
+use Rattle.locked.proofs.Words.{CallName}
 
 -- what has a next call has not ended
 pub not_ended : {E : Type 0} (ended : Option E) (name : Option CallName) → ((end : E) → ended ≡ Some end → name ≡ None) → is_some name ≡ true → ended ≡ None

@@ -1,7 +1,7 @@
 -- A call of a shard that is no flush, and no checkpoint.
 use Rattle.std.proofs.Common.{◌≡◌, false, refl}
-use Rattle.calls.specs.declared.call.ShardCall.{ShardCall}
-use Rattle.calls.specs.declared.call.ShardCall.TheVariants.{Learned, Learn, StagePrepare, Vote, DropWrite, InDoubt, Read, ReadForCheck, Settle, Collect, Flush, Checkpoint}
+use Rattle.locked.proofs.Words.{Checkpoint, Flush, ShardCall}
+use Rattle.calls.specs.declared.call.ShardCall.TheVariants.{Learned, Learn, StagePrepare, Vote, DropWrite, InDoubt, Read, ReadForCheck, Settle, Collect}
 use Rattle.flights.specs.Places.{is_flush}
 
 pub not_flush : (call : ShardCall) → (call ≡ Flush → ⊥) → (call ≡ Checkpoint → ⊥) → is_flush call ≡ false

@@ -1,11 +1,7 @@
 -- What a pass knows later.
 use Rattle.std.proofs.Common.{◌∙◌, arith, refl}
-use Rattle.tuples.specs.declared.entry.Entry.{Entry}
-use Rattle.published.specs.Known.{Known}
+use Rattle.locked.proofs.Words.{Attempt, Entry, IsLater, Known, KnowsMore}
 use Rattle.published.proofs.Prefixes.{prefix_self, prefix_trans}
-use Rattle.ties.specs.Ties.{Attempt}
-use Rattle.sides.specs.Sides.{IsLater}
-use Rattle.flights.specs.Serving.{KnowsMore}
 
 pub later_on : (one two three : Known Entry) → IsLater one two → IsLater two three → IsLater one three
 later_on one two three first then = record {

@@ -1,22 +1,15 @@
 -- A read of a shared store goes on to hold what is of the list, turn by turn.
 use Rattle.std.proofs.Common.{◌≡◌, inl, inr, ◌≤◌, ℕ, List, Bool, length, Option, Some, None, MatchOption, refl, sym, ◌∙◌, ap, subst}
-use Rattle.tuples.specs.declared.tupleset.Tupleset.{Tupleset}
-use Rattle.tuples.specs.declared.entry.Entry.{Entry}
-use Rattle.published.specs.Known.{Known}
-use Rattle.decisions.specs.Flows.{Freshness, exact, nothing_read}
-use Rattle.calls.specs.declared.call.NodeCall.TheVariants.{Shard}
+use Rattle.locked.proofs.Words.{Entry, exact, Freshness, HandsWhatIsSeen, HasReason, IsAsAsked, IsBeyond, IsFresh, IsReadOf, Known, LiesBeyond, ReadFlowValue, ReadHasReason, reads_at_rest_have_reason, ReadView, Reply, Shard, Tupleset, Turns}
+use Rattle.decisions.specs.Flows.{nothing_read}
 use Rattle.calls.specs.declared.call.ShardCall.TheVariants as shard_calls
-use Rattle.calls.specs.declared.reply.Reply.{Reply}
 use Rattle.answer_flow.specs.Reading.{Asks, AsksFor, Continues, GivesTo}
-use Rattle.answer_flow.specs.ReadViews.{ReadAwaited, ReadEnding, ReadFlowValue, ReadStep, ReadView, at_rest, heads, flush, catch_up, read}
+use Rattle.answer_flow.specs.ReadViews.{ReadAwaited, ReadEnding, ReadStep, at_rest, heads, flush, catch_up, read}
 use Rattle.answer_flow.specs.Running.{AsksRead, GivesRead}
-use Rattle.flow_ties.specs.Reads.{AreRowsAt, IsReadOf, ReadHasReason, ReadTurns}
-use Rattle.flow_ties.specs.Refusing.{HasReason}
-use Rattle.flow_ties.specs.Telling.{IsAsAsked}
-use Rattle.flow_ties.proofs.ToldReads.{reads_at_rest_have_reason, reads_begin_for_a_reason, reads_refuse_for_a_reason}
+use Rattle.flow_ties.specs.Reads.{AreRowsAt, ReadTurns}
+use Rattle.flow_ties.proofs.ToldReads.{reads_begin_for_a_reason, reads_refuse_for_a_reason}
 use Rattle.flow_ties.proofs.SeenReads.{reads_answer_what_is_seen, reads_begin, reads_begin_at_places, reads_hand_over_what_is_seen}
-use Rattle.locked.specs.Answering.{IsBeyond, IsFresh, LiesBeyond, ReadEnds, ReadRefuses, ReadRuns}
-use Rattle.locked.specs.Turning.{HandsWhatIsSeen, Turns}
+use Rattle.locked.specs.Answering.{ReadEnds, ReadRefuses, ReadRuns}
 use Rattle.locked.proofs.FreshPlaces.{beyond_is_fresh, fresh_is_as_asked, place_is_reached, reason_asked}
 
 -- a read calls no shard to collect

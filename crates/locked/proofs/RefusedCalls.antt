@@ -1,17 +1,11 @@
 -- What is refused tells nothing.
 use Rattle.std.proofs.Common.{ℕ, List, Ok}
-use Rattle.refusal.specs.declared.refusal.Refusal.{Refusal}
-use Rattle.tuples.specs.declared.entry.Entry.{Entry}
-use Rattle.calls.specs.Asking.{Refuses}
-use Rattle.calls.specs.declared.call.NodeCall.{NodeCall}
-use Rattle.calls.specs.declared.call.NodeCall.TheVariants.{Coordinator, Shard}
+use Rattle.locked.proofs.Words.{Coordinator, Entry, from_coordinator, IsTold, NodeCall, Refusal, Refuses, Reply, Shard}
 use Rattle.calls.specs.declared.call.CoordinatorCall.TheVariants as calls
 use Rattle.calls.specs.declared.call.ShardCall.TheVariants as shard_calls
-use Rattle.calls.specs.declared.reply.Reply.{Reply}
-use Rattle.calls.specs.declared.reply.Reply.TheVariants.{Coordinator as from_coordinator, Shard as from_shard}
+use Rattle.calls.specs.declared.reply.Reply.TheVariants.{Shard as from_shard}
 use Rattle.calls.specs.declared.reply.CoordinatorReply.TheVariants as told
 use Rattle.calls.specs.declared.reply.ShardReply.TheVariants as told_by
-use Rattle.flow_ties.specs.Telling.{IsTold}
 
 pub refused_is_told : (e : Refusal) (shards : ℕ) (seen : List Entry) (call : NodeCall) (reply : Reply) → Refuses e call reply → IsTold shards seen call reply
 refused_is_told e shards seen (Coordinator calls.Heads) (from_coordinator (told.Heads (Ok h))) refuses = absurd (cc refuses)

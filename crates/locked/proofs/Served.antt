@@ -1,18 +1,7 @@
 -- What is answered for a shard that is not there, and to a flush of one that is.
 use Rattle.std.proofs.Common.{ℕ, ◌≤◌, List, Bool, arith}
-use Rattle.calls.specs.declared.call.NodeCall.TheVariants.{Coordinator, Shard}
+use Rattle.locked.proofs.Words.{Checkpoint, Coordinator, Entry, Flush, IsLater, IsReplyTo, Known, Notices, Refusal, Refuses, Reply, Serves, Shard, ShardCall}
 use Rattle.calls.specs.declared.call.CoordinatorCall.TheVariants.{Flush as LogFlush}
-use Rattle.published.specs.Known.{Known}
-use Rattle.tuples.specs.declared.entry.Entry.{Entry}
-use Rattle.refusal.specs.declared.refusal.Refusal.{Refusal}
-use Rattle.calls.specs.Asking.{Refuses}
-use Rattle.calls.specs.Belonging.{IsReplyTo}
-use Rattle.calls.specs.declared.call.ShardCall.{ShardCall}
-use Rattle.calls.specs.declared.call.ShardCall.TheVariants.{Checkpoint, Flush}
-use Rattle.calls.specs.declared.reply.Reply.{Reply}
-use Rattle.flow_ties.specs.Refusing.{Notices}
-use Rattle.sides.specs.Sides.{IsLater}
-use Rattle.flights.specs.Serving.{Serves}
 use Rattle.locked.proofs.Passes.{later_self}
 use Rattle.locked.proofs.RefusedCalls.{refused_is_told}
 

@@ -1,25 +1,16 @@
 -- A watch of a shared store goes on to hold what is of the list, turn by turn.
 use Rattle.std.proofs.Common.{◌≡◌, ◌≤◌, ℕ, List, Bool, true, false, length, Option, Some, None, Ok, is_some, refl, MatchOption, sym, ◌∙◌, ap, subst, arith}
-use Rattle.tuples.specs.Limits.{max_watched}
-use Rattle.tuples.specs.declared.entry.Entry.{Entry}
-use Rattle.published.specs.Known.{Known}
-use Rattle.calls.specs.declared.call.NodeCall.{NodeCall}
-use Rattle.calls.specs.declared.call.NodeCall.TheVariants.{Coordinator, Shard}
+use Rattle.locked.proofs.Words.{Coordinator, Entry, exact, from_coordinator, HandsWhatIsSeen, HasReason, IsWatchOf, Known, max_watched, NodeCall, Reply, Shard, Turns, WatchFlowValue, WatchHasReason}
 use Rattle.calls.specs.declared.call.CoordinatorCall.TheVariants.{Batch, Heads}
 use Rattle.calls.specs.declared.call.ShardCall.TheVariants as shard_calls
-use Rattle.calls.specs.declared.reply.Reply.{Reply}
-use Rattle.calls.specs.declared.reply.Reply.TheVariants.{Coordinator as from_coordinator}
 use Rattle.calls.specs.declared.reply.CoordinatorReply.TheVariants as told
 use Rattle.answer_flow.specs.Watching.{GivesTo}
-use Rattle.answer_flow.specs.WatchViews.{WatchCall, WatchEnding, WatchFlowValue, WatchView, name_unless}
+use Rattle.answer_flow.specs.WatchViews.{WatchCall, WatchEnding, WatchView, name_unless}
 use Rattle.answer_flow.specs.Running.{AsksWatch, GivesWatch}
-use Rattle.flow_ties.specs.Refusing.{HasReason}
-use Rattle.flow_ties.specs.Watches.{AreEventsTo, IsWatchOf, TellsWatcher, WatchHasReason, WatchTurns}
+use Rattle.flow_ties.specs.Watches.{AreEventsTo, TellsWatcher, WatchTurns}
 use Rattle.flow_ties.proofs.SeenWatches.{watches_list_what_is_seen}
 use Rattle.flow_ties.proofs.ToldWatches.{watches_refuse_for_a_reason}
-use Rattle.decisions.specs.Flows.{exact}
 use Rattle.locked.specs.Answering.{WatchEnds, WatchRefuses}
-use Rattle.locked.specs.Turning.{HandsWhatIsSeen, Turns}
 
 -- what has a next call has not ended
 pub not_ended : (ended : Option WatchEnding) (awaited : Option WatchCall) (next : WatchCall) → is_some (name_unless ended awaited next) ≡ true → ended ≡ None

@@ -1,32 +1,19 @@
 -- A write of a shared store goes on to hold what is of it, turn by turn.
 use Rattle.std.proofs.Common.{◌≡◌, ◌≤◌, ℕ, Bool, List, length, Option, None, MatchOption, subst, sym}
 use mathlib.Core.List.{IsPrefix}
-use Rattle.tuples.specs.declared.entry.Entry.{Entry}
-use Rattle.tuples.specs.Writes.{WriteValue}
-use Rattle.published.specs.Known.{Known}
-use Rattle.calls.specs.Belonging.{IsReplyTo}
-use Rattle.calls.specs.declared.call.NodeCall.{NodeCall}
-use Rattle.calls.specs.declared.call.NodeCall.TheVariants.{Shard}
+use Rattle.locked.proofs.Words.{Attempt, Entry, IsKnownWriteOf, IsReplyTo, IsTold, IsTried, Known, NodeCall, Notices, RefusesAsTold, Reply, Serves, Shard, TellsWriter, WriteFlowValue, WriteValue}
 use Rattle.calls.specs.declared.call.ShardCall.TheVariants as shard_calls
-use Rattle.calls.specs.declared.reply.Reply.{Reply}
 use Rattle.commit_flow.specs.Answering.{GivesTo}
-use Rattle.commit_flow.specs.Flows.{WriteFlowValue}
 use Rattle.commit_flow.specs.Running.{AsksWrite, GivesWrite}
 use Rattle.commit_flow.specs.Views.{WriteView}
 use Rattle.commit_flow.specs.WriteHolds.{WriteAwaited}
 use Rattle.commit_flow.specs.Writing.{Asks}
-use Rattle.ties.specs.Ties.{Attempt}
-use Rattle.sides.specs.CoordinatorSides.{IsTried}
 use Rattle.flights.proofs.Landed.{still_there}
 use Rattle.flights.specs.LogPlaces.{TellsWriters}
-use Rattle.flights.specs.Serving.{Serves}
 use Rattle.flow_ties.specs.Cares.{HandsOver}
-use Rattle.flow_ties.specs.Telling.{IsTold}
-use Rattle.flow_ties.specs.Refusing.{Notices}
-use Rattle.flow_ties.specs.Writes.{Linking, RefusesAsTold, TellsWriter, WriteTurns, unbegun}
+use Rattle.flow_ties.specs.Writes.{Linking, WriteTurns, unbegun}
 use Rattle.flow_ties.proofs.SeenWrites.{writes_are_relinked, writes_hand_over_what_is_seen, writes_tell_what_stands}
 use Rattle.flow_ties.proofs.ToldWrites.{writes_begin_untold, writes_refuse_as_told}
-use Rattle.locked.specs.Writing.{IsKnownWriteOf}
 
 -- a turn of a write, in the words of its law
 turn_of : (links : Linking) (asked : WriteValue) (above shards : ℕ) (seen : List Entry) (v out later : WriteFlowValue) (call : NodeCall) (reply : Reply) → v.shards ≡ shards → v.seen.ended ≡ None → AsksWrite v call out

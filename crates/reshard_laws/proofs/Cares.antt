@@ -4,27 +4,20 @@ use Rattle.std.specs.List.{AllByRecursion}
 use Rattle.std.proofs.lemmas.List.Elements.{Contains-append_right}
 use Rattle.cluster.specs.Runs.{TookAll}
 use Rattle.cluster.specs.Steps.{Takes}
-use Rattle.cluster.specs.Worlds.{WorldView}
+use Rattle.reshard_laws.proofs.Words.{answered, Asked, began, Begins, care_for, ended, EndsAs, Event, events_of, flow_at, Flush, HasSameList, IfRunning, IsAsked, IsIdle, KeepsList, Moment, NamesHorizon, replaced, Running, Shows, StandsOver, State, StepsKeep, Store, Told, Turn, Turns, What, WorldView, WriteId}
 use Rattle.cluster.specs.declared.event.Event.{Event as AnyEvent}
-use Rattle.cluster.specs.declared.event.What.{What}
 use Rattle.cluster.specs.declared.step.Step.{Step}
-use Rattle.cluster.specs.declared.step.Step.TheVariants.{Start, Turn, Cancel, Care as care_for, Restart}
-use Rattle.device.specs.Device.{State}
+use Rattle.cluster.specs.declared.step.Step.TheVariants.{Start, Cancel, Restart}
 use Rattle.headline.proofs.PastWrites.{past_writes_stay}
-use Rattle.headline.specs.Promised.{Keeps, StepsKeep}
-use Rattle.headline.specs.Shown.{Shows}
+use Rattle.headline.specs.Promised.{Keeps}
 use Rattle.headline.specs.Told.{IsWholeStep, all_told, asked_for, step_of}
 use Rattle.names.specs.declared.care.Care.{Care}
-use Rattle.names.specs.declared.care.Care.TheVariants.{Flush, Checkpoint, Learn, Resolve, Raise, Collect}
+use Rattle.names.specs.declared.care.Care.TheVariants.{Checkpoint, Learn, Resolve, Raise, Collect}
 use Rattle.reshard.specs.Caring.{IsCaring, IsOfClosing}
-use Rattle.tuples.specs.declared.entry.WriteId.{WriteId}
-use Rattle.turns.specs.Flows.{Asked, IsAsked}
-use Rattle.turns.specs.Moments.{Moment, Running, ended, flow_at, is_write, replaced}
-use Rattle.turns.specs.Promises.{Ran, RunsOne, events_of}
+use Rattle.turns.specs.Moments.{is_write}
+use Rattle.turns.specs.Promises.{Ran, RunsOne}
 use Rattle.turns.specs.Runs as runs
-use Rattle.turns.specs.Runs.{Begins, Decides, DecidesNothing, EndsAs, EndsQuietly, Event, IfRunning, IsIdle, MayRise, Told, Turns, answered, began, came_up, goes_on, named_by, refuses, told_by}
-use Rattle.turns.specs.Stores.{NamesHorizon, StandsOver, Store}
-use Rattle.reshard_laws.specs.Cared.{HasSameList, KeepsList}
+use Rattle.turns.specs.Runs.{Decides, DecidesNothing, EndsQuietly, MayRise, came_up, goes_on, named_by, refuses, told_by}
 use Rattle.reshard_laws.proofs.Flows.{Each, each_at, each_ended, each_replaced}
 use Rattle.reshard_laws.proofs.Machines.{GoesQuietly, goes_nowhere, goes_then, quiet_moves, stays, stays_then}
 

@@ -2,33 +2,18 @@
 use Rattle.std.proofs.Common.{◌≡◌, ◌≤◌, ◌<◌, ◌+◌, ◌*◌, ◌++◌, ℕ, List, All, Contains, Some, length, refl, sym, ◌∙◌, ap, subst, arith}
 use Rattle.std.proofs.lemmas.List.Elements.{All-contains, All-contains_itself, All-weaker}
 use Rattle.calls.specs.Views as views
-use Rattle.cluster.specs.Worlds.{WorldView, flow_count, node_at}
+use Rattle.reshard_laws.proofs.Words.{AreHonest, BegunView, Coordinator, coordinator, coordinator_node, CoordinatorView, devices_at, devices_of, flow_count, HasAt, HasRecords, Identity, IsRunning, IsSeen, kept_of, left, memory_of, Moment, node_at, NodeName, Record, shard, shard_first, shard_node, Shows, StandsOver, State, steps_keep, stops, Store, WorldView, WriteId}
 use Rattle.decisions.specs.Checkpoints.{coordinator_of}
-use Rattle.decisions.specs.Coordinators.{CoordinatorView, IsRunning, kept_of, memory_of}
 use Rattle.decisions.specs.Standing.{IsGivenOut}
-use Rattle.device.specs.Device.{State, left}
 use Rattle.device.specs.declared.tear.Tear.{Tear}
-use Rattle.headline.proofs.Joined.{steps_keep}
 use Rattle.headline.proofs.ManyLives.{many}
 use Rattle.headline.proofs.Whole.{openings_keep}
-use Rattle.headline.specs.Promised.{devices_at}
-use Rattle.headline.specs.Shown.{Shows}
-use Rattle.journal.specs.Beginnings.{BegunView}
-use Rattle.journal.specs.Records.{HasRecords}
-use Rattle.laws.specs.Nodes.{NodeName, coordinator, shard}
-use Rattle.laws.specs.Worlds.{coordinator_node, shard_node}
 use Rattle.laws.proofs.MachineMoves.{snapshots_stay}
-use Rattle.names.specs.declared.node_name.NodeName.TheVariants.{Coordinator}
-use Rattle.records.specs.declared.record.Record.{Record}
 use Rattle.records.specs.Checkpoints.{coordinator_checkpoint}
 use Rattle.records.specs.Coordinators.{coordinator_state}
-use Rattle.records.specs.Identity.{Identity}
-use Rattle.reshard.specs.Made.{AreHonest, HasAt, IsCarriedOver, devices_of, shard_first, shard_of_store}
-use Rattle.tuples.specs.declared.entry.WriteId.{WriteId}
+use Rattle.reshard.specs.Made.{IsCarriedOver, shard_of_store}
 use Rattle.turns.proofs.ClosedStoreRests.{closed_stores_rest}
-use Rattle.turns.specs.Moments.{Moment}
-use Rattle.turns.specs.SeamLaws.{IsSeen}
-use Rattle.turns.specs.Stores.{IsToldOver, StandsOver, Store, stops}
+use Rattle.turns.specs.Stores.{IsToldOver}
 use Rattle.reshard_laws.specs.Carried.{CarriesOn, ClosedStoresAreCarriedOver, KeepsAndCarries, TokensReadTheSame, WhatIsCarriedOverRests}
 use Rattle.reshard_laws.proofs.Flushed.{keeps_all}
 use Rattle.reshard_laws.proofs.Known as known

@@ -1,18 +1,12 @@
 -- The first checkpoint of the coordinator of another number of shards: it is that coordinator's, and stands for what the old one knows.
 use Rattle.std.proofs.Common.{◌≡◌, ◌+◌, ◌-◌, ℕ, List, [], ◌∷◌, ◌++◌, drop, Option, Some, None, refl, sym, subst, append_assoc}
 use Rattle.std.proofs.lemmas.List.{append-nil}
-use Rattle.records.specs.declared.mark.Inside.{Inside}
-use Rattle.records.specs.declared.mark.Mark.TheVariants.{Ends}
+use Rattle.reshard_laws.proofs.Words.{Checkpoint, coordinator_empty, coordinator_number, CoordinatorState, decisions_from, Ends, Entry, Identity, Inside, inside_from, inside_push, inside_step, IsCoordinatorImage, Record}
 use Rattle.records.specs.declared.mark.Stage.TheVariants.{Bounded}
-use Rattle.records.specs.declared.record.Record.{Record}
-use Rattle.records.specs.declared.record.Record.TheVariants.{Checkpoint}
-use Rattle.records.specs.Checkpoints.{coordinator_checkpoint, decisions_from}
-use Rattle.records.specs.Coordinators.{BeginsCoordinatorImage, CoordinatorState, IsCoordinatorImage, MayFollowNext, coordinator_state, coordinator_step, empty_coordinator}
-use Rattle.records.specs.Identity.{Identity, coordinator_number}
-use Rattle.records.specs.Inside.{inside_from, inside_of, inside_step}
-use Rattle.records.proofs.CoordinatorStates.{coordinator_empty, coordinator_more, coordinator_push}
-use Rattle.records.proofs.Insides.{inside_push}
-use Rattle.tuples.specs.declared.entry.Entry.{Entry}
+use Rattle.records.specs.Checkpoints.{coordinator_checkpoint}
+use Rattle.records.specs.Coordinators.{BeginsCoordinatorImage, MayFollowNext, coordinator_state, coordinator_step, empty_coordinator}
+use Rattle.records.specs.Inside.{inside_of}
+use Rattle.records.proofs.CoordinatorStates.{coordinator_more, coordinator_push}
 
 abbrev FollowAll : Identity → Option Inside → CoordinatorState → List Record → Type 0
 FollowAll me i s [] = Unit {0}

@@ -2,22 +2,15 @@
 use Rattle.std.proofs.Common.{◌≡◌, ◌≤◌, inl, inr, List, [], ◌∷◌, ◌++◌, map, Option, Some, None, refl, sym, ◌∙◌, ap, subst, arith, append_assoc}
 use Rattle.std.proofs.lemmas.List.{append-nil}
 use Rattle.std.proofs.lemmas.List.Elements.{All-nil}
-use Rattle.calls.specs.declared.carrying.Reach.{Reach}
-use Rattle.records.specs.declared.mark.Inside.{Inside}
-use Rattle.records.specs.declared.mark.Mark.TheVariants.{Ends}
+use Rattle.reshard_laws.proofs.Words.{AreKept, Checkpoint, Ends, greatest_number, Inside, inside_from, inside_push, inside_step, IsKept, IsShardImage, of_shard, Reach, Record, shard_first, ShardState, Version}
 use Rattle.records.specs.declared.mark.Stage.TheVariants.{Listed}
-use Rattle.records.specs.declared.record.Record.{Record}
-use Rattle.records.specs.declared.record.Record.TheVariants.{Checkpoint}
-use Rattle.records.specs.Inside.{inside_from, inside_of, inside_step}
-use Rattle.records.specs.Replays.{BeginsShardImage, Identity, IsShardImage, MayFollow, ShardState, empty_shard, greatest_number, shard_from, shard_state, shard_step}
-use Rattle.records.proofs.Insides.{inside_push}
+use Rattle.records.specs.Inside.{inside_of}
+use Rattle.records.specs.Replays.{BeginsShardImage, Identity, MayFollow, empty_shard, shard_from, shard_state, shard_step}
 use Rattle.replay.specs.Checkpoints.{row_of}
 use Rattle.replay.proofs.Doubting.{each_middle}
-use Rattle.replay.proofs.Rising.{AreKept, IsKept, newest_below, some_place}
+use Rattle.replay.proofs.Rising.{newest_below, some_place}
 use Rattle.replay.proofs.States.{image_empty, image_more, shard_push}
-use Rattle.reshard.specs.Made.{shard_first}
-use Rattle.tuples.specs.declared.version.Version.{Version}
-use Rattle.tuples.specs.Versions.{collected, of_shard}
+use Rattle.tuples.specs.Versions.{collected}
 
 -- ---- records that may follow one another
 

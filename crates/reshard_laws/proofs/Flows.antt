@@ -4,12 +4,10 @@ use Rattle.std.proofs.lemmas.Bool.{cases_Bool}
 use Rattle.std.proofs.lemmas.List.Sums.{sum_by-cons}
 use Rattle.std.proofs.lemmas.Option.{same_Some}
 use Rattle.cluster.specs.declared.flow.Flow.{Flow}
-use Rattle.cluster.specs.Worlds.{WorldView, flow_at as flow_in, flow_count}
-use Rattle.device.specs.Device.{State}
-use Rattle.headline.specs.Shown.{IsShownSlot, Shows}
-use Rattle.turns.specs.Flows.{Asked}
-use Rattle.turns.specs.Moments.{Moment, Running, ended, flow_at, replaced}
-use Rattle.turns.specs.Stores.{FlowView, ShowsSlot, StandsOver, Store}
+use Rattle.reshard_laws.proofs.Words.{Asked, ended, flow_at, flow_count, Moment, replaced, Running, Shows, StandsOver, State, Store, WorldView}
+use Rattle.cluster.specs.Worlds.{flow_at as flow_in}
+use Rattle.headline.specs.Shown.{IsShownSlot}
+use Rattle.turns.specs.Stores.{FlowView, ShowsSlot}
 
 -- what each flow was asked has P
 abbrev pub Each : (Asked → Type 0) → List Running → Type 0

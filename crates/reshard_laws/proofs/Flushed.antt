@@ -1,27 +1,15 @@
 -- A flush of the coordinator that told its end: all of the list is kept.
 use Rattle.std.proofs.Common.{◌≡◌, ◌⊎◌, inl, inr, ⊎_elim, ℕ, List, [], ◌∷◌, map, Option, Some, None, length, refl, sym, ◌∙◌, ap, subst, arith}
-use Rattle.cluster.specs.Worlds.{WorldView, flow_count}
+use Rattle.reshard_laws.proofs.Words.{answered, Asked, began, Begins, care_for, Coordinator, coordinator, EndsAs, Event, events_of, flow_at, flow_count, Flush, IfRunning, IsAsked, IsIdle, KeepsList, Moment, NamesHorizon, Running, Shows, StandsOver, State, StepsKeep, Store, Told, Turn, Turns, What, WorldView}
 use Rattle.cluster.specs.declared.event.Answer.{Answer as AnyAnswer}
 use Rattle.cluster.specs.declared.event.Answer.TheVariants.{Checked, Done, Listed, Resolved, Selected, Wrote}
-use Rattle.cluster.specs.declared.event.What.{What}
 use Rattle.cluster.specs.declared.event.What.TheVariants.{Began, Ended}
-use Rattle.cluster.specs.declared.step.Step.TheVariants.{Turn, Care as care_for}
-use Rattle.device.specs.Device.{State}
-use Rattle.headline.specs.Promised.{StepsKeep}
-use Rattle.headline.specs.Shown.{Shows}
 use Rattle.headline.specs.Told.{answer_of}
-use Rattle.laws.specs.Nodes.{coordinator}
-use Rattle.names.specs.declared.care.Care.TheVariants.{Flush}
-use Rattle.names.specs.declared.node_name.NodeName.TheVariants.{Coordinator}
 use Rattle.reshard.specs.Caring.{Cares, IsCaredFor, Serves, TurnsOf}
 use Rattle.reshard.proofs.Caring.{nothing_done}
-use Rattle.turns.specs.Flows.{Asked, IsAsked, to_flush}
-use Rattle.turns.specs.Moments.{Moment, Running, flow_at}
-use Rattle.turns.specs.Promises.{events_of}
+use Rattle.turns.specs.Flows.{to_flush}
 use Rattle.turns.specs.Replies.{Agrees}
-use Rattle.turns.specs.Runs.{Begins, EndsAs, Event, IfRunning, IsIdle, Told, Turns, answered, began}
-use Rattle.turns.specs.Stores.{NamesHorizon, StandsOver, Store}
-use Rattle.reshard_laws.specs.Cared.{CaresKeepTheList, FlushedListsAreKept, KeepsList}
+use Rattle.reshard_laws.specs.Cared.{CaresKeepTheList, FlushedListsAreKept}
 use Rattle.reshard_laws.proofs.Cares.{AreNoWrites, Cared, all_steps, each_turned, nothing_yet, one_step, ran}
 use Rattle.reshard_laws.proofs.Flows.{Each, each_at, none_running}
 

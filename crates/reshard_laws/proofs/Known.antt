@@ -9,28 +9,14 @@ use Rattle.calls.specs.Carrying.{Reaches}
 use Rattle.calls.specs.Rows.{KnownOf}
 use Rattle.calls.specs.Views as views
 use Rattle.calls.specs.Views.{NodeView}
-use Rattle.calls.specs.declared.carrying.Reach.{Reach}
-use Rattle.cluster.specs.Worlds.{WorldView, node_at}
-use Rattle.decisions.specs.Coordinators.{CoordinatorView, IsRunning, kept_of, memory_of}
-use Rattle.device.specs.Device.{State}
-use Rattle.headline.specs.Shown.{Shows}
-use Rattle.laws.specs.Coordinators.{CoordinatorMeans}
-use Rattle.laws.specs.Nodes.{coordinator, shard}
-use Rattle.laws.specs.Worlds.{coordinator_node}
-use Rattle.laws.proofs.Lists.{slice_get_taken}
-use Rattle.names.specs.declared.node_name.NodeName.TheVariants.{Coordinator, Shard}
-use Rattle.records.specs.Coordinators.{IsCoordinatorImage}
+use Rattle.reshard_laws.proofs.Words.{AreAlike, Coordinator, coordinator, coordinator_node, CoordinatorMeans, CoordinatorView, IsCoordinatorImage, IsRunning, IsSeen, kept_of, memory_of, Moment, node_at, of_shard, Reach, shard, Shows, slice_get_taken, StandsOver, State, stops, Store, Version, WorldView}
+use Rattle.names.specs.declared.node_name.NodeName.TheVariants.{Shard}
 use Rattle.reshard.specs.Caring.{HaveReached}
 use Rattle.reshard.specs.Gathering.{AreGathered, TellAll, TellsShard}
 use Rattle.shard.specs.Shards.{IsUp, ShardView, memory}
-use Rattle.tuples.specs.declared.version.Version.{Version}
-use Rattle.tuples.specs.Versions.{of_shard, versions}
+use Rattle.tuples.specs.Versions.{versions}
 use Rattle.turns.proofs.CoordinatorCalls.{horizon_is, kept_is, same_epoch, whole}
 use Rattle.turns.proofs.ShardSeam.{known_left}
-use Rattle.turns.specs.Moments.{Moment}
-use Rattle.turns.specs.SeamLaws.{IsSeen}
-use Rattle.turns.specs.Stores.{StandsOver, Store, stops}
-use Rattle.versions.specs.Alike.{AreAlike}
 use Rattle.reshard_laws.proofs.Rows.{all_first, first_shards, none_first, one_more, strict_versions, told_same}
 use Rattle.reshard_laws.proofs.Sorted.{sorted_alike}
 

@@ -1,3 +1,4 @@
+mod Words
 pub mod Machines
 pub mod Flows
 pub mod Cares

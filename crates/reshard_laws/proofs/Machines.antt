@@ -1,9 +1,9 @@
 -- What quiet moves leave of a machine.
 use Rattle.std.proofs.Common.{◌≡◌, ◌⊎◌, inl, inr, ⊎_elim, ℕ, List, [], ◌∷◌, All, refl, sym, ◌∙◌, subst, arith}
 use Rattle.std.proofs.lemmas.List.Elements.{All-head, All-tail}
-use Rattle.laws.specs.Machines.{Machine, Makes, Move, Moves, append, cut, keep, raise}
+use Rattle.reshard_laws.proofs.Words.{HasSameList, Machine}
+use Rattle.laws.specs.Machines.{Makes, Move, Moves, append, cut, keep, raise}
 use Rattle.turns.specs.Runs.{IsQuiet}
-use Rattle.reshard_laws.specs.Cared.{HasSameList}
 
 -- and its horizon is the one from before, or one of these
 pub record GoesQuietly (may_rise : ℕ → Type 0) (m n : Machine) : Type 0 where

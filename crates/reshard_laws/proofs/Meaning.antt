@@ -1,33 +1,21 @@
 -- What the new devices have means the list that the old store knew.
 use Rattle.std.proofs.Common.{◌≡◌, ◌≤◌, ◌<◌, ◌+◌, ◌-◌, ◌*◌, ℕ, zero, suc, false, List, [], ◌∷◌, Contains, length, drop, drop-drop, get_or, slice_get, take_all, Some, refl, sym, ◌∙◌, ap, subst, arith}
 use Rattle.std.proofs.lemmas.Option.{same_Some, slice_get-get_or, slice_get_within}
-use Rattle.calls.specs.declared.carrying.Reach.{Reach}
-use Rattle.device.specs.Device.{State, left}
-use Rattle.headline.specs.Promised.{devices_at}
-use Rattle.journal.specs.Beginnings.{BegunView}
-use Rattle.journal.specs.Records.{HasRecords, found as journal_found}
-use Rattle.laws.specs.Coordinators.{CoordinatorMeans}
-use Rattle.laws.specs.Machines.{Machine}
-use Rattle.laws.specs.Nodes.{IsThere, NodeName, coordinator, shard}
+use Rattle.reshard_laws.proofs.Words.{AreAlike, AreHonest, AreKept, BegunView, checkpoint_state, coordinator, coordinator_node, CoordinatorMeans, CoordinatorState, devices_at, devices_of, Entry, greatest_number, HasAt, HasRecords, IsCoordinatorImage, IsLog, IsShardImage, left, Machine, NodeName, of_shard, Reach, Record, RestsOver, shard, shard_first, shard_node, slice_get_taken, State, stops, Version}
+use Rattle.journal.specs.Records.{found as journal_found}
+use Rattle.laws.specs.Nodes.{IsThere}
 use Rattle.laws.specs.Shards.{ShardMeans}
-use Rattle.laws.specs.Worlds.{AreGivenInDoubt, IsLog, IsMeaning, Means, coordinator_node, shard_node}
+use Rattle.laws.specs.Worlds.{AreGivenInDoubt, IsMeaning, Means}
 use Rattle.laws.proofs.CoordinatorStates.{end_is_length}
-use Rattle.laws.proofs.Lists.{slice_get_taken}
-use Rattle.records.specs.declared.record.Record.{Record}
 use Rattle.records.specs.Checkpoints.{coordinator_checkpoint}
-use Rattle.records.specs.Coordinators.{CoordinatorState, IsCoordinatorImage, coordinator_state}
-use Rattle.records.specs.Replays.{IsShardImage, greatest_number, shard_state}
-use Rattle.recovery.proofs.Checkpoints.{checkpoint_state, checkpoints_stand}
+use Rattle.records.specs.Coordinators.{coordinator_state}
+use Rattle.records.specs.Replays.{shard_state}
+use Rattle.recovery.proofs.Checkpoints.{checkpoints_stand}
 use Rattle.recovery.proofs.Known.{image_known}
 use Rattle.recovery.specs.Checkpoints.{above_horizon}
-use Rattle.replay.proofs.Rising.{AreKept, kept_alike}
-use Rattle.reshard.specs.Made.{AreHonest, HasAt, devices_of, shard_first}
-use Rattle.tuples.specs.declared.entry.Entry.{Entry}
-use Rattle.tuples.specs.declared.version.Version.{Version}
-use Rattle.tuples.specs.Versions.{of_shard, versions}
+use Rattle.replay.proofs.Rising.{kept_alike}
+use Rattle.tuples.specs.Versions.{versions}
 use Rattle.turns.specs.Stands.{at_shards}
-use Rattle.turns.specs.Stores.{RestsOver, stops}
-use Rattle.versions.specs.Alike.{AreAlike}
 use Rattle.versions.proofs.Alike.{alike_sym}
 use Rattle.reshard_laws.proofs.FirstLog.{first_log}
 use Rattle.reshard_laws.proofs.FirstShard.{first_image, first_is}

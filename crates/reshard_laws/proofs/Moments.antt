@@ -2,24 +2,17 @@
 use Rattle.std.proofs.Common.{◌≡◌, ◌⊎◌, ◌+◌, ◌-◌, inl, inr, ⊎_elim, ℕ, false, List, [], ◌∷◌, ◌++◌, All, Some, drop, refl, sym, ◌∙◌, ap, subst, arith}
 use Rattle.std.proofs.lemmas.List.Elements.{All-head, All-tail}
 use Rattle.calls.specs.Views.{coordinator}
-use Rattle.cluster.specs.Worlds.{WorldView, node_at}
+use Rattle.reshard_laws.proofs.Words.{BegunView, Coordinator, coordinator_number, CoordinatorView, decisions_from, devices_of, Epoch, IsRunning, left, memory_of, node_at, Reach, Record, State, Version, WorldView}
 use Rattle.decisions.specs.Checkpoints.{carried_checkpoint}
-use Rattle.decisions.specs.Coordinators.{CoordinatorView, IsRunning, memory_of}
-use Rattle.device.specs.Device.{LeavesOnly, State, left}
+use Rattle.device.specs.Device.{LeavesOnly}
 use Rattle.device.proofs.Moments.{leaves_map, leaves_then}
 use Rattle.journal.specs.Ahead.{checkpoint_of}
-use Rattle.journal.specs.Beginnings.{BegunView, HasBeginsOr, HasNone, HasNoneOrBegins, HasNoneOrNeverOpens, NeverOpensOr}
+use Rattle.journal.specs.Beginnings.{HasBeginsOr, HasNone, HasNoneOrBegins, HasNoneOrNeverOpens, NeverOpensOr}
 use Rattle.journal.specs.Records.{LeavesEach}
 use Rattle.journal.proofs.Beginnings.{each_begun, each_finished, none_first, stays_none}
-use Rattle.names.specs.declared.node_name.NodeName.TheVariants.{Coordinator}
-use Rattle.records.specs.declared.record.Record.{Record}
-use Rattle.records.specs.declared.record.Record.TheVariants.{Epoch, Horizon}
-use Rattle.records.specs.Checkpoints.{coordinator_checkpoint, decisions_from}
-use Rattle.records.specs.Identity.{coordinator_number}
-use Rattle.reshard.specs.Made.{devices_of}
+use Rattle.records.specs.declared.record.Record.TheVariants.{Horizon}
+use Rattle.records.specs.Checkpoints.{coordinator_checkpoint}
 use Rattle.reshard.specs.Written.{AreLeft, AreWrittenInOrder, EndsLog, HasBegunOn, IsEmpty, IsLeftOver, OnlyBegins}
-use Rattle.tuples.specs.declared.version.Version.{Version}
-use Rattle.calls.specs.declared.carrying.Reach.{Reach}
 use Rattle.reshard_laws.specs.Moments.{AllOrNothing, LeavesAllOrNothing, NewCoordinatorsAreWhole}
 
 -- ---- two contents

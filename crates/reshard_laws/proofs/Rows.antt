@@ -7,20 +7,14 @@ use Rattle.std.proofs.lemmas.List.{length-take-le}
 use Rattle.std.proofs.lemmas.List.Elements.{filter-append}
 use Rattle.std.proofs.lemmas.List.Sorted.{IsPermutation-cons, IsPermutation-middle, IsPermutation-refl, IsPermutation-sym, IsPermutation-trans}
 use Rattle.laws.specs.Worlds.{AreWhole}
-use Rattle.records.specs.Identity.{Identity}
-use Rattle.replay.proofs.Doubting.{each_append, each_filter}
-use Rattle.replay.proofs.Rising.{AreKept, IsKept, RisesFrom}
+use Rattle.reshard_laws.proofs.Words.{AreAlike, AreKept, each_filter, Entry, Identity, IsKept, of_shard, of_tuple, RisesFrom, Tuple, tuple_of, tuple_same, Version}
+use Rattle.replay.proofs.Doubting.{each_append}
 use Rattle.tuples.specs.declared.change.Change.{Change}
-use Rattle.tuples.specs.declared.entry.Entry.{Entry}
-use Rattle.tuples.specs.declared.tuple.Tuple.{Tuple}
-use Rattle.tuples.specs.declared.version.Version.{Version}
-use Rattle.tuples.specs.Changes.{AreDistinct, changed, has_tuple, tuple_of}
+use Rattle.tuples.specs.Changes.{AreDistinct, changed, has_tuple}
 use Rattle.tuples.specs.Order.{tuple_eq}
 use Rattle.tuples.specs.Parts.{shard_of}
-use Rattle.tuples.specs.Versions.{changes_from, collected, of_shard, placed, versions}
+use Rattle.tuples.specs.Versions.{changes_from, collected, placed, versions}
 use Rattle.tuples.proofs.Named.{shard_below}
-use Rattle.tuples.proofs.Same.{tuple_same}
-use Rattle.versions.specs.Alike.{AreAlike, of_tuple}
 use Rattle.versions.proofs.Alike.{alike_permutation, collected_own}
 use Rattle.reshard_laws.proofs.Sorted.{Strict, strict_filter, strict_weaker}
 

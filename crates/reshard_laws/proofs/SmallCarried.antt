@@ -2,36 +2,23 @@
 use Rattle.std.proofs.Common.{◌≡◌, ◌≤◌, ◌<◌, ℕ, zero, suc, false, List, [], ◌∷◌, All, None, Some, slice_get, take, refl, sym, ◌∙◌, ap, subst, arith}
 use Rattle.std.proofs.lemmas.List.Elements.{All-cons, All-nil}
 use Rattle.std.proofs.lemmas.Option.{same_Some}
-use Rattle.calls.specs.declared.carrying.Reach.{Reach}
-use Rattle.device.specs.Device.{State, left}
+use Rattle.reshard_laws.proofs.Words.{checkpoint_state, coordinator_empty, coordinator_node, CoordinatorMeans, CoordinatorState, devices_at, Entry, Epoch, HasRecords, IsCoordinatorImage, IsLog, left, Machine, of_shard, of_tuple, Reach, Record, RestsOver, shard, shard_first, shard_node, ShardState, State, stops, Version}
 use Rattle.device.proofs.Moments.{leaves_itself, leaves_nothing_else}
-use Rattle.headline.specs.Promised.{devices_at}
-use Rattle.journal.specs.Records.{Finds, HasRecords, found}
-use Rattle.laws.specs.Coordinators.{CoordinatorMeans}
-use Rattle.laws.specs.Machines.{Machine}
-use Rattle.laws.specs.Nodes.{shard}
-use Rattle.laws.specs.Worlds.{IsLog, coordinator_node, shard_node}
-use Rattle.records.specs.declared.record.Record.{Record}
-use Rattle.records.specs.declared.record.Record.TheVariants.{Decision, Epoch}
+use Rattle.journal.specs.Records.{Finds, found}
+use Rattle.records.specs.declared.record.Record.TheVariants.{Decision}
 use Rattle.records.specs.Checkpoints.{coordinator_checkpoint}
-use Rattle.records.specs.Coordinators.{CoordinatorState, IsCoordinatorImage, coordinator_state, coordinator_step}
-use Rattle.records.specs.Replays.{ShardState, find_in_doubt, shard_state}
-use Rattle.records.proofs.CoordinatorStates.{coordinator_empty, coordinator_image_push}
-use Rattle.recovery.proofs.Checkpoints.{checkpoint_state}
+use Rattle.records.specs.Coordinators.{coordinator_state, coordinator_step}
+use Rattle.records.specs.Replays.{find_in_doubt, shard_state}
+use Rattle.records.proofs.CoordinatorStates.{coordinator_image_push}
 use Rattle.tuples.specs.declared.change.Change.TheVariants.{Touch}
-use Rattle.tuples.specs.declared.entry.Entry.{Entry}
-use Rattle.tuples.specs.declared.version.Version.{Version}
 use Rattle.tuples.specs.Changes.{IsWrite}
 use Rattle.tuples.specs.Log.{HoldAfter, Holds, IsLegal}
 use Rattle.tuples.specs.Order.{tuple_eq}
 use Rattle.tuples.specs.Parts.{expected, part, shard_of, takes_part}
 use Rattle.tuples.specs.Texts.{IsTuple}
-use Rattle.tuples.specs.Versions.{collected, of_shard, versions}
+use Rattle.tuples.specs.Versions.{collected, versions}
 use Rattle.tuples.proofs.Examples.{numbered, viewed}
-use Rattle.turns.specs.Stores.{RestsOver, stops}
-use Rattle.versions.specs.Alike.{of_tuple}
 use Rattle.versions.proofs.Alike.{alike_same}
-use Rattle.reshard.specs.Made.{shard_first}
 use Rattle.reshard_laws.proofs.FirstShard.{first_is}
 use Rattle.reshard_laws.proofs.Meaning.{KnowTogether, log_records, rests_over, shard_records}
 

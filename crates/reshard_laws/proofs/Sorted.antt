@@ -9,17 +9,11 @@ use Rattle.std.proofs.lemmas.Cmp.{tied_itself}
 use Rattle.std.proofs.lemmas.List.Sorted.{Contains-permutation, IsPermutation-sym, sum_by-IsPermutation}
 use Rattle.std.proofs.lemmas.List.Sums.{sum_by-cons}
 use Rattle.std.proofs.lemmas.Map.Keys.{ge_from_not_lt}
-use Rattle.tuples.specs.declared.tuple.Tuple.{Tuple}
-use Rattle.tuples.specs.declared.version.Version.{Version}
-use Rattle.tuples.specs.Changes.{tuple_of}
+use Rattle.reshard_laws.proofs.Words.{AreAlike, each_filter, of_tuple, RisesFrom, Tuple, tuple_of, tuple_same, Version}
 use Rattle.tuples.specs.Order.{tuple_cmp, tuple_eq}
 use Rattle.tuples.proofs.Ordered.{tuple_total}
-use Rattle.tuples.proofs.Same.{tuple_same}
-use Rattle.versions.specs.Alike.{AreAlike, of_tuple}
 use Rattle.versions.specs.Rows.{version_cmp}
 use Rattle.merging.proofs.Ranked.{Ranked, ranked, ranked_filter}
-use Rattle.replay.proofs.Doubting.{each_filter}
-use Rattle.replay.proofs.Rising.{RisesFrom}
 
 -- each place is above the one before
 abbrev pub Strict : ℕ → List Version → Type 0

@@ -2,32 +2,12 @@
 use Rattle.std.proofs.Common.{◌≡◌, ◌≤◌, ◌<◌, ⊎_elim, ℕ, true≢false, List, [], ◌∷◌, ◌++◌, length, Result, Option, Some, Ok, Err, refl, sym, ◌∙◌, subst, ap}
 use Rattle.std.specs.Global.{Vec}
 use Rattle.std.proofs.lemmas.List.{append-nil}
-use Rattle.refusal.specs.declared.refusal.Refusal.{Refusal}
-use Rattle.tuples.specs.declared.entry.Entry.{Entry}
-use Rattle.tuples.specs.Writes.{WriteValue}
-use Rattle.device.specs.Device.{State, left}
-use Rattle.decisions.specs.Coordinators.{CoordinatorView}
-use Rattle.decisions.specs.Standing.{DecidedValue}
-use Rattle.decisions.specs.Values.{IntentValue, SettledValue, VerdictValue, VoteValue}
-use Rattle.coordinator.specs.declared.raising.NotRaised.{NotRaised}
-use Rattle.calls.specs.declared.call.NodeCall.TheVariants.{Coordinator}
-use Rattle.calls.specs.declared.call.CoordinatorCall.{CoordinatorCall}
-use Rattle.calls.specs.declared.call.CoordinatorCall.TheVariants.{Begin, Heads, Batch, Decide, Outcome, Abort, Inquire, Raise, Flush, Checkpoint}
-use Rattle.calls.specs.declared.reply.Reply.{Reply}
-use Rattle.calls.specs.declared.reply.Reply.TheVariants.{Coordinator as from_coordinator}
-use Rattle.calls.specs.declared.reply.CoordinatorReply.{CoordinatorReply}
+use Rattle.sides.proofs.Words.{Abort, AbortAnswers, Answered, AnsweredThere, Attempt, attempt, Batch, Begin, BeginAnswers, beginnings_stay_tied, Checkpoint, CheckpointAnswers, Coordinator, coordinator, CoordinatorAnswers, CoordinatorCall, CoordinatorMayJoin, CoordinatorReply, CoordinatorView, Decide, DecideAnswers, DecidedValue, Entry, Flush, FlushAnswers, from_coordinator, Heads, Inquire, IntentValue, IsOpenedTied, IsTied, IsTiedThere, IsTiedUp, landings_stay_tied, left, MayJoin, NodeView, NotRaised, Outcome, Raise, RaiseAnswers, Refusal, refused, Refuses, Reply, SettledValue, State, tied_up_is_tied, tried_by, VerdictValue, VoteValue, WriteValue}
 use Rattle.calls.specs.declared.reply.CoordinatorReply.TheVariants as told
-use Rattle.calls.specs.Asking.{Answered, CoordinatorAnswers, Refuses}
-use Rattle.calls.specs.CoordinatorAnswers.{AbortAnswers, BeginAnswers, CheckpointAnswers, DecideAnswers, FlushAnswers, RaiseAnswers}
-use Rattle.calls.specs.Views.{NodeView, coordinator, refused}
-use Rattle.ties.specs.DecidingLaws.{attempt}
-use Rattle.ties.specs.Ties.{Attempt, IsOpenedTied, IsTied, IsTiedUp}
-use Rattle.ties.proofs.Deciding.{aborts_stay_tied, beginnings_stay_tied, decisions_stay_tied, raises_stay_tied}
-use Rattle.ties.proofs.Landing.{flushes_stay_tied, landings_stay_tied}
-use Rattle.ties.proofs.Opening.{failed_flushes_stay_tied, tied_up_is_tied}
+use Rattle.ties.proofs.Deciding.{aborts_stay_tied, decisions_stay_tied, raises_stay_tied}
+use Rattle.ties.proofs.Landing.{flushes_stay_tied}
+use Rattle.ties.proofs.Opening.{failed_flushes_stay_tied}
 use Rattle.ties.proofs.Points.{checkpoints_stay_tied, failed_checkpoints_stay_tied}
-use Rattle.sides.specs.CoordinatorSides.{AnsweredThere, IsTiedThere, tried_by}
-use Rattle.sides.specs.Joining.{CoordinatorMayJoin, MayJoin}
 use Rattle.sides.proofs.ShardCalls.{is_up, up_or_down}
 
 module _ {D : Type 0} (state : D → State) (honest : D → Type 0) (store shards : ℕ) where

@@ -2,35 +2,18 @@
 use Rattle.std.proofs.Common.{◌≡◌, ◌≤◌, ◌-◌, ℕ, min, List, ◌++◌, length, drop, Result, Option, Some, Ok, Err, refl, sym, ◌∙◌, subst, ap, arith, length-append}
 use Rattle.std.specs.Global.{Vec}
 use Rattle.std.proofs.lemmas.List.{length-drop, length-take}
-use Rattle.refusal.specs.declared.refusal.Refusal.{Refusal}
-use Rattle.tuples.specs.declared.entry.Entry.{Entry}
-use Rattle.tuples.specs.declared.entry.WriteId.{WriteId}
+use Rattle.sides.proofs.Words.{Answered, AnsweredThere, Attempt, attempt, Batch, BatchValue, Begin, BeginAnswers, beginnings_stay_tied, Coordinator, coordinator, CoordinatorAnswers, CoordinatorReply, CoordinatorView, Decide, DecideAnswers, DecidedValue, end_of, Entry, from_coordinator, Heads, HeadsAnswers, HeadsValue, Inquire, IntentValue, IsOpenedTied, IsTied, IsTiedThere, IsTiedUp, kept_of, memory_of, NodeView, NotDecided, Outcome, Refusal, refused, Refuses, Reply, State, TellsBatch, TellsDecided, TellsFound, TellsHeads, TellsKept, VoteValue, WriteId, WriteValue}
 use Rattle.tuples.specs.Limits.{max_batch}
-use Rattle.tuples.specs.Writes.{WriteValue}
-use Rattle.records.specs.Coordinators.{end_of}
-use Rattle.device.specs.Device.{State}
-use Rattle.decisions.specs.Coordinators.{CoordinatorView, kept_of, memory_of}
-use Rattle.decisions.specs.Standing.{DecidedValue}
-use Rattle.decisions.specs.Values.{BatchValue, HeadsValue, IntentValue, VoteValue}
-use Rattle.coordinator.specs.declared.decided.NotDecided.{NotDecided}
 use Rattle.coordinator.specs.declared.telling.Inquiry as inquiries
 use Rattle.coordinator.specs.declared.telling.Inquiry.TheVariants.{Commit, Abort as is_aborted, Undecided}
 use Rattle.coordinator.specs.declared.telling.Outcome as outcomes
 use Rattle.coordinator.specs.declared.telling.Outcome.TheVariants.{Kept, Later, Unsure}
-use Rattle.calls.specs.declared.call.NodeCall.TheVariants.{Coordinator}
-use Rattle.calls.specs.declared.call.CoordinatorCall.TheVariants.{Begin, Heads, Batch, Decide, Outcome, Inquire}
-use Rattle.calls.specs.declared.reply.Reply.{Reply}
-use Rattle.calls.specs.declared.reply.Reply.TheVariants.{Coordinator as from_coordinator}
-use Rattle.calls.specs.declared.reply.CoordinatorReply.{CoordinatorReply}
 use Rattle.calls.specs.declared.reply.CoordinatorReply.TheVariants as told
-use Rattle.calls.specs.Asking.{Answered, CoordinatorAnswers, Refuses}
-use Rattle.calls.specs.CoordinatorAnswers.{BatchAnswers, BeginAnswers, DecideAnswers, HeadsAnswers, InquireAnswers, OutcomeAnswers}
-use Rattle.calls.specs.Views.{NodeView, coordinator, refused}
-use Rattle.ties.specs.DecidingLaws.{StandsAt, attempt}
-use Rattle.ties.specs.Ties.{Attempt, IsOpenedTied, IsTied, IsTiedUp}
-use Rattle.ties.proofs.Deciding.{beginnings_stay_tied, kept_attempts_stand}
+use Rattle.calls.specs.CoordinatorAnswers.{BatchAnswers, InquireAnswers, OutcomeAnswers}
+use Rattle.ties.specs.DecidingLaws.{StandsAt}
+use Rattle.ties.proofs.Deciding.{kept_attempts_stand}
 use Rattle.ties.proofs.Telling.{batches_are_seen, found_writes_stand, heads_are_seen}
-use Rattle.sides.specs.CoordinatorSides.{AnsweredThere, IsTiedThere, TellsBatch, TellsBegun, TellsDecided, TellsFound, TellsHeads, TellsKept}
+use Rattle.sides.specs.CoordinatorSides.{TellsBegun}
 use Rattle.sides.proofs.CoordinatorCalls.{decided}
 use Rattle.sides.proofs.ShardCalls.{is_up}
 

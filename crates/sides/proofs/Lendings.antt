@@ -1,23 +1,12 @@
 -- A shard whose devices were lent is tied as it was, and so is one that has them again.
 use Rattle.std.proofs.Common.{◌≡◌, ◌||◌, ◌++◌, ℕ, Bool, true, false, true≢false, List, take, drop, Option, Some, None, refl, sym, ◌∙◌, ap, subst, append_assoc}
 use Rattle.std.proofs.lemmas.List.{take-append-drop}
-use Rattle.away.specs.Aways.{lent_honest, lent_state}
-use Rattle.away.specs.declared.away.Away.{Away}
-use Rattle.tuples.specs.declared.entry.Entry.{Entry}
-use Rattle.records.specs.declared.record.Record.{Record}
+use Rattle.sides.proofs.Words.{Away, coordinator, Entry, Flying, IsOfShard, IsOpenedShardTied, IsTiedIn, Known, LandsIn, LandsRows, left, LendsIn, lent_honest, lent_state, MayLandIn, NodeView, Record, refused, RowsAnywhere, shard, ShardView, State, View}
 use Rattle.records.specs.Replays.{shard_state}
-use Rattle.device.specs.Device.{State, left}
-use Rattle.journal.specs.Records.{View}
-use Rattle.published.specs.Known.{Known}
-use Rattle.shard.specs.Shards.{ShardView}
 use Rattle.shard.specs.declared.lending.Flying.{Flying as OfShard}
 use Rattle.calls.specs.Lending.{ShardLands, ShardLends, ShardMayLand}
-use Rattle.calls.specs.Views.{NodeView, coordinator, refused, shard}
-use Rattle.calls.specs.declared.lending.Flying.{Flying}
 use Rattle.calls.specs.declared.lending.Flying.TheVariants as flies
-use Rattle.ties.specs.ShardTies.{AreRowsOf, IsOpenedShardTied, IsShardTiedUp, RowsAnywhere}
-use Rattle.sides.specs.Lending.{LandsIn, LandsRows, LendsIn, MayLandIn}
-use Rattle.sides.specs.Sides.{IsOfShard, IsTiedIn}
+use Rattle.ties.specs.ShardTies.{AreRowsOf, IsShardTiedUp}
 
 pub either_down : (a b : Bool) → (a || b) ≡ false → (a ≡ false) × (b ≡ false)
 either_down true b e = absurd (true≢false e)

@@ -1,3 +1,4 @@
+mod Words
 pub mod ShardCalls
 pub mod ShardReads
 pub mod Revived

@@ -1,8 +1,8 @@
 -- Just so many writes.
 use Rattle.std.proofs.Common.{◌≡◌, ◌≤◌, ◌-◌, ℕ, List, [], ◌++◌, length, replicate, sym, ◌∙◌, ap, arith, length-append}
 use Rattle.std.proofs.lemmas.List.{append-nil, length-replicate, length-take-le, nil_from_length, take-append-le, take_all}
-use Rattle.tuples.specs.declared.entry.Entry.{Entry}
-use Rattle.sides.specs.Joining.{exactly, nothing}
+use Rattle.sides.proofs.Words.{Entry, exactly}
+use Rattle.sides.specs.Joining.{nothing}
 
 pub length_exactly : (n : ℕ) (writes : List Entry) → length (exactly n writes) ≡ n
 length_exactly n writes = length-take-le n (writes ++ replicate n nothing) (let whole = length-append writes (replicate n nothing) in let more = length-replicate n nothing in omega (arith, whole, more))

@@ -1,23 +1,9 @@
 -- What joins the list leaves the coordinator tied to it.
 use Rattle.std.proofs.Common.{◌≡◌, ◌≤◌, ⊎_elim, ℕ, true≢false, List, ◌++◌, length, Result, Option, Some, None, Ok, Err, refl, sym, ◌∙◌, subst, ap, arith}
-use Rattle.refusal.specs.declared.refusal.Refusal.{Refusal}
-use Rattle.tuples.specs.declared.entry.Entry.{Entry}
-use Rattle.device.specs.Device.{State}
-use Rattle.decisions.specs.Coordinators.{CoordinatorView, heads_of, kept_of}
-use Rattle.decisions.specs.Values.{HeadsValue}
-use Rattle.calls.specs.declared.call.NodeCall.TheVariants.{Coordinator}
-use Rattle.calls.specs.declared.call.CoordinatorCall.TheVariants.{Heads}
-use Rattle.calls.specs.declared.reply.Reply.{Reply}
-use Rattle.calls.specs.declared.reply.Reply.TheVariants.{Coordinator as from_coordinator}
-use Rattle.calls.specs.declared.reply.CoordinatorReply.{CoordinatorReply}
+use Rattle.sides.proofs.Words.{Answered, AnsweredThere, AreHeadsOf, Attempt, behind_in, Coordinator, coordinator, CoordinatorAnswers, CoordinatorMayJoin, CoordinatorReply, CoordinatorView, Entry, from_coordinator, Heads, HeadsAnswers, HeadsValue, IsTiedThere, kept_of, MayJoin, NodeView, Refusal, refused, Refuses, Reply, shard, State, tied_up_is_tied}
+use Rattle.decisions.specs.Coordinators.{heads_of}
 use Rattle.calls.specs.declared.reply.CoordinatorReply.TheVariants as told
-use Rattle.calls.specs.Asking.{Answered, CoordinatorAnswers, Refuses}
-use Rattle.calls.specs.CoordinatorAnswers.{HeadsAnswers}
-use Rattle.calls.specs.Views.{NodeView, coordinator, shard, refused}
-use Rattle.ties.specs.Ties.{Attempt}
-use Rattle.ties.proofs.Opening.{tied_up_is_tied}
-use Rattle.sides.specs.CoordinatorSides.{AnsweredThere, IsTiedThere}
-use Rattle.sides.specs.Joining.{AreHeadsOf, CoordinatorMayJoin, MayJoin, behind_in, heads_in}
+use Rattle.sides.specs.Joining.{heads_in}
 use Rattle.sides.proofs.ShardCalls.{is_up, up_or_down}
 
 module _ {D : Type 0} (state : D → State) (honest : D → Type 0) (moment : D → ℕ) (left_since : D → ℕ → List ℕ → Type 0) where

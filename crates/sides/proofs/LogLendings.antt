@@ -1,30 +1,17 @@
 -- The coordinator whose devices were lent is tied as it was, and what they made durable may join the list once it has them again.
 use Rattle.std.proofs.Common.{◌≡◌, ◌++◌, ◌≤◌, ℕ, true, false, List, length, take, drop, Option, Some, None, is_some, slice_get, Contains, ⊎_elim, sym, ◌∙◌, ap, subst, arith, append_assoc, length-append}
 use Rattle.std.proofs.lemmas.List.{drop-append-le, take-append-drop}
-use Rattle.away.specs.Aways.{lent_honest, lent_state}
-use Rattle.away.specs.declared.away.Away.{Away}
-use Rattle.tuples.specs.declared.entry.Entry.{Entry}
-use Rattle.tuples.specs.declared.entry.WriteId.{WriteId}
-use Rattle.records.specs.declared.record.Record.{Record}
-use Rattle.records.specs.Coordinators.{CoordinatorState, coordinator_from, coordinator_state, end_of}
-use Rattle.device.specs.Device.{State, left}
-use Rattle.journal.specs.Records.{View}
-use Rattle.decisions.specs.Coordinators.{CoordinatorView, kept_of, memory_of}
-use Rattle.decisions.specs.Values.{HeadsValue}
+use Rattle.sides.proofs.Words.{Anywhere, AreHeadsOf, Attempt, Away, ComesBackIn, coordinator, CoordinatorMayJoin, CoordinatorView, end_of, Entry, Flying, HeadsValue, IsOpenedTied, IsSound, IsSoundThere, IsTiedThere, IsTiedUp, kept_of, landings_stay_tied, LandsIn, left, LendsIn, lent_honest, lent_state, MayJoin, MayLandIn, memory_of, NodeView, Record, refused, shard, State, View, WriteId}
+use Rattle.records.specs.Coordinators.{CoordinatorState, coordinator_from, coordinator_state}
 use Rattle.coordinator.specs.declared.lending.Flying.{Flying as OfCoordinator}
 use Rattle.calls.specs.Lending.{CoordinatorLands, CoordinatorLends, CoordinatorMayLand}
-use Rattle.calls.specs.Views.{NodeView, coordinator, refused, shard}
-use Rattle.calls.specs.declared.lending.Flying.{Flying}
 use Rattle.calls.specs.declared.lending.Flying.TheVariants as flies
-use Rattle.ties.specs.Ties.{Anywhere, AreListed, AreOf, AreStaged, AreTried, Attempt, IsLonger, IsOpenedTied, IsTiedUp}
+use Rattle.ties.specs.Ties.{AreListed, AreOf, AreStaged, AreTried, IsLonger}
 use Rattle.ties.proofs.Decided.{base_behind, base_staged, decided, decided-append, decided_behind, staged_in_two, staged_whole, staged_within, state_of_more}
-use Rattle.ties.proofs.Landing.{landings_stay_tied}
 use Rattle.ties.proofs.Lists.{get_front, same_rest}
 use Rattle.ties.proofs.Opening.{durable_longer}
 use Rattle.ties.proofs.Outside.{still_outside}
-use Rattle.sides.specs.CoordinatorSides.{IsSound, IsSoundThere, IsTiedThere}
-use Rattle.sides.specs.Joining.{AreHeadsOf, CoordinatorMayJoin, MayJoin}
-use Rattle.sides.specs.Lending.{ComesBack, ComesBackIn, IsUpThere, LandsIn, LendsIn, MayLandIn}
+use Rattle.sides.specs.Lending.{ComesBack, IsUpThere}
 use Rattle.sides.proofs.Lendings.{either_down}
 use Rattle.sides.proofs.ShardCalls.{up_or_down}
 

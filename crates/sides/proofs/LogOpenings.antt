@@ -1,16 +1,7 @@
 -- What a coordinator that is opened again found may join the list.
 use Rattle.std.proofs.Common.{⊎_elim, ℕ, ◌≤◌, true≢false, List, Option, Some, None, sym, ◌∙◌, subst}
-use Rattle.refusal.specs.declared.refusal.Refusal.{Refusal}
-use Rattle.tuples.specs.declared.entry.Entry.{Entry}
-use Rattle.device.specs.Device.{State, left}
-use Rattle.calls.specs.Opening.{CoordinatorOpens}
-use Rattle.calls.specs.Views.{NodeView, coordinator, devices_of, shard, refused}
-use Rattle.laws.specs.Worlds.{coordinator_node}
-use Rattle.ties.specs.Ties.{Anywhere, Attempt, IsTied}
+use Rattle.sides.proofs.Words.{Anywhere, Attempt, coordinator, coordinator_node, CoordinatorOpens, devices_of, Entry, IsTied, IsTiedThere, left, LogOpenedIn, LogReopens, LogRestartedIn, MayJoin, NodeView, Refusal, refused, shard, State}
 use Rattle.ties.proofs.Opening.{openings_stay_tied, refused_openings_stay_tied}
-use Rattle.sides.specs.CoordinatorSides.{IsTiedThere}
-use Rattle.sides.specs.Joining.{MayJoin}
-use Rattle.sides.specs.Reopening.{LogOpenedIn, LogReopens, LogRestartedIn}
 use Rattle.sides.proofs.Revived.{left_before, reads_itself, still}
 
 module _ {D : Type 0} (state : D → State) (honest : D → Type 0) (moment : D → ℕ) (left_since : D → ℕ → List ℕ → Type 0) (counts_now : (d : D) (t : ℕ) (c : List ℕ) → honest d → t ≤ moment d → left (state d) c → left_since d t c)

@@ -1,16 +1,7 @@
 -- A shard that is opened again is tied to what the pass beside it knows.
 use Rattle.std.proofs.Common.{⊎_elim, ℕ, ◌≤◌, List, Option, Some, None, sym, subst}
-use Rattle.refusal.specs.declared.refusal.Refusal.{Refusal}
-use Rattle.tuples.specs.declared.entry.Entry.{Entry}
-use Rattle.device.specs.Device.{State, left}
-use Rattle.calls.specs.Opening.{ShardOpens}
-use Rattle.calls.specs.Views.{NodeView, coordinator, devices_of, shard, refused}
-use Rattle.published.specs.Known.{Known}
-use Rattle.laws.specs.Worlds.{shard_node}
-use Rattle.ties.specs.ShardTies.{IsShardTied, RowsAnywhere}
-use Rattle.ties.proofs.ShardOpening.{refused_shard_openings_stay_tied, shard_openings_stay_tied, shard_tied_up_is_tied}
-use Rattle.sides.specs.Reopening.{OpenedIn, RestartedIn, ShardReopens}
-use Rattle.sides.specs.Sides.{IsTiedIn}
+use Rattle.sides.proofs.Words.{coordinator, devices_of, Entry, IsShardTied, IsTiedIn, Known, left, NodeView, OpenedIn, Refusal, refused, RestartedIn, RowsAnywhere, shard, shard_node, shard_tied_up_is_tied, ShardOpens, ShardReopens, State}
+use Rattle.ties.proofs.ShardOpening.{refused_shard_openings_stay_tied, shard_openings_stay_tied}
 use Rattle.sides.proofs.Revived.{left_before, reads_itself, still}
 
 module _ {D : Type 0} (state : D → State) (honest : D → Type 0) (moment : D → ℕ) (left_since : D → ℕ → List ℕ → Type 0) (counts_now : (d : D) (t : ℕ) (c : List ℕ) → honest d → t ≤ moment d → left (state d) c → left_since d t c)

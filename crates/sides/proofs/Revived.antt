@@ -1,6 +1,7 @@
 -- What is left of a device that was revived, or failed once more, could be left of it before.
 use Rattle.std.proofs.Common.{◌≡◌, ◌⊎◌, ⊎_elim, ℕ, List, sym, ◌∙◌, subst}
-use Rattle.device.specs.Device.{Keeps, Leaves, Revived, State, left}
+use Rattle.sides.proofs.Words.{left, State}
+use Rattle.device.specs.Device.{Keeps, Leaves, Revived}
 use Rattle.device.proofs.Moments.{leaves_itself, leaves_nothing_else}
 use Rattle.sides.specs.Reopening.{FailsAgain, IsFound}
 

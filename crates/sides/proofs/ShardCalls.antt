@@ -2,29 +2,17 @@
 use Rattle.std.proofs.Common.{◌≡◌, ◌≤◌, ⊎_elim, inl, inr, ◌⊎◌, zero, suc, ℕ, Bool, true, false, List, [], ◌∷◌, ◌++◌, length, Result, Option, Some, None, Ok, Err, refl, sym, ◌∙◌, subst, ap, arith}
 use Rattle.std.proofs.lemmas.List.{length-take, take-append-le}
 use mathlib.Core.List.{IsPrefix}
-use Rattle.refusal.specs.declared.refusal.Refusal.{Refusal}
-use Rattle.tuples.specs.declared.entry.Entry.{Entry}
-use Rattle.device.specs.Device.{State, left}
-use Rattle.decisions.specs.Values.{BatchValue, HeadsValue, IntentValue, TicketValue, VerdictValue}
-use Rattle.published.specs.Known.{Known}
-use Rattle.shard.specs.Shards.{ShardView}
-use Rattle.calls.specs.declared.call.NodeCall.TheVariants.{Shard}
-use Rattle.calls.specs.declared.call.ShardCall.{ShardCall}
-use Rattle.calls.specs.declared.call.ShardCall.TheVariants.{Learned, Learn, StagePrepare, Vote, DropWrite, InDoubt, Read, ReadForCheck, Settle, Collect, Flush, Checkpoint}
-use Rattle.calls.specs.declared.reply.Reply.{Reply}
-use Rattle.calls.specs.declared.reply.Reply.TheVariants.{Shard as from_shard}
-use Rattle.calls.specs.declared.reply.ShardReply.{ShardReply}
+use Rattle.sides.proofs.Words.{Answered, AnsweredIn, BatchValue, Collect, DropWrite, Entry, from_shard, HeadsValue, IntentValue, IsOpenedShardTied, IsShardTied, IsTiedIn, Known, Learn, left, NodeView, Read, ReadForCheck, Refusal, refused, Reply, Shard, shard, shard_tied_up_is_tied, ShardAnswers, ShardCall, ShardReply, ShardView, StagePrepare, State, VerdictValue}
+use Rattle.decisions.specs.Values.{TicketValue}
+use Rattle.calls.specs.declared.call.ShardCall.TheVariants.{Learned, Vote, InDoubt, Settle, Flush, Checkpoint}
 use Rattle.calls.specs.declared.reply.ShardReply.TheVariants as told_by
-use Rattle.calls.specs.Asking.{Answered, ShardAnswers}
 use Rattle.calls.specs.ShardAnswers.{CheckpointAnswers, CollectAnswers, DropAnswers, FlushAnswers, LearnAnswers, PrepareAnswers}
-use Rattle.calls.specs.Views.{NodeView, shard, refused}
 use Rattle.laws.specs.ShardLaws.{AreOfLog}
-use Rattle.ties.specs.ShardTies.{IsOpenedShardTied, IsShardTied}
 use Rattle.ties.specs.TellingLaws.{IsBatchOf}
 use Rattle.ties.proofs.ShardCalls.{collections_stay_tied, drops_stay_tied, learnings_stay_tied, prepares_stay_tied, shard_flushes_stay_tied}
-use Rattle.ties.proofs.ShardOpening.{failed_shard_flushes_stay_tied, longer_lists_stay_tied, shard_tied_up_is_tied}
+use Rattle.ties.proofs.ShardOpening.{failed_shard_flushes_stay_tied, longer_lists_stay_tied}
 use Rattle.ties.proofs.ShardPoints.{failed_shard_checkpoints_stay_tied, shard_checkpoints_stay_tied}
-use Rattle.sides.specs.Sides.{AnsweredIn, IsLater, IsTiedIn}
+use Rattle.sides.specs.Sides.{IsLater}
 
 pub is_up : (b : Bool) → (b ≡ true → ⊥) → b ≡ false
 is_up false down = refl

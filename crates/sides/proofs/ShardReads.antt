@@ -1,27 +1,14 @@
 -- What a shard under its lock reads is of the list that its pass has seen.
 use Rattle.std.proofs.Common.{ℕ, List, Result, Option, Some, Ok, Err, refl}
-use Rattle.refusal.specs.declared.refusal.Refusal.{Refusal}
-use Rattle.tuples.specs.declared.entry.Entry.{Entry}
+use Rattle.sides.proofs.Words.{Answered, AnsweredIn, Entry, from_shard, IsOpenedShardTied, IsShardTied, IsTiedIn, Known, NodeView, Read, ReadForCheck, Refusal, refused, Refuses, Reply, Shard, shard, ShardAnswers, ShardReply, ShardView, State, TellsCheckRows, TellsRows}
 use Rattle.tuples.specs.declared.object.Userset.{Userset}
 use Rattle.tuples.specs.declared.tupleset.Tupleset.{Tupleset}
 use Rattle.tuples.specs.declared.user.User.{User}
-use Rattle.device.specs.Device.{State}
-use Rattle.published.specs.Known.{Known}
-use Rattle.shard.specs.Shards.{ShardView}
 use Rattle.shard.specs.declared.replies.ReadReply.{ReadReply}
 use Rattle.shard.specs.declared.replies.ReadReply.TheVariants.{Rows, Behind}
-use Rattle.calls.specs.declared.call.NodeCall.TheVariants.{Shard}
-use Rattle.calls.specs.declared.call.ShardCall.TheVariants.{Read, ReadForCheck}
-use Rattle.calls.specs.declared.reply.Reply.{Reply}
-use Rattle.calls.specs.declared.reply.Reply.TheVariants.{Shard as from_shard}
-use Rattle.calls.specs.declared.reply.ShardReply.{ShardReply}
 use Rattle.calls.specs.declared.reply.ShardReply.TheVariants as told_by
-use Rattle.calls.specs.Asking.{Answered, Refuses, ShardAnswers}
 use Rattle.calls.specs.ShardAnswers.{ReadAnswers, ReadForCheckAnswers}
-use Rattle.calls.specs.Views.{NodeView, shard, refused}
-use Rattle.ties.specs.ShardTies.{IsOpenedShardTied, IsShardTied}
 use Rattle.ties.proofs.ShardOpening.{check_reads_are_seen, reads_are_seen}
-use Rattle.sides.specs.Sides.{AnsweredIn, IsTiedIn, TellsCheckRows, TellsRows}
 use Rattle.sides.proofs.ShardCalls.{is_up}
 
 module _ {D : Type 0} (state : D → State) (honest : D → Type 0) (moment : D → ℕ) (left_since : D → ℕ → List ℕ → Type 0) (store shards s : ℕ) where

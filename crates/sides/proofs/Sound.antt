@@ -1,37 +1,17 @@
 -- The calls of a node leave it what it is, whatever list its records stand for.
 use Rattle.std.proofs.Common.{◌≡◌, ⊎_elim, ℕ, true, true≢false, List, Result, Option, Some, None, Ok, Err, is_some, refl, sym, ◌∙◌, subst, ap}
 use Rattle.std.proofs.lemmas.Option.{same_Some}
-use Rattle.refusal.specs.declared.refusal.Refusal.{Refusal}
+use Rattle.sides.proofs.Words.{Abort, AbortAnswers, Answered, AnsweredIn, AnsweredThere, Batch, Begin, BeginAnswers, Checkpoint, CheckpointAnswers, Coordinator, coordinator, coordinator_node, CoordinatorAnswers, CoordinatorCall, CoordinatorOpens, CoordinatorReply, CoordinatorView, Decide, DecideAnswers, DecidedValue, devices_of, Flush, FlushAnswers, from_coordinator, from_shard, Heads, Identity, Inquire, IntentValue, IsOfShard, IsSound, IsSoundThere, LogOpenedIn, LogReopens, LogRestartedIn, NodeView, NotDecided, NotRaised, OpenedIn, Outcome, Raise, RaiseAnswers, Refusal, refused, Reply, RestartedIn, SettledValue, Shard, shard, shard_node, ShardAnswers, ShardCall, ShardOpens, ShardReopens, ShardReply, ShardView, State, VerdictValue, VoteValue, WriteValue}
 use Rattle.refusal.specs.declared.refusal.Refusal.TheVariants.{Down}
-use Rattle.tuples.specs.Writes.{WriteValue}
-use Rattle.device.specs.Device.{State}
-use Rattle.decisions.specs.Coordinators.{CoordinatorView, IsRunning}
-use Rattle.decisions.specs.Standing.{DecidedValue}
-use Rattle.decisions.specs.Values.{IntentValue, SettledValue, VerdictValue, VoteValue}
-use Rattle.coordinator.specs.declared.decided.NotDecided.{NotDecided}
-use Rattle.coordinator.specs.declared.raising.NotRaised.{NotRaised}
-use Rattle.records.specs.Replays.{Identity}
-use Rattle.shard.specs.Shards.{ShardView}
-use Rattle.calls.specs.declared.call.NodeCall.TheVariants.{Coordinator, Shard}
-use Rattle.calls.specs.declared.call.CoordinatorCall.{CoordinatorCall}
-use Rattle.calls.specs.declared.call.CoordinatorCall.TheVariants.{Begin, Heads, Batch, Decide, Outcome, Abort, Inquire, Raise, Flush, Checkpoint}
-use Rattle.calls.specs.declared.call.ShardCall.{ShardCall}
+use Rattle.decisions.specs.Coordinators.{IsRunning}
 use Rattle.calls.specs.declared.call.ShardCall.TheVariants as shard_calls
-use Rattle.calls.specs.declared.reply.Reply.{Reply}
-use Rattle.calls.specs.declared.reply.Reply.TheVariants.{Coordinator as from_coordinator, Shard as from_shard}
-use Rattle.calls.specs.declared.reply.CoordinatorReply.{CoordinatorReply}
 use Rattle.calls.specs.declared.reply.CoordinatorReply.TheVariants as told
-use Rattle.calls.specs.declared.reply.ShardReply.{ShardReply}
 use Rattle.calls.specs.declared.reply.ShardReply.TheVariants as told_by
-use Rattle.calls.specs.Asking.{Answered, CoordinatorAnswers, MayAsk, MayAskCoordinator, MayAskShard, ShardAnswers}
-use Rattle.calls.specs.CoordinatorAnswers.{AbortAnswers, BeginAnswers, CheckpointAnswers, DecideAnswers, FlushAnswers, RaiseAnswers}
-use Rattle.calls.specs.Opening.{CoordinatorOpens, ShardOpens, refusal_of}
-use Rattle.calls.specs.Views.{NodeView, coordinator, devices_of, shard, refused}
-use Rattle.laws.specs.Worlds.{coordinator_node, shard_node}
-use Rattle.sides.specs.CoordinatorSides.{AnsweredThere, IsSound, IsSoundThere, MayAskThere}
+use Rattle.calls.specs.Asking.{MayAsk, MayAskCoordinator, MayAskShard}
+use Rattle.calls.specs.Opening.{refusal_of}
+use Rattle.sides.specs.CoordinatorSides.{MayAskThere}
 use Rattle.sides.specs.Joining.{RunsThere}
-use Rattle.sides.specs.Reopening.{LogOpenedIn, LogReopens, LogRestartedIn, OpenedIn, RestartedIn, ShardReopens}
-use Rattle.sides.specs.Sides.{AnsweredIn, IsOfShard, MayAskIn}
+use Rattle.sides.specs.Sides.{MayAskIn}
 use Rattle.sides.proofs.Revived.{still}
 use Rattle.sides.proofs.ShardCalls.{is_up}
 

@@ -2,12 +2,10 @@
 use Rattle.std.proofs.Common.{◌≡◌, ℕ, ◌≤◌, ◌<◌, List, [], ◌∷◌, ◌++◌, Contains, refl, sym, ◌∙◌, ap, subst, arith, append_assoc}
 use Rattle.std.proofs.lemmas.List.{append-nil}
 use Rattle.std.proofs.lemmas.List.Elements.{Contains-append_left, Contains-append_right, Contains-push}
-use Rattle.tuples.specs.declared.entry.Entry.{Entry}
-use Rattle.records.specs.declared.record.Record.{Record}
-use Rattle.records.specs.declared.record.Record.TheVariants.{Decision, Dropped, Epoch, Horizon, Learned, Prepare, Checkpoint}
-use Rattle.records.specs.Coordinators.{CoordinatorState, coordinator_from, coordinator_state, coordinator_step, empty_coordinator, marked_base}
+use Rattle.ties.proofs.Words.{AreStaged, coordinator_from, CoordinatorState, Decision, Dropped, Entry, Epoch, Horizon, Learned, Prepare, Record}
+use Rattle.records.specs.declared.record.Record.TheVariants.{Checkpoint}
+use Rattle.records.specs.Coordinators.{coordinator_state, coordinator_step, empty_coordinator, marked_base}
 use Rattle.records.proofs.CoordinatorStates.{coordinator_from-append}
-use Rattle.ties.specs.Ties.{AreStaged}
 
 -- the decisions among these records
 abbrev pub decided : List Record → List Entry

@@ -3,15 +3,9 @@ use Rattle.std.proofs.Common.{◌≡◌, inl, inr, ⊎_elim, ℕ, ◌+◌, ◌�
 use Rattle.std.proofs.lemmas.Bool.{cases_lt}
 use Rattle.std.proofs.lemmas.List.{drop-append-le, length-drop}
 use Rattle.coordinator.proofs.OpenIds.{without_none}
-use Rattle.tuples.specs.declared.entry.Entry.{Entry}
-use Rattle.tuples.specs.declared.entry.WriteId.{WriteId}
-use Rattle.tuples.specs.Changes.{IsWrite}
-use Rattle.device.specs.Device.{State}
-use Rattle.records.specs.declared.record.Record.TheVariants.{Decision, Horizon}
-use Rattle.records.specs.Coordinators.{CoordinatorState, coordinator_state, coordinator_step, end_of}
-use Rattle.records.proofs.CoordinatorStates.{coordinator_push}
-use Rattle.decisions.specs.Coordinators.{CoordinatorView, IsGivenAt, IsRising, IsRunning, kept_of, memory_of, next_id, without_id}
-use Rattle.ties.specs.Ties.{AreListed, AreOf, AreOutside, AreStaged, AreTried, Attempt, IsTiedUp, StandsOrIsPast}
+use Rattle.ties.proofs.Words.{AreListed, AreOf, AreOutside, AreStaged, AreTried, Attempt, coordinator_push, CoordinatorState, CoordinatorView, Decision, Entry, Horizon, IsGivenAt, IsRunning, IsTiedUp, IsWrite, kept_of, memory_of, StandsOrIsPast, State, without_id, WriteId}
+use Rattle.records.specs.Coordinators.{coordinator_state, coordinator_step, end_of}
+use Rattle.decisions.specs.Coordinators.{IsRising, next_id}
 use Rattle.ties.specs.DecidingLaws.{AbortsStayTied, BeginningsStayTied, DecisionsStayTied, KeptAttemptsStand, RaisesStayTied, attempt}
 use Rattle.ties.proofs.Decided.{base_staged, staged_decision, staged_horizon, state_of_more}
 use Rattle.ties.proofs.Lists.{first_or_later, get_back, get_front, last_at, pushed_at}

@@ -1,13 +1,8 @@
 -- What is durable joins the list.
 use Rattle.std.proofs.Common.{◌≡◌, ℕ, ◌-◌, ◌≤◌, List, ◌++◌, length, take, drop, Contains, refl, sym, ◌∙◌, ap, subst, arith, append_assoc, length-append}
 use Rattle.std.proofs.lemmas.List.{drop-append-le, drop_all, drop_at, length-drop, take_all, take-append-drop}
-use Rattle.tuples.specs.declared.entry.Entry.{Entry}
-use Rattle.tuples.specs.declared.entry.WriteId.{WriteId}
-use Rattle.device.specs.Device.{State}
-use Rattle.records.specs.declared.record.Record.{Record}
-use Rattle.records.specs.Coordinators.{CoordinatorState, coordinator_from, coordinator_state}
-use Rattle.decisions.specs.Coordinators.{CoordinatorView, IsRunning, kept_of, memory_of}
-use Rattle.ties.specs.Ties.{AreListed, AreOf, AreOutside, AreStaged, AreTried, Attempt, IsTiedUp, behind}
+use Rattle.ties.proofs.Words.{AreListed, AreOf, AreOutside, AreStaged, AreTried, Attempt, behind, coordinator_from, CoordinatorState, CoordinatorView, Entry, IsRunning, IsTiedUp, kept_of, memory_of, Record, State, WriteId}
+use Rattle.records.specs.Coordinators.{coordinator_state}
 use Rattle.ties.specs.JoiningLaws.{FlushesStayTied, LandingsStayTied, LandsFirst}
 use Rattle.ties.proofs.Decided.{base_behind, base_staged, decided, decided-append, decided_behind, staged_higher, staged_in_two, staged_within, state_of_more}
 use Rattle.ties.proofs.Lists.{same_rest}

@@ -2,19 +2,13 @@
 use Rattle.std.proofs.Common.{◌≡◌, inl, inr, ⊎_elim, ℕ, ◌+◌, ◌-◌, ◌≤◌, true≢false, List, [], ◌∷◌, ◌++◌, length, drop, Some, slice_get, Contains, rules, refl, sym, ◌∙◌, ap, subst, arith}
 use Rattle.std.proofs.lemmas.List.{append-nil, drop-append-le, drop_at, length-drop}
 use Rattle.std.proofs.lemmas.Option.{same_Some}
-use Rattle.tuples.specs.declared.entry.Entry.{Entry}
-use Rattle.tuples.specs.declared.entry.WriteId.{WriteId}
-use Rattle.device.specs.Device.{State, left as device_left}
-use Rattle.records.specs.declared.record.Record.{Record}
-use Rattle.records.specs.Coordinators.{CoordinatorState, coordinator_state, coordinator_step}
-use Rattle.records.specs.Identity.{Identity}
-use Rattle.records.proofs.CoordinatorStates.{coordinator_push}
-use Rattle.journal.specs.Records.{LeavesBoth, found}
-use Rattle.decisions.specs.Coordinators.{CoordinatorView, IsOpenedCoordinator, WasLeftOrReopened, coordinator_opening, kept_of, memory_of}
+use Rattle.ties.proofs.Words.{Anywhere, AreListed, AreOf, AreOutside, AreStaged, Attempt, behind, coordinator_node, coordinator_push, CoordinatorState, CoordinatorView, device_left, Entry, Identity, IsLonger, IsTiedUp, Joins, kept_of, LeavesBoth, memory_of, Record, State, WriteId}
+use Rattle.records.specs.Coordinators.{coordinator_state, coordinator_step}
+use Rattle.journal.specs.Records.{found}
+use Rattle.decisions.specs.Coordinators.{IsOpenedCoordinator, WasLeftOrReopened, coordinator_opening}
 use Rattle.calls.specs.Opening.{CoordinatorComesUp}
-use Rattle.laws.specs.Worlds.{coordinator_node}
-use Rattle.ties.specs.Ties.{Anywhere, AreListed, AreOf, AreOutside, AreStaged, Attempt, IsLonger, IsOpenedTied, IsTiedUp, behind}
-use Rattle.ties.specs.JoiningLaws.{FailedFlushesStayTied, Joins, OpeningsStayTied, RefusedOpeningsStayTied, TiedUpIsTied}
+use Rattle.ties.specs.Ties.{IsOpenedTied}
+use Rattle.ties.specs.JoiningLaws.{FailedFlushesStayTied, OpeningsStayTied, RefusedOpeningsStayTied, TiedUpIsTied}
 use Rattle.ties.proofs.Decided.{staged_whole, state_of_more}
 use Rattle.ties.proofs.Lists.{get_front}
 

@@ -3,10 +3,7 @@ use Rattle.std.proofs.Common.{◌≡◌, Bool, if◌then◌else◌, inl, inr, �
 use Rattle.std.proofs.lemmas.Bool.{cases_Bool}
 use Rattle.std.proofs.lemmas.List.Elements.{Contains-append_left, Contains-append_right, Contains-push}
 use Rattle.tuples.specs.Log.{same_id}
-use Rattle.tuples.specs.declared.entry.Entry.{Entry}
-use Rattle.tuples.specs.declared.entry.WriteId.{WriteId}
-use Rattle.decisions.specs.Coordinators.{CoordinatorView, IsGivenAt, memory_of, without_id}
-use Rattle.ties.specs.Ties.{AreOutside}
+use Rattle.ties.proofs.Words.{AreOutside, CoordinatorView, Entry, IsGivenAt, memory_of, without_id, WriteId}
 use Rattle.ties.proofs.Lists.{first_or_later}
 
 -- the ids that stay were there

@@ -2,18 +2,13 @@
 use Rattle.std.proofs.Common.{◌≡◌, inl, inr, ℕ, ◌+◌, ◌-◌, ◌≤◌, true≢false, List, [], ◌++◌, length, drop, Contains, refl, sym, ◌∙◌, ap, subst, arith}
 use Rattle.std.proofs.lemmas.List.{append-nil, drop-append-le, drop-drop, drop_at, length-drop}
 use Rattle.std.proofs.lemmas.Option.{same_Some}
-use Rattle.tuples.specs.declared.entry.Entry.{Entry}
-use Rattle.tuples.specs.declared.entry.WriteId.{WriteId}
-use Rattle.device.specs.Device.{State, left as device_left}
-use Rattle.records.specs.declared.record.Record.{Record}
-use Rattle.records.specs.Checkpoints.{generation_of}
-use Rattle.records.specs.Coordinators.{CoordinatorState, coordinator_state}
+use Rattle.ties.proofs.Words.{AreListed, AreOf, AreOutside, AreStaged, AreTried, Attempt, behind, CoordinatorState, CoordinatorView, device_left, Entry, generation_of, IsLonger, IsRunning, IsTiedUp, Joins, kept_of, memory_of, Record, State, WriteId}
+use Rattle.records.specs.Coordinators.{coordinator_state}
 use Rattle.recovery.specs.Checkpoints.{above_horizon}
 use Rattle.recovery.proofs.Checkpoints.{checkpoint_state}
 use Rattle.decisions.specs.Checkpoints.{next_checkpoint}
-use Rattle.decisions.specs.Coordinators.{CoordinatorView, IsRunning, KeepsOpen, kept_of, memory_of}
-use Rattle.ties.specs.JoiningLaws.{CheckpointsStayTied, ChecksPoint, FailedCheckpointsStayTied, Joins}
-use Rattle.ties.specs.Ties.{AreListed, AreOf, AreOutside, AreStaged, AreTried, Attempt, IsLonger, IsTiedUp, behind}
+use Rattle.decisions.specs.Coordinators.{KeepsOpen}
+use Rattle.ties.specs.JoiningLaws.{CheckpointsStayTied, ChecksPoint, FailedCheckpointsStayTied}
 use Rattle.ties.proofs.Opening.{durable_longer, memory_longer}
 use Rattle.ties.proofs.Outside.{still_outside}
 

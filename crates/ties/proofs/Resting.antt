@@ -1,17 +1,12 @@
 -- A store at rest is tied.
 use Rattle.std.proofs.Common.{◌≡◌, ⊎_elim, ℕ, ◌≤◌, ◌<◌, List, [], ◌++◌, length, take, drop, sym, ◌∙◌, ap, subst, arith}
 use Rattle.std.proofs.lemmas.List.{length-take, length-take-le, take-append-drop, take-take}
-use Rattle.tuples.specs.declared.entry.Entry.{Entry}
-use Rattle.tuples.specs.Versions.{changes_from, collected, of_shard, versions}
-use Rattle.device.specs.Device.{State}
-use Rattle.records.specs.declared.record.Record.{Record}
+use Rattle.ties.proofs.Words.{Anywhere, AreAlike, AreListed, AreOf, AreRowsOf, changes_from, Entry, IsLonger, of_shard, Record, RowsAnywhere, slice_get_taken, State}
+use Rattle.tuples.specs.Versions.{collected, versions}
 use Rattle.records.specs.Coordinators.{coordinator_state}
 use Rattle.records.specs.Replays.{shard_state}
-use Rattle.versions.specs.Alike.{AreAlike}
-use Rattle.laws.proofs.Lists.{new_taken, slice_get_taken}
+use Rattle.laws.proofs.Lists.{new_taken}
 use Rattle.ties.specs.RestingLaws.{IsReached, IsResting, RestingNodesAreTied, coordinator_stops, shard_stops}
-use Rattle.ties.specs.ShardTies.{AreRowsOf, RowsAnywhere}
-use Rattle.ties.specs.Ties.{Anywhere, AreListed, AreOf, IsLonger}
 
 -- Given the devices of a store at rest, and the farthest place that a shard has learned
 module _ {D : Type 0} (state : D → State) (honest : D → Type 0) (a b : D) (devices : ℕ → D × D) (store shards : ℕ) (log : List Entry) (kept h place : ℕ)

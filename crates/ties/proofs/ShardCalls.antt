@@ -3,28 +3,18 @@ use Rattle.std.proofs.Common.{◌≡◌, ◌⊎◌, inl, inr, ⊎_elim, ℕ, tru
 use Rattle.std.proofs.lemmas.Bool.{both_ways, cases_lt}
 use Rattle.std.proofs.lemmas.List.{append-nil, drop-drop, drop-take, length-drop, length-take}
 use Rattle.std.proofs.lemmas.Option.{slice_get_within}
-use Rattle.tuples.specs.declared.entry.Entry.{Entry}
-use Rattle.tuples.specs.declared.entry.WriteId.{WriteId}
+use Rattle.ties.proofs.Words.{AreAlike, AreRowsOf, AreWhole, Dropped, Entry, Horizon, Identity, IsShardTiedUp, Learned, memory, of_shard, Prepare, Record, shard_node, shard_push, ShardState, ShardView, slice_get_taken, State, WriteId}
 use Rattle.tuples.specs.declared.version.Version.{Version}
 use Rattle.tuples.specs.Parts.{part}
-use Rattle.tuples.specs.Versions.{of_shard, versions}
-use Rattle.device.specs.Device.{State}
-use Rattle.records.specs.declared.record.Record.{Record}
-use Rattle.records.specs.declared.record.Record.TheVariants.{Dropped, Horizon, Learned, Prepare}
-use Rattle.records.specs.Identity.{Identity}
-use Rattle.records.specs.Replays.{ShardState, find_in_doubt, shard_state, shard_step}
-use Rattle.replay.proofs.States.{shard_push}
+use Rattle.tuples.specs.Versions.{versions}
+use Rattle.records.specs.Replays.{find_in_doubt, shard_state, shard_step}
 use Rattle.gated.specs.Gated.{max_body}
 use Rattle.journal.specs.Records.{HasNoRoom, batch_size, max_records}
 use Rattle.decisions.specs.Values.{BatchValue}
-use Rattle.shard.specs.Shards.{ArePreparedHere, IsUp, ShardView, Stages, learning, memory, placed_ids_from, unlearned}
-use Rattle.versions.specs.Alike.{AreAlike}
-use Rattle.laws.specs.Worlds.{AreWhole, shard_node}
+use Rattle.shard.specs.Shards.{ArePreparedHere, IsUp, Stages, learning, placed_ids_from, unlearned}
 use Rattle.laws.proofs.CollectStep.{rows_collected}
 use Rattle.laws.proofs.LearnStep.{rows_learned}
-use Rattle.laws.proofs.Lists.{slice_get_taken}
 use Rattle.ties.specs.ShardTieLaws.{CollectionsStayTied, DropsStayTied, LearningsStayTied, PreparesStayTied, ShardFlushesStayTied}
-use Rattle.ties.specs.ShardTies.{AreRowsOf, IsShardTiedUp}
 use Rattle.ties.specs.TellingLaws.{IsBatchOf}
 use Rattle.ties.proofs.Lists.{get_dropped, get_taken_at}
 

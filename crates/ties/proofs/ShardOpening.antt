@@ -4,25 +4,18 @@ use Rattle.std.proofs.Math.Path.{fun_ext}
 use Rattle.std.proofs.lemmas.List.{append-nil, take-append-le}
 use Rattle.std.proofs.lemmas.Option.{same_Some}
 use mathlib.Core.List.{IsPrefix}
-use Rattle.tuples.specs.declared.entry.Entry.{Entry}
+use Rattle.ties.proofs.Words.{AreAlike, AreRowsOf, AreWhole, changes_from, device_left, Entry, Identity, IsShardTiedUp, LeavesBoth, memory, of_shard, Record, RowsAnywhere, shard_node, shard_push, ShardState, ShardView, State}
 use Rattle.tuples.specs.declared.tuple.Tuple.{Tuple}
 use Rattle.tuples.specs.Reads.{IsSelection}
 use Rattle.tuples.specs.Walking.{IsCheckSelection}
-use Rattle.tuples.specs.Versions.{changes_from, collected, of_shard, there_at, versions}
-use Rattle.device.specs.Device.{State, left as device_left}
-use Rattle.records.specs.declared.record.Record.{Record}
-use Rattle.records.specs.Identity.{Identity}
-use Rattle.records.specs.Replays.{ShardState, shard_state, shard_step}
-use Rattle.replay.proofs.States.{shard_push}
-use Rattle.journal.specs.Records.{LeavesBoth, found}
-use Rattle.shard.specs.Shards.{IsOpenedShard, ShardView, WasLeftOrOpened, memory, opening}
+use Rattle.tuples.specs.Versions.{collected, there_at, versions}
+use Rattle.records.specs.Replays.{shard_state, shard_step}
+use Rattle.journal.specs.Records.{found}
+use Rattle.shard.specs.Shards.{IsOpenedShard, WasLeftOrOpened, opening}
 use Rattle.calls.specs.Views.{coordinator, shard, refused}
-use Rattle.versions.specs.Alike.{AreAlike}
 use Rattle.laws.specs.Shards.{there_of}
-use Rattle.laws.specs.Worlds.{AreWhole, shard_node}
 use Rattle.laws.proofs.ShardRows.{rows_show_parts}
 use Rattle.ties.specs.ShardTieLaws.{CheckReadsAreSeen, FailedShardFlushesStayTied, LongerListsStayTied, ReadsAreSeen, RefusedShardOpeningsStayTied, ShardOpeningsStayTied, ShardTiedUpIsTied}
-use Rattle.ties.specs.ShardTies.{AreRowsOf, IsShardTiedUp, RowsAnywhere}
 
 -- the first writes of a longer list have the same versions
 same_versions : (seen more : List Entry) (p h : ℕ) → p ≤ length seen → versions (seen ++ more) p h ≡ versions seen p h

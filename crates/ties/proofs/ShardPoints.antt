@@ -1,18 +1,13 @@
 -- A checkpoint leaves a shard tied, at whatever moment it stops.
-use Rattle.std.proofs.Common.{◌≡◌, inl, inr, ℕ, ◌≤◌, ◌+◌, true≢false, List, [], ◌++◌, sym, ◌∙◌, ap, subst}
+use Rattle.std.proofs.Common.{◌≡◌, inl, inr, ℕ, ◌≤◌, ◌+◌, true≢false, List, ◌++◌, sym, ◌∙◌, ap, subst}
 use Rattle.std.proofs.lemmas.List.{append-nil}
 use Rattle.std.proofs.lemmas.Option.{same_Some}
-use Rattle.tuples.specs.declared.entry.Entry.{Entry}
-use Rattle.device.specs.Device.{State, left as device_left}
-use Rattle.records.specs.declared.record.Record.{Record}
-use Rattle.records.specs.Checkpoints.{generation_of}
-use Rattle.records.specs.Replays.{IsShardImage, ShardState, shard_state}
+use Rattle.ties.proofs.Words.{alike_trans, AreRowsOf, device_left, Entry, generation_of, memory, Record, ShardView, State}
+use Rattle.records.specs.Replays.{IsShardImage, shard_state}
 use Rattle.replay.proofs.Checkpoints.{checkpoint_of_image}
 use Rattle.shard.specs.Checkpoints.{IsNextCheckpoint}
-use Rattle.shard.specs.Shards.{ShardView, memory}
-use Rattle.versions.proofs.Alike.{alike_sym, alike_trans}
+use Rattle.versions.proofs.Alike.{alike_sym}
 use Rattle.ties.specs.ShardTieLaws.{FailedShardCheckpointsStayTied, ShardCheckpointsStayTied}
-use Rattle.ties.specs.ShardTies.{AreRowsOf, IsShardTiedUp}
 
 -- the same versions in another order are rows of the list as well
 rows_of_point : {D : Type 0} (shards s : ℕ) (v : ShardView D) (seen : List Entry) (low : ℕ) → IsShardImage v.me (v.durable ++ v.staged) → AreRowsOf shards s seen low (memory v) → (cs : List Record) → IsNextCheckpoint v cs

@@ -3,24 +3,15 @@ use Rattle.std.proofs.Common.{◌≡◌, inl, inr, ⊎_elim, ◌+◌, ◌≤◌,
 use Rattle.std.proofs.lemmas.List.Elements.{All-cons, All-nil, Contains-append_left, Contains-push}
 use Rattle.tuples.specs.declared.change.Change.{Change}
 use Rattle.tuples.specs.declared.change.Change.TheVariants.{Delete, Touch}
-use Rattle.tuples.specs.declared.entry.Entry.{Entry}
-use Rattle.tuples.specs.declared.entry.WriteId.{WriteId}
-use Rattle.tuples.specs.Changes.{IsWrite, changed}
+use Rattle.ties.proofs.Words.{alike_trans, AreListed, AreOutside, AreRowsOf, AreStaged, AreTried, AreWhole, Attempt, coordinator_node, CoordinatorView, Decision, Entry, Epoch, Horizon, IsLonger, IsRunning, IsTiedUp, IsWrite, of_shard, ShardState, slice_get_taken, StandsOrIsPast, State, WriteId}
+use Rattle.tuples.specs.Changes.{changed}
 use Rattle.tuples.specs.Order.{tuple_eq}
 use Rattle.tuples.specs.Parts.{shard_of}
 use Rattle.tuples.specs.Texts.{IsTuple}
-use Rattle.tuples.specs.Versions.{collected, last_version, of_shard, versions}
+use Rattle.tuples.specs.Versions.{collected, last_version, versions}
 use Rattle.tuples.proofs.Examples.{numbered, three, viewed}
-use Rattle.device.specs.Device.{State}
-use Rattle.records.specs.declared.record.Record.TheVariants.{Decision, Epoch, Horizon}
 use Rattle.records.specs.Coordinators.{coordinator_state, coordinator_step}
-use Rattle.records.specs.Replays.{ShardState}
-use Rattle.decisions.specs.Coordinators.{CoordinatorView, IsRunning}
-use Rattle.versions.proofs.Alike.{alike_same, alike_trans, last_alike}
-use Rattle.laws.specs.Worlds.{AreWhole, coordinator_node}
-use Rattle.ties.specs.ShardTies.{AreRowsOf}
-use Rattle.laws.proofs.Lists.{slice_get_taken}
-use Rattle.ties.specs.Ties.{AreListed, AreOutside, AreStaged, AreTried, Attempt, IsLonger, IsTiedUp, StandsOrIsPast}
+use Rattle.versions.proofs.Alike.{alike_same, last_alike}
 use Rattle.ties.proofs.Lists.{first_or_later}
 
 abbrev first_write : Entry

@@ -2,11 +2,7 @@
 use Rattle.std.proofs.Common.{◌≡◌, ℕ, zero, suc, ◌+◌, ◌-◌, List, [], ◌∷◌, length, min, take, drop, Some, slice_get, refl, sym, ◌∙◌, ap, subst, arith}
 use Rattle.std.proofs.lemmas.List.{drop-drop}
 use Rattle.tuples.specs.Limits.{max_batch}
-use Rattle.tuples.specs.declared.entry.Entry.{Entry}
-use Rattle.device.specs.Device.{State}
-use Rattle.decisions.specs.Coordinators.{kept_of}
-use Rattle.laws.specs.Worlds.{AreWhole}
-use Rattle.laws.proofs.Lists.{slice_get_taken}
+use Rattle.ties.proofs.Words.{AreWhole, Entry, kept_of, slice_get_taken, State}
 use Rattle.ties.specs.TellingLaws.{BatchesAreSeen, FoundWritesStand, HeadsAreSeen}
 use Rattle.ties.proofs.Lists.{get_dropped, get_front}
 

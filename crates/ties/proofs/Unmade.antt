@@ -1,19 +1,16 @@
 -- Devices that nobody has written yet are tied to the empty list.
 use Rattle.std.proofs.Common.{◌≡◌, ℕ, List, [], Some, refl, sym, ◌∙◌, ap, subst, arith}
 use Rattle.std.proofs.lemmas.Option.{same_Some}
-use Rattle.tuples.specs.Versions.{collected, of_shard, versions}
-use Rattle.device.specs.Device.{Leaves, State, left}
+use Rattle.ties.proofs.Words.{AreAlike, AreRowsOf, IsLonger, of_shard, Record, State}
+use Rattle.tuples.specs.Versions.{collected, versions}
+use Rattle.device.specs.Device.{Leaves, left}
 use Rattle.device.proofs.Moments.{leaves_nothing_else}
 use Rattle.gated.specs.Gated.{gated}
-use Rattle.records.specs.declared.record.Record.{Record}
 use Rattle.records.specs.Checkpoints.{is_complete}
 use Rattle.records.specs.Coordinators.{coordinator_state}
 use Rattle.records.specs.Replays.{shard_state}
 use Rattle.journal.specs.Records.{Finds, current_bank, found}
-use Rattle.versions.specs.Alike.{AreAlike}
 use Rattle.ties.specs.RestingLaws.{IsUnmade, UnmadeNodesAreTied}
-use Rattle.ties.specs.ShardTies.{AreRowsOf}
-use Rattle.ties.specs.Ties.{IsLonger}
 
 found_nothing : found [] [] ≡ Some []
 unfolding found gated current_bank is_complete

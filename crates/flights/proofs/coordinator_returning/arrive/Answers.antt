@@ -1,6 +1,5 @@
 use Rattle.std.proofs.Common.{◌≡◌, Some, slice_get, sym, subst}
-use Rattle.flights.specs.Flights.{FlightView, HasFlown}
-use Rattle.flights.specs.declared.launch.Launch.{Launch}
+use Rattle.flights.proofs.Words.{FlightView, HasFlown, Launch}
 use Rattle.flights.proofs.Landed.{same_launch}
 use Rattle.flights.proofs.LogLanded.{log_comes_back, log_may_land}
 use Rattle.flights.proofs.coordinator_returning.arrive.Goals as goal

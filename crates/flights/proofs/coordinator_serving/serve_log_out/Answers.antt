@@ -1,4 +1,4 @@
-use Rattle.away.specs.Aways.{lent_honest, lent_state}
+use Rattle.flights.proofs.Words.{lent_honest, lent_state}
 use Rattle.flights.proofs.LogCalled.{log_stays_behind}
 use Rattle.flights.proofs.coordinator_serving.serve_log_out.Goals as goal
 

@@ -1,5 +1,5 @@
 use Rattle.std.specs.Prelude.{[], ◌∷◌}
-use Rattle.flights.specs.Flights.{launch_of}
+use Rattle.flights.proofs.Words.{launch_of}
 use Rattle.flights.proofs.launch.tell_of.Given as goal
 
 abbrev pub ghosts-announce : goal.ghosts-announce

@@ -1,4 +1,4 @@
-use Rattle.flights.specs.Flights.{launch_of}
+use Rattle.flights.proofs.Words.{launch_of}
 use Rattle.flights.proofs.leaving.leave.Goals as goal
 
 pub returns-clause-berth : goal.returns-clause-berth

@@ -1,7 +1,5 @@
 use Rattle.std.proofs.Common.{ℕ, sym, subst}
-use Rattle.published.specs.Known.{Known}
-use Rattle.tuples.specs.declared.entry.Entry.{Entry}
-use Rattle.flights.specs.Flights.{AreRowsAround, launch_of}
+use Rattle.flights.proofs.Words.{AreRowsAround, Entry, Known, launch_of}
 use Rattle.flights.proofs.Launched.{left_behind, lent_sound, rows_around}
 use Rattle.flights.proofs.leaving.send.Goals as goal
 

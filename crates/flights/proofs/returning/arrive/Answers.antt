@@ -1,6 +1,5 @@
 use Rattle.std.proofs.Common.{◌≡◌, Some, slice_get, sym, subst}
-use Rattle.flights.specs.Flights.{FlightView, HasFlown}
-use Rattle.flights.specs.declared.launch.Launch.{Launch}
+use Rattle.flights.proofs.Words.{FlightView, HasFlown, Launch}
 use Rattle.flights.proofs.Landed.{landed_sound, lands_rows, may_land, same_launch}
 use Rattle.flights.proofs.returning.arrive.Goals as goal
 

@@ -1,6 +1,5 @@
 use Rattle.std.proofs.Common.{ℕ, sym, subst}
-use Rattle.away.specs.Aways.{lent_honest, lent_state}
-use Rattle.flights.specs.Flights.{AreRowsAround}
+use Rattle.flights.proofs.Words.{AreRowsAround, lent_honest, lent_state}
 use Rattle.flights.proofs.Called.{stays_behind, stays_sound}
 use Rattle.flights.proofs.Rows.{around_later}
 use Rattle.flights.proofs.serving.serve_out.Goals as goal

@@ -1,7 +1,5 @@
 use Rattle.std.proofs.Common.{List, length, slice_get, ap, sym, ◌∙◌}
-use Rattle.published.specs.Known.{Known}
-use Rattle.flights.specs.Flights.{launch_of}
-use Rattle.flights.specs.declared.launch.Launch.{Launch}
+use Rattle.flights.proofs.Words.{Known, Launch, launch_of}
 use Rattle.flights.proofs.Launched.{at_the_end}
 use Rattle.flights.proofs.taking_off.take_off.Goals as goal
 

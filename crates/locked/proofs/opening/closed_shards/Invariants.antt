@@ -2,7 +2,7 @@
 use Rattle.std.proofs.Common.{All, ◌≡◌, ◌≤◌, ◌+◌, ◌*◌}
 use Rattle.std.specs.Vec.{vec_capacity, vec_len}
 use mathlib.Core.List.{IsPrefix}
-use Rattle.locked.specs.Opening.{ShardsRest}
+use Rattle.locked.proofs.Words.{ShardsRest}
 use Rattle.locked.proofs.opening.closed_shards.Given as goal
 
 abbrev pub invariant-loop-shard : goal.invariant-loop-shard

@@ -1,9 +1,6 @@
 use Rattle.std.proofs.Common.{◌≡◌, ◌≤◌, ℕ, List, ◌∙◌, ap, sym, subst, arith}
 use mathlib.Core.List.{IsPrefix}
-use Rattle.tuples.specs.declared.entry.Entry.{Entry}
-use Rattle.published.specs.Known.{Known}
-use Rattle.records.specs.Identity.{Identity}
-use Rattle.ties.specs.ShardTies.{RowsAnywhere}
+use Rattle.locked.proofs.Words.{Entry, Identity, Known, RowsAnywhere}
 use Rattle.sides.specs.CoordinatorSides.{LogSide}
 use Rattle.locked.proofs.NewDevices.{next_shard_rests, others_honest, others_rest, two_honest}
 use Rattle.locked.proofs.opening.next_shard.Goals as goal

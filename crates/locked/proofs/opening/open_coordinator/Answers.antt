@@ -1,5 +1,5 @@
 use Rattle.std.proofs.Common.{◌≡◌, ℕ, subst}
-use Rattle.records.specs.Identity.{coordinator_number}
+use Rattle.locked.proofs.Words.{coordinator_number}
 use Rattle.locked.proofs.NewDevices.{coordinator_rests, first_two_refused, others_honest, shards_rest}
 use Rattle.locked.proofs.opening.open_coordinator.Goals as goal
 

@@ -1,6 +1,6 @@
 use Rattle.std.proofs.Common.{◌≡◌, List, sym, subst, arith}
 use mathlib.Core.List.{IsPrefix}
-use Rattle.tuples.specs.declared.entry.Entry.{Entry}
+use Rattle.locked.proofs.Words.{Entry}
 use Rattle.locked.proofs.opening.open_nodes.Goals as goal
 
 pub open_coordinator-requires-clause-left : goal.open_coordinator-requires-clause-left

@@ -1,4 +1,4 @@
-use Rattle.headline.proofs.Joined.{steps_keep}
+use Rattle.reshard_laws.proofs.Words.{steps_keep}
 use Rattle.reshard_laws.proofs.Flushed.{cares_keep_the_list}
 use Rattle.reshard_laws.proofs.carried_laws.cares_keep_the_list.Goals as goal
 

@@ -1,4 +1,4 @@
-use Rattle.headline.proofs.Joined.{steps_keep}
+use Rattle.reshard_laws.proofs.Words.{steps_keep}
 use Rattle.reshard_laws.proofs.Flushed.{flushed_lists_are_kept}
 use Rattle.reshard_laws.proofs.carried_laws.flushed_lists_are_kept.Goals as goal
 

@@ -1,4 +1,4 @@
-use Rattle.sides.specs.CoordinatorSides.{tried_by}
+use Rattle.sides.proofs.Words.{tried_by}
 use Rattle.sides.proofs.attempts.note_decision.Given as goal
 
 abbrev pub ghosts-announce : goal.ghosts-announce

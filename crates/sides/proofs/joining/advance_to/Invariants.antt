@@ -1,5 +1,5 @@
 use Rattle.std.proofs.Common.{◌-◌, length}
-use Rattle.sides.specs.Joining.{behind_in, exactly}
+use Rattle.sides.proofs.Words.{behind_in, exactly}
 use Rattle.sides.proofs.joining.advance_to.Given as goal
 
 abbrev pub ghosts-advance : goal.ghosts-advance

@@ -1,10 +1,7 @@
 use Rattle.std.proofs.Common.{◌≡◌, ◌++◌, length, ℕ, List, [], Option, subst, sym, arith}
 use mathlib.Core.List.{IsPrefix}
 use Rattle.published.proofs.Prefixes.{prefix_more}
-use Rattle.tuples.specs.declared.entry.Entry.{Entry}
-use Rattle.calls.specs.Views.{NodeView}
-use Rattle.sides.specs.CoordinatorSides.{IsTiedThere}
-use Rattle.sides.specs.Joining.{behind_in}
+use Rattle.sides.proofs.Words.{behind_in, Entry, IsTiedThere, NodeView}
 use Rattle.sides.proofs.LogJoins.{told_joins}
 use Rattle.sides.proofs.joining.begin.Goals as goal
 

@@ -1,5 +1,5 @@
 use Rattle.std.proofs.Common.{◌++◌}
-use Rattle.sides.specs.Joining.{behind_in, exactly}
+use Rattle.sides.proofs.Words.{behind_in, exactly}
 use Rattle.sides.proofs.joining.begin_at.Given as goal
 
 abbrev pub ghosts-advance_first : goal.ghosts-advance_first

@@ -1,8 +1,5 @@
 use Rattle.std.proofs.Common.{◌≡◌, ◌++◌, length, ℕ, List, Option, subst, sym}
-use Rattle.tuples.specs.declared.entry.Entry.{Entry}
-use Rattle.calls.specs.Views.{NodeView}
-use Rattle.sides.specs.CoordinatorSides.{IsTiedThere}
-use Rattle.sides.specs.Joining.{behind_in}
+use Rattle.sides.proofs.Words.{behind_in, Entry, IsTiedThere, NodeView}
 use Rattle.sides.proofs.LogJoins.{told_joins}
 use Rattle.sides.proofs.joining.join.Goals as goal
 

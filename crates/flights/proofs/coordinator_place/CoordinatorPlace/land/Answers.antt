@@ -1,5 +1,5 @@
 use Rattle.std.proofs.Common.{◌≡◌, true, Some, slice_get, sym, ◌∙◌, ap, subst}
-use Rattle.flights.specs.Flights.{FlightView}
+use Rattle.flights.proofs.Words.{FlightView}
 use Rattle.flights.specs.LogPlaces.{IsLogBerthed, LogPlaceView}
 use Rattle.flights.specs.Places.{IsOutFor, place_of}
 use Rattle.flights.specs.declared.berth.Berth.TheVariants.{Out}

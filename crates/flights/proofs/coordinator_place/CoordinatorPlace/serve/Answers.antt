@@ -1,9 +1,6 @@
 use Rattle.std.proofs.Common.{sym, subst}
-use Rattle.tuples.specs.declared.entry.Entry.{Entry}
-use Rattle.published.specs.Known.{Known}
+use Rattle.flights.proofs.Words.{Attempt, Entry, Known, Reply}
 use Rattle.calls.specs.declared.call.NodeCall.TheVariants.{Coordinator as of_coordinator}
-use Rattle.calls.specs.declared.reply.Reply.{Reply}
-use Rattle.ties.specs.Ties.{Attempt}
 use Rattle.flights.specs.LogPlaces.{TellsWriters}
 use Rattle.flights.proofs.coordinator_place.CoordinatorPlace.serve.Goals as goal
 use Rattle.flights.proofs.coordinator_place.CoordinatorPlace.serve.Goals.{in-Some-Here, in-Some-Out}

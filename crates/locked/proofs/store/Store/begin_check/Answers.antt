@@ -1,6 +1,5 @@
 use Rattle.std.proofs.Common.{length, Some}
-use Rattle.answer_flow.specs.CheckViews.{begins_at, catch_up, heads}
-use Rattle.flow_ties.proofs.CatchUps.{prefix_length}
+use Rattle.locked.proofs.Words.{begins_at, catch_up, heads, prefix_length}
 use Rattle.names.specs.declared.call_name.CallName.TheVariants as names
 use Rattle.locked.proofs.CheckTurns.{made_at, made_beyond, made_for_a_reason, seen_of}
 use Rattle.locked.proofs.store.Store.begin_check.Goals as goal

@@ -1,6 +1,5 @@
 use Rattle.std.proofs.Common.{◌∙◌, ap, length}
-use Rattle.answer_flow.specs.ReadViews.{ReadFlowValue}
-use Rattle.flow_ties.proofs.CatchUps.{prefix_length}
+use Rattle.locked.proofs.Words.{prefix_length, ReadFlowValue}
 use Rattle.locked.proofs.ReadTurns.{begins_for_a_reason, read_at, read_beyond, rests_for_a_reason}
 use Rattle.locked.proofs.store.Store.begin_read.Goals as goal
 

@@ -1,5 +1,5 @@
 use Rattle.std.proofs.Common.{length}
-use Rattle.flow_ties.proofs.CatchUps.{prefix_length}
+use Rattle.locked.proofs.Words.{prefix_length}
 use Rattle.answer_flow.specs.CheckViews.{ending_of}
 use Rattle.locked.proofs.CheckTurns.{check_ends, check_refuses}
 use Rattle.locked.proofs.store.Store.check.Goals as goal

@@ -1,4 +1,4 @@
-use Rattle.sides.specs.Sides.{IsLater}
+use Rattle.locked.proofs.Words.{IsLater}
 use Rattle.locked.proofs.store.Store.collect_all.Given as goal
 
 abbrev pub invariant-loop-shard : goal.invariant-loop-shard

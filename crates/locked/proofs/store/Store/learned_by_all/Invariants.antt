@@ -1,5 +1,5 @@
 use Rattle.std.proofs.Common.{◌≡◌, ◌+◌, vec_len}
-use Rattle.sides.specs.Sides.{IsLater}
+use Rattle.locked.proofs.Words.{IsLater}
 use Rattle.locked.proofs.store.Store.learned_by_all.Given as goal
 
 abbrev pub invariant-loop-shard : goal.invariant-loop-shard

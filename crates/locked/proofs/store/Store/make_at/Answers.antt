@@ -1,8 +1,5 @@
 use Rattle.std.proofs.Common.{arith, sym, subst}
-use Rattle.refusal.specs.declared.refusal.Refusal.TheVariants.{Damaged}
-use Rattle.calls.specs.declared.call.NodeCall.TheVariants.{Shard}
-use Rattle.calls.specs.declared.call.ShardCall.{ShardCall}
-use Rattle.flights.specs.Serving.{Serves}
+use Rattle.locked.proofs.Words.{Damaged, Serves, Shard, ShardCall}
 use Rattle.locked.proofs.Served.{absent_is_noticed, absent_serves, checkpoint_serves, flush_serves}
 use Rattle.locked.proofs.store.Store.make_at.Goals as goal
 

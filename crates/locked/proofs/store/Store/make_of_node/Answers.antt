@@ -1,7 +1,5 @@
 use Rattle.std.proofs.Common.{sym, subst}
-use Rattle.calls.specs.declared.call.NodeCall.{NodeCall}
-use Rattle.flow_ties.specs.Writes.{TellsWriter}
-use Rattle.sides.specs.CoordinatorSides.{IsTried}
+use Rattle.locked.proofs.Words.{IsTried, NodeCall, TellsWriter}
 use Rattle.locked.proofs.store.Store.make_of_node.Goals as goal
 
 pub returns-in-Coordinator-clause-tells : goal.returns-in-Coordinator-clause-tells

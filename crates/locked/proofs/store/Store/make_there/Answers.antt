@@ -1,9 +1,6 @@
 use Rattle.std.proofs.Common.{sym, subst}
-use Rattle.calls.specs.declared.call.NodeCall.TheVariants.{Coordinator}
+use Rattle.locked.proofs.Words.{Coordinator, IsTried, Serves, TellsWriter}
 use Rattle.calls.specs.declared.call.CoordinatorCall.{CoordinatorCall}
-use Rattle.flow_ties.specs.Writes.{TellsWriter}
-use Rattle.sides.specs.CoordinatorSides.{IsTried}
-use Rattle.flights.specs.Serving.{Serves}
 use Rattle.locked.proofs.Served.{log_flush_serves}
 use Rattle.locked.proofs.store.Store.make_there.Goals as goal
 

@@ -1,5 +1,5 @@
 use Rattle.std.proofs.Common.{length}
-use Rattle.flow_ties.proofs.CatchUps.{prefix_length}
+use Rattle.locked.proofs.Words.{prefix_length}
 use Rattle.answer_flow.specs.ReadViews.{ending_of}
 use Rattle.locked.proofs.ReadTurns.{read_ends, read_refuses}
 use Rattle.locked.proofs.store.Store.read.Goals as goal

@@ -1,7 +1,6 @@
 use Rattle.care_flow.specs.Cares.{IsThere, end_of, has_next}
 use Rattle.care_flow.specs.Views.{GoesOrEnds}
-use Rattle.flow_ties.specs.Cares.{IsCareOf}
-use Rattle.sides.specs.Sides.{IsLater}
+use Rattle.locked.proofs.Words.{IsCareOf, IsLater}
 use Rattle.locked.proofs.store.Store.run_care.Given as goal
 
 abbrev pub invariant-loop : goal.invariant-loop

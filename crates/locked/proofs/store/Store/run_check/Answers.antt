@@ -1,7 +1,5 @@
 use Rattle.std.proofs.Common.{◌∙◌, sym, subst}
-use Rattle.tuples.specs.declared.user.User.{User}
-use Rattle.decisions.specs.Flows.{Freshness}
-use Rattle.flow_ties.specs.Checks.{CheckHasReason, IsCheckOf}
+use Rattle.locked.proofs.Words.{CheckHasReason, Freshness, IsCheckOf, User}
 use Rattle.locked.proofs.Passes.{later_on}
 use Rattle.locked.proofs.CheckTurns.{check_goes_on, check_has_reason, same_asked}
 use Rattle.locked.proofs.HastenedChecks.{stays}

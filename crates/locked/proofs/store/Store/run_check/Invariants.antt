@@ -1,6 +1,5 @@
 use Rattle.std.proofs.Common.{◌≡◌, None}
-use Rattle.flow_ties.specs.Checks.{CheckHasReason, IsCheckOf}
-use Rattle.sides.specs.Sides.{IsLater}
+use Rattle.locked.proofs.Words.{CheckHasReason, IsCheckOf, IsLater}
 use Rattle.locked.proofs.store.Store.run_check.Given as goal
 
 abbrev pub invariant-loop : goal.invariant-loop

@@ -1,6 +1,5 @@
 use Rattle.std.proofs.Common.{◌≡◌, None}
-use Rattle.flow_ties.specs.Reads.{IsReadOf, ReadHasReason}
-use Rattle.sides.specs.Sides.{IsLater}
+use Rattle.locked.proofs.Words.{IsLater, IsReadOf, ReadHasReason}
 use Rattle.locked.proofs.store.Store.run_read.Given as goal
 
 abbrev pub invariant-loop : goal.invariant-loop

@@ -1,8 +1,5 @@
 use Rattle.std.proofs.Common.{◌≡◌, ◌≤◌, ◌∙◌, ℕ, true, List, length, Option, is_some, sym, subst}
-use Rattle.tuples.specs.Limits.{max_watched}
-use Rattle.names.specs.declared.call_name.CallName.{CallName}
-use Rattle.flow_ties.specs.Watches.{IsWatchOf, WatchHasReason}
-use Rattle.flow_ties.proofs.CatchUps.{prefix_length}
+use Rattle.locked.proofs.Words.{CallName, IsWatchOf, max_watched, prefix_length, WatchHasReason}
 use Rattle.locked.proofs.Passes.{later_on}
 use Rattle.locked.proofs.WatchTurns.{not_ended, same_asked, watch_goes_on, watch_has_reason}
 use Rattle.locked.proofs.store.Store.run_watch.Goals as goal

@@ -1,6 +1,5 @@
 use Rattle.std.proofs.Common.{◌≡◌, length, None}
-use Rattle.flow_ties.specs.Watches.{IsWatchOf, WatchHasReason}
-use Rattle.sides.specs.Sides.{IsLater}
+use Rattle.locked.proofs.Words.{IsLater, IsWatchOf, WatchHasReason}
 use Rattle.locked.proofs.store.Store.run_watch.Given as goal
 
 abbrev pub invariant-loop : goal.invariant-loop

@@ -1,5 +1,5 @@
 use Rattle.std.proofs.Common.{length, arith}
-use Rattle.flow_ties.proofs.CatchUps.{prefix_length}
+use Rattle.locked.proofs.Words.{prefix_length}
 use Rattle.locked.proofs.NextCalls.{not_ended}
 use Rattle.locked.proofs.Passes.{later_on, later_self, more_on, more_self}
 use Rattle.locked.proofs.store.Store.run_write.Goals as goal

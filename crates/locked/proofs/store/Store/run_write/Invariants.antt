@@ -1,9 +1,5 @@
 use Rattle.std.proofs.Common.{◌≡◌, ◌≤◌, ℕ, length, None}
-use Rattle.tuples.specs.Writes.{WriteValue}
-use Rattle.flights.specs.Serving.{KnowsMore}
-use Rattle.flow_ties.specs.Writes.{RefusesAsTold}
-use Rattle.sides.specs.Sides.{IsLater}
-use Rattle.locked.specs.Writing.{IsKnownWriteOf}
+use Rattle.locked.proofs.Words.{IsKnownWriteOf, IsLater, KnowsMore, RefusesAsTold, WriteValue}
 use Rattle.locked.proofs.store.Store.run_write.Given as goal
 
 abbrev pub invariant-loop : goal.invariant-loop

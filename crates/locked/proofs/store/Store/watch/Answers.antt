@@ -1,5 +1,6 @@
 use Rattle.std.proofs.Common.{ap, length}
-use Rattle.answer_flow.specs.WatchViews.{WatchFlowValue, ending_of}
+use Rattle.locked.proofs.Words.{WatchFlowValue}
+use Rattle.answer_flow.specs.WatchViews.{ending_of}
 use Rattle.locked.proofs.WatchTurns.{watch_ends, watch_refuses}
 use Rattle.locked.proofs.store.Store.watch.Goals as goal
 

@@ -1,11 +1,7 @@
 use Rattle.std.proofs.Common.{◌∙◌, inl, Some, length, ap, arith, subst, sym}
-use Rattle.tuples.specs.declared.entry.Entry.{Entry}
-use Rattle.published.specs.Known.{Known}
-use Rattle.commit_flow.specs.Flows.{WriteFlowValue}
+use Rattle.locked.proofs.Words.{Entry, IsKnownWriteOf, IsTried, Known, WriteFlowValue}
 use Rattle.commit_flow.specs.declared.end.WriteEnd.{WriteEnd}
 use Rattle.flow_ties.proofs.SeenWrites.{writes_begin}
-use Rattle.sides.specs.CoordinatorSides.{IsTried}
-use Rattle.locked.specs.Writing.{IsKnownWriteOf}
 use Rattle.locked.proofs.WriteTurns.{not_refused_yet}
 use Rattle.locked.proofs.store.Store.write.Goals as goal
 

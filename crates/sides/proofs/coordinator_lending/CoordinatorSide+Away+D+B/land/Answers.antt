@@ -1,8 +1,6 @@
 use Rattle.std.proofs.Common.{◌∙◌, Option, Some, sym, subst}
-use Rattle.away.specs.declared.away.Away.{Away}
-use Rattle.calls.specs.Views.{NodeView}
-use Rattle.sides.specs.CoordinatorSides.{IsSoundThere, LogSide}
-use Rattle.sides.specs.Lending.{ComesBackIn, LandsIn, MayLandIn}
+use Rattle.sides.proofs.Words.{Away, ComesBackIn, IsSoundThere, LandsIn, MayLandIn, NodeView}
+use Rattle.sides.specs.CoordinatorSides.{LogSide}
 use Rattle.sides.proofs.LogLendings.{landed_log_sound, landed_may_join}
 use Rattle.sides.proofs.coordinator_lending.CoordinatorSide+Away+D+B.land.Goals as goal
 

@@ -1,4 +1,4 @@
-use Rattle.calls.specs.declared.call.CoordinatorCall.TheVariants.{Abort}
+use Rattle.sides.proofs.Words.{Abort}
 use Rattle.sides.proofs.CoordinatorCalls.{abort_stays}
 use Rattle.sides.proofs.Sound.{log_stays_sound}
 use Rattle.sides.proofs.coordinator_side.CoordinatorSide.abort.Goals as goal

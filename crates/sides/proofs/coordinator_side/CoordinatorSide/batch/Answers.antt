@@ -1,8 +1,5 @@
 use Rattle.std.proofs.Common.{List, ◌∙◌, ap, subst, sym}
-use Rattle.tuples.specs.declared.entry.Entry.{Entry}
-use Rattle.calls.specs.declared.call.CoordinatorCall.TheVariants.{Batch}
-use Rattle.published.specs.Known.{Known}
-use Rattle.sides.specs.CoordinatorSides.{IsTiedThere, TellsBatch}
+use Rattle.sides.proofs.Words.{Batch, Entry, IsTiedThere, Known, TellsBatch}
 use Rattle.sides.proofs.CoordinatorCalls.{quiet_stays_there}
 use Rattle.sides.proofs.CoordinatorTelling.{batch_is_of_list}
 use Rattle.sides.proofs.Sound.{log_stays_sound}

@@ -1,4 +1,4 @@
-use Rattle.calls.specs.declared.call.CoordinatorCall.TheVariants.{Begin}
+use Rattle.sides.proofs.Words.{Begin}
 use Rattle.sides.proofs.CoordinatorCalls.{begin_stays}
 use Rattle.sides.proofs.CoordinatorTelling.{begun_knows_list}
 use Rattle.sides.proofs.Sound.{log_stays_sound}

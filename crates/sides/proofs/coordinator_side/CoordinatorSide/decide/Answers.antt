@@ -1,10 +1,5 @@
 use Rattle.std.proofs.Common.{List, ◌++◌, ◌∙◌, ap, subst, sym}
-use Rattle.tuples.specs.declared.entry.Entry.{Entry}
-use Rattle.published.specs.Known.{Known}
-use Rattle.calls.specs.declared.call.CoordinatorCall.TheVariants.{Decide}
-use Rattle.ties.specs.Ties.{Attempt}
-use Rattle.sides.specs.CoordinatorSides.{IsTiedThere, TellsDecided, tried_by}
-use Rattle.decisions.specs.Values.{IntentValue}
+use Rattle.sides.proofs.Words.{Attempt, Decide, Entry, IntentValue, IsTiedThere, Known, TellsDecided, tried_by}
 use Rattle.sides.proofs.CoordinatorCalls.{decide_stays}
 use Rattle.sides.proofs.CoordinatorTelling.{decision_is_told}
 use Rattle.sides.proofs.Sound.{log_stays_sound}

@@ -1,8 +1,5 @@
 use Rattle.std.proofs.Common.{◌∙◌, ap, subst, sym}
-use Rattle.tuples.specs.declared.entry.Entry.{Entry}
-use Rattle.published.specs.Known.{Known}
-use Rattle.calls.specs.declared.call.CoordinatorCall.TheVariants.{Flush}
-use Rattle.sides.specs.CoordinatorSides.{IsSoundThere, IsTiedThere}
+use Rattle.sides.proofs.Words.{Entry, Flush, IsSoundThere, IsTiedThere, Known}
 use Rattle.sides.proofs.CoordinatorCalls.{flush_may_join}
 use Rattle.sides.proofs.Sound.{log_stays_sound}
 use Rattle.sides.proofs.coordinator_side.CoordinatorSide.flush.Goals as goal

@@ -1,8 +1,5 @@
 use Rattle.std.proofs.Common.{ℕ, List, ◌∙◌, ap, subst, sym}
-use Rattle.tuples.specs.declared.entry.Entry.{Entry}
-use Rattle.calls.specs.declared.call.CoordinatorCall.TheVariants.{Heads}
-use Rattle.published.specs.Known.{Known}
-use Rattle.sides.specs.CoordinatorSides.{IsTiedThere, TellsHeads}
+use Rattle.sides.proofs.Words.{Entry, Heads, IsTiedThere, Known, TellsHeads}
 use Rattle.sides.proofs.CoordinatorCalls.{quiet_stays_there}
 use Rattle.sides.proofs.CoordinatorTelling.{heads_are_of_list}
 use Rattle.sides.proofs.Sound.{log_stays_sound}

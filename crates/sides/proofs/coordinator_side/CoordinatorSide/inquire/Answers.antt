@@ -1,8 +1,5 @@
 use Rattle.std.proofs.Common.{List, ◌∙◌, ap, subst, sym}
-use Rattle.tuples.specs.declared.entry.Entry.{Entry}
-use Rattle.calls.specs.declared.call.CoordinatorCall.TheVariants.{Inquire}
-use Rattle.published.specs.Known.{Known}
-use Rattle.sides.specs.CoordinatorSides.{IsTiedThere, TellsFound}
+use Rattle.sides.proofs.Words.{Entry, Inquire, IsTiedThere, Known, TellsFound}
 use Rattle.sides.proofs.CoordinatorCalls.{quiet_stays_there}
 use Rattle.sides.proofs.CoordinatorTelling.{found_is_of_list}
 use Rattle.sides.proofs.Sound.{log_stays_sound}

@@ -1,6 +1,5 @@
 use Rattle.std.proofs.Common.{Option, Some, sym, subst}
-use Rattle.calls.specs.Views.{NodeView}
-use Rattle.sides.specs.Lending.{LendsIn}
+use Rattle.sides.proofs.Words.{LendsIn, NodeView}
 use Rattle.sides.proofs.LogLendings.{lent_log_sound, lent_log_tied}
 use Rattle.sides.proofs.coordinator_side.CoordinatorSide.lend.Goals as goal
 

@@ -1,8 +1,5 @@
 use Rattle.std.proofs.Common.{List, [], Some, ◌∙◌, sym, subst}
-use Rattle.records.specs.Replays.{Identity}
-use Rattle.sides.specs.CoordinatorSides.{IsSoundThere, IsTiedThere}
-use Rattle.ties.specs.Ties.{Attempt}
-use Rattle.sides.specs.Reopening.{LogReopens}
+use Rattle.sides.proofs.Words.{Attempt, Identity, IsSoundThere, IsTiedThere, LogReopens}
 use Rattle.sides.proofs.LogOpenings.{opening_may_join}
 use Rattle.sides.proofs.Sound.{log_opens_sound, opens_or_is_refused, reopened_runs}
 use Rattle.sides.proofs.coordinator_side.CoordinatorSide.open.Goals as goal

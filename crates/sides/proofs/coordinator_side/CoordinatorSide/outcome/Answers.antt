@@ -1,9 +1,5 @@
 use Rattle.std.proofs.Common.{List, ◌∙◌, ap, subst, sym}
-use Rattle.tuples.specs.declared.entry.Entry.{Entry}
-use Rattle.calls.specs.declared.call.CoordinatorCall.TheVariants.{Outcome}
-use Rattle.published.specs.Known.{Known}
-use Rattle.ties.specs.Ties.{Attempt}
-use Rattle.sides.specs.CoordinatorSides.{IsTiedThere, TellsKept}
+use Rattle.sides.proofs.Words.{Attempt, Entry, IsTiedThere, Known, Outcome, TellsKept}
 use Rattle.sides.proofs.CoordinatorCalls.{quiet_stays_there}
 use Rattle.sides.proofs.CoordinatorTelling.{outcome_is_told}
 use Rattle.sides.proofs.Sound.{log_stays_sound}

@@ -1,4 +1,4 @@
-use Rattle.calls.specs.declared.call.CoordinatorCall.TheVariants.{Raise}
+use Rattle.sides.proofs.Words.{Raise}
 use Rattle.sides.proofs.CoordinatorCalls.{raise_stays}
 use Rattle.sides.proofs.Sound.{log_stays_sound}
 use Rattle.sides.proofs.coordinator_side.CoordinatorSide.raise.Goals as goal

@@ -1,7 +1,5 @@
 use Rattle.std.proofs.Common.{◌∙◌, ap, subst, sym}
-use Rattle.records.specs.Replays.{Identity}
-use Rattle.sides.specs.Reopening.{LogRestartedIn}
-use Rattle.sides.specs.CoordinatorSides.{IsSoundThere}
+use Rattle.sides.proofs.Words.{Identity, IsSoundThere, LogRestartedIn}
 use Rattle.sides.proofs.LogOpenings.{restart_may_join}
 use Rattle.sides.proofs.Sound.{log_is_there, log_restarts_sound}
 use Rattle.sides.proofs.coordinator_side.CoordinatorSide.restart.Goals as goal

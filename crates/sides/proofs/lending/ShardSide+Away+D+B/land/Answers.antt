@@ -1,8 +1,5 @@
 use Rattle.std.proofs.Common.{Option, Some, sym, subst}
-use Rattle.away.specs.declared.away.Away.{Away}
-use Rattle.calls.specs.Views.{NodeView}
-use Rattle.sides.specs.Lending.{LandsIn, LandsRows, MayLandIn}
-use Rattle.sides.specs.Sides.{Side}
+use Rattle.sides.proofs.Words.{Away, LandsIn, LandsRows, MayLandIn, NodeView, Side}
 use Rattle.sides.proofs.Lendings.{landed_is_there, landed_is_tied}
 use Rattle.sides.proofs.lending.ShardSide+Away+D+B.land.Goals as goal
 

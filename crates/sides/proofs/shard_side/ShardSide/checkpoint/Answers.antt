@@ -1,6 +1,6 @@
 use Rattle.std.proofs.Common.{ℕ, subst}
 use Rattle.calls.specs.declared.call.ShardCall.TheVariants.{Checkpoint}
-use Rattle.sides.specs.Sides.{AnsweredIn}
+use Rattle.sides.proofs.Words.{AnsweredIn}
 use Rattle.sides.proofs.ShardCalls.{checkpoint_stays}
 use Rattle.sides.proofs.Sound.{shard_stays_there}
 use Rattle.sides.proofs.shard_side.ShardSide.checkpoint.Goals as goal

@@ -1,6 +1,5 @@
 use Rattle.std.proofs.Common.{ℕ, sym, subst, arith}
-use Rattle.calls.specs.declared.call.ShardCall.TheVariants.{Collect}
-use Rattle.sides.specs.Sides.{AnsweredIn, KnowsBoth, Side}
+use Rattle.sides.proofs.Words.{AnsweredIn, Collect, KnowsBoth, Side}
 use Rattle.sides.proofs.ShardCalls.{collect_stays}
 use Rattle.sides.proofs.Sound.{shard_stays_there}
 use Rattle.sides.proofs.shard_side.ShardSide.collect.Goals as goal

@@ -1,6 +1,6 @@
 use Rattle.std.proofs.Common.{ℕ, subst}
 use Rattle.calls.specs.declared.call.ShardCall.TheVariants.{Flush}
-use Rattle.sides.specs.Sides.{AnsweredIn}
+use Rattle.sides.proofs.Words.{AnsweredIn}
 use Rattle.sides.proofs.ShardCalls.{flush_stays}
 use Rattle.sides.proofs.Sound.{shard_stays_there}
 use Rattle.sides.proofs.shard_side.ShardSide.flush.Goals as goal

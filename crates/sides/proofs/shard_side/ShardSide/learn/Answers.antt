@@ -1,6 +1,5 @@
 use Rattle.std.proofs.Common.{ℕ, sym, subst}
-use Rattle.calls.specs.declared.call.ShardCall.TheVariants.{Learn}
-use Rattle.sides.specs.Sides.{AnsweredIn, KnowsBoth, Side}
+use Rattle.sides.proofs.Words.{AnsweredIn, KnowsBoth, Learn, Side}
 use Rattle.sides.proofs.ShardCalls.{batch_longer, learn_stays}
 use Rattle.sides.proofs.Sound.{shard_stays_there}
 use Rattle.sides.proofs.shard_side.ShardSide.learn.Goals as goal

@@ -1,6 +1,5 @@
 use Rattle.std.proofs.Common.{Option, Some, sym, subst}
-use Rattle.calls.specs.Views.{NodeView}
-use Rattle.sides.specs.Lending.{LendsIn}
+use Rattle.sides.proofs.Words.{LendsIn, NodeView}
 use Rattle.sides.proofs.Lendings.{lent_is_there, lent_is_tied}
 use Rattle.sides.proofs.shard_side.ShardSide.lend.Goals as goal
 

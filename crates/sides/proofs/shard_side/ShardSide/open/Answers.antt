@@ -1,6 +1,5 @@
 use Rattle.std.proofs.Common.{Some, subst}
-use Rattle.records.specs.Replays.{Identity}
-use Rattle.sides.specs.Reopening.{ShardReopens}
+use Rattle.sides.proofs.Words.{Identity, ShardReopens}
 use Rattle.sides.proofs.Openings.{opens_tied}
 use Rattle.sides.proofs.Sound.{shard_opens_there}
 use Rattle.sides.proofs.shard_side.ShardSide.open.Goals as goal

@@ -1,6 +1,5 @@
 use Rattle.std.proofs.Common.{ℕ, sym, ◌∙◌, ap, subst}
-use Rattle.calls.specs.declared.call.ShardCall.TheVariants.{Read}
-use Rattle.sides.specs.Sides.{AnsweredIn, IsTiedIn, Side, TellsRows}
+use Rattle.sides.proofs.Words.{AnsweredIn, IsTiedIn, Read, Side, TellsRows}
 use Rattle.sides.proofs.ShardReads.{rows_are_told}
 use Rattle.sides.proofs.shard_side.ShardSide.read.Goals as goal
 

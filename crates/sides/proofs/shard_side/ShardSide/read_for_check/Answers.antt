@@ -1,6 +1,5 @@
 use Rattle.std.proofs.Common.{ℕ, sym, ◌∙◌, ap, subst}
-use Rattle.calls.specs.declared.call.ShardCall.TheVariants.{ReadForCheck}
-use Rattle.sides.specs.Sides.{AnsweredIn, IsTiedIn, Side, TellsCheckRows}
+use Rattle.sides.proofs.Words.{AnsweredIn, IsTiedIn, ReadForCheck, Side, TellsCheckRows}
 use Rattle.sides.proofs.ShardReads.{check_rows_are_told}
 use Rattle.sides.proofs.shard_side.ShardSide.read_for_check.Goals as goal
 

@@ -1,6 +1,5 @@
 use Rattle.std.proofs.Common.{subst}
-use Rattle.records.specs.Replays.{Identity}
-use Rattle.sides.specs.Reopening.{RestartedIn}
+use Rattle.sides.proofs.Words.{Identity, RestartedIn}
 use Rattle.sides.proofs.Openings.{restart_stays}
 use Rattle.sides.proofs.Sound.{shard_restarts_there}
 use Rattle.sides.proofs.shard_side.ShardSide.restart.Goals as goal

@@ -1,6 +1,5 @@
 use Rattle.std.proofs.Common.{ℕ, subst}
-use Rattle.calls.specs.declared.call.ShardCall.TheVariants.{StagePrepare}
-use Rattle.sides.specs.Sides.{AnsweredIn}
+use Rattle.sides.proofs.Words.{AnsweredIn, StagePrepare}
 use Rattle.sides.proofs.ShardCalls.{prepare_stays}
 use Rattle.sides.proofs.Sound.{shard_stays_there}
 use Rattle.sides.proofs.shard_side.ShardSide.stage_prepare.Goals as goal
