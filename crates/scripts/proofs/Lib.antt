@@ -6,3 +6,12 @@ pub mod Results
 pub mod RunLemmas
 pub mod Answering
 mod Carried
+mod Done
+mod Whole
+mod Empty
+pub mod Living
+mod SameStore
+mod Staying
+mod Written
+pub mod RefusedWrites
+mod SmallRefused

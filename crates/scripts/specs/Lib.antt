@@ -8,3 +8,7 @@ pub mod Runs
 pub mod Stepping
 pub mod Resharding
 pub mod Sims
+pub mod Deeds
+pub mod Lives
+pub mod Staying
+pub mod RefusedWrites

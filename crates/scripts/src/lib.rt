@@ -12,6 +12,8 @@
 #![tactic(auto)]
 
 mod going;
+mod life;
+mod line_laws;
 mod over_disks;
 mod printing;
 mod refusals;
@@ -26,7 +28,9 @@ mod store;
 mod supply;
 mod telling;
 
-pub use over_disks::{run_over, sim};
+pub use life::sim;
+pub use line_laws::{staying_is_one_life, writes_refused_memory};
+pub use over_disks::run_over;
 pub use runs::run;
 pub use script::Script;
 pub use stepping::Stepping;

@@ -82,7 +82,7 @@ pub fn run_over<D: Device, P: Supply<D>, R: Read, W: Write>(
 
 /// Runs a script over a store of 1 to 64 shards on disks in memory. The status is 0 at the end of the script, and 1 where the reader or the writer failed,
 /// or where there is no memory for the disks.
-pub fn sim<R: Read, W: Write>(
+pub(crate) fn sim<R: Read, W: Write>(
     alloc: Global,
     store: u64,
     shards: u8,

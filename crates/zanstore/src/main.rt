@@ -3,18 +3,18 @@
 //!
 //! Keeps: the first word says what is done: `serve`, `dump`, `reshard`, `call` or `sim`. Status 0 means that all was done and that what was asked for was written.
 //! Never: looks at a request or a line, and owns no store: `server` serves one over files, `dumping` writes all tuples of one, `reshard` carries one over, `calling` asks a server, and
-//! `life` has a script carried out over a store of its own, and promises that this is one life of it.
+//! `scripts` has a script carried out over a store of its own, and promises that this is one life of it.
 //! Callers rely on: the status, 0 at the end of the script, of the requests or of the last connection, 1 where files, nodes, the address, a request, a read
 //! or a write failed or there was no memory, 2 for a command line that can't be read.
 //!
-//! Start at `serve` of `server`, `dump_folder` of `dumping`, `reshard_folder` of `reshard`, `call` of `calling` and `sim` of `life`; `settings` reads
+//! Start at `serve` of `server`, `dump_folder` of `dumping`, `reshard_folder` of `reshard`, `call` of `calling` and `sim` of `scripts`; `settings` reads
 //! the command line.
 #![tactic(auto)]
 
 use calling::call;
 use dumping::dump_folder;
-use life::sim;
 use reshard::{Folders, reshard_folder};
+use scripts::sim;
 use server::serve;
 use settings::{CallSettings, DumpSettings, ReshardSettings, ServeSettings, Settings};
 use std::net::{Net, TcpListener, TcpStream};

@@ -2,21 +2,31 @@
 use Rattle.std.proofs.Common.{◌≡◌, ◌≤◌, ◌+◌, ◌*◌, ◌++◌, ℕ, List, [], ◌∷◌, All, Option, length, refl, subst, sym, ◌∙◌}
 use Rattle.std.proofs.lemmas.List.Elements.{All-cons, All-nil, All-weaker}
 use Rattle.cluster.specs.Openings.{IsOpenedOver}
-use Rattle.life.proofs.Words.{Deed, devices_at, done_for, empty_machine, IsEmptyDisk, IsNext, IsWholeStep, left_since_of, max_shards, moment_of, more_lives, one_life, Prints, Reshards, RestsOver, ScriptView, set, SetsScript, shards_in, ShowsRows, SimDisk, State, state_of, Story, Takes, Tear, took, WorldView}
-use Rattle.device.specs.Disk.{is_set_to_fail}
+use Rattle.cluster.specs.Steps.{Takes}
+use Rattle.cluster.specs.Worlds.{WorldView}
+use Rattle.device.specs.Device.{State}
+use Rattle.device.specs.Disk.{is_set_to_fail, left_since_of, moment_of, state_of}
+use Rattle.device.specs.declared.sim_disk.SimDisk.{SimDisk}
+use Rattle.device.specs.declared.tear.Tear.{Tear}
 use Rattle.headline.specs.Acts.{Acted, ActedHeadline, LivesActing, steps_in}
+use Rattle.headline.specs.Promised.{devices_at}
+use Rattle.headline.specs.Told.{IsWholeStep}
 use Rattle.laws.specs.Machines.{Machine}
 use Rattle.reshard_laws.specs.Carried.{KeepsAndCarries, WhatIsCarriedOverRests}
-use Rattle.scripts.specs.Resharding.{IsMoved, IsReady}
-use Rattle.scripts.specs.Runs.{last_line}
-use Rattle.scripts.specs.Sims.{BrokeOver, RanOver, begun}
+use Rattle.scripts.specs.Resharding.{IsMoved, IsReady, Reshards}
+use Rattle.scripts.specs.Runs.{Prints, last_line}
+use Rattle.scripts.specs.Scripts.{ScriptView}
+use Rattle.scripts.specs.Sims.{BrokeOver, IsEmptyDisk, RanOver, begun}
+use Rattle.scripts.specs.Stepping.{IsNext, SetsScript, ShowsRows, shards_in}
+use Rattle.tuples.specs.Limits.{max_shards}
 use Rattle.tuples.specs.declared.entry.WriteId.{WriteId}
-use Rattle.turns.specs.Stores.{IsToldOver, StandsOver}
-use Rattle.life.specs.Deeds.{acts_of, told_by}
-use Rattle.life.specs.Lives.{BrokeAsLife, Lives, RanAsLife}
-use Rattle.life.proofs.Done.{Did, Went, lines_went}
-use Rattle.life.proofs.Empty.{empty_disks_rest}
-use Rattle.life.proofs.SameStore.{cares_keep}
+use Rattle.turns.specs.NewStores.{empty_machine}
+use Rattle.turns.specs.Stores.{IsToldOver, RestsOver, StandsOver}
+use Rattle.scripts.specs.Deeds.{Deed, Story, took, set, acts_of, done_for, more_lives, one_life, told_by}
+use Rattle.scripts.specs.Lives.{BrokeAsLife, Lives, RanAsLife}
+use Rattle.scripts.proofs.Done.{Did, Went, lines_went}
+use Rattle.scripts.proofs.Empty.{empty_disks_rest}
+use Rattle.scripts.proofs.SameStore.{cares_keep}
 
 module _ {D : Type 0} (set_to : D → ℕ → Tear → Type 0) (state : D → State) (honest : D → Type 0) (moment : D → ℕ) (left_since : D → ℕ → List ℕ → Type 0) where
   acted : (deeds : List Deed) (old new : WorldView D) → Did (Takes state honest moment left_since) (SetsScript set_to state honest moment left_since) old deeds new

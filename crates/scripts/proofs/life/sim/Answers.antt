@@ -1,6 +1,6 @@
 use Rattle.std.proofs.Common.{inl, inr}
-use Rattle.life.proofs.Living.{broke_as_life, ran_as_life}
-use Rattle.life.proofs.sim.Goals as goal
+use Rattle.scripts.proofs.Living.{broke_as_life, ran_as_life}
+use Rattle.scripts.proofs.life.sim.Goals as goal
 
 pub returns-clause-ran : goal.returns-clause-ran
 returns-clause-ran g c is =

@@ -1,6 +1,8 @@
-use Rattle.life.proofs.Words.{IsNext, Reshards, SetsScript, shards_in, ShowsRows, Takes}
-use Rattle.life.proofs.Staying.{lines_one}
-use Rattle.life.proofs.line_laws.staying_is_one_life.Goals as goal
+use Rattle.cluster.specs.Steps.{Takes}
+use Rattle.scripts.specs.Resharding.{Reshards}
+use Rattle.scripts.specs.Stepping.{IsNext, SetsScript, ShowsRows, shards_in}
+use Rattle.scripts.proofs.Staying.{lines_one}
+use Rattle.scripts.proofs.line_laws.staying_is_one_life.Goals as goal
 
 pub returns : goal.returns
 returns g c before after lines text prints stay =

@@ -10,7 +10,7 @@ use Rattle.scripts.specs.Resharding.{Reshards}
 use Rattle.scripts.specs.Runs.{Prints}
 use Rattle.scripts.specs.Scripts.{ScriptView}
 use Rattle.scripts.specs.Stepping.{IsNext, SetsScript, ShowsRows, shards_in}
-use Rattle.life.specs.Deeds.{Deed, done_for, one_life}
+use Rattle.scripts.specs.Deeds.{Deed, done_for, one_life}
 
 -- the line asks for no other number of shards
 abbrev pub Stays : List ℕ → Type 0

@@ -1,10 +1,17 @@
 -- A small store that is at 0, begins a flow and is at 1, and ends it by its one turn, at 2: what of it is a write that was refused memory, and what is not.
 use Rattle.std.proofs.Common.{◌≡◌, ◌≤◌, inl, inr, ℕ, zero, suc, List, [], ◌∷◌, length, Option, Some, None, refl, sym, ◌∙◌, arith}
-use Rattle.life.proofs.Words.{Began, CallName, Cancel, Ended, IsRefusedMemory, last_told, most_calls, NoMemory, Refused, Step, Turn, Turns, What, Write, Wrote}
+use Rattle.names.specs.declared.call_name.CallName.{CallName}
 use Rattle.names.specs.declared.call_name.CallName.TheVariants as call
-use Rattle.cluster.specs.declared.step.Step.TheVariants.{Start, Care, Restart}
+use Rattle.cluster.specs.declared.event.Answer.TheVariants.{Wrote}
+use Rattle.cluster.specs.declared.event.What.{What}
+use Rattle.cluster.specs.declared.event.What.TheVariants.{Began, Ended, Refused}
+use Rattle.cluster.specs.declared.step.Step.{Step}
+use Rattle.cluster.specs.declared.step.Step.TheVariants.{Start, Turn, Cancel, Care, Restart}
+use Rattle.refusal.specs.declared.refusal.Refusal.TheVariants.{NoMemory}
+use Rattle.tuples.specs.declared.write.Write.{Write}
 use Rattle.tuples.specs.declared.request.Request.TheVariants as request
-use Rattle.life.specs.RefusedWrites.{EndsRefused}
+use Rattle.scripts.specs.Going.{Turns, last_told, most_calls}
+use Rattle.scripts.specs.RefusedWrites.{EndsRefused, IsRefusedMemory}
 
 -- the flow ends with this
 abbrev takes : What → ℕ → Step → Option What → ℕ → Type 0

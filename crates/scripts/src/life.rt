@@ -1,25 +1,16 @@
-//! A script over disks in memory, as one life of a store, and one behind the other where it is carried over.
-//!
-//! Keeps: what was done for the lines of a script, step by step and with what each told, is one run of the machine of whole writes from the empty log. Where the
-//! store is carried over to another number of shards that run ends, and the devices of what it became rest at its one list and horizon, from where it lives on.
-//! Never: does a thing of its own; `scripts` runs the script, and `headline` has the law.
-//! Callers rely on: the law is a clause of the call that the program makes.
-//!
-//! Start at `specs/Lives.antt`.
-#![tactic(auto)]
-
-mod line_laws;
-
+// A script over disks in memory, as one life of a store, and one behind the other where it is carried over (`specs/Lives.antt`): what was done for its lines, step by
+// step and with what each told, is one run of the machine of whole writes from the empty log. Where the store is carried over to another number of shards that
+// run ends, and the devices of what it became rest at its one list and horizon, from where it lives on. `headline` has the law, and the program calls this.
 ghost use Rattle.std.specs.Prelude.{◌≡◌, ◌≢◌, ◌≤◌, ◌⊎◌, All, List};
 ghost use Rattle.device.specs.Disk.{is_set_to_fail, left_since_of, moment_of, state_of};
 ghost use Rattle.device.specs.declared.sim_disk.SimDisk.{SimDisk as AnyDisk};
-ghost use Rattle.life.specs.Lives.{BrokeAsLife, RanAsLife};
+ghost use Rattle.scripts.specs.Lives.{BrokeAsLife, RanAsLife};
 ghost use Rattle.scripts.specs.Sims.{IsEmptyDisk, IsUntouched};
 ghost use Rattle.tuples.specs.Limits.{max_shards};
 
+use crate::over_disks;
 use device::SimDisk;
 use headline::acted_headline;
-pub use line_laws::{staying_is_one_life, writes_refused_memory};
 use reshard_laws::what_is_carried_over_rests;
 use std::alloc::Global;
 use std::io::{Read, Write};
@@ -41,5 +32,5 @@ pub fn sim<R: Read, W: Write>(
     // Laws: they do nothing.
     acted_headline::<SimDisk>();
     what_is_carried_over_rests::<SimDisk>();
-    scripts::sim(alloc, store, shards, reader, writer)
+    over_disks::sim(alloc, store, shards, reader, writer)
 }

@@ -17,7 +17,7 @@ use Rattle.scripts.specs.Stepping.{IsNext, SetsScript, ShowsRows, shards_in}
 use Rattle.tuples.specs.declared.entry.WriteId.{WriteId}
 use Rattle.turns.specs.NewStores.{empty_machine}
 use Rattle.turns.specs.Stores.{IsToldOver, RestsOver}
-use Rattle.life.specs.Deeds.{Story, acts_of, done_for, more_lives, one_life, told_by}
+use Rattle.scripts.specs.Deeds.{Story, acts_of, done_for, more_lives, one_life, told_by}
 
 -- Given which devices there are for the nodes of a store that is carried over
 module _ {D : Type 0} (gives : D → Type 0) (set : D → ℕ → Tear → Type 0) (state : D → State) (honest : D → Type 0) (moment : D → ℕ) (left_since : D → ℕ → List ℕ → Type 0) (any : D) where

@@ -1,8 +1,11 @@
 -- A write that a line asks for is whole, and a number of shards is one that a store may have.
 use Rattle.std.specs.Prelude.{◌≤◌, ℕ, List}
 use Rattle.cluster.specs.declared.step.Step.TheVariants as step
-use Rattle.life.proofs.Words.{Ask, Care, Command, Fail, Handle, IsWholeStep, max_shards, Pass, Reshard, Restart, Rows, Spells, Start}
-use Rattle.lines.specs.Lines.{IsRequest}
+use Rattle.headline.specs.Told.{IsWholeStep}
+use Rattle.lines.specs.declared.command.Command.{Command}
+use Rattle.lines.specs.declared.command.Command.TheVariants.{Pass, Ask, Start, Handle, Care, Rows, Restart, Fail, Reshard}
+use Rattle.lines.specs.Lines.{IsRequest, Spells}
+use Rattle.tuples.specs.Limits.{max_shards}
 use Rattle.tuples.specs.declared.request.Request.{Request}
 use Rattle.tuples.specs.declared.request.Request.TheVariants.{Write, Read, Check, Watch}
 

@@ -1,10 +1,14 @@
 -- Steps leave a store its id.
 use Rattle.std.proofs.Common.{◌≡◌, ◌∙◌, ℕ, List, [], ◌∷◌, Option, None, Some, MatchOption, ap, refl}
 use Rattle.calls.specs.Views.{NodeView}
-use Rattle.life.proofs.Words.{Cancel, Cares, Flow, flow_at, IsIdle, State, Step, Taken, Takes, TakesAll, Turn, TurnsIn, What, WorldView}
-use Rattle.cluster.specs.Steps.{CancelsIn, RestartsIn}
-use Rattle.cluster.specs.Worlds.{node_at}
-use Rattle.cluster.specs.declared.step.Step.TheVariants.{Start, Care, Restart}
+use Rattle.cluster.specs.Steps.{CancelsIn, IsIdle, RestartsIn, Takes, TurnsIn}
+use Rattle.cluster.specs.Worlds.{WorldView, flow_at, node_at}
+use Rattle.cluster.specs.declared.event.What.{What}
+use Rattle.cluster.specs.declared.flow.Flow.{Flow}
+use Rattle.cluster.specs.declared.step.Step.{Step}
+use Rattle.cluster.specs.declared.step.Step.TheVariants.{Start, Turn, Cancel, Care, Restart}
+use Rattle.device.specs.Device.{State}
+use Rattle.scripts.specs.Cares.{Cares, Taken, TakesAll}
 
 module _ {D : Type 0} (state : D → State) (honest : D → Type 0) (moment : D → ℕ) (left_since : D → ℕ → List ℕ → Type 0) where
   step_keeps : (old : WorldView D) (step : Step) (told : Option What) (new : WorldView D) → Takes state honest moment left_since old step told new → new.store ≡ old.store

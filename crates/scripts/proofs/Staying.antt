@@ -2,8 +2,22 @@
 use Rattle.std.proofs.Common.{◌≡◌, ◌⊎◌, inl, inr, ℕ, List, [], ◌∷◌, ◌++◌, All, Option, Result, ap, refl, subst, sym}
 use Rattle.std.proofs.lemmas.List.Elements.{All-head, All-tail}
 use Rattle.std.specs.Global.{Vec}
-use Rattle.life.proofs.Words.{Ask, Bank, CallName, Care, Command, Deed, done_for, Fail, Handle, joined, NodeName, not_carrying_done, one_life, Pass, Prints, Refusal, RepliesTo, reply_done, Reshard, Restart, Rows, RunningView, ScriptView, Spells, Start, Step, Story, Tear, Tries, trying_done, Version, What}
-use Rattle.life.specs.Staying.{Stays}
+use Rattle.names.specs.declared.node_name.NodeName.{NodeName}
+use Rattle.names.specs.declared.call_name.CallName.{CallName}
+use Rattle.cluster.specs.declared.event.What.{What}
+use Rattle.cluster.specs.declared.step.Step.{Step}
+use Rattle.device.specs.declared.tear.Tear.{Tear}
+use Rattle.journal.specs.declared.refused.Bank.{Bank}
+use Rattle.lines.specs.declared.command.Command.{Command}
+use Rattle.lines.specs.declared.command.Command.TheVariants.{Pass, Ask, Start, Handle, Care, Rows, Restart, Fail, Reshard}
+use Rattle.lines.specs.Lines.{Spells}
+use Rattle.refusal.specs.declared.refusal.Refusal.{Refusal}
+use Rattle.scripts.specs.Answering.{Tries}
+use Rattle.scripts.specs.Runs.{Prints, RepliesTo}
+use Rattle.scripts.specs.Scripts.{RunningView, ScriptView}
+use Rattle.tuples.specs.declared.version.Version.{Version}
+use Rattle.scripts.specs.Deeds.{Deed, Story, done_for, joined, not_carrying_done, one_life, reply_done, trying_done}
+use Rattle.scripts.specs.Staying.{Stays}
 
 -- it is the story of one life
 abbrev IsOne : {S : Type 0} → Story S → Type 0

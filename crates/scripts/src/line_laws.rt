@@ -1,9 +1,9 @@
 // What a line has done that was refused memory, and what lines do that ask for no other number of shards: laws, each the clause of a function with an empty body.
-ghost use Rattle.life.specs.RefusedWrites.{WritesRefusedMemory};
-ghost use Rattle.life.specs.Staying.{StayingIsOneLife};
+ghost use Rattle.scripts.specs.RefusedWrites.{WritesRefusedMemory};
+ghost use Rattle.scripts.specs.Staying.{StayingIsOneLife};
 
+use crate::Supply;
 use device::Device;
-use scripts::Supply;
 
 /// A line that asks for a write, and prints that memory was refused, did nothing; or its write was refused so at its end, and stands nowhere; or its flow
 /// made as many calls as can be counted, and was given up. What such a write tells has room.

@@ -2,11 +2,12 @@
 use Rattle.std.proofs.Common.{◌≡◌, ◌≤◌, ◌+◌, ◌++◌, ◌∷◌, [], ℕ, suc, List, length, codes, get_or, refl, ap, arith, rules}
 use Rattle.std.proofs.lemmas.List.{length-append}
 use Rattle.std.specs.Fmt.{digits}
-use Rattle.life.proofs.Words.{CallName, Full, NoMemory, Refusal, refusal_line}
+use Rattle.names.specs.declared.call_name.CallName.{CallName}
 use Rattle.names.specs.declared.call_name.CallName.TheVariants as call
 use Rattle.names.specs.Names.{call_text}
-use Rattle.printed.specs.Texts.{named_line, told_line}
-use Rattle.refusal.specs.declared.refusal.Refusal.TheVariants.{BadRequest, BadTuple, TooLarge, Repeated, BadZookie, WrongStore, Future, Collected, Precondition, Busy, Aborted, Unsure, Down, Damaged}
+use Rattle.printed.specs.Texts.{named_line, refusal_line, told_line}
+use Rattle.refusal.specs.declared.refusal.Refusal.{Refusal}
+use Rattle.refusal.specs.declared.refusal.Refusal.TheVariants.{BadRequest, BadTuple, TooLarge, Repeated, BadZookie, WrongStore, Future, Collected, Precondition, Busy, Aborted, Unsure, Down, NoMemory, Full, Damaged}
 use Rattle.zookie.specs.Zookies.{zookie_bytes, zookie_text}
 use Rattle.zookie.proofs.Encodings.{length_text}
 

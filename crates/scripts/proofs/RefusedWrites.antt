@@ -2,26 +2,38 @@
 use Rattle.std.proofs.Common.{◌≡◌, ◌≤◌, ◌<◌, ◌⊎◌, ⊎_elim, inl, inr, ℕ, Bool, true, false, List, [], ◌∷◌, length, Option, Some, None, MatchOption, refl, sym, ◌∙◌, ap, subst, arith}
 use Rattle.std.proofs.lemmas.Bool.{cases_lt}
 use Rattle.tuples.specs.Limits.{max_flows}
-use Rattle.life.proofs.Words.{Began, CallName, Ended, Ends, EndsNot, Flow, flow_at, Full, IsIdle, IsNext, IsRefusedMemory, last_told, most_calls, Next, NoMemory, Refusal, refusal_line, Refused, Serves, ServesNot, State, Step, Takes, Tear, TurnsIn, Up, What, WorldView, Write, Wrote}
+use Rattle.names.specs.declared.call_name.CallName.{CallName}
 use Rattle.commit_flow.specs.declared.end.WriteEnd.{WriteEnd}
 use Rattle.commit_flow.specs.declared.end.WriteEnd.TheVariants as write_end
 use Rattle.cluster.specs.Begun.{begun_for}
 use Rattle.cluster.specs.Ends.{EndsWith, IfEnded, TellsWrite}
 use Rattle.cluster.specs.Flows.{is_cancelled, next_name_of}
-use Rattle.cluster.specs.Steps.{GoesOn, HasGone, Leaves, unless}
+use Rattle.cluster.specs.Steps.{GoesOn, HasGone, IsIdle, Leaves, Takes, TurnsIn, unless}
 use Rattle.cluster.specs.Turns.{Turns}
-use Rattle.cluster.specs.Worlds.{flow_count}
-use Rattle.cluster.specs.declared.event.Answer.TheVariants.{Selected, Checked, Listed, Resolved, Done}
+use Rattle.cluster.specs.Worlds.{WorldView, flow_at, flow_count}
+use Rattle.cluster.specs.declared.event.Answer.TheVariants.{Wrote, Selected, Checked, Listed, Resolved, Done}
+use Rattle.cluster.specs.declared.event.What.{What}
+use Rattle.cluster.specs.declared.event.What.TheVariants.{Began, Next, Ended, Up, Refused}
+use Rattle.cluster.specs.declared.flow.Flow.{Flow}
 use Rattle.cluster.specs.declared.flow.Flow.TheVariants as flow
 use Rattle.tuples.specs.declared.request.Request.TheVariants as request
+use Rattle.cluster.specs.declared.step.Step.{Step}
 use Rattle.cluster.specs.declared.step.Step.TheVariants as step
+use Rattle.device.specs.Device.{State}
+use Rattle.device.specs.declared.tear.Tear.{Tear}
+use Rattle.printed.specs.Texts.{refusal_line}
+use Rattle.refusal.specs.declared.refusal.Refusal.{Refusal}
+use Rattle.refusal.specs.declared.refusal.Refusal.TheVariants.{Full, NoMemory}
 use Rattle.scripts.proofs.Short.{refusal_short}
 use Rattle.scripts.specs.Going as going
-use Rattle.scripts.specs.Going.{Goes}
-use Rattle.scripts.specs.Scripts.{slot_of}
+use Rattle.scripts.specs.Going.{Goes, last_told, most_calls}
+use Rattle.scripts.specs.Refusing.{EndsNot, ServesNot}
+use Rattle.scripts.specs.Scripts.{Ends, Serves, slot_of}
+use Rattle.scripts.specs.Stepping.{IsNext}
 use Rattle.scripts.specs.Telling.{told_text}
-use Rattle.life.specs.RefusedWrites.{WritesRefusedMemory}
-use Rattle.life.proofs.Written.{next_other, next_short, refusal_once, wrote_other, wrote_short}
+use Rattle.tuples.specs.declared.write.Write.{Write}
+use Rattle.scripts.specs.RefusedWrites.{IsRefusedMemory, WritesRefusedMemory}
+use Rattle.scripts.proofs.Written.{next_other, next_short, refusal_once, wrote_other, wrote_short}
 
 -- what a turn of a write tells: nothing, its next call, its place, or a refusal
 abbrev IsOfWrite : Option What → Type 0

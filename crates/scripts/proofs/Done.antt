@@ -1,17 +1,33 @@
 -- What was done for the lines of a script leads from the store before them to the store behind them.
 use Rattle.std.proofs.Common.{◌≡◌, ◌≤◌, ◌⊎◌, inl, inr, ℕ, List, [], ◌∷◌, ◌++◌, ap, refl, subst, sym, slice_index, Option, None, Some, Result, Ok, Err}
 use Rattle.std.specs.Global.{Vec}
-use Rattle.life.proofs.Words.{Ask, Bank, Began, CallName, Cancel, Care, Cares, Command, Deed, done_for, Ended, Ends, EndsNot, Fail, Handle, IsWholeStep, joined, max_shards, more_lives, Next, NodeName, not_carrying_done, one_life, Pass, Prints, Refusal, Refused, RepliesTo, reply_done, Reshard, Restart, Rows, RunningView, ScriptView, Serves, ServesNot, set, Start, Step, Story, Taken, TakesAll, Tear, took, Tries, trying_done, Turn, Turns, Up, Version, What}
+use Rattle.names.specs.declared.node_name.NodeName.{NodeName}
+use Rattle.names.specs.declared.call_name.CallName.{CallName}
+use Rattle.cluster.specs.declared.event.What.{What}
+use Rattle.cluster.specs.declared.event.What.TheVariants.{Began, Ended, Next, Refused, Up}
+use Rattle.cluster.specs.declared.step.Step.{Step}
 use Rattle.cluster.specs.declared.step.Step.TheVariants as step
+use Rattle.device.specs.declared.tear.Tear.{Tear}
+use Rattle.journal.specs.declared.refused.Bank.{Bank}
+use Rattle.lines.specs.declared.command.Command.{Command}
+use Rattle.lines.specs.declared.command.Command.TheVariants.{Pass, Ask, Start, Handle, Care, Rows, Restart, Fail, Reshard}
 use Rattle.lines.specs.declared.flow.Handling.{Handling}
 use Rattle.lines.specs.declared.flow.Handling.TheVariants as handling
+use Rattle.refusal.specs.declared.refusal.Refusal.{Refusal}
+use Rattle.tuples.specs.declared.version.Version.{Version}
+use Rattle.headline.specs.Told.{IsWholeStep}
 use Rattle.std.specs.List.{AllByRecursion}
-use Rattle.cluster.specs.declared.step.Step.TheVariants.{Start as start_step, Care as care_step, Restart as restart_step}
+use Rattle.cluster.specs.declared.step.Step.TheVariants.{Start as start_step, Turn, Cancel, Care as care_step, Restart as restart_step}
 use Rattle.reshard.specs.Caring.{IsCaring}
-use Rattle.scripts.specs.Refusing.{CancelsInPart, CarriesOutNot, GivesUp, HandlesNot, LeavesFlow, StartsNot, resolved_room}
-use Rattle.scripts.specs.Scripts.{Cancels, CarriesOut, Handles, ReshardsTo}
-use Rattle.life.specs.Deeds.{Move, before, steps_done, moving_done, turns_done, cancel_done, part_done, ending_done, giving_up_done, end_done, serving_done, no_end_done, not_serving_done, not_starting_done, handling_done, leaving_done, not_handling_done, carrying_done}
-use Rattle.life.proofs.Whole.{IsWholeCommand, whole_command}
+use Rattle.scripts.specs.Answering.{Tries}
+use Rattle.scripts.specs.Cares.{Cares, Taken, TakesAll}
+use Rattle.scripts.specs.Going.{Turns}
+use Rattle.scripts.specs.Refusing.{CancelsInPart, CarriesOutNot, EndsNot, GivesUp, HandlesNot, LeavesFlow, ServesNot, StartsNot, resolved_room}
+use Rattle.scripts.specs.Runs.{Prints, RepliesTo}
+use Rattle.scripts.specs.Scripts.{Cancels, CarriesOut, Ends, Handles, ReshardsTo, RunningView, ScriptView, Serves}
+use Rattle.tuples.specs.Limits.{max_shards}
+use Rattle.scripts.specs.Deeds.{Deed, took, set, Move, Story, before, joined, more_lives, one_life, steps_done, moving_done, turns_done, cancel_done, part_done, ending_done, giving_up_done, end_done, serving_done, no_end_done, not_serving_done, not_starting_done, handling_done, leaving_done, not_handling_done, carrying_done, not_carrying_done, trying_done, reply_done, done_for}
+use Rattle.scripts.proofs.Whole.{IsWholeCommand, whole_command}
 
 module _ {S : Type 0} (takes : S → Step → Option What → S → Type 0) (sets : S → NodeName → Bank → ℕ → Tear → S → Type 0) where
   -- these were done one after another, and each step is whole

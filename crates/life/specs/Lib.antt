@@ -1,4 +1,0 @@
-pub mod Deeds
-pub mod Lives
-pub mod Staying
-pub mod RefusedWrites
