@@ -1,4 +1,4 @@
-"""Runs tasks side by side: one a processor, as many as memory holds, the longest chain first."""
+"""Runs tasks side by side: one a processor and a few of the longest chains beside them, as many as memory holds, the longest chain first."""
 
 import collections
 import os
@@ -66,6 +66,7 @@ class Lanes:
         return sum(tasks[it].seconds for it in [*left, *(it for it, _, _ in self.running.values())])
 
     def is_urgent(self, key, left, tasks):
+        """Whether the chain that begins with the task takes about as long as all that is left does on these processors."""
         return tasks[key].seconds > 0 and self.behind[key] * self.count > URGENT * self.rest(left, tasks)
 
     def wanted(self, key, left, tasks):
