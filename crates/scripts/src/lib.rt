@@ -7,8 +7,9 @@
 //! Callers rely on: what a line prints is appended whole or not at all, and in the second case nothing was done. What a run writes is what the lines that were
 //! read print, or a beginning of it where a read or a write failed.
 //!
-//! Start at `specs/Scripts.antt`, what each line does and prints, and then `script.rt`; at `specs/Runs.antt` and `runs.rt` for a whole script, and at
-//! `over_disks.rt` for one over a store of its own. What owns a store is here, where how it is let go is proved.
+//! Start at `specs/Scripts.antt`, what each line does and prints, and then `script.rt`; at `specs/Runs.antt` and `runs.rt` for a whole script, at
+//! `over_disks.rt` for one over a store of its own, and at `specs/Lives.antt` and `life.rt` for what the program calls, with the headline's law. What owns a
+//! store is here, where how it is let go is proved.
 #![tactic(auto)]
 
 mod going;
