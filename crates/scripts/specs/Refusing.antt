@@ -15,9 +15,13 @@ use Rattle.scripts.specs.Going.{LeavesOff}
 use Rattle.scripts.specs.Scripts.{Cancels, Ends, Handles, KeepsFlows, RunningView, Shows, Starts, slot_of}
 use Rattle.scripts.specs.Telling.{told_text}
 
--- a text of more bytes than there is room for before a line is carried out; the text of a write has none so long
+-- so much room is made before a line is carried out
+abbrev pub line_room : ℕ
+line_room = 128
+
+-- a text of more bytes than that room has; the text of a write is never so long
 abbrev pub IsLong : List ℕ → Type 0
-IsLong text = 128 < length text
+IsLong text = line_room < length text
 
 -- so much room for what became of one write in doubt
 abbrev pub resolved_room : ℕ

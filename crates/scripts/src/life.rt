@@ -8,7 +8,8 @@ ghost use Rattle.scripts.specs.Lives.{BrokeAsLife, RanAsLife};
 ghost use Rattle.scripts.specs.Sims.{IsEmptyDisk, IsUntouched};
 ghost use Rattle.tuples.specs.Limits.{max_shards};
 
-use crate::over_disks;
+use crate::over_disks::{BROKE, run_over};
+use crate::{InMemory, devices};
 use device::SimDisk;
 use headline::acted_headline;
 use reshard_laws::what_is_carried_over_rests;
@@ -32,5 +33,9 @@ pub fn sim<R: Read, W: Write>(
     // Laws: they do nothing.
     acted_headline::<SimDisk>();
     what_is_carried_over_rests::<SimDisk>();
-    over_disks::sim(alloc, store, shards, reader, writer)
+    let mut supply = InMemory;
+    match devices(alloc, &mut supply, shards) {
+        Ok(disks) => run_over(alloc, store, shards, disks, supply, reader, writer),
+        Err(_) => BROKE,
+    }
 }

@@ -1,23 +1,20 @@
-// A script over a store that is opened for it, over devices that are given, or over disks in memory.
-ghost use Rattle.std.specs.Prelude.{◌≡◌, ◌≢◌, ◌≤◌, ◌+◌, ◌*◌, ◌⊎◌, All, IfOk, List, OnErr, OnOk, vec_len};
+// A script over a store that is opened for it, over devices that are given.
+ghost use Rattle.std.specs.Prelude.{◌≡◌, ◌≢◌, ◌≤◌, ◌+◌, ◌*◌, ◌⊎◌, IfOk, OnErr, OnOk, vec_len};
 ghost use Rattle.cluster.specs.Openings.{IsOpenedOver};
-ghost use Rattle.device.specs.Disk.{is_set_to_fail, left_since_of, moment_of, state_of};
-ghost use Rattle.device.specs.declared.sim_disk.SimDisk.{SimDisk as AnyDisk};
 ghost use Rattle.scripts.specs.Runs.{Broke, Ran};
 ghost use Rattle.scripts.specs.Scripts.{ScriptView};
-ghost use Rattle.scripts.specs.Sims.{BrokeOver, IsEmptyDisk, IsUntouched, RanOver, begun};
+ghost use Rattle.scripts.specs.Sims.{BrokeOver, IsUntouched, RanOver, begun};
 ghost use Rattle.tuples.specs.Limits.{max_shards};
 
 use crate::runs::run;
-use crate::supply::devices;
-use crate::{InMemory, Script, Stepping, Store, Supply};
+use crate::{Script, Stepping, Store, Supply};
 use cluster::reopen;
 use device::Device;
 use std::alloc::{AllocError, Global};
 use std::io::{self, Read, Write};
 
-// The status where the script broke off, or there is no memory for the disks.
-const BROKE: u8 = 1;
+/// The status where the script broke off, or there is no memory for the nodes or for their disks.
+pub(crate) const BROKE: u8 = 1;
 
 // Opens the store over its devices.
 fn open<D: Device, P: Supply<D>>(
@@ -77,26 +74,5 @@ pub fn run_over<D: Device, P: Supply<D>, R: Read, W: Write>(
             Err(_) => BROKE,
         },
         Err(AllocError) => BROKE,
-    }
-}
-
-/// Runs a script over a store of 1 to 64 shards on disks in memory. The status is 0 at the end of the script, and 1 where the reader or the writer failed,
-/// or where there is no memory for the disks.
-pub(crate) fn sim<R: Read, W: Write>(
-    alloc: Global,
-    store: u64,
-    shards: u8,
-    reader: &mut R,
-    writer: &mut W,
-) -> u8
-    requires some { 1 ≤ shards }
-    requires few { shards ≤ max_shards }
-    ensures ran { result ≡ 0 → (disks : List AnyDisk) × All IsEmptyDisk disks × RanOver IsEmptyDisk is_set_to_fail state_of (λ d. Unit {0}) moment_of left_since_of store shards disks (R.remaining reader.old) (R.remaining reader.new) (W.contents writer.old) (W.contents writer.new) }
-    ensures broke { result ≢ 0 → (result ≡ BROKE) × (((disks : List AnyDisk) × All IsEmptyDisk disks × BrokeOver IsEmptyDisk is_set_to_fail state_of (λ d. Unit {0}) moment_of left_since_of store shards disks (R.remaining reader.old) (R.remaining reader.new) (W.contents writer.old) (W.contents writer.new)) ⊎ IsUntouched (R.remaining reader.old) (R.remaining reader.new) (W.contents writer.old) (W.contents writer.new)) }
-{
-    let mut supply = InMemory;
-    match devices(alloc, &mut supply, shards) {
-        Ok(disks) => run_over(alloc, store, shards, disks, supply, reader, writer),
-        Err(_) => BROKE,
     }
 }

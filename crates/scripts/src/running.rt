@@ -5,7 +5,7 @@ ghost use Rattle.cluster.specs.declared.event.What.{What as AnyWhat};
 ghost use Rattle.cluster.specs.declared.step.Step.TheVariants as any_step;
 ghost use Rattle.lines.specs.Causes.{Cause};
 ghost use Rattle.lines.specs.Lines.{Spells};
-ghost use Rattle.scripts.specs.Refusing.{CarriesOutNot, HandlesNot, IsLong, StartsNot};
+ghost use Rattle.scripts.specs.Refusing.{CarriesOutNot, HandlesNot, IsLong, StartsNot, line_room};
 ghost use Rattle.scripts.specs.Scripts.{
   CarriesOut,
   Handles,
@@ -77,7 +77,7 @@ impl<S: Store> Running<S> {
         first: Step,
         out: &mut Vec<u8>,
     ) -> Result<(), AllocError>
-        requires room { vec_len out.old + 128 ≤ vec_capacity out.old }
+        requires room { vec_len out.old + line_room ≤ vec_capacity out.old }
         ensures ok { OnOk result ((text : List ℕ) × Starts S.takes S.nexts id name first self.old text self.new × (out.new.items ≡ out.old.items ++ text)) }
         ensures err { OnErr result (out.new.items ≡ out.old.items) }
         ensures refused { OnErr result (StartsNot S.takes S.nexts id name first self.old self.new) }
@@ -124,7 +124,7 @@ impl<S: Store> Running<S> {
         out: &mut Vec<u8>,
     ) -> Result<(), AllocError>
         requires flow { flow < length self.old.names }
-        requires room { vec_len out.old + 128 ≤ vec_capacity out.old }
+        requires room { vec_len out.old + line_room ≤ vec_capacity out.old }
         ensures same { self.new.store ≡ self.old.store }
         ensures ok { OnOk result ((text : List ℕ) × Tells S.takes S.nexts id flow told self.old text self.new × (out.new.items ≡ out.old.items ++ text)) }
         ensures err { OnErr result (out.new.items ≡ out.old.items) }
@@ -142,7 +142,7 @@ impl<S: Store> Running<S> {
 
     fn tell_cancelled(&mut self, id: u64, flow: usize, out: &mut Vec<u8>) -> Result<(), AllocError>
         requires flow { flow < length self.old.names }
-        requires room { vec_len out.old + 128 ≤ vec_capacity out.old }
+        requires room { vec_len out.old + line_room ≤ vec_capacity out.old }
         ensures same { self.new.store ≡ self.old.store }
         ensures ok { OnOk result ((text : List ℕ) × TellsCancel flow self.old text self.new × (out.new.items ≡ out.old.items ++ text)) }
         ensures err { OnErr result (out.new.items ≡ out.old.items) }
@@ -162,7 +162,7 @@ impl<S: Store> Running<S> {
         out: &mut Vec<u8>,
     ) -> Result<(), AllocError>
         requires flow { flow < length self.old.names }
-        requires room { vec_len out.old + 128 ≤ vec_capacity out.old }
+        requires room { vec_len out.old + line_room ≤ vec_capacity out.old }
         ensures ok { OnOk result ((text : List ℕ) × Handles S.takes S.nexts id flow handling self.old text self.new × (out.new.items ≡ out.old.items ++ text)) }
         ensures err { OnErr result (out.new.items ≡ out.old.items) }
         ensures refused { OnErr result (HandlesNot S.takes S.nexts id flow handling self.old self.new) }
@@ -190,7 +190,7 @@ impl<S: Store> Running<S> {
     }
 
     fn rows(&self, id: u64, shard: u8, out: &mut Vec<u8>) -> Result<(), AllocError>
-        requires room { vec_len out.old + 128 ≤ vec_capacity out.old }
+        requires room { vec_len out.old + line_room ≤ vec_capacity out.old }
         ensures ok { OnOk result ((text : List ℕ) × Shows S.shows shard self.now.store text × (out.new.items ≡ out.old.items ++ text)) }
         ensures err { OnErr result (out.new.items ≡ out.old.items) }
         ensures refused { OnErr result ((text : List ℕ) × Shows S.shows shard self.now.store text × IsLong text) }
@@ -203,7 +203,7 @@ impl<S: Store> Running<S> {
     }
 
     fn restart(&mut self, id: u64, node: NodeName, out: &mut Vec<u8>) -> Result<(), AllocError>
-        requires room { vec_len out.old + 128 ≤ vec_capacity out.old }
+        requires room { vec_len out.old + line_room ≤ vec_capacity out.old }
         ensures ok { OnOk result ((told : Option AnyWhat) × S.takes self.old.store (any_step.Restart node) told self.new.store × (out.new.items ≡ out.old.items ++ told_text id told)) }
         ensures flows { KeepsFlows self.old self.new }
         ensures err { OnErr result (out.new.items ≡ out.old.items) }
@@ -215,7 +215,7 @@ impl<S: Store> Running<S> {
     }
 
     fn fail(&mut self, id: u64, failure: Failure, out: &mut Vec<u8>) -> Result<(), AllocError>
-        requires room { vec_len out.old + 128 ≤ vec_capacity out.old }
+        requires room { vec_len out.old + line_room ≤ vec_capacity out.old }
         ensures ok { OnOk result (S.sets self.old.store failure.node failure.bank failure.n failure.tear self.new.store × (out.new.items ≡ out.old.items ++ set_line)) }
         ensures flows { KeepsFlows self.old self.new }
         ensures err { OnErr result (out.new.items ≡ out.old.items) }
@@ -231,7 +231,7 @@ impl<S: Store> Running<S> {
     fn reshard(&mut self, id: u64, shards: u8, out: &mut Vec<u8>) -> Result<(), AllocError>
         requires some { 1 ≤ shards }
         requires few { shards ≤ max_shards }
-        requires room { vec_len out.old + 128 ≤ vec_capacity out.old }
+        requires room { vec_len out.old + line_room ≤ vec_capacity out.old }
         ensures ok { OnOk result ((text : List ℕ) × ReshardsTo S.takes S.nexts S.shows S.sets S.reshards S.shards_of shards self.old.store text self.new.store × (out.new.items ≡ out.old.items ++ text)) }
         ensures flows { KeepsFlows self.old self.new }
         ensures err { OnErr result (out.new.items ≡ out.old.items) }
@@ -258,7 +258,7 @@ impl<S: Store> Running<S> {
         out: &mut Vec<u8>,
     ) -> Result<(), AllocError>
         requires among { IsAmong command (length self.old.names) }
-        requires room { vec_len out.old + 128 ≤ vec_capacity out.old }
+        requires room { vec_len out.old + line_room ≤ vec_capacity out.old }
         ensures ok { OnOk result ((text : List ℕ) × CarriesOut S.takes S.nexts S.shows S.sets S.reshards S.shards_of id command self.old text self.new × (out.new.items ≡ out.old.items ++ text)) }
         ensures err { OnErr result (out.new.items ≡ out.old.items) }
         ensures refused { OnErr result (CarriesOutNot S.takes S.nexts S.shows id command self.old self.new) }

@@ -4,7 +4,7 @@ ghost use Rattle.lines.specs.Causes.{Cause};
 ghost use Rattle.lines.specs.Lines.{Spells};
 ghost use Rattle.printed.specs.Texts.{refusal_line};
 ghost use Rattle.scripts.specs.Answering.{Answers, Tries};
-ghost use Rattle.scripts.specs.Refusing.{CarriesOutNot};
+ghost use Rattle.scripts.specs.Refusing.{CarriesOutNot, line_room};
 ghost use Rattle.scripts.specs.Scripts.{CarriesOut, IsAmong};
 
 use crate::Store;
@@ -66,7 +66,7 @@ impl<S: Store> Script<S> {
 
     fn carry_out(&mut self, command: Command, out: &mut Vec<u8>) -> Result<(), AllocError>
         requires among { IsAmong command (length self.old.running.names) }
-        requires room { vec_len out.old + 128 ≤ vec_capacity out.old }
+        requires room { vec_len out.old + line_room ≤ vec_capacity out.old }
         ensures same { self.new.id ≡ self.old.id }
         ensures ok { OnOk result ((text : List ℕ) × CarriesOut S.takes S.nexts S.shows S.sets S.reshards S.shards_of self.old.id command self.old.running text self.new.running × (out.new.items ≡ out.old.items ++ text)) }
         ensures err { OnErr result (out.new.items ≡ out.old.items) }
@@ -79,7 +79,7 @@ impl<S: Store> Script<S> {
     // Carries the command out, or tells that memory was refused.
     fn try_out(&mut self, command: Command, out: &mut Vec<u8>)
         requires among { IsAmong command (length self.old.running.names) }
-        requires room { vec_len out.old + 128 ≤ vec_capacity out.old }
+        requires room { vec_len out.old + line_room ≤ vec_capacity out.old }
         ensures same { self.new.id ≡ self.old.id }
         ensures told { (text : List ℕ) × Tries S.takes S.nexts S.shows S.sets S.reshards S.shards_of self.old.id command self.old.running text self.new.running × (out.new.items ≡ out.old.items ++ text) }
     {
@@ -90,7 +90,7 @@ impl<S: Store> Script<S> {
     }
 
     fn answer(&mut self, line: &[u8], out: &mut Vec<u8>)
-        requires { vec_len out.old + 128 ≤ vec_capacity out.old }
+        requires { vec_len out.old + line_room ≤ vec_capacity out.old }
         ensures { (text : List ℕ) × Answers S.takes S.nexts S.shows S.sets S.reshards S.shards_of line.now self.old text self.new × (out.new.items ≡ out.old.items ++ text) }
     {
         match self.parse(line) {
@@ -102,7 +102,7 @@ impl<S: Store> Script<S> {
 
 // Prints a refusal, for which the room is there.
 fn refuse(refusal: Refusal, out: &mut Vec<u8>)
-    requires { vec_len out.old + 128 ≤ vec_capacity out.old }
+    requires { vec_len out.old + line_room ≤ vec_capacity out.old }
     ensures { out.new.items ≡ out.old.items ++ refusal_line refusal }
 {
     // It tells no place, so it is the same at every store.

@@ -2,7 +2,7 @@
 ghost use Rattle.std.specs.Prelude.{◌≡◌, ◌≤◌, ◌<◌, ◌+◌, ◌⊎◌, ◌++◌, List, ℕ, None, Option, OnOk, OnErr, length, vec_capacity, vec_len};
 ghost use Rattle.cluster.specs.declared.event.What.{What as AnyWhat};
 ghost use Rattle.scripts.specs.Going.{Goes};
-ghost use Rattle.scripts.specs.Refusing.{EndsNot, GivesUp, IsLong, ServesNot};
+ghost use Rattle.scripts.specs.Refusing.{EndsNot, GivesUp, IsLong, ServesNot, line_room};
 ghost use Rattle.scripts.specs.Scripts.{Ends, Serves, unbegun_text};
 ghost use Rattle.scripts.specs.Telling.{told_text};
 
@@ -39,7 +39,7 @@ fn run_out<S: Store>(
     each: usize,
     out: &mut Vec<u8>,
 ) -> Result<(), AllocError>
-    requires room { vec_len out.old + 128 ≤ vec_capacity out.old }
+    requires room { vec_len out.old + line_room ≤ vec_capacity out.old }
     ensures ok { OnOk result ((end : Option AnyWhat) × Goes S.takes S.nexts slot None store.old end store.new × (out.new.items ≡ out.old.items ++ told_text id end)) }
     ensures err { OnErr result (out.new.items ≡ out.old.items) }
     ensures refused { OnErr result (GivesUp S.takes S.nexts slot each store.old store.new ⊎ ((end : Option AnyWhat) × Goes S.takes S.nexts slot None store.old end store.new × IsLong (told_text id end))) }
@@ -62,7 +62,7 @@ fn end<S: Store>(
     each: usize,
     out: &mut Vec<u8>,
 ) -> Result<(), AllocError>
-    requires room { vec_len out.old + 128 ≤ vec_capacity out.old }
+    requires room { vec_len out.old + line_room ≤ vec_capacity out.old }
     ensures ok { OnOk result ((text : List ℕ) × Ends S.takes S.nexts id told store.old text store.new × (out.new.items ≡ out.old.items ++ text)) }
     ensures err { OnErr result (out.new.items ≡ out.old.items) }
     ensures refused { OnErr result (EndsNot S.takes S.nexts id each told store.old store.new) }
@@ -83,7 +83,7 @@ pub(crate) fn serve<S: Store>(
     each: usize,
     out: &mut Vec<u8>,
 ) -> Result<(), AllocError>
-    requires room { vec_len out.old + 128 ≤ vec_capacity out.old }
+    requires room { vec_len out.old + line_room ≤ vec_capacity out.old }
     ensures ok { OnOk result ((text : List ℕ) × Serves S.takes S.nexts id first store.old text store.new × (out.new.items ≡ out.old.items ++ text)) }
     ensures err { OnErr result (out.new.items ≡ out.old.items) }
     ensures refused { OnErr result (ServesNot S.takes S.nexts id each first store.old store.new) }

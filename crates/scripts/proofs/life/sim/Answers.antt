@@ -2,17 +2,18 @@ use Rattle.std.proofs.Common.{inl, inr}
 use Rattle.scripts.proofs.Living.{broke_as_life, ran_as_life}
 use Rattle.scripts.proofs.life.sim.Goals as goal
 
-pub returns-clause-ran : goal.returns-clause-ran
-returns-clause-ran g c is =
-    let r = c.sim.ensures.ran is in
-    (r.0, r.1, ran_as_life c.args.store c.args.shards c.requires.some c.requires.few c.acted_headline.ensures c.what_is_carried_over_rests.ensures r.0 r.1 _ _ _ _ r.2)
+pub returns-in-Ok-clause-ran : goal.returns-in-Ok-clause-ran
+returns-in-Ok-clause-ran g c is =
+    let empty = c.in-Ok.ensures.each in
+    (c.in-Ok.disks.items, empty, ran_as_life c.args.store c.args.shards c.requires.some c.requires.few c.acted_headline.ensures c.what_is_carried_over_rests.ensures _ empty _ _ _ _ (c.run_over.ensures.ran is))
 
-pub returns-clause-broke : goal.returns-clause-broke
-returns-clause-broke g c is =
-    let r = c.sim.ensures.broke is in (
+pub returns-in-Ok-clause-broke : goal.returns-in-Ok-clause-broke
+returns-in-Ok-clause-broke g c is =
+    let empty = c.in-Ok.ensures.each in
+    let r = c.run_over.ensures.broke is in (
       r.0,
       elim r.1 [
-        | inl b ↦ inl (b.0, b.1, broke_as_life c.args.store c.args.shards c.requires.some c.requires.few c.acted_headline.ensures c.what_is_carried_over_rests.ensures b.0 b.1 _ _ _ _ b.2)
+        | inl b ↦ inl (c.in-Ok.disks.items, empty, broke_as_life c.args.store c.args.shards c.requires.some c.requires.few c.acted_headline.ensures c.what_is_carried_over_rests.ensures _ empty _ _ _ _ b)
         | inr none ↦ inr none
       ],
     )
