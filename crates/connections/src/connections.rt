@@ -16,6 +16,7 @@ use std::marker::Model;
 use std::sync::Wait;
 use steps::{Notes, Puts, Takes, Together, Workers};
 
+// How many may wait.
 const PLACES: usize = 1024;
 
 /// Connections that wait for a worker, of which there are 1,024 at most.
@@ -28,12 +29,13 @@ pub struct Connections<C> {
 impl<C> Model for Connections<C> {
     ghost use Rattle.std.specs.Prelude.{◌≡◌};
     ghost use Rattle.atomic_table.specs.Seated.{TableId};
+    ghost use Rattle.connections.specs.declared.connections.TheConstants.{PLACES};
 
     ghost Value = { TableId };
 
     ghost view = { λ q. q.queue.table.shared.table_id };
 
-    ghost invariant = { λ q. q.queue.cap ≡ 1024 };
+    ghost invariant = { λ q. q.queue.cap ≡ PLACES };
 }
 
 impl<C: Drop> Connections<C> {
@@ -85,7 +87,7 @@ impl<C: Drop> Connections<C> {
         ensures same { (acceptor.new.queue ≡ acceptor.old.queue) × (acceptor.new.told ≡ acceptor.old.told) }
         ensures ok { OnOk result (acceptor.new.put ≡ acceptor.old.put + 1) }
         ensures back { IfErr result (λ c. (c ≡ connection) × (acceptor.new.put ≡ acceptor.old.put)) }
-        ensures full { OnErr result (1024 ≤ acceptor.old.put × IsUpTo (acceptor.old.put - 1024) acceptor.old.told) }
+        ensures full { OnErr result (PLACES ≤ acceptor.old.put × IsUpTo (acceptor.old.put - PLACES) acceptor.old.told) }
     {
         let number = acceptor.put + 1;
         let numbered = Numbered { number, connection };

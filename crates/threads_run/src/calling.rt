@@ -1,5 +1,6 @@
 // The calls of one that asks a store, and the line of each.
 ghost use Rattle.std.specs.Prelude.{◌≤◌};
+ghost use Rattle.tuples.specs.Limits.{max_watched};
 
 use crate::course::Course;
 use crate::spelling::{
@@ -177,7 +178,7 @@ impl<B: Room> Worker<B> {
         limit: u64,
         names: &[&'static str],
     ) -> Result<(), Refusal>
-        requires { limit ≤ 256 }
+        requires { limit ≤ max_watched }
     {
         let namespaces = namespaces(self.alloc, names)?;
         let begin = course.tick();
