@@ -5,6 +5,7 @@ pub mod Seen
 pub mod CoordinatorAnswers
 pub mod ShardAnswers
 pub mod Asking
+pub mod Reading
 pub mod Opening
 pub mod Belonging
 pub mod Failing

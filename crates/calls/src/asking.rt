@@ -5,6 +5,7 @@ ghost use Rattle.calls.specs.Belonging.{IsReplyTo};
 ghost use Rattle.calls.specs.Refusing.{Notes};
 ghost use Rattle.calls.specs.Seen.{seen};
 
+use crate::looking::{read, read_for_check};
 use crate::node::Opened;
 use crate::{
     CoordinatorCall, CoordinatorReply, Node, NodeCall, Reply, ShardCall, ShardReply, Told,
@@ -68,13 +69,9 @@ fn ask_shard<D: Device>(alloc: Global, shard: &mut Shard<D>, call: ShardCall) ->
             ShardReply::DropWrite(verdict, answer)
         }
         ShardCall::InDoubt => ShardReply::InDoubt(shard.in_doubt(alloc)),
-        ShardCall::Read(place, set) => {
-            let answer = shard.read(alloc, place, &set);
-            ShardReply::Read(set, answer)
-        }
+        ShardCall::Read(place, set) => read(alloc, shard, place, set),
         ShardCall::ReadForCheck(place, userset, user) => {
-            let answer = shard.read_for_check(alloc, place, &userset, &user);
-            ShardReply::ReadForCheck(userset, user, answer)
+            read_for_check(alloc, shard, place, userset, user)
         }
         ShardCall::Settle => ShardReply::Settle(shard.settle()),
         ShardCall::Collect(heads) => {
@@ -171,7 +168,7 @@ pub fn refuse(refusal: Refusal, call: NodeCall) -> Reply
 }
 
 // The refusal that the reply carries is told.
-fn tell(reply: &Reply, told: &mut Told)
+pub(crate) fn tell(reply: &Reply, told: &mut Told)
     ensures { Notes told.old reply.now told.new }
 {
     if let Some(refusal) = reply.refusal() {

@@ -72,6 +72,17 @@ impl CoordinatorCall {
 impl ShardCall {
     ghost use Rattle.std.specs.Prelude.{◌≡◌};
     ghost use Rattle.calls.specs.Names.{name_at_shard};
+    ghost use Rattle.calls.specs.Reading.{is_read};
+
+    /// Whether it reads tuples, and leaves the shard as it is.
+    pub fn is_read(&self) -> bool
+        ensures { result ≡ is_read self.now }
+    {
+        matches!(
+            self,
+            ShardCall::Read(_, _) | ShardCall::ReadForCheck(_, _, _)
+        )
+    }
 
     /// Its name.
     pub fn name(&self) -> CallName

@@ -5,7 +5,7 @@
 //!
 //! Keeps: a reply belongs to its call; what a call was handed is spent by the node or lies in the reply.
 //! Never: makes more than the one call, or keeps anything between two.
-//! Callers rely on: `ask` promises what the node's own call does, and what a `Told` holds was carried by a reply.
+//! Callers rely on: `ask` and `look` promise what the node's own call does, and what a `Told` holds was carried by a reply.
 //!
 //! A node may lend its devices for a flush and take them back (`Node::lend`, `Node::land`). The shards of a server do so.
 //!
@@ -17,6 +17,7 @@ mod call;
 mod carrying;
 mod fitting;
 mod lending;
+mod looking;
 mod node;
 mod reply;
 mod running;
@@ -26,6 +27,7 @@ pub use asking::{ask, refuse};
 pub use call::{CoordinatorCall, NodeCall, ShardCall};
 pub use carrying::Reach;
 pub use lending::{Flying, Lent};
+pub use looking::look;
 pub use node::Node;
 pub use reply::{CoordinatorReply, Reply, ShardReply};
 pub use running::Running;

@@ -20,8 +20,10 @@ impl Model for History {
     ghost also_owns = { λ _. ftrue };
 }
 
-// It owns nothing, so a device may go to another thread.
+// It owns nothing, so a device may go to another thread, and threads may share one.
 unsafe impl Send for History {}
+
+unsafe impl Sync for History {}
 
 impl History {
     fn new() -> History

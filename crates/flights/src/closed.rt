@@ -6,7 +6,7 @@ ghost use Rattle.ties.specs.ShardTies.{RowsAnywhere};
 use crate::{Launch, ShardPlace};
 use device::Device;
 use journal::BatchRoom;
-use published::SessionPass;
+use published::{SessionPass, SharedPass};
 use records::Identity;
 use sides::Room;
 use std::alloc::Global;
@@ -20,7 +20,7 @@ pub struct ClosedShard<D: Device, B: Room> {
     a: D,
     b: D,
     me: Identity,
-    pass: SessionPass<Entry>,
+    pass: SharedPass<Entry>,
     flight_room: BatchRoom,
     launches: SessionPass<Launch>,
     room: PhantomData<B>,
@@ -45,7 +45,7 @@ impl<D: Device, B: Room> ClosedShard<D, B> {
         a: D,
         b: D,
         me: Identity,
-        pass: SessionPass<Entry>,
+        pass: SharedPass<Entry>,
         flight_room: BatchRoom,
         launches: SessionPass<Launch>,
     ) -> ClosedShard<D, B>

@@ -8,9 +8,9 @@ ghost use Rattle.calls.specs.declared.call.CoordinatorCall.TheVariants.{Checkpoi
 ghost use Rattle.sides.specs.Sides.{IsLater};
 ghost use Rattle.flights.specs.LogPlaces.{HasCount, tried_at};
 
-use crate::landings::Landings;
+use crate::landings::{ANY, Landings};
 use crate::spinning::lock_soon;
-use crate::waiting::{Lands, landed, lock_here};
+use crate::waiting::{Lands, awaited};
 use crate::{CoordinatorPlace, Flight, Launch, LaunchLog, Restart, Tried};
 use calls::{Reply, Told};
 use device::Device;
@@ -60,6 +60,34 @@ impl<D: Device, B: Room> CoordinatorCell<D, B> {
         unreachable!()
     }
 
+    // Locked as it is, or else again, once the flight of this number has landed or its devices are here. Where it has landed, others may wait for it still: the
+    // caller passes it on to them.
+    fn landed<'a, R: Wait>(
+        &'a self,
+        rt: &R,
+        place: MutexGuard<'a, CoordinatorPlace<D, B>>,
+        ticket: u64,
+    ) -> MutexGuard<'a, CoordinatorPlace<D, B>> {
+        let mut place = place;
+        for _ in rt.forever() {
+            let Some((flight, seen)) = awaited(&*place, &self.landings, ticket) else {
+                return place;
+            };
+            drop(place);
+            self.landings.wait(rt, flight, seen);
+            place = self.lock(rt);
+        }
+        unreachable!()
+    }
+
+    // Locked, once its devices are here.
+    fn lock_here<'a, R: Wait>(&'a self, rt: &R) -> MutexGuard<'a, CoordinatorPlace<D, B>> {
+        let place = self.landed(rt, self.lock(rt), ANY);
+        // It may have been woken in the place of another, who would sleep for ever where no flight leaves behind it.
+        self.landings.tell_all();
+        place
+    }
+
     // The next flight, which leaves now; or what is told of a flush, once all that was staged for the caller has landed, or where nothing can leave. Where
     // nothing was staged for the caller since it asked last, that is all that is staged now.
     fn leave<R: Wait>(
@@ -80,7 +108,7 @@ impl<D: Device, B: Room> CoordinatorCell<D, B> {
     {
         let place = self.lock(rt);
         let ticket = tried.take_ticket().unwrap_or(place.ticket());
-        let mut place = landed(rt, &self.place, &self.landings, place, ticket);
+        let mut place = self.landed(rt, place, ticket);
         if place.has_landed(ticket) {
             let reply = place.tell_flushed(words, pass, told);
             drop(place);
@@ -164,7 +192,7 @@ impl<D: Device, B: Room> CoordinatorCell<D, B> {
         ensures told { Notes told.old result told.new }
     {
         for _ in rt.forever() {
-            let mut place = lock_here(rt, &self.place, &self.landings);
+            let mut place = self.lock_here(rt);
             if let Some(reply) = place.checkpoint(words, pass, told) {
                 return reply;
             }
@@ -182,7 +210,7 @@ impl<D: Device, B: Room> CoordinatorCell<D, B> {
         requires own { words.now ≡ B.log }
     {
         for _ in rt.forever() {
-            let mut place = lock_here(rt, &self.place, &self.landings);
+            let mut place = self.lock_here(rt);
             match place.restart(words, alloc) {
                 Restart::IsUp => return None,
                 Restart::IsRefused(refusal) => return Some(refusal),

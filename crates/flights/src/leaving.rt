@@ -12,8 +12,9 @@ use away::Away;
 use calls::Flying;
 use device::Device;
 use journal::{BatchRoom, Journal};
-use published::{Published, SessionPass};
+use published::{Published, SessionPass, SharedPass};
 use sides::{LentShard, Room, ShardSide};
+use std::sync::Wait;
 
 // The flight that leaves now gets its number.
 fn leave<D: Device, B: Room>(
@@ -123,8 +124,9 @@ fn depart<D: Device, B: Room>(
 
 impl<D: Device, B: Room> ShardPlace<D, B> {
     /// Its devices leave on a flight, with all that is staged: where they are here, it is up, and one flight more can be numbered. Else all stays as it is.
-    pub fn launch(
+    pub fn launch<R: Wait>(
         &mut self,
+        rt: &R,
         launches: &Published<Launch>,
         log: &mut LaunchLog<B>,
     ) -> Option<Flight<D, B>>
@@ -136,7 +138,9 @@ impl<D: Device, B: Room> ShardPlace<D, B> {
         let Some(berth) = self.berth.take() else {
             unreachable!();
         };
-        let (berth, flight) = depart(launches, log, &mut self.pass, berth);
+        let mut pass = self.pass.take(rt);
+        let (berth, flight) = depart(launches, log, &mut pass, berth);
+        self.pass = SharedPass::new(pass);
         drop(self.berth.replace(berth));
         if flight.is_some() {
             self.flights = self.flights.saturating_add(1);

@@ -14,9 +14,10 @@ use away::Away;
 use calls::{Reply, ShardReply, Told};
 use device::Device;
 use journal::BatchRoom;
-use published::{Published, SessionPass};
+use published::{Published, SessionPass, SharedPass};
 use sides::{Room, ShardSide};
 use std::alloc::Global;
+use std::sync::Wait;
 use tuples::Refusal;
 
 /// How a node that was to be opened again fared.
@@ -68,8 +69,9 @@ impl<D: Device, B: Room> ShardPlace<D, B> {
 
     /// Its devices come back from their flight. Where that went well, what flew is durable; else the shard is down. What was staged since is staged still.
     /// Only another flight does not land: it comes back as it was, and nothing is changed.
-    pub fn land(
+    pub fn land<R: Wait>(
         &mut self,
+        rt: &R,
         launches: &Published<Launch>,
         flown: Flown<D, B>,
     ) -> Result<(), Flown<D, B>>
@@ -88,7 +90,9 @@ impl<D: Device, B: Room> ShardPlace<D, B> {
                 unreachable!();
             }
         };
-        let (side, room) = arrive(launches, &mut self.pass, side, flown);
+        let mut pass = self.pass.take(rt);
+        let (side, room) = arrive(launches, &mut pass, side, flown);
+        self.pass = SharedPass::new(pass);
         drop(self.berth.replace(Berth::Here(side, room)));
         Ok(())
     }

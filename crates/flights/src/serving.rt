@@ -1,6 +1,7 @@
 // One call of a shard under its lock, whichever devices it is over.
-ghost use Rattle.std.specs.Prelude.{◌≡◌, false, List, ℕ};
+ghost use Rattle.std.specs.Prelude.{◌≡◌, true, false, List, ℕ};
 ghost use Rattle.calls.specs.Asking.{MayAskShard};
+ghost use Rattle.calls.specs.Reading.{is_read};
 ghost use Rattle.calls.specs.Refusing.{Notes};
 ghost use Rattle.calls.specs.declared.call.NodeCall.TheVariants.{Shard as of_shard};
 ghost use Rattle.flow_ties.specs.Cares.{HandsOver};
@@ -17,10 +18,12 @@ use calls::{Reply, ShardCall, Told};
 use device::Device;
 use published::{Published, SessionPass};
 use sides::{Room, ShardSide};
+use std::sync::Wait;
 use tuples::Entry;
 
-/// Makes the call of the shard, which is no flush.
-pub(crate) fn serve<D: Device, B: Room>(
+/// Makes the call of the shard, which is no flush and no read.
+pub(crate) fn serve<D: Device, B: Room, R: Wait>(
+    rt: &R,
     words: &Published<Entry>,
     side: &mut ShardSide<D, B>,
     pass: &mut SessionPass<Entry>,
@@ -31,6 +34,7 @@ pub(crate) fn serve<D: Device, B: Room>(
     requires owed { MayAskShard B.shards side.old.number call }
     requires hands { B.rests → HandsOver pass.old.seen pass.old.horizon (of_shard side.old.number call) }
     requires no_flush { is_flush call ≡ false }
+    requires no_read { is_read call ≡ false }
     ensures answers { SideAnswers D.state D.honest D.moment D.left_since side.old call result side.new }
     ensures own { IsLater side.old.pass side.new.pass }
     ensures caller { IsLater pass.old pass.new }
@@ -39,24 +43,46 @@ pub(crate) fn serve<D: Device, B: Room>(
 {
     match call {
         ShardCall::Learned => side.learned(told),
-        ShardCall::Learn(batch) => side.learn(words, pass, told, batch),
+        ShardCall::Learn(batch) => side.learn(rt, words, pass, told, batch),
         ShardCall::StagePrepare(intent) => side.stage_prepare(told, intent),
         ShardCall::Vote(ticket) => side.vote(told, ticket),
         ShardCall::DropWrite(verdict, held) => side.drop_write(told, verdict, held),
         ShardCall::InDoubt => side.in_doubt(told),
-        ShardCall::Read(place, set) => side.read(words, pass, told, place, set),
-        ShardCall::ReadForCheck(place, userset, user) => {
-            side.read_for_check(words, pass, told, place, userset, user)
-        }
         ShardCall::Settle => side.settle(told),
-        ShardCall::Collect(heads) => side.collect(words, pass, told, heads),
-        // Neither comes here.
-        ShardCall::Flush | ShardCall::Checkpoint => side.flush(told),
+        ShardCall::Collect(heads) => side.collect(rt, words, pass, told, heads),
+        // None of the others comes here.
+        _ => unreachable!(),
+    }
+}
+
+/// Makes the read of the shard, which stays as it is.
+pub(crate) fn look<D: Device, B: Room, R: Wait>(
+    rt: &R,
+    words: &Published<Entry>,
+    side: &ShardSide<D, B>,
+    pass: &mut SessionPass<Entry>,
+    told: &mut Told,
+    call: ShardCall,
+) -> Reply
+    requires own { (words.now ≡ B.log) × (pass.old.table ≡ B.log) }
+    requires reads { is_read call ≡ true }
+    ensures answers { SideAnswers D.state D.honest D.moment D.left_since side.now call result side.now }
+    ensures caller { IsLater pass.old pass.new }
+    ensures tells { B.rests → IsTold B.shards pass.new.seen (of_shard side.now.number call) result }
+    ensures told { Notes told.old result told.new }
+{
+    match call {
+        ShardCall::Read(place, set) => side.read(rt, words, pass, told, place, set),
+        ShardCall::ReadForCheck(place, userset, user) => {
+            side.read_for_check(rt, words, pass, told, place, userset, user)
+        }
+        _ => unreachable!(),
     }
 }
 
 /// Makes a call of a shard that has its devices. It is as sound as before.
-pub(crate) fn serve_here<D: Device, B: Room>(
+pub(crate) fn serve_here<D: Device, B: Room, R: Wait>(
+    rt: &R,
     words: &Published<Entry>,
     side: &mut ShardSide<D, B>,
     pass: &mut SessionPass<Entry>,
@@ -67,17 +93,19 @@ pub(crate) fn serve_here<D: Device, B: Room>(
     requires owed { MayAskShard B.shards side.old.number call }
     requires hands { B.rests → HandsOver pass.old.seen pass.old.horizon (of_shard side.old.number call) }
     requires no_flush { is_flush call ≡ false }
+    requires no_read { is_read call ≡ false }
     ensures answers { SideAnswers D.state D.honest D.moment D.left_since side.old call result side.new }
     ensures sound { IsSoundIn D.state D.honest side.old.node → IsSoundIn D.state D.honest side.new.node }
     ensures caller { IsLater pass.old pass.new }
     ensures tells { B.rests → IsTold B.shards pass.new.seen (of_shard side.old.number call) result }
     ensures told { Notes told.old result told.new }
 {
-    serve(words, side, pass, told, call)
+    serve(rt, words, side, pass, told, call)
 }
 
 /// Makes a call of a shard whose devices are out. What left with them stays the first of what is staged.
-pub(crate) fn serve_out<D: Device, B: Room>(
+pub(crate) fn serve_out<D: Device, B: Room, R: Wait>(
+    rt: &R,
     words: &Published<Entry>,
     side: &mut ShardSide<Away<D>, B>,
     pass: &mut SessionPass<Entry>,
@@ -88,11 +116,12 @@ pub(crate) fn serve_out<D: Device, B: Room>(
     requires owed { MayAskShard B.shards side.old.number call }
     requires hands { B.rests → HandsOver pass.old.seen pass.old.horizon (of_shard side.old.number call) }
     requires no_flush { is_flush call ≡ false }
+    requires no_read { is_read call ≡ false }
     ensures answers { SideAnswers (lent_state D.state) (lent_honest D.honest) (λ d. D.moment d.was.value) (λ d t c. D.left_since d.was.value t c) side.old call result side.new }
     ensures out { (launches : List AnyLaunch) (launch : ℕ) → IsOutOn D.state D.honest B.rests B.shards launches side.old launch → IsOutOn D.state D.honest B.rests B.shards launches side.new launch }
     ensures caller { IsLater pass.old pass.new }
     ensures tells { B.rests → IsTold B.shards pass.new.seen (of_shard side.old.number call) result }
     ensures told { Notes told.old result told.new }
 {
-    serve(words, side, pass, told, call)
+    serve(rt, words, side, pass, told, call)
 }

@@ -5,22 +5,22 @@ ghost use Rattle.calls.specs.Refusing.{Notes};
 ghost use Rattle.calls.specs.declared.call.NodeCall.TheVariants.{Shard as of_shard};
 ghost use Rattle.calls.specs.declared.call.ShardCall.TheVariants.{Checkpoint as checkpoint_call, Flush as flush_call};
 
-use crate::landings::Landings;
-use crate::spinning::lock_soon;
-use crate::waiting::{Lands, landed, lock_here};
+use crate::landings::{ANY, Landings};
+use crate::spinning::{lock_soon, read_soon, write_soon};
+use crate::waiting::{Lands, awaited};
 use crate::{Flight, Launch, LaunchLog, Restart, ShardPlace};
 use calls::{Reply, Told};
 use device::Device;
 use published::Published;
 use sides::Room;
 use std::alloc::Global;
-use std::sync::{Mutex, MutexGuard, Wait};
+use std::sync::{Mutex, RwLock, RwLockReadGuard, RwLockWriteGuard, Wait};
 use tuples::Refusal;
 
-/// A shard under its lock, which nobody holds while its devices sync; and whoever waits for these to land.
+/// A shard under its lock, which nobody holds while its devices sync, and many may hold to read; and whoever waits for these to land.
 #[derive(Drop)]
 pub struct ShardCell<D: Device, B: Room> {
-    place: Mutex<ShardPlace<D, B>>,
+    place: RwLock<ShardPlace<D, B>>,
     landings: Landings,
 }
 
@@ -28,14 +28,47 @@ impl<D: Device, B: Room> ShardCell<D, B> {
     /// Nobody waits for it yet.
     pub fn new(place: ShardPlace<D, B>) -> ShardCell<D, B> {
         ShardCell {
-            place: Mutex::new(place),
+            place: RwLock::new(place),
             landings: Landings::new(),
         }
     }
 
     /// The shard, locked.
-    pub fn lock<'a, R: Wait>(&'a self, rt: &R) -> MutexGuard<'a, ShardPlace<D, B>> {
-        lock_soon(rt, &self.place)
+    pub fn lock<'a, R: Wait>(&'a self, rt: &R) -> RwLockWriteGuard<'a, ShardPlace<D, B>> {
+        write_soon(rt, &self.place)
+    }
+
+    /// The shard to read, while others may read too, and nobody changes it.
+    pub fn read<'a, R: Wait>(&'a self, rt: &R) -> RwLockReadGuard<'a, ShardPlace<D, B>> {
+        read_soon(rt, &self.place)
+    }
+
+    // Locked as it is, or else again, once the flight of this number has landed or its devices are here. Where it has landed, others may wait for it still: the
+    // caller passes it on to them.
+    fn landed<'a, R: Wait>(
+        &'a self,
+        rt: &R,
+        place: RwLockWriteGuard<'a, ShardPlace<D, B>>,
+        ticket: u64,
+    ) -> RwLockWriteGuard<'a, ShardPlace<D, B>> {
+        let mut place = place;
+        for _ in rt.forever() {
+            let Some((flight, seen)) = awaited(&*place, &self.landings, ticket) else {
+                return place;
+            };
+            drop(place);
+            self.landings.wait(rt, flight, seen);
+            place = self.lock(rt);
+        }
+        unreachable!()
+    }
+
+    // Locked, once its devices are here.
+    fn lock_here<'a, R: Wait>(&'a self, rt: &R) -> RwLockWriteGuard<'a, ShardPlace<D, B>> {
+        let place = self.landed(rt, self.lock(rt), ANY);
+        // It may have been woken in the place of another, who would sleep for ever where no flight leaves behind it.
+        self.landings.tell_all();
+        place
     }
 
     // The next flight, which leaves now; or what is told of a flush, once all that is staged now has landed, or where nothing can leave.
@@ -52,14 +85,14 @@ impl<D: Device, B: Room> ShardCell<D, B> {
     {
         let place = self.lock(rt);
         let ticket = place.ticket();
-        let mut place = landed(rt, &self.place, &self.landings, place, ticket);
+        let mut place = self.landed(rt, place, ticket);
         if place.has_landed(ticket) {
             let reply = place.tell_flushed(told);
             drop(place);
             self.landings.pass_on(ticket);
             return Err(reply);
         }
-        let flight = place.launch(launches, &mut lock_soon(rt, log));
+        let flight = place.launch(rt, launches, &mut lock_soon(rt, log));
         match flight {
             Some(flight) => Ok(flight),
             None => {
@@ -87,7 +120,7 @@ impl<D: Device, B: Room> ShardCell<D, B> {
         let flown = flight.fly();
         let mut place = self.lock(rt);
         // No other flight can have its devices.
-        let _ = place.land(launches, flown);
+        let _ = place.land(rt, launches, flown);
         let next = place.ticket();
         let reply = place.tell_flushed(told);
         drop(place);
@@ -119,7 +152,7 @@ impl<D: Device, B: Room> ShardCell<D, B> {
         ensures told { Notes told.old result told.new }
     {
         for _ in rt.forever() {
-            let mut place = lock_here(rt, &self.place, &self.landings);
+            let mut place = self.lock_here(rt);
             if let Some(reply) = place.checkpoint(told) {
                 return reply;
             }
@@ -130,7 +163,7 @@ impl<D: Device, B: Room> ShardCell<D, B> {
     /// Opens it again, once its devices are here. The refusal of its opening, where that was refused.
     pub fn restart<R: Wait>(&self, rt: &R, alloc: Global) -> Option<Refusal> {
         for _ in rt.forever() {
-            let mut place = lock_here(rt, &self.place, &self.landings);
+            let mut place = self.lock_here(rt);
             match place.restart(alloc) {
                 Restart::IsUp => return None,
                 Restart::IsRefused(refusal) => return Some(refusal),

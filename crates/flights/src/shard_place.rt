@@ -1,7 +1,8 @@
 // What lies under the lock of a shard.
-ghost use Rattle.std.specs.Prelude.{◌≡◌, ◌<◌, false};
+ghost use Rattle.std.specs.Prelude.{◌≡◌, ◌<◌, true, false};
 ghost use Rattle.calls.specs.Asking.{MayAskShard};
 ghost use Rattle.calls.specs.Belonging.{IsReplyTo};
+ghost use Rattle.calls.specs.Reading.{is_read};
 ghost use Rattle.calls.specs.Refusing.{Notes};
 ghost use Rattle.calls.specs.declared.call.NodeCall.TheVariants.{Shard as of_shard};
 ghost use Rattle.flow_ties.specs.Cares.{HandsOver};
@@ -13,16 +14,17 @@ ghost use Rattle.flights.specs.Places.{HasOpened, PlaceAnswers, bank_len_at, is_
 
 use crate::Launch;
 use crate::berth::Berth;
-use crate::serving::{serve_here, serve_out};
+use crate::serving::{look, serve_here, serve_out};
 use away::Away;
 use calls::{Reply, ShardCall, Told};
 use device::Device;
 use journal::BatchRoom;
-use published::{Published, SessionPass};
+use published::{Published, SessionPass, SharedPass};
 use records::Identity;
 use sides::{Room, ShardSide};
 use std::alloc::Global;
 use std::marker::Model;
+use std::sync::Wait;
 use tuples::Entry;
 
 /// A shard, whose devices are here or on a flight.
@@ -30,7 +32,7 @@ use tuples::Entry;
 pub struct ShardPlace<D: Device, B: Room> {
     // moved only within a call
     pub(crate) berth: Option<Berth<ShardSide<D, B>, ShardSide<Away<D>, B>>>,
-    pub(crate) pass: SessionPass<Launch>,
+    pub(crate) pass: SharedPass<Launch>,
     // how many of its flights have left
     pub(crate) flights: u64,
 }
@@ -54,7 +56,7 @@ impl<D: Device, B: Room> ShardPlace<D, B> {
         a: D,
         b: D,
         me: Identity,
-        pass: SessionPass<Entry>,
+        pass: SharedPass<Entry>,
         room: BatchRoom,
         launches: SessionPass<Launch>,
     ) -> ShardPlace<D, B>
@@ -68,7 +70,7 @@ impl<D: Device, B: Room> ShardPlace<D, B> {
         let side = ShardSide::open(alloc, a, b, me, pass);
         ShardPlace {
             berth: Some(Berth::Here(side, room)),
-            pass: launches,
+            pass: SharedPass::new(launches),
             flights: 0,
         }
     }
@@ -95,9 +97,10 @@ impl<D: Device, B: Room> ShardPlace<D, B> {
         }
     }
 
-    /// Makes a call that is no flush, wherever its devices are. What it tells of the list is of what the caller's pass has seen then.
-    pub fn ask(
+    /// Makes a call that is no flush and no read, wherever its devices are. What it tells of the list is of what the caller's pass has seen then.
+    pub fn ask<R: Wait>(
         &mut self,
+        rt: &R,
         words: &Published<Entry>,
         pass: &mut SessionPass<Entry>,
         told: &mut Told,
@@ -107,6 +110,7 @@ impl<D: Device, B: Room> ShardPlace<D, B> {
         requires owed { MayAskShard B.shards (number_at self.old) call }
         requires hands { B.rests → HandsOver pass.old.seen pass.old.horizon (of_shard (number_at self.old) call) }
         requires no_flush { is_flush call ≡ false }
+        requires no_read { is_read call ≡ false }
         ensures answers { PlaceAnswers D.state D.honest D.moment D.left_since self.old call result self.new }
         ensures belongs { IsReplyTo (of_shard (number_at self.old) call) result }
         ensures number { number_at self.new ≡ number_at self.old }
@@ -115,8 +119,32 @@ impl<D: Device, B: Room> ShardPlace<D, B> {
         ensures told { Notes told.old result told.new }
     {
         match &mut self.berth {
-            Some(Berth::Here(side, _)) => serve_here(words, side, pass, told, call),
-            Some(Berth::Out(side, _)) => serve_out(words, side, pass, told, call),
+            Some(Berth::Here(side, _)) => serve_here(rt, words, side, pass, told, call),
+            Some(Berth::Out(side, _)) => serve_out(rt, words, side, pass, told, call),
+            None => unreachable!(),
+        }
+    }
+
+    /// Makes a read, wherever its devices are: it stays as it is, and others may read meanwhile. Rows are of the list that the caller's pass has seen then.
+    pub fn look<R: Wait>(
+        &self,
+        rt: &R,
+        words: &Published<Entry>,
+        pass: &mut SessionPass<Entry>,
+        told: &mut Told,
+        call: ShardCall,
+    ) -> Reply
+        requires own { (words.now ≡ B.log) × (pass.old.table ≡ B.log) }
+        requires reads { is_read call ≡ true }
+        ensures answers { PlaceAnswers D.state D.honest D.moment D.left_since self.now call result self.now }
+        ensures belongs { IsReplyTo (of_shard (number_at self.now) call) result }
+        ensures caller { IsLater pass.old pass.new }
+        ensures tells { B.rests → IsTold B.shards pass.new.seen (of_shard (number_at self.now) call) result }
+        ensures told { Notes told.old result told.new }
+    {
+        match &self.berth {
+            Some(Berth::Here(side, _)) => look(rt, words, side, pass, told, call),
+            Some(Berth::Out(side, _)) => look(rt, words, side, pass, told, call),
             None => unreachable!(),
         }
     }

@@ -1,7 +1,7 @@
-// A lock that is held for a few microseconds at a time.
-use std::sync::{Mutex, MutexGuard, Wait};
+// Locks that are held for a few microseconds at a time.
+use std::sync::{Mutex, MutexGuard, RwLock, RwLockReadGuard, RwLockWriteGuard, Wait};
 
-// How often it is tried before its caller sleeps. A try takes five to twenty nanoseconds; who sleeps waits for a processor behind it, and each hold that ends
+// How often one is tried before its caller sleeps. A try takes five to twenty nanoseconds; who sleeps waits for a processor behind it, and each hold that ends
 // meanwhile costs a call of the system.
 const TRIES: u32 = 200;
 
@@ -13,4 +13,24 @@ pub(crate) fn lock_soon<'a, T, R: Wait>(rt: &R, mutex: &'a Mutex<T>) -> MutexGua
         }
     }
     mutex.lock(rt)
+}
+
+/// What lies under the lock, while others may read it too.
+pub(crate) fn read_soon<'a, T, R: Wait>(rt: &R, lock: &'a RwLock<T>) -> RwLockReadGuard<'a, T> {
+    for _ in 0..TRIES {
+        if let Some(guard) = lock.try_read() {
+            return guard;
+        }
+    }
+    lock.read(rt)
+}
+
+/// What lies under the lock, for nobody else.
+pub(crate) fn write_soon<'a, T, R: Wait>(rt: &R, lock: &'a RwLock<T>) -> RwLockWriteGuard<'a, T> {
+    for _ in 0..TRIES {
+        if let Some(guard) = lock.try_write() {
+            return guard;
+        }
+    }
+    lock.write(rt)
 }

@@ -1,7 +1,5 @@
 // Who waits at the lock of a node for its devices to land.
-use crate::landings::{ANY, Landings};
-use crate::spinning::lock_soon;
-use std::sync::{Mutex, MutexGuard, Wait};
+use crate::landings::Landings;
 
 /// What lies under the lock of a node, whose flights are numbered from 1 on.
 pub(crate) trait Lands {
@@ -15,38 +13,13 @@ pub(crate) trait Lands {
     fn is_out(&self) -> bool;
 }
 
-/// Locked as it is, or else again, once the flight of this number has landed or its devices are here. Where it has landed, others may wait for it still: the
-/// caller passes it on to them.
-pub(crate) fn landed<'a, P: Lands, R: Wait>(
-    rt: &R,
-    node: &'a Mutex<P>,
-    landings: &Landings,
-    place: MutexGuard<'a, P>,
-    ticket: u64,
-) -> MutexGuard<'a, P> {
-    let mut place = place;
-    for _ in rt.forever() {
-        if place.has_landed(ticket) || !place.is_out() {
-            return place;
-        }
-        // Whoever lands tells of it behind the lock, so no landing since is missed.
-        let awaited = ticket.min(place.ticket());
-        let seen = landings.seen(awaited);
-        drop(place);
-        landings.wait(rt, awaited, seen);
-        place = lock_soon(rt, node);
+/// For who wants the flight of this number to have landed, or the devices to be here: which flight to wait for, without the lock, and what was told so far of it.
+/// None where it has landed, or they are here.
+pub(crate) fn awaited<P: Lands>(place: &P, landings: &Landings, ticket: u64) -> Option<(u64, u64)> {
+    if place.has_landed(ticket) || !place.is_out() {
+        return None;
     }
-    unreachable!()
-}
-
-/// Locked, once its devices are here.
-pub(crate) fn lock_here<'a, P: Lands, R: Wait>(
-    rt: &R,
-    node: &'a Mutex<P>,
-    landings: &Landings,
-) -> MutexGuard<'a, P> {
-    let place = landed(rt, node, landings, lock_soon(rt, node), ANY);
-    // It may have been woken in the place of another, who would sleep for ever where no flight leaves behind it.
-    landings.tell_all();
-    place
+    // Whoever lands tells of it behind the lock, so no landing since is missed.
+    let flight = ticket.min(place.ticket());
+    Some((flight, landings.seen(flight)))
 }

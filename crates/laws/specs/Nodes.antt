@@ -7,6 +7,7 @@ use Rattle.refusal.specs.declared.refusal.Refusal.TheVariants.{Down, NoMemory, F
 use Rattle.records.specs.declared.record.Record.{Record}
 use Rattle.records.specs.declared.record.Record.TheVariants.{Epoch}
 use Rattle.records.specs.Coordinators.{CoordinatorState, IsCoordinatorImage, coordinator_state, end_of}
+use Rattle.records.specs.Identity.{coordinator_number}
 use Rattle.records.specs.Replays.{Identity, IsShardImage, ShardState, shard_state}
 use Rattle.replay.specs.Alike.{IsAlike}
 use Rattle.laws.specs.Worlds.{WithStaged}
@@ -76,7 +77,7 @@ NodeTurns n old new = (new ≡ old) ⊎ (StagesMore old new ⊎ (FlushesAll n ol
 
 -- the record of the opening of this node of the store, and how often the node was opened by its records
 abbrev pub opening_record : ℕ → ℕ → NodeName → ℕ → Record
-opening_record store shards coordinator epoch = Epoch epoch store shards 255
+opening_record store shards coordinator epoch = Epoch epoch store shards coordinator_number
 opening_record store shards (shard s) epoch = Epoch epoch store shards s
 
 abbrev pub epoch_of : NodeName → List Record → ℕ

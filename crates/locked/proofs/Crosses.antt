@@ -1,9 +1,12 @@
 -- What lies under the lock of a node may go to another thread with its devices: shown part by part, since a search from above runs out of steps.
 use denote.RattleType.{RattleType}
-use denote.Param.Send.{IsSend, sendable}
+use denote.Struct.Declared as declared
+use denote.Param.Send.{AllSend, IsSend, recorded_send, sendable, struct_send}
 use Rattle.std.proofs.Crossing.{crosses}
 use Rattle.std.proofs.MapsCrossing.{crosses as maps_cross}
 use Rattle.std.proofs.MapsCrossingOver.{crosses as sets_cross}
+use Rattle.std.proofs.sync.RwLock.TheSendSync as lock
+use Rattle.atomic_table.proofs.perch.Perch.TheSendSync as perch
 use Rattle.atomic_table.proofs.shared.Seat.TheSendSync as seat
 use Rattle.tuples.specs.contracts.entry.Entry as Entry
 use Rattle.tuples.specs.contracts.entry.WriteId as WriteId
@@ -22,12 +25,14 @@ use Rattle.shard.specs.contracts.staged_ids.StagedIds as StagedIds
 use Rattle.shard.specs.contracts.shard.Shard as Shard
 use Rattle.coordinator.specs.contracts.coordinator.Coordinator as Coordinator
 use Rattle.calls.specs.contracts.node.Node as Node
-use Rattle.published.specs.contracts.pass.SessionPass as SessionPass
+use Rattle.published.specs.contracts.shared.SharedPass as SharedPass
 use Rattle.sides.specs.declared.room.Room as Room
 use Rattle.sides.specs.contracts.shard_side.ShardSide as ShardSide
 use Rattle.sides.specs.contracts.coordinator_side.CoordinatorSide as CoordinatorSide
 use Rattle.flights.specs.contracts.berth.Berth as Berth
 use Rattle.flights.specs.contracts.coordinator_place.CoordinatorPlace as CoordinatorPlace
+use Rattle.flights.specs.contracts.landings.Landings as Landings
+use Rattle.flights.specs.contracts.shard_cell.ShardCell as ShardCell
 use Rattle.flights.specs.contracts.shard_place.ShardPlace as ShardPlace
 
 -- ---- what no device is in
@@ -62,8 +67,8 @@ staged = search (sendable, crosses, maps_cross, sets_cross) depth 400 fits 50000
 ledger : IsSend Ledger.the_row
 ledger = search (sendable, crosses, maps_cross, sets_cross) depth 400 fits 50000
 
-session : IsSend (SessionPass.the_row Entry.the_row)
-session = search (sendable, crosses, maps_cross, sets_cross, seat.the_send) depth 400 fits 50000
+pass : IsSend (SharedPass.the_row Entry.the_row)
+pass = search (sendable, crosses, maps_cross, sets_cross, perch.the_send) depth 400 fits 50000
 
 -- ---- nodes
 
@@ -83,7 +88,7 @@ module _ (D : RattleType) (g : Device.Ghosts D.Denot) (d : IsSend D) where
 -- ---- what lies under a lock
 
 pub side_send : (D B : RattleType) (g : Device.Ghosts D.Denot) (h : Room.Ghosts B.Denot) → IsSend D → IsSend B → IsSend (ShardSide.the_row D B g h)
-side_send D B g h d b = let n = node_send D g d in let e = session in let f = identity in search (sendable, crosses, maps_cross, sets_cross) depth 400 fits 50000
+side_send D B g h d b = let n = node_send D g d in let e = pass in let f = identity in search (sendable, crosses, maps_cross, sets_cross) depth 400 fits 50000
 
 log_send : (D B : RattleType) (g : Device.Ghosts D.Denot) (h : Room.Ghosts B.Denot) → IsSend D → IsSend B → IsSend (CoordinatorSide.the_row D B g h)
 log_send D B g h d b = let n = node_send D g d in let e = identity in search (sendable, crosses, maps_cross, sets_cross, seat.the_send) depth 400 fits 50000
@@ -99,7 +104,15 @@ place_send D B g h d b =
     let here = side_send D B g h d b in
     let out = side_send (Away.the_row D) B (away.ghosts D g away.no_dict away.no_dict) h (away_send D d) b in
     let berth = berth_send _ _ here out in
-    search (sendable, crosses, maps_cross, sets_cross, seat.the_send) depth 400 fits 50000
+    search (sendable, crosses, maps_cross, sets_cross, perch.the_send) depth 400 fits 50000
+
+landings : IsSend (Landings.the_field).row
+landings = search (sendable, crosses, maps_cross, sets_cross) depth 400 fits 50000
+
+pub cell_send : (D B : RattleType) (g : Device.Ghosts D.Denot) (h : Room.Ghosts B.Denot) → IsSend D → IsSend B → IsSend (ShardCell.the_row D B g h)
+cell_send D B g h d b =
+    let all : AllSend (declared.fields (ShardCell.the_type D B g h)) = (lock.the_field_send (ShardPlace.the_row D B g h) (place_send D B g h d b), (landings, tt)) in
+    recorded_send _ _ _ (ShardCell.the_type D B g h).to_one (struct_send (declared.shape (ShardCell.the_type D B g h)) all)
 
 pub log_place_send : (D B : RattleType) (g : Device.Ghosts D.Denot) (h : Room.Ghosts B.Denot) → IsSend D → IsSend B → IsSend (CoordinatorPlace.the_row D B g h)
 log_place_send D B g h d b =

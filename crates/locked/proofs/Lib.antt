@@ -14,4 +14,5 @@ mod WriteTurns
 mod NoFlush
 pub mod NewDevices
 pub mod Crosses
+mod Looked
 pub mod Shared

@@ -27,10 +27,10 @@ use Rattle.sides.specs.contracts.attempts.Attempt as Attempt
 use Rattle.flights.specs.contracts.launch.Launch as Launch
 use Rattle.flights.specs.contracts.launch.LaunchLog as LaunchLog
 use Rattle.flights.specs.contracts.coordinator_cell.CoordinatorCell as CoordinatorCell
-use Rattle.flights.specs.contracts.shard_cell.ShardCell as ShardCell
 use Rattle.locked.specs.contracts.caller.Caller as Caller
 use Rattle.locked.specs.contracts.store.Store as Store
-use Rattle.locked.proofs.Crosses.{log_place_send, place_send}
+use Rattle.locked.proofs.Crosses.{log_place_send}
+use Rattle.locked.proofs.Looked.{cell_sync}
 
 -- at the heap, since a search finds no allocator's ghost members in a row
 list_send : (T : RattleType) → IsSend T → IsSend (Nodes.the_row T Heap.the_row ghosts)
@@ -143,16 +143,13 @@ attempts_sync = let a = attempt_send in let b = attempt_sync in search (lease_sy
 launch_log_send : (B : RattleType) (h : Room.Ghosts B.Denot) → IsSend B → IsSend (LaunchLog.the_row B h)
 launch_log_send B h b = let a = launch_send in search (sendable, crosses, maps_cross, sets_cross, seat.the_send) depth 400 fits 50000
 
-cell_sync : (D B : RattleType) (g : Device.Ghosts D.Denot) (h : Room.Ghosts B.Denot) → IsSend D → IsSend B → IsSync (ShardCell.the_row D B g h)
-cell_sync D B g h d b = let p = place_send D B g h d b in search (sendable, crosses, maps_cross, sets_cross) depth 400 fits 50000
-
 log_cell_sync : (D B : RattleType) (g : Device.Ghosts D.Denot) (h : Room.Ghosts B.Denot) → IsSend D → IsSend B → IsSync (CoordinatorCell.the_row D B g h)
 log_cell_sync D B g h d b = let p = log_place_send D B g h d b in search (sendable, crosses, maps_cross, sets_cross) depth 400 fits 50000
 
-pub store_sync : (D B G : RattleType) (g : Device.Ghosts D.Denot) (h : Room.Ghosts B.Denot) → IsSend D → IsSend B → IsSync G → IsSync (Store.the_row D B G g h)
-store_sync D B G g h d b y =
+pub store_sync : (D B G : RattleType) (g : Device.Ghosts D.Denot) (h : Room.Ghosts B.Denot) → IsSend D → IsSync D → IsSend B → IsSync B → IsSync G → IsSync (Store.the_row D B G g h)
+store_sync D B G g h d e b c y =
     let n = log_place_send D B g h d b in
-    let p = place_send D B g h d b in
+    let p = cell_sync D B g h d e b c in
     let l = launch_log_send B h b in
     let es = entry_send in
     let ey = entry_sync in

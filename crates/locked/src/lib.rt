@@ -1,5 +1,5 @@
 //! A store that callers share: each of its nodes under a lock of its own, and one call of a node under one hold, but for a flush, whose devices sync without
-//! the lock.
+//! the lock. Reads of a shard hold its lock side by side.
 //!
 //! Keeps: what a caller has seen of the list it sees behind each call, and so do all whom it tells; and which decisions are its own it knows from one call to
 //! the next, whoever is let in between.

@@ -1,7 +1,8 @@
 // One call of one node, under one hold of its lock; a flush is made without it, and a checkpoint once its devices are here.
-ghost use Rattle.std.specs.Prelude.{◌≡◌, false};
+ghost use Rattle.std.specs.Prelude.{◌≡◌, true, false};
 ghost use Rattle.calls.specs.Asking.{MayAskCoordinator, MayAskShard};
 ghost use Rattle.calls.specs.Belonging.{IsOwed};
+ghost use Rattle.calls.specs.Reading.{is_read};
 ghost use Rattle.calls.specs.Refusing.{Notes};
 ghost use Rattle.calls.specs.declared.call.NodeCall.TheVariants.{Coordinator as of_coordinator, Shard as of_shard};
 ghost use Rattle.flights.specs.LogPlaces.{HasCount, TellsWriters, is_log_flush, tried_at};
@@ -41,8 +42,9 @@ fn serve_coordinator<D: Device, B: Room>(
     place.ask(words, attempts, pass, tried, told, call)
 }
 
-// Makes a call of the shard that is no flush, under its lock.
-fn serve_shard<D: Device, B: Room>(
+// Makes a call of the shard that is no flush and no read, under its lock.
+fn serve_shard<D: Device, B: Room, R: Wait>(
+    rt: &R,
     words: &Published<Entry>,
     place: &mut ShardPlace<D, B>,
     pass: &mut SessionPass<Entry>,
@@ -53,10 +55,28 @@ fn serve_shard<D: Device, B: Room>(
     requires owed { MayAskShard B.shards (number_at place.old) call }
     requires hands { B.rests → HandsOver pass.old.seen pass.old.horizon (of_shard (number_at place.old) call) }
     requires no_flush { is_flush call ≡ false }
+    requires no_read { is_read call ≡ false }
     ensures serves { Serves B.rests B.shards pass.old pass.new (of_shard (number_at place.old) call) result }
     ensures told { Notes told.old result told.new }
 {
-    place.ask(words, pass, told, call)
+    place.ask(rt, words, pass, told, call)
+}
+
+// Makes a read of the shard, while others may read it too.
+fn look_at_shard<D: Device, B: Room, R: Wait>(
+    rt: &R,
+    words: &Published<Entry>,
+    place: &ShardPlace<D, B>,
+    pass: &mut SessionPass<Entry>,
+    told: &mut Told,
+    call: ShardCall,
+) -> Reply
+    requires own { (words.now ≡ B.log) × (pass.old.table ≡ B.log) }
+    requires reads { is_read call ≡ true }
+    ensures serves { Serves B.rests B.shards pass.old pass.new (of_shard (number_at place.now) call) result }
+    ensures told { Notes told.old result told.new }
+{
+    place.look(rt, words, pass, told, call)
 }
 
 impl<D: Device, B: Room, G: Gate> Store<D, B, G> {
@@ -102,8 +122,8 @@ impl<D: Device, B: Room, G: Gate> Store<D, B, G> {
         }
     }
 
-    // Makes the call of this shard: a flush without its lock, a checkpoint once its devices are here. One that is not there answers that the caller is
-    // damaged.
+    // Makes the call of this shard: a read beside others, a flush without its lock, a checkpoint once its devices are here. One that is not there answers that the
+    // caller is damaged.
     fn make_at<R: Wait>(
         &self,
         rt: &R,
@@ -121,6 +141,10 @@ impl<D: Device, B: Room, G: Gate> Store<D, B, G> {
         if shard >= self.count {
             return refuse(Refusal::Damaged, NodeCall::Shard(shard, call));
         }
+        if call.is_read() {
+            let place = self.side_to_read(rt, shard);
+            return look_at_shard(rt, &self.words, &place, pass, told, call);
+        }
         match call {
             ShardCall::Flush => {
                 self.shards[shard as usize].flush(rt, &self.launches, &self.launch_log, told)
@@ -128,7 +152,7 @@ impl<D: Device, B: Room, G: Gate> Store<D, B, G> {
             ShardCall::Checkpoint => self.shards[shard as usize].checkpoint(rt, told),
             call => {
                 let mut place = self.side(rt, shard);
-                serve_shard(&self.words, &mut place, pass, told, call)
+                serve_shard(rt, &self.words, &mut place, pass, told, call)
             }
         }
     }

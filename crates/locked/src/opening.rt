@@ -11,7 +11,7 @@ use flights::{
     ClosedShard, CoordinatorCell, CoordinatorPlace, Launch, LaunchLog, ShardCell, Tried,
 };
 use journal::BatchRoom;
-use published::{LogPass, Published};
+use published::{LogPass, Published, SharedPass};
 use records::Identity;
 use sides::{Attempt, CoordinatorSide, Room};
 use std::alloc::{AllocError, Global};
@@ -112,7 +112,8 @@ fn next_shard<D: Device, B: Room>(
     ensures same { coordinator.new ≡ coordinator.old }
 {
     let (a, b) = take_two(devices);
-    let pass = coordinator.session(ground.words);
+    let seen = coordinator.session(ground.words);
+    let pass = SharedPass::new(seen);
     let me = Identity::shard(ground.store, ground.shards, shard);
     let known = launch_log.session(ground.launches);
     ClosedShard::new(ground.alloc, a, b, me, pass, room, known)

@@ -10,6 +10,7 @@ use names::{Care, NodeName};
 use sides::Room;
 use std::alloc::Global;
 use std::sync::Wait;
+use tuples::MAX_SHARDS;
 
 // No bank has to be shorter than this. An opening replays as much in a fraction of a second.
 const LEAST_LIMIT: u64 = 2_097_152;
@@ -33,7 +34,7 @@ fn limit_behind(length: u64) -> u64
 #[derive(Drop)]
 pub(crate) struct Limits {
     coordinator: u64,
-    shards: [u64; 256],
+    shards: [u64; MAX_SHARDS as usize],
 }
 
 impl Limits {
@@ -41,7 +42,7 @@ impl Limits {
     pub(crate) fn new() -> Limits {
         Limits {
             coordinator: LEAST_LIMIT,
-            shards: [LEAST_LIMIT; 256],
+            shards: [LEAST_LIMIT; MAX_SHARDS as usize],
         }
     }
 }
@@ -82,7 +83,7 @@ impl<D: Device, B: Room, G: Gate> Store<D, B, G> {
         rt: &R,
         alloc: Global,
         caller: &mut Caller<B>,
-        limits: &mut [u64; 256],
+        limits: &mut [u64; MAX_SHARDS as usize],
     )
         ensures caller { IsLater caller.old caller.new }
     {

@@ -1,6 +1,6 @@
 // The store: its words, and each node under a lock of its own.
 ghost use Rattle.std.specs.Prelude.{◌≡◌, ◌≤◌, ◌<◌, length, vec_len};
-ghost use Rattle.std.specs.Sync.Mutex.{mutex_guard_value};
+ghost use Rattle.std.specs.Sync.RwLock.{read_guard_value, write_guard_value};
 ghost use Rattle.records.specs.Identity.{max_shards};
 ghost use Rattle.flights.specs.Places.{number_at};
 ghost use Rattle.sides.specs.Sides.{IsLater};
@@ -14,7 +14,7 @@ use published::Published;
 use sides::{Attempt, Room};
 use std::alloc::Global;
 use std::sync::atomic::AtomicBool;
-use std::sync::{Mutex, MutexGuard, Wait};
+use std::sync::{Mutex, RwLockReadGuard, RwLockWriteGuard, Wait};
 use tuples::{Entry, Refusal};
 
 /// A store that callers share.
@@ -89,12 +89,34 @@ impl<D: Device, B: Room, G: Gate> Store<D, B, G> {
     }
 
     // The shard of this number, locked.
-    pub(crate) fn side<'a, R: Wait>(&'a self, rt: &R, shard: u8) -> MutexGuard<'a, ShardPlace<D, B>>
+    pub(crate) fn side<'a, R: Wait>(
+        &'a self,
+        rt: &R,
+        shard: u8,
+    ) -> RwLockWriteGuard<'a, ShardPlace<D, B>>
         requires { shard < self.now.count }
-        ensures { number_at (mutex_guard_value result) ≡ shard }
+        ensures { number_at (write_guard_value result) ≡ shard }
     {
         for _ in rt.forever() {
             let place = self.shards[shard as usize].lock(rt);
+            if place.number() == shard {
+                return place;
+            }
+        }
+        unreachable!()
+    }
+
+    // The shard of this number, to read: others may read it too.
+    pub(crate) fn side_to_read<'a, R: Wait>(
+        &'a self,
+        rt: &R,
+        shard: u8,
+    ) -> RwLockReadGuard<'a, ShardPlace<D, B>>
+        requires { shard < self.now.count }
+        ensures { number_at (read_guard_value result) ≡ shard }
+    {
+        for _ in rt.forever() {
+            let place = self.shards[shard as usize].read(rt);
             if place.number() == shard {
                 return place;
             }

@@ -1,11 +1,12 @@
 // The two words, and the calls on them.
 ghost use Rattle.std.specs.Prelude.{◌≡◌, ◌≤◌, ◌+◌, ◌++◌, ◌<◌, [], length, max, IfOk};
 ghost use mathlib.Core.List.{IsPrefix};
+ghost use Rattle.published.specs.Tells.{note};
 
 use crate::pass::{LogPass, SessionPass};
 use crate::rule::{OneList, View};
 use crate::steps::{Adds, Advances, LoadsHorizon, LoadsPlace, Notes, Raises};
-use atomic_table::Table;
+use atomic_table::{Seat, Table};
 use std::alloc::{AllocError, Global};
 use std::marker::Model;
 
@@ -188,6 +189,15 @@ impl<W> Published<W> {
         self.learn(other, note);
     }
 
+    // A seat that knows what this one does.
+    pub(crate) fn copy(&self, seat: &mut Seat<(), View<W>>) -> Seat<(), View<W>>
+        requires { seat.old.table_id ≡ self.now }
+        ensures same { (seat.new.table_id ≡ seat.old.table_id) × (seat.new.me ≡ seat.old.me) }
+        ensures copy { (result.table_id ≡ seat.old.table_id) × (result.me ≡ (note seat.old.me.0, [])) }
+    {
+        self.table.shared.split_seat::<Notes>(seat)
+    }
+
     // A new pass, which has seen what this pass has.
     fn note(&self, pass: &mut SessionPass<W>) -> SessionPass<W>
         requires { pass.old.table ≡ self.now }
@@ -199,7 +209,7 @@ impl<W> Published<W> {
     }
 
     // The pass learns what the note has seen, by one load.
-    fn learn(&self, pass: &mut SessionPass<W>, note: SessionPass<W>)
+    pub(crate) fn learn(&self, pass: &mut SessionPass<W>, note: SessionPass<W>)
         requires { (pass.old.table ≡ self.now) × (note.table ≡ self.now) }
         ensures same { pass.new.table ≡ pass.old.table }
         ensures seen { IsPrefix pass.old.seen pass.new.seen }

@@ -88,7 +88,7 @@ fn found_in(devices: &[FileDevice<HostFile>]) -> u64 {
 /// Opens the store over its devices, in which so many bytes were found, and serves it as `serve` does. Where the devices rest at the room's first list, all that sessions answer is said of that
 /// list and of what joins it; no other premise is taken. Of a list at which they rest the coordinator's devices have what is behind its base, which is the
 /// whole of it before its first checkpoint.
-pub fn serve_over<D: Device + Send, B: Room + Send + Sync, G: Gate + Sync, R>(
+pub fn serve_over<D: Device + Send + Sync, B: Room + Send + Sync, G: Gate + Sync, R>(
     rt: &R,
     alloc: Global,
     settings: &ServeSettings,
@@ -136,7 +136,7 @@ where
 }
 
 // The same, while another thread tells how long the opening takes.
-fn open_and_serve<D: Device + Send, B: Room + Send + Sync, G: Gate + Sync, R>(
+fn open_and_serve<D: Device + Send + Sync, B: Room + Send + Sync, G: Gate + Sync, R>(
     rt: &R,
     alloc: Global,
     settings: &ServeSettings,

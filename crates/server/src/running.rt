@@ -26,7 +26,7 @@ use std::time::{Clock, Instant};
 use tuples::Refusal;
 
 /// Looks the store over that was begun to be opened then, binds the address, and serves. Its first caller knows what was found in its devices. The status.
-pub(crate) fn serve_store<D: Device + Send, B: Room + Send + Sync, G: Gate + Sync, R>(
+pub(crate) fn serve_store<D: Device + Send + Sync, B: Room + Send + Sync, G: Gate + Sync, R>(
     rt: &R,
     alloc: Global,
     store: &Store<D, B, G>,
@@ -166,7 +166,7 @@ fn serving_of(settings: &ServeSettings) -> Serving
 }
 
 // Serves those who connect, while another thread tends the store. Where a thread can't be made the server ends, and has not said that it is ready.
-fn serve_at<D: Device + Send, B: Room + Send + Sync, G: Gate + Sync, R>(
+fn serve_at<D: Device + Send + Sync, B: Room + Send + Sync, G: Gate + Sync, R>(
     rt: &R,
     alloc: Global,
     store: &Store<D, B, G>,

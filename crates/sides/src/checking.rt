@@ -4,17 +4,19 @@ ghost use Rattle.calls.specs.Refusing.{Notes};
 ghost use Rattle.calls.specs.declared.call.ShardCall.TheVariants.{ReadForCheck as check_call};
 ghost use Rattle.sides.specs.Sides.{KnowsBoth, SideAnswers, TellsCheckRows};
 
-use crate::shard_side::ask_shard;
+use crate::shard_side::look_at_shard;
 use crate::{Room, ShardSide};
 use calls::{Reply, ShardCall, Told};
 use device::Device;
 use published::{Published, SessionPass};
+use std::sync::Wait;
 use tuples::{Entry, User, Userset};
 
 impl<D: Device, B: Room> ShardSide<D, B> {
     /// The tuples that a check asks of a userset, about a user, at a place. Rows are those of the list that the caller's pass has seen then.
-    pub fn read_for_check(
-        &mut self,
+    pub fn read_for_check<R: Wait>(
+        &self,
+        rt: &R,
         words: &Published<Entry>,
         pass: &mut SessionPass<Entry>,
         told: &mut Told,
@@ -23,15 +25,14 @@ impl<D: Device, B: Room> ShardSide<D, B> {
         user: User,
     ) -> Reply
         requires own { (words.now ≡ B.log) × (pass.old.table ≡ B.log) }
-        ensures answers { SideAnswers D.state D.honest D.moment D.left_since self.old (check_call place userset user) result self.new }
-        ensures own { KnowsBoth self.old.pass pass.old self.new.pass }
-        ensures caller { KnowsBoth self.old.pass pass.old pass.new }
-        ensures rows { B.rests → TellsCheckRows B.shards self.old.number pass.new.seen place userset user result }
+        ensures answers { SideAnswers D.state D.honest D.moment D.left_since self.now (check_call place userset user) result self.now }
+        ensures caller { KnowsBoth self.now.pass pass.old pass.new }
+        ensures rows { B.rests → TellsCheckRows B.shards self.now.number pass.new.seen place userset user result }
         ensures told { Notes told.old result told.new }
     {
-        self.share(words, pass);
+        self.tell(rt, words, pass);
         let number = self.me.node();
         let call = ShardCall::ReadForCheck(place, userset, user);
-        ask_shard(&mut self.node, number, call, told)
+        look_at_shard(&self.node, number, call, told)
     }
 }

@@ -10,12 +10,14 @@ use calls::{Reply, ShardCall, Told};
 use decisions::Heads;
 use device::Device;
 use published::{Published, SessionPass};
+use std::sync::Wait;
 use tuples::Entry;
 
 impl<D: Device, B: Room> ShardSide<D, B> {
     /// Collects up to a horizon that the caller's pass knows to be reached.
-    pub fn collect(
+    pub fn collect<R: Wait>(
         &mut self,
+        rt: &R,
         words: &Published<Entry>,
         pass: &mut SessionPass<Entry>,
         told: &mut Told,
@@ -28,7 +30,7 @@ impl<D: Device, B: Room> ShardSide<D, B> {
         ensures caller { KnowsBoth self.old.pass pass.old pass.new }
         ensures told { Notes told.old result told.new }
     {
-        self.share(words, pass);
+        self.share(rt, words, pass);
         let number = self.me.node();
         let call = ShardCall::Collect(heads);
         ask_shard(&mut self.node, number, call, told)

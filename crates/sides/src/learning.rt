@@ -11,12 +11,14 @@ use calls::{Reply, ShardCall, Told};
 use decisions::Batch;
 use device::Device;
 use published::{Published, SessionPass};
+use std::sync::Wait;
 use tuples::Entry;
 
 impl<D: Device, B: Room> ShardSide<D, B> {
     /// Learns a batch of the list that the caller's pass has seen.
-    pub fn learn(
+    pub fn learn<R: Wait>(
         &mut self,
+        rt: &R,
         words: &Published<Entry>,
         pass: &mut SessionPass<Entry>,
         told: &mut Told,
@@ -29,7 +31,7 @@ impl<D: Device, B: Room> ShardSide<D, B> {
         ensures caller { KnowsBoth self.old.pass pass.old pass.new }
         ensures told { Notes told.old result told.new }
     {
-        self.share(words, pass);
+        self.share(rt, words, pass);
         let number = self.me.node();
         ask_shard(&mut self.node, number, ShardCall::Learn(batch), told)
     }

@@ -8,7 +8,7 @@ ghost use Rattle.ties.specs.ShardTies.{RowsAnywhere};
 use crate::{Room, ShardSide};
 use calls::Node;
 use device::Device;
-use published::SessionPass;
+use published::SharedPass;
 use records::Identity;
 use std::alloc::Global;
 use std::marker::PhantomData;
@@ -57,13 +57,7 @@ fn restart_shard<D: Device>(
 impl<D: Device, B: Room> ShardSide<D, B> {
     /// Opens a shard over two devices, of which a stop leaves its part of the list that the pass has seen. Both are revived first, and it is up, or
     /// holds the refusal of its opening.
-    pub fn open(
-        alloc: Global,
-        a: D,
-        b: D,
-        me: Identity,
-        pass: SessionPass<Entry>,
-    ) -> ShardSide<D, B>
+    pub fn open(alloc: Global, a: D, b: D, me: Identity, pass: SharedPass<Entry>) -> ShardSide<D, B>
         requires own { pass.table ≡ B.log }
         requires me { me ≡ shard_node B.store B.shards me.node }
         requires shard { me.node < B.shards }

@@ -1,28 +1,31 @@
 // What lies under the lock of a shard.
-ghost use Rattle.std.specs.Prelude.{◌≡◌, ◌<◌};
+ghost use Rattle.std.specs.Prelude.{◌≡◌, ◌<◌, true};
 ghost use Rattle.calls.specs.Belonging.{IsReplyTo};
+ghost use Rattle.calls.specs.Reading.{is_read};
 ghost use Rattle.calls.specs.Refusing.{Notes};
 ghost use Rattle.calls.specs.declared.call.NodeCall.TheVariants.{Shard as of_shard};
 ghost use Rattle.sides.specs.Sides.{AnsweredIn, IsTiedIn, KnowsBoth, MayAskIn, bank_len_in};
 
 use crate::Room;
-use calls::{Node, NodeCall, Reply, ShardCall, Told, ask};
+use calls::{Node, NodeCall, Reply, ShardCall, Told, ask, look};
 use device::Device;
-use published::{Published, SessionPass};
+use published::{Published, SessionPass, SharedPass};
 use records::Identity;
 use std::marker::{Model, PhantomData};
+use std::sync::Wait;
 use tuples::Entry;
 
 /// A shard, and the pass of what it has seen of its store's list.
 ///
 /// Each call of the node is a call here, and leaves it tied to the list. One that needs or tells a fact of the list takes the caller's pass, and
-/// shares first: the shard may then know no less than its caller, and the caller no less than the shard.
+/// shares first: the shard may then know no less than its caller, and the caller no less than the shard. A read tells its caller, and leaves all as it is, so
+/// that several may read at once.
 #[derive(Drop)]
 pub struct ShardSide<D: Device, B: Room> {
     // away only while it is opened again
     pub(crate) node: Option<Node<D>>,
     pub(crate) me: Identity,
-    pub(crate) pass: SessionPass<Entry>,
+    pub(crate) pass: SharedPass<Entry>,
     pub(crate) room: PhantomData<B>,
 }
 
@@ -56,6 +59,25 @@ pub(crate) fn ask_shard<D: Device>(
     }
 }
 
+// Makes the one read, of the node, which is there.
+pub(crate) fn look_at_shard<D: Device>(
+    node: &Option<Node<D>>,
+    number: u8,
+    call: ShardCall,
+    told: &mut Told,
+) -> Reply
+    requires may { MayAskIn number node.now call }
+    requires reads { is_read call ≡ true }
+    ensures answered { AnsweredIn D.state D.honest D.moment D.left_since number node.now call result node.now }
+    ensures belongs { IsReplyTo (of_shard number call) result }
+    ensures told { Notes told.old result told.new }
+{
+    match node {
+        Some(node) => look(node, number, call, told),
+        None => unreachable!(),
+    }
+}
+
 impl<D: Device, B: Room> ShardSide<D, B> {
     /// Its number among the shards.
     pub fn number(&self) -> u8
@@ -84,7 +106,12 @@ impl<D: Device, B: Room> ShardSide<D, B> {
     }
 
     /// The shard's pass and the caller's both know what either knew.
-    pub fn share(&mut self, words: &Published<Entry>, pass: &mut SessionPass<Entry>)
+    pub fn share<R: Wait>(
+        &mut self,
+        rt: &R,
+        words: &Published<Entry>,
+        pass: &mut SessionPass<Entry>,
+    )
         requires own { (words.now ≡ B.log) × (pass.old.table ≡ B.log) }
         ensures same { (self.new.node ≡ self.old.node) × (self.new.number ≡ self.old.number) }
         ensures own { KnowsBoth self.old.pass pass.old self.new.pass }
@@ -93,6 +120,15 @@ impl<D: Device, B: Room> ShardSide<D, B> {
         // To what the caller's pass knows the node is tied as well.
         ensures tied { B.rests → IsTiedIn D.state D.honest B.store B.shards self.new.number self.new.node pass.new }
     {
-        words.share(&mut self.pass, pass);
+        self.pass.share(rt, words, pass);
+    }
+
+    /// The caller's pass knows what either knew.
+    pub fn tell<R: Wait>(&self, rt: &R, words: &Published<Entry>, pass: &mut SessionPass<Entry>)
+        requires own { (words.now ≡ B.log) × (pass.old.table ≡ B.log) }
+        ensures caller { KnowsBoth self.now.pass pass.old pass.new }
+        ensures tied { B.rests → IsTiedIn D.state D.honest B.store B.shards self.now.number self.now.node pass.new }
+    {
+        self.pass.tell(rt, words, pass);
     }
 }

@@ -52,7 +52,7 @@ fn run_over_parts<R: Runtime + Threads + Wait + Sync>(
     }
 }
 
-fn run_over<D: Device + Send, B: Room + Send + Sync, R: Runtime + Threads + Wait + Sync>(
+fn run_over<D: Device + Send + Sync, B: Room + Send + Sync, R: Runtime + Threads + Wait + Sync>(
     rt: &R,
     alloc: Global,
     parker: Parker,
@@ -83,7 +83,7 @@ fn run_over<D: Device + Send, B: Room + Send + Sync, R: Runtime + Threads + Wait
 }
 
 fn run_asked<
-    D: Device + Send,
+    D: Device + Send + Sync,
     B: Room + Send + Sync,
     G: Gate + Sync,
     R: Runtime + Threads + Wait + Sync,

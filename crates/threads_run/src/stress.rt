@@ -50,7 +50,7 @@ fn new_workers<D: Device, B: Room, G: Gate, R: Wait>(
 
 // Each works in a thread of its own.
 fn work_all<
-    D: Device + Send,
+    D: Device + Send + Sync,
     B: Room + Send + Sync,
     G: Gate + Sync,
     R: Threads + Wait + Clock + Sync,
@@ -69,7 +69,7 @@ fn work_all<
 
 // They work while another thread tends the store.
 fn work_and_keep<
-    D: Device + Send,
+    D: Device + Send + Sync,
     B: Room + Send + Sync,
     G: Gate + Sync,
     R: Threads + Wait + Clock + Sync,
@@ -119,7 +119,7 @@ fn print_all<B: Room, R: Print>(
 
 // They work, the last part follows, and all is printed. The trouble is the last of them.
 fn run_workers<
-    D: Device + Send,
+    D: Device + Send + Sync,
     B: Room + Send + Sync,
     G: Gate + Sync,
     R: Runtime + Threads + Wait + Sync,
@@ -150,7 +150,7 @@ fn run_workers<
 
 /// Runs threads of all kinds over the store, and prints what each was told. The status.
 pub(crate) fn run<
-    D: Device + Send,
+    D: Device + Send + Sync,
     B: Room + Send + Sync,
     G: Gate + Sync,
     R: Runtime + Threads + Wait + Sync,

@@ -127,7 +127,12 @@ fn b_sees_behind<D: Device, B: Room, G: Gate, R: Wait>(
 }
 
 // A writes while B, on another thread, reads what there is.
-fn a_writes<D: Device + Send, B: Room + Send + Sync, G: Gate + Sync, R: Threads + Wait + Sync>(
+fn a_writes<
+    D: Device + Send + Sync,
+    B: Room + Send + Sync,
+    G: Gate + Sync,
+    R: Threads + Wait + Sync,
+>(
     rt: &R,
     alloc: Global,
     store: &Store<D, B, G>,
@@ -145,7 +150,12 @@ fn a_writes<D: Device + Send, B: Room + Send + Sync, G: Gate + Sync, R: Threads 
 }
 
 // B looks beside the strangers.
-fn all_look<D: Device + Send, B: Room + Send + Sync, G: Gate + Sync, R: Threads + Wait + Sync>(
+fn all_look<
+    D: Device + Send + Sync,
+    B: Room + Send + Sync,
+    G: Gate + Sync,
+    R: Threads + Wait + Sync,
+>(
     rt: &R,
     alloc: Global,
     store: &Store<D, B, G>,
@@ -164,7 +174,7 @@ fn all_look<D: Device + Send, B: Room + Send + Sync, G: Gate + Sync, R: Threads 
 }
 
 // A writes and tells B, who looks.
-fn play<D: Device + Send, B: Room + Send + Sync, G: Gate + Sync, R: Threads + Wait + Sync>(
+fn play<D: Device + Send + Sync, B: Room + Send + Sync, G: Gate + Sync, R: Threads + Wait + Sync>(
     rt: &R,
     alloc: Global,
     store: &Store<D, B, G>,
@@ -182,7 +192,7 @@ fn play<D: Device + Send, B: Room + Send + Sync, G: Gate + Sync, R: Threads + Wa
 
 /// Plays it, and prints what was found. The status.
 pub(crate) fn run<
-    D: Device + Send,
+    D: Device + Send + Sync,
     B: Room + Send + Sync,
     G: Gate + Sync,
     R: Runtime + Threads + Wait + Sync,

@@ -57,11 +57,12 @@ fn write_at<D: Device, B: Room, G: Gate, R: Wait>(
 }
 
 // Both write, each from a thread of its own.
-fn write_both<D: Device + Send, B: Room + Send + Sync, G: Gate + Sync, R: Threads + Wait + Sync>(
-    rt: &R,
-    alloc: Global,
-    store: &Store<D, B, G>,
-) -> Result<(), Refusal> {
+fn write_both<
+    D: Device + Send + Sync,
+    B: Room + Send + Sync,
+    G: Gate + Sync,
+    R: Threads + Wait + Sync,
+>(rt: &R, alloc: Global, store: &Store<D, B, G>) -> Result<(), Refusal> {
     let (one, other) = thread::join(
         rt,
         move || write_at(rt, alloc, store, 0),
@@ -74,7 +75,7 @@ fn write_both<D: Device + Send, B: Room + Send + Sync, G: Gate + Sync, R: Thread
 
 /// Plays it, and prints whether both were inside at once. The status.
 pub(crate) fn run<
-    D: Device + Send,
+    D: Device + Send + Sync,
     B: Room + Send + Sync,
     G: Gate + Sync,
     R: Runtime + Threads + Wait + Sync,

@@ -1,11 +1,12 @@
 -- What the run of a list of steps promises: a chain of the promises of its steps, each with every moment inside it.
-use Rattle.std.specs.Prelude.{◌≡◌, ◌≢◌, ◌⊎◌, ◌<◌, ◌+◌, ◌^◌, ℕ, max, List, [], ◌∷◌, ◌++◌, length, map, Some, Contains}
+use Rattle.std.specs.Prelude.{◌≡◌, ◌≢◌, ◌⊎◌, ◌<◌, ◌+◌, ℕ, max, List, [], ◌∷◌, ◌++◌, length, map, Some, Contains}
 use Rattle.tuples.specs.declared.entry.WriteId.{WriteId}
 use Rattle.refusal.specs.declared.refusal.Refusal.TheVariants.{Down, Full}
 use Rattle.decisions.specs.Standing.{IsGivenOut}
 use Rattle.records.specs.declared.record.Record.{Record}
 use Rattle.records.specs.Replays.{greatest_number}
 use Rattle.device.specs.Device.{HasFailed, State, reach}
+use Rattle.gated.specs.Gated.{max_body, max_device, record_head}
 use Rattle.journal.specs.Records.{Finds, found}
 use Rattle.laws.specs.Machines.{Machine}
 use Rattle.laws.specs.Nodes.{IsThere, NodeName, NodeState, coordinator, down, epoch_of, opening_record, refused, up}
@@ -21,7 +22,7 @@ events_of number told = map (λ t. record { step = number; told = t }) told
 
 -- one batch more, with its gates and length, may not fit into the greatest device
 abbrev pub IsNearlyFull : State → Type 0
-IsNearlyFull s = 2 ^ 40 < max (length s.seen) (reach s.written (length s.durable)) + 1048581
+IsNearlyFull s = max_device < max (length s.seen) (reach s.written (length s.durable)) + record_head + max_body
 
 -- Given what a device holds and whether it is honest, how often a stop may have come at it, what a stop since then may have left, and a store's id
 -- and number of shards

@@ -4,6 +4,7 @@ use Rattle.refusal.specs.declared.refusal.Refusal.{Refusal}
 use Rattle.records.specs.declared.record.Record.{Record}
 use Rattle.records.specs.declared.record.Record.TheVariants.{Epoch}
 use Rattle.records.specs.Coordinators.{CoordinatorState, IsCoordinatorImage, coordinator_state, end_of}
+use Rattle.records.specs.Identity.{coordinator_number}
 use Rattle.records.specs.Replays.{IsShardImage}
 use Rattle.laws.specs.Worlds.{coordinator_node, shard_node}
 use Rattle.laws.specs.Machines.{Machine}
@@ -20,8 +21,8 @@ pub record IsReopenedCoordinator (store shards : ℕ) (left : NodeName → List 
   pub found : List Record
   pub epoch : ℕ
   pub was_left : left coordinator found
-  pub is : rs ≡ found ++ Epoch epoch store shards 255 ∷ []
-  pub image : IsCoordinatorImage (coordinator_node store shards) (found ++ Epoch epoch store shards 255 ∷ [])
+  pub is : rs ≡ found ++ Epoch epoch store shards coordinator_number ∷ []
+  pub image : IsCoordinatorImage (coordinator_node store shards) (found ++ Epoch epoch store shards coordinator_number ∷ [])
 
 -- records that a stop could leave of shard s, with the record of an opening behind them
 pub record IsReopenedShard (store shards s : ℕ) (left : NodeName → List Record → Type 0) (rs : List Record) : Type 0 where
@@ -37,12 +38,12 @@ pub record OpensCoordinator (store shards : ℕ) (left after : NodeName → List
   pub found : List Record
   pub epoch : ℕ
   pub was_left : left coordinator found
-  pub now : new.at coordinator ≡ up (found ++ Epoch epoch store shards 255 ∷ []) []
+  pub now : new.at coordinator ≡ up (found ++ Epoch epoch store shards coordinator_number ∷ []) []
   pub unchanged : (s : ℕ) → new.at (shard s) ≡ old.at (shard s)
   pub open_writes : new.open_writes ≡ []
   pub given : new.given ≡ 0
   pub same : (s : ℕ) (rs : List Record) → after (shard s) rs ↔ left (shard s) rs
-  pub here : (rs : List Record) → after coordinator rs ↔ (rs ≡ found ++ Epoch epoch store shards 255 ∷ [])
+  pub here : (rs : List Record) → after coordinator rs ↔ (rs ≡ found ++ Epoch epoch store shards coordinator_number ∷ [])
 
 -- The coordinator's opening is refused: no write is open, and a stop leaves what it could leave before, or that with the record of the opening.
 pub record RefusesCoordinator (store shards : ℕ) (left after : NodeName → List Record → Type 0) (e : Refusal) (old new : Nodes) : Type 0 where
@@ -72,7 +73,7 @@ module _ (store shards : ℕ) (left after : NodeName → List Record → Type 0)
   -- an opening of the coordinator leaves the store standing for the machine cut to what was found, and is a step of a run
   abbrev pub CoordinatorOpeningsStand : Type 0
   CoordinatorOpeningsStand = (now : Moment) (next : Nodes) → Stands store shards left now → (opens : OpensCoordinator store shards left after now.nodes next)
-      → IsCoordinatorImage (coordinator_node store shards) (opens.found ++ Epoch opens.epoch store shards 255 ∷ [])
+      → IsCoordinatorImage (coordinator_node store shards) (opens.found ++ Epoch opens.epoch store shards coordinator_number ∷ [])
       → let later = with_restart now next (cut_to now.machine (coordinator_state opens.found)) in
       Stands store shards after later × Restarts shards (IsHorizonIn store shards left now.nodes) now coordinator (came_up ∷ []) later
 

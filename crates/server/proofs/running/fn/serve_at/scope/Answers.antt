@@ -11,16 +11,20 @@ pub spawn-kept-requires-send-F : goal.spawn-kept-requires-send-F
 spawn-kept-requires-send-F g c κs within =
     let bounds = c.requires.1.1.1.1 in
     let device = bounds.0 in
-    let room = bounds.1 in
-    let gate = bounds.3 in
-    let runtime = bounds.4 in
+    let device_read = bounds.1 in
+    let room = bounds.2 in
+    let room_read = bounds.3 in
+    let gate = bounds.4 in
+    let runtime = bounds.5 in
     search (store_sync, caller_send, lease_send, lease_sync, shared.the_send, shared.the_sync, seat.the_send, given_send, given_sync, sendable, crosses, maps_cross, sets_cross) depth 400 fits 50000
 
 pub serve_on-served-requires-send-A : goal.serve_on-served-requires-send-A
 serve_on-served-requires-send-A g c κs within =
     let bounds = c.requires.1.1.1.1 in
     let device = bounds.0 in
-    let room = bounds.1 in
-    let gate = bounds.3 in
-    let runtime = bounds.4 in
+    let device_read = bounds.1 in
+    let room = bounds.2 in
+    let room_read = bounds.3 in
+    let gate = bounds.4 in
+    let runtime = bounds.5 in
     search (store_sync, caller_send, sendable, crosses, maps_cross, sets_cross) depth 400 fits 50000
