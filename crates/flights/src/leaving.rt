@@ -12,7 +12,7 @@ use away::Away;
 use calls::Flying;
 use device::Device;
 use journal::{BatchRoom, Journal};
-use published::{Published, SessionPass, SharedPass};
+use published::{Published, RestingPass, SessionPass};
 use sides::{LentShard, Room, ShardSide};
 use std::sync::Wait;
 
@@ -140,7 +140,7 @@ impl<D: Device, B: Room> ShardPlace<D, B> {
         };
         let mut pass = self.pass.take(rt);
         let (berth, flight) = depart(launches, log, &mut pass, berth);
-        self.pass = SharedPass::new(pass);
+        self.pass = RestingPass::new(pass);
         drop(self.berth.replace(berth));
         if flight.is_some() {
             self.flights = self.flights.saturating_add(1);

@@ -14,7 +14,7 @@ use away::Away;
 use calls::{Reply, ShardReply, Told};
 use device::Device;
 use journal::BatchRoom;
-use published::{Published, SessionPass, SharedPass};
+use published::{Published, RestingPass, SessionPass};
 use sides::{Room, ShardSide};
 use std::alloc::Global;
 use std::sync::Wait;
@@ -92,7 +92,7 @@ impl<D: Device, B: Room> ShardPlace<D, B> {
         };
         let mut pass = self.pass.take(rt);
         let (side, room) = arrive(launches, &mut pass, side, flown);
-        self.pass = SharedPass::new(pass);
+        self.pass = RestingPass::new(pass);
         drop(self.berth.replace(Berth::Here(side, room)));
         Ok(())
     }

@@ -19,7 +19,7 @@ use away::Away;
 use calls::{Reply, ShardCall, Told};
 use device::Device;
 use journal::BatchRoom;
-use published::{Published, SessionPass, SharedPass};
+use published::{Published, RestingPass, SessionPass, SharedPass};
 use records::Identity;
 use sides::{Room, ShardSide};
 use std::alloc::Global;
@@ -30,9 +30,10 @@ use tuples::Entry;
 /// A shard, whose devices are here or on a flight.
 #[derive(Drop)]
 pub struct ShardPlace<D: Device, B: Room> {
+    // stands first, since it has unused bytes on both sides, and who locks writes the bytes before the place, while others read the berth
+    pub(crate) pass: RestingPass<Launch>,
     // moved only within a call
     pub(crate) berth: Option<Berth<ShardSide<D, B>, ShardSide<Away<D>, B>>>,
-    pub(crate) pass: SharedPass<Launch>,
     // how many of its flights have left
     pub(crate) flights: u64,
 }
@@ -69,8 +70,8 @@ impl<D: Device, B: Room> ShardPlace<D, B> {
     {
         let side = ShardSide::open(alloc, a, b, me, pass);
         ShardPlace {
+            pass: RestingPass::new(launches),
             berth: Some(Berth::Here(side, room)),
-            pass: SharedPass::new(launches),
             flights: 0,
         }
     }

@@ -26,6 +26,7 @@ use Rattle.shard.specs.contracts.shard.Shard as Shard
 use Rattle.coordinator.specs.contracts.coordinator.Coordinator as Coordinator
 use Rattle.calls.specs.contracts.node.Node as Node
 use Rattle.published.specs.contracts.shared.SharedPass as SharedPass
+use Rattle.published.proofs.Crosses.{shared_send}
 use Rattle.sides.specs.declared.room.Room as Room
 use Rattle.sides.specs.contracts.shard_side.ShardSide as ShardSide
 use Rattle.sides.specs.contracts.coordinator_side.CoordinatorSide as CoordinatorSide
@@ -68,7 +69,7 @@ ledger : IsSend Ledger.the_row
 ledger = search (sendable, crosses, maps_cross, sets_cross) depth 400 fits 50000
 
 pass : IsSend (SharedPass.the_row Entry.the_row)
-pass = search (sendable, crosses, maps_cross, sets_cross, perch.the_send) depth 400 fits 50000
+pass = shared_send Entry.the_row entry
 
 -- ---- nodes
 

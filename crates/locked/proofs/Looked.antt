@@ -25,6 +25,7 @@ use Rattle.shard.specs.contracts.shard.Shard as Shard
 use Rattle.coordinator.specs.contracts.coordinator.Coordinator as Coordinator
 use Rattle.calls.specs.contracts.node.Node as Node
 use Rattle.published.specs.contracts.shared.SharedPass as SharedPass
+use Rattle.published.proofs.Crosses.{shared_sync}
 use Rattle.sides.specs.declared.room.Room as Room
 use Rattle.sides.specs.contracts.shard_side.ShardSide as ShardSide
 use Rattle.flights.specs.contracts.berth.Berth as Berth
@@ -66,7 +67,7 @@ ledger : IsSync Ledger.the_row
 ledger = search (sendable, crosses, maps_cross, sets_cross) depth 400 fits 50000
 
 pass : IsSync (SharedPass.the_row Entry.the_row)
-pass = search (sendable, crosses, maps_cross, sets_cross, perch.the_sync) depth 400 fits 50000
+pass = shared_sync Entry.the_row entry
 
 -- ---- nodes
 

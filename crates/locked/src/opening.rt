@@ -113,7 +113,7 @@ fn next_shard<D: Device, B: Room>(
 {
     let (a, b) = take_two(devices);
     let seen = coordinator.session(ground.words);
-    let pass = SharedPass::new(seen);
+    let pass = SharedPass::new(ground.words, seen);
     let me = Identity::shard(ground.store, ground.shards, shard);
     let known = launch_log.session(ground.launches);
     ClosedShard::new(ground.alloc, a, b, me, pass, room, known)

@@ -67,7 +67,7 @@ impl<D: Device, B: Room, G: Gate> Store<D, B, G> {
         ensures length { length caller.new.seen ≡ result }
         ensures rises { length caller.old.seen ≤ result }
     {
-        self.words.look(&mut caller.pass)
+        self.words.latest(&mut caller.pass)
     }
 
     /// The horizon, by one load. The caller has then seen at least that many writes. It takes no lock.
@@ -77,7 +77,7 @@ impl<D: Device, B: Room, G: Gate> Store<D, B, G> {
         ensures rises { caller.old.horizon ≤ result }
         ensures known { caller.new.horizon ≡ result }
     {
-        self.words.look_low(&mut caller.pass)
+        self.words.horizon(&mut caller.pass)
     }
 
     /// Each caller learns what the other has seen. It takes no lock.

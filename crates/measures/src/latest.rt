@@ -41,8 +41,7 @@ fn load_inlined(words: &Published<u64>, pass: SessionPass<u64>) -> u64
     let mut pass = pass;
     let mut last = 0u64;
     for _ in 0..LOADS {
-        let (place, later) = words.latest(pass);
-        pass = later;
+        let place = words.latest(&mut pass);
         if place < last {
             break;
         }
@@ -58,8 +57,7 @@ fn load_called(words: &Published<u64>, pass: SessionPass<u64>) -> u64
     let mut pass = pass;
     let mut last = 0u64;
     for _ in 0..LOADS {
-        let (place, later) = look(words, pass);
-        pass = later;
+        let place = latest(words, &mut pass);
         if place < last {
             break;
         }
@@ -69,9 +67,9 @@ fn load_called(words: &Published<u64>, pass: SessionPass<u64>) -> u64
 }
 
 #[inline(never)]
-fn look(words: &Published<u64>, pass: SessionPass<u64>) -> (u64, SessionPass<u64>)
-    requires { pass.table ≡ words.now }
-    ensures { result.1.table ≡ words.now }
+fn latest(words: &Published<u64>, pass: &mut SessionPass<u64>) -> u64
+    requires { pass.old.table ≡ words.now }
+    ensures { pass.new.table ≡ words.now }
 {
     words.latest(pass)
 }

@@ -11,12 +11,14 @@
 #![tactic(auto)]
 
 mod pass;
+mod resting;
 mod rule;
 mod shared;
 mod steps;
 mod words;
 
 pub use pass::{LogPass, SessionPass};
+pub use resting::RestingPass;
 pub use rule::View;
 pub use shared::SharedPass;
 pub use steps::Adds;

@@ -1,4 +1,4 @@
-// Passes: values with no bytes, in which a thread carries what it knows.
+// Passes, in which a thread carries what it knows.
 use crate::rule::View;
 use atomic_table::Seat;
 use std::marker::Model;
@@ -7,6 +7,8 @@ use std::marker::Model;
 #[derive(Drop)]
 pub struct LogPass<W> {
     pub(crate) seat: Seat<(), View<W>>,
+    // how many sessions' passes came from it
+    pub(crate) sessions: usize,
 }
 
 impl<W> Model for LogPass<W> {
@@ -24,6 +26,8 @@ impl<W> Model for LogPass<W> {
 #[derive(Drop)]
 pub struct SessionPass<W> {
     pub(crate) seat: Seat<(), View<W>>,
+    // which of the copies of a shared pass it learns from: by this number's remainder
+    pub(crate) lane: usize,
 }
 
 impl<W> Model for SessionPass<W> {

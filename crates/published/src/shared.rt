@@ -1,93 +1,63 @@
-// A session's pass that many may read at once.
-ghost use Rattle.std.specs.Prelude.{◌≡◌, IfSome, max, []};
+// A session's pass from which many learn at once.
+ghost use Rattle.std.specs.Prelude.{◌≡◌, max};
 ghost use mathlib.Core.List.{IsPrefix};
 
 use crate::pass::SessionPass;
-use crate::rule::View;
+use crate::resting::RestingPass;
 use crate::words::Published;
-use atomic_table::{Perch, Seat};
-use std::hint::spin_loop;
 use std::marker::Model;
 use std::sync::Wait;
-use std::thread;
 
-// What the word of a perch says: somebody has what rests there, or it rests.
-const TAKEN: u64 = 0;
+// How many copies there are: twice as many as small machines have processors, so that two callers that run at once mostly learn from two.
+const LANES: usize = 8;
 
-const RESTS: u64 = 2;
-
-// How often what rests is looked for before the caller gives its processor up. A copy takes some tens of nanoseconds.
-const TRIES: u32 = 100;
-
-/// A session's pass, as of what lies under a lock that many may hold at once to read. Each of them learns what it has seen. Who does takes it for the few
-/// instructions in which it is copied, since only who has a pass can copy it.
+/// A session's pass, as of what lies under a lock that many may hold at once to read. Each of them learns what it has seen, from one of its copies.
 #[derive(Drop)]
 pub struct SharedPass<W> {
-    perch: Perch<(), View<W>>,
+    own: RestingPass<W>,
+    lanes: [RestingPass<W>; LANES],
 }
 
 impl<W> Model for SharedPass<W> {
-    ghost use Rattle.std.specs.Prelude.{◌≡◌, false};
+    ghost use Rattle.std.specs.Prelude.{◌≡◌, All};
     ghost use Rattle.published.specs.Known.{Known};
 
     ghost Value = { Known W };
 
-    ghost view = { λ p. record { table = p.perch.table_id; seen = p.perch.view.seen; horizon = p.perch.view.horizon } };
+    ghost view = { λ p. p.own };
 
-    ghost invariant = { λ p. (p.perch.view.leads ≡ false) × (p.perch.view.told_horizon ≡ 0) };
+    ghost invariant = { λ p. All (λ lane. lane ≡ p.own) p.lanes };
 }
 
-// What rests there, where nobody has it for long.
-fn try_seat<W>(perch: &Perch<(), View<W>>) -> Option<Seat<(), View<W>>>
-    ensures { IfSome result (λ seat. (seat.table_id ≡ perch.now.table_id) × (seat.me ≡ (perch.now.view, []))) }
+// A copy of the pass.
+fn lane<W>(words: &Published<W>, pass: &mut SessionPass<W>) -> RestingPass<W>
+    requires { pass.old.table ≡ words.now }
+    ensures same { pass.new ≡ pass.old }
+    ensures copy { result ≡ pass.old }
 {
-    for _ in 0..TRIES {
-        if let (_, Some(seat)) = perch.take(TAKEN) {
-            return Some(seat);
-        }
-        spin_loop();
-    }
-    None
-}
-
-// What rests there, taken once nobody has it.
-fn take_seat<W, R: Wait>(rt: &R, perch: &Perch<(), View<W>>) -> Seat<(), View<W>>
-    ensures { (result.table_id ≡ perch.now.table_id) × (result.me ≡ (perch.now.view, [])) }
-{
-    for _ in rt.forever() {
-        if let Some(seat) = try_seat(perch) {
-            return seat;
-        }
-        // Who has it waits for a processor.
-        thread::yield_now();
-    }
-    unreachable!()
-}
-
-// It rests again. Only who has it can say so, and so the perch takes it.
-fn rest<W>(perch: &Perch<(), View<W>>, seat: Seat<(), View<W>>)
-    requires { (seat.table_id ≡ perch.now.table_id) × (seat.me ≡ (perch.now.view, [])) }
-{
-    let _ = perch.give(seat, TAKEN, RESTS);
+    RestingPass::new(words.note(pass))
 }
 
 impl<W> SharedPass<W> {
     /// Of a session's pass.
-    pub fn new(pass: SessionPass<W>) -> SharedPass<W>
+    pub fn new(words: &Published<W>, pass: SessionPass<W>) -> SharedPass<W>
+        requires { pass.table ≡ words.now }
         ensures { result ≡ pass }
     {
-        let SessionPass { seat } = pass;
-        let perch = Perch::new(&seat, TAKEN);
-        rest(&perch, seat);
-        SharedPass { perch }
-    }
-
-    /// The session's pass. A new one has to take the place of this, which has none then: who asks it waits forever.
-    pub fn take<R: Wait>(&mut self, rt: &R) -> SessionPass<W>
-        ensures pass { result ≡ self.old }
-    {
-        SessionPass {
-            seat: take_seat(rt, &self.perch),
+        let mut pass = pass;
+        let lanes = [
+            lane(words, &mut pass),
+            lane(words, &mut pass),
+            lane(words, &mut pass),
+            lane(words, &mut pass),
+            lane(words, &mut pass),
+            lane(words, &mut pass),
+            lane(words, &mut pass),
+            lane(words, &mut pass),
+        ];
+        SharedPass {
+            own: RestingPass::new(pass),
+            lanes,
         }
     }
 
@@ -99,9 +69,9 @@ impl<W> SharedPass<W> {
         ensures other { IsPrefix self.old.seen pass.new.seen × IsPrefix pass.old.seen pass.new.seen }
         ensures horizon { (self.new.horizon ≡ max self.old.horizon pass.old.horizon) × (pass.new.horizon ≡ max self.old.horizon pass.old.horizon) }
     {
-        let mut own = self.take(rt);
+        let mut own = self.own.take(rt);
         words.share(&mut own, pass);
-        *self = SharedPass::new(own);
+        *self = SharedPass::new(words, own);
     }
 
     /// The session's pass learns what this one has seen, which others may tell meanwhile.
@@ -112,9 +82,6 @@ impl<W> SharedPass<W> {
         ensures told { IsPrefix self.now.seen pass.new.seen }
         ensures horizon { pass.new.horizon ≡ max pass.old.horizon self.now.horizon }
     {
-        let mut seat = take_seat(rt, &self.perch);
-        let note = words.copy(&mut seat);
-        rest(&self.perch, seat);
-        words.learn(pass, SessionPass { seat: note });
+        self.lanes[pass.lane % LANES].tell(rt, words, pass);
     }
 }

@@ -55,7 +55,7 @@ fn two_told<R: Threads + Wait + Sync>(
     requires { (shared.now.table ≡ words.now) × (passes.0.table ≡ words.now) × (passes.1.table ≡ words.now) }
 {
     let (one, other) = passes;
-    let (one, other) = join(
+    let (mut one, mut other) = join(
         rt,
         move || -> SessionPass<u64>
             requires { (shared.now.table ≡ words.now) × (one.table ≡ words.now) }
@@ -66,7 +66,7 @@ fn two_told<R: Threads + Wait + Sync>(
             ensures { result.table ≡ words.entry.now }
         { told_often(rt, words, shared, other) },
     );
-    (words.latest(one).0, words.latest(other).0)
+    (words.latest(&mut one), words.latest(&mut other))
 }
 
 #[test]
@@ -74,7 +74,7 @@ fn two_threads_are_told_by_one_pass(rt: HostRuntime) -> Result<(), Fail> {
     let (words, mut log) = Published::new(rt.alloc())?;
     let passes = (words.session(&mut log), words.session(&mut log));
     add_one(&words, &mut log);
-    let shared = SharedPass::new(words.session(&mut log));
+    let shared = SharedPass::new(&words, words.session(&mut log));
     let (one, other) = two_told(&rt, &words, &shared, passes);
     assert_eq!(rt; one, 1);
     assert_eq!(rt; other, 1);

@@ -60,7 +60,7 @@ fn two_threads<R: Threads + Sync>(
     ensures rises { result.0 ≤ result.1 }
     ensures told { slice_get result.2.seen 0 ≡ Some note.now }
 {
-    let (writer, (first, second, reader)) = join(
+    let (mut writer, (first, second, mut reader)) = join(
         rt,
         move || -> SessionPass<Note>
             requires own { (log.table ≡ words.now) × (writer.table ≡ words.now) }
@@ -79,12 +79,13 @@ fn two_threads<R: Threads + Sync>(
             ensures same { result.2.table ≡ words.entry.now }
             ensures rises { result.0 ≤ result.1 }
         {
-            let (first, reader) = words.latest(reader);
-            let (second, reader) = words.latest(reader);
+            let mut reader = reader;
+            let first = words.latest(&mut reader);
+            let second = words.latest(&mut reader);
             (first, second, reader)
         },
     );
-    let (_writer, reader) = words.tell(writer, reader);
+    words.share(&mut writer, &mut reader);
     (first, second, reader)
 }
 
@@ -97,14 +98,10 @@ fn a_write_of_one_thread_is_told_to_another(rt: HostRuntime) -> Result<(), Fail>
     let (words, mut log) = Published::new(rt.alloc())?;
     let writer = words.session(&mut log);
     let reader = words.session(&mut log);
-    let (_, second, reader) = two_threads(&rt, &words, log, writer, reader, &note);
+    let (_, second, mut reader) = two_threads(&rt, &words, log, writer, reader, &note);
     assert!(rt; second <= 1);
-    let (place, reader) = words.latest(reader);
-    assert_eq!(rt; place, 1);
-    let (horizon, mut reader) = words.horizon(reader);
-    assert_eq!(rt; horizon, 0);
-    assert_eq!(rt; words.look(&mut reader), 1);
-    assert_eq!(rt; words.look_low(&mut reader), 0);
+    assert_eq!(rt; words.latest(&mut reader), 1);
+    assert_eq!(rt; words.horizon(&mut reader), 0);
     Ok(())
 }
 
@@ -162,11 +159,10 @@ fn look(words: &Published<u64>, pass: SessionPass<u64>) -> (bool, SessionPass<u6
     let mut rises = true;
     let mut last = (0, 0);
     for _ in 0..ROUNDS {
-        let (horizon, later) = words.horizon(pass);
-        let (place, later) = words.latest(later);
+        let horizon = words.horizon(&mut pass);
+        let place = words.latest(&mut pass);
         rises = rises && last.0 <= horizon && last.1 <= place && horizon <= place;
         last = (horizon, place);
-        pass = later;
     }
     (rises, pass)
 }
@@ -181,7 +177,7 @@ fn two_look<R: Threads + Sync>(
     requires { (one.table ≡ words.now) × (other.table ≡ words.now) }
     ensures { result.1.table ≡ words.now }
 {
-    let ((one_rises, one), (other_rises, other)) = join(
+    let ((one_rises, mut one), (other_rises, mut other)) = join(
         rt,
         move || -> (bool, SessionPass<u64>)
             requires { one.table ≡ words.now }
@@ -192,7 +188,7 @@ fn two_look<R: Threads + Sync>(
             ensures { result.1.table ≡ words.entry.now }
         { look(words, other) },
     );
-    let (one, _other) = words.tell(one, other);
+    words.share(&mut one, &mut other);
     (one_rises && other_rises, one)
 }
 
@@ -206,7 +202,7 @@ fn three_look<R: Threads + Sync>(
     ensures { result.1.table ≡ words.now }
 {
     let (one, two, three) = readers;
-    let ((two_rise, one), (third_rises, three)) = join(
+    let ((two_rise, mut one), (third_rises, mut three)) = join(
         rt,
         move || -> (bool, SessionPass<u64>)
             requires { (one.table ≡ words.now) × (two.table ≡ words.now) }
@@ -217,8 +213,6 @@ fn three_look<R: Threads + Sync>(
             ensures { result.1.table ≡ words.entry.now }
         { look(words, three) },
     );
-    let mut one = one;
-    let mut three = three;
     words.share(&mut one, &mut three);
     (two_rise && third_rises, one)
 }
@@ -237,7 +231,7 @@ fn four_threads<R: Threads + Sync>(
     ensures same { result.2.table ≡ words.now }
     ensures told { result.1 ≤ length result.2.seen }
 {
-    let ((length, writer), (rises, reader)) = join(
+    let ((length, mut writer), (rises, mut reader)) = join(
         rt,
         move || -> (u64, SessionPass<u64>)
             requires own { (log.table ≡ words.now) × (writer.table ≡ words.now) }
@@ -250,7 +244,7 @@ fn four_threads<R: Threads + Sync>(
             ensures { result.1.table ≡ words.entry.now }
         { three_look(rt, words, readers) },
     );
-    let (reader, _writer) = words.tell(reader, writer);
+    words.share(&mut reader, &mut writer);
     (rises, length, reader)
 }
 
@@ -263,12 +257,10 @@ fn three_threads_look_while_a_fourth_adds(rt: HostRuntime) -> Result<(), Fail> {
         words.session(&mut log),
         words.session(&mut log),
     );
-    let (rises, length, reader) = four_threads(&rt, &words, log, writer, readers);
+    let (rises, length, mut reader) = four_threads(&rt, &words, log, writer, readers);
     assert!(rt; rises);
     assert_eq!(rt; length, 1000);
-    let (place, reader) = words.latest(reader);
-    assert_eq!(rt; place, 1000);
-    let (horizon, _reader) = words.horizon(reader);
-    assert_eq!(rt; horizon, 998);
+    assert_eq!(rt; words.latest(&mut reader), 1000);
+    assert_eq!(rt; words.horizon(&mut reader), 998);
     Ok(())
 }

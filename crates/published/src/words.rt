@@ -37,25 +37,11 @@ impl<W> Published<W> {
         ensures { IfOk result (λ r. (r.1.table ≡ r.0) × (r.1.seen ≡ []) × (r.1.horizon ≡ 0)) }
     {
         let (table, seat) = Table::of_words(alloc, &[0, 0], &())?;
-        Ok((Published { table }, LogPass { seat }))
+        Ok((Published { table }, LogPass { seat, sessions: 0 }))
     }
 
     /// The safe place, by one load. The pass has then seen as many writes.
-    pub fn latest(&self, pass: SessionPass<W>) -> (u64, SessionPass<W>)
-        requires { pass.table ≡ self.now }
-        ensures same { (result.1.table ≡ pass.table) × (result.1.horizon ≡ pass.horizon) }
-        ensures later { IsPrefix pass.seen result.1.seen }
-        ensures length { length result.1.seen ≡ result.0 }
-        ensures rises { length pass.seen ≤ result.0 }
-        ensures below { result.1.horizon ≤ result.0 }
-    {
-        let mut pass = pass;
-        let place = self.look(&mut pass);
-        (place, pass)
-    }
-
-    /// As `latest`, for a pass that is lent, as one of a caller that keeps it.
-    pub fn look(&self, pass: &mut SessionPass<W>) -> u64
+    pub fn latest(&self, pass: &mut SessionPass<W>) -> u64
         requires { pass.old.table ≡ self.now }
         ensures same { (pass.new.table ≡ pass.old.table) × (pass.new.horizon ≡ pass.old.horizon) }
         ensures later { IsPrefix pass.old.seen pass.new.seen }
@@ -69,21 +55,7 @@ impl<W> Published<W> {
     }
 
     /// The horizon, by one load. The pass has then seen at least that many writes.
-    pub fn horizon(&self, pass: SessionPass<W>) -> (u64, SessionPass<W>)
-        requires { pass.table ≡ self.now }
-        ensures same { result.1.table ≡ pass.table }
-        ensures later { IsPrefix pass.seen result.1.seen }
-        ensures below { result.0 ≤ length result.1.seen }
-        ensures rises { pass.horizon ≤ result.0 }
-        ensures known { result.1.horizon ≡ result.0 }
-    {
-        let mut pass = pass;
-        let place = self.look_low(&mut pass);
-        (place, pass)
-    }
-
-    /// As `horizon`, for a pass that is lent.
-    pub fn look_low(&self, pass: &mut SessionPass<W>) -> u64
+    pub fn horizon(&self, pass: &mut SessionPass<W>) -> u64
         requires { pass.old.table ≡ self.now }
         ensures same { pass.new.table ≡ pass.old.table }
         ensures later { IsPrefix pass.old.seen pass.new.seen }
@@ -138,8 +110,11 @@ impl<W> Published<W> {
         ensures same { log.new ≡ log.old }
         ensures session { result ≡ log.old }
     {
-        let seat = self.table.shared.split_seat::<Notes>(&mut log.seat);
-        SessionPass { seat }
+        log.sessions = log.sessions.wrapping_add(1);
+        SessionPass {
+            seat: self.copy(&mut log.seat),
+            lane: log.sessions,
+        }
     }
 
     /// The pass learns what the log's pass has seen, which is all that there is.
@@ -151,31 +126,15 @@ impl<W> Published<W> {
         ensures horizon { (pass.new.horizon ≡ log.old.horizon) × (pass.old.horizon ≤ log.old.horizon) }
         ensures below { log.old.horizon ≤ length log.old.seen }
     {
-        let SessionPass { seat: note } = self.note(pass);
+        let note = self.copy(&mut pass.seat);
         let table = &self.table.shared;
         table.join_seat::<Notes>(&mut log.seat, note);
         // Only a load makes known what the note says: what the session had seen is a beginning of the list.
         table.load::<LoadsPlace>(&mut log.seat, SAFE_PLACE);
-        *pass = self.session(log);
+        pass.seat = self.copy(&mut log.seat);
     }
 
     /// Each pass learns what the other has seen.
-    pub fn tell(
-        &self,
-        mut one: SessionPass<W>,
-        mut other: SessionPass<W>,
-    ) -> (SessionPass<W>, SessionPass<W>)
-        requires { (one.table ≡ self.now) × (other.table ≡ self.now) }
-        ensures same { (result.0.table ≡ one.table) × (result.1.table ≡ other.table) }
-        ensures one { IsPrefix one.seen result.0.seen × IsPrefix other.seen result.0.seen }
-        ensures other { IsPrefix one.seen result.1.seen × IsPrefix other.seen result.1.seen }
-        ensures horizon { (result.0.horizon ≡ max one.horizon other.horizon) × (result.1.horizon ≡ max one.horizon other.horizon) }
-    {
-        self.share(&mut one, &mut other);
-        (one, other)
-    }
-
-    /// As `tell`, for passes that are lent, as one that lies under a lock.
     pub fn share(&self, one: &mut SessionPass<W>, other: &mut SessionPass<W>)
         requires { (one.old.table ≡ self.now) × (other.old.table ≡ self.now) }
         ensures same { (one.new.table ≡ one.old.table) × (other.new.table ≡ other.old.table) }
@@ -199,13 +158,15 @@ impl<W> Published<W> {
     }
 
     // A new pass, which has seen what this pass has.
-    fn note(&self, pass: &mut SessionPass<W>) -> SessionPass<W>
+    pub(crate) fn note(&self, pass: &mut SessionPass<W>) -> SessionPass<W>
         requires { pass.old.table ≡ self.now }
         ensures same { pass.new ≡ pass.old }
         ensures note { result ≡ pass.old }
     {
-        let seat = self.table.shared.split_seat::<Notes>(&mut pass.seat);
-        SessionPass { seat }
+        SessionPass {
+            seat: self.copy(&mut pass.seat),
+            lane: pass.lane,
+        }
     }
 
     // The pass learns what the note has seen, by one load.
@@ -216,7 +177,10 @@ impl<W> Published<W> {
         ensures told { IsPrefix note.seen pass.new.seen }
         ensures horizon { pass.new.horizon ≡ max pass.old.horizon note.horizon }
     {
-        let SessionPass { seat: other } = note;
+        let SessionPass {
+            seat: other,
+            lane: _,
+        } = note;
         let table = &self.table.shared;
         table.join_seat::<Notes>(&mut pass.seat, other);
         table.load::<LoadsPlace>(&mut pass.seat, SAFE_PLACE);
