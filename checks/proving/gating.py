@@ -20,7 +20,8 @@ ONE_JOB = ["--jobs", "1"]
 LONG_BATCH = 400
 # What of these scripts a verdict rests on: what other forms of them passed counts for nothing.
 JUDGES = ("kit.py", "batches.py", "wrong.py", "controls.py", "gating.py")
-SEEDING = threading.Lock()
+# One check at a time leaves the work that a crate's edits stand on, and few are made at once, since each may take two jobs.
+SEEDING, SEEDS = {}, threading.Semaphore(max(1, rt.processors() // 2))
 
 
 def store():
@@ -86,9 +87,10 @@ def base_of(crate):
     """The folder of what this run's own check of the crate left. Where an earlier run's proof was taken, the crate is checked once more for it."""
     if os.path.isdir(crate.kept()):
         return crate.kept()
-    with SEEDING:
+    with SEEDING.setdefault(crate.name, threading.Lock()):
         if not hasattr(crate, "seed"):
-            crate.seed = rt.seeded(crate, ["--jobs", "2"])
+            with SEEDS:
+                crate.seed = rt.seeded(crate, ["--jobs", "2"])
     return crate.seed and f"{crate.seed}/seed"
 
 
