@@ -1,3 +1,4 @@
 mod Preparing
 mod Learning
 pub mod Belonging
+pub mod Reading

@@ -5,7 +5,6 @@ ghost use Rattle.calls.specs.Belonging.{IsReplyTo};
 ghost use Rattle.calls.specs.Refusing.{Notes};
 ghost use Rattle.calls.specs.Seen.{seen};
 
-use crate::looking::{read, read_for_check};
 use crate::node::Opened;
 use crate::{
     CoordinatorCall, CoordinatorReply, Node, NodeCall, Reply, ShardCall, ShardReply, Told,
@@ -69,9 +68,13 @@ fn ask_shard<D: Device>(alloc: Global, shard: &mut Shard<D>, call: ShardCall) ->
             ShardReply::DropWrite(verdict, answer)
         }
         ShardCall::InDoubt => ShardReply::InDoubt(shard.in_doubt(alloc)),
-        ShardCall::Read(place, set) => read(alloc, shard, place, set),
+        ShardCall::Read(place, set) => {
+            let answer = shard.read(alloc, place, &set);
+            ShardReply::Read(set, answer)
+        }
         ShardCall::ReadForCheck(place, userset, user) => {
-            read_for_check(alloc, shard, place, userset, user)
+            let answer = shard.read_for_check(alloc, place, &userset, &user);
+            ShardReply::ReadForCheck(userset, user, answer)
         }
         ShardCall::Settle => ShardReply::Settle(shard.settle()),
         ShardCall::Collect(heads) => {

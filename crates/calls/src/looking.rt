@@ -1,83 +1,79 @@
 // A read of a shard, which leaves it as it is: several may look at it at once.
-ghost use Rattle.std.specs.Prelude.{◌≡◌, true};
+ghost use Rattle.std.specs.Prelude.{◌≡◌, true, ℕ};
 ghost use Rattle.calls.specs.Asking.{Answered, MayAsk, ShardAnswers};
-ghost use Rattle.calls.specs.Belonging.{IsReplyTo};
-ghost use Rattle.calls.specs.Reading.{is_read};
+ghost use Rattle.calls.specs.Reading.{is_read, read_reply};
 ghost use Rattle.calls.specs.Refusing.{Notes};
 ghost use Rattle.calls.specs.Seen.{seen};
 ghost use Rattle.calls.specs.declared.call.NodeCall.TheVariants.{Shard as of_shard};
-ghost use Rattle.calls.specs.declared.call.ShardCall.TheVariants.{Read as read_call, ReadForCheck as check_call};
+ghost use Rattle.calls.specs.declared.reply.Reply.TheVariants.{Shard as from_shard};
 
-use crate::asking::tell;
 use crate::node::Opened;
-use crate::{Node, NodeCall, Reply, ShardCall, ShardReply, Told, refuse};
+use crate::{Node, ShardCall, ShardReply, Told};
 use device::Device;
-use shard::Shard;
+use shard::{ReadReply, Shard};
 use std::alloc::Global;
-use tuples::{Refusal, Tupleset, User, Userset};
+use tuples::Refusal;
 
-/// The tuples of a tupleset.
-pub(crate) fn read<D: Device>(
-    alloc: Global,
-    shard: &Shard<D>,
-    place: u64,
-    set: Tupleset,
-) -> ShardReply
-    ensures { ShardAnswers D.state D.honest D.moment D.left_since shard.now (read_call place set) result shard.now }
-{
-    let answer = shard.read(alloc, place, &set);
-    ShardReply::Read(set, answer)
+impl ShardCall {
+    /// The reply to a read that was answered so: what was lent comes back in it.
+    pub fn into_reply(self, answer: Result<ReadReply, Refusal>) -> ShardReply
+        requires { is_read self ≡ true }
+        ensures { result ≡ read_reply self answer }
+    {
+        match self {
+            ShardCall::Read(_, set) => ShardReply::Read(set, answer),
+            ShardCall::ReadForCheck(_, userset, user) => {
+                ShardReply::ReadForCheck(userset, user, answer)
+            }
+            _ => unreachable!(),
+        }
+    }
 }
 
-/// The tuples that a check asks of a userset, about a user.
-pub(crate) fn read_for_check<D: Device>(
-    alloc: Global,
-    shard: &Shard<D>,
-    place: u64,
-    userset: Userset,
-    user: User,
-) -> ShardReply
-    ensures { ShardAnswers D.state D.honest D.moment D.left_since shard.now (check_call place userset user) result shard.now }
-{
-    let answer = shard.read_for_check(alloc, place, &userset, &user);
-    ShardReply::ReadForCheck(userset, user, answer)
-}
-
-fn look_at_shard<D: Device>(alloc: Global, shard: &Shard<D>, call: ShardCall) -> ShardReply
-    requires { is_read call ≡ true }
-    ensures { ShardAnswers D.state D.honest D.moment D.left_since shard.now call result shard.now }
+// Reads of the shard what the call asks for.
+fn read<D: Device>(alloc: Global, shard: &Shard<D>, call: &ShardCall) -> Result<ReadReply, Refusal>
+    requires { is_read call.now ≡ true }
+    ensures { ShardAnswers D.state D.honest D.moment D.left_since shard.now call.now (read_reply call.now result) shard.now }
 {
     match call {
-        ShardCall::Read(place, set) => read(alloc, shard, place, set),
+        ShardCall::Read(place, set) => shard.read(alloc, *place, set),
         ShardCall::ReadForCheck(place, userset, user) => {
-            read_for_check(alloc, shard, place, userset, user)
+            shard.read_for_check(alloc, *place, userset, user)
         }
         _ => unreachable!(),
     }
 }
 
-fn look_at<D: Device>(alloc: Global, opened: &Opened<D>, number: u8, call: ShardCall) -> Reply
-    requires may { MayAsk (seen opened.now) (of_shard number call) }
-    requires reads { is_read call ≡ true }
-    ensures { Answered D.state D.honest D.moment D.left_since (seen opened.now) (of_shard number call) result (seen opened.now) }
+fn look_at<D: Device>(
+    alloc: Global,
+    opened: &Opened<D>,
+    call: &ShardCall,
+) -> Result<ReadReply, Refusal>
+    requires { is_read call.now ≡ true }
+    ensures { (number : ℕ) → MayAsk (seen opened.now) (of_shard number call.now) → Answered D.state D.honest D.moment D.left_since (seen opened.now) (of_shard number call.now) (from_shard (read_reply call.now result)) (seen opened.now) }
 {
     match opened {
         // Nobody asks it for a shard's call.
-        Opened::Coordinator(_) => refuse(Refusal::Down, NodeCall::Shard(number, call)),
-        Opened::Shard(shard) => Reply::Shard(look_at_shard(alloc, shard, call)),
-        Opened::Refused(refused) => refuse(refused.refusal, NodeCall::Shard(number, call)),
+        Opened::Coordinator(_) => Err(Refusal::Down),
+        Opened::Shard(shard) => read(alloc, shard, call),
+        Opened::Refused(refused) => Err(refused.refusal),
     }
 }
 
-/// Makes the one read, of the shard of this number, which stays as it is. One whose opening was refused answers that refusal.
-pub fn look<D: Device>(node: &Node<D>, number: u8, call: ShardCall, told: &mut Told) -> Reply
-    requires may { MayAsk node.now (of_shard number call) }
-    requires reads { is_read call ≡ true }
-    ensures answered { Answered D.state D.honest D.moment D.left_since node.now (of_shard number call) result node.now }
-    ensures belongs { IsReplyTo (of_shard number call) result }
-    ensures told { Notes told.old result told.new }
+/// Makes the one read, of a shard, which stays as it is. One whose opening was refused answers that refusal. The call is only looked at: `into_reply` makes
+/// the reply of it and of what is answered here.
+pub fn look<D: Device>(
+    node: &Node<D>,
+    call: &ShardCall,
+    told: &mut Told,
+) -> Result<ReadReply, Refusal>
+    requires { is_read call.now ≡ true }
+    ensures answered { (number : ℕ) → MayAsk node.now (of_shard number call.now) → Answered D.state D.honest D.moment D.left_since node.now (of_shard number call.now) (from_shard (read_reply call.now result)) node.now }
+    ensures told { Notes told.old (from_shard (read_reply call.now result)) told.new }
 {
-    let reply = look_at(node.alloc, &node.opened, number, call);
-    tell(&reply, told);
-    reply
+    let answer = look_at(node.alloc, &node.opened, call);
+    if let Err(refusal) = &answer {
+        told.note(*refusal);
+    }
+    answer
 }

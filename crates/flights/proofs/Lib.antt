@@ -1,5 +1,6 @@
 mod Words
 pub mod Rows
+pub mod ToldRows
 pub mod Called
 pub mod Pointed
 pub mod Opened

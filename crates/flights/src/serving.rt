@@ -1,9 +1,10 @@
 // One call of a shard under its lock, whichever devices it is over.
 ghost use Rattle.std.specs.Prelude.{◌≡◌, true, false, List, ℕ};
 ghost use Rattle.calls.specs.Asking.{MayAskShard};
-ghost use Rattle.calls.specs.Reading.{is_read};
+ghost use Rattle.calls.specs.Reading.{is_read, read_reply};
 ghost use Rattle.calls.specs.Refusing.{Notes};
 ghost use Rattle.calls.specs.declared.call.NodeCall.TheVariants.{Shard as of_shard};
+ghost use Rattle.calls.specs.declared.reply.Reply.TheVariants.{Shard as from_shard};
 ghost use Rattle.flow_ties.specs.Cares.{HandsOver};
 ghost use Rattle.flow_ties.specs.Telling.{IsTold};
 ghost use Rattle.away.specs.Aways.{lent_honest, lent_state};
@@ -17,9 +18,10 @@ use away::Away;
 use calls::{Reply, ShardCall, Told};
 use device::Device;
 use published::{Published, SessionPass};
+use shard::ReadReply;
 use sides::{Room, ShardSide};
 use std::sync::Wait;
-use tuples::Entry;
+use tuples::{Entry, Refusal};
 
 /// Makes the call of the shard, which is no flush and no read.
 pub(crate) fn serve<D: Device, B: Room, R: Wait>(
@@ -62,22 +64,16 @@ pub(crate) fn look<D: Device, B: Room, R: Wait>(
     side: &ShardSide<D, B>,
     pass: &mut SessionPass<Entry>,
     told: &mut Told,
-    call: ShardCall,
-) -> Reply
+    call: &ShardCall,
+) -> Result<ReadReply, Refusal>
     requires own { (words.now ≡ B.log) × (pass.old.table ≡ B.log) }
-    requires reads { is_read call ≡ true }
-    ensures answers { SideAnswers D.state D.honest D.moment D.left_since side.now call result side.now }
+    requires reads { is_read call.now ≡ true }
+    ensures answers { SideAnswers D.state D.honest D.moment D.left_since side.now call.now (from_shard (read_reply call.now result)) side.now }
     ensures caller { IsLater pass.old pass.new }
-    ensures tells { B.rests → IsTold B.shards pass.new.seen (of_shard side.now.number call) result }
-    ensures told { Notes told.old result told.new }
+    ensures tells { B.rests → IsTold B.shards pass.new.seen (of_shard side.now.number call.now) (from_shard (read_reply call.now result)) }
+    ensures told { Notes told.old (from_shard (read_reply call.now result)) told.new }
 {
-    match call {
-        ShardCall::Read(place, set) => side.read(rt, words, pass, told, place, set),
-        ShardCall::ReadForCheck(place, userset, user) => {
-            side.read_for_check(rt, words, pass, told, place, userset, user)
-        }
-        _ => unreachable!(),
-    }
+    side.look(rt, words, pass, told, call)
 }
 
 /// Makes a call of a shard that has its devices. It is as sound as before.

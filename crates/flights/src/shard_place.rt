@@ -2,9 +2,10 @@
 ghost use Rattle.std.specs.Prelude.{◌≡◌, ◌<◌, true, false};
 ghost use Rattle.calls.specs.Asking.{MayAskShard};
 ghost use Rattle.calls.specs.Belonging.{IsReplyTo};
-ghost use Rattle.calls.specs.Reading.{is_read};
+ghost use Rattle.calls.specs.Reading.{is_read, read_reply};
 ghost use Rattle.calls.specs.Refusing.{Notes};
 ghost use Rattle.calls.specs.declared.call.NodeCall.TheVariants.{Shard as of_shard};
+ghost use Rattle.calls.specs.declared.reply.Reply.TheVariants.{Shard as from_shard};
 ghost use Rattle.flow_ties.specs.Cares.{HandsOver};
 ghost use Rattle.flow_ties.specs.Telling.{IsTold};
 ghost use Rattle.laws.specs.Worlds.{shard_node};
@@ -21,11 +22,12 @@ use device::Device;
 use journal::BatchRoom;
 use published::{Published, RestingPass, SessionPass, SharedPass};
 use records::Identity;
+use shard::ReadReply;
 use sides::{Room, ShardSide};
 use std::alloc::Global;
 use std::marker::Model;
 use std::sync::Wait;
-use tuples::Entry;
+use tuples::{Entry, Refusal};
 
 /// A shard, whose devices are here or on a flight.
 #[derive(Drop)]
@@ -127,21 +129,22 @@ impl<D: Device, B: Room> ShardPlace<D, B> {
     }
 
     /// Makes a read, wherever its devices are: it stays as it is, and others may read meanwhile. Rows are of the list that the caller's pass has seen then.
+    /// The call is only looked at.
     pub fn look<R: Wait>(
         &self,
         rt: &R,
         words: &Published<Entry>,
         pass: &mut SessionPass<Entry>,
         told: &mut Told,
-        call: ShardCall,
-    ) -> Reply
+        call: &ShardCall,
+    ) -> Result<ReadReply, Refusal>
         requires own { (words.now ≡ B.log) × (pass.old.table ≡ B.log) }
-        requires reads { is_read call ≡ true }
-        ensures answers { PlaceAnswers D.state D.honest D.moment D.left_since self.now call result self.now }
-        ensures belongs { IsReplyTo (of_shard (number_at self.now) call) result }
+        requires reads { is_read call.now ≡ true }
+        ensures answers { PlaceAnswers D.state D.honest D.moment D.left_since self.now call.now (from_shard (read_reply call.now result)) self.now }
+        ensures belongs { IsReplyTo (of_shard (number_at self.now) call.now) (from_shard (read_reply call.now result)) }
         ensures caller { IsLater pass.old pass.new }
-        ensures tells { B.rests → IsTold B.shards pass.new.seen (of_shard (number_at self.now) call) result }
-        ensures told { Notes told.old result told.new }
+        ensures tells { B.rests → IsTold B.shards pass.new.seen (of_shard (number_at self.now) call.now) (from_shard (read_reply call.now result)) }
+        ensures told { Notes told.old (from_shard (read_reply call.now result)) told.new }
     {
         match &self.berth {
             Some(Berth::Here(side, _)) => look(rt, words, side, pass, told, call),

@@ -76,7 +76,8 @@ fn look_at_shard<D: Device, B: Room, R: Wait>(
     ensures serves { Serves B.rests B.shards pass.old pass.new (of_shard (number_at place.now) call) result }
     ensures told { Notes told.old result told.new }
 {
-    place.look(rt, words, pass, told, call)
+    let answer = place.look(rt, words, pass, told, &call);
+    Reply::Shard(call.into_reply(answer))
 }
 
 impl<D: Device, B: Room, G: Gate> Store<D, B, G> {

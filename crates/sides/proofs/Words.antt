@@ -33,7 +33,7 @@ pub use Rattle.sides.specs.CoordinatorSides.{AnsweredThere, IsSound, IsSoundTher
 pub use Rattle.sides.specs.Joining.{AreHeadsOf, behind_in, CoordinatorMayJoin, exactly, MayJoin}
 pub use Rattle.sides.specs.Lending.{ComesBackIn, LandsIn, LandsRows, LendsIn, MayLandIn}
 pub use Rattle.sides.specs.Reopening.{LogOpenedIn, LogReopens, LogRestartedIn, OpenedIn, RestartedIn, ShardReopens}
-pub use Rattle.sides.specs.Sides.{AnsweredIn, IsOfShard, IsTiedIn, KnowsBoth, Side, TellsCheckRows, TellsRows}
+pub use Rattle.sides.specs.Sides.{AnsweredIn, IsOfShard, IsTiedIn, KnowsBoth, Side, TellsRows}
 pub use Rattle.ties.proofs.Deciding.{beginnings_stay_tied}
 pub use Rattle.ties.proofs.Landing.{landings_stay_tied}
 pub use Rattle.ties.proofs.Opening.{tied_up_is_tied}

@@ -1,21 +1,19 @@
 -- A shard under its lock, as its callers see it, and what each of its calls leaves of it.
-use Rattle.std.specs.Prelude.{◌≡◌, ◌≤◌, ℕ, List, [], length, Option, Some, None, Ok}
+use Rattle.std.specs.Prelude.{◌≡◌, ◌≤◌, ℕ, List, [], length, Option, Some, None, Result, Ok}
 use mathlib.Core.List.{IsPrefix}
 use Rattle.atomic_table.specs.Seated.{TableId}
 use Rattle.tuples.specs.declared.entry.Entry.{Entry}
-use Rattle.tuples.specs.declared.object.Userset.{Userset}
-use Rattle.tuples.specs.declared.user.User.{User}
-use Rattle.tuples.specs.declared.tupleset.Tupleset.{Tupleset}
 use Rattle.tuples.specs.Reads.{IsSelection}
 use Rattle.tuples.specs.Walking.{IsCheckSelection}
 use Rattle.device.specs.Device.{State}
 use Rattle.published.specs.Known.{Known}
+use Rattle.refusal.specs.declared.refusal.Refusal.{Refusal}
+use Rattle.shard.specs.declared.replies.ReadReply.{ReadReply}
 use Rattle.shard.specs.declared.replies.ReadReply.TheVariants.{Rows}
 use Rattle.calls.specs.declared.call.NodeCall.TheVariants.{Shard}
 use Rattle.calls.specs.declared.call.ShardCall.{ShardCall}
+use Rattle.calls.specs.declared.call.ShardCall.TheVariants.{Read, ReadForCheck}
 use Rattle.calls.specs.declared.reply.Reply.{Reply}
-use Rattle.calls.specs.declared.reply.Reply.TheVariants.{Shard as from_shard}
-use Rattle.calls.specs.declared.reply.ShardReply.TheVariants as told_by
 use Rattle.calls.specs.Asking.{Answered, MayAsk}
 use Rattle.calls.specs.Belonging.{IsReplyTo}
 use Rattle.calls.specs.Views.{NodeView, bank_len_of, coordinator, refused, shard}
@@ -78,12 +76,9 @@ module _ {D : Type 0} (state : D → State) (honest : D → Type 0) (moment : D 
     pub belongs : IsReplyTo (Shard old.number call) reply
     pub number : new.number ≡ old.number
 
--- Rows that are told at a place are those that a tupleset selects of the list there, of the tuples of this shard; the place is one of the list.
-abbrev pub TellsRows : ℕ → ℕ → List Entry → ℕ → Tupleset → Reply → Type 0
-TellsRows shards s seen place set (from_shard (told_by.Read back (Ok (Rows rows)))) = (place ≤ length seen) × IsSelection (there_of shards s seen place) set rows.items
-TellsRows shards s seen place set reply = Unit {0}
-
--- and so is what a check asks of a userset, about a user
-abbrev pub TellsCheckRows : ℕ → ℕ → List Entry → ℕ → Userset → User → Reply → Type 0
-TellsCheckRows shards s seen place x u (from_shard (told_by.ReadForCheck back_x back_u (Ok (Rows rows)))) = (place ≤ length seen) × IsCheckSelection (there_of shards s seen place) x u rows.items
-TellsCheckRows shards s seen place x u reply = Unit {0}
+-- Rows that a read tells at a place are those that its tupleset selects of the list there, of the tuples of this shard, or what its check asks of a userset,
+-- about a user; the place is one of the list.
+abbrev pub TellsRows : ℕ → ℕ → List Entry → ShardCall → Result ReadReply Refusal → Type 0
+TellsRows shards s seen (Read place set) (Ok (Rows rows)) = (place ≤ length seen) × IsSelection (there_of shards s seen place) set rows.items
+TellsRows shards s seen (ReadForCheck place x u) (Ok (Rows rows)) = (place ≤ length seen) × IsCheckSelection (there_of shards s seen place) x u rows.items
+TellsRows shards s seen call answer = Unit {0}

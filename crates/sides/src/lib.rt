@@ -10,7 +10,6 @@
 #![tactic(auto)]
 
 mod attempts;
-mod checking;
 mod checkpointing;
 mod collecting;
 mod coordinator_lending;

@@ -1,7 +1,9 @@
 // Reads of a shard, at a place of the list.
-ghost use Rattle.std.specs.Prelude.{◌≡◌};
+ghost use Rattle.std.specs.Prelude.{◌≡◌, true};
+ghost use Rattle.calls.specs.Reading.{is_read, read_reply};
 ghost use Rattle.calls.specs.Refusing.{Notes};
-ghost use Rattle.calls.specs.declared.call.ShardCall.TheVariants.{Learned as learned_call, Read as read_call};
+ghost use Rattle.calls.specs.declared.call.ShardCall.TheVariants.{Learned as learned_call};
+ghost use Rattle.calls.specs.declared.reply.Reply.TheVariants.{Shard as from_shard};
 ghost use Rattle.sides.specs.Sides.{KnowsBoth, SideAnswers, TellsRows};
 
 use crate::shard_side::{ask_shard, look_at_shard};
@@ -9,8 +11,9 @@ use crate::{Room, ShardSide};
 use calls::{Reply, ShardCall, Told};
 use device::Device;
 use published::{Published, SessionPass};
+use shard::ReadReply;
 use std::sync::Wait;
-use tuples::{Entry, Tupleset};
+use tuples::{Entry, Refusal};
 
 impl<D: Device, B: Room> ShardSide<D, B> {
     /// The place up to which it has learned.
@@ -23,24 +26,23 @@ impl<D: Device, B: Room> ShardSide<D, B> {
         ask_shard(&mut self.node, number, ShardCall::Learned, told)
     }
 
-    /// The tuples of a tupleset at a place. Rows are those of the list that the caller's pass has seen then.
-    pub fn read<R: Wait>(
+    /// Makes a read. Rows are those of the list that the caller's pass has seen then. The call is only looked at.
+    pub fn look<R: Wait>(
         &self,
         rt: &R,
         words: &Published<Entry>,
         pass: &mut SessionPass<Entry>,
         told: &mut Told,
-        place: u64,
-        set: Tupleset,
-    ) -> Reply
+        call: &ShardCall,
+    ) -> Result<ReadReply, Refusal>
         requires own { (words.now ≡ B.log) × (pass.old.table ≡ B.log) }
-        ensures answers { SideAnswers D.state D.honest D.moment D.left_since self.now (read_call place set) result self.now }
+        requires reads { is_read call.now ≡ true }
+        ensures answers { SideAnswers D.state D.honest D.moment D.left_since self.now call.now (from_shard (read_reply call.now result)) self.now }
         ensures caller { KnowsBoth self.now.pass pass.old pass.new }
-        ensures rows { B.rests → TellsRows B.shards self.now.number pass.new.seen place set result }
-        ensures told { Notes told.old result told.new }
+        ensures rows { B.rests → TellsRows B.shards self.now.number pass.new.seen call.now result }
+        ensures told { Notes told.old (from_shard (read_reply call.now result)) told.new }
     {
         self.tell(rt, words, pass);
-        let number = self.me.node();
-        look_at_shard(&self.node, number, ShardCall::Read(place, set), told)
+        look_at_shard(&self.node, self.me.node(), call, told)
     }
 }

@@ -1,9 +1,10 @@
 // What lies under the lock of a shard.
 ghost use Rattle.std.specs.Prelude.{◌≡◌, ◌<◌, true};
 ghost use Rattle.calls.specs.Belonging.{IsReplyTo};
-ghost use Rattle.calls.specs.Reading.{is_read};
+ghost use Rattle.calls.specs.Reading.{is_read, read_reply};
 ghost use Rattle.calls.specs.Refusing.{Notes};
 ghost use Rattle.calls.specs.declared.call.NodeCall.TheVariants.{Shard as of_shard};
+ghost use Rattle.calls.specs.declared.reply.Reply.TheVariants.{Shard as from_shard};
 ghost use Rattle.sides.specs.Sides.{AnsweredIn, IsTiedIn, KnowsBoth, MayAskIn, bank_len_in};
 
 use crate::Room;
@@ -11,9 +12,10 @@ use calls::{Node, NodeCall, Reply, ShardCall, Told, ask, look};
 use device::Device;
 use published::{Published, SessionPass, SharedPass};
 use records::Identity;
+use shard::ReadReply;
 use std::marker::{Model, PhantomData};
 use std::sync::Wait;
-use tuples::Entry;
+use tuples::{Entry, Refusal};
 
 /// A shard, and the pass of what it has seen of its store's list.
 ///
@@ -63,17 +65,18 @@ pub(crate) fn ask_shard<D: Device>(
 pub(crate) fn look_at_shard<D: Device>(
     node: &Option<Node<D>>,
     number: u8,
-    call: ShardCall,
+    call: &ShardCall,
     told: &mut Told,
-) -> Reply
-    requires may { MayAskIn number node.now call }
-    requires reads { is_read call ≡ true }
-    ensures answered { AnsweredIn D.state D.honest D.moment D.left_since number node.now call result node.now }
-    ensures belongs { IsReplyTo (of_shard number call) result }
-    ensures told { Notes told.old result told.new }
+) -> Result<ReadReply, Refusal>
+    requires may { MayAskIn number node.now call.now }
+    requires reads { is_read call.now ≡ true }
+    ensures answered { AnsweredIn D.state D.honest D.moment D.left_since number node.now call.now (from_shard (read_reply call.now result)) node.now }
+    ensures belongs { IsReplyTo (of_shard number call.now) (from_shard (read_reply call.now result)) }
+    ensures told { Notes told.old (from_shard (read_reply call.now result)) told.new }
 {
+    let _number = number;
     match node {
-        Some(node) => look(node, number, call, told),
+        Some(node) => look(node, call, told),
         None => unreachable!(),
     }
 }

@@ -1,7 +1,7 @@
 -- The clauses of each call, as its answer has them.
 use Rattle.std.proofs.Common.{refl}
 use Rattle.calls.proofs.Preparing.{prepare_refused, prepares}
-use Rattle.calls.proofs.Learning.{learn_refused, learns}
+use Rattle.calls.proofs.Learning.{learn_refused, learns, reads, reads_for_check}
 use Rattle.calls.proofs.asking.ask_shard.Goals as goal
 
 pub returns-in-Learn : goal.returns-in-Learn
@@ -66,3 +66,30 @@ returns-in-Checkpoint g c = rw c.in-Checkpoint.is (record {
   cause = c.checkpoint.ensures.cause;
   err = c.checkpoint.ensures.err;
 })
+
+pub returns-in-Read : goal.returns-in-Read
+returns-in-Read g c = let e = c.read-answer.ensures in rw c.in-Read.is (
+  refl,
+  refl,
+  record {
+    rows = λ ts up. reads c.args.shard.now c.in-Read.place c.in-Read.set ts c.read-answer.result (e.rows ts up);
+    behind = e.behind;
+    collected = e.collected;
+    down = e.down;
+    err = e.err;
+  },
+)
+
+pub returns-in-ReadForCheck : goal.returns-in-ReadForCheck
+returns-in-ReadForCheck g c = let e = c.read_for_check-answer.ensures in rw c.in-ReadForCheck.is (
+  refl,
+  refl,
+  refl,
+  record {
+    rows = λ ts up. reads_for_check c.args.shard.now c.in-ReadForCheck.place c.in-ReadForCheck.userset c.in-ReadForCheck.user ts c.read_for_check-answer.result (e.rows ts up);
+    behind = e.behind;
+    collected = e.collected;
+    down = e.down;
+    err = e.err;
+  },
+)
