@@ -86,13 +86,13 @@ abbrev pub step_ready : Ready → CheckStep
 step_ready (ready.Heads w) = heads
 step_ready (ready.Flush w) = flush
 step_ready (ready.CatchUp place w c) = catch_up
-step_ready (ready.Read place w y u) = read
+step_ready (ready.Read place w q) = read
 
 abbrev pub holds_ready : Ready → CheckHolds
 holds_ready (ready.Heads w) = holding_walk w None None
 holds_ready (ready.Flush w) = holding_walk w None None
 holds_ready (ready.CatchUp place w c) = holding_walk w (Some place) c.batch
-holds_ready (ready.Read place w y u) = holding_walk w (Some place) None
+holds_ready (ready.Read place w q) = holding_walk w (Some place) None
 
 -- and while a call is out
 abbrev pub step_out : Out → CheckStep
@@ -130,7 +130,7 @@ abbrev pub name_ready : Ready → CallName
 name_ready (ready.Heads w) = names.Heads
 name_ready (ready.Flush w) = names.Flush
 name_ready (ready.CatchUp place w c) = c.next
-name_ready (ready.Read place w y u) = names.Read
+name_ready (ready.Read place w q) = names.Read
 
 abbrev pub name_of : Phase → Option CallName
 name_of (phases.Ready r) = Some (name_ready r)
@@ -154,7 +154,7 @@ abbrev pub IsReadyOf : ℕ → User → Ready → Type 0
 IsReadyOf shards user (ready.Heads w) = Unit {0}
 IsReadyOf shards user (ready.Flush w) = Unit {0}
 IsReadyOf shards user (ready.CatchUp place w c) = IsOnItsWay shards place w c
-IsReadyOf shards user (ready.Read place w y u) = IsFirst w y × (u ≡ user)
+IsReadyOf shards user (ready.Read place w q) = IsFirst w q.0 × (q.1 ≡ user)
 
 abbrev pub IsOutOf : ℕ → Out → Type 0
 IsOutOf shards (out.Heads w) = Unit {0}

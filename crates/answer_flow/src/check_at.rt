@@ -28,6 +28,7 @@ impl CheckFlow {
     {
         let walk = Walk::new(alloc, userset)?;
         let asked = AskedCheck {
+            alloc,
             shards,
             freshness: Freshness::Exact(place),
             user,

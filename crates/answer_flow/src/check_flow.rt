@@ -46,7 +46,7 @@ pub(crate) fn nowhere() -> Phase {
 pub(crate) fn put(place: &mut Phase, phase: Phase)
     ensures { place.new ≡ phase }
 {
-    drop(mem::replace(place, phase));
+    *place = phase;
 }
 
 impl CheckFlow {
@@ -65,6 +65,7 @@ impl CheckFlow {
         let walk = Walk::new(alloc, userset)?;
         Ok(CheckFlow {
             asked: AskedCheck {
+                alloc,
                 shards,
                 freshness,
                 user,
@@ -122,10 +123,7 @@ impl CheckFlow {
                 let phase = give(&self.asked, out, reply);
                 put(&mut self.phase, phase);
             }
-            other => {
-                reply.leave();
-                put(&mut self.phase, other);
-            }
+            _ => unreachable!(),
         }
     }
 

@@ -1,16 +1,19 @@
 // Where a check is between two of its calls, and while one is out.
-ghost use Rattle.std.specs.Prelude.{◌≡◌, ◌≤◌, option_map};
+ghost use Rattle.std.specs.Prelude.{◌≡◌, ◌≤◌, IfOk, option_map};
 ghost use Rattle.records.specs.Identity.{max_shards};
 ghost use Rattle.answer_flow.specs.CheckViews.{ending_of, name_ready, view_of};
 
 use crate::walk::Walk;
 use catch_up::{CatchUp, CatchUpCall};
 use names::CallName;
+use std::alloc::{AllocError, Global};
+use std::marker::Model;
 use tuples::{Freshness, Refusal, User, Userset};
 
 /// About whom a check is asked, in a store of so many shards.
 #[derive(Drop)]
 pub(crate) struct AskedCheck {
+    pub(crate) alloc: Global,
     pub(crate) shards: u8,
     pub(crate) freshness: Freshness,
     pub(crate) user: User,
@@ -26,13 +29,44 @@ pub enum CheckEnd {
     Refused(Refusal),
 }
 
-/// Its next call. A read hands in the userset and the user.
+/// The userset and the user of a read, in memory of their own until it is made.
+#[derive(Drop)]
+pub(crate) struct Question {
+    parts: Box<(Userset, User)>,
+}
+
+impl Model for Question {
+    ghost use Rattle.tuples.specs.declared.object.Userset.{Userset as AnyUserset};
+    ghost use Rattle.tuples.specs.declared.user.User.{User as AnyUser};
+
+    ghost Value = { AnyUserset × AnyUser };
+
+    ghost view = { λ q. q.parts.value };
+}
+
+impl Question {
+    pub(crate) fn new(alloc: Global, userset: Userset, user: User) -> Result<Question, AllocError>
+        ensures { IfOk result (λ q. q ≡ (userset, user)) }
+    {
+        Ok(Question {
+            parts: Box::new(alloc, (userset, user))?,
+        })
+    }
+
+    pub(crate) fn into_parts(self) -> (Userset, User)
+        ensures { result ≡ self }
+    {
+        Box::into_inner(self.parts)
+    }
+}
+
+/// Its next call.
 #[derive(Drop)]
 pub(crate) enum Ready {
     Heads(Walk),
     Flush(Walk),
     CatchUp(u64, Walk, CatchUp),
-    Read(u64, Walk, Userset, User),
+    Read(u64, Walk, Question),
 }
 
 impl Ready {
@@ -43,7 +77,7 @@ impl Ready {
             Ready::Heads(_) => CallName::Heads,
             Ready::Flush(_) => CallName::Flush,
             Ready::CatchUp(_, _, catch_up) => catch_up.next_name(),
-            Ready::Read(_, _, _, _) => CallName::Read,
+            Ready::Read(_, _, _) => CallName::Read,
         }
     }
 }

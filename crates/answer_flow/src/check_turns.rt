@@ -7,12 +7,11 @@ ghost use Rattle.answer_flow.specs.CheckViews.{IsOutOf, IsReadyOf, IsBehindOf, a
 ghost use Rattle.answer_flow.specs.declared.check_phase.Out.TheVariants as out_of;
 ghost use Rattle.answer_flow.specs.declared.check_phase.Ready.TheVariants as ready_of;
 
-use crate::check_phase::{AskedCheck, CheckEnd, Out, Phase, Ready};
+use crate::check_phase::{AskedCheck, Out, Phase, Question, Ready};
 use crate::checking::{caught_up, flushed, have_read, shard_to_ask, told};
 use crate::walk::Walk;
 use calls::{CoordinatorCall, CoordinatorReply, NodeCall, Reply, ShardCall, ShardReply};
 use catch_up::CatchUp;
-use tuples::{Refusal, User, Userset};
 
 fn call_of_catch_up(
     asked: &AskedCheck,
@@ -30,18 +29,13 @@ fn call_of_catch_up(
     (call, Out::CatchUp(place, walk, awaited))
 }
 
-fn call_of_read(
-    asked: &AskedCheck,
-    place: u64,
-    walk: Walk,
-    userset: Userset,
-    user: User,
-) -> (NodeCall, Out)
-    requires { IsReadyOf asked.now.shards asked.now.user (ready_of.Read place walk userset user) }
+fn call_of_read(asked: &AskedCheck, place: u64, walk: Walk, question: Question) -> (NodeCall, Out)
+    requires { IsReadyOf asked.now.shards asked.now.user (ready_of.Read place walk question) }
     ensures name { name_of_call result.0 ≡ names.Read }
-    ensures asks { Asks asked.now.shards asked.now.user (view_ready (ready_of.Read place walk userset user)) result.0 (view_out result.1) }
+    ensures asks { Asks asked.now.shards asked.now.user (view_ready (ready_of.Read place walk question)) result.0 (view_out result.1) }
     ensures kept { IsOutOf asked.now.shards result.1 }
 {
+    let (userset, user) = question.into_parts();
     let shard = shard_to_ask(&userset, asked.shards);
     let call = ShardCall::ReadForCheck(place, userset, user);
     (NodeCall::Shard(shard, call), Out::Read(place, walk))
@@ -64,16 +58,8 @@ pub(crate) fn next(asked: &AskedCheck, ready: Ready) -> (NodeCall, Out)
             Out::Flush(walk),
         ),
         Ready::CatchUp(place, walk, catch_up) => call_of_catch_up(asked, place, walk, catch_up),
-        Ready::Read(place, walk, userset, user) => {
-            call_of_read(asked, place, walk, userset, user)
-        }
+        Ready::Read(place, walk, question) => call_of_read(asked, place, walk, question),
     }
-}
-
-// Nobody gives the reply to another call, but what it carries has to be spent.
-fn foreign(reply: Reply) -> Phase {
-    reply.leave();
-    Phase::Ended(CheckEnd::Refused(Refusal::Damaged))
 }
 
 /// What a reply makes of it.
@@ -86,17 +72,11 @@ pub(crate) fn give(asked: &AskedCheck, out: Out, reply: Reply) -> Phase
     match out {
         Out::Heads(walk) => match reply {
             Reply::Coordinator(CoordinatorReply::Heads(answer)) => told(asked, walk, answer),
-            other => {
-                drop(walk);
-                foreign(other)
-            }
+            _ => unreachable!(),
         },
         Out::Flush(walk) => match reply {
             Reply::Coordinator(CoordinatorReply::Flush(answer)) => flushed(asked, walk, answer),
-            other => {
-                drop(walk);
-                foreign(other)
-            }
+            _ => unreachable!(),
         },
         Out::CatchUp(place, walk, call) => caught_up(asked, place, walk, call, reply),
         Out::Read(place, walk) => match reply {
@@ -105,10 +85,7 @@ pub(crate) fn give(asked: &AskedCheck, out: Out, reply: Reply) -> Phase
                 drop(user);
                 have_read(asked, place, walk, answer)
             }
-            other => {
-                drop(walk);
-                foreign(other)
-            }
+            _ => unreachable!(),
         },
     }
 }

@@ -9,14 +9,14 @@ ghost use Rattle.answer_flow.specs.CheckViews.{IsFirst, IsOutOf, IsBehindOf, at_
 ghost use Rattle.answer_flow.specs.declared.check_phase.Out.TheVariants as out_of;
 ghost use Rattle.catch_up.specs.CatchingUp.{Fits as FitsCatchUp};
 
-use crate::check_phase::{AskedCheck, CheckEnd, Phase, Ready};
+use crate::check_phase::{AskedCheck, CheckEnd, Phase, Question, Ready};
 use crate::finding::{Found, find};
 use crate::walk::{Walk, has_user};
 use calls::Reply;
 use catch_up::{CatchUp, CatchUpCall, Progress};
 use decisions::Heads;
 use shard::ReadReply;
-use std::alloc::AllocError;
+use std::alloc::{AllocError, Global};
 use tuples::{MAX_WALKED, Refusal, Tuple, User, Userset, shard_of};
 
 fn refused(refusal: Refusal) -> Phase
@@ -104,7 +104,7 @@ pub(crate) fn flushed(asked: &AskedCheck, walk: Walk, answer: Result<(), Refusal
 }
 
 // What the first that waits is asked.
-fn question(walk: &Walk, user: &User) -> Result<Option<(Userset, User)>, AllocError>
+fn question(alloc: Global, walk: &Walk, user: &User) -> Result<Option<Question>, AllocError>
     ensures { IfOk result (λ asks. MatchOption asks (walk.now.waiting ≡ []) (λ q. IsFirst walk.now q.0 × (q.1 ≡ user.now))) }
 {
     let Some(first) = walk.first() else {
@@ -112,7 +112,8 @@ fn question(walk: &Walk, user: &User) -> Result<Option<(Userset, User)>, AllocEr
     };
     let user = user.clone()?;
     let first = first.clone()?;
-    Ok(Some((first, user)))
+    let question = Question::new(alloc, first, user)?;
+    Ok(Some(question))
 }
 
 // The shard has learned so far, and is read.
@@ -122,8 +123,8 @@ pub(crate) fn ask(asked: &AskedCheck, place: u64, walk: Walk) -> Phase
     ensures named { (name_of result ≡ Some names.Read) ⊎ LacksMemory (view_of result) }
     ensures kept { IsBehindOf asked.now.shards asked.now.user result }
 {
-    match question(&walk, &asked.user) {
-        Ok(Some((userset, user))) => Phase::Ready(Ready::Read(place, walk, userset, user)),
+    match question(asked.alloc, &walk, &asked.user) {
+        Ok(Some(question)) => Phase::Ready(Ready::Read(place, walk, question)),
         Ok(None) => answered(place, false),
         Err(_) => refused(Refusal::NoMemory),
     }

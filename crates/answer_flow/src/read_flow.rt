@@ -41,7 +41,7 @@ impl Model for ReadFlow {
 pub(crate) fn put(place: &mut Phase, phase: Phase)
     ensures { place.new ≡ phase }
 {
-    drop(mem::replace(place, phase));
+    *place = phase;
 }
 
 impl ReadFlow {
@@ -111,10 +111,7 @@ impl ReadFlow {
                 let phase = give(&self.asked, out, reply);
                 put(&mut self.phase, phase);
             }
-            other => {
-                reply.leave();
-                put(&mut self.phase, other);
-            }
+            _ => unreachable!(),
         }
     }
 

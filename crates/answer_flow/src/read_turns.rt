@@ -7,11 +7,11 @@ ghost use Rattle.answer_flow.specs.ReadViews.{IsNext, IsOutOf, IsReadyOf, IsBehi
 ghost use Rattle.answer_flow.specs.declared.read_phase.Out.TheVariants as out_of;
 ghost use Rattle.answer_flow.specs.declared.read_phase.Ready.TheVariants as ready_of;
 
-use crate::read_phase::{AskedRead, Gathered, Out, Phase, ReadEnd, Ready};
+use crate::read_phase::{AskedRead, Gathered, Out, Phase, Ready};
 use crate::reading::{caught_up, flushed, have_read, shard_to_ask, told};
 use calls::{CoordinatorCall, CoordinatorReply, NodeCall, Reply, ShardCall, ShardReply};
 use catch_up::CatchUp;
-use tuples::{Refusal, Tupleset};
+use tuples::Tupleset;
 
 fn call_of_catch_up(
     asked: &AskedRead,
@@ -57,12 +57,6 @@ pub(crate) fn next(asked: &AskedRead, ready: Ready) -> (NodeCall, Out)
     }
 }
 
-// Nobody gives the reply to another call, but what it carries has to be spent.
-fn foreign(reply: Reply) -> Phase {
-    reply.leave();
-    Phase::Ended(ReadEnd::Refused(Refusal::Damaged))
-}
-
 /// What a reply makes of it.
 pub(crate) fn give(asked: &AskedRead, out: Out, reply: Reply) -> Phase
     requires kept { IsOutOf asked.now.shards asked.now.sets.items out }
@@ -73,18 +67,18 @@ pub(crate) fn give(asked: &AskedRead, out: Out, reply: Reply) -> Phase
     match out {
         Out::Heads => match reply {
             Reply::Coordinator(CoordinatorReply::Heads(answer)) => told(asked, answer),
-            other => foreign(other),
+            _ => unreachable!(),
         },
         Out::Flush => match reply {
             Reply::Coordinator(CoordinatorReply::Flush(answer)) => flushed(asked, answer),
-            other => foreign(other),
+            _ => unreachable!(),
         },
         Out::CatchUp(gathered, set, call) => caught_up(asked, gathered, set, call, reply),
         Out::Read(gathered) => match reply {
             Reply::Shard(ShardReply::Read(set, answer)) => {
                 have_read(asked, gathered, set, answer)
             }
-            other => foreign(other),
+            _ => unreachable!(),
         },
     }
 }

@@ -10,12 +10,19 @@ use std::collections::{BTreeSet, VecDeque};
 use std::marker::Model;
 use tuples::{Tuple, User, Userset};
 
-/// Each userset was met once. A set of all makes it cheap to tell whether one was met.
+// What a check has met.
 #[derive(Drop)]
-pub(crate) struct Walk {
+struct Usersets {
     walked: Vec<Userset>,
     waiting: VecDeque<Userset>,
+    // all of them, which makes it cheap to tell whether one was met
     met: BTreeSet<Userset>,
+}
+
+/// Each userset was met once. They lie in memory of their own, since a check hands them from phase to phase.
+#[derive(Drop)]
+pub(crate) struct Walk {
+    usersets: Box<Usersets>,
 }
 
 impl Model for Walk {
@@ -24,9 +31,9 @@ impl Model for Walk {
 
     ghost Value = { WalkValue };
 
-    ghost view = { λ w. record { walked = w.walked.items; waiting = w.waiting.items } };
+    ghost view = { λ w. record { walked = w.usersets.value.walked.items; waiting = w.usersets.value.waiting.items } };
 
-    ghost invariant = { λ w. IsWalk w.met.keys (w.walked.items ++ w.waiting.items) };
+    ghost invariant = { λ w. IsWalk w.usersets.value.met.keys (w.usersets.value.walked.items ++ w.usersets.value.waiting.items) };
 }
 
 fn copied(userset: &Userset) -> Result<Userset, AllocError>
@@ -52,17 +59,24 @@ fn meet(
     Ok(())
 }
 
-/// Whether the row is of the userset and the user.
-fn is_holding(userset: &Userset, user: &User, row: &Tuple) -> bool
-    ensures { IsTrue result ↔ (row.now ≡ holding userset.now user.now) }
+// Whether the row is of the userset.
+fn is_of(userset: &Userset, row: &Tuple) -> bool
+    ensures { IsTrue result ↔ (row.now ≡ holding userset.now row.now.user) }
 {
     if !row.object.cmp(&userset.object).is_eq() {
         return false;
     }
-    if !row.relation.cmp(&userset.relation).is_eq() {
+    row.relation.cmp(&userset.relation).is_eq()
+}
+
+// Whether the row is of the userset and the user. Most rows are of another user.
+fn is_holding(userset: &Userset, user: &User, row: &Tuple) -> bool
+    ensures { IsTrue result ↔ (row.now ≡ holding userset.now user.now) }
+{
+    if !row.user.cmp(user).is_eq() {
         return false;
     }
-    row.user.cmp(user).is_eq()
+    is_of(userset, row)
 }
 
 /// Whether one of the rows is of the userset and the user.
@@ -88,7 +102,7 @@ fn meet_rows(
 {
     for row in rows {
         if let User::Set(held) = &row.user {
-            if is_holding(userset, &row.user, row) {
+            if is_of(userset, row) {
                 meet(met, waiting, held)?;
             }
         }
@@ -104,10 +118,13 @@ impl Walk {
         let mut waiting = VecDeque::new(alloc);
         let mut met = BTreeSet::new(alloc);
         meet(&mut met, &mut waiting, userset)?;
-        Ok(Walk {
+        let usersets = Usersets {
             walked: Vec::new(alloc),
             waiting,
             met,
+        };
+        Ok(Walk {
+            usersets: Box::new(alloc, usersets)?,
         })
     }
 
@@ -115,40 +132,37 @@ impl Walk {
     pub(crate) fn first(&self) -> Option<&Userset>
         ensures { option_copied result ≡ slice_get self.now.waiting 0 }
     {
-        self.waiting.front()
+        self.usersets.waiting.front()
     }
 
     /// Whether one waits.
     pub(crate) fn waits(&self) -> bool
         ensures { IsTrue result ↔ (self.now.waiting ≢ []) }
     {
-        !self.waiting.is_empty()
+        !self.usersets.waiting.is_empty()
     }
 
     /// How many were walked.
     pub(crate) fn walked(&self) -> usize
         ensures { result ≡ length self.now.walked }
     {
-        self.walked.len()
+        self.usersets.walked.len()
     }
 
     /// Walks the first that waits, whose rows these are.
     pub(crate) fn walk_first(self, rows: &[Tuple]) -> Result<Walk, AllocError>
         ensures { IfOk result (λ w. (y : AnyUserset) (rest : List AnyUserset) → self.waiting ≡ y ∷ rest → IsWalked y rest rows.now self w) }
     {
-        let Walk {
-            mut walked,
-            mut waiting,
-            mut met,
-        } = self;
-        if let Some(first) = waiting.pop_front() {
-            meet_rows(&mut met, &mut waiting, &first, rows)?;
-            walked.push(first)?;
-        }
-        Ok(Walk {
+        let Walk { mut usersets } = self;
+        let Usersets {
             walked,
             waiting,
             met,
-        })
+        } = &mut *usersets;
+        if let Some(first) = waiting.pop_front() {
+            meet_rows(met, waiting, &first, rows)?;
+            walked.push(first)?;
+        }
+        Ok(Walk { usersets })
     }
 }

@@ -99,10 +99,7 @@ impl WatchFlow {
                 let namespaces = &self.namespaces;
                 self.phase = give(self.alloc, self.cursor, self.limit, namespaces, out, reply);
             }
-            other => {
-                reply.leave();
-                self.phase = other;
-            }
+            _ => unreachable!(),
         }
     }
 

@@ -88,12 +88,6 @@ fn fetched(
     }
 }
 
-// Nobody gives the reply to another call, but what it carries has to be spent.
-fn foreign(reply: Reply) -> Phase {
-    reply.leave();
-    Phase::Ended(WatchEnd::Refused(Refusal::Damaged))
-}
-
 /// What a reply makes of it.
 pub(crate) fn give(
     alloc: Global,
@@ -110,17 +104,17 @@ pub(crate) fn give(
     match out {
         Out::Heads => match reply {
             Reply::Coordinator(CoordinatorReply::Heads(answer)) => told(cursor, answer),
-            other => foreign(other),
+            _ => unreachable!(),
         },
         Out::Flush => match reply {
             Reply::Coordinator(CoordinatorReply::Flush(answer)) => flushed(answer),
-            other => foreign(other),
+            _ => unreachable!(),
         },
         Out::Batch(heads) => match reply {
             Reply::Coordinator(CoordinatorReply::Batch(answer)) => {
                 fetched(alloc, cursor, limit, namespaces, heads, answer)
             }
-            other => foreign(other),
+            _ => unreachable!(),
         },
     }
 }

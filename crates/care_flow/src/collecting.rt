@@ -6,7 +6,7 @@ ghost use Rattle.care_flow.specs.Collecting.{Answered, Asks, Awaits, CollectGive
 ghost use Rattle.care_flow.specs.CollectPhases.{having, view_of};
 ghost use Rattle.care_flow.specs.Views.{IsBehind, ready};
 
-use crate::end::{CareEnd, end_by, foreign};
+use crate::end::{CareEnd, end_by};
 use calls::{CoordinatorCall, CoordinatorReply, NodeCall, Reply, ShardCall, ShardReply};
 use decisions::Heads;
 use names::CallName;
@@ -124,21 +124,21 @@ fn give(phase: Phase, reply: Reply) -> Phase
     match phase {
         Phase::Asked => match reply {
             Reply::Coordinator(CoordinatorReply::Heads(answer)) => answered(answer),
-            other => refused(foreign(other)),
+            _ => unreachable!(),
         },
         Phase::Collecting(is_again) => match reply {
             Reply::Shard(ShardReply::Collect(heads, answer)) => collected(is_again, heads, answer),
-            other => refused(foreign(other)),
+            _ => unreachable!(),
         },
         Phase::FlushingToCollect(heads) => match reply {
             Reply::Shard(ShardReply::Flush(answer)) => flushed(heads, answer),
-            other => refused(foreign(other)),
+            _ => unreachable!(),
         },
         Phase::Flushing => match reply {
             Reply::Shard(ShardReply::Flush(answer)) => Phase::Ended(end_by(answer)),
-            other => refused(foreign(other)),
+            _ => unreachable!(),
         },
-        _other => refused(foreign(reply)),
+        _ => unreachable!(),
     }
 }
 

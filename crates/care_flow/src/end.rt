@@ -2,7 +2,6 @@
 ghost use Rattle.std.specs.Prelude.{◌≡◌};
 ghost use Rattle.care_flow.specs.Ends.{ended_by};
 
-use calls::Reply;
 use tuples::{Refusal, WriteId};
 
 /// What became of a write that was in doubt.
@@ -34,10 +33,4 @@ pub(crate) fn end_by(answer: Result<(), Refusal>) -> CareEnd
         Ok(()) => CareEnd::Done,
         Err(refusal) => CareEnd::Refused(refusal),
     }
-}
-
-/// Nobody gives the reply to another call, but what it carries has to be spent.
-pub(crate) fn foreign(reply: Reply) -> Refusal {
-    reply.leave();
-    Refusal::Damaged
 }

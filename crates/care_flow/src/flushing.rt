@@ -4,7 +4,7 @@ ghost use Rattle.calls.specs.Asking.{MayBeMade};
 ghost use Rattle.care_flow.specs.Flushing.{Answered, Awaits, Fits, Gives, IsThere, NextCall, flush, flush_of, name_of};
 ghost use Rattle.care_flow.specs.Views.{IsBehind, out, ready};
 
-use crate::end::{CareEnd, end_by, foreign};
+use crate::end::{CareEnd, end_by};
 use calls::{CoordinatorCall, CoordinatorReply, NodeCall, Reply, ShardCall, ShardReply};
 use names::{CallName, NodeName};
 use std::marker::Model;
@@ -66,7 +66,7 @@ fn give(is_checkpoint: bool, node: NodeName, reply: Reply) -> CareEnd
         Reply::Coordinator(CoordinatorReply::Checkpoint(answer)) => end_by(answer),
         Reply::Shard(ShardReply::Flush(answer)) => end_by(answer),
         Reply::Shard(ShardReply::Checkpoint(answer)) => end_by(answer),
-        other => CareEnd::Refused(foreign(other)),
+        _ => unreachable!(),
     }
 }
 

@@ -9,7 +9,7 @@ ghost use Rattle.care_flow.specs.Learning.{Answered, Asks, Awaits, Fits, Gives, 
 ghost use Rattle.care_flow.specs.LearnPhases.{IsOf, name_of, view_of};
 ghost use Rattle.care_flow.specs.Views.{IsBehind, ready};
 
-use crate::end::{CareEnd, foreign};
+use crate::end::CareEnd;
 use calls::{CoordinatorCall, CoordinatorReply, NodeCall, Reply};
 use catch_up::{CatchUp, CatchUpCall, Progress};
 use decisions::Heads;
@@ -116,10 +116,10 @@ fn give(shard: u8, phase: Phase, reply: Reply) -> Phase
     match phase {
         Phase::Asked => match reply {
             Reply::Coordinator(CoordinatorReply::Heads(answer)) => answered(shard, answer),
-            other => refused(foreign(other)),
+            _ => unreachable!(),
         },
         Phase::CatchingUp(heads, call) => caught_up(heads, call, reply),
-        _ => refused(foreign(reply)),
+        _ => unreachable!(),
     }
 }
 

@@ -7,7 +7,7 @@ ghost use Rattle.care_flow.specs.Raising.{Fits, FlushGives, Gives, GoesRound, He
 ghost use Rattle.care_flow.specs.Views.{IsBehind, ready};
 ghost use Rattle.care_flow.specs.RaisePhases.{IsOf, IsRoundOf, gathering as held_by, handed_in, view_of};
 
-use crate::end::{CareEnd, end_by, foreign};
+use crate::end::{CareEnd, end_by};
 use crate::gathering::{Gathered, Gathering};
 use crate::raising::Phase;
 use calls::{CoordinatorReply, Reply, ShardReply};
@@ -152,37 +152,37 @@ pub(crate) fn give(alloc: Global, shards: u8, place: u64, phase: Phase, reply: R
             Reply::Coordinator(CoordinatorReply::Heads(answer)) => {
                 answered(alloc, shards, place, answer)
             }
-            other => refused(foreign(other)),
+            _ => unreachable!(),
         },
         Phase::FlushingToAsk => match reply {
             Reply::Coordinator(CoordinatorReply::Flush(answer)) => flushed(Phase::Ask, answer),
-            other => refused(foreign(other)),
+            _ => unreachable!(),
         },
         Phase::CatchingUp(gathering, call) => caught_up(gathering, call, reply),
         Phase::Flushing(gathering) => match reply {
             Reply::Shard(ShardReply::Flush(answer)) => flushed(Phase::Settle(gathering), answer),
-            other => refused(foreign(other)),
+            _ => unreachable!(),
         },
         Phase::Settling(gathering) => match reply {
             Reply::Shard(ShardReply::Settle(answer)) => settled(gathering, answer),
-            other => refused(foreign(other)),
+            _ => unreachable!(),
         },
         Phase::Raising(heads, is_again) => match reply {
             Reply::Coordinator(CoordinatorReply::Raise(answer)) => {
                 raised(shards, place, heads, is_again, answer)
             }
-            other => refused(foreign(other)),
+            _ => unreachable!(),
         },
         Phase::FlushingToRaise(gathered) => match reply {
             Reply::Coordinator(CoordinatorReply::Flush(answer)) => {
                 flushed(Phase::Raise(gathered, true), answer)
             }
-            other => refused(foreign(other)),
+            _ => unreachable!(),
         },
         Phase::FlushingRaised(_heads) => match reply {
             Reply::Coordinator(CoordinatorReply::Flush(answer)) => Phase::Ended(end_by(answer)),
-            other => refused(foreign(other)),
+            _ => unreachable!(),
         },
-        _other => refused(foreign(reply)),
+        _ => unreachable!(),
     }
 }

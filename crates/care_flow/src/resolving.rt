@@ -11,7 +11,7 @@ ghost use Rattle.care_flow.specs.Resolving.{Answered, Asks, Awaits, DoubtsGive, 
 ghost use Rattle.care_flow.specs.ResolvePhases.{IsOf, holding, name_of, view_of};
 ghost use Rattle.care_flow.specs.Views.{IsBehind, ready};
 
-use crate::end::{CareEnd, Resolved, foreign};
+use crate::end::{CareEnd, Resolved};
 use crate::findings::Findings;
 use calls::{CoordinatorCall, CoordinatorReply, NodeCall, Reply, ShardCall, ShardReply};
 use catch_up::{CatchUp, CatchUpCall, Progress};
@@ -199,20 +199,20 @@ fn give(alloc: Global, shard: u8, findings: &mut Findings, phase: Phase, reply: 
     match phase {
         Phase::AskedDoubts => match reply {
             Reply::Shard(ShardReply::InDoubt(answer)) => told(alloc, shard, findings, answer),
-            other => Phase::Refused(foreign(other)),
+            _ => unreachable!(),
         },
         Phase::Inquired(id) => match reply {
             Reply::Coordinator(CoordinatorReply::Inquire(answer)) => {
                 inquired(shard, findings, id, answer)
             }
-            other => Phase::Refused(foreign(other)),
+            _ => unreachable!(),
         },
         Phase::CatchingUp(call) => caught_up(shard, findings, call, reply),
         Phase::Dropping => match reply {
             Reply::Shard(ShardReply::DropWrite(_, answer)) => dropped(shard, findings, answer),
-            other => Phase::Refused(foreign(other)),
+            _ => unreachable!(),
         },
-        _other => Phase::Refused(foreign(reply)),
+        _ => unreachable!(),
     }
 }
 

@@ -115,12 +115,6 @@ fn flushed(shard: u8, to: u64, batch: Batch, answer: Result<(), Refusal>) -> Pro
     }
 }
 
-// Nobody gives the reply to another call, but what it carries has to be spent.
-fn foreign(reply: Reply) -> Progress {
-    reply.leave();
-    Progress::Refused(Refusal::Damaged)
-}
-
 impl CatchUpCall {
     /// What the reply to its call makes of it. A refusal ends it, but for two: behind a place whose decisions are forgotten the shard is asked
     /// anew how far it has learned, and a full shard is flushed once and handed the same decisions again.
@@ -132,21 +126,21 @@ impl CatchUpCall {
         match asked {
             Asked::Learned => match reply {
                 Reply::Shard(ShardReply::Learned(answer)) => learned(shard, to, answer),
-                other => foreign(other),
+                _ => unreachable!(),
             },
             Asked::Batch => match reply {
                 Reply::Coordinator(CoordinatorReply::Batch(answer)) => fetched(shard, to, answer),
-                other => foreign(other),
+                _ => unreachable!(),
             },
             Asked::Learn(is_again) => match reply {
                 Reply::Shard(ShardReply::Learn(batch, answer)) => {
                     handed_over(shard, to, is_again, batch, answer)
                 }
-                other => foreign(other),
+                _ => unreachable!(),
             },
             Asked::Flush(batch) => match reply {
                 Reply::Shard(ShardReply::Flush(answer)) => flushed(shard, to, batch, answer),
-                other => foreign(other),
+                _ => unreachable!(),
             },
         }
     }

@@ -120,10 +120,7 @@ impl WriteFlow {
             Phase::Out(out) => {
                 put(&mut self.phase, give(self.alloc, self.shards, out, reply));
             }
-            other => {
-                reply.leave();
-                put(&mut self.phase, other);
-            }
+            _ => unreachable!(),
         }
     }
 

@@ -9,8 +9,6 @@ ghost use Rattle.commit_flow.specs.declared.phase.Out.TheVariants as out_of;
 use crate::ballot::Ballot;
 use crate::deciding::{decided as decide, flushed_to_decide, told};
 use crate::dropping::{aborted, dropped, inquired};
-use crate::end::WriteEnd;
-use crate::leaving::{leave_asked, leave_preparing, leave_voting, leave_with};
 use crate::load::Load;
 use crate::phase::{AskedPrepare, Leaving, Out, Phase, Preparing, Ready, Voting};
 use crate::preparing::{begun, caught_up, flushed_to_prepare, prepared};
@@ -19,13 +17,7 @@ use calls::{CoordinatorReply, Reply, ShardReply};
 use coordinator::Decided;
 use decisions::Ticket;
 use std::alloc::Global;
-use tuples::{Refusal, WriteId};
-
-// Nobody gives the reply to another call, but what it carries has to be spent.
-fn foreign(reply: Reply) -> Phase {
-    reply.leave();
-    Phase::Ended(WriteEnd::Refused(Refusal::Damaged))
-}
+use tuples::WriteId;
 
 fn give_decide(alloc: Global, shards: u8, id: WriteId, is_again: bool, reply: Reply) -> Phase
     requires some { 1 ≤ shards }
@@ -38,7 +30,7 @@ fn give_decide(alloc: Global, shards: u8, id: WriteId, is_again: bool, reply: Re
         Reply::Coordinator(CoordinatorReply::Decide(answer)) => {
             Phase::Ready(decide(alloc, shards, id, is_again, answer))
         }
-        other => foreign(other),
+        _ => unreachable!(),
     }
 }
 
@@ -50,10 +42,7 @@ fn give_begin(load: Load, reply: Reply) -> Phase
 {
     match reply {
         Reply::Coordinator(CoordinatorReply::Begin(answer)) => begun(load, answer),
-        other => {
-            load.leave();
-            foreign(other)
-        }
+        _ => unreachable!(),
     }
 }
 
@@ -66,10 +55,7 @@ fn give_prepare(asked: AskedPrepare, is_again: bool, reply: Reply) -> Phase
         Reply::Shard(ShardReply::StagePrepare(intent, answer)) => Phase::Ready(prepared(
             asked, is_again, intent, answer,
         )),
-        other => {
-            leave_asked(asked);
-            foreign(other)
-        }
+        _ => unreachable!(),
     }
 }
 
@@ -82,10 +68,7 @@ fn give_flush_to_prepare(preparing: Preparing, reply: Reply) -> Phase
         Reply::Shard(ShardReply::Flush(answer)) => Phase::Ready(flushed_to_prepare(
             preparing, answer,
         )),
-        other => {
-            leave_preparing(preparing);
-            foreign(other)
-        }
+        _ => unreachable!(),
     }
 }
 
@@ -97,10 +80,7 @@ fn give_vote(voting: Voting, reply: Reply) -> Phase
 {
     match reply {
         Reply::Shard(ShardReply::Vote(answer)) => Phase::Ready(voted(voting, answer)),
-        other => {
-            leave_voting(voting);
-            foreign(other)
-        }
+        _ => unreachable!(),
     }
 }
 
@@ -115,10 +95,7 @@ fn give_flush_to_vote(voting: Voting, ticket: Ticket, reply: Reply) -> Phase
         Reply::Shard(ShardReply::Flush(answer)) => Phase::Ready(flushed_to_vote(
             voting, ticket, answer,
         )),
-        other => {
-            leave_with(voting, ticket);
-            foreign(other)
-        }
+        _ => unreachable!(),
     }
 }
 
@@ -131,10 +108,7 @@ fn give_flush_to_decide(alloc: Global, ballot: Ballot, reply: Reply) -> Phase
         Reply::Coordinator(CoordinatorReply::Flush(answer)) => Phase::Ready(flushed_to_decide(
             alloc, ballot, answer,
         )),
-        other => {
-            ballot.leave();
-            foreign(other)
-        }
+        _ => unreachable!(),
     }
 }
 
@@ -146,7 +120,7 @@ fn give_outcome(id: WriteId, reply: Reply) -> Phase
 {
     match reply {
         Reply::Coordinator(CoordinatorReply::Outcome(outcome)) => told(id, outcome),
-        other => { foreign(other) }
+        _ => unreachable!(),
     }
 }
 
@@ -160,10 +134,7 @@ fn give_flush_to_outcome(id: WriteId, decided: Decided, reply: Reply) -> Phase
         Reply::Coordinator(CoordinatorReply::Flush(_answer)) => Phase::Ready(Ready::Outcome(
             id, decided,
         )),
-        other => {
-            decided.leave();
-            foreign(other)
-        }
+        _ => unreachable!(),
     }
 }
 
@@ -174,10 +145,7 @@ fn give_abort(leaving: Leaving, reply: Reply) -> Phase
 {
     match reply {
         Reply::Coordinator(CoordinatorReply::Abort(answer)) => aborted(leaving, answer),
-        other => {
-            leaving.leave();
-            foreign(other)
-        }
+        _ => unreachable!(),
     }
 }
 
@@ -188,10 +156,7 @@ fn give_inquire(leaving: Leaving, reply: Reply) -> Phase
 {
     match reply {
         Reply::Coordinator(CoordinatorReply::Inquire(answer)) => inquired(leaving, answer),
-        other => {
-            leaving.leave();
-            foreign(other)
-        }
+        _ => unreachable!(),
     }
 }
 
@@ -202,10 +167,7 @@ fn give_drop_write(leaving: Leaving, reply: Reply) -> Phase
 {
     match reply {
         Reply::Shard(ShardReply::DropWrite(verdict, _)) => dropped(leaving, verdict),
-        other => {
-            leaving.leave();
-            foreign(other)
-        }
+        _ => unreachable!(),
     }
 }
 

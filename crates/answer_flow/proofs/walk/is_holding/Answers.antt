@@ -1,25 +1,20 @@
--- A row is the one that is looked for exactly where each of its parts is.
-use Rattle.std.proofs.Common.{◌≡◌, ◌∙◌, true, false, true≢false, sym, rules}
+-- A row is the one that is looked for where it is of the user and of the userset.
+use Rattle.std.proofs.Common.{◌≡◌, ◌∙◌, ◌↔◌, true, false, true≢false, IsTrue, sym, subst, rules}
 use Rattle.std.specs.Ordering.{is_eq}
-use Rattle.tuples.specs.Order.{name_cmp, object_cmp, user_cmp}
-use Rattle.answer_flow.proofs.MetLists.{holding_is, holding_parts}
+use Rattle.tuples.specs.declared.user.User.{User}
+use Rattle.tuples.specs.Checking.{holding}
+use Rattle.tuples.specs.Order.{user_cmp}
+use Rattle.tuples.proofs.Same.{user_same}
+use Rattle.answer_flow.proofs.MetLists.{holding_parts}
 use Rattle.answer_flow.proofs.walk.is_holding.Goals as goal
 
 pub returns-then-not-is_eq : goal.returns-then-not-is_eq
 returns-then-not-is_eq c =
-    let test : c.is_eq.result ≡ is_eq (object_cmp c.args.row.now.object c.args.userset.now.object) = search rules in
+    let test : c.is_eq.result ≡ is_eq (user_cmp c.args.row.now.user c.args.user.now) = search rules in
     let not : c.is_eq.result ≡ false = search rules in
-    (λ is. absurd (true≢false (sym is)), λ is. absurd (true≢false (sym (test ∙ (holding_parts c.args.userset.now c.args.user.now c.args.row.now is).0) ∙ not)))
-
-pub returns-then-not-is_eq-2 : goal.returns-then-not-is_eq-2
-returns-then-not-is_eq-2 c =
-    let test : c.is_eq-2.result ≡ is_eq (name_cmp c.args.row.now.relation c.args.userset.now.relation) = search rules in
-    let not : c.is_eq-2.result ≡ false = search rules in
-    (λ is. absurd (true≢false (sym is)), λ is. absurd (true≢false (sym (test ∙ (holding_parts c.args.userset.now c.args.user.now c.args.row.now is).1) ∙ not)))
+    (λ is. absurd (true≢false (sym is)), λ is. absurd (true≢false (sym (test ∙ (holding_parts c.args.userset.now c.args.user.now c.args.row.now is).2) ∙ not)))
 
 pub returns : goal.returns
 returns c =
-    let object : is_eq (object_cmp c.args.row.now.object c.args.userset.now.object) ≡ true = search rules in
-    let relation : is_eq (name_cmp c.args.row.now.relation c.args.userset.now.relation) ≡ true = search rules in
-    let test : c.is_eq-3.result ≡ is_eq (user_cmp c.args.row.now.user c.args.user.now) = search rules in
-    (λ is. holding_is c.args.userset.now c.args.user.now c.args.row.now object relation (sym test ∙ is), λ is. test ∙ (holding_parts c.args.userset.now c.args.user.now c.args.row.now is).2)
+    let same : is_eq (user_cmp c.args.row.now.user c.args.user.now) ≡ true = search rules in
+    subst (λ (u : User). IsTrue c.is_of.result ↔ (c.args.row.now ≡ holding c.args.userset.now u)) (user_same c.args.row.now.user c.args.user.now same) c.is_of.ensures
