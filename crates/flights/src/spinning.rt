@@ -1,9 +1,10 @@
 // Locks that are held for a few microseconds at a time.
+use std::hint::spin_loop;
 use std::sync::{Mutex, MutexGuard, RwLock, RwLockReadGuard, RwLockWriteGuard, Wait};
 
-// How often one is tried before its caller sleeps. A try takes five to twenty nanoseconds; who sleeps waits for a processor behind it, and each hold that ends
-// meanwhile costs a call of the system.
-const TRIES: u32 = 200;
+// How often one is tried before its caller sleeps: for some ten microseconds, as a try and the pause behind it take twenty-five nanoseconds or more. Who sleeps
+// waits for a processor behind it, and each hold that ends meanwhile costs a call of the system.
+const TRIES: u32 = 400;
 
 /// What lies under the lock, locked.
 pub(crate) fn lock_soon<'a, T, R: Wait>(rt: &R, mutex: &'a Mutex<T>) -> MutexGuard<'a, T> {
@@ -11,6 +12,7 @@ pub(crate) fn lock_soon<'a, T, R: Wait>(rt: &R, mutex: &'a Mutex<T>) -> MutexGua
         if let Some(guard) = mutex.try_lock() {
             return guard;
         }
+        spin_loop();
     }
     mutex.lock(rt)
 }
@@ -21,6 +23,7 @@ pub(crate) fn read_soon<'a, T, R: Wait>(rt: &R, lock: &'a RwLock<T>) -> RwLockRe
         if let Some(guard) = lock.try_read() {
             return guard;
         }
+        spin_loop();
     }
     lock.read(rt)
 }
@@ -31,6 +34,7 @@ pub(crate) fn write_soon<'a, T, R: Wait>(rt: &R, lock: &'a RwLock<T>) -> RwLockW
         if let Some(guard) = lock.try_write() {
             return guard;
         }
+        spin_loop();
     }
     lock.write(rt)
 }
