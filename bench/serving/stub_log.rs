@@ -5,9 +5,12 @@ use std::os::unix::fs::FileExt;
 use std::path::Path;
 
 const OPEN: u8 = 0xa5;
+const STRETCH: u64 = 1 << 16;
 
 pub struct Log {
     file: File,
+    // How many bytes the file has, where it is stretched as those of the proved server are; else none.
+    stretched: Option<u64>,
     end: u64,
     staged: Vec<u8>,
     // How many bodies were staged, and how many of them are durable.
@@ -32,7 +35,8 @@ impl Log {
         }
         file.sync_all()?;
         File::open(path.parent().expect("a folder"))?.sync_all()?;
-        Ok((Log { file, end: at as u64, staged: Vec::new(), given: 0, durable: 0 }, bodies))
+        let stretched = std::env::var_os("STUB_STRETCHES").map(|_| bytes.len() as u64);
+        Ok((Log { file, stretched, end: at as u64, staged: Vec::new(), given: 0, durable: 0 }, bodies))
     }
 
     /// The number of this body.
@@ -57,8 +61,14 @@ impl Log {
         self.durable = self.given;
     }
 
-    fn write(&self, at: u64, bytes: &[u8]) {
+    fn write(&mut self, at: u64, bytes: &[u8]) {
         self.file.write_all_at(bytes, at).expect("a write of the log");
+        let end = at + bytes.len() as u64;
+        if self.stretched.is_some_and(|length| length < end) {
+            let room = STRETCH - end % STRETCH;
+            self.file.write_all_at(&[0; STRETCH as usize][..room as usize], end).expect("a stretch of the log");
+            self.stretched = Some(end + room);
+        }
         self.file.sync_data().expect("a sync of the log");
     }
 }

@@ -13,6 +13,8 @@ TOP = os.path.dirname(os.path.dirname(os.path.dirname(os.path.abspath(__file__))
 # How many lives a store has: each begins with an opening, and goes on with a part of its script. Long images would only take longer.
 LIVES = 3
 MOST_LINES = 60
+# A file that is written to past its end is stretched to a multiple of so many bytes.
+STRETCH = 1 << 16
 
 # The node with the identity that is asked for, and the bytes of its devices.
 Image = namedtuple("Image", "node store shards a b")
@@ -40,12 +42,20 @@ def real_images(seed):
         for life in range(LIVES):
             run(folder, maker, lines[life * len(lines) // LIVES : (life + 1) * len(lines) // LIVES])
         nodes = [("c", COORDINATOR), *((str(shard), shard) for shard in range(maker.shards))]
-        return [Image(node, maker.store, maker.shards, *(read_file(f"{folder}/{name}.{bank}") for bank in "ab")) for name, node in nodes]
+        return [Image(node, maker.store, maker.shards, *(unstretched(read_file(f"{folder}/{name}.{bank}")) for bank in "ab")) for name, node in nodes]
 
 
 def read_file(path):
     with open(path, "rb") as it:
         return it.read()
+
+
+def unstretched(content):
+    """What was written to a file, without the zeros by which it is longer, up to a multiple of STRETCH: so a change of an image meets what counts."""
+    if len(content) <= 1 or len(content) % STRETCH:
+        return content
+    _, end = batches_of(Rules(), content)
+    return content[: max(end, len(content.rstrip(b"\0"))) + 1]
 
 
 def fault_of(image):

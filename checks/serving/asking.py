@@ -15,7 +15,7 @@ PAGE = os.path.join(TOP, "docs", "API.md")
 ANN, BOB, LOCK = "doc:readme#viewer@ann", "group:staff#member@bob", "doc:readme#lock@lock"
 AGAIN = (10, 11, 14, 15)
 USAGE = {
-    "write": "write [+TUPLE | -TUPLE].. [if [?TUPLE | !TUPLE | TUPLE=TOKEN]..]",
+    "write": "write +TUPLE | -TUPLE .. [if ?TUPLE | !TUPLE | TUPLE=TOKEN ..]",
     "read": "read [latest | at-least TOKEN | exact TOKEN] TUPLESET..",
     "check": "check [latest | at-least TOKEN | exact TOKEN] TUPLE",
     "watch": "watch TOKEN LIMIT NAMESPACE.., with a limit from 1 to 256",

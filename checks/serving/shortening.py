@@ -4,7 +4,7 @@ import time
 
 from judge.definitions import shard_of
 from judge.worlds import must
-from serving.server import SHARDS, Server
+from serving.server import SHARDS, STRETCH, Server
 from serving.talking import is_told
 from serving.wire import Session, check, delete, read, refusal, token, touch, watch, write
 
@@ -13,8 +13,10 @@ from serving.wire import Session, check, delete, read, refusal, token, touch, wa
 NAME, CHANGES = "d" * 128, 4
 # What the bank of a node that has made no checkpoint is let grow to, and how many places there are from one round of cares to the next.
 LIMIT, ROUND = 2 << 20, 1024
-# What a checkpoint of so few tuples, or of so few writes, takes at most, with the records behind it.
-SHORT = 1 << 16
+# The most changes of a write.
+MANY = 64
+# The length of a file that has a checkpoint of so few tuples, or of so few writes, and the records behind it.
+SHORT = STRETCH
 # Seconds in which a round that makes no checkpoint has long ended.
 QUIET = 0.5
 # Places that can still be read; the others are let go, and so are not in a checkpoint.
@@ -34,6 +36,7 @@ def banks(folder, name):
 
 
 def lengths(folder, name):
+    """Each file is longer than its records, by at most a stretch."""
     return [os.path.getsize(bank) for bank in banks(folder, name)]
 
 
@@ -47,7 +50,7 @@ def begins_checkpoint(path):
 def write_until(session, folder, place):
     """Writes until a round of cares comes behind the limit; one before makes no checkpoint. The last place."""
     all_of = tuples()
-    while min(lengths(folder, "a")) <= LIMIT or place % ROUND:
+    while min(lengths(folder, "a")) <= LIMIT + STRETCH or place % ROUND:
         place += 1
         is_told(session, write(*("+" + tuple for tuple in all_of)), {"zookie": token(place)})
         if place == ROUND:
@@ -81,7 +84,7 @@ def shortened(folder):
         for _ in range(10):
             place += 1
             is_told(session, write("+" + rows[0], "-" + rows[1]), {"zookie": token(place)})
-        must(max(lengths(folder, "b")) < SHORT, f"checkpoints of {CHANGES} tuples and {WINDOW} writes, and 10 writes, have {lengths(folder, 'b')} bytes")
+        must(max(lengths(folder, "b")) <= SHORT, f"checkpoints of {CHANGES} tuples and {WINDOW} writes, and 10 writes, have {lengths(folder, 'b')} bytes")
         told = session.ask(watch(token(before), "doc"))
         must(told == {"events": listed(before + 1, place, *changes), "heartbeat": token(place)}, f"a watch tells {str(told)[:300]}")
         first.kill()
@@ -96,4 +99,21 @@ def shortened(folder):
         second.kill()
 
 
-TRIES = {"shortened": shortened}
+def left_as_it_is(folder):
+    """nodes that are opened with more than 2 MiB make no checkpoint where the horizon was never raised: it would forget nothing"""
+    place = 0
+    with Server(folder) as first, Session(first.port) as session:
+        while min(lengths(folder, "a")) <= LIMIT + STRETCH:
+            place += 1
+            changes = (f"+doc:{NAME}#{'r' * 64}@{place:06}.{number:02}{'u' * 100}" for number in range(MANY))
+            is_told(session, write(*changes), {"zookie": token(place)})
+        must(place < ROUND, f"a round of cares may have come at place {place}")
+        first.kill()
+    with Server(folder) as second, Session(second.port) as session:
+        time.sleep(QUIET)
+        must(not any(map(begins_checkpoint, banks(folder, "b"))), f"a checkpoint of {lengths(folder, 'a')} bytes behind the start")
+        is_told(session, write("+" + tuples()[0]), {"zookie": token(place + 1)})
+        second.kill()
+
+
+TRIES = {"shortened": shortened, "left-as-it-is": left_as_it_is}

@@ -1,12 +1,13 @@
 """How a server starts, and when it doesn't."""
 import os
+import random
 import re
 import shutil
 import socket
 
 from judge.worlds import must
 from serving.libraries import built_library
-from serving.server import HOST, SHARDS, STORE, Server, free_port, is_start, run, without_progress, words_of
+from serving.server import HOST, SHARDS, STORE, STRETCH, Server, free_port, is_start, run, without_progress, words_of
 from serving.talking import is_told
 from serving.wire import Session, check, read, refusal, write
 from serving.wire import token as token_of
@@ -126,6 +127,37 @@ def spoil(path, at):
         file.write(bytes([byte[0] ^ 0x55]))
 
 
+def end_of_list(content):
+    """The place of the closed gate behind the last record."""
+    at = 0
+    while content[at] == 0xA5:
+        at += 5 + int.from_bytes(content[at + 1 : at + 5], "big")
+    return at
+
+
+def put_behind(path, of):
+    """Puts other bytes behind the closed gate of the file, `of` as many as there were."""
+    with open(path, "r+b") as file:
+        content = file.read()
+        begin = end_of_list(content) + 1
+        must(len(content) % STRETCH == 0 and begin < len(content), f"{os.path.basename(path)} has {len(content)} bytes, {begin} of them of its list")
+        file.truncate(begin)
+        file.seek(begin)
+        file.write(of(len(content) - begin))
+
+
+def stretched_files(folder):
+    """a file is longer than its records, up to a multiple of 64 KiB; whichever bytes stand there, or none, what was told is found, and more is written"""
+    tuples = [f"doc:{letter}#viewer@ann" for letter in "abcd"]
+    for number, of in enumerate((bytes, random.Random(1).randbytes, lambda count: b"\xa5" * count, lambda count: b"")):
+        life(folder, "+" + tuples[number])
+        for name in ("c.a", "0.a", "1.a", "2.a"):
+            put_behind(os.path.join(folder, name), of)
+        with Server(folder) as server, Session(server.port) as session:
+            for tuple in tuples:
+                is_told(session, check(tuple), {"member": tuple in tuples[: number + 1], "zookie": token_of(number + 1)})
+
+
 def damaged_files(folder):
     """a file with another byte: `16 Damaged`, and its own byte again: ready"""
     makes_files(folder, "+doc:a#viewer@ann", "+doc:b#viewer@ann", "+doc:c#viewer@ann")
@@ -232,6 +264,7 @@ TRIES = {
     "no-folder": no_folder,
     "taken-port": taken_port,
     "second-server": second_server,
+    "stretched-files": stretched_files,
     "damaged-files": damaged_files,
     "other-stores": other_stores,
     "mixed-files": mixed_files,

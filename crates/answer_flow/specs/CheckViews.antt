@@ -125,6 +125,11 @@ view_of (phases.Ready r) = view_ready r
 view_of (phases.Out o) = view_out o
 view_of (phases.Ended end) = ended (ending_of end)
 
+-- of the phase that a check is in; it is taken out only within a call
+abbrev pub view_in : Option Phase → CheckView
+view_in None = at_rest heads nothing_walked
+view_in (Some p) = view_of p
+
 -- the name of its next call, if there is one
 abbrev pub name_ready : Ready → CallName
 name_ready (ready.Heads w) = names.Heads
@@ -136,6 +141,10 @@ abbrev pub name_of : Phase → Option CallName
 name_of (phases.Ready r) = Some (name_ready r)
 name_of (phases.Out o) = None
 name_of (phases.Ended end) = None
+
+abbrev pub name_in : Option Phase → Option CallName
+name_in None = None
+name_in (Some p) = name_of p
 
 -- this one waits first
 abbrev pub IsFirst : WalkValue → Userset → Type 0
@@ -154,7 +163,7 @@ abbrev pub IsReadyOf : ℕ → User → Ready → Type 0
 IsReadyOf shards user (ready.Heads w) = Unit {0}
 IsReadyOf shards user (ready.Flush w) = Unit {0}
 IsReadyOf shards user (ready.CatchUp place w c) = IsOnItsWay shards place w c
-IsReadyOf shards user (ready.Read place w q) = IsFirst w q.0 × (q.1 ≡ user)
+IsReadyOf shards user (ready.Read place w q) = IsFirst w q.userset × (q.user ≡ user)
 
 abbrev pub IsOutOf : ℕ → Out → Type 0
 IsOutOf shards (out.Heads w) = Unit {0}
@@ -166,6 +175,11 @@ abbrev pub IsPhaseOf : ℕ → User → Phase → Type 0
 IsPhaseOf shards user (phases.Ready r) = IsReadyOf shards user r
 IsPhaseOf shards user (phases.Out o) = IsOutOf shards o
 IsPhaseOf shards user (phases.Ended end) = Unit {0}
+
+-- a check is in one of them
+abbrev pub IsIn : ℕ → User → Option Phase → Type 0
+IsIn shards user None = ⊥
+IsIn shards user (Some p) = IsPhaseOf shards user p
 
 -- behind a reply it waits for no other
 abbrev pub IsBehindOf : ℕ → User → Phase → Type 0

@@ -134,6 +134,11 @@ view_of (phases.Ready r) = view_ready r
 view_of (phases.Out o) = view_out o
 view_of (phases.Ended end) = ended (ending_of end)
 
+-- of the phase that a read is in; it is taken out only within a call
+abbrev pub view_in : Option Phase → ReadView
+view_in None = at_rest heads nothing_read
+view_in (Some p) = view_of p
+
 -- the name of its next call, if there is one
 abbrev pub name_ready : Ready → CallName
 name_ready ready.Heads = names.Heads
@@ -145,6 +150,10 @@ abbrev pub name_of : Phase → Option CallName
 name_of (phases.Ready r) = Some (name_ready r)
 name_of (phases.Out o) = None
 name_of (phases.Ended end) = None
+
+abbrev pub name_in : Option Phase → Option CallName
+name_in None = None
+name_in (Some p) = name_of p
 
 -- the next tupleset is this one, and a shard of it is asked next
 pub record IsNext (shards : ℕ) (sets : List Tupleset) (g : Gathered) (set : Tupleset) : Type 0 where
@@ -174,6 +183,11 @@ abbrev pub IsPhaseOf : ℕ → List Tupleset → Phase → Type 0
 IsPhaseOf shards sets (phases.Ready r) = IsReadyOf shards sets r
 IsPhaseOf shards sets (phases.Out o) = IsOutOf shards sets o
 IsPhaseOf shards sets (phases.Ended end) = Unit {0}
+
+-- a read is in one of them
+abbrev pub IsIn : ℕ → List Tupleset → Option Phase → Type 0
+IsIn shards sets None = ⊥
+IsIn shards sets (Some p) = IsPhaseOf shards sets p
 
 -- behind a reply it waits for no other
 abbrev pub IsBehindOf : ℕ → List Tupleset → Phase → Type 0

@@ -101,6 +101,11 @@ view_of (phases.Ready r) = view_ready r
 view_of (phases.Out o) = view_out o
 view_of (phases.Ended end) = ended (ending_of end)
 
+-- of the phase that a watch is in; it is taken out only within a call
+abbrev pub view_in : Option Phase → WatchView
+view_in None = at_rest heads no_heads
+view_in (Some p) = view_of p
+
 -- by the heads that are held the cursor is kept
 abbrev pub IsReadyOf : ℕ → Ready → Type 0
 IsReadyOf cursor ready.Heads = Unit {0}
@@ -116,6 +121,11 @@ abbrev pub IsPhaseOf : ℕ → Phase → Type 0
 IsPhaseOf cursor (phases.Ready r) = IsReadyOf cursor r
 IsPhaseOf cursor (phases.Out o) = IsOutOf cursor o
 IsPhaseOf cursor (phases.Ended end) = Unit {0}
+
+-- a watch is in one of them
+abbrev pub IsIn : ℕ → Option Phase → Type 0
+IsIn cursor None = ⊥
+IsIn cursor (Some p) = IsPhaseOf cursor p
 
 -- behind a reply it waits for no other
 abbrev pub IsBehindOf : ℕ → Phase → Type 0

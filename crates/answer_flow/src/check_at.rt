@@ -34,6 +34,9 @@ impl CheckFlow {
             user,
         };
         let phase = go_on(&asked, place, walk);
-        Ok(CheckFlow { asked, phase })
+        Ok(CheckFlow {
+            asked,
+            phase: Some(phase),
+        })
     }
 }

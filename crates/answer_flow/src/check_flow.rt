@@ -13,8 +13,7 @@ use calls::{NodeCall, Reply};
 use names::CallName;
 use std::alloc::{AllocError, Global};
 use std::marker::Model;
-use std::mem;
-use tuples::{Freshness, Refusal, User, Userset};
+use tuples::{Freshness, User, Userset};
 
 /// A check on its way: `heads`, until it has its place; then breadth first from the asked userset, each userset once: its shard is brought up to the
 /// place, and read. It holds nothing that has to be spent, so who cancels it drops it.
@@ -22,7 +21,8 @@ use tuples::{Freshness, Refusal, User, Userset};
 #[must_use]
 pub struct CheckFlow {
     pub(crate) asked: AskedCheck,
-    pub(crate) phase: Phase,
+    // taken out only within a call
+    pub(crate) phase: Option<Phase>,
 }
 
 impl Model for CheckFlow {
@@ -30,23 +30,18 @@ impl Model for CheckFlow {
 
     ghost Value = { CheckFlowValue };
 
-    ghost use Rattle.answer_flow.specs.CheckViews.{IsPhaseOf, name_of, view_of};
+    ghost use Rattle.answer_flow.specs.CheckViews.{IsIn, name_in, view_in};
 
-    ghost view = { λ f. record { shards = f.asked.shards; fresh = f.asked.freshness; user = f.asked.user; seen = view_of f.phase; next_name = name_of f.phase } };
+    ghost view = { λ f. record { shards = f.asked.shards; fresh = f.asked.freshness; user = f.asked.user; seen = view_in f.phase; next_name = name_in f.phase } };
 
-    ghost invariant = { λ f. IsPhaseOf f.asked.shards f.asked.user f.phase };
+    ghost invariant = { λ f. IsIn f.asked.shards f.asked.user f.phase };
 }
 
-// What stands there while a phase is out.
-pub(crate) fn nowhere() -> Phase {
-    Phase::Ended(CheckEnd::Refused(Refusal::Damaged))
-}
-
-// Puts a phase in the place of one that was taken out.
-pub(crate) fn put(place: &mut Phase, phase: Phase)
-    ensures { place.new ≡ phase }
+// Puts a phase where one was taken out.
+pub(crate) fn put(place: &mut Option<Phase>, phase: Phase)
+    ensures { place.new ≡ Some phase }
 {
-    *place = phase;
+    *place = Some(phase);
 }
 
 impl CheckFlow {
@@ -70,7 +65,7 @@ impl CheckFlow {
                 freshness,
                 user,
             },
-            phase: Phase::Ready(Ready::Heads(walk)),
+            phase: Some(Phase::Ready(Ready::Heads(walk))),
         })
     }
 
@@ -82,8 +77,8 @@ impl CheckFlow {
         ensures some { self.now.seen.ended ≡ None → self.now.seen.awaited ≡ None → result ≢ None }
     {
         match &self.phase {
-            Phase::Ready(ready) => Some(ready.name()),
-            Phase::Out(_) | Phase::Ended(_) => None,
+            Some(Phase::Ready(ready)) => Some(ready.name()),
+            _ => None,
         }
     }
 
@@ -96,7 +91,9 @@ impl CheckFlow {
         ensures out { (awaited : _) → self.old.seen.awaited ≡ Some awaited → result ≡ None }
         ensures some { self.old.seen.ended ≡ None → self.old.seen.awaited ≡ None → result ≢ None }
     {
-        let phase = mem::replace(&mut self.phase, nowhere());
+        let Some(phase) = self.phase.take() else {
+            unreachable!();
+        };
         match phase {
             Phase::Ready(ready) => {
                 let (call, out) = next(&self.asked, ready);
@@ -117,7 +114,9 @@ impl CheckFlow {
         ensures gives { MatchOption self.old.seen.awaited ⊥ (λ awaited. GivesTo self.old.fresh self.old.user self.old.seen awaited reply self.new.seen) }
         ensures rests { self.new.seen.awaited ≡ None }
     {
-        let phase = mem::replace(&mut self.phase, nowhere());
+        let Some(phase) = self.phase.take() else {
+            unreachable!();
+        };
         match phase {
             Phase::Out(out) => {
                 let phase = give(&self.asked, out, reply);
@@ -132,8 +131,8 @@ impl CheckFlow {
         ensures { result ≡ is_some self.now.seen.ended }
     {
         match &self.phase {
-            Phase::Ended(_) => true,
-            Phase::Ready(_) | Phase::Out(_) => false,
+            Some(Phase::Ended(_)) => true,
+            _ => false,
         }
     }
 
@@ -141,6 +140,11 @@ impl CheckFlow {
     pub fn finish(self) -> Option<CheckEnd>
         ensures { option_map ending_of result ≡ self.seen.ended }
     {
-        self.phase.into_end()
+        let CheckFlow { asked, phase } = self;
+        drop(asked);
+        match phase {
+            Some(phase) => phase.into_end(),
+            None => unreachable!(),
+        }
     }
 }

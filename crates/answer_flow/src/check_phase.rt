@@ -1,13 +1,13 @@
 // Where a check is between two of its calls, and while one is out.
-ghost use Rattle.std.specs.Prelude.{◌≡◌, ◌≤◌, IfOk, option_map};
+ghost use Rattle.std.specs.Prelude.{◌≡◌, ◌≤◌, option_map};
 ghost use Rattle.records.specs.Identity.{max_shards};
 ghost use Rattle.answer_flow.specs.CheckViews.{ending_of, name_ready, view_of};
 
 use crate::walk::Walk;
+use calls::Boxed;
 use catch_up::{CatchUp, CatchUpCall};
 use names::CallName;
-use std::alloc::{AllocError, Global};
-use std::marker::Model;
+use std::alloc::Global;
 use tuples::{Freshness, Refusal, User, Userset};
 
 /// About whom a check is asked, in a store of so many shards.
@@ -29,35 +29,11 @@ pub enum CheckEnd {
     Refused(Refusal),
 }
 
-/// The userset and the user of a read, in memory of their own until it is made.
+/// What a shard is asked of a userset, about a user.
 #[derive(Drop)]
 pub(crate) struct Question {
-    parts: Box<(Userset, User)>,
-}
-
-impl Model for Question {
-    ghost use Rattle.tuples.specs.declared.object.Userset.{Userset as AnyUserset};
-    ghost use Rattle.tuples.specs.declared.user.User.{User as AnyUser};
-
-    ghost Value = { AnyUserset × AnyUser };
-
-    ghost view = { λ q. q.parts.value };
-}
-
-impl Question {
-    pub(crate) fn new(alloc: Global, userset: Userset, user: User) -> Result<Question, AllocError>
-        ensures { IfOk result (λ q. q ≡ (userset, user)) }
-    {
-        Ok(Question {
-            parts: Box::new(alloc, (userset, user))?,
-        })
-    }
-
-    pub(crate) fn into_parts(self) -> (Userset, User)
-        ensures { result ≡ self }
-    {
-        Box::into_inner(self.parts)
-    }
+    pub(crate) userset: Boxed<Userset>,
+    pub(crate) user: Boxed<User>,
 }
 
 /// Its next call.

@@ -35,8 +35,8 @@ fn call_of_read(asked: &AskedCheck, place: u64, walk: Walk, question: Question) 
     ensures asks { Asks asked.now.shards asked.now.user (view_ready (ready_of.Read place walk question)) result.0 (view_out result.1) }
     ensures kept { IsOutOf asked.now.shards result.1 }
 {
-    let (userset, user) = question.into_parts();
-    let shard = shard_to_ask(&userset, asked.shards);
+    let Question { userset, user } = question;
+    let shard = shard_to_ask(userset.get(), asked.shards);
     let call = ShardCall::ReadForCheck(place, userset, user);
     (NodeCall::Shard(shard, call), Out::Read(place, walk))
 }

@@ -12,7 +12,7 @@ ghost use Rattle.catch_up.specs.CatchingUp.{Fits as FitsCatchUp};
 use crate::check_phase::{AskedCheck, CheckEnd, Phase, Question, Ready};
 use crate::finding::{Found, find};
 use crate::walk::{Walk, has_user};
-use calls::Reply;
+use calls::{Boxed, Reply};
 use catch_up::{CatchUp, CatchUpCall, Progress};
 use decisions::Heads;
 use shard::ReadReply;
@@ -105,15 +105,14 @@ pub(crate) fn flushed(asked: &AskedCheck, walk: Walk, answer: Result<(), Refusal
 
 // What the first that waits is asked.
 fn question(alloc: Global, walk: &Walk, user: &User) -> Result<Option<Question>, AllocError>
-    ensures { IfOk result (λ asks. MatchOption asks (walk.now.waiting ≡ []) (λ q. IsFirst walk.now q.0 × (q.1 ≡ user.now))) }
+    ensures { IfOk result (λ asks. MatchOption asks (walk.now.waiting ≡ []) (λ q. IsFirst walk.now q.userset × (q.user ≡ user.now))) }
 {
     let Some(first) = walk.first() else {
         return Ok(None);
     };
-    let user = user.clone()?;
-    let first = first.clone()?;
-    let question = Question::new(alloc, first, user)?;
-    Ok(Some(question))
+    let user = Boxed::new(alloc, user.clone()?)?;
+    let userset = Boxed::new(alloc, first.clone()?)?;
+    Ok(Some(Question { userset, user }))
 }
 
 // The shard has learned so far, and is read.

@@ -2,33 +2,32 @@
 ghost use Rattle.std.specs.Prelude.{◌≡◌, ◌≢◌, ◌⊎◌, ◌↔◌, IsTrue, Some};
 ghost use Rattle.names.specs.declared.call_name.CallName.TheVariants as names;
 ghost use Rattle.answer_flow.specs.Checking.{HastensCheck, LacksMemory};
-ghost use Rattle.answer_flow.specs.CheckViews.{name_of as name_of_check};
+ghost use Rattle.answer_flow.specs.CheckViews.{name_in as name_of_check};
 ghost use Rattle.answer_flow.specs.Reading.{HastensRead};
-ghost use Rattle.answer_flow.specs.ReadViews.{name_of as name_of_read};
+ghost use Rattle.answer_flow.specs.ReadViews.{name_in as name_of_read};
 
 use crate::check_flow::{self, CheckFlow};
 use crate::checking::ask;
 use crate::read_flow::{self, ReadFlow};
 use crate::{check_phase, read_phase};
 use names::CallName;
-use std::mem;
 
 // Whether a shard is asked next how far it has learned.
-fn check_asks_learned(phase: &check_phase::Phase) -> bool
+fn check_asks_learned(phase: &Option<check_phase::Phase>) -> bool
     ensures { IsTrue result ↔ (name_of_check phase.now ≡ Some names.Learned) }
 {
     match phase {
-        check_phase::Phase::Ready(ready) => ready.name() == CallName::Learned,
-        check_phase::Phase::Out(_) | check_phase::Phase::Ended(_) => false,
+        Some(check_phase::Phase::Ready(ready)) => ready.name() == CallName::Learned,
+        _ => false,
     }
 }
 
-fn read_asks_learned(phase: &read_phase::Phase) -> bool
+fn read_asks_learned(phase: &Option<read_phase::Phase>) -> bool
     ensures { IsTrue result ↔ (name_of_read phase.now ≡ Some names.Learned) }
 {
     match phase {
-        read_phase::Phase::Ready(ready) => ready.name() == CallName::Learned,
-        read_phase::Phase::Out(_) | read_phase::Phase::Ended(_) => false,
+        Some(read_phase::Phase::Ready(ready)) => ready.name() == CallName::Learned,
+        _ => false,
     }
 }
 
@@ -44,7 +43,9 @@ impl CheckFlow {
         if !check_asks_learned(&self.phase) {
             return;
         }
-        let phase = mem::replace(&mut self.phase, check_flow::nowhere());
+        let Some(phase) = self.phase.take() else {
+            unreachable!();
+        };
         match phase {
             check_phase::Phase::Ready(check_phase::Ready::CatchUp(place, walk, catch_up)) => {
                 drop(catch_up);
@@ -68,10 +69,9 @@ impl ReadFlow {
         if !read_asks_learned(&self.phase) {
             return;
         }
-        let phase = mem::replace(
-            &mut self.phase,
-            read_phase::Phase::Ready(read_phase::Ready::Heads),
-        );
+        let Some(phase) = self.phase.take() else {
+            unreachable!();
+        };
         match phase {
             read_phase::Phase::Ready(read_phase::Ready::CatchUp(gathered, set, catch_up)) => {
                 drop(catch_up);

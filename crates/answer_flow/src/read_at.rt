@@ -26,6 +26,9 @@ impl ReadFlow {
             sets,
         };
         let phase = go_on(&asked, place, Vec::new(alloc));
-        ReadFlow { asked, phase }
+        ReadFlow {
+            asked,
+            phase: Some(phase),
+        }
     }
 }

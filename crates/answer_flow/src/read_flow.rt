@@ -13,7 +13,6 @@ use calls::{NodeCall, Reply};
 use names::CallName;
 use std::alloc::Global;
 use std::marker::Model;
-use std::mem;
 use tuples::{Freshness, Tupleset};
 
 /// A read on its way: `heads`, until it has its place; then for each tupleset each shard that it needs is brought up to the place, and reads. It holds
@@ -22,7 +21,8 @@ use tuples::{Freshness, Tupleset};
 #[must_use]
 pub struct ReadFlow {
     pub(crate) asked: AskedRead,
-    pub(crate) phase: Phase,
+    // taken out only within a call
+    pub(crate) phase: Option<Phase>,
 }
 
 impl Model for ReadFlow {
@@ -30,18 +30,18 @@ impl Model for ReadFlow {
 
     ghost Value = { ReadFlowValue };
 
-    ghost use Rattle.answer_flow.specs.ReadViews.{IsPhaseOf, name_of, view_of};
+    ghost use Rattle.answer_flow.specs.ReadViews.{IsIn, name_in, view_in};
 
-    ghost view = { λ f. record { shards = f.asked.shards; fresh = f.asked.freshness; sets = f.asked.sets.items; seen = view_of f.phase; next_name = name_of f.phase } };
+    ghost view = { λ f. record { shards = f.asked.shards; fresh = f.asked.freshness; sets = f.asked.sets.items; seen = view_in f.phase; next_name = name_in f.phase } };
 
-    ghost invariant = { λ f. IsPhaseOf f.asked.shards f.asked.sets.items f.phase };
+    ghost invariant = { λ f. IsIn f.asked.shards f.asked.sets.items f.phase };
 }
 
-// Puts a phase in the place of one that was taken out.
-pub(crate) fn put(place: &mut Phase, phase: Phase)
-    ensures { place.new ≡ phase }
+// Puts a phase where one was taken out.
+pub(crate) fn put(place: &mut Option<Phase>, phase: Phase)
+    ensures { place.new ≡ Some phase }
 {
-    *place = phase;
+    *place = Some(phase);
 }
 
 impl ReadFlow {
@@ -58,7 +58,7 @@ impl ReadFlow {
                 freshness,
                 sets,
             },
-            phase: Phase::Ready(Ready::Heads),
+            phase: Some(Phase::Ready(Ready::Heads)),
         }
     }
 
@@ -70,8 +70,8 @@ impl ReadFlow {
         ensures some { self.now.seen.ended ≡ None → self.now.seen.awaited ≡ None → result ≢ None }
     {
         match &self.phase {
-            Phase::Ready(ready) => Some(ready.name()),
-            Phase::Out(_) | Phase::Ended(_) => None,
+            Some(Phase::Ready(ready)) => Some(ready.name()),
+            _ => None,
         }
     }
 
@@ -84,7 +84,9 @@ impl ReadFlow {
         ensures out { (awaited : _) → self.old.seen.awaited ≡ Some awaited → result ≡ None }
         ensures some { self.old.seen.ended ≡ None → self.old.seen.awaited ≡ None → result ≢ None }
     {
-        let phase = mem::replace(&mut self.phase, Phase::Ready(Ready::Heads));
+        let Some(phase) = self.phase.take() else {
+            unreachable!();
+        };
         match phase {
             Phase::Ready(ready) => {
                 let (call, out) = next(&self.asked, ready);
@@ -105,7 +107,9 @@ impl ReadFlow {
         ensures gives { MatchOption self.old.seen.awaited ⊥ (λ awaited. GivesTo self.old.shards self.old.fresh self.old.sets self.old.seen awaited reply self.new.seen) }
         ensures rests { self.new.seen.awaited ≡ None }
     {
-        let phase = mem::replace(&mut self.phase, Phase::Ready(Ready::Heads));
+        let Some(phase) = self.phase.take() else {
+            unreachable!();
+        };
         match phase {
             Phase::Out(out) => {
                 let phase = give(&self.asked, out, reply);
@@ -120,8 +124,8 @@ impl ReadFlow {
         ensures { result ≡ is_some self.now.seen.ended }
     {
         match &self.phase {
-            Phase::Ended(_) => true,
-            Phase::Ready(_) | Phase::Out(_) => false,
+            Some(Phase::Ended(_)) => true,
+            _ => false,
         }
     }
 
@@ -129,6 +133,11 @@ impl ReadFlow {
     pub fn finish(self) -> Option<ReadEnd>
         ensures { option_map ending_of result ≡ self.seen.ended }
     {
-        self.phase.into_end()
+        let ReadFlow { asked, phase } = self;
+        drop(asked);
+        match phase {
+            Some(phase) => phase.into_end(),
+            None => unreachable!(),
+        }
     }
 }

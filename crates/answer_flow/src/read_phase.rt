@@ -3,6 +3,7 @@ ghost use Rattle.std.specs.Prelude.{◌≡◌, ◌≤◌, option_map};
 ghost use Rattle.records.specs.Identity.{max_shards};
 ghost use Rattle.answer_flow.specs.ReadViews.{ending_of, name_ready, view_of};
 
+use calls::Boxed;
 use catch_up::{CatchUp, CatchUpCall};
 use names::CallName;
 use std::alloc::Global;
@@ -41,8 +42,8 @@ pub enum ReadEnd {
 pub(crate) enum Ready {
     Heads,
     Flush,
-    CatchUp(Gathered, Tupleset, CatchUp),
-    Read(Gathered, Tupleset),
+    CatchUp(Gathered, Boxed<Tupleset>, CatchUp),
+    Read(Gathered, Boxed<Tupleset>),
 }
 
 impl Ready {
@@ -63,7 +64,7 @@ impl Ready {
 pub(crate) enum Out {
     Heads,
     Flush,
-    CatchUp(Gathered, Tupleset, CatchUpCall),
+    CatchUp(Gathered, Boxed<Tupleset>, CatchUpCall),
     Read(Gathered),
 }
 

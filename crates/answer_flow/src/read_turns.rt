@@ -9,14 +9,14 @@ ghost use Rattle.answer_flow.specs.declared.read_phase.Ready.TheVariants as read
 
 use crate::read_phase::{AskedRead, Gathered, Out, Phase, Ready};
 use crate::reading::{caught_up, flushed, have_read, shard_to_ask, told};
-use calls::{CoordinatorCall, CoordinatorReply, NodeCall, Reply, ShardCall, ShardReply};
+use calls::{Boxed, CoordinatorCall, CoordinatorReply, NodeCall, Reply, ShardCall, ShardReply};
 use catch_up::CatchUp;
 use tuples::Tupleset;
 
 fn call_of_catch_up(
     asked: &AskedRead,
     gathered: Gathered,
-    set: Tupleset,
+    set: Boxed<Tupleset>,
     catch_up: CatchUp,
 ) -> (NodeCall, Out)
     requires { IsReadyOf asked.now.shards asked.now.sets.items (ready_of.CatchUp gathered set catch_up) }
@@ -29,7 +29,7 @@ fn call_of_catch_up(
     (call, Out::CatchUp(gathered, set, awaited))
 }
 
-fn call_of_read(asked: &AskedRead, gathered: Gathered, set: Tupleset) -> (NodeCall, Out)
+fn call_of_read(asked: &AskedRead, gathered: Gathered, set: Boxed<Tupleset>) -> (NodeCall, Out)
     requires { IsNext asked.now.shards asked.now.sets.items gathered set }
     ensures name { name_of_call result.0 ≡ names.Read }
     ensures asks { Asks asked.now.shards asked.now.sets.items (view_ready (ready_of.Read gathered set)) result.0 (view_out result.1) }

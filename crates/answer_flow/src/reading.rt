@@ -10,11 +10,11 @@ ghost use Rattle.catch_up.specs.CatchingUp.{Fits as FitsCatchUp};
 use crate::finding::{Found, find};
 use crate::merging::merge;
 use crate::read_phase::{AskedRead, Gathered, Phase, ReadEnd, Ready};
-use calls::Reply;
+use calls::{Boxed, Reply};
 use catch_up::{CatchUp, CatchUpCall, Progress};
 use decisions::Heads;
 use shard::ReadReply;
-use std::alloc::AllocError;
+use std::alloc::{AllocError, Global};
 use tuples::{Refusal, Tuple, Tupleset, shard_of};
 
 fn refused(refusal: Refusal) -> Phase
@@ -25,28 +25,28 @@ fn refused(refusal: Refusal) -> Phase
 
 /// The shard that is asked next.
 #[tactic(auto, using(tuples::proofs::Named::shard_below))]
-pub(crate) fn shard_to_ask(set: &Tupleset, shards: u8, below: u8) -> u8
+pub(crate) fn shard_to_ask(set: &Boxed<Tupleset>, shards: u8, below: u8) -> u8
     requires some { 1 ≤ shards }
     requires few { shards ≤ max_shards }
     requires within { below < shards }
     ensures value { result ≡ shard_for shards set.now below }
     ensures there { result < shards }
 {
-    match set {
+    match set.get() {
         Tupleset::Key(tuple) => shard_of(&tuple.object, shards),
         Tupleset::OfObject(object, _) => shard_of(object, shards),
         Tupleset::OfUser(_, _, _) => below,
     }
 }
 
-fn copied(set: &Tupleset) -> Result<Tupleset, AllocError>
+fn copied(alloc: Global, set: &Tupleset) -> Result<Boxed<Tupleset>, AllocError>
     ensures { IfOk result (λ copy. copy ≡ set.now) }
 {
-    set.clone()
+    Boxed::new(alloc, set.clone()?)
 }
 
 // The shard that is asked next is brought up to the place.
-fn bring_up(asked: &AskedRead, gathered: Gathered, set: Tupleset) -> Phase
+fn bring_up(asked: &AskedRead, gathered: Gathered, set: Boxed<Tupleset>) -> Phase
     requires { IsNext asked.now.shards asked.now.sets.items gathered set }
     ensures view { view_of result ≡ at_rest to_catch_up (holding gathered None) }
     ensures kept { IsBehindOf asked.now.shards asked.now.sets.items result }
@@ -64,7 +64,7 @@ pub(crate) fn go_on(asked: &AskedRead, place: u64, done: Vec<Vec<Tuple>>) -> Pha
     let Some(set) = asked.sets.get(done.len()) else {
         return Phase::Ended(ReadEnd::Answered(place, done));
     };
-    match copied(set) {
+    match copied(asked.alloc, set) {
         Ok(set) => {
             let rows = Vec::new(asked.alloc);
             let gathered = Gathered {
@@ -110,7 +110,7 @@ pub(crate) fn flushed(asked: &AskedRead, answer: Result<(), Refusal>) -> Phase
 pub(crate) fn caught_up(
     asked: &AskedRead,
     gathered: Gathered,
-    set: Tupleset,
+    set: Boxed<Tupleset>,
     call: CatchUpCall,
     reply: Reply,
 ) -> Phase
@@ -142,17 +142,22 @@ fn finish_one(asked: &AskedRead, place: u64, mut done: Vec<Vec<Tuple>>, rows: Ve
     }
 }
 
-fn asks_all(set: &Tupleset) -> bool
+fn asks_all(set: &Boxed<Tupleset>) -> bool
     ensures { IsTrue result ↔ IsOfUser set.now }
 {
-    match set {
+    match set.get() {
         Tupleset::Key(_) | Tupleset::OfObject(_, _) => false,
         Tupleset::OfUser(_, _, _) => true,
     }
 }
 
 // The rows of one shard more; behind the last shard the tupleset is done.
-fn gather_more(asked: &AskedRead, gathered: Gathered, set: Tupleset, more: Vec<Tuple>) -> Phase
+fn gather_more(
+    asked: &AskedRead,
+    gathered: Gathered,
+    set: Boxed<Tupleset>,
+    more: Vec<Tuple>,
+) -> Phase
     requires next { IsNext asked.now.shards asked.now.sets.items gathered set }
     ensures goes { LacksMemory (view_of result) ⊎ Merges asked.now.shards asked.now.sets.items gathered.place (holding gathered None) more.items (view_of result) }
     ensures kept { IsBehindOf asked.now.shards asked.now.sets.items result }
@@ -183,7 +188,7 @@ fn gather_more(asked: &AskedRead, gathered: Gathered, set: Tupleset, more: Vec<T
 }
 
 // The rows of a shard: those of its object's shard are all of the tupleset.
-fn gather(asked: &AskedRead, gathered: Gathered, set: Tupleset, more: Vec<Tuple>) -> Phase
+fn gather(asked: &AskedRead, gathered: Gathered, set: Boxed<Tupleset>, more: Vec<Tuple>) -> Phase
     requires { IsNext asked.now.shards asked.now.sets.items gathered set }
     ensures goes { RowsGive asked.now.shards asked.now.sets.items gathered.place (holding gathered None) set more.items (view_of result) }
     ensures kept { IsBehindOf asked.now.shards asked.now.sets.items result }
@@ -206,7 +211,7 @@ fn gather(asked: &AskedRead, gathered: Gathered, set: Tupleset, more: Vec<Tuple>
 pub(crate) fn have_read(
     asked: &AskedRead,
     gathered: Gathered,
-    set: Tupleset,
+    set: Boxed<Tupleset>,
     answer: Result<ReadReply, Refusal>,
 ) -> Phase
     requires { IsNext asked.now.shards asked.now.sets.items gathered set }

@@ -11,7 +11,6 @@ use calls::{NodeCall, Reply};
 use names::CallName;
 use std::alloc::Global;
 use std::marker::Model;
-use std::mem;
 use tuples::Namespace;
 
 /// A watch on its way: `heads`, until the cursor is kept, and the decisions behind it. It holds nothing that has to be spent, so who cancels it drops it.
@@ -22,7 +21,8 @@ pub struct WatchFlow {
     cursor: u64,
     limit: u64,
     namespaces: Vec<Namespace>,
-    phase: Phase,
+    // taken out only within a call
+    phase: Option<Phase>,
 }
 
 impl Model for WatchFlow {
@@ -30,11 +30,11 @@ impl Model for WatchFlow {
 
     ghost Value = { WatchFlowValue };
 
-    ghost use Rattle.answer_flow.specs.WatchViews.{IsPhaseOf, view_of};
+    ghost use Rattle.answer_flow.specs.WatchViews.{IsIn, view_in};
 
-    ghost view = { λ f. record { cursor = f.cursor; limit = f.limit; namespaces = f.namespaces.items; seen = view_of f.phase } };
+    ghost view = { λ f. record { cursor = f.cursor; limit = f.limit; namespaces = f.namespaces.items; seen = view_in f.phase } };
 
-    ghost invariant = { λ f. IsPhaseOf f.cursor f.phase };
+    ghost invariant = { λ f. IsIn f.cursor f.phase };
 }
 
 impl WatchFlow {
@@ -47,7 +47,7 @@ impl WatchFlow {
             cursor,
             limit,
             namespaces,
-            phase: Phase::Ready(Ready::Heads),
+            phase: Some(Phase::Ready(Ready::Heads)),
         }
     }
 
@@ -56,10 +56,10 @@ impl WatchFlow {
         ensures { result ≡ next_name_of self.now.seen }
     {
         match &self.phase {
-            Phase::Ready(Ready::Heads) => Some(CallName::Heads),
-            Phase::Ready(Ready::Flush) => Some(CallName::Flush),
-            Phase::Ready(Ready::Batch(_)) => Some(CallName::Batch),
-            Phase::Out(_) | Phase::Ended(_) => None,
+            Some(Phase::Ready(Ready::Heads)) => Some(CallName::Heads),
+            Some(Phase::Ready(Ready::Flush)) => Some(CallName::Flush),
+            Some(Phase::Ready(Ready::Batch(_))) => Some(CallName::Batch),
+            _ => None,
         }
     }
 
@@ -72,15 +72,17 @@ impl WatchFlow {
         ensures out { (awaited : _) → self.old.seen.awaited ≡ Some awaited → result ≡ None }
         ensures some { self.old.seen.ended ≡ None → self.old.seen.awaited ≡ None → result ≢ None }
     {
-        let phase = mem::replace(&mut self.phase, Phase::Ready(Ready::Heads));
+        let Some(phase) = self.phase.take() else {
+            unreachable!();
+        };
         match phase {
             Phase::Ready(ready) => {
                 let (call, out) = next(self.cursor, self.limit, ready);
-                self.phase = Phase::Out(out);
+                self.phase = Some(Phase::Out(out));
                 Some(call)
             }
             other => {
-                self.phase = other;
+                self.phase = Some(other);
                 None
             }
         }
@@ -93,11 +95,14 @@ impl WatchFlow {
         ensures gives { MatchOption self.old.seen.awaited ⊥ (λ awaited. GivesTo self.old.cursor self.old.limit self.old.namespaces self.old.seen awaited reply self.new.seen) }
         ensures rests { self.new.seen.awaited ≡ None }
     {
-        let phase = mem::replace(&mut self.phase, Phase::Ready(Ready::Heads));
+        let Some(phase) = self.phase.take() else {
+            unreachable!();
+        };
         match phase {
             Phase::Out(out) => {
                 let namespaces = &self.namespaces;
-                self.phase = give(self.alloc, self.cursor, self.limit, namespaces, out, reply);
+                let phase = give(self.alloc, self.cursor, self.limit, namespaces, out, reply);
+                self.phase = Some(phase);
             }
             _ => unreachable!(),
         }
@@ -108,8 +113,8 @@ impl WatchFlow {
         ensures { result ≡ is_some self.now.seen.ended }
     {
         match &self.phase {
-            Phase::Ended(_) => true,
-            Phase::Ready(_) | Phase::Out(_) => false,
+            Some(Phase::Ended(_)) => true,
+            _ => false,
         }
     }
 
@@ -125,8 +130,8 @@ impl WatchFlow {
             phase,
         } = self;
         match phase {
-            Phase::Ended(end) => Some(end),
-            Phase::Ready(_) | Phase::Out(_) => None,
+            Some(Phase::Ended(end)) => Some(end),
+            _ => None,
         }
     }
 }

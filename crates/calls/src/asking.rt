@@ -69,11 +69,11 @@ fn ask_shard<D: Device>(alloc: Global, shard: &mut Shard<D>, call: ShardCall) ->
         }
         ShardCall::InDoubt => ShardReply::InDoubt(shard.in_doubt(alloc)),
         ShardCall::Read(place, set) => {
-            let answer = shard.read(alloc, place, &set);
+            let answer = shard.read(alloc, place, set.get());
             ShardReply::Read(set, answer)
         }
         ShardCall::ReadForCheck(place, userset, user) => {
-            let answer = shard.read_for_check(alloc, place, &userset, &user);
+            let answer = shard.read_for_check(alloc, place, userset.get(), user.get());
             ShardReply::ReadForCheck(userset, user, answer)
         }
         ShardCall::Settle => ShardReply::Settle(shard.settle()),

@@ -1,4 +1,5 @@
 // The calls of nodes, with what is handed in.
+use crate::Boxed;
 use coordinator::Decided;
 use decisions::{Batch, Heads, Held, Intent, Settled, Ticket, Verdict, Vote};
 use names::{CallName, NodeName};
@@ -29,9 +30,9 @@ pub enum ShardCall {
     Vote(Ticket),
     DropWrite(Verdict, Option<Held>),
     InDoubt,
-    Read(u64, Tupleset),
+    Read(u64, Boxed<Tupleset>),
     /// What a check asks of a userset, about a user.
-    ReadForCheck(u64, Userset, User),
+    ReadForCheck(u64, Boxed<Userset>, Boxed<User>),
     Settle,
     Collect(Heads),
     Flush,

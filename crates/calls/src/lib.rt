@@ -1,4 +1,4 @@
-//! The calls of nodes as values, the one function that makes a call, and what asks for one call after another.
+//! The calls of nodes as values, what makes one (`ask`, and `look` for a read beside others), and what asks for one call after another.
 //!
 //! A call carries what it spends, as an intent, tickets and votes, and its reply gives back what comes back, so that a flow asks for a call
 //! without knowing the node, and a node is called without knowing the flow.
@@ -7,12 +7,13 @@
 //! Never: makes more than the one call, or keeps anything between two.
 //! Callers rely on: `ask` and `look` promise what the node's own call does, and what a `Told` holds was carried by a reply.
 //!
-//! A node may lend its devices for a flush and take them back (`Node::lend`, `Node::land`). The shards of a server do so.
+//! A node may lend its devices for a flush and take them back (`Node::lend`, `Node::land`). The nodes of a server do so.
 //!
 //! Start at `specs/Asking.antt`, what may be asked and what is answered; then `Running`, which is all that a driver of flows has to know of one.
 #![tactic(auto)]
 
 mod asking;
+mod boxed;
 mod call;
 mod carrying;
 mod fitting;
@@ -24,6 +25,7 @@ mod running;
 mod told;
 
 pub use asking::{ask, refuse};
+pub use boxed::Boxed;
 pub use call::{CoordinatorCall, NodeCall, ShardCall};
 pub use carrying::Reach;
 pub use lending::{Flying, Lent};

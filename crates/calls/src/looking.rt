@@ -36,9 +36,9 @@ fn read<D: Device>(alloc: Global, shard: &Shard<D>, call: &ShardCall) -> Result<
     ensures { ShardAnswers D.state D.honest D.moment D.left_since shard.now call.now (read_reply call.now result) shard.now }
 {
     match call {
-        ShardCall::Read(place, set) => shard.read(alloc, *place, set),
+        ShardCall::Read(place, set) => shard.read(alloc, *place, set.get()),
         ShardCall::ReadForCheck(place, userset, user) => {
-            shard.read_for_check(alloc, *place, userset, user)
+            shard.read_for_check(alloc, *place, userset.get(), user.get())
         }
         _ => unreachable!(),
     }

@@ -2,6 +2,7 @@
 ghost use Rattle.std.specs.Prelude.{◌≡◌};
 ghost use Rattle.calls.specs.Refusing.{coordinator_error, error_of as error, refused_by, shard_error};
 
+use crate::Boxed;
 use coordinator::{Decided, Inquiry, NotDecided, NotRaised, Outcome};
 use decisions::{Batch, Heads, Intent, Settled, Ticket, Verdict};
 use shard::{ReadReply, VoteReply};
@@ -31,8 +32,8 @@ pub enum ShardReply {
     Vote(VoteReply),
     DropWrite(Verdict, Result<(), Refusal>),
     InDoubt(Result<Vec<WriteId>, Refusal>),
-    Read(Tupleset, Result<ReadReply, Refusal>),
-    ReadForCheck(Userset, User, Result<ReadReply, Refusal>),
+    Read(Boxed<Tupleset>, Result<ReadReply, Refusal>),
+    ReadForCheck(Boxed<Userset>, Boxed<User>, Result<ReadReply, Refusal>),
     Settle(Result<Settled, Refusal>),
     Collect(Heads, Result<(), Refusal>),
     Flush(Result<(), Refusal>),

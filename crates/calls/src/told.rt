@@ -6,7 +6,7 @@ ghost use Rattle.calls.specs.Refusing.{HasTold};
 use std::marker::Model;
 use tuples::Refusal;
 
-/// The refusals that replies have carried. Only `ask` adds to it.
+/// The refusals that replies have carried. Only `ask` and `look` add to it.
 #[derive(Drop)]
 pub struct Told {
     // one for each number of a refusal, from 1 on

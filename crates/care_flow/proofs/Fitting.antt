@@ -18,7 +18,6 @@ use Rattle.calls.specs.declared.reply.Reply.{Reply}
 use Rattle.calls.specs.declared.reply.Reply.TheVariants.{Coordinator as from_coordinator, Shard as from_shard}
 use Rattle.calls.specs.declared.reply.CoordinatorReply.TheVariants as told
 use Rattle.calls.specs.declared.reply.ShardReply.TheVariants as told_by
-use Rattle.catch_up.specs.CatchingUp as catching
 use Rattle.catch_up.proofs.Fitting as caught
 use Rattle.care_flow.specs.CatchUps.{AsksToCatchUp, on_its_way}
 use Rattle.care_flow.specs.Collecting as collecting

@@ -5,9 +5,13 @@ use Rattle.decisions.specs.Flows.{RaiseHolds, nothing_raised}
 use Rattle.names.specs.declared.call_name.CallName.{CallName}
 use Rattle.names.specs.declared.call_name.CallName.TheVariants as names
 use Rattle.care_flow.specs.Gatherings.{GatheredValue, GatheringValue}
-use Rattle.care_flow.specs.declared.raising.Phase.{Phase}
-use Rattle.care_flow.specs.declared.raising.Phase.TheVariants.{Ask, Asked, FlushToAsk, FlushingToAsk, CatchUp, CatchingUp, Flush, Flushing, Settle, Settling, Raise, Raising, FlushToRaise, FlushingToRaise, FlushRaised, FlushingRaised, Ended}
-use Rattle.care_flow.specs.Raising.{RaiseView, ask, catch_up, flush, flush_raised, flush_to_ask, flush_to_raise, raise, settle}
+use Rattle.care_flow.specs.declared.raise_phase.Ready.{Ready}
+use Rattle.care_flow.specs.declared.raise_phase.Ready.TheVariants as readies
+use Rattle.care_flow.specs.declared.raise_phase.Out.{Out}
+use Rattle.care_flow.specs.declared.raise_phase.Out.TheVariants as outs
+use Rattle.care_flow.specs.declared.raise_phase.Phase.{Phase}
+use Rattle.care_flow.specs.declared.raise_phase.Phase.TheVariants as phases
+use Rattle.care_flow.specs.Raising.{RaiseStep, RaiseView, ask, catch_up, flush, flush_raised, flush_to_ask, flush_to_raise, raise, settle}
 use Rattle.care_flow.specs.Views.{out, over, ready}
 
 -- the heads, what the shards have settled so far, and decisions on their way
@@ -25,44 +29,83 @@ handed_in heads = record nothing_raised { heads = Some heads }
 abbrev pub raised : HeadsValue → RaiseHolds
 raised heads = record nothing_raised { heads = Some heads; is_raised = true }
 
+-- the call that comes next, and what is held for it
+abbrev pub step_ready : Ready → RaiseStep
+step_ready readies.Ask = ask
+step_ready readies.FlushToAsk = flush_to_ask
+step_ready (readies.CatchUp g c) = catch_up g.next None
+step_ready (readies.Flush g) = flush g.next
+step_ready (readies.Settle g) = settle g.next
+step_ready (readies.Raise g again) = raise again
+step_ready (readies.FlushToRaise g) = flush_to_raise
+step_ready (readies.FlushRaised heads) = flush_raised
+
+abbrev pub held_ready : Ready → RaiseHolds
+held_ready readies.Ask = nothing_raised
+held_ready readies.FlushToAsk = nothing_raised
+held_ready (readies.CatchUp g c) = gathering g c.batch
+held_ready (readies.Flush g) = gathering g None
+held_ready (readies.Settle g) = gathering g None
+held_ready (readies.Raise g again) = gathered g
+held_ready (readies.FlushToRaise g) = gathered g
+held_ready (readies.FlushRaised heads) = raised heads
+
+abbrev pub view_ready : Ready → RaiseView
+view_ready r = ready (held_ready r) (step_ready r)
+
+-- the call that is out, and what is held then
+abbrev pub step_out : Out → RaiseStep
+step_out outs.Ask = ask
+step_out outs.FlushToAsk = flush_to_ask
+step_out (outs.CatchUp g c) = catch_up g.next (Some c.awaited)
+step_out (outs.Flush g) = flush g.next
+step_out (outs.Settle g) = settle g.next
+step_out (outs.Raise heads again) = raise again
+step_out (outs.FlushToRaise g) = flush_to_raise
+step_out (outs.FlushRaised heads) = flush_raised
+
+abbrev pub held_out : Out → RaiseHolds
+held_out outs.Ask = nothing_raised
+held_out outs.FlushToAsk = nothing_raised
+held_out (outs.CatchUp g c) = gathering g c.held.batch
+held_out (outs.Flush g) = gathering g None
+held_out (outs.Settle g) = gathering g None
+held_out (outs.Raise heads again) = handed_in heads
+held_out (outs.FlushToRaise g) = gathered g
+held_out (outs.FlushRaised heads) = raised heads
+
+abbrev pub view_out : Out → RaiseView
+view_out o = out (held_out o) (step_out o)
+
 abbrev pub view_of : Phase → RaiseView
-view_of Ask = ready nothing_raised ask
-view_of Asked = out nothing_raised ask
-view_of FlushToAsk = ready nothing_raised flush_to_ask
-view_of FlushingToAsk = out nothing_raised flush_to_ask
-view_of (CatchUp g c) = ready (gathering g c.batch) (catch_up g.next None)
-view_of (CatchingUp g c) = out (gathering g c.held.batch) (catch_up g.next (Some c.awaited))
-view_of (Flush g) = ready (gathering g None) (flush g.next)
-view_of (Flushing g) = out (gathering g None) (flush g.next)
-view_of (Settle g) = ready (gathering g None) (settle g.next)
-view_of (Settling g) = out (gathering g None) (settle g.next)
-view_of (Raise g again) = ready (gathered g) (raise again)
-view_of (Raising heads again) = out (handed_in heads) (raise again)
-view_of (FlushToRaise g) = ready (gathered g) flush_to_raise
-view_of (FlushingToRaise g) = out (gathered g) flush_to_raise
-view_of (FlushRaised heads) = ready (raised heads) flush_raised
-view_of (FlushingRaised heads) = out (raised heads) flush_raised
-view_of (Ended end) = over nothing_raised end
+view_of (phases.Ready r) = view_ready r
+view_of (phases.Out o) = view_out o
+view_of (phases.Ended end) = over nothing_raised end
+
+-- of the phase that a raise is in; it is taken out only within a call
+abbrev pub view_in : Option Phase → RaiseView
+view_in None = ready nothing_raised ask
+view_in (Some p) = view_of p
 
 -- the name of the next call, if there is one
+abbrev pub name_ready : Ready → CallName
+name_ready readies.Ask = names.Heads
+name_ready readies.FlushToAsk = names.Flush
+name_ready (readies.CatchUp g c) = c.next
+name_ready (readies.Flush g) = names.Flush
+name_ready (readies.Settle g) = names.Settle
+name_ready (readies.Raise g again) = names.Raise
+name_ready (readies.FlushToRaise g) = names.Flush
+name_ready (readies.FlushRaised heads) = names.Flush
+
 abbrev pub name_of : Phase → Option CallName
-name_of Ask = Some names.Heads
-name_of Asked = None
-name_of FlushToAsk = Some names.Flush
-name_of FlushingToAsk = None
-name_of (CatchUp g c) = Some c.next
-name_of (CatchingUp g c) = None
-name_of (Flush g) = Some names.Flush
-name_of (Flushing g) = None
-name_of (Settle g) = Some names.Settle
-name_of (Settling g) = None
-name_of (Raise g again) = Some names.Raise
-name_of (Raising heads again) = None
-name_of (FlushToRaise g) = Some names.Flush
-name_of (FlushingToRaise g) = None
-name_of (FlushRaised heads) = Some names.Flush
-name_of (FlushingRaised heads) = None
-name_of (Ended end) = None
+name_of (phases.Ready r) = Some (name_ready r)
+name_of (phases.Out o) = None
+name_of (phases.Ended end) = None
+
+abbrev pub name_in : Option Phase → Option CallName
+name_in None = None
+name_in (Some p) = name_of p
 
 -- it is this shard's turn, in a store of so many, for a raise to the place
 pub record IsRoundOf (shards place : ℕ) (g : GatheringValue) : Type 0 where
@@ -70,21 +113,32 @@ pub record IsRoundOf (shards place : ℕ) (g : GatheringValue) : Type 0 where
   pub place_is : g.place ≡ place
   pub there : g.next < shards
 
-abbrev pub IsOf : ℕ → ℕ → Phase → Type 0
-IsOf shards place Ask = Unit {0}
-IsOf shards place Asked = Unit {0}
-IsOf shards place FlushToAsk = Unit {0}
-IsOf shards place FlushingToAsk = Unit {0}
-IsOf shards place (CatchUp g c) = IsRoundOf shards place g × (c.shard ≡ g.next) × (c.to ≡ g.heads.kept)
-IsOf shards place (CatchingUp g c) = IsRoundOf shards place g × (c.held.shard ≡ g.next) × (c.held.to ≡ g.heads.kept)
-IsOf shards place (Flush g) = IsRoundOf shards place g
-IsOf shards place (Flushing g) = IsRoundOf shards place g
-IsOf shards place (Settle g) = IsRoundOf shards place g
-IsOf shards place (Settling g) = IsRoundOf shards place g
-IsOf shards place (Raise g again) = (g.shards ≡ shards) × (g.place ≡ place)
-IsOf shards place (Raising heads again) = Unit {0}
-IsOf shards place (FlushToRaise g) = (g.shards ≡ shards) × (g.place ≡ place)
-IsOf shards place (FlushingToRaise g) = (g.shards ≡ shards) × (g.place ≡ place)
-IsOf shards place (FlushRaised heads) = Unit {0}
-IsOf shards place (FlushingRaised heads) = Unit {0}
-IsOf shards place (Ended end) = Unit {0}
+abbrev pub IsReadyOf : ℕ → ℕ → Ready → Type 0
+IsReadyOf shards place readies.Ask = Unit {0}
+IsReadyOf shards place readies.FlushToAsk = Unit {0}
+IsReadyOf shards place (readies.CatchUp g c) = IsRoundOf shards place g × (c.shard ≡ g.next) × (c.to ≡ g.heads.kept)
+IsReadyOf shards place (readies.Flush g) = IsRoundOf shards place g
+IsReadyOf shards place (readies.Settle g) = IsRoundOf shards place g
+IsReadyOf shards place (readies.Raise g again) = (g.shards ≡ shards) × (g.place ≡ place)
+IsReadyOf shards place (readies.FlushToRaise g) = (g.shards ≡ shards) × (g.place ≡ place)
+IsReadyOf shards place (readies.FlushRaised heads) = Unit {0}
+
+abbrev pub IsOutOf : ℕ → ℕ → Out → Type 0
+IsOutOf shards place outs.Ask = Unit {0}
+IsOutOf shards place outs.FlushToAsk = Unit {0}
+IsOutOf shards place (outs.CatchUp g c) = IsRoundOf shards place g × (c.held.shard ≡ g.next) × (c.held.to ≡ g.heads.kept)
+IsOutOf shards place (outs.Flush g) = IsRoundOf shards place g
+IsOutOf shards place (outs.Settle g) = IsRoundOf shards place g
+IsOutOf shards place (outs.Raise heads again) = Unit {0}
+IsOutOf shards place (outs.FlushToRaise g) = (g.shards ≡ shards) × (g.place ≡ place)
+IsOutOf shards place (outs.FlushRaised heads) = Unit {0}
+
+abbrev pub IsPhaseOf : ℕ → ℕ → Phase → Type 0
+IsPhaseOf shards place (phases.Ready r) = IsReadyOf shards place r
+IsPhaseOf shards place (phases.Out o) = IsOutOf shards place o
+IsPhaseOf shards place (phases.Ended end) = Unit {0}
+
+-- a raise is in one of them
+abbrev pub IsIn : ℕ → ℕ → Option Phase → Type 0
+IsIn shards place None = ⊥
+IsIn shards place (Some p) = IsPhaseOf shards place p

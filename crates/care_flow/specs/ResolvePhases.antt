@@ -1,57 +1,112 @@
 -- What is seen of the phases of a resolution, and what each keeps.
-use Rattle.std.specs.Prelude.{◌≡◌, ℕ, map, [], Option, Some, None}
+use Rattle.std.specs.Prelude.{◌≡◌, ℕ, map, [], Option, Some, None, Result, Ok, Err}
 use Rattle.tuples.specs.declared.entry.WriteId.{WriteId}
+use Rattle.refusal.specs.declared.refusal.Refusal.{Refusal}
 use Rattle.decisions.specs.Values.{BatchValue}
 use Rattle.decisions.specs.Flows.{ResolveHolds}
 use Rattle.names.specs.declared.call_name.CallName.{CallName}
 use Rattle.names.specs.declared.call_name.CallName.TheVariants as names
-use Rattle.care_flow.specs.declared.end.CareEnd.TheVariants.{Refused as is_refused, Resolved as all_resolved}
+use Rattle.care_flow.specs.declared.end.CareEnd.{CareEnd}
+use Rattle.care_flow.specs.declared.end.CareEnd.TheVariants.{Refused, Resolved as all_resolved}
 use Rattle.care_flow.specs.declared.findings.Findings.{Findings}
+use Rattle.care_flow.specs.declared.resolving.Ready.{Ready}
+use Rattle.care_flow.specs.declared.resolving.Ready.TheVariants as readies
+use Rattle.care_flow.specs.declared.resolving.Out.{Out}
+use Rattle.care_flow.specs.declared.resolving.Out.TheVariants as outs
 use Rattle.care_flow.specs.declared.resolving.Phase.{Phase}
-use Rattle.care_flow.specs.declared.resolving.Phase.TheVariants.{AskDoubts, AskedDoubts, Inquire, Inquired, CatchUp, CatchingUp, Drop, Dropping, Done, Refused}
+use Rattle.care_flow.specs.declared.resolving.Phase.TheVariants as phases
 use Rattle.care_flow.specs.Ends.{next_of, resolved_value}
-use Rattle.care_flow.specs.Resolving.{HasCommitted, ResolveView, catch_up, drop_write, in_doubt, inquire}
+use Rattle.care_flow.specs.Resolving.{HasCommitted, ResolveStep, ResolveView, catch_up, drop_write, in_doubt, inquire}
 use Rattle.care_flow.specs.Views.{out, over, ready}
 
 -- what was found, with a verdict and decisions on their way
 abbrev pub holding : Findings → Option WriteId → Option BatchValue → ResolveHolds
 holding f verdict batch = record { found = map resolved_value f.found.items; verdict = verdict; batch = batch }
 
+-- the call that comes next, and what is held for it
+abbrev pub step_ready : Ready → ResolveStep
+step_ready readies.AskDoubts = in_doubt
+step_ready (readies.Inquire id) = inquire id
+step_ready (readies.CatchUp c) = catch_up c.to None
+step_ready (readies.Drop verdict) = drop_write
+
+abbrev pub held_ready : Findings → Ready → ResolveHolds
+held_ready f readies.AskDoubts = holding f None None
+held_ready f (readies.Inquire id) = holding f None None
+held_ready f (readies.CatchUp c) = holding f None c.batch
+held_ready f (readies.Drop verdict) = holding f (Some verdict.id) None
+
+abbrev pub view_ready : Findings → Ready → ResolveView
+view_ready f r = ready (held_ready f r) (step_ready r)
+
+-- the call that is out, and what is held then
+abbrev pub step_out : Out → ResolveStep
+step_out outs.AskDoubts = in_doubt
+step_out (outs.Inquire id) = inquire id
+step_out (outs.CatchUp c) = catch_up c.held.to (Some c.awaited)
+step_out outs.Drop = drop_write
+
+abbrev pub held_out : Findings → Out → ResolveHolds
+held_out f outs.AskDoubts = holding f None None
+held_out f (outs.Inquire id) = holding f None None
+held_out f (outs.CatchUp c) = holding f None c.held.batch
+held_out f outs.Drop = holding f None None
+
+abbrev pub view_out : Findings → Out → ResolveView
+view_out f o = out (held_out f o) (step_out o)
+
+-- with all that was found, or with a refusal
+abbrev pub end_of : Findings → Result (Unit {0}) Refusal → CareEnd
+end_of f (Ok done) = all_resolved f.found
+end_of f (Err e) = Refused e
+
 abbrev pub view_of : Findings → Phase → ResolveView
-view_of f AskDoubts = ready (holding f None None) in_doubt
-view_of f AskedDoubts = out (holding f None None) in_doubt
-view_of f (Inquire id) = ready (holding f None None) (inquire id)
-view_of f (Inquired id) = out (holding f None None) (inquire id)
-view_of f (CatchUp c) = ready (holding f None c.batch) (catch_up c.to None)
-view_of f (CatchingUp c) = out (holding f None c.held.batch) (catch_up c.held.to (Some c.awaited))
-view_of f (Drop verdict) = ready (holding f (Some verdict.id) None) drop_write
-view_of f Dropping = out (holding f None None) drop_write
-view_of f Done = over (holding f None None) (all_resolved f.found)
-view_of f (Refused e) = over (holding f None None) (is_refused e)
+view_of f (phases.Ready r) = view_ready f r
+view_of f (phases.Out o) = view_out f o
+view_of f (phases.Ended end) = over (holding f None None) (end_of f end)
+
+-- of the phase that a resolution is in; it is taken out only within a call
+abbrev pub view_in : Findings → Option Phase → ResolveView
+view_in f None = ready (holding f None None) in_doubt
+view_in f (Some p) = view_of f p
 
 -- the name of the next call, if there is one
+abbrev pub name_ready : Ready → CallName
+name_ready readies.AskDoubts = names.InDoubt
+name_ready (readies.Inquire id) = names.Inquire
+name_ready (readies.CatchUp c) = c.next
+name_ready (readies.Drop verdict) = names.DropWrite
+
 abbrev pub name_of : Phase → Option CallName
-name_of AskDoubts = Some names.InDoubt
-name_of AskedDoubts = None
-name_of (Inquire id) = Some names.Inquire
-name_of (Inquired id) = None
-name_of (CatchUp c) = Some c.next
-name_of (CatchingUp c) = None
-name_of (Drop verdict) = Some names.DropWrite
-name_of Dropping = None
-name_of Done = None
-name_of (Refused e) = None
+name_of (phases.Ready r) = Some (name_ready r)
+name_of (phases.Out o) = None
+name_of (phases.Ended end) = None
+
+abbrev pub name_in : Option Phase → Option CallName
+name_in None = None
+name_in (Some p) = name_of p
 
 -- the coordinator is asked for the next write; the shard that is caught up is the flow's, and goes to the place of a write that
 -- was found to be decided; and it is done where no write comes next
-abbrev pub IsOf : ℕ → Findings → Phase → Type 0
-IsOf s f AskDoubts = f.found.items ≡ []
-IsOf s f AskedDoubts = f.found.items ≡ []
-IsOf s f (Inquire id) = next_of f.doubts.items f.found.items ≡ Some id
-IsOf s f (Inquired id) = next_of f.doubts.items f.found.items ≡ Some id
-IsOf s f (CatchUp c) = (c.shard ≡ s) × HasCommitted (map resolved_value f.found.items) c.to
-IsOf s f (CatchingUp c) = (c.held.shard ≡ s) × HasCommitted (map resolved_value f.found.items) c.held.to
-IsOf s f (Drop verdict) = Unit {0}
-IsOf s f Dropping = Unit {0}
-IsOf s f Done = next_of f.doubts.items f.found.items ≡ None
-IsOf s f (Refused e) = Unit {0}
+abbrev pub IsReadyOf : ℕ → Findings → Ready → Type 0
+IsReadyOf s f readies.AskDoubts = f.found.items ≡ []
+IsReadyOf s f (readies.Inquire id) = next_of f.doubts.items f.found.items ≡ Some id
+IsReadyOf s f (readies.CatchUp c) = (c.shard ≡ s) × HasCommitted (map resolved_value f.found.items) c.to
+IsReadyOf s f (readies.Drop verdict) = Unit {0}
+
+abbrev pub IsOutOf : ℕ → Findings → Out → Type 0
+IsOutOf s f outs.AskDoubts = f.found.items ≡ []
+IsOutOf s f (outs.Inquire id) = next_of f.doubts.items f.found.items ≡ Some id
+IsOutOf s f (outs.CatchUp c) = (c.held.shard ≡ s) × HasCommitted (map resolved_value f.found.items) c.held.to
+IsOutOf s f outs.Drop = Unit {0}
+
+abbrev pub IsPhaseOf : ℕ → Findings → Phase → Type 0
+IsPhaseOf s f (phases.Ready r) = IsReadyOf s f r
+IsPhaseOf s f (phases.Out o) = IsOutOf s f o
+IsPhaseOf s f (phases.Ended (Ok done)) = next_of f.doubts.items f.found.items ≡ None
+IsPhaseOf s f (phases.Ended (Err e)) = Unit {0}
+
+-- a resolution is in one of them
+abbrev pub IsIn : ℕ → Findings → Option Phase → Type 0
+IsIn s f None = ⊥
+IsIn s f (Some p) = IsPhaseOf s f p

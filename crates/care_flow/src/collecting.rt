@@ -1,9 +1,9 @@
 // A shard collects what no read needs.
-ghost use Rattle.std.specs.Prelude.{◌≡◌, ◌<◌, ℕ, false, None, Some, MatchOption, option_map};
+ghost use Rattle.std.specs.Prelude.{◌≡◌, ◌<◌, ℕ, None, Some, option_map};
 ghost use Rattle.decisions.specs.Flows.{no_heads};
 ghost use Rattle.calls.specs.Asking.{MayBeMade};
 ghost use Rattle.care_flow.specs.Collecting.{Answered, Asks, Awaits, CollectGives, Fits, FlushGives, Gives, HeadsGive, NextCall, ask, name_of};
-ghost use Rattle.care_flow.specs.CollectPhases.{having, view_of};
+ghost use Rattle.care_flow.specs.CollectPhases.{having, held_out, held_ready, step_out, step_ready, view_of, view_out};
 ghost use Rattle.care_flow.specs.Views.{IsBehind, ready};
 
 use crate::end::{CareEnd, end_by};
@@ -11,22 +11,45 @@ use calls::{CoordinatorCall, CoordinatorReply, NodeCall, Reply, ShardCall, Shard
 use decisions::Heads;
 use names::CallName;
 use std::marker::Model;
-use std::mem;
 use tuples::Refusal;
+
+/// Its next call.
+#[derive(Drop)]
+pub(crate) enum Ready {
+    /// Where is the horizon?
+    Ask,
+    /// Whether the shard was flushed for it already.
+    Collect(Heads, bool),
+    /// The shard has no room for the record.
+    FlushToCollect(Heads),
+    Flush,
+}
+
+impl Ready {
+    fn name(&self) -> CallName
+        ensures { result ≡ name_of (step_ready self.now) }
+    {
+        match self {
+            Ready::Ask => CallName::Heads,
+            Ready::Collect(_, _) => CallName::Collect,
+            Ready::FlushToCollect(_) | Ready::Flush => CallName::Flush,
+        }
+    }
+}
+
+/// The call that is out, with what stays here.
+#[derive(Drop)]
+pub(crate) enum Out {
+    Ask,
+    Collect(bool),
+    FlushToCollect(Heads),
+    Flush,
+}
 
 #[derive(Drop)]
 pub(crate) enum Phase {
-    // where is the horizon?
-    Ask,
-    Asked,
-    // whether the shard was flushed for it already
-    Collect(Heads, bool),
-    Collecting(bool),
-    // the shard has no room for the record
-    FlushToCollect(Heads),
-    FlushingToCollect(Heads),
-    Flush,
-    Flushing,
+    Ready(Ready),
+    Out(Out),
     Ended(CareEnd),
 }
 
@@ -35,7 +58,8 @@ pub(crate) enum Phase {
 #[must_use]
 pub struct CollectFlow {
     shard: u8,
-    phase: Phase,
+    // taken out only within a call
+    phase: Option<Phase>,
 }
 
 impl Model for CollectFlow {
@@ -43,35 +67,36 @@ impl Model for CollectFlow {
 
     ghost Value = { CollectFlowValue };
 
-    ghost use Rattle.care_flow.specs.CollectPhases.{view_of};
+    ghost use Rattle.care_flow.specs.CollectPhases.{IsIn, view_in};
 
-    ghost view = { λ f. record { shard = f.shard; seen = view_of f.phase } };
+    ghost view = { λ f. record { shard = f.shard; seen = view_in f.phase } };
+
+    ghost invariant = { λ f. IsIn f.phase };
 }
 
-// Its next call, and the phase while that is out.
-fn next(shard: u8, phase: Phase) -> (Phase, Option<NodeCall>)
-    ensures call { MatchOption (view_of phase).next ((result.1 ≡ None) × (view_of result.0 ≡ view_of phase))
-        (λ step. MatchOption result.1 ⊥ (λ call. Asks shard (view_of phase).holds step call (view_of result.0))) }
-    ensures owed { (shards : ℕ) (call : _) → shard < shards → result.1 ≡ Some call → MayBeMade shards call }
+// Puts a phase where one was taken out.
+fn put(place: &mut Option<Phase>, phase: Phase)
+    ensures { place.new ≡ Some phase }
 {
-    match phase {
-        Phase::Ask => {
-            let call = NodeCall::Coordinator(CoordinatorCall::Heads);
-            (Phase::Asked, Some(call))
-        }
-        Phase::Collect(heads, is_again) => {
+    *place = Some(phase);
+}
+
+// The call of a phase, and the phase while it is out.
+fn next(shard: u8, ready: Ready) -> (NodeCall, Out)
+    ensures asks { Asks shard (held_ready ready) (step_ready ready) result.0 (view_out result.1) }
+    ensures owed { (shards : ℕ) → shard < shards → MayBeMade shards result.0 }
+{
+    match ready {
+        Ready::Ask => (NodeCall::Coordinator(CoordinatorCall::Heads), Out::Ask),
+        Ready::Collect(heads, is_again) => {
             let call = NodeCall::Shard(shard, ShardCall::Collect(heads));
-            (Phase::Collecting(is_again), Some(call))
+            (call, Out::Collect(is_again))
         }
-        Phase::FlushToCollect(heads) => {
+        Ready::FlushToCollect(heads) => {
             let call = NodeCall::Shard(shard, ShardCall::Flush);
-            (Phase::FlushingToCollect(heads), Some(call))
+            (call, Out::FlushToCollect(heads))
         }
-        Phase::Flush => {
-            let call = NodeCall::Shard(shard, ShardCall::Flush);
-            (Phase::Flushing, Some(call))
-        }
-        other => (other, None),
+        Ready::Flush => (NodeCall::Shard(shard, ShardCall::Flush), Out::Flush),
     }
 }
 
@@ -86,7 +111,7 @@ fn answered(answer: Result<Heads, Refusal>) -> Phase
     ensures rests { IsBehind (view_of result) }
 {
     match answer {
-        Ok(heads) => Phase::Collect(heads, false),
+        Ok(heads) => Phase::Ready(Ready::Collect(heads, false)),
         Err(refusal) => refused(refusal),
     }
 }
@@ -96,10 +121,10 @@ fn collected(is_again: bool, heads: Heads, answer: Result<(), Refusal>) -> Phase
     ensures rests { IsBehind (view_of result) }
 {
     match answer {
-        Ok(()) => Phase::Flush,
+        Ok(()) => Phase::Ready(Ready::Flush),
         Err(refusal) => {
             if refusal == Refusal::Full && !is_again {
-                return Phase::FlushToCollect(heads);
+                return Phase::Ready(Ready::FlushToCollect(heads));
             }
             refused(refusal)
         }
@@ -111,34 +136,33 @@ fn flushed(heads: Heads, answer: Result<(), Refusal>) -> Phase
     ensures rests { IsBehind (view_of result) }
 {
     match answer {
-        Ok(()) => Phase::Collect(heads, true),
+        Ok(()) => Phase::Ready(Ready::Collect(heads, true)),
         Err(refusal) => refused(refusal),
     }
 }
 
-fn give(phase: Phase, reply: Reply) -> Phase
-    requires { MatchOption (view_of phase).awaited ⊥ (λ step. Fits step reply) }
-    ensures gives { MatchOption (view_of phase).awaited ⊥ (λ step. Gives (view_of phase).holds step reply (view_of result)) }
+fn give(out: Out, reply: Reply) -> Phase
+    requires { Fits (step_out out) reply }
+    ensures gives { Gives (held_out out) (step_out out) reply (view_of result) }
     ensures rests { IsBehind (view_of result) }
 {
-    match phase {
-        Phase::Asked => match reply {
+    match out {
+        Out::Ask => match reply {
             Reply::Coordinator(CoordinatorReply::Heads(answer)) => answered(answer),
             _ => unreachable!(),
         },
-        Phase::Collecting(is_again) => match reply {
+        Out::Collect(is_again) => match reply {
             Reply::Shard(ShardReply::Collect(heads, answer)) => collected(is_again, heads, answer),
             _ => unreachable!(),
         },
-        Phase::FlushingToCollect(heads) => match reply {
+        Out::FlushToCollect(heads) => match reply {
             Reply::Shard(ShardReply::Flush(answer)) => flushed(heads, answer),
             _ => unreachable!(),
         },
-        Phase::Flushing => match reply {
+        Out::Flush => match reply {
             Reply::Shard(ShardReply::Flush(answer)) => Phase::Ended(end_by(answer)),
             _ => unreachable!(),
         },
-        _ => unreachable!(),
     }
 }
 
@@ -149,7 +173,7 @@ impl CollectFlow {
     {
         CollectFlow {
             shard,
-            phase: Phase::Ask,
+            phase: Some(Phase::Ready(Ready::Ask)),
         }
     }
 
@@ -158,9 +182,7 @@ impl CollectFlow {
         ensures { result ≡ option_map name_of self.now.seen.next }
     {
         match &self.phase {
-            Phase::Ask => Some(CallName::Heads),
-            Phase::Collect(_, _) => Some(CallName::Collect),
-            Phase::FlushToCollect(_) | Phase::Flush => Some(CallName::Flush),
+            Some(Phase::Ready(ready)) => Some(ready.name()),
             _ => None,
         }
     }
@@ -171,10 +193,20 @@ impl CollectFlow {
         ensures call { NextCall self.old result self.new }
         ensures owed { (shards : ℕ) (call : _) → self.old.shard < shards → result ≡ Some call → MayBeMade shards call }
     {
-        let phase = mem::replace(&mut self.phase, Phase::Asked);
-        let (phase, call) = next(self.shard, phase);
-        self.phase = phase;
-        call
+        let Some(phase) = self.phase.take() else {
+            unreachable!();
+        };
+        match phase {
+            Phase::Ready(ready) => {
+                let (call, out) = next(self.shard, ready);
+                put(&mut self.phase, Phase::Out(out));
+                Some(call)
+            }
+            other => {
+                put(&mut self.phase, other);
+                None
+            }
+        }
     }
 
     /// What the reply to its call makes of it.
@@ -184,8 +216,13 @@ impl CollectFlow {
         ensures gives { Answered self.old reply self.new }
         ensures rests { IsBehind self.new.seen }
     {
-        let phase = mem::replace(&mut self.phase, Phase::Asked);
-        self.phase = give(phase, reply);
+        let Some(phase) = self.phase.take() else {
+            unreachable!();
+        };
+        let Phase::Out(out) = phase else {
+            unreachable!();
+        };
+        put(&mut self.phase, give(out, reply));
     }
 
     /// How it ended, where it has.
@@ -193,7 +230,7 @@ impl CollectFlow {
         ensures { result ≡ self.seen.ended }
     {
         match self.phase {
-            Phase::Ended(end) => Some(end),
+            Some(Phase::Ended(end)) => Some(end),
             _ => None,
         }
     }

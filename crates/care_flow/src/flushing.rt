@@ -9,10 +9,11 @@ use calls::{CoordinatorCall, CoordinatorReply, NodeCall, Reply, ShardCall, Shard
 use names::{CallName, NodeName};
 use std::marker::Model;
 
+/// Its one call comes next, or is out, with nothing that stays here.
 #[derive(Drop)]
 pub(crate) enum Phase {
-    Flush,
-    Flushing,
+    Ready,
+    Out,
     Ended(CareEnd),
 }
 
@@ -78,7 +79,7 @@ impl FlushFlow {
         FlushFlow {
             node,
             is_checkpoint,
-            phase: Phase::Flush,
+            phase: Phase::Ready,
         }
     }
 
@@ -87,8 +88,8 @@ impl FlushFlow {
         ensures { result ≡ option_map (name_of self.now.is_checkpoint) self.now.seen.next }
     {
         match &self.phase {
-            Phase::Flush => Some(name_of_call(self.is_checkpoint)),
-            Phase::Flushing | Phase::Ended(_) => None,
+            Phase::Ready => Some(name_of_call(self.is_checkpoint)),
+            Phase::Out | Phase::Ended(_) => None,
         }
     }
 
@@ -99,8 +100,8 @@ impl FlushFlow {
         ensures call { NextCall self.old result self.new }
         ensures owed { (shards : ℕ) (call : _) → IsThere shards self.old.node → result ≡ Some call → MayBeMade shards call }
     {
-        if let Phase::Flush = &self.phase {
-            self.phase = Phase::Flushing;
+        if let Phase::Ready = &self.phase {
+            self.phase = Phase::Out;
             return Some(call_of(self.is_checkpoint, self.node));
         }
         None
@@ -123,7 +124,7 @@ impl FlushFlow {
     {
         match self.phase {
             Phase::Ended(end) => Some(end),
-            Phase::Flush | Phase::Flushing => None,
+            Phase::Ready | Phase::Out => None,
         }
     }
 }

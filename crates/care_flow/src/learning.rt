@@ -1,12 +1,12 @@
 // A shard learns all that is kept.
-ghost use Rattle.std.specs.Prelude.{◌≡◌, ◌<◌, ℕ, None, Some, MatchOption, is_some, option_map};
+ghost use Rattle.std.specs.Prelude.{◌≡◌, ◌<◌, ℕ, None, Some, is_some, option_map};
 ghost use Rattle.decisions.specs.Flows.{no_heads};
 ghost use Rattle.calls.specs.Asking.{MayBeMade};
 ghost use Rattle.calls.specs.Names.{name_of as name_of_call};
 ghost use Rattle.names.specs.declared.call_name.CallName.TheVariants as names;
 ghost use Rattle.catch_up.specs.CatchingUp.{Fits as FitsCatchUp};
 ghost use Rattle.care_flow.specs.Learning.{Answered, Asks, Awaits, Fits, Gives, HasLearned, HeadsGive, IsDone, NextCall, ask, catch_up as catching};
-ghost use Rattle.care_flow.specs.LearnPhases.{IsOf, name_of, view_of};
+ghost use Rattle.care_flow.specs.LearnPhases.{IsOutOf, IsPhaseOf, IsReadyOf, held_out, held_ready, name_ready, step_out, step_ready, view_of, view_out};
 ghost use Rattle.care_flow.specs.Views.{IsBehind, ready};
 
 use crate::end::CareEnd;
@@ -15,16 +15,38 @@ use catch_up::{CatchUp, CatchUpCall, Progress};
 use decisions::Heads;
 use names::CallName;
 use std::marker::Model;
-use std::mem;
 use tuples::Refusal;
+
+/// Its next call.
+#[derive(Drop)]
+pub(crate) enum Ready {
+    /// What is kept?
+    Ask,
+    CatchUp(Heads, CatchUp),
+}
+
+impl Ready {
+    fn name(&self) -> CallName
+        ensures { result ≡ name_ready self.now }
+    {
+        match self {
+            Ready::Ask => CallName::Heads,
+            Ready::CatchUp(_, catch_up) => catch_up.next_name(),
+        }
+    }
+}
+
+/// The call that is out, with what stays here.
+#[derive(Drop)]
+pub(crate) enum Out {
+    Ask,
+    CatchUp(Heads, CatchUpCall),
+}
 
 #[derive(Drop)]
 pub(crate) enum Phase {
-    // what is kept?
-    Ask,
-    Asked,
-    CatchUp(Heads, CatchUp),
-    CatchingUp(Heads, CatchUpCall),
+    Ready(Ready),
+    Out(Out),
     Ended(CareEnd),
 }
 
@@ -33,7 +55,8 @@ pub(crate) enum Phase {
 #[must_use]
 pub struct LearnFlow {
     shard: u8,
-    phase: Phase,
+    // taken out only within a call
+    phase: Option<Phase>,
 }
 
 impl Model for LearnFlow {
@@ -41,34 +64,35 @@ impl Model for LearnFlow {
 
     ghost Value = { LearnFlowValue };
 
-    ghost use Rattle.care_flow.specs.LearnPhases.{IsOf, name_of, view_of};
+    ghost use Rattle.care_flow.specs.LearnPhases.{IsIn, name_in, view_in};
 
-    ghost view = { λ f. record { shard = f.shard; seen = view_of f.phase; next_name = name_of f.phase } };
+    ghost view = { λ f. record { shard = f.shard; seen = view_in f.phase; next_name = name_in f.phase } };
 
-    ghost invariant = { λ f. IsOf f.shard f.phase };
+    ghost invariant = { λ f. IsIn f.shard f.phase };
 }
 
-// Its next call, and the phase while that is out.
-fn next(shard: u8, phase: Phase) -> (Phase, Option<NodeCall>)
-    requires { IsOf shard phase }
-    ensures call { MatchOption (view_of phase).next ((result.1 ≡ None) × (view_of result.0 ≡ view_of phase))
-        (λ step. MatchOption result.1 ⊥ (λ call. Asks shard (view_of phase).holds step call (view_of result.0))) }
-    ensures owed { (shards : ℕ) (call : _) → shard < shards → result.1 ≡ Some call → MayBeMade shards call }
-    ensures name { option_map name_of_call result.1 ≡ name_of phase }
-    ensures none { name_of result.0 ≡ None }
-    ensures kept { IsOf shard result.0 }
+// Puts a phase where one was taken out.
+fn put(place: &mut Option<Phase>, phase: Phase)
+    ensures { place.new ≡ Some phase }
+{
+    *place = Some(phase);
+}
+
+// The call of a phase, and the phase while it is out.
+fn next(shard: u8, ready: Ready) -> (NodeCall, Out)
+    requires { IsReadyOf shard ready }
+    ensures asks { Asks shard (held_ready ready) (step_ready ready) result.0 (view_out result.1) }
+    ensures owed { (shards : ℕ) → shard < shards → MayBeMade shards result.0 }
+    ensures name { name_of_call result.0 ≡ name_ready ready }
+    ensures kept { IsOutOf shard result.1 }
 {
     let _shard = shard;
-    match phase {
-        Phase::Ask => {
-            let call = NodeCall::Coordinator(CoordinatorCall::Heads);
-            (Phase::Asked, Some(call))
-        }
-        Phase::CatchUp(heads, catch_up) => {
+    match ready {
+        Ready::Ask => (NodeCall::Coordinator(CoordinatorCall::Heads), Out::Ask),
+        Ready::CatchUp(heads, catch_up) => {
             let (call, out) = catch_up.next_call();
-            (Phase::CatchingUp(heads, out), Some(call))
+            (call, Out::CatchUp(heads, out))
         }
-        other => (other, None),
     }
 }
 
@@ -81,12 +105,12 @@ fn refused(refusal: Refusal) -> Phase
 fn answered(shard: u8, answer: Result<Heads, Refusal>) -> Phase
     ensures gives { HeadsGive no_heads answer (view_of result) }
     ensures rests { IsBehind (view_of result) }
-    ensures kept { IsOf shard result }
+    ensures kept { IsPhaseOf shard result }
 {
     match answer {
         Ok(heads) => {
             let catch_up = CatchUp::new(shard, heads.kept());
-            Phase::CatchUp(heads, catch_up)
+            Phase::Ready(Ready::CatchUp(heads, catch_up))
         }
         Err(refusal) => refused(refusal),
     }
@@ -95,31 +119,30 @@ fn answered(shard: u8, answer: Result<Heads, Refusal>) -> Phase
 fn caught_up(heads: Heads, call: CatchUpCall, reply: Reply) -> Phase
     requires fits { FitsCatchUp call.awaited reply }
     requires to { call.held.to ≡ heads.kept }
-    ensures gives { Gives call.held.shard (view_of (Phase.CatchingUp heads call)).holds (catching (Some call.awaited)) reply (view_of result) }
+    ensures gives { Gives call.held.shard (held_out (Out.CatchUp heads call)) (catching (Some call.awaited)) reply (view_of result) }
     ensures rests { IsBehind (view_of result) }
-    ensures kept { IsOf call.held.shard result }
+    ensures kept { IsPhaseOf call.held.shard result }
 {
     match call.give(reply) {
-        Progress::Next(catch_up) => Phase::CatchUp(heads, catch_up),
+        Progress::Next(catch_up) => Phase::Ready(Ready::CatchUp(heads, catch_up)),
         Progress::There => Phase::Ended(CareEnd::Done),
         Progress::Refused(refusal) => refused(refusal),
     }
 }
 
-fn give(shard: u8, phase: Phase, reply: Reply) -> Phase
-    requires fits { MatchOption (view_of phase).awaited ⊥ (λ step. Fits step reply) }
-    requires kept { IsOf shard phase }
-    ensures gives { MatchOption (view_of phase).awaited ⊥ (λ step. Gives shard (view_of phase).holds step reply (view_of result)) }
+fn give(shard: u8, out: Out, reply: Reply) -> Phase
+    requires fits { Fits (step_out out) reply }
+    requires kept { IsOutOf shard out }
+    ensures gives { Gives shard (held_out out) (step_out out) reply (view_of result) }
     ensures rests { IsBehind (view_of result) }
-    ensures kept { IsOf shard result }
+    ensures kept { IsPhaseOf shard result }
 {
-    match phase {
-        Phase::Asked => match reply {
+    match out {
+        Out::Ask => match reply {
             Reply::Coordinator(CoordinatorReply::Heads(answer)) => answered(shard, answer),
             _ => unreachable!(),
         },
-        Phase::CatchingUp(heads, call) => caught_up(heads, call, reply),
-        _ => unreachable!(),
+        Out::CatchUp(heads, call) => caught_up(heads, call, reply),
     }
 }
 
@@ -130,7 +153,7 @@ impl LearnFlow {
     {
         LearnFlow {
             shard,
-            phase: Phase::Ask,
+            phase: Some(Phase::Ready(Ready::Ask)),
         }
     }
 
@@ -140,8 +163,7 @@ impl LearnFlow {
         ensures some { is_some result ≡ is_some self.now.seen.next }
     {
         match &self.phase {
-            Phase::Ask => Some(CallName::Heads),
-            Phase::CatchUp(_, catch_up) => Some(catch_up.next_name()),
+            Some(Phase::Ready(ready)) => Some(ready.name()),
             _ => None,
         }
     }
@@ -153,10 +175,20 @@ impl LearnFlow {
         ensures name { (option_map name_of_call result ≡ self.old.next_name) × (self.new.next_name ≡ None) }
         ensures owed { (shards : ℕ) (call : _) → self.old.shard < shards → result ≡ Some call → MayBeMade shards call }
     {
-        let phase = mem::replace(&mut self.phase, Phase::Asked);
-        let (phase, call) = next(self.shard, phase);
-        self.phase = phase;
-        call
+        let Some(phase) = self.phase.take() else {
+            unreachable!();
+        };
+        match phase {
+            Phase::Ready(ready) => {
+                let (call, out) = next(self.shard, ready);
+                put(&mut self.phase, Phase::Out(out));
+                Some(call)
+            }
+            other => {
+                put(&mut self.phase, other);
+                None
+            }
+        }
     }
 
     /// What the reply to its call makes of it. It is done only where the shard has answered that it has learned up to the kept place.
@@ -167,8 +199,13 @@ impl LearnFlow {
         ensures rests { IsBehind self.new.seen }
         ensures done { IsDone self.new.seen → HasLearned self.old.seen.holds reply }
     {
-        let phase = mem::replace(&mut self.phase, Phase::Asked);
-        self.phase = give(self.shard, phase, reply);
+        let Some(phase) = self.phase.take() else {
+            unreachable!();
+        };
+        let Phase::Out(out) = phase else {
+            unreachable!();
+        };
+        put(&mut self.phase, give(self.shard, out, reply));
     }
 
     /// How it ended, where it has.
@@ -176,7 +213,7 @@ impl LearnFlow {
         ensures { result ≡ self.seen.ended }
     {
         match self.phase {
-            Phase::Ended(end) => Some(end),
+            Some(Phase::Ended(end)) => Some(end),
             _ => None,
         }
     }

@@ -16,6 +16,7 @@ mod flushing;
 mod gathering;
 mod learning;
 mod raise_calls;
+mod raise_phase;
 mod raise_replies;
 mod raising;
 mod resolving;

@@ -1,15 +1,15 @@
 // What each reply makes of a raise.
-ghost use Rattle.std.specs.Prelude.{◌≡◌, ◌<◌, ℕ, None, Some, IfErr, MatchOption};
+ghost use Rattle.std.specs.Prelude.{◌≡◌, ◌<◌, ℕ, None, Some, IfErr};
 ghost use Rattle.decisions.specs.Coordinators.{HaveSettled};
 ghost use Rattle.decisions.specs.Flows.{nothing_raised};
 ghost use Rattle.catch_up.specs.CatchingUp.{Fits as FitsCatchUp};
 ghost use Rattle.care_flow.specs.Raising.{Fits, FlushGives, Gives, GoesRound, HeadsGive, RaiseGives, SettleGives, catch_up as catching};
 ghost use Rattle.care_flow.specs.Views.{IsBehind, ready};
-ghost use Rattle.care_flow.specs.RaisePhases.{IsOf, IsRoundOf, gathering as held_by, handed_in, view_of};
+ghost use Rattle.care_flow.specs.RaisePhases.{IsOutOf, IsPhaseOf, IsReadyOf, IsRoundOf, gathering as held_by, handed_in, held_out, step_out, view_of, view_ready};
 
 use crate::end::{CareEnd, end_by};
 use crate::gathering::{Gathered, Gathering};
-use crate::raising::Phase;
+use crate::raise_phase::{Out, Phase, Ready};
 use calls::{CoordinatorReply, Reply, ShardReply};
 use catch_up::{CatchUpCall, Progress};
 use coordinator::NotRaised;
@@ -28,29 +28,29 @@ fn begin(gathering: Gathering) -> Phase
     requires { IsRoundOf gathering.shards gathering.place gathering }
     ensures goes { view_of result ≡ ready (held_by gathering None) (catching gathering.next None) }
     ensures rests { IsBehind (view_of result) }
-    ensures kept { IsOf gathering.shards gathering.place result }
+    ensures kept { IsPhaseOf gathering.shards gathering.place result }
 {
     let catch_up = gathering.catch_up();
-    Phase::CatchUp(gathering, catch_up)
+    Phase::Ready(Ready::CatchUp(gathering, catch_up))
 }
 
 // The next shard's turn; behind the last one the horizon is raised.
 fn go_round(gathering: Gathering) -> Phase
     ensures goes { GoesRound gathering.shards (held_by gathering None) gathering.next (view_of result) }
     ensures rests { IsBehind (view_of result) }
-    ensures kept { IsOf gathering.shards gathering.place result }
+    ensures kept { IsPhaseOf gathering.shards gathering.place result }
 {
     if gathering.has_next() {
         return begin(gathering);
     }
-    Phase::Raise(gathering.all(), false)
+    Phase::Ready(Ready::Raise(gathering.all(), false))
 }
 
 // No shard can settle a place above the log, so the flow refuses it by itself.
 fn answered(alloc: Global, shards: u8, place: u64, answer: Result<Heads, Refusal>) -> Phase
     ensures gives { HeadsGive shards place nothing_raised answer (view_of result) }
     ensures rests { IsBehind (view_of result) }
-    ensures kept { IsOf shards place result }
+    ensures kept { IsPhaseOf shards place result }
 {
     match answer {
         Ok(heads) => {
@@ -61,7 +61,7 @@ fn answered(alloc: Global, shards: u8, place: u64, answer: Result<Heads, Refusal
                 };
             }
             if place <= heads.length() {
-                return Phase::FlushToAsk;
+                return Phase::Ready(Ready::FlushToAsk);
             }
             refused(Refusal::Future)
         }
@@ -73,25 +73,25 @@ fn caught_up(gathering: Gathering, call: CatchUpCall, reply: Reply) -> Phase
     requires fits { FitsCatchUp call.awaited reply }
     requires round { IsRoundOf gathering.shards gathering.place gathering }
     requires own { (call.held.shard ≡ gathering.next) × (call.held.to ≡ gathering.heads.kept) }
-    ensures gives { Gives gathering.shards gathering.place (view_of (Phase.CatchingUp gathering call)).holds (catching gathering.next (Some call.awaited)) reply (view_of result) }
+    ensures gives { Gives gathering.shards gathering.place (held_out (Out.CatchUp gathering call)) (catching gathering.next (Some call.awaited)) reply (view_of result) }
     ensures rests { IsBehind (view_of result) }
-    ensures kept { IsOf gathering.shards gathering.place result }
+    ensures kept { IsPhaseOf gathering.shards gathering.place result }
 {
     match call.give(reply) {
-        Progress::Next(catch_up) => Phase::CatchUp(gathering, catch_up),
-        Progress::There => Phase::Flush(gathering),
+        Progress::Next(catch_up) => Phase::Ready(Ready::CatchUp(gathering, catch_up)),
+        Progress::There => Phase::Ready(Ready::Flush(gathering)),
         Progress::Refused(refusal) => refused(refusal),
     }
 }
 
-// A flush behind which the phase comes.
-fn flushed(behind: Phase, answer: Result<(), Refusal>) -> Phase
-    ensures gives { FlushGives answer (view_of behind) (view_of result) }
-    ensures rests { IsBehind (view_of behind) → IsBehind (view_of result) }
-    ensures kept { (shards place : ℕ) → IsOf shards place behind → IsOf shards place result }
+// A flush behind which this call comes.
+fn flushed(behind: Ready, answer: Result<(), Refusal>) -> Phase
+    ensures gives { FlushGives answer (view_ready behind) (view_of result) }
+    ensures rests { IsBehind (view_of result) }
+    ensures kept { (shards place : ℕ) → IsReadyOf shards place behind → IsPhaseOf shards place result }
 {
     match answer {
-        Ok(()) => behind,
+        Ok(()) => Phase::Ready(behind),
         Err(refusal) => refused(refusal),
     }
 }
@@ -100,7 +100,7 @@ fn settled(mut gathering: Gathering, answer: Result<Settled, Refusal>) -> Phase
     requires { IsRoundOf gathering.shards gathering.place gathering }
     ensures gives { SettleGives gathering.shards gathering.place (held_by gathering None) gathering.next answer (view_of result) }
     ensures rests { IsBehind (view_of result) }
-    ensures kept { IsOf gathering.shards gathering.place result }
+    ensures kept { IsPhaseOf gathering.shards gathering.place result }
 {
     match answer {
         Ok(settled) => {
@@ -125,14 +125,15 @@ fn raised(
     requires { IfErr answer (λ back. HaveSettled shards place back.settled.items) }
     ensures gives { RaiseGives (handed_in heads) is_again answer (view_of result) }
     ensures rests { IsBehind (view_of result) }
-    ensures kept { IsOf shards place result }
+    ensures kept { IsPhaseOf shards place result }
 {
     match answer {
-        Ok(()) => Phase::FlushRaised(heads),
+        Ok(()) => Phase::Ready(Ready::FlushRaised(heads)),
         Err(back) => {
             let NotRaised { refusal, settled } = back;
             if refusal == Refusal::Full && !is_again {
-                return Phase::FlushToRaise(Gathered::again(shards, place, heads, settled));
+                let gathered = Gathered::again(shards, place, heads, settled);
+                return Phase::Ready(Ready::FlushToRaise(gathered));
             }
             refused(refusal)
         }
@@ -140,49 +141,48 @@ fn raised(
 }
 
 /// What a reply makes of the phase that waits for it.
-pub(crate) fn give(alloc: Global, shards: u8, place: u64, phase: Phase, reply: Reply) -> Phase
-    requires fits { MatchOption (view_of phase).awaited ⊥ (λ step. Fits shards place step reply) }
-    requires kept { IsOf shards place phase }
-    ensures gives { MatchOption (view_of phase).awaited ⊥ (λ step. Gives shards place (view_of phase).holds step reply (view_of result)) }
+pub(crate) fn give(alloc: Global, shards: u8, place: u64, out: Out, reply: Reply) -> Phase
+    requires fits { Fits shards place (step_out out) reply }
+    requires kept { IsOutOf shards place out }
+    ensures gives { Gives shards place (held_out out) (step_out out) reply (view_of result) }
     ensures rests { IsBehind (view_of result) }
-    ensures kept { IsOf shards place result }
+    ensures kept { IsPhaseOf shards place result }
 {
-    match phase {
-        Phase::Asked => match reply {
+    match out {
+        Out::Ask => match reply {
             Reply::Coordinator(CoordinatorReply::Heads(answer)) => {
                 answered(alloc, shards, place, answer)
             }
             _ => unreachable!(),
         },
-        Phase::FlushingToAsk => match reply {
-            Reply::Coordinator(CoordinatorReply::Flush(answer)) => flushed(Phase::Ask, answer),
+        Out::FlushToAsk => match reply {
+            Reply::Coordinator(CoordinatorReply::Flush(answer)) => flushed(Ready::Ask, answer),
             _ => unreachable!(),
         },
-        Phase::CatchingUp(gathering, call) => caught_up(gathering, call, reply),
-        Phase::Flushing(gathering) => match reply {
-            Reply::Shard(ShardReply::Flush(answer)) => flushed(Phase::Settle(gathering), answer),
+        Out::CatchUp(gathering, call) => caught_up(gathering, call, reply),
+        Out::Flush(gathering) => match reply {
+            Reply::Shard(ShardReply::Flush(answer)) => flushed(Ready::Settle(gathering), answer),
             _ => unreachable!(),
         },
-        Phase::Settling(gathering) => match reply {
+        Out::Settle(gathering) => match reply {
             Reply::Shard(ShardReply::Settle(answer)) => settled(gathering, answer),
             _ => unreachable!(),
         },
-        Phase::Raising(heads, is_again) => match reply {
+        Out::Raise(heads, is_again) => match reply {
             Reply::Coordinator(CoordinatorReply::Raise(answer)) => {
                 raised(shards, place, heads, is_again, answer)
             }
             _ => unreachable!(),
         },
-        Phase::FlushingToRaise(gathered) => match reply {
+        Out::FlushToRaise(gathered) => match reply {
             Reply::Coordinator(CoordinatorReply::Flush(answer)) => {
-                flushed(Phase::Raise(gathered, true), answer)
+                flushed(Ready::Raise(gathered, true), answer)
             }
             _ => unreachable!(),
         },
-        Phase::FlushingRaised(_heads) => match reply {
+        Out::FlushRaised(_heads) => match reply {
             Reply::Coordinator(CoordinatorReply::Flush(answer)) => Phase::Ended(end_by(answer)),
             _ => unreachable!(),
         },
-        _ => unreachable!(),
     }
 }

@@ -5,47 +5,16 @@ ghost use Rattle.calls.specs.Names.{name_of as name_of_call};
 ghost use Rattle.names.specs.declared.call_name.CallName.TheVariants as names;
 ghost use Rattle.decisions.specs.Flows.{nothing_raised};
 ghost use Rattle.care_flow.specs.Raising.{Answered, Awaits, NextCall, ask};
-ghost use Rattle.care_flow.specs.RaisePhases.{IsOf, view_of};
 ghost use Rattle.care_flow.specs.Views.{IsBehind, ready};
 
 use crate::end::CareEnd;
-use crate::gathering::{Gathered, Gathering};
 use crate::raise_calls::next;
+use crate::raise_phase::{Phase, Ready};
 use crate::raise_replies::give;
 use calls::{NodeCall, Reply};
-use catch_up::{CatchUp, CatchUpCall};
-use decisions::Heads;
 use names::CallName;
 use std::alloc::Global;
 use std::marker::Model;
-use std::mem;
-
-#[derive(Drop)]
-pub(crate) enum Phase {
-    // is the place kept?
-    Ask,
-    Asked,
-    // it is decided, and not kept yet
-    FlushToAsk,
-    FlushingToAsk,
-    // one shard after another
-    CatchUp(Gathering, CatchUp),
-    CatchingUp(Gathering, CatchUpCall),
-    Flush(Gathering),
-    Flushing(Gathering),
-    Settle(Gathering),
-    Settling(Gathering),
-    // whether the coordinator was flushed for it already
-    Raise(Gathered, bool),
-    Raising(Heads, bool),
-    // the coordinator has no room for the record
-    FlushToRaise(Gathered),
-    FlushingToRaise(Gathered),
-    // the horizon counts once it is durable
-    FlushRaised(Heads),
-    FlushingRaised(Heads),
-    Ended(CareEnd),
-}
 
 /// Raises the horizon to a place, once each shard has learned so far for good.
 #[derive(Drop)]
@@ -54,7 +23,8 @@ pub struct RaiseFlow {
     alloc: Global,
     shards: u8,
     place: u64,
-    phase: Phase,
+    // taken out only within a call
+    phase: Option<Phase>,
 }
 
 impl Model for RaiseFlow {
@@ -62,11 +32,18 @@ impl Model for RaiseFlow {
 
     ghost Value = { RaiseFlowValue };
 
-    ghost use Rattle.care_flow.specs.RaisePhases.{IsOf, name_of, view_of};
+    ghost use Rattle.care_flow.specs.RaisePhases.{IsIn, name_in, view_in};
 
-    ghost view = { λ f. record { shards = f.shards; place = f.place; seen = view_of f.phase; next_name = name_of f.phase } };
+    ghost view = { λ f. record { shards = f.shards; place = f.place; seen = view_in f.phase; next_name = name_in f.phase } };
 
-    ghost invariant = { λ f. IsOf f.shards f.place f.phase };
+    ghost invariant = { λ f. IsIn f.shards f.place f.phase };
+}
+
+// Puts a phase where one was taken out.
+fn put(place: &mut Option<Phase>, phase: Phase)
+    ensures { place.new ≡ Some phase }
+{
+    *place = Some(phase);
 }
 
 impl RaiseFlow {
@@ -78,7 +55,7 @@ impl RaiseFlow {
             alloc,
             shards,
             place,
-            phase: Phase::Ask,
+            phase: Some(Phase::Ready(Ready::Ask)),
         }
     }
 
@@ -88,12 +65,7 @@ impl RaiseFlow {
         ensures some { is_some result ≡ is_some self.now.seen.next }
     {
         match &self.phase {
-            Phase::Ask => Some(CallName::Heads),
-            Phase::CatchUp(_, catch_up) => Some(catch_up.next_name()),
-            Phase::Settle(_) => Some(CallName::Settle),
-            Phase::Raise(_, _) => Some(CallName::Raise),
-            Phase::FlushToAsk | Phase::Flush(_) | Phase::FlushToRaise(_) | Phase::FlushRaised(_) =>
-                Some(CallName::Flush),
+            Some(Phase::Ready(ready)) => Some(ready.name()),
             _ => None,
         }
     }
@@ -105,10 +77,20 @@ impl RaiseFlow {
         ensures name { (option_map name_of_call result ≡ self.old.next_name) × (self.new.next_name ≡ None) }
         ensures owed { (call : _) → result ≡ Some call → MayBeMade self.old.shards call }
     {
-        let phase = mem::replace(&mut self.phase, Phase::Asked);
-        let (phase, call) = next(self.shards, self.place, phase);
-        self.phase = phase;
-        call
+        let Some(phase) = self.phase.take() else {
+            unreachable!();
+        };
+        match phase {
+            Phase::Ready(ready) => {
+                let (call, out) = next(self.shards, self.place, ready);
+                put(&mut self.phase, Phase::Out(out));
+                Some(call)
+            }
+            other => {
+                put(&mut self.phase, other);
+                None
+            }
+        }
     }
 
     /// What the reply to its call makes of it. It takes memory for what the shards have settled as soon as the heads reach the place.
@@ -118,8 +100,14 @@ impl RaiseFlow {
         ensures gives { Answered self.old reply self.new }
         ensures rests { IsBehind self.new.seen }
     {
-        let phase = mem::replace(&mut self.phase, Phase::Asked);
-        self.phase = give(self.alloc, self.shards, self.place, phase, reply);
+        let Some(phase) = self.phase.take() else {
+            unreachable!();
+        };
+        let Phase::Out(out) = phase else {
+            unreachable!();
+        };
+        let phase = give(self.alloc, self.shards, self.place, out, reply);
+        put(&mut self.phase, phase);
     }
 
     /// How it ended, where it has.
@@ -127,7 +115,7 @@ impl RaiseFlow {
         ensures { result ≡ self.seen.ended }
     {
         match self.phase {
-            Phase::Ended(end) => Some(end),
+            Some(Phase::Ended(end)) => Some(end),
             _ => None,
         }
     }

@@ -1,5 +1,5 @@
 // What became of each write that is in doubt at a shard.
-ghost use Rattle.std.specs.Prelude.{◌≡◌, ◌<◌, [], ℕ, List, None, Some, MatchOption, is_some, map, option_map};
+ghost use Rattle.std.specs.Prelude.{◌≡◌, ◌<◌, [], ℕ, List, None, Some, is_some, map, option_map};
 ghost use Rattle.calls.specs.Asking.{MayBeMade};
 ghost use Rattle.calls.specs.Names.{name_of as name_of_call};
 ghost use Rattle.names.specs.declared.call_name.CallName.TheVariants as names;
@@ -8,7 +8,7 @@ ghost use Rattle.care_flow.specs.declared.end.CareEnd.TheVariants.{Resolved as a
 ghost use Rattle.decisions.specs.Flows.{ResolveHolds};
 ghost use Rattle.care_flow.specs.Ends.{id_of, next_of, resolved_value};
 ghost use Rattle.care_flow.specs.Resolving.{Answered, Asks, Awaits, DoubtsGive, DropGives, Fits, Gives, GoesThrough, HasCommitted, InquiryGives, NextCall, catch_up as catching, in_doubt, nothing_found};
-ghost use Rattle.care_flow.specs.ResolvePhases.{IsOf, holding, name_of, view_of};
+ghost use Rattle.care_flow.specs.ResolvePhases.{IsOutOf, IsPhaseOf, IsReadyOf, held_out, held_ready, holding, name_ready, step_out, step_ready, view_of, view_out};
 ghost use Rattle.care_flow.specs.Views.{IsBehind, ready};
 
 use crate::end::{CareEnd, Resolved};
@@ -20,25 +20,48 @@ use decisions::Verdict;
 use names::CallName;
 use std::alloc::Global;
 use std::marker::Model;
-use std::mem;
 use tuples::{Refusal, WriteId};
+
+/// Its next call.
+#[derive(Drop)]
+pub(crate) enum Ready {
+    /// What is in doubt?
+    AskDoubts,
+    /// What became of this one?
+    Inquire(WriteId),
+    /// It is decided.
+    CatchUp(CatchUp),
+    /// It is aborted.
+    Drop(Verdict),
+}
+
+impl Ready {
+    fn name(&self) -> CallName
+        ensures { result ≡ name_ready self.now }
+    {
+        match self {
+            Ready::AskDoubts => CallName::InDoubt,
+            Ready::Inquire(_) => CallName::Inquire,
+            Ready::CatchUp(catch_up) => catch_up.next_name(),
+            Ready::Drop(_) => CallName::DropWrite,
+        }
+    }
+}
+
+/// The call that is out, with what stays here.
+#[derive(Drop)]
+pub(crate) enum Out {
+    AskDoubts,
+    Inquire(WriteId),
+    CatchUp(CatchUpCall),
+    Drop,
+}
 
 #[derive(Drop)]
 pub(crate) enum Phase {
-    // what is in doubt?
-    AskDoubts,
-    AskedDoubts,
-    // what became of this one?
-    Inquire(WriteId),
-    Inquired(WriteId),
-    // it is decided
-    CatchUp(CatchUp),
-    CatchingUp(CatchUpCall),
-    // it is aborted
-    Drop(Verdict),
-    Dropping,
-    Done,
-    Refused(Refusal),
+    Ready(Ready),
+    Out(Out),
+    Ended(Result<(), Refusal>),
 }
 
 /// Asks the coordinator for each write that is in doubt at a shard: one that is decided is learned there, one that was aborted is dropped, and one that is
@@ -49,7 +72,8 @@ pub struct ResolveFlow {
     alloc: Global,
     shard: u8,
     findings: Findings,
-    phase: Phase,
+    // taken out only within a call
+    phase: Option<Phase>,
 }
 
 impl Model for ResolveFlow {
@@ -57,55 +81,62 @@ impl Model for ResolveFlow {
 
     ghost Value = { ResolveFlowValue };
 
-    ghost use Rattle.care_flow.specs.ResolvePhases.{IsOf, name_of, view_of};
+    ghost use Rattle.care_flow.specs.ResolvePhases.{IsIn, name_in, view_in};
 
-    ghost view = { λ f. record { shard = f.shard; doubts = f.findings.doubts.items; seen = view_of f.findings f.phase; next_name = name_of f.phase } };
+    ghost view = { λ f. record { shard = f.shard; doubts = f.findings.doubts.items; seen = view_in f.findings f.phase; next_name = name_in f.phase } };
 
-    ghost invariant = { λ f. IsOf f.shard f.findings f.phase };
+    ghost invariant = { λ f. IsIn f.shard f.findings f.phase };
 }
 
-// Its next call, and the phase while that is out.
-fn next(shard: u8, findings: &Findings, phase: Phase) -> (Phase, Option<NodeCall>)
-    requires { IsOf shard findings.now phase }
-    ensures call { MatchOption (view_of findings.now phase).next ((result.1 ≡ None) × (view_of findings.now result.0 ≡ view_of findings.now phase))
-        (λ step. MatchOption result.1 ⊥ (λ call. Asks shard (view_of findings.now phase).holds step call (view_of findings.now result.0))) }
-    ensures owed { (shards : ℕ) (call : _) → shard < shards → result.1 ≡ Some call → MayBeMade shards call }
-    ensures name { option_map name_of_call result.1 ≡ name_of phase }
-    ensures none { name_of result.0 ≡ None }
-    ensures kept { IsOf shard findings.now result.0 }
+// Puts a phase where one was taken out.
+fn put(place: &mut Option<Phase>, phase: Phase)
+    ensures { place.new ≡ Some phase }
+{
+    *place = Some(phase);
+}
+
+// The call of a phase, and the phase while it is out.
+fn next(shard: u8, findings: &Findings, ready: Ready) -> (NodeCall, Out)
+    requires { IsReadyOf shard findings.now ready }
+    ensures asks { Asks shard (held_ready findings.now ready) (step_ready ready) result.0 (view_out findings.now result.1) }
+    ensures owed { (shards : ℕ) → shard < shards → MayBeMade shards result.0 }
+    ensures name { name_of_call result.0 ≡ name_ready ready }
+    ensures kept { IsOutOf shard findings.now result.1 }
 {
     let _findings = findings;
-    match phase {
-        Phase::AskDoubts => {
-            let call = NodeCall::Shard(shard, ShardCall::InDoubt);
-            (Phase::AskedDoubts, Some(call))
-        }
-        Phase::Inquire(id) => {
+    match ready {
+        Ready::AskDoubts => (NodeCall::Shard(shard, ShardCall::InDoubt), Out::AskDoubts),
+        Ready::Inquire(id) => {
             let call = NodeCall::Coordinator(CoordinatorCall::Inquire(id));
-            (Phase::Inquired(id), Some(call))
+            (call, Out::Inquire(id))
         }
-        Phase::CatchUp(catch_up) => {
+        Ready::CatchUp(catch_up) => {
             let (call, out) = catch_up.next_call();
-            (Phase::CatchingUp(out), Some(call))
+            (call, Out::CatchUp(out))
         }
-        Phase::Drop(verdict) => {
+        Ready::Drop(verdict) => {
             let call = NodeCall::Shard(shard, ShardCall::DropWrite(verdict, None));
-            (Phase::Dropping, Some(call))
+            (call, Out::Drop)
         }
-        other => (other, None),
     }
+}
+
+fn refused(refusal: Refusal) -> Phase
+    ensures { result ≡ Phase.Ended (Err refusal) }
+{
+    Phase::Ended(Err(refusal))
 }
 
 // It goes on to the next write.
 fn go_on(shard: u8, findings: &Findings) -> Phase
     ensures goes { (doubts : List WriteId) (h : ResolveHolds) → doubts ≡ findings.now.doubts.items → h ≡ holding findings.now None None → GoesThrough doubts h (view_of findings.now result) }
     ensures rests { IsBehind (view_of findings.now result) }
-    ensures kept { IsOf shard findings.now result }
+    ensures kept { IsPhaseOf shard findings.now result }
 {
     let _shard = shard;
     match findings.next() {
-        Some(id) => Phase::Inquire(id),
-        None => Phase::Done,
+        Some(id) => Phase::Ready(Ready::Inquire(id)),
+        None => Phase::Ended(Ok(())),
     }
 }
 
@@ -118,7 +149,7 @@ fn told(
     requires { findings.old.found.items ≡ [] }
     ensures gives { DoubtsGive (holding findings.old None None) answer findings.new.doubts.items (view_of findings.new result) }
     ensures rests { IsBehind (view_of findings.new result) }
-    ensures kept { IsOf shard findings.new result }
+    ensures kept { IsPhaseOf shard findings.new result }
 {
     match answer {
         Ok(doubts) => match Findings::new(alloc, doubts) {
@@ -126,9 +157,9 @@ fn told(
                 *findings = known;
                 go_on(shard, findings)
             }
-            Err(_) => Phase::Refused(Refusal::NoMemory),
+            Err(_) => refused(Refusal::NoMemory),
         },
-        Err(refusal) => Phase::Refused(refusal),
+        Err(refusal) => refused(refusal),
     }
 }
 
@@ -142,23 +173,23 @@ fn inquired(
     ensures doubts { findings.new.doubts ≡ findings.old.doubts }
     ensures gives { InquiryGives findings.old.doubts.items (holding findings.old None None) id answer (view_of findings.new result) }
     ensures rests { IsBehind (view_of findings.new result) }
-    ensures kept { IsOf shard findings.new result }
+    ensures kept { IsPhaseOf shard findings.new result }
 {
     match answer {
         Ok(Inquiry::Commit(place)) => {
             findings.note(Resolved::Committed(id, place));
-            Phase::CatchUp(CatchUp::new(shard, place))
+            Phase::Ready(Ready::CatchUp(CatchUp::new(shard, place)))
         }
         Ok(Inquiry::Abort(verdict)) => {
             findings.note(Resolved::Aborted(id));
-            Phase::Drop(verdict)
+            Phase::Ready(Ready::Drop(verdict))
         }
         // Whoever decides it still needs its prepare.
         Ok(Inquiry::Undecided) => {
             findings.note(Resolved::Undecided(id));
             go_on(shard, findings)
         }
-        Err(refusal) => Phase::Refused(refusal),
+        Err(refusal) => refused(refusal),
     }
 }
 
@@ -166,53 +197,51 @@ fn caught_up(shard: u8, findings: &Findings, call: CatchUpCall, reply: Reply) ->
     requires fits { FitsCatchUp call.awaited reply }
     requires shard { call.held.shard ≡ shard }
     requires committed { HasCommitted (map resolved_value findings.now.found.items) call.held.to }
-    ensures gives { Gives shard findings.now.doubts.items (view_of findings.now (Phase.CatchingUp call)).holds (catching call.held.to (Some call.awaited)) reply findings.now.doubts.items (view_of findings.now result) }
+    ensures gives { Gives shard findings.now.doubts.items (held_out findings.now (Out.CatchUp call)) (catching call.held.to (Some call.awaited)) reply findings.now.doubts.items (view_of findings.now result) }
     ensures rests { IsBehind (view_of findings.now result) }
-    ensures kept { IsOf shard findings.now result }
+    ensures kept { IsPhaseOf shard findings.now result }
 {
     match call.give(reply) {
-        Progress::Next(catch_up) => Phase::CatchUp(catch_up),
+        Progress::Next(catch_up) => Phase::Ready(Ready::CatchUp(catch_up)),
         Progress::There => go_on(shard, findings),
-        Progress::Refused(refusal) => Phase::Refused(refusal),
+        Progress::Refused(refusal) => refused(refusal),
     }
 }
 
 fn dropped(shard: u8, findings: &Findings, answer: Result<(), Refusal>) -> Phase
     ensures gives { DropGives findings.now.doubts.items (holding findings.now None None) answer (view_of findings.now result) }
     ensures rests { IsBehind (view_of findings.now result) }
-    ensures kept { IsOf shard findings.now result }
+    ensures kept { IsPhaseOf shard findings.now result }
 {
     match answer {
         Ok(()) => go_on(shard, findings),
-        Err(refusal) => Phase::Refused(refusal),
+        Err(refusal) => refused(refusal),
     }
 }
 
-fn give(alloc: Global, shard: u8, findings: &mut Findings, phase: Phase, reply: Reply) -> Phase
-    requires fits { MatchOption (view_of findings.old phase).awaited ⊥ (λ step. Fits step reply) }
-    requires kept { IsOf shard findings.old phase }
-    ensures gives { MatchOption (view_of findings.old phase).awaited ⊥
-        (λ step. Gives shard findings.old.doubts.items (view_of findings.old phase).holds step reply findings.new.doubts.items (view_of findings.new result)) }
+fn give(alloc: Global, shard: u8, findings: &mut Findings, out: Out, reply: Reply) -> Phase
+    requires fits { Fits (step_out out) reply }
+    requires kept { IsOutOf shard findings.old out }
+    ensures gives { Gives shard findings.old.doubts.items (held_out findings.old out) (step_out out) reply findings.new.doubts.items (view_of findings.new result) }
     ensures rests { IsBehind (view_of findings.new result) }
-    ensures kept { IsOf shard findings.new result }
+    ensures kept { IsPhaseOf shard findings.new result }
 {
-    match phase {
-        Phase::AskedDoubts => match reply {
+    match out {
+        Out::AskDoubts => match reply {
             Reply::Shard(ShardReply::InDoubt(answer)) => told(alloc, shard, findings, answer),
             _ => unreachable!(),
         },
-        Phase::Inquired(id) => match reply {
+        Out::Inquire(id) => match reply {
             Reply::Coordinator(CoordinatorReply::Inquire(answer)) => {
                 inquired(shard, findings, id, answer)
             }
             _ => unreachable!(),
         },
-        Phase::CatchingUp(call) => caught_up(shard, findings, call, reply),
-        Phase::Dropping => match reply {
+        Out::CatchUp(call) => caught_up(shard, findings, call, reply),
+        Out::Drop => match reply {
             Reply::Shard(ShardReply::DropWrite(_, answer)) => dropped(shard, findings, answer),
             _ => unreachable!(),
         },
-        _ => unreachable!(),
     }
 }
 
@@ -225,7 +254,7 @@ impl ResolveFlow {
             alloc,
             shard,
             findings: Findings::none(alloc),
-            phase: Phase::AskDoubts,
+            phase: Some(Phase::Ready(Ready::AskDoubts)),
         }
     }
 
@@ -235,10 +264,7 @@ impl ResolveFlow {
         ensures some { is_some result ≡ is_some self.now.seen.next }
     {
         match &self.phase {
-            Phase::AskDoubts => Some(CallName::InDoubt),
-            Phase::Inquire(_) => Some(CallName::Inquire),
-            Phase::CatchUp(catch_up) => Some(catch_up.next_name()),
-            Phase::Drop(_) => Some(CallName::DropWrite),
+            Some(Phase::Ready(ready)) => Some(ready.name()),
             _ => None,
         }
     }
@@ -251,10 +277,20 @@ impl ResolveFlow {
         ensures name { (option_map name_of_call result ≡ self.old.next_name) × (self.new.next_name ≡ None) }
         ensures owed { (shards : ℕ) (call : _) → self.old.shard < shards → result ≡ Some call → MayBeMade shards call }
     {
-        let phase = mem::replace(&mut self.phase, Phase::AskedDoubts);
-        let (phase, call) = next(self.shard, &self.findings, phase);
-        self.phase = phase;
-        call
+        let Some(phase) = self.phase.take() else {
+            unreachable!();
+        };
+        match phase {
+            Phase::Ready(ready) => {
+                let (call, out) = next(self.shard, &self.findings, ready);
+                put(&mut self.phase, Phase::Out(out));
+                Some(call)
+            }
+            other => {
+                put(&mut self.phase, other);
+                None
+            }
+        }
     }
 
     /// What the reply to its call makes of it. It takes memory for what it finds as soon as it knows of how many writes.
@@ -264,8 +300,14 @@ impl ResolveFlow {
         ensures gives { Answered self.old reply self.new }
         ensures rests { IsBehind self.new.seen }
     {
-        let phase = mem::replace(&mut self.phase, Phase::AskedDoubts);
-        self.phase = give(self.alloc, self.shard, &mut self.findings, phase, reply);
+        let Some(phase) = self.phase.take() else {
+            unreachable!();
+        };
+        let Phase::Out(out) = phase else {
+            unreachable!();
+        };
+        let phase = give(self.alloc, self.shard, &mut self.findings, out, reply);
+        put(&mut self.phase, phase);
     }
 
     /// How it ended, where it has. What it found is of each write that was in doubt, in their order.
@@ -274,8 +316,8 @@ impl ResolveFlow {
         ensures each { (all : _) → result ≡ Some (all_resolved all) → map id_of all.items ≡ self.doubts }
     {
         match self.phase {
-            Phase::Done => Some(CareEnd::Resolved(self.findings.found)),
-            Phase::Refused(refusal) => Some(CareEnd::Refused(refusal)),
+            Some(Phase::Ended(Ok(()))) => Some(CareEnd::Resolved(self.findings.found)),
+            Some(Phase::Ended(Err(refusal))) => Some(CareEnd::Refused(refusal)),
             _ => None,
         }
     }

@@ -145,39 +145,53 @@ fn next(seed: u64) -> u64 {
     seed ^ (seed << 17)
 }
 
-// Whether they are as long, and read alike at every eighth place.
-fn are_alike<A: Device, B: Device>(a: &mut A, b: &mut B) -> bool {
-    let len = a.len();
-    if len.is_err() || len != b.len() {
-        return false;
-    }
-    for i in 0..32 {
-        let word = word_at(a, 8 * i);
-        if word.is_err() || word != word_at(b, 8 * i) {
-            return false;
-        }
-    }
-    true
+// All bytes of a device.
+fn bytes_of<D: Device>(alloc: Global, device: &mut D) -> Result<Vec<u8>, Refusal> {
+    let len = device.len().map_err(|_| Refusal::Down)?;
+    let mut bytes = vec![in alloc; 0; len]?;
+    device.read_at(0, &mut bytes).map_err(|_| Refusal::Down)?;
+    Ok(bytes)
 }
 
-// Writes at a place inside, durably.
+// Whether these are those bytes, and behind them zeros up to a multiple of 64 KiB.
+fn are_stretched(found: &[u8], written: &[u8]) -> bool {
+    found.starts_with(written)
+        && found.len() == written.len().next_multiple_of(65_536)
+        && found.iter().skip(written.len()).all(|byte| *byte == 0)
+}
+
+// Whether a file has what the disk has, and zeros alone behind it.
+fn has_written<A: Device, B: Device>(alloc: Global, file: &mut A, disk: &mut B) -> bool {
+    match (bytes_of(alloc, file), bytes_of(alloc, disk)) {
+        (Ok(found), Ok(written)) => are_stretched(&found, &written),
+        _ => false,
+    }
+}
+
+// Writes there, durably.
 fn write_synced<D: Device>(device: &mut D, at: usize, bytes: &[u8]) -> Result<(), Stopped> {
     let len = device.len()?;
     device.write_at(at.min(len), bytes)?;
     device.sync()
 }
 
-// Whether one finds what the other has. Then both have the same bytes written.
-fn has_life<A: Device, B: Device>(a: &mut A, b: &mut B, seed: u64) -> bool {
-    let at = (seed >> 8) as usize % 256;
+// Whether the file finds what the disk has. Then both have the same bytes written, inside of the disk or at its end.
+fn has_life<A: Device, B: Device>(alloc: Global, file: &mut A, disk: &mut B, seed: u64) -> bool {
+    if !has_written(alloc, file, disk) {
+        return false;
+    }
+    let Ok(len) = disk.len() else {
+        return false;
+    };
+    let at = ((seed >> 8) as usize % 256).min(len);
     let bytes = seed.to_be_bytes();
-    are_alike(a, b) && write_synced(a, at, &bytes).is_ok() && write_synced(b, at, &bytes).is_ok()
+    write_synced(file, at, &bytes).is_ok() && write_synced(disk, at, &bytes).is_ok()
 }
 
 // A life of the file: whether it finds what the disk has.
 fn lives_as<D: Device>(rt: &HostRuntime, folder: &str, disk: &mut D, seed: u64) -> bool {
     match open(rt, rt.alloc(), folder, NAME) {
-        Ok(mut device) => has_life(&mut device, disk, seed),
+        Ok(mut device) => has_life(rt.alloc(), &mut device, disk, seed),
         Err(_) => false,
     }
 }

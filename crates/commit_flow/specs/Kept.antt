@@ -1,5 +1,5 @@
 -- What a flow of a store of so many shards keeps in each phase, beside what its values keep themselves.
-use Rattle.std.specs.Prelude.{◌≡◌, ℕ, [], None}
+use Rattle.std.specs.Prelude.{◌≡◌, ℕ, [], Option, Some, None}
 use Rattle.std.specs.Vec.{vec_len}
 use Rattle.commit_flow.specs.declared.load.Load.{Load}
 use Rattle.commit_flow.specs.declared.phase.Ready.{Ready}
@@ -49,6 +49,11 @@ abbrev pub IsPhaseOf : ℕ → Phase → Type 0
 IsPhaseOf n (phases.Ready r) = IsReadyOf n r
 IsPhaseOf n (phases.Out o) = IsOutOf n o
 IsPhaseOf n (phases.Ended end) = Unit {0}
+
+-- a write is in one of them
+abbrev pub IsIn : ℕ → Option Phase → Type 0
+IsIn n None = ⊥
+IsIn n (Some p) = IsPhaseOf n p
 
 -- behind a reply it waits for no other
 abbrev pub IsBehindOf : ℕ → Phase → Type 0

@@ -235,6 +235,11 @@ view_of (phases.Ready r) = view_ready r
 view_of (phases.Out o) = view_out o
 view_of (phases.Ended end) = view_ended end
 
+-- of the phase that a write is in; it is taken out only within a call
+abbrev pub view_in : Option Phase → WriteView
+view_in None = at_rest nothing_begun
+view_in (Some p) = view_of p
+
 -- the name of its next call, if there is one
 abbrev pub name_ready : Ready → CallName
 name_ready (ready.Begin write load) = names.Begin
@@ -255,3 +260,7 @@ abbrev pub name_of : Phase → Option CallName
 name_of (phases.Ready r) = Some (name_ready r)
 name_of (phases.Out o) = None
 name_of (phases.Ended end) = None
+
+abbrev pub name_in : Option Phase → Option CallName
+name_in None = None
+name_in (Some p) = name_of p

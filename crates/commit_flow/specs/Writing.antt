@@ -62,7 +62,7 @@ AsksCoordinator v calls.Checkpoint after = ⊥
 AsksCoordinator v calls.Flush after = (IsOnItsWay v × Waits v v.holds waits.flush_to_decide after × (v.flushed ≡ false)) ⊎ ((v.holds.way ≡ onward) × (v.holds.decided ≢ None) × Waits v v.holds waits.flush_to_outcome after)
 
 -- A call of a shard, by what it may be handed: on its way one that takes part in the write, which prepares its part only where it is caught up, and
--- is asked for that once, or twice where it is full and was flushed between; on its way out one that gave a ticket or a vote.
+-- is asked for that once, or once more where it was full, and behind a flush no further time; on its way out one that gave a ticket or a vote.
 abbrev pub AsksShard : ℕ → WriteView → ℕ → ShardCall → WriteView → Type 0
 AsksShard shards v s shard_calls.Learned after = IsOnItsWay v × HasShard shards v s × Waits v v.holds (waits.catch_up learned) after
 AsksShard shards v s (shard_calls.Learn batch) after = IsOnItsWay v × HasShard shards v s × (v.holds.batch ≡ Some batch)

@@ -18,7 +18,6 @@ use calls::{NodeCall, Reply};
 use names::CallName;
 use std::alloc::Global;
 use std::marker::Model;
-use std::mem;
 use tuples::{Refusal, Write};
 
 /// A write on its way: `begin`; each participant is caught up to the intent's place and prepares; each votes; `decide`; `outcome`. A refusal before the
@@ -29,7 +28,8 @@ use tuples::{Refusal, Write};
 pub struct WriteFlow {
     alloc: Global,
     shards: u8,
-    phase: Phase,
+    // taken out only within a call
+    phase: Option<Phase>,
 }
 
 impl Model for WriteFlow {
@@ -39,20 +39,21 @@ impl Model for WriteFlow {
 
     ghost Value = { WriteFlowValue };
 
-    ghost use Rattle.commit_flow.specs.Views.{name_of, view_of};
-    ghost use Rattle.commit_flow.specs.Kept.{IsPhaseOf};
+    ghost use Rattle.commit_flow.specs.Views.{name_in, view_in};
+    ghost use Rattle.commit_flow.specs.Kept.{IsIn};
 
-    ghost view = { λ f. record { shards = f.shards; seen = view_of f.phase; next_name = name_of f.phase } };
+    ghost view = { λ f. record { shards = f.shards; seen = view_in f.phase; next_name = name_in f.phase } };
 
-    ghost invariant = { λ f. (1 ≤ f.shards) × (f.shards ≤ max_shards) × IsPhaseOf f.shards f.phase };
+    ghost invariant = { λ f. (1 ≤ f.shards) × (f.shards ≤ max_shards) × IsIn f.shards f.phase };
 }
 
-// Puts a phase in the place of one that was taken out.
-fn put(place: &mut Phase, phase: Phase)
-    ensures { place.new ≡ phase }
+// Puts a phase where one was taken out.
+fn put(place: &mut Option<Phase>, phase: Phase)
+    ensures { place.new ≡ Some phase }
 {
-    let taken = mem::replace(place, phase);
-    taken.leave();
+    if let Some(taken) = place.replace(phase) {
+        taken.leave();
+    }
 }
 
 impl WriteFlow {
@@ -67,7 +68,7 @@ impl WriteFlow {
         Ok(WriteFlow {
             alloc,
             shards,
-            phase: Phase::Ready(Ready::Begin(write, load)),
+            phase: Some(Phase::Ready(Ready::Begin(write, load))),
         })
     }
 
@@ -79,8 +80,8 @@ impl WriteFlow {
         ensures some { self.now.seen.ended ≡ None → self.now.seen.awaited ≡ None → result ≢ None }
     {
         match &self.phase {
-            Phase::Ready(ready) => Some(ready.name()),
-            Phase::Out(_) | Phase::Ended(_) => None,
+            Some(Phase::Ready(ready)) => Some(ready.name()),
+            _ => None,
         }
     }
 
@@ -93,7 +94,9 @@ impl WriteFlow {
         ensures out { (awaited : _) → self.old.seen.awaited ≡ Some awaited → result ≡ None }
         ensures some { self.old.seen.ended ≡ None → self.old.seen.awaited ≡ None → result ≢ None }
     {
-        let phase = mem::replace(&mut self.phase, Phase::Ended(WriteEnd::Cancelled));
+        let Some(phase) = self.phase.take() else {
+            unreachable!();
+        };
         match phase {
             Phase::Ready(ready) => {
                 let (call, out) = next(self.shards, ready);
@@ -115,7 +118,9 @@ impl WriteFlow {
         ensures next { MatchOption self.old.seen.awaited ⊥ (λ awaited. ComesNext awaited reply self.new.next_name) }
         ensures rests { self.new.seen.awaited ≡ None }
     {
-        let phase = mem::replace(&mut self.phase, Phase::Ended(WriteEnd::Cancelled));
+        let Some(phase) = self.phase.take() else {
+            unreachable!();
+        };
         match phase {
             Phase::Out(out) => {
                 put(&mut self.phase, give(self.alloc, self.shards, out, reply));
@@ -130,7 +135,9 @@ impl WriteFlow {
         ensures cancels { Cancels self.old.seen self.new.seen }
         ensures rests { self.old.seen.awaited ≡ None → self.new.seen.awaited ≡ None }
     {
-        let phase = mem::replace(&mut self.phase, Phase::Ended(WriteEnd::Cancelled));
+        let Some(phase) = self.phase.take() else {
+            unreachable!();
+        };
         put(&mut self.phase, cancel(self.alloc, phase));
     }
 
@@ -139,8 +146,8 @@ impl WriteFlow {
         ensures { result ≡ self.now.seen.ended }
     {
         match &self.phase {
-            Phase::Ended(end) => Some(*end),
-            Phase::Ready(_) | Phase::Out(_) => None,
+            Some(Phase::Ended(end)) => Some(*end),
+            _ => None,
         }
     }
 
@@ -153,11 +160,13 @@ impl WriteFlow {
             shards: _,
             phase,
         } = self;
-        let end = match &phase {
-            Phase::Ended(end) => Some(*end),
-            Phase::Ready(_) | Phase::Out(_) => None,
-        };
-        phase.leave();
-        end
+        match phase {
+            Some(Phase::Ended(end)) => Some(end),
+            Some(other) => {
+                other.leave();
+                None
+            }
+            None => unreachable!(),
+        }
     }
 }

@@ -1,4 +1,4 @@
-// Files of the operating system. Each method makes the calls that it stands for.
+// Files of the operating system. Each method makes the calls that it stands for, and a write that makes a file longer one more, of zeros behind it.
 ghost use Rattle.std.specs.Prelude.{◌≡◌, ◌⊎◌, IfErr, IfOk};
 ghost use Rattle.device.specs.Disk.{IsFresh};
 ghost use Rattle.files.specs.Life.{image, life_state};
@@ -14,10 +14,20 @@ use std::os::unix::fs::{FileExt, MetadataExt};
 /// The most bytes of a device.
 const MAX_LEN: u64 = 1 << 40;
 
+// A file is made longer up to a multiple of so many bytes.
+const STRETCH: usize = 65_536;
+
+const ZEROS: &[u8] = &[0; STRETCH];
+
 /// A file that is open under one descriptor, and locked for as long.
+///
+/// It may be longer than what was written to it: a write past its end stretches it, by at most 64 KiB of zeros. Until these are written over, a sync has
+/// bytes to make durable and no length, which takes a file system about a quarter less.
 #[derive(Drop)]
 pub struct HostFile {
     file: fs::File,
+    // how many bytes it has at least
+    len: usize,
 }
 
 impl HostFile {
@@ -35,10 +45,24 @@ impl HostFile {
         ensures { IfErr result (λ e. (e ≡ Refusal.Down) ⊎ (e ≡ Refusal.NoMemory)) }
     {
         let path = format!(in alloc; "{folder}/{name}")?;
-        let Ok(file) = open_durable(rt, folder, path.as_str()) else {
-            return Err(Refusal::Down);
-        };
-        Ok(HostFile { file })
+        match open_durable(rt, folder, path.as_str()) {
+            Ok((file, len)) => Ok(HostFile { file, len }),
+            Err(_) => Err(Refusal::Down),
+        }
+    }
+
+    // Stretches the file where what was written up to there made it longer. It only helps: where there is no room for it, as on a full disk, the next write makes
+    // the file longer by itself. Behind the first gate of a device nothing is added before more is: with nothing written there a stop may leave any byte,
+    // and an open gate with zeros behind it would be damage.
+    fn stretch(&mut self, end: usize) {
+        if end <= self.len || end <= 1 || end as u64 >= MAX_LEN {
+            return;
+        }
+        self.len = end;
+        let room = STRETCH - end % STRETCH;
+        if self.file.write_all_at(&ZEROS[..room], end as u64).is_ok() {
+            self.len = end + room;
+        }
     }
 }
 
@@ -80,7 +104,9 @@ impl RawFile for HostFile {
     }
 
     fn write_at(&mut self, at: usize, bytes: &[u8]) -> Result<(), Broken> {
-        Ok(self.file.write_all_at(bytes, at as u64)?)
+        self.file.write_all_at(bytes, at as u64)?;
+        self.stretch(at.saturating_add(bytes.len()));
+        Ok(())
     }
 
     fn sync(&mut self) -> Result<(), Broken> {
@@ -106,14 +132,14 @@ pub fn open(
 }
 
 // The folder is synced at each opening: a stop may have come after a file was made and before its name was durable.
-fn open_durable(rt: &HostRuntime, folder: &str, path: &str) -> io::Result<fs::File> {
-    let file = open_locked(rt, path)?;
+fn open_durable(rt: &HostRuntime, folder: &str, path: &str) -> io::Result<(fs::File, usize)> {
+    let opened = open_locked(rt, path)?;
     fs::open(rt, folder)?.sync_all()?;
-    Ok(file)
+    Ok(opened)
 }
 
-// A regular file that is no link and not too long, locked before anything is read of it.
-fn open_locked(rt: &HostRuntime, path: &str) -> io::Result<fs::File> {
+// A regular file that is no link and not too long, locked before anything is read of it, and its length.
+fn open_locked(rt: &HostRuntime, path: &str) -> io::Result<(fs::File, usize)> {
     let mut file = open_or_make(rt, path)?;
     // What is meant for a standard stream that was closed must not land in the device.
     if file.as_raw_fd() <= 2 {
@@ -125,8 +151,8 @@ fn open_locked(rt: &HostRuntime, path: &str) -> io::Result<fs::File> {
     if found.dev() != named.dev() || found.ino() != named.ino() {
         return Err(io::ErrorKind::Unsupported.into());
     }
-    len_of(&file)?;
-    Ok(file)
+    let len = len_of(&file)?;
+    Ok((file, len))
 }
 
 // An empty file where there was none. What stands at the name already is opened only if it is a file.

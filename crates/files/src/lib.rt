@@ -6,7 +6,8 @@
 //! Never: reads behind its first write, or is revived behind it. The next life reads what was written: the file is let go, and opened again.
 //! Callers rely on: one life at a time has a file, since it is locked while it is open.
 //!
-//! What a file keeps between two lives no clause tells. To trust is that the next life finds one of the contents that a stop may leave.
+//! What a file keeps between two lives no clause tells. To trust is that what the next life finds begins with one of the contents that a stop may leave. More may
+//! stand behind it, since a `HostFile` is stretched ahead of what is written: whoever reads a device has to leave that out.
 //!
 //! Start at `file_device.rt`, and then `host_file.rt`, the calls of the operating system.
 #![tactic(auto)]

@@ -20,7 +20,7 @@ use std::alloc::Global;
 use std::sync::{Mutex, MutexGuard, Wait};
 use tuples::{Entry, Refusal};
 
-/// The coordinator under its lock, which nobody holds while its devices sync; and whoever waits for these to land.
+/// The coordinator under its lock, which nobody holds while a flight's devices sync; and whoever waits for these to land.
 #[derive(Drop)]
 pub struct CoordinatorCell<D: Device, B: Room> {
     place: Mutex<CoordinatorPlace<D, B>>,
@@ -41,7 +41,7 @@ impl<D: Device, B: Room> CoordinatorCell<D, B> {
         lock_soon(rt, &self.place)
     }
 
-    /// The coordinator, locked, while a decision more can be counted among all that were ever staged. 2^64 - 2 can, which no run uses up; behind them it waits
+    /// The coordinator, locked, while a decision more can be counted among all that were ever staged. 2^64 - 1 can, which no run uses up; behind them it waits
     /// forever.
     pub fn lock_to_ask<'a, R: Wait>(
         &'a self,

@@ -2,7 +2,8 @@
 //!
 //! Keeps: the node is tied to the list of writes that the pass beside it has seen, whether its devices are here or out; and what flies is the first of what
 //! it has staged. What the coordinator's flight made durable joins the list as it lands, and not before.
-//! Never: asks a node for a flush or a checkpoint, or opens it again, whose devices are out; holds a node's lock while its devices sync.
+//! Never: asks a node for a flush or a checkpoint, or opens it again, whose devices are out; holds a node's lock while a flight's devices sync: only a
+//! checkpoint and an opening sync under it.
 //! Callers rely on: only the flight that took a node's devices brings them back, and that one is never turned away; what it made durable is durable then, and
 //! what was staged meanwhile is staged still.
 //!

@@ -17,7 +17,7 @@ use std::alloc::Global;
 use std::sync::{Mutex, RwLock, RwLockReadGuard, RwLockWriteGuard, Wait};
 use tuples::Refusal;
 
-/// A shard under its lock, which nobody holds while its devices sync, and many may hold to read; and whoever waits for these to land.
+/// A shard under its lock, which nobody holds while a flight's devices sync, and many may hold to read; and whoever waits for these to land.
 #[derive(Drop)]
 pub struct ShardCell<D: Device, B: Room> {
     place: RwLock<ShardPlace<D, B>>,

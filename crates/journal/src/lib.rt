@@ -11,7 +11,7 @@
 //! half of one is damage and no store.
 //!
 //! A journal may lend its devices: a flight is a journal with them, to be flushed, while records are staged to what stays, and `land` brings
-//! them back. The shards of a server are flushed so.
+//! them back. The nodes of a server are flushed so.
 //!
 //! Start at `specs/Records.antt`, which records two contents have.
 #![tactic(auto)]

@@ -3,7 +3,7 @@
 //!
 //! Keeps: what a caller has seen of the list it sees behind each call, and so do all whom it tells; and which decisions are its own it knows from one call to
 //! the next, whoever is let in between.
-//! Never: holds two nodes' locks at once, a node's while its devices sync, or a lock between two calls of a node.
+//! Never: holds two nodes' locks at once, a node's while its devices sync but for a checkpoint or an opening, or a lock between two calls of a node.
 //! Callers rely on: a read, a check and a watch answer what is so of the list that the caller has then seen, at a place as fresh as asked; and a write that
 //! is told a place stands there in that list, above all that the caller had seen.
 //!

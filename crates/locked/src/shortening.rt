@@ -5,6 +5,8 @@ ghost use Rattle.names.specs.declared.care.Care.TheVariants.{Checkpoint as check
 ghost use Rattle.sides.specs.Sides.{IsLater};
 
 use crate::{Caller, Gate, Store};
+use calls::Told;
+use care_flow::CareEnd;
 use device::Device;
 use names::{Care, NodeName};
 use sides::Room;
@@ -38,8 +40,8 @@ pub(crate) struct Limits {
 }
 
 impl Limits {
-    // Those of a store that was just opened.
-    pub(crate) fn new() -> Limits {
+    // Those of a store of which nobody knows what its last checkpoints left.
+    fn new() -> Limits {
         Limits {
             coordinator: LEAST_LIMIT,
             shards: [LEAST_LIMIT; MAX_SHARDS as usize],
@@ -58,6 +60,22 @@ impl<D: Device, B: Room, G: Gate> Store<D, B, G> {
         }
     }
 
+    // Those of a store that was just opened. Where the horizon was never raised nothing can be forgotten yet: a checkpoint would leave about as much as was
+    // found, and keep callers waiting for it right behind the start.
+    pub(crate) fn first_limits<R: Wait>(&self, rt: &R, caller: &mut Caller<B>) -> Limits
+        ensures caller { IsLater caller.old caller.new }
+    {
+        let mut limits = Limits::new();
+        if self.horizon(caller) > 0 {
+            return limits;
+        }
+        limits.coordinator = limit_behind(self.bank_len(rt, NodeName::Coordinator));
+        for shard in 0..self.count {
+            limits.shards[shard as usize] = limit_behind(self.bank_len(rt, NodeName::Shard(shard)));
+        }
+        limits
+    }
+
     // The node makes a checkpoint where its bank is longer than its limit. The limit from then on.
     fn shorten<R: Wait>(
         &self,
@@ -73,8 +91,12 @@ impl<D: Device, B: Room, G: Gate> Store<D, B, G> {
         if self.bank_len(rt, node) <= limit {
             return limit;
         }
-        self.try_care(rt, alloc, caller, Care::Checkpoint(node));
-        limit_behind(self.bank_len(rt, node))
+        let care = Care::Checkpoint(node);
+        match self.care(rt, alloc, caller, &mut Told::new(), care) {
+            CareEnd::Done => limit_behind(self.bank_len(rt, node)),
+            // One that was refused is tried again behind the next round.
+            _ => limit,
+        }
     }
 
     // The same at each shard, each with a limit of its own.

@@ -4,7 +4,6 @@ ghost use Rattle.care_flow.specs.Cares.{IsThere, begun};
 ghost use Rattle.names.specs.declared.care.Care.TheVariants.{Flush as flush_of};
 ghost use Rattle.sides.specs.Sides.{IsLater};
 
-use crate::shortening::Limits;
 use crate::{Caller, Gate, Notice, Store};
 use calls::Told;
 use care_flow::CareEnd;
@@ -136,7 +135,9 @@ impl<D: Device, B: Room, G: Gate> Store<D, B, G> {
 
     /// Tends the store until it is closed: a round whenever the bell rings, and a last one once it is closed. It rings where a write left something behind,
     /// where a node was opened again, and at every 1,024th place. Behind each round a node whose bank has grown to four times what its last checkpoint left
-    /// it with, and to more than 2 MiB, makes one; from 64 MiB on it makes one at twice as much. It answers nobody meanwhile.
+    /// it with, and to more than 2 MiB, makes one; from 64 MiB on it makes one at twice as much. It answers nobody meanwhile. What the last one left before the
+    /// store was opened nobody knows: then a node makes one past 2 MiB, but where the horizon was never raised, what it was opened with counts as left. One
+    /// that was refused is tried again behind the next round.
     pub fn keep<R: Wait, N: Notice>(
         &self,
         rt: &R,
@@ -148,7 +149,7 @@ impl<D: Device, B: Room, G: Gate> Store<D, B, G> {
     )
         ensures caller { IsLater caller.old caller.new }
     {
-        let mut limits = Limits::new();
+        let mut limits = self.first_limits(rt, caller);
         for _ in rt.forever() {
             // Before the round, so that what was done before the close is tended once more.
             let is_closed = self.closed.load(Ordering::SeqCst);

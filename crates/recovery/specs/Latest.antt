@@ -1,5 +1,5 @@
 -- The last change of each tuple in a log, as an index keeps it.
-use Rattle.std.specs.Prelude.{◌≡◌, ◌≤◌, ◌+◌, ◌||◌, not, ℕ, Bool, false, List, [], ◌∷◌, length, Option, Some, None, if◌then◌else◌}
+use Rattle.std.specs.Prelude.{◌≡◌, ◌≤◌, ◌+◌, ◌||◌, not, ℕ, Bool, false, List, [], ◌∷◌, length, Option, Some, None, IfSome, if◌then◌else◌}
 use Rattle.tuples.specs.declared.tuple.Tuple.{Tuple}
 use Rattle.tuples.specs.declared.change.Change.{Change}
 use Rattle.tuples.specs.declared.change.Want.{Want}
@@ -41,10 +41,10 @@ abbrev pub holds_after : Bool → Want → Option LastChange → Bool
 holds_after are_all want None = not are_all || meets_want want 0 false
 holds_after are_all want (Some c) = meets_want want c.place c.is_there
 
--- what a recovery keeps: every decision behind the base, the last change of each tuple by them, and numbers within their bounds
-pub record IsRecovered (ledger : LedgerValue) (at : Tuple → Option LastChange) (horizon epoch : ℕ) : Type 0 where
+-- what a recovery keeps: every decision behind the base, the last change of each tuple by them where it keeps an index of these, and numbers within their bounds
+pub record IsRecovered (ledger : LedgerValue) (at : Option (Tuple → Option LastChange)) (horizon epoch : ℕ) : Type 0 where
   pub settled : ledger.awaited ≡ None
-  pub latest : AreLatestFrom (ledger.base + 1) at ledger.log
+  pub latest : IfSome at (λ f. AreLatestFrom (ledger.base + 1) f ledger.log)
   pub horizon_behind : ledger.base ≤ horizon
   pub horizon_within : horizon ≤ ledger.base + length ledger.log
   pub epoch_fits : epoch ≤ greatest_number

@@ -1,5 +1,5 @@
 -- The records of a coordinator as they are read, from the first on.
-use Rattle.std.specs.Prelude.{◌≡◌, ◌⊎◌, ◌≤◌, ℕ, List, [], Option, Some, None}
+use Rattle.std.specs.Prelude.{◌≡◌, ◌⊎◌, ◌≤◌, ℕ, [], Option, Some, None}
 use Rattle.records.specs.Coordinators.{CoordinatorState, coordinator_step, empty_coordinator}
 use Rattle.records.specs.Inside.{inside_step}
 use Rattle.records.specs.declared.mark.Inside.{Inside}

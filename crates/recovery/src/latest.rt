@@ -1,5 +1,5 @@
-// The last change of each tuple, by which conditions are tested without a walk over the log.
-ghost use Rattle.std.specs.Prelude.{◌≡◌, IfOk, OnOk};
+// The last change of each tuple, by which conditions are tested without a walk over the log for each.
+ghost use Rattle.std.specs.Prelude.{◌≡◌, ◌+◌, IfOk, IfSome, MatchOption, None, OnOk, option_map};
 ghost use Rattle.std.specs.BTreeMap.{get};
 ghost use Rattle.std.specs.List.{list_all};
 ghost use Rattle.tuples.specs.declared.tuple.Tuple.{Tuple as AnyTuple};
@@ -7,9 +7,10 @@ ghost use Rattle.tuples.specs.declared.change.Condition.{Condition as AnyConditi
 ghost use Rattle.tuples.specs.Log.{meets_want};
 ghost use Rattle.tuples.specs.Order.{tuple_cmp};
 ghost use Rattle.tuples.specs.Versions.{is_touch as is_touch_change};
-ghost use Rattle.recovery.specs.Latest.{holds_after, last_change};
+ghost use Rattle.recovery.specs.Latest.{AreLatestFrom, holds_after, last_change};
 
-use std::alloc::AllocError;
+use ledger::Ledger;
+use std::alloc::{AllocError, Global};
 use std::collections::BTreeMap;
 use tuples::{Change, Condition, Tuple, Want};
 
@@ -32,8 +33,8 @@ fn copied(tuple: &Tuple) -> Result<Tuple, AllocError>
     tuple.clone()
 }
 
-/// Enters the changes of a write at its place. Where memory is refused, some may have been entered.
-pub(crate) fn enter(
+// Enters the changes of a write at its place. Where memory is refused, some may have been entered.
+fn enter(
     latest: &mut BTreeMap<Tuple, LastChange>,
     place: u64,
     changes: &[Change],
@@ -50,6 +51,47 @@ pub(crate) fn enter(
         };
     }
     Ok(())
+}
+
+// The last change of each tuple by all decisions of a ledger.
+fn latest_of(alloc: Global, ledger: &Ledger) -> Result<BTreeMap<Tuple, LastChange>, AllocError>
+    ensures { IfOk result (λ m. AreLatestFrom (ledger.now.base + 1) (λ t. get tuple_cmp m t) ledger.now.log) }
+{
+    let mut latest = BTreeMap::new(alloc);
+    for place in ledger.base()..ledger.end() {
+        let write = ledger.at(place + 1);
+        enter(&mut latest, place + 1, write.changes.as_slice())?;
+    }
+    Ok(latest)
+}
+
+/// The index that is kept, or a new one.
+pub(crate) fn kept_or_made(
+    alloc: Global,
+    ledger: &Ledger,
+    kept: Option<BTreeMap<Tuple, LastChange>>,
+) -> Result<BTreeMap<Tuple, LastChange>, AllocError>
+    requires { IfSome (option_map (λ m. λ t. get tuple_cmp m t) kept) (λ at. AreLatestFrom (ledger.now.base + 1) at ledger.now.log) }
+    ensures { IfOk result (λ m. AreLatestFrom (ledger.now.base + 1) (λ t. get tuple_cmp m t) ledger.now.log) }
+{
+    match kept {
+        Some(latest) => Ok(latest),
+        None => latest_of(alloc, ledger),
+    }
+}
+
+/// Enters the changes of a write at its place where an index is kept, and else nothing.
+pub(crate) fn enter_where_kept(
+    latest: &mut Option<BTreeMap<Tuple, LastChange>>,
+    place: u64,
+    changes: &[Change],
+) -> Result<(), AllocError>
+    ensures { OnOk result (MatchOption latest.old (latest.new ≡ None) (λ old. IfSome latest.new (λ new. (t : AnyTuple) → get tuple_cmp new t ≡ last_change place changes.now t (get tuple_cmp old t)))) }
+{
+    match latest {
+        Some(latest) => enter(latest, place, changes),
+        None => Ok(()),
+    }
 }
 
 fn meets(want: Want, place: u64, is_there: bool) -> bool

@@ -5,11 +5,11 @@ ghost use Rattle.records.specs.Format.{IsDecision};
 ghost use Rattle.records.specs.Coordinators.{HoldsKnown, IsNotDecided, MayDecide, MayOpenAgain, MayRaise, coordinator_step, empty_coordinator, end_of};
 ghost use Rattle.records.specs.Replays.{greatest_number};
 
-use crate::latest::{LastChange, all_hold, enter};
+use crate::latest::{LastChange, all_hold, enter_where_kept, kept_or_made};
 use crate::rules::{may_decide, may_open, may_raise};
 use ledger::Ledger;
 use records::Identity;
-use std::alloc::Global;
+use std::alloc::{AllocError, Global};
 use std::collections::BTreeMap;
 use std::marker::Model;
 use tuples::{Condition, Entry, Refusal, Tuple, WriteId};
@@ -17,13 +17,16 @@ use tuples::{Condition, Entry, Refusal, Tuple, WriteId};
 /// What the records so far stand for, with what the tests of the next one need.
 #[derive(Drop)]
 pub struct Recovery {
+    alloc: Global,
     ledger: Ledger,
-    latest: BTreeMap<Tuple, LastChange>,
+    // none until a decision has conditions, since it is for these alone
+    latest: Option<BTreeMap<Tuple, LastChange>>,
     horizon: u64,
     epoch: u64,
 }
 
 impl Model for Recovery {
+    ghost use Rattle.std.specs.Prelude.{option_map};
     ghost use Rattle.std.specs.BTreeMap.{get};
     ghost use Rattle.records.specs.Coordinators.{CoordinatorState};
     ghost use Rattle.tuples.specs.Order.{tuple_cmp};
@@ -33,7 +36,7 @@ impl Model for Recovery {
 
     ghost view = { λ r. record { base = r.ledger.base; log = r.ledger.log; horizon = r.horizon; epoch = r.epoch } };
 
-    ghost invariant = { λ r. IsRecovered r.ledger (λ t. get tuple_cmp r.latest t) r.horizon r.epoch };
+    ghost invariant = { λ r. IsRecovered r.ledger (option_map (λ m. λ t. get tuple_cmp m t) r.latest) r.horizon r.epoch };
 }
 
 impl Recovery {
@@ -42,33 +45,36 @@ impl Recovery {
         ensures { result ≡ empty_coordinator }
     {
         Recovery {
+            alloc,
             ledger: Ledger::new(alloc, 0),
-            latest: BTreeMap::new(alloc),
+            latest: None,
             horizon: 0,
             epoch: 0,
         }
     }
 
     #[tactic(auto, unfolding(records::specs::Coordinators::coordinator_step))]
-    pub(crate) fn decide(self, place: u64, write: Entry) -> Result<Recovery, Refusal>
+    pub(crate) fn decide(mut self, place: u64, write: Entry) -> Result<Recovery, Refusal>
         requires { IsDecision place write }
         ensures ok { IfOk result (λ r. MayDecide self place write × (r ≡ coordinator_step self (decision_record place write))) }
         ensures damaged { IsErrOf result Refusal.Damaged → MayDecide self place write → ⊥ }
         ensures err { IfErr result (λ e. (e ≡ Refusal.Damaged) ⊎ (e ≡ Refusal.NoMemory)) }
     {
-        if !may_decide(&self, place, &write) {
+        if !may_decide(&mut self, place, &write)? {
             return Err(Refusal::Damaged);
         }
         let Recovery {
+            alloc,
             mut ledger,
             mut latest,
             horizon,
             epoch,
         } = self;
         ledger.reserve(write.id)?;
-        enter(&mut latest, place, write.changes.as_slice())?;
+        enter_where_kept(&mut latest, place, write.changes.as_slice())?;
         ledger.push_reserved(write);
         Ok(Recovery {
+            alloc,
             ledger,
             latest,
             horizon,
@@ -125,14 +131,16 @@ impl Recovery {
         ensures { result ≡ record self { base = horizon; horizon = horizon } }
     {
         let Recovery {
+            alloc: _,
             ledger: _,
-            latest,
+            latest: _,
             horizon: _,
             epoch,
         } = self;
         Recovery {
+            alloc,
             ledger: Ledger::new(alloc, horizon),
-            latest,
+            latest: None,
             horizon,
             epoch,
         }
@@ -168,10 +176,18 @@ impl Recovery {
         self.ledger.find(id).is_none()
     }
 
-    pub(crate) fn all_hold(&self, conditions: &[Condition]) -> bool
-        ensures { IsTrue result ↔ All (HoldsKnown self.now) conditions.now }
+    // The index is made for the first conditions that are tested, and kept from then on.
+    pub(crate) fn all_hold(&mut self, conditions: &[Condition]) -> Result<bool, AllocError>
+        ensures same { self.new ≡ self.old }
+        ensures ok { IfOk result (λ hold. IsTrue hold ↔ All (HoldsKnown self.old) conditions.now) }
     {
-        all_hold(&self.latest, self.ledger.base() == 0, conditions)
+        if conditions.is_empty() {
+            return Ok(true);
+        }
+        let latest = kept_or_made(self.alloc, &self.ledger, self.latest.take())?;
+        let all = all_hold(&latest, self.ledger.base() == 0, conditions);
+        self.latest = Some(latest);
+        Ok(all)
     }
 
     /// The decisions above the horizon, which takes no memory.
@@ -180,6 +196,7 @@ impl Recovery {
         ensures behind { self.base ≤ self.horizon }
     {
         let Recovery {
+            alloc: _,
             mut ledger,
             latest: _,
             horizon,

@@ -1,10 +1,11 @@
 // Which record may come next at a coordinator.
-ghost use Rattle.std.specs.Prelude.{◌↔◌, ◌≤◌, IsTrue};
+ghost use Rattle.std.specs.Prelude.{◌↔◌, ◌≡◌, ◌≤◌, IfOk, IsTrue};
 ghost use Rattle.records.specs.Coordinators.{MayDecide, MayEndDecisions, MayOpenAgain, MayRaise, MayTakeOpening};
 ghost use Rattle.records.specs.Replays.{greatest_number};
 
 use crate::Recovery;
 use records::{COORDINATOR, Identity, Inside, Stage, ask_of_log};
+use std::alloc::AllocError;
 use tuples::{Entry, MAX_NUMBER};
 
 // epochs and numbers of writes begin at 1
@@ -15,17 +16,25 @@ fn is_number(number: u64) -> bool
 }
 
 /// The next place, a new id, and conditions that hold there and ask about places of a log.
-pub(crate) fn may_decide(so_far: &Recovery, place: u64, write: &Entry) -> bool
-    ensures { IsTrue result ↔ MayDecide so_far.now place write.now }
+pub(crate) fn may_decide(
+    so_far: &mut Recovery,
+    place: u64,
+    write: &Entry,
+) -> Result<bool, AllocError>
+    ensures same { so_far.new ≡ so_far.old }
+    ensures ok { IfOk result (λ may. IsTrue may ↔ MayDecide so_far.old place write.now) }
 {
     if so_far.epoch() == 0 || !is_number(write.id.epoch) || !is_number(write.id.number) {
-        return false;
+        return Ok(false);
     }
     if so_far.end() >= MAX_NUMBER || place != so_far.end() + 1 {
-        return false;
+        return Ok(false);
     }
     let conditions = write.conditions.as_slice();
-    ask_of_log(conditions) && so_far.is_new(write.id) && so_far.all_hold(conditions)
+    if !ask_of_log(conditions) || !so_far.is_new(write.id) {
+        return Ok(false);
+    }
+    so_far.all_hold(conditions)
 }
 
 /// The next opening, of this very coordinator.

@@ -17,11 +17,12 @@ const EXAMPLE: &str = "Example:
   mkdir wider && zanstore reshard --dir data --to wider --store 1 --shards 2 --new-shards 8
   zanstore serve --dir wider --store 1 --shards 8 --listen 127.0.0.1:7700 --workers 4
 
-It prints done. From then on the folder of before is kept only as a copy.
+It prints done. The folder of before is the way back until the new one has taken a write, and from
+then on only a copy.
 
 Status: 0 once the new folder has all; 1 where a file can't be opened, the new folder has a file of
-a store, or a node refused; 2 for a command line that can't be read. But for status 0, delete what
-is in the new folder: the one of before is as good as it was.";
+a store, or a node refused; 2 for a command line that can't be read. Where it was 1, and the new
+folder had been empty, delete what is in it: the one of before is as good as it was.";
 
 const RESHARD: &str =
     "Carries a store in files over to another folder, with another number of shards. No server may have the

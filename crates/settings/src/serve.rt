@@ -20,8 +20,9 @@ const EXAMPLE: &str = "Example:
 It prints ready once it listens. A client sends one request a line, as JSON, and gets one line of
 JSON for each.
 
-It serves until it is ended. Status: 1 where it can't begin, with a line on standard error that says
-why; 2 for a command line that can't be read.";
+It serves until it is ended. Status: 0 behind as many connections as were asked for; 1 where it can't
+begin, or can take none any more, with a line on standard error that says why; 2 for a command line
+that can't be read.";
 
 const SERVE: &str =
     "Serves a store in files to those who connect, one JSON request a line, and prints ready once it

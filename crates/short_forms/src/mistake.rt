@@ -10,7 +10,7 @@ use thiserror::Error;
 pub enum Mistake {
     #[error("a line begins with write, read, check, watch or {{")]
     Verb,
-    #[error("write [+TUPLE | -TUPLE].. [if [?TUPLE | !TUPLE | TUPLE=TOKEN]..]")]
+    #[error("write +TUPLE | -TUPLE .. [if ?TUPLE | !TUPLE | TUPLE=TOKEN ..]")]
     Write,
     #[error("read [latest | at-least TOKEN | exact TOKEN] TUPLESET..")]
     Read,

@@ -1,12 +1,12 @@
 -- What a shard under its lock reads is of the list that its pass has seen.
-use Rattle.std.proofs.Common.{◌≡◌, ℕ, List, true, Result, Option, Some, Ok, Err, refl}
+use Rattle.std.proofs.Common.{◌≡◌, ℕ, List, Result, Option, Some, Ok, Err, refl}
 use Rattle.sides.proofs.Words.{Answered, AnsweredIn, Entry, from_shard, IsOpenedShardTied, IsShardTied, IsTiedIn, Known, NodeView, Read, ReadForCheck, Refusal, refused, Shard, shard, ShardCall, ShardView, State, TellsRows}
 use Rattle.tuples.specs.declared.object.Userset.{Userset}
 use Rattle.tuples.specs.declared.tupleset.Tupleset.{Tupleset}
 use Rattle.tuples.specs.declared.user.User.{User}
 use Rattle.shard.specs.declared.replies.ReadReply.{ReadReply}
 use Rattle.shard.specs.declared.replies.ReadReply.TheVariants.{Rows, Behind}
-use Rattle.calls.specs.Reading.{is_read, read_reply}
+use Rattle.calls.specs.Reading.{read_reply}
 use Rattle.calls.specs.ShardAnswers.{ReadAnswers, ReadForCheckAnswers}
 use Rattle.ties.proofs.ShardOpening.{check_reads_are_seen, reads_are_seen}
 use Rattle.sides.proofs.ShardCalls.{is_up}

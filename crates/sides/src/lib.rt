@@ -1,7 +1,7 @@
-//! What lies under the lock of a node that callers share, changed by calls that take no lock and wait for nobody.
+//! A node that callers share, and its pass, as they lie under the node's lock: changed by calls that take no lock.
 //!
 //! Keeps: the node is tied to the list of writes that the pass beside it has seen, whatever was called.
-//! Never: takes a lock, waits, or tells of a write that the caller's pass has not seen.
+//! Never: takes a lock, or tells of a write that the caller's pass has not seen. It waits only while another one copies the shard's pass.
 //! Callers rely on: what a pass had seen it sees behind each call, what is told of the list is of what it has seen then, and a decision that is told as
 //! kept stands in the list there, above all that the caller had seen when it was made. A node's devices may leave and come back between its calls: it is tied
 //! as it was, and what they made durable joins the list as they come.

@@ -72,7 +72,7 @@ returns-in-Read g c = let e = c.read-answer.ensures in rw c.in-Read.is (
   refl,
   refl,
   record {
-    rows = λ ts up. reads c.args.shard.now c.in-Read.place c.in-Read.set ts c.read-answer.result (e.rows ts up);
+    rows = λ ts up. reads c.args.shard.now c.in-Read.place c.in-Read.set ts c.read-answer.result (rw c.get.ensures at (e.rows ts up));
     behind = e.behind;
     collected = e.collected;
     down = e.down;
@@ -86,7 +86,7 @@ returns-in-ReadForCheck g c = let e = c.read_for_check-answer.ensures in rw c.in
   refl,
   refl,
   record {
-    rows = λ ts up. reads_for_check c.args.shard.now c.in-ReadForCheck.place c.in-ReadForCheck.userset c.in-ReadForCheck.user ts c.read_for_check-answer.result (e.rows ts up);
+    rows = λ ts up. reads_for_check c.args.shard.now c.in-ReadForCheck.place c.in-ReadForCheck.userset c.in-ReadForCheck.user ts c.read_for_check-answer.result (rw (c.get-in-ReadForCheck.ensures, c.get-in-ReadForCheck-2.ensures) at (e.rows ts up));
     behind = e.behind;
     collected = e.collected;
     down = e.down;

@@ -1,8 +1,9 @@
 -- The catch-up stays of its shard, up to its place.
-use Rattle.std.proofs.Common.{◌≡◌, None, false, arith, refl}
+use Rattle.std.proofs.Common.{◌≡◌, None, false, arith, ap, refl}
 use Rattle.std.proofs.lemmas.Grind.{common_steps}
 use Rattle.names.specs.declared.call_name.CallName.TheVariants.{Learned}
 use Rattle.catch_up.specs.declared.caught.Progress.TheVariants.{Refused}
+use Rattle.care_flow.specs.ResolvePhases.{view_of}
 use Rattle.care_flow.proofs.Naming.{whichever_next}
 use Rattle.care_flow.proofs.resolving.caught_up.Goals as goal
 
@@ -17,4 +18,4 @@ pub returns-in-Refused-clause-gives : goal.returns-in-Refused-clause-gives
 returns-in-Refused-clause-gives c =
     let refused = Refused c.in-Refused.refusal in
     let gives = whichever_next c.args.call Learned None false c.args.reply refused (rw c.in-Refused.is at c.give.ensures) in
-    (refl, (refused, rw c.requires.shard at gives, refl))
+    (refl, (refused, rw c.requires.shard at gives, ap (view_of c.args.findings.now) c.refused.ensures))

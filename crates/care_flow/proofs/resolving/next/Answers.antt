@@ -3,8 +3,8 @@ use Rattle.std.proofs.Common.{refl}
 use Rattle.care_flow.proofs.Asking.{asking_keeps, asks_on_its_way}
 use Rattle.care_flow.proofs.resolving.next.Goals as goal
 
-pub returns-in-CatchUp-clause-call : goal.returns-in-CatchUp-clause-call
-returns-in-CatchUp-clause-call c =
+pub returns-in-CatchUp-clause-asks : goal.returns-in-CatchUp-clause-asks
+returns-in-CatchUp-clause-asks c =
     let v = c.in-CatchUp.catch_up in
     let r = c.next_call-call.result in
     let ensured = c.next_call-call.ensures in

@@ -20,13 +20,13 @@ known_by_all at s cs latest = (
   (λ all. list_all-from_AllPass (hold at (s.base == 0)) cs (λ k d lt. (known_by_index at s (get_or cs k d) latest).1 (all k d lt))),
 )
 
-pub returns : goal.returns
-returns c =
+pub returns-clause-ok : goal.returns-clause-ok
+returns-clause-ok c =
     let s = c.self.inside in
-    let at : Tuple → Option LastChange = λ t. get tuple_cmp s.latest t in
+    let at : Tuple → Option LastChange = λ t. get tuple_cmp c.in_ok-latest.latest t in
     let v : CoordinatorState = record { base = s.ledger.base; log = s.ledger.log; horizon = s.horizon; epoch = s.epoch } in
-    let both = known_by_all at v c.args.conditions.now c.self.invariant.latest in
-    let same : c.all_hold.result ≡ list_all (hold at (s.ledger.base == 0)) c.args.conditions.now =
-    c.all_hold.ensures ∙ ap (λ (n : ℕ). list_all (hold at (n == 0)) c.args.conditions.now) c.base.ensures in
-    subst (λ (x : CoordinatorState). IsTrue c.all_hold.result ↔ All (HoldsKnown x) c.args.conditions.now) c.self.view_is
+    let both = known_by_all at v c.args.conditions.now c.in_ok-latest.ensures in
+    let same : c.all_hold-all.result ≡ list_all (hold at (s.ledger.base == 0)) c.args.conditions.now =
+    c.all_hold-all.ensures ∙ ap (λ (n : ℕ). list_all (hold at (n == 0)) c.args.conditions.now) c.base.ensures in
+    subst (λ (x : CoordinatorState). IsTrue c.all_hold-all.result ↔ All (HoldsKnown x) c.args.conditions.now) c.self.view_is
     ((λ is. both.0 (sym same ∙ is)), (λ all. same ∙ both.1 all))
