@@ -5,6 +5,8 @@ from collections import Counter, namedtuple
 GREATEST = 2**63 - 1
 MOST_BODY = 1 << 20
 OPEN, CLOSED = 0xA5, 0
+# A file that is written to past its end is stretched to a multiple of so many bytes.
+STRETCH = 1 << 16
 NAME = re.compile(rb"[a-z0-9_]{1,64}")
 # The bytes from 21 to 7e hexadecimal but `#`, `+`, `:` and `@`.
 ID = re.compile(rb"[!\"$-*,-9;-?A-~]{1,128}")

@@ -5,7 +5,7 @@ import tempfile
 from collections import namedtuple
 
 import harness
-from imaging.format import CLOSED, NOT_AFTER, Begins, Ends, Epoch, Horizon, Learned, Row, Rules, batches_of, device_bytes
+from imaging.format import CLOSED, NOT_AFTER, STRETCH, Begins, Ends, Epoch, Horizon, Learned, Row, Rules, batches_of, device_bytes
 from imaging.replaying import COORDINATOR, found, node_of
 from judge.making import Maker
 
@@ -13,8 +13,6 @@ TOP = os.path.dirname(os.path.dirname(os.path.dirname(os.path.abspath(__file__))
 # How many lives a store has: each begins with an opening, and goes on with a part of its script. Long images would only take longer.
 LIVES = 3
 MOST_LINES = 60
-# A file that is written to past its end is stretched to a multiple of so many bytes.
-STRETCH = 1 << 16
 
 # The node with the identity that is asked for, and the bytes of its devices.
 Image = namedtuple("Image", "node store shards a b")

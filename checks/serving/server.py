@@ -14,8 +14,6 @@ TOP = os.path.dirname(os.path.dirname(os.path.dirname(os.path.abspath(__file__))
 HOST = "127.0.0.1"
 STORE = 7
 SHARDS = 3
-# A file that is written to past its end is stretched to a multiple of so many bytes.
-STRETCH = 1 << 16
 # Far more seconds than an opening, or an end, takes where much else runs.
 LIMIT = 60
 # Below the ports that a system chooses by itself: a client that tries one of those while nobody listens may be connected to itself.

@@ -2,9 +2,10 @@
 import os
 import time
 
+from imaging.format import STRETCH
 from judge.definitions import shard_of
 from judge.worlds import must
-from serving.server import SHARDS, STRETCH, Server
+from serving.server import SHARDS, Server
 from serving.talking import is_told
 from serving.wire import Session, check, delete, read, refusal, token, touch, watch, write
 

@@ -5,9 +5,10 @@ import re
 import shutil
 import socket
 
+from imaging.format import STRETCH, Rules, bodies_of
 from judge.worlds import must
 from serving.libraries import built_library
-from serving.server import HOST, SHARDS, STORE, STRETCH, Server, free_port, is_start, run, without_progress, words_of
+from serving.server import HOST, SHARDS, STORE, Server, free_port, is_start, run, without_progress, words_of
 from serving.talking import is_told
 from serving.wire import Session, check, read, refusal, write
 from serving.wire import token as token_of
@@ -127,19 +128,12 @@ def spoil(path, at):
         file.write(bytes([byte[0] ^ 0x55]))
 
 
-def end_of_list(content):
-    """The place of the closed gate behind the last record."""
-    at = 0
-    while content[at] == 0xA5:
-        at += 5 + int.from_bytes(content[at + 1 : at + 5], "big")
-    return at
-
-
 def put_behind(path, of):
     """Puts other bytes behind the closed gate of the file, `of` as many as there were."""
     with open(path, "r+b") as file:
         content = file.read()
-        begin = end_of_list(content) + 1
+        _, end = bodies_of(Rules(), content)
+        begin = end + 1
         must(len(content) % STRETCH == 0 and begin < len(content), f"{os.path.basename(path)} has {len(content)} bytes, {begin} of them of its list")
         file.truncate(begin)
         file.seek(begin)
