@@ -8,7 +8,7 @@ use Rattle.device.proofs.Moments.{leaves_itself, leaves_nothing_else}
 use Rattle.journal.specs.Records.{Finds, found, or_none}
 use Rattle.locked.specs.Opening.{RestAt}
 use Rattle.records.specs.declared.record.Record.{Record}
-use Rattle.records.specs.Coordinators.{CoordinatorState, coordinator_state, empty_coordinator}
+use Rattle.records.specs.Coordinators.{CoordinatorState, coordinator_state}
 use Rattle.ties.specs.ShardTies.{RowsAnywhere}
 use Rattle.ties.specs.Ties.{Anywhere, IsLonger}
 use Rattle.tuples.specs.declared.entry.Entry.{Entry}

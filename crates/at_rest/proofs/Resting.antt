@@ -1,7 +1,6 @@
--- Devices that were just opened are at rest, where one store rests of them, or where they found what a stop left of devices at rest.
-use Rattle.std.proofs.Common.{◌≡◌, ◌≤◌, ◌<◌, ◌+◌, ◌*◌, ℕ, List, [], ◌++◌, length, take, Some, All, slice_index_or, refl, sym, ◌∙◌, ap, subst, arith}
+-- Devices that were just opened are at rest, where one store rests of them.
+use Rattle.std.proofs.Common.{◌≡◌, ◌≤◌, ◌<◌, ◌+◌, ◌*◌, ℕ, List, [], length, take, Some, All, slice_index_or, sym, ◌∙◌, ap, subst, arith}
 use Rattle.std.proofs.lemmas.List.{append-nil}
-use Rattle.calls.specs.Views.{refused}
 use Rattle.device.specs.Device.{State, left}
 use Rattle.device.specs.Disk.{IsFresh}
 use Rattle.headline.specs.Promised.{devices_at}
@@ -10,20 +9,17 @@ use Rattle.laws.specs.Machines.{Machine}
 use Rattle.laws.specs.Nodes.{coordinator, shard}
 use Rattle.laws.specs.Worlds.{Means}
 use Rattle.laws.proofs.Lists.{new_taken, slice_get_taken}
-use Rattle.locked.specs.Opening.{RestAt}
 use Rattle.records.specs.declared.record.Record.{Record}
 use Rattle.records.specs.Coordinators.{CoordinatorState, coordinator_state}
 use Rattle.records.specs.Replays.{shard_state}
-use Rattle.refusal.specs.declared.refusal.Refusal.TheVariants.{Damaged}
 use Rattle.ties.specs.ShardTies.{AreRowsOf, RowsAnywhere}
 use Rattle.ties.specs.Ties.{AreListed, AreOf, IsLonger}
-use Rattle.ties.proofs.ShardOpening.{longer_lists_stay_tied}
 use Rattle.tuples.specs.declared.entry.Entry.{Entry}
 use Rattle.turns.specs.Stands.{at_shards}
 use Rattle.turns.specs.Stores.{RestsOver, stops}
 use Rattle.at_rest.specs.AtRest.{IsAtRest, found_coordinator}
-use Rattle.at_rest.specs.RestingLaws.{AreFoundOf, AreReadable, IsFoundOf, IsJustOpened, WhatIsFoundIsAtRest, WhatRestsIsAtRest}
-use Rattle.at_rest.proofs.Found.{at_rest_with, found_is, leaves_only, leaves_seen}
+use Rattle.at_rest.specs.RestingLaws.{IsJustOpened, WhatRestsIsAtRest}
+use Rattle.at_rest.proofs.Found.{at_rest_with, found_is, leaves_seen}
 
 module _ {D : Type 0} (state : D → State) (honest : D → Type 0) (store shards : ℕ) (any : D) (devices : List D) (m : Machine)
     (count : length devices ≡ 2 * (shards + 1)) (fresh : All (IsJustOpened state honest) devices) (rests : RestsOver state honest store shards (devices_at any devices) m) where
@@ -110,74 +106,3 @@ module _ {D : Type 0} (state : D → State) (honest : D → Type 0) (store shard
 
 pub what_rests_is_at_rest : {D : Type 0} (state : D → State) (honest : D → Type 0) → WhatRestsIsAtRest state honest
 what_rests_is_at_rest state honest store shards any devices m count fresh rests = rested state honest store shards any devices m count fresh rests
-
-module _ {D : Type 0} (state : D → State) (honest : D → Type 0) (shards : ℕ) (any : D) (first : List Entry) (low : ℕ) (olds news : List D)
-    (count : length olds ≡ 2 * (shards + 1)) (same_count : length news ≡ length olds) (rests : RestAt state honest shards first low olds)
-    (readable : AreReadable state honest (slice_index_or olds 0 any) (slice_index_or olds 1 any)) (found_of : AreFoundOf state honest olds news) where
-  of_a : IsFoundOf state honest (slice_index_or olds 0 any) (slice_index_or news 0 any)
-  of_a = found_of 0 any (omega (arith, count))
-
-  of_b : IsFoundOf state honest (slice_index_or olds 1 any) (slice_index_or news 1 any)
-  of_b = found_of 1 any (omega (arith, count))
-
-  abbrev seen_a : List ℕ
-  seen_a = (state (slice_index_or news 0 any)).seen
-
-  abbrev seen_b : List ℕ
-  seen_b = (state (slice_index_or news 1 any)).seen
-
-  abbrev read_anew : (rs : List Record) × (found seen_a seen_b ≡ Some rs)
-  read_anew = readable seen_a seen_b of_a.was_left of_b.was_left
-
-  abbrev now : CoordinatorState
-  now = coordinator_state read_anew.0
-
-  was_longer : IsLonger first low [] now
-  was_longer = (rests.coordinator any).each read_anew.0 (seen_a, seen_b, of_a.was_left, of_b.was_left, read_anew.1)
-
-  abbrev all : List Entry
-  all = first ++ was_longer.more
-
-  no_longer : IsLonger all now.horizon [] now
-  no_longer = record {
-    more = [];
-    are = subst (λ (l : List Entry). AreOf l now) (sym (append-nil all)) was_longer.are;
-    listed = subst (AreListed now.epoch) (sym (append-nil all)) was_longer.listed;
-    raised = omega arith;
-    within = was_longer.are.within;
-    past = λ j x none. absurd cc;
-  }
-
-  rows_found : (k : ℕ) → k < shards → RowsAnywhere state honest shards k (slice_index_or news (2 * k + 2) any) (slice_index_or news (2 * k + 3) any) all now.horizon
-  rows_found k lt =
-      let a = found_of (2 * k + 2) any (omega (arith, count, lt)) in
-      let b = found_of (2 * k + 3) any (omega (arith, count, lt)) in
-      let later : RowsAnywhere state honest shards k (slice_index_or olds (2 * k + 2) any) (slice_index_or olds (2 * k + 3) any) all now.horizon =
-      longer_lists_stay_tied state honest 0 shards k (refused Damaged (slice_index_or olds (2 * k + 2) any) (slice_index_or olds (2 * k + 3) any)) first all low now.horizon
-      (rests.each_shard k any lt) (was_longer.more, refl) was_longer.raised in
-      record {
-        honest_a = a.is_honest;
-        honest_b = b.is_honest;
-        each = λ found is. later.each found (
-          is.0,
-          is.1,
-          subst (left (state (slice_index_or olds (2 * k + 2) any))) (sym (leaves_only (state (slice_index_or news (2 * k + 2) any)) a.opened is.0 is.2)) a.was_left,
-          subst (left (state (slice_index_or olds (2 * k + 3) any))) (sym (leaves_only (state (slice_index_or news (2 * k + 3) any)) b.opened is.1 is.3)) b.was_left,
-          is.4,
-        );
-      }
-
-  knows_now : found_coordinator state news ≡ now
-  knows_now = found_is state news any (omega (arith, count, same_count)) ∙ ap (λ o. coordinator_state (or_none o)) read_anew.1
-
-  found_at_rest : (more : List Entry) × IsAtRest state honest shards (first ++ more) news × (low ≤ (found_coordinator state news).horizon)
-  found_at_rest = (
-    was_longer.more,
-    at_rest_with state honest shards news any (same_count ∙ count) read_anew.0 all of_a.opened of_b.opened read_anew.1 of_a.is_honest of_b.is_honest
-        was_longer.are.decisions no_longer rows_found,
-    subst (λ (c : CoordinatorState). low ≤ c.horizon) (sym knows_now) was_longer.raised,
-  )
-
-pub what_is_found_is_at_rest : {D : Type 0} (state : D → State) (honest : D → Type 0) → WhatIsFoundIsAtRest state honest
-what_is_found_is_at_rest state honest shards any first low olds news count same_count rests readable found_of =
-    found_at_rest state honest shards any first low olds news count same_count rests readable found_of

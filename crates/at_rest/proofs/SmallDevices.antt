@@ -12,7 +12,7 @@ use Rattle.locked.specs.Opening.{IsNew}
 use Rattle.locked.proofs.NewDevices.{new_devices_rest}
 use Rattle.records.specs.declared.record.Record.{Record}
 use Rattle.records.specs.Coordinators.{CoordinatorState, coordinator_state, coordinator_step}
-use Rattle.records.specs.Replays.{ShardState, shard_state}
+use Rattle.records.specs.Replays.{shard_state}
 use Rattle.ties.specs.ShardTies.{AreRowsOf, RowsAnywhere}
 use Rattle.ties.specs.Ties.{IsLonger}
 use Rattle.ties.proofs.SmallTies.{learned, three_listed, two_are_learned}

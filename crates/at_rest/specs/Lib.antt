@@ -1,2 +1,3 @@
 pub mod AtRest
 pub mod RestingLaws
+pub mod Stopped

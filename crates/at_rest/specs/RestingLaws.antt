@@ -1,7 +1,8 @@
 -- When devices that were just opened are at rest: the statements of the laws.
-use Rattle.std.specs.Prelude.{◌≡◌, ◌≤◌, ◌<◌, ◌+◌, ◌*◌, ◌++◌, ℕ, List, length, take, Some, All, slice_index_or}
+use Rattle.std.specs.Prelude.{◌≡◌, ◌≤◌, ◌+◌, ◌*◌, ◌++◌, ℕ, List, length, take, Some, All, slice_index_or}
 use Rattle.device.specs.Device.{State, left}
 use Rattle.device.specs.Disk.{IsFresh}
+use Rattle.headline.specs.Found.{AreFoundOf}
 use Rattle.headline.specs.Promised.{devices_at}
 use Rattle.journal.specs.Records.{found}
 use Rattle.laws.specs.Machines.{Machine}
@@ -27,24 +28,14 @@ module _ {D : Type 0} (state : D → State) (honest : D → Type 0) where
   abbrev pub AreReadable : D → D → Type 0
   AreReadable a b = (c d : List ℕ) → left (state a) c → left (state b) d → (rs : List Record) × (found c d ≡ Some rs)
 
-  -- the second device was just opened, and found what a stop may leave of the first
-  pub record IsFoundOf (old new : D) : Type 0 where
-    pub is_honest : honest new
-    pub opened : IsJustOpened new
-    pub was_left : left (state old) (state new).seen
-
-  -- each device found what a stop may leave of the one before it
-  abbrev pub AreFoundOf : List D → List D → Type 0
-  AreFoundOf olds news = (i : ℕ) (any : D) → i < length olds → IsFoundOf (slice_index_or olds i any) (slice_index_or news i any)
-
-  -- Whatever list devices rest at, with more behind it or not: where the coordinator's can be read, those that find what a stop leaves are at rest at that list,
-  -- with more behind it or not, and at no lower horizon.
+  -- Whatever list devices rest at, with more behind it or not: where the coordinator's can be read, those that were just opened and find what a stop leaves are at
+  -- rest at that list, with more behind it or not, and at no lower horizon.
   --
   -- A store that is served rests at its list at each moment, whatever it calls: what a stop leaves of a node within a call has the node's old records, with
   -- what was staged or without, or those of a checkpoint (`any_moment` of the calls), and by each of these a coordinator has the list from its base on
   -- (`FailedFlushesStayTied`, `FailedCheckpointsStayTied`) and a shard its rows of it (`FailedShardFlushesStayTied`, `FailedShardCheckpointsStayTied`). The list
   -- is the whole one still: a checkpoint moves the base, and what lies below it the shards have.
   abbrev pub WhatIsFoundIsAtRest : Type 0
-  WhatIsFoundIsAtRest = (shards : ℕ) (any : D) (first : List Entry) (low : ℕ) (olds news : List D) → length olds ≡ 2 * (shards + 1) → length news ≡ length olds
-      → RestAt state honest shards first low olds → AreReadable (slice_index_or olds 0 any) (slice_index_or olds 1 any) → AreFoundOf olds news
+  WhatIsFoundIsAtRest = (shards : ℕ) (any : D) (first : List Entry) (low : ℕ) (olds news : List D) → length olds ≡ 2 * (shards + 1)
+      → RestAt state honest shards first low olds → AreReadable (slice_index_or olds 0 any) (slice_index_or olds 1 any) → AreFoundOf state honest olds news → All IsJustOpened news
       → (more : List Entry) × IsAtRest state honest shards (first ++ more) news × (low ≤ (found_coordinator state news).horizon)

@@ -8,4 +8,6 @@
 
 mod resting_laws;
 
-pub use resting_laws::{what_is_found_is_at_rest, what_rests_is_at_rest};
+pub use resting_laws::{
+    what_a_stop_leaves_is_at_rest, what_is_found_is_at_rest, what_rests_is_at_rest,
+};

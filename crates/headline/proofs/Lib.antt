@@ -39,6 +39,9 @@ pub mod WrongHeadline
 pub mod PastWrites
 pub mod PastRests
 pub mod Acting
+pub mod Likewise
+pub mod Found
+pub mod SmallFound
 pub mod ManyLives
 pub mod PastLives
 pub mod SmallPast

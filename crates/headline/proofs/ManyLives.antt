@@ -1,5 +1,5 @@
 -- Many lives of a store are one list of moves.
-use Rattle.std.proofs.Common.{◌≡◌, ◌≤◌, ◌+◌, ◌*◌, ◌++◌, ℕ, List, [], ◌∷◌, length, map, All, Option, Some, None, refl, sym, ◌∙◌, subst}
+use Rattle.std.proofs.Common.{◌≡◌, ◌≤◌, ◌+◌, ◌*◌, ◌++◌, ℕ, List, [], ◌∷◌, length, map, All, Option, Some, None, get_or, refl, sym, ◌∙◌, subst}
 use Rattle.tuples.specs.declared.entry.WriteId.{WriteId}
 use Rattle.records.specs.Identity.{max_shards}
 use Rattle.records.specs.declared.record.Record.{Record}
@@ -10,59 +10,47 @@ use Rattle.calls.specs.Views.{NodeView}
 use Rattle.cluster.specs.Openings.{IsOpenedOver}
 use Rattle.cluster.specs.Worlds.{WorldView, node_at}
 use Rattle.laws.specs.Machines.{Machine, Move, Moves}
-use Rattle.laws.specs.Nodes.{IsThere, NodeName, coordinator, shard}
+use Rattle.laws.specs.Nodes.{IsThere, NodeName}
 use Rattle.laws.proofs.MachineMoves.{kept_stay, moves_then}
 use Rattle.turns.specs.Promises.{Ran, events_of}
 use Rattle.turns.specs.Reopens.{Reopened}
 use Rattle.turns.specs.StoreLaws.{IsStopped, SettlesOne}
-use Rattle.turns.specs.Stores.{IsToldOver, NamesHorizon, RestsOver, StandsOver, Store, stops}
+use Rattle.turns.specs.Stores.{AreSound, IsToldOver, NamesHorizon, RestsOver, StandsOver, Store, stops}
 use Rattle.turns.proofs.Chains.{stopped_openings_rest, stopped_steps_rest}
 use Rattle.turns.proofs.ClosedStoreRests.{closed_stores_rest}
 use Rattle.turns.proofs.RunChain.{runs_move}
 use Rattle.headline.specs.Acts.{Acted, KeepsActs, numbered, steps_in}
+use Rattle.headline.specs.Found.{RestLikewise}
 use Rattle.headline.specs.PastWrites.{IsPast, IsPastOver}
 use Rattle.headline.specs.ManyLives.{AreDevicesOf, End, EndsOver, IsRunIn, Life, Lived, LivesAll, LivesOn, LivesOnce, ManyLives, RunsIn, closes, stops_opening, stops_within}
 use Rattle.headline.specs.Promised.{KeepsOpened, devices_at}
 use Rattle.headline.specs.Shown.{Shows, named}
 use Rattle.headline.specs.Told.{IsWholeStep, all_told, step_of}
 use Rattle.headline.proofs.Acting.{acts_keep}
+use Rattle.headline.proofs.Found.{what_is_found_rests}
 use Rattle.headline.proofs.Joined.{steps_keep}
+use Rattle.headline.proofs.Likewise.{rest_likewise}
 use Rattle.headline.proofs.Nodes.{node_there}
 use Rattle.headline.proofs.PastRests.{past_opened, past_stopped}
 use Rattle.headline.proofs.PastWrites.{past_writes_stay}
 use Rattle.headline.proofs.StopMoves.{stop_moves}
 use Rattle.headline.proofs.Whole.{openings_keep}
 
-module _ {D : Type 0} (state : D → State) (honest : D → Type 0) (store shards : ℕ) (old new : NodeName → D × D) (same : (n : NodeName) → IsThere shards n → new n ≡ old n) where
-  -- where the devices of the nodes that are there are the same, a stop leaves the same
+-- where the devices of the nodes that are there are the same, they rest likewise
+module _ {D : Type 0} (state : D → State) (honest : D → Type 0) (moment : D → ℕ) (left_since : D → ℕ → List ℕ → Type 0) (store shards : ℕ) (old new : NodeName → D × D)
+    (same : (n : NodeName) → IsThere shards n → new n ≡ old n) where
   was_left : (n : NodeName) (found : List Record) → IsThere shards n → stops state honest store shards new n found → stops state honest store shards old n found
   was_left n found there = subst (λ (p : D × D). Finds (left (state p.0)) (left (state p.1)) found) (same n there)
 
-  pub same_rests : (m : Machine) → RestsOver state honest store shards old m → RestsOver state honest store shards new m
-  same_rests m r = record {
-    sound = record {
-      honest_a = λ n there. subst (λ (p : D × D). honest p.0) (sym (same n there)) (r.sound.honest_a n there);
-      honest_b = λ n there. subst (λ (p : D × D). honest p.1) (sym (same n there)) (r.sound.honest_b n there);
-      readable = λ n a b there in_a in_b. r.sound.readable n a b there (subst (λ (p : D × D). left (state p.0) a) (same n there) in_a) (subst (λ (p : D × D). left (state p.1) b) (same n there) in_b);
-    };
-    rests = record {
-      is_log = r.rests.is_log;
-      horizon = r.rests.horizon;
-      within = r.rests.within;
-      each = λ found is.
-          let e = r.rests.each found (was_left coordinator found tt is) in
-          (e.0, e.1, e.2, record { image = e.3.image; decided = e.3.decided; each_shard = λ s rs lt in_s. e.3.each_shard s rs lt (was_left (shard s) rs lt in_s) });
-    };
-    listed = λ s found lt is. r.listed s found lt (was_left (shard s) found lt is);
-    given = λ w has found is. r.given w has found (was_left coordinator found tt is);
+  same_sound : AreSound state honest store shards old → AreSound state honest store shards new
+  same_sound sound = record {
+    honest_a = λ n there. subst (λ (p : D × D). honest p.0) (sym (same n there)) (sound.honest_a n there);
+    honest_b = λ n there. subst (λ (p : D × D). honest p.1) (sym (same n there)) (sound.honest_b n there);
+    readable = λ n a b there in_a in_b. sound.readable n a b there (subst (λ (p : D × D). left (state p.0) a) (same n there) in_a) (subst (λ (p : D × D). left (state p.1) b) (same n there) in_b);
   }
 
-  pub same_past : (moment : D → ℕ) (left_since : D → ℕ → List ℕ → Type 0) (m : Machine) (id : WriteId) → IsPastOver state honest moment left_since store shards old m id
-      → IsPastOver state honest moment left_since store shards new m id
-  same_past moment left_since m id is = record { given = λ found there. is.given found (was_left coordinator found tt there); unlisted = is.unlisted }
-
-  same_told : (m : Machine) (ids : List WriteId) → All (IsToldOver state honest store shards old m) ids → All (IsToldOver state honest store shards new m) ids
-  same_told m ids all = λ j d lt. let one = all j d lt in record { given = λ found is. one.given found (was_left coordinator found tt is); none = one.none }
+  pub same_rest : (m : Machine) → RestsOver state honest store shards old m → RestLikewise state honest moment left_since store shards old new m
+  same_rest = rest_likewise state honest moment left_since store shards old new same_sound was_left
 
 module _ {D : Type 0} (set : D → ℕ → Tear → Type 0) (state : D → State) (honest : D → Type 0) (moment : D → ℕ) (left_since : D → ℕ → List ℕ → Type 0)
     (counts_now : (d : D) (t : ℕ) (c : List ℕ) → honest d → t ≤ moment d → left (state d) c → left_since d t c)
@@ -142,17 +130,16 @@ module _ {D : Type 0} (set : D → ℕ → Tear → Type 0) (state : D → State
           let over = acted last whole acts in
           let closed = closed_stores_rest state honest moment left_since store shards over.later over.after over.stands in
           let same = same_devices last over.later (devices_at any new) over.shards_is over.shows are in
+          let likewise = same_rest state honest moment left_since store shards over.later.devices (devices_at any new) same over.after.machine closed.0 in
           let moves = all_moves last over over.after.machine [] refl in
           record {
             after = over.after.machine;
             told = over.after.told;
             moves = moves.0;
             moved = moves.1;
-            rests = same_rests state honest store shards over.later.devices (devices_at any new) same over.after.machine closed.0;
-            told_stays = same_told state honest store shards over.later.devices (devices_at any new) same over.after.machine over.after.told closed.1;
-            past = λ id is.
-                let still = over.past id (was_past id is) in
-                same_past state honest store shards over.later.devices (devices_at any new) same moment left_since over.after.machine id (record { given = still.given.epoch; unlisted = still.unlisted });
+            rests = likewise.rests;
+            told_stays = λ j d lt. likewise.told (get_or over.after.told j d) (closed.1 j d lt);
+            past = λ id is. let still = over.past id (was_past id is) in likewise.past id (record { given = still.given.epoch; unlisted = still.unlisted });
             runs = subst (λ (e : End). IsRunIn set state honest moment left_since store shards any old m ids life e over.after.machine over.after.told) (sym is) (runs_in last over over.after.machine [] refl, refl);
           }
       by_end stops_opening is (devices, none, nothing, are, stop) =
@@ -225,20 +212,21 @@ module _ {D : Type 0} (set : D → ℕ → Tear → Type 0) (state : D → State
     told_stays = subst (λ (l : List D). All (IsToldOver state honest store shards (devices_at any l) m) ids) (sym same) told_all;
     past = λ id is. subst (λ (l : List D). IsPastOver state honest moment left_since store shards (devices_at any l) m id) (sym same) is;
   }
-  many_lives old new (life ∷ lives) m ids some few count rests told_all (mid, once, all) =
-      let lived = lives_once old mid m ids some few count rests told_all life once in
+  many_lives old new (life ∷ lives) m ids some few count rests told_all (there, mid, found_of, once, all) =
+      let likewise = what_is_found_rests state honest moment left_since store shards any old there m count found_of rests in
+      let lived = lives_once there mid m ids some few (found_of.count ∙ count) likewise.rests (λ j d lt. likewise.told (get_or ids j d) (told_all j d lt)) life once in
       let further = many_lives mid new lives lived.after lived.told some few once.3 lived.rests lived.told_stays all in
       let moved = moves_then m lived.after further.after lived.moves further.moves lived.moved further.moved in
       record {
         after = further.after;
         told = further.told;
-        chain = (mid, lived, further.chain);
+        chain = (there, mid, found_of, lived, further.chain);
         moves = lived.moves ++ further.moves;
         moved = moved;
         kept_stays = (kept_stay m further.after (lived.moves ++ further.moves) rests.rests.within moved).3;
         rests = further.rests;
         told_stays = further.told_stays;
-        past = λ id is. further.past id (lived.past id is);
+        past = λ id is. further.past id (lived.past id (likewise.past id is));
       }
 
 pub many : {D : Type 0} (set : D → ℕ → Tear → Type 0) (state : D → State) (honest : D → Type 0) (moment : D → ℕ) (left_since : D → ℕ → List ℕ → Type 0)

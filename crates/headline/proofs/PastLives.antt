@@ -20,7 +20,7 @@ use Rattle.headline.specs.Shown.{Shows}
 use Rattle.headline.specs.Told.{all_told, step_of}
 use Rattle.headline.proofs.Acting.{acts_keep}
 use Rattle.headline.proofs.Joined.{steps_keep}
-use Rattle.headline.proofs.ManyLives.{same_devices, same_past, same_rests, same_stop}
+use Rattle.headline.proofs.ManyLives.{same_devices, same_rest, same_stop}
 use Rattle.headline.proofs.PastRests.{past_stopped}
 use Rattle.headline.proofs.PastWrites.{past_writes_stay}
 
@@ -38,11 +38,9 @@ module _ {D : Type 0} (set : D → ℕ → Tear → Type 0) (state : D → State
         acts_keep set state honest moment left_since (steps_keep state honest moment left_since counts_now only_now) w last s now 0 acts told shows whole acted standing in
         let closed = closed_stores_rest state honest moment left_since w.store w.shards over.later over.after over.stands in
         let same = same_devices set state honest moment left_since counts_now only_now w.store w.shards any last over.later (devices_at any new) over.shards_is over.shows are in
-        let still = over.past id past in (
-          over.after.machine,
-          same_rests state honest w.store w.shards over.later.devices (devices_at any new) same over.after.machine closed.0,
-          same_past state honest w.store w.shards over.later.devices (devices_at any new) same moment left_since over.after.machine id (record { given = still.given.epoch; unlisted = still.unlisted }),
-        )
+        let likewise = same_rest state honest moment left_since w.store w.shards over.later.devices (devices_at any new) same over.after.machine closed.0 in
+        let still = over.past id past in
+        (over.after.machine, likewise.rests, likewise.past id (record { given = still.given.epoch; unlisted = still.unlisted }))
     by_end stops_opening other ends = absurd (other refl)
     by_end (stops_within step) other (last, next, tells, devices, later, whole, acted, whole_step, takes, are, are_next, stop) =
         let over : KeepsActs set state honest moment left_since w.store w.shards s now 0 acts told last =

@@ -5,5 +5,6 @@ pub mod DeviceScripts
 pub mod Acts
 pub mod Headline
 pub mod PastWrites
+pub mod Found
 pub mod ManyLives
 pub mod PastLives

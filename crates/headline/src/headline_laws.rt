@@ -35,8 +35,8 @@ pub fn acted_headline<D: Device>()
     ensures { (store shards : ℕ) → ActedHeadline D.set_to_fail D.state D.honest D.moment D.left_since store shards }
 {}
 
-/// Many lives, each opened over what the one before left, and closed, or stopped at any moment of its opening or of a step, are one list of moves. A
-/// write that came to nothing before them is listed at no place behind them, and no write of them has its id.
+/// Many lives, each opened over what is found of the devices that the one before left, in files that are longer or not, and closed, or stopped at any moment of
+/// its opening or of a step, are one list of moves. A write that came to nothing before them is listed at no place behind them, and no write of them has its id.
 pub fn many_lives<D: Device>()
     ensures { (store shards : ℕ) → ManyLives D.set_to_fail D.state D.honest D.moment D.left_since store shards }
 {}

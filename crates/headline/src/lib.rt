@@ -7,10 +7,12 @@
 //! Start at `specs/Headline.antt`, the law, and then at `specs/Shown.antt`, how a store of the laws shows a world of nodes and flows.
 #![tactic(auto)]
 
+mod found_laws;
 mod headline_laws;
 mod opening_laws;
 mod step_laws;
 
+pub use found_laws::{what_is_found_rests, what_stands_behind_counts_for_nothing};
 pub use headline_laws::{
     acted_headline, headline, many_lives, refused_writes_are_never_listed,
     refused_writes_outlive_their_life, runs_keep_their_promise, steps_keep_their_promise,

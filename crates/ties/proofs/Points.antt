@@ -20,7 +20,7 @@ of_above log s are = record {
   within = are.within;
 }
 
-longer_above : (seen : List Entry) (low : ℕ) (tried : List Attempt) (s : CoordinatorState) → IsLonger seen low tried s → IsLonger seen low tried (above_horizon s)
+pub longer_above : (seen : List Entry) (low : ℕ) (tried : List Attempt) (s : CoordinatorState) → IsLonger seen low tried s → IsLonger seen low tried (above_horizon s)
 longer_above seen low tried s longer = record {
   more = longer.more;
   are = of_above (seen ++ longer.more) s longer.are;
@@ -31,7 +31,7 @@ longer_above seen low tried s longer = record {
 }
 
 -- what the checkpoint of a coordinator stands for
-point_is : {D : Type 0} (v : CoordinatorView D) → coordinator_state (next_checkpoint v) ≡ above_horizon (memory_of v)
+pub point_is : {D : Type 0} (v : CoordinatorView D) → coordinator_state (next_checkpoint v) ≡ above_horizon (memory_of v)
 point_is v = checkpoint_state v.me (generation_of v.durable + 1) (memory_of v)
 
 module _ {D : Type 0} (state : D → State) (honest : D → Type 0) (old new : CoordinatorView D) (seen : List Entry) (low : ℕ) (tried : List Attempt)

@@ -122,7 +122,7 @@ module _ {D : Type 0} (state : D → State) (honest : D → Type 0) (moment : D 
     found_rows : (rs : List Record) → found (state a).seen (state b).seen ≡ Some rs → AreRowsOf shards s seen low (shard_state rs)
     found_rows rs is = was.each rs ((state a).seen, (state b).seen, reads_a, reads_b, is)
 
-    left_rows : (x y : List ℕ) (rs : List Record) → found x y ≡ Some rs → WasLeftOrOpened (shard_node store shards s) (state a) (state b) x y → AreRowsOf shards s seen low (shard_state rs)
+    pub left_rows : (x y : List ℕ) (rs : List Record) → found x y ≡ Some rs → WasLeftOrOpened (shard_node store shards s) (state a) (state b) x y → AreRowsOf shards s seen low (shard_state rs)
     left_rows x y rs is (inl before) = was.each rs (before.0, before.1, before.2, before.3, sym before.4 ∙ is)
     left_rows x y rs is (inr more) =
         subst (λ (l : List Record). AreRowsOf shards s seen low (shard_state l)) (same_Some (more.0 ++ opening (shard_node store shards s) more.0 ∷ []) rs (sym more.3 ∙ is))

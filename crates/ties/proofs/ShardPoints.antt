@@ -10,7 +10,7 @@ use Rattle.versions.proofs.Alike.{alike_sym}
 use Rattle.ties.specs.ShardTieLaws.{FailedShardCheckpointsStayTied, ShardCheckpointsStayTied}
 
 -- the same versions in another order are rows of the list as well
-rows_of_point : {D : Type 0} (shards s : ℕ) (v : ShardView D) (seen : List Entry) (low : ℕ) → IsShardImage v.me (v.durable ++ v.staged) → AreRowsOf shards s seen low (memory v) → (cs : List Record) → IsNextCheckpoint v cs
+pub rows_of_point : {D : Type 0} (shards s : ℕ) (v : ShardView D) (seen : List Entry) (low : ℕ) → IsShardImage v.me (v.durable ++ v.staged) → AreRowsOf shards s seen low (memory v) → (cs : List Record) → IsNextCheckpoint v cs
     → AreRowsOf shards s seen low (shard_state cs)
 rows_of_point shards s v seen low image rows cs point = subst (AreRowsOf shards s seen low) (sym stands) (record {
   learned = rows.learned;

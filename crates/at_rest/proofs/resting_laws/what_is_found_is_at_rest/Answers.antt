@@ -1,4 +1,4 @@
-use Rattle.at_rest.proofs.Resting.{what_is_found_is_at_rest}
+use Rattle.at_rest.proofs.Stopped.{what_is_found_is_at_rest}
 use Rattle.at_rest.proofs.resting_laws.what_is_found_is_at_rest.Goals as goal
 
 pub returns : goal.returns

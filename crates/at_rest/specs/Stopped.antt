@@ -1,0 +1,117 @@
+-- What a stop leaves of a store that is served, at whatever moment of whatever calls of its nodes.
+use Rattle.std.specs.Prelude.{◌≡◌, ◌⊎◌, ◌≤◌, ◌<◌, ◌+◌, ◌*◌, ◌++◌, ℕ, List, length, All, Some, slice_index_or}
+use mathlib.Core.List.{IsPrefix}
+use Rattle.decisions.specs.Checkpoints.{HasOldNewOrPoint}
+use Rattle.decisions.specs.Coordinators.{CoordinatorView, WasLeftOrReopened}
+use Rattle.device.specs.Device.{State, left}
+use Rattle.headline.specs.Found.{IsFoundIn}
+use Rattle.journal.specs.Records.{found}
+use Rattle.laws.specs.Worlds.{coordinator_node, shard_node}
+use Rattle.records.specs.declared.record.Record.{Record}
+use Rattle.shard.specs.Checkpoints.{HasOldNewOrPoint as HasOldNewOrShardPoint}
+use Rattle.shard.specs.Shards.{ShardView, WasLeftOrOpened}
+use Rattle.ties.specs.ShardTies.{IsShardTiedUp, RowsAnywhere}
+use Rattle.ties.specs.Ties.{Anywhere, Attempt, IsTiedUp}
+use Rattle.tuples.specs.declared.entry.Entry.{Entry}
+use Rattle.at_rest.specs.AtRest.{IsAtRest, found_coordinator}
+use Rattle.at_rest.specs.RestingLaws.{IsJustOpened}
+
+module _ {D : Type 0} (state : D → State) (honest : D → Type 0) (moment : D → ℕ) (left_since : D → ℕ → List ℕ → Type 0) (store shards : ℕ) where
+  -- Two contents that a stop left at some moment of a call over two devices, of which its contract says what any two such have.
+  pub record IsWithin (old_a old_b : D) (Has : List ℕ → List ℕ → Type 0) (x y : List ℕ) : Type 0 where
+    pub new_a : D
+    pub new_b : D
+    pub each : (u v : List ℕ) → left_since new_a (moment old_a) u → left_since new_b (moment old_b) v → Has u v
+    pub left_a : left_since new_a (moment old_a) x
+    pub left_b : left_since new_b (moment old_b) y
+
+  -- a coordinator that is tied to the list was within no call of its devices,
+  pub record RestsAsLog (seen : List Entry) (low : ℕ) (x y : List ℕ) : Type 0 where
+    pub a : D
+    pub b : D
+    pub tried : List Attempt
+    pub anywhere : Anywhere state honest a b seen low tried
+    pub left_a : left (state a) x
+    pub left_b : left (state b) y
+
+  -- or within a flush, under its lock or on a flight, or a checkpoint,
+  pub record KeepsLog (seen : List Entry) (low : ℕ) (x y : List ℕ) : Type 0 where
+    pub old : CoordinatorView D
+    pub tried : List Attempt
+    pub tied : IsTiedUp state honest old seen low tried
+    pub within : IsWithin old.a old.b (HasOldNewOrPoint old) x y
+
+  -- or within an opening
+  pub record OpensLog (seen : List Entry) (low : ℕ) (x y : List ℕ) : Type 0 where
+    pub a : D
+    pub b : D
+    pub tried : List Attempt
+    pub anywhere : Anywhere state honest a b seen low tried
+    pub reads_a : left (state a) (state a).seen
+    pub reads_b : left (state b) (state b).seen
+    pub within : IsWithin a b (WasLeftOrReopened (coordinator_node store shards) (state a) (state b)) x y
+
+  abbrev pub IsLeftOfLog : List Entry → ℕ → List ℕ → List ℕ → Type 0
+  IsLeftOfLog seen low x y = RestsAsLog seen low x y ⊎ (KeepsLog seen low x y ⊎ OpensLog seen low x y)
+
+  -- the same of a shard
+  pub record RestsAsShard (s : ℕ) (seen : List Entry) (low : ℕ) (x y : List ℕ) : Type 0 where
+    pub a : D
+    pub b : D
+    pub anywhere : RowsAnywhere state honest shards s a b seen low
+    pub left_a : left (state a) x
+    pub left_b : left (state b) y
+
+  pub record KeepsShard (s : ℕ) (seen : List Entry) (low : ℕ) (x y : List ℕ) : Type 0 where
+    pub old : ShardView D
+    pub tied : IsShardTiedUp state honest store shards s old seen low
+    pub within : IsWithin old.a old.b (HasOldNewOrShardPoint old) x y
+
+  pub record OpensShard (s : ℕ) (seen : List Entry) (low : ℕ) (x y : List ℕ) : Type 0 where
+    pub a : D
+    pub b : D
+    pub anywhere : RowsAnywhere state honest shards s a b seen low
+    pub reads_a : left (state a) (state a).seen
+    pub reads_b : left (state b) (state b).seen
+    pub within : IsWithin a b (WasLeftOrOpened (shard_node store shards s) (state a) (state b)) x y
+
+  abbrev pub IsLeftOfShard : ℕ → List Entry → ℕ → List ℕ → List ℕ → Type 0
+  IsLeftOfShard s seen low x y = RestsAsShard s seen low x y ⊎ (KeepsShard s seen low x y ⊎ OpensShard s seen low x y)
+
+  -- the device is honest, and finds this content, or it with more behind a list that a closed gate ends
+  pub record FindsLeft (d : D) (content : List ℕ) : Type 0 where
+    pub is_honest : honest d
+    pub found_in : IsFoundIn content (state d).seen
+
+  -- the two devices find what a stop left of a coordinator that is tied to the list, and these are records
+  pub record IsFoundOfLog (first : List Entry) (low : ℕ) (a b : D) : Type 0 where
+    pub x : List ℕ
+    pub y : List ℕ
+    pub was_left : IsLeftOfLog first low x y
+    pub readable : (rs : List Record) × (found x y ≡ Some rs)
+    pub finds_a : FindsLeft a x
+    pub finds_b : FindsLeft b y
+
+  -- or of a shard that is tied to a beginning of the list, under a horizon that is no higher
+  pub record IsFoundOfShard (s : ℕ) (first : List Entry) (low : ℕ) (a b : D) : Type 0 where
+    pub seen : List Entry
+    pub horizon : ℕ
+    pub begins : IsPrefix seen first
+    pub no_higher : horizon ≤ low
+    pub x : List ℕ
+    pub y : List ℕ
+    pub was_left : IsLeftOfShard s seen horizon x y
+    pub finds_a : FindsLeft a x
+    pub finds_b : FindsLeft b y
+
+  -- the devices find what one stop left of all nodes of a store, whichever calls these were within
+  pub record AreFoundOfStopped (any : D) (first : List Entry) (low : ℕ) (devices : List D) : Type 0 where
+    pub coordinator : IsFoundOfLog first low (slice_index_or devices 0 any) (slice_index_or devices 1 any)
+    pub each_shard : (k : ℕ) → k < shards → IsFoundOfShard k first low (slice_index_or devices (2 * k + 2) any) (slice_index_or devices (2 * k + 3) any)
+
+  -- Devices that were just opened, and find what a stop left of a store that is served, are at rest at its list, with more behind it or not, and at no lower
+  -- horizon.
+  abbrev pub WhatAStopLeavesIsAtRest : Type 0
+  WhatAStopLeavesIsAtRest = (any : D) (first : List Entry) (low : ℕ) (devices : List D) → length devices ≡ 2 * (shards + 1) → All (IsJustOpened state honest) devices
+      → AreFoundOfStopped any first low devices
+      → (more : List Entry) × IsAtRest state honest shards (first ++ more) devices × (low ≤ (found_coordinator state devices).horizon)
