@@ -13,7 +13,7 @@ use Rattle.records.specs.declared.record.Record.{Record}
 use Rattle.records.specs.Coordinators.{CoordinatorState, coordinator_state}
 use Rattle.refusal.specs.declared.refusal.Refusal.TheVariants.{Damaged}
 use Rattle.ties.specs.ShardTies.{RowsAnywhere}
-use Rattle.ties.specs.Ties.{AreListed, AreOf, Attempt, IsLonger}
+use Rattle.ties.specs.Ties.{AreListed, AreOf, IsLonger}
 use Rattle.ties.proofs.ShardOpening.{longer_lists_stay_tied}
 use Rattle.tuples.specs.declared.entry.Entry.{Entry}
 use Rattle.at_rest.specs.AtRest.{IsAtRest, found_coordinator}
@@ -44,19 +44,19 @@ module _ {D : Type 0} (state : D → State) (honest : D → Type 0) (moment : D 
     abbrev now : CoordinatorState
     now = coordinator_state rs
 
-    was_longer : (tried : List Attempt) × IsLonger first low tried now
-    was_longer = log_is_longer state honest moment left_since counts_now store shards log.x log.y rs log.readable.1 first low log.was_left
+    was_longer : IsLonger first low log.tried now
+    was_longer = log_is_longer state honest moment left_since counts_now store shards log.x log.y rs log.readable.1 first low log.tried log.was_left
 
     abbrev all : List Entry
-    all = first ++ was_longer.1.more
+    all = first ++ was_longer.more
 
     no_longer : IsLonger all now.horizon [] now
     no_longer = record {
       more = [];
-      are = subst (λ (l : List Entry). AreOf l now) (sym (append-nil all)) was_longer.1.are;
-      listed = subst (AreListed now.epoch) (sym (append-nil all)) was_longer.1.listed;
+      are = subst (λ (l : List Entry). AreOf l now) (sym (append-nil all)) was_longer.are;
+      listed = subst (AreListed now.epoch) (sym (append-nil all)) was_longer.listed;
       raised = omega arith;
-      within = was_longer.1.are.within;
+      within = was_longer.are.within;
       past = λ j x none. absurd cc;
     }
 
@@ -77,18 +77,18 @@ module _ {D : Type 0} (state : D → State) (honest : D → Type 0) (moment : D 
               (sym (same_records of_shard.x of_shard.y (state c).seen (state d).seen of_shard.finds_a.found_in of_shard.finds_b.found_in) ∙ both_are)
               of_shard.seen of_shard.horizon k of_shard.was_left;
         } in
-        let begins : IsPrefix of_shard.seen all = (of_shard.begins.0 ++ was_longer.1.more, sym (append_assoc of_shard.seen of_shard.begins.0 was_longer.1.more) ∙ ap (λ (l : List Entry). l ++ was_longer.1.more) of_shard.begins.1) in
+        let begins : IsPrefix of_shard.seen all = (of_shard.begins.0 ++ was_longer.more, sym (append_assoc of_shard.seen of_shard.begins.0 was_longer.more) ∙ ap (λ (l : List Entry). l ++ was_longer.more) of_shard.begins.1) in
         longer_lists_stay_tied state honest store shards k (refused Damaged c d) of_shard.seen all of_shard.horizon now.horizon here begins
-        (let le = of_shard.no_higher in let raised = was_longer.1.raised in omega (arith, le, raised))
+        (let le = of_shard.no_higher in let raised = was_longer.raised in omega (arith, le, raised))
 
     knows_now : found_coordinator state devices ≡ now
     knows_now = found_is state devices any (omega (arith, count)) ∙ ap (λ o. coordinator_state (or_none o)) read
 
     pub found_at_rest : (more : List Entry) × IsAtRest state honest shards (first ++ more) devices × (low ≤ (found_coordinator state devices).horizon)
     found_at_rest = (
-      was_longer.1.more,
-      at_rest_with state honest shards devices any count rs all opened_a opened_b read log.finds_a.is_honest log.finds_b.is_honest was_longer.1.are.decisions no_longer rows_found,
-      subst (λ (c : CoordinatorState). low ≤ c.horizon) (sym knows_now) was_longer.1.raised,
+      was_longer.more,
+      at_rest_with state honest shards devices any count rs all opened_a opened_b read log.finds_a.is_honest log.finds_b.is_honest was_longer.are.decisions no_longer rows_found,
+      subst (λ (c : CoordinatorState). low ≤ c.horizon) (sym knows_now) was_longer.raised,
     )
 
   pub what_a_stop_leaves_is_at_rest : WhatAStopLeavesIsAtRest state honest moment left_since store shards
@@ -122,9 +122,10 @@ module _ {D : Type 0} (state : D → State) (honest : D → Type 0) (shards : �
       let a = finds 0 (omega (arith, count)) in
       let b = finds 1 (omega (arith, count)) in
       record {
+        tried = [];
         x = a.0;
         y = b.0;
-        was_left = inl (record { a = old_at 0; b = old_at 1; tried = []; anywhere = rests.coordinator any; left_a = a.1; left_b = b.1 });
+        was_left = inl (record { a = old_at 0; b = old_at 1; tied = rests.coordinator any; left_a = a.1; left_b = b.1 });
         readable = readable a.0 b.0 a.1 b.1;
         finds_a = a.2;
         finds_b = b.2;
@@ -141,7 +142,7 @@ module _ {D : Type 0} (state : D → State) (honest : D → Type 0) (shards : �
         no_higher = omega arith;
         x = a.0;
         y = b.0;
-        was_left = inl (record { a = old_at (2 * k + 2); b = old_at (2 * k + 3); anywhere = rests.each_shard k any lt; left_a = a.1; left_b = b.1 });
+        was_left = inl (record { a = old_at (2 * k + 2); b = old_at (2 * k + 3); tied = rests.each_shard k any lt; left_a = a.1; left_b = b.1 });
         finds_a = a.2;
         finds_b = b.2;
       }

@@ -25,58 +25,44 @@ module _ {D : Type 0} (state : D → State) (honest : D → Type 0) (moment : D 
     pub left_a : left_since new_a (moment old_a) x
     pub left_b : left_since new_b (moment old_b) y
 
-  -- a coordinator that is tied to the list was within no call of its devices,
-  pub record RestsAsLog (seen : List Entry) (low : ℕ) (x y : List ℕ) : Type 0 where
+  -- Given what ties two devices to a list: a node over them was within no call of its devices,
+  pub record Stands (Tied : D → D → Type 0) (x y : List ℕ) : Type 0 where
     pub a : D
     pub b : D
-    pub tried : List Attempt
-    pub anywhere : Anywhere state honest a b seen low tried
+    pub tied : Tied a b
     pub left_a : left (state a) x
     pub left_b : left (state b) y
 
-  -- or within a flush, under its lock or on a flight, or a checkpoint,
-  pub record KeepsLog (seen : List Entry) (low : ℕ) (x y : List ℕ) : Type 0 where
+  -- or within an opening over them
+  pub record Opens (Tied : D → D → Type 0) (Has : D → D → List ℕ → List ℕ → Type 0) (x y : List ℕ) : Type 0 where
+    pub a : D
+    pub b : D
+    pub tied : Tied a b
+    pub reads_a : left (state a) (state a).seen
+    pub reads_b : left (state b) (state b).seen
+    pub within : IsWithin a b (Has a b) x y
+
+  -- A coordinator that is up, and tied to the list, was within a flush, under its lock or on a flight, or within a checkpoint.
+  pub record KeepsLog (seen : List Entry) (low : ℕ) (tried : List Attempt) (x y : List ℕ) : Type 0 where
     pub old : CoordinatorView D
-    pub tried : List Attempt
     pub tied : IsTiedUp state honest old seen low tried
     pub within : IsWithin old.a old.b (HasOldNewOrPoint old) x y
 
-  -- or within an opening
-  pub record OpensLog (seen : List Entry) (low : ℕ) (x y : List ℕ) : Type 0 where
-    pub a : D
-    pub b : D
-    pub tried : List Attempt
-    pub anywhere : Anywhere state honest a b seen low tried
-    pub reads_a : left (state a) (state a).seen
-    pub reads_b : left (state b) (state b).seen
-    pub within : IsWithin a b (WasLeftOrReopened (coordinator_node store shards) (state a) (state b)) x y
-
-  abbrev pub IsLeftOfLog : List Entry → ℕ → List ℕ → List ℕ → Type 0
-  IsLeftOfLog seen low x y = RestsAsLog seen low x y ⊎ (KeepsLog seen low x y ⊎ OpensLog seen low x y)
-
-  -- the same of a shard
-  pub record RestsAsShard (s : ℕ) (seen : List Entry) (low : ℕ) (x y : List ℕ) : Type 0 where
-    pub a : D
-    pub b : D
-    pub anywhere : RowsAnywhere state honest shards s a b seen low
-    pub left_a : left (state a) x
-    pub left_b : left (state b) y
-
+  -- and so a shard
   pub record KeepsShard (s : ℕ) (seen : List Entry) (low : ℕ) (x y : List ℕ) : Type 0 where
     pub old : ShardView D
     pub tied : IsShardTiedUp state honest store shards s old seen low
     pub within : IsWithin old.a old.b (HasOldNewOrShardPoint old) x y
 
-  pub record OpensShard (s : ℕ) (seen : List Entry) (low : ℕ) (x y : List ℕ) : Type 0 where
-    pub a : D
-    pub b : D
-    pub anywhere : RowsAnywhere state honest shards s a b seen low
-    pub reads_a : left (state a) (state a).seen
-    pub reads_b : left (state b) (state b).seen
-    pub within : IsWithin a b (WasLeftOrOpened (shard_node store shards s) (state a) (state b)) x y
+  -- These contents were left of a coordinator that is tied to the list, at any of these moments,
+  abbrev pub IsLeftOfLog : List Entry → ℕ → List Attempt → List ℕ → List ℕ → Type 0
+  IsLeftOfLog seen low tried x y = Stands (λ a b. Anywhere state honest a b seen low tried) x y ⊎ (KeepsLog seen low tried x y
+      ⊎ Opens (λ a b. Anywhere state honest a b seen low tried) (λ a b. WasLeftOrReopened (coordinator_node store shards) (state a) (state b)) x y)
 
+  -- or of a shard.
   abbrev pub IsLeftOfShard : ℕ → List Entry → ℕ → List ℕ → List ℕ → Type 0
-  IsLeftOfShard s seen low x y = RestsAsShard s seen low x y ⊎ (KeepsShard s seen low x y ⊎ OpensShard s seen low x y)
+  IsLeftOfShard s seen low x y = Stands (λ a b. RowsAnywhere state honest shards s a b seen low) x y ⊎ (KeepsShard s seen low x y
+      ⊎ Opens (λ a b. RowsAnywhere state honest shards s a b seen low) (λ a b. WasLeftOrOpened (shard_node store shards s) (state a) (state b)) x y)
 
   -- the device is honest, and finds this content, or it with more behind a list that a closed gate ends
   pub record FindsLeft (d : D) (content : List ℕ) : Type 0 where
@@ -85,9 +71,10 @@ module _ {D : Type 0} (state : D → State) (honest : D → Type 0) (moment : D 
 
   -- the two devices find what a stop left of a coordinator that is tied to the list, and these are records
   pub record IsFoundOfLog (first : List Entry) (low : ℕ) (a b : D) : Type 0 where
+    pub tried : List Attempt
     pub x : List ℕ
     pub y : List ℕ
-    pub was_left : IsLeftOfLog first low x y
+    pub was_left : IsLeftOfLog first low tried x y
     pub readable : (rs : List Record) × (found x y ≡ Some rs)
     pub finds_a : FindsLeft a x
     pub finds_b : FindsLeft b y
