@@ -20,7 +20,7 @@ use Rattle.at_rest.specs.AtRest.{IsAtRest, found_coordinator}
 use Rattle.at_rest.specs.RestingLaws.{AreReadable, IsJustOpened, WhatIsFoundIsAtRest}
 use Rattle.at_rest.specs.Stopped.{AreFoundOfStopped, FindsLeft, IsFoundOfLog, IsFoundOfShard, WhatAStopLeavesIsAtRest}
 use Rattle.at_rest.proofs.Found.{at_rest_with, found_is, leaves_only, leaves_seen}
-use Rattle.at_rest.proofs.Moments.{log_is_longer, shard_has_rows}
+use Rattle.at_rest.proofs.Moments.{log_is_longer, log_reads, shard_has_rows}
 
 module _ {D : Type 0} (state : D → State) (honest : D → Type 0) (moment : D → ℕ) (left_since : D → ℕ → List ℕ → Type 0)
     (counts_now : (d : D) (t : ℕ) (c : List ℕ) → honest d → t ≤ moment d → left (state d) c → left_since d t c) (store shards : ℕ) where
@@ -35,17 +35,20 @@ module _ {D : Type 0} (state : D → State) (honest : D → Type 0) (moment : D 
     opened_b : IsFresh (state (slice_index_or devices 1 any)).seen (state (slice_index_or devices 1 any))
     opened_b = opened 1 any (omega (arith, count))
 
+    reads : (rs : List Record) × (found log.x log.y ≡ Some rs)
+    reads = log_reads state honest moment left_since store shards log.x log.y first low log.tried log.was_left
+
     abbrev rs : List Record
-    rs = log.readable.0
+    rs = reads.0
 
     read : found (state (slice_index_or devices 0 any)).seen (state (slice_index_or devices 1 any)).seen ≡ Some rs
-    read = same_records log.x log.y (state (slice_index_or devices 0 any)).seen (state (slice_index_or devices 1 any)).seen log.finds_a.found_in log.finds_b.found_in ∙ log.readable.1
+    read = same_records log.x log.y (state (slice_index_or devices 0 any)).seen (state (slice_index_or devices 1 any)).seen log.finds_a.found_in log.finds_b.found_in ∙ reads.1
 
     abbrev now : CoordinatorState
     now = coordinator_state rs
 
     was_longer : IsLonger first low log.tried now
-    was_longer = log_is_longer state honest moment left_since counts_now store shards log.x log.y rs log.readable.1 first low log.tried log.was_left
+    was_longer = log_is_longer state honest moment left_since counts_now store shards log.x log.y rs reads.1 first low log.tried log.was_left
 
     abbrev all : List Entry
     all = first ++ was_longer.more
@@ -125,8 +128,7 @@ module _ {D : Type 0} (state : D → State) (honest : D → Type 0) (shards : �
         tried = [];
         x = a.0;
         y = b.0;
-        was_left = inl (record { a = old_at 0; b = old_at 1; tied = rests.coordinator any; left_a = a.1; left_b = b.1 });
-        readable = readable a.0 b.0 a.1 b.1;
+        was_left = inl (record { a = old_at 0; b = old_at 1; tied = (rests.coordinator any, readable); left_a = a.1; left_b = b.1 });
         finds_a = a.2;
         finds_b = b.2;
       }

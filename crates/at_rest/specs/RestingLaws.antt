@@ -31,10 +31,8 @@ module _ {D : Type 0} (state : D → State) (honest : D → Type 0) where
   -- Whatever list devices rest at, with more behind it or not: where the coordinator's can be read, those that were just opened and find what a stop leaves are at
   -- rest at that list, with more behind it or not, and at no lower horizon.
   --
-  -- A store that is served rests at its list at each moment, whatever it calls: what a stop leaves of a node within a call has the node's old records, with
-  -- what was staged or without, or those of a checkpoint (`any_moment` of the calls), and by each of these a coordinator has the list from its base on
-  -- (`FailedFlushesStayTied`, `FailedCheckpointsStayTied`) and a shard its rows of it (`FailedShardFlushesStayTied`, `FailedShardCheckpointsStayTied`). The list
-  -- is the whole one still: a checkpoint moves the base, and what lies below it the shards have.
+  -- A store that is served rests at its list between two calls of its nodes; what a stop within one leaves `WhatAStopLeavesIsAtRest` tells. The list is the whole
+  -- one still, behind checkpoints too: a checkpoint moves the base, and what lies below it the shards have.
   abbrev pub WhatIsFoundIsAtRest : Type 0
   WhatIsFoundIsAtRest = (shards : ℕ) (any : D) (first : List Entry) (low : ℕ) (olds news : List D) → length olds ≡ 2 * (shards + 1)
       → RestAt state honest shards first low olds → AreReadable (slice_index_or olds 0 any) (slice_index_or olds 1 any) → AreFoundOf state honest olds news → All IsJustOpened news

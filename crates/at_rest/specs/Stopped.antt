@@ -1,20 +1,18 @@
 -- What a stop leaves of a store that is served, at whatever moment of whatever calls of its nodes.
-use Rattle.std.specs.Prelude.{◌≡◌, ◌⊎◌, ◌≤◌, ◌<◌, ◌+◌, ◌*◌, ◌++◌, ℕ, List, length, All, Some, slice_index_or}
+use Rattle.std.specs.Prelude.{◌≡◌, ◌⊎◌, ◌≤◌, ◌<◌, ◌+◌, ◌*◌, ◌++◌, ℕ, List, length, All, slice_index_or}
 use mathlib.Core.List.{IsPrefix}
 use Rattle.decisions.specs.Checkpoints.{HasOldNewOrPoint}
 use Rattle.decisions.specs.Coordinators.{CoordinatorView, WasLeftOrReopened}
 use Rattle.device.specs.Device.{State, left}
 use Rattle.headline.specs.Found.{IsFoundIn}
-use Rattle.journal.specs.Records.{found}
 use Rattle.laws.specs.Worlds.{coordinator_node, shard_node}
-use Rattle.records.specs.declared.record.Record.{Record}
 use Rattle.shard.specs.Checkpoints.{HasOldNewOrPoint as HasOldNewOrShardPoint}
 use Rattle.shard.specs.Shards.{ShardView, WasLeftOrOpened}
 use Rattle.ties.specs.ShardTies.{IsShardTiedUp, RowsAnywhere}
 use Rattle.ties.specs.Ties.{Anywhere, Attempt, IsTiedUp}
 use Rattle.tuples.specs.declared.entry.Entry.{Entry}
 use Rattle.at_rest.specs.AtRest.{IsAtRest, found_coordinator}
-use Rattle.at_rest.specs.RestingLaws.{IsJustOpened}
+use Rattle.at_rest.specs.RestingLaws.{AreReadable, IsJustOpened}
 
 module _ {D : Type 0} (state : D → State) (honest : D → Type 0) (moment : D → ℕ) (left_since : D → ℕ → List ℕ → Type 0) (store shards : ℕ) where
   -- Two contents that a stop left at some moment of a call over two devices, of which its contract says what any two such have.
@@ -54,10 +52,14 @@ module _ {D : Type 0} (state : D → State) (honest : D → Type 0) (moment : D 
     pub tied : IsShardTiedUp state honest store shards s old seen low
     pub within : IsWithin old.a old.b (HasOldNewOrShardPoint old) x y
 
+  -- of two devices a stop leaves the list, and nothing that can't be read, as where a coordinator over them is up
+  abbrev pub AreReadOfLog : List Entry → ℕ → List Attempt → D → D → Type 0
+  AreReadOfLog seen low tried a b = Anywhere state honest a b seen low tried × AreReadable state honest a b
+
   -- These contents were left of a coordinator that is tied to the list, at any of these moments,
   abbrev pub IsLeftOfLog : List Entry → ℕ → List Attempt → List ℕ → List ℕ → Type 0
-  IsLeftOfLog seen low tried x y = Stands (λ a b. Anywhere state honest a b seen low tried) x y ⊎ (KeepsLog seen low tried x y
-      ⊎ Opens (λ a b. Anywhere state honest a b seen low tried) (λ a b. WasLeftOrReopened (coordinator_node store shards) (state a) (state b)) x y)
+  IsLeftOfLog seen low tried x y = Stands (AreReadOfLog seen low tried) x y ⊎ (KeepsLog seen low tried x y
+      ⊎ Opens (AreReadOfLog seen low tried) (λ a b. WasLeftOrReopened (coordinator_node store shards) (state a) (state b)) x y)
 
   -- or of a shard.
   abbrev pub IsLeftOfShard : ℕ → List Entry → ℕ → List ℕ → List ℕ → Type 0
@@ -69,13 +71,12 @@ module _ {D : Type 0} (state : D → State) (honest : D → Type 0) (moment : D 
     pub is_honest : honest d
     pub found_in : IsFoundIn content (state d).seen
 
-  -- the two devices find what a stop left of a coordinator that is tied to the list, and these are records
+  -- the two devices find what a stop left of a coordinator that is tied to the list
   pub record IsFoundOfLog (first : List Entry) (low : ℕ) (a b : D) : Type 0 where
     pub tried : List Attempt
     pub x : List ℕ
     pub y : List ℕ
     pub was_left : IsLeftOfLog first low tried x y
-    pub readable : (rs : List Record) × (found x y ≡ Some rs)
     pub finds_a : FindsLeft a x
     pub finds_b : FindsLeft b y
 

@@ -11,14 +11,15 @@ pub fn what_rests_is_at_rest<D: Device>()
     ensures { WhatRestsIsAtRest D.state D.honest }
 {}
 
-/// Where devices rest at a list, as at each moment of a store that is served, those that find what a stop left of them, in files that are longer or not, are at
-/// rest at that list, or at one that goes on from it: so a server may be started again and again, behind checkpoints too.
+/// Where devices rest at a list, as between two calls of a store that is served, those that find what a stop left of them, in files that are longer or not, are
+/// at rest at that list, or at one that goes on from it: so a server may be started again and again, behind checkpoints too.
 pub fn what_is_found_is_at_rest<D: Device>()
     ensures { WhatIsFoundIsAtRest D.state D.honest }
 {}
 
 /// At whatever moment of whatever calls of its nodes a store that is served is stopped, devices that find what the stop left are at rest at its list, or at one
-/// that goes on from it, where the coordinator's can be read: each node stands between two calls, or is within a flush, a checkpoint or an opening.
+/// that goes on from it: each node stands between two calls, or is within a flush, a checkpoint or an opening, and before the stop the coordinator's devices
+/// could be read.
 pub fn what_a_stop_leaves_is_at_rest<D: Device>()
     ensures { (store shards : ℕ) → WhatAStopLeavesIsAtRest D.state D.honest D.moment D.left_since store shards }
 {}
