@@ -2,7 +2,8 @@
 use Rattle.std.proofs.Common.{◌≡◌, ◌≢◌, ◌⊎◌, inl, inr, ⊎_elim, ◌<◌, ◌≤◌, ℕ, true, false, Ok, Err, arith, refl, sym, ap, subst}
 use Rattle.std.proofs.lemmas.Bool.{cases_lt}
 use Rattle.refusal.specs.declared.refusal.Refusal.{Refusal}
-use Rattle.refusal.specs.declared.refusal.Refusal.TheVariants.{BadRequest, BadTuple, TooLarge, Repeated, BadZookie, WrongStore, Future, Collected, Precondition, Busy, Aborted, Unsure, Down, NoMemory, Full, Damaged}
+use Rattle.refusal.specs.declared.refusal.Refusal.TheVariants.{Collected, Full}
+use Rattle.refusal.proofs.Cases.{is_full, is_collected}
 use Rattle.calls.specs.Asking.{MayBeMade}
 use Rattle.calls.specs.declared.call.NodeCall.{NodeCall}
 use Rattle.calls.specs.declared.call.NodeCall.TheVariants.{Coordinator, Shard}
@@ -65,42 +66,6 @@ same_way way (Shard s (shard_calls.ReadForCheck place x u)) out asks = absurd as
 same_way way (Shard s shard_calls.Settle) out asks = absurd asks.1
 same_way way (Shard s (shard_calls.Collect h)) out asks = absurd asks.1
 same_way way (Shard s shard_calls.Checkpoint) out asks = absurd asks.1
-
-is_collected : (e : Refusal) → (e ≡ Collected) ⊎ (e ≢ Collected)
-is_collected Collected = inl refl
-is_collected BadRequest = inr (λ p. absurd (cc))
-is_collected BadTuple = inr (λ p. absurd (cc))
-is_collected TooLarge = inr (λ p. absurd (cc))
-is_collected Repeated = inr (λ p. absurd (cc))
-is_collected BadZookie = inr (λ p. absurd (cc))
-is_collected WrongStore = inr (λ p. absurd (cc))
-is_collected Future = inr (λ p. absurd (cc))
-is_collected Precondition = inr (λ p. absurd (cc))
-is_collected Busy = inr (λ p. absurd (cc))
-is_collected Aborted = inr (λ p. absurd (cc))
-is_collected Unsure = inr (λ p. absurd (cc))
-is_collected Down = inr (λ p. absurd (cc))
-is_collected NoMemory = inr (λ p. absurd (cc))
-is_collected Full = inr (λ p. absurd (cc))
-is_collected Damaged = inr (λ p. absurd (cc))
-
-is_full : (e : Refusal) → (e ≡ Full) ⊎ (e ≢ Full)
-is_full Full = inl refl
-is_full BadRequest = inr (λ p. absurd (cc))
-is_full BadTuple = inr (λ p. absurd (cc))
-is_full TooLarge = inr (λ p. absurd (cc))
-is_full Repeated = inr (λ p. absurd (cc))
-is_full BadZookie = inr (λ p. absurd (cc))
-is_full WrongStore = inr (λ p. absurd (cc))
-is_full Future = inr (λ p. absurd (cc))
-is_full Collected = inr (λ p. absurd (cc))
-is_full Precondition = inr (λ p. absurd (cc))
-is_full Busy = inr (λ p. absurd (cc))
-is_full Aborted = inr (λ p. absurd (cc))
-is_full Unsure = inr (λ p. absurd (cc))
-is_full Down = inr (λ p. absurd (cc))
-is_full NoMemory = inr (λ p. absurd (cc))
-is_full Damaged = inr (λ p. absurd (cc))
 
 IsSameWay : CatchUpCallValue → CatchUpValue → Type 0
 IsSameWay call c = (c.shard ≡ call.held.shard) × (c.to ≡ call.held.to)

@@ -2,10 +2,6 @@ pub mod EventLists
 pub mod CatchUps
 pub mod MergedRows
 pub mod RowsGiven
-pub mod Fitting
-pub mod OnceEach
 pub mod MetLists
 pub mod Walked
 pub mod Waiting
-pub mod ReadFitting
-pub mod CheckFitting

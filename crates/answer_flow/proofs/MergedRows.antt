@@ -8,7 +8,7 @@ use Rattle.std.proofs.lemmas.Bool.{false≢true}
 use Rattle.tuples.specs.declared.tuple.Tuple.{Tuple}
 use Rattle.tuples.specs.Order.{tuple_lt}
 use Rattle.tuples.specs.Reads.{AreAscending}
-use Rattle.tuples.proofs.Ordered.{tuple_lt_total}
+use Rattle.tuples.proofs.Ordered.{tuple_lt_total, rest_ascends}
 use Rattle.decisions.specs.Merging.{IsMerged}
 use Rattle.answer_flow.specs.Merges.{EndsBefore, TakesLast}
 
@@ -63,13 +63,9 @@ front [] ys asc = tt
 front (x ∷ []) ys asc = tt
 front (x ∷ y ∷ xs) ys asc = (asc.0, front (y ∷ xs) ys asc.1)
 
-rest : (x : Tuple) (xs : List Tuple) → AreAscending (x ∷ xs) → AreAscending xs
-rest x [] asc = tt
-rest x (y ∷ xs) asc = asc.1
-
 behind : (xs ys : List Tuple) → AreAscending (xs ++ ys) → AreAscending ys
 behind [] ys asc = asc
-behind (x ∷ xs) ys asc = behind xs ys (rest x (xs ++ ys) asc)
+behind (x ∷ xs) ys asc = behind xs ys (rest_ascends x (xs ++ ys) asc)
 
 -- a list whose last tuple goes to the front of another
 moved : (a a_now m : List Tuple) (t : Tuple) → a ≡ a_now ++ t ∷ [] → a ++ m ≡ a_now ++ t ∷ m

@@ -13,8 +13,8 @@ use Rattle.tuples.specs.Checking.{holding}
 use Rattle.tuples.specs.Order.{name_cmp, object_cmp, user_cmp, userset_cmp}
 use Rattle.tuples.proofs.Same.{name_same, object_same, user_same, userset_same}
 use Rattle.tuples.proofs.Ordered.{name_tied, object_tied, user_tied, userset_total}
+use Rattle.tuples.proofs.OnceEach.{once_more}
 use Rattle.answer_flow.specs.Walking.{IsWalk, LetsWait, Meets, is_met}
-use Rattle.answer_flow.proofs.OnceEach.{once_more}
 
 same_order : (a b : Userset) → ghosts.cmp a b ≡ userset_cmp a b
 same_order a b = search rules

@@ -4,11 +4,11 @@ use Rattle.std.proofs.lemmas.List.Elements.{Contains-append_left, Contains-appen
 use Rattle.tuples.specs.declared.object.Userset.{Userset}
 use Rattle.tuples.specs.declared.tuple.Tuple.{Tuple}
 use Rattle.tuples.specs.Checking.{AreOnce}
+use Rattle.tuples.proofs.OnceEach.{once_left, once_right, once_apart}
 use Rattle.decisions.specs.Values.{BatchValue}
 use Rattle.decisions.specs.Walks.{Walks}
 use Rattle.answer_flow.specs.CheckViews.{holding_walk}
 use Rattle.answer_flow.specs.Walking.{IsWalked, WalkValue}
-use Rattle.answer_flow.proofs.OnceEach.{once_apart, once_left, once_right}
 
 pub none_first : (xs : List Userset) → slice_get xs 0 ≡ None → xs ≡ []
 none_first [] is = refl

@@ -1,6 +1,5 @@
 // A check at a place that is known.
 ghost use Rattle.std.specs.Prelude.{◌≡◌, ◌≤◌, Some, IfOk};
-ghost use Rattle.records.specs.Identity.{max_shards};
 ghost use Rattle.decisions.specs.Flows.{exact};
 ghost use Rattle.answer_flow.specs.CheckViews.{at_rest, begins_at, catch_up};
 
@@ -9,20 +8,18 @@ use crate::check_phase::AskedCheck;
 use crate::checking::go_on;
 use crate::walk::Walk;
 use std::alloc::{AllocError, Global};
-use tuples::{Freshness, User, Userset};
+use tuples::{Freshness, Shards, User, Userset};
 
 impl CheckFlow {
     /// To ask whether the user is in the userset at a place that is known to be kept. It asks the coordinator for nothing: the userset's shard is brought
     /// up to the place.
     pub fn at(
         alloc: Global,
-        shards: u8,
+        shards: Shards,
         place: u64,
         userset: &Userset,
         user: User,
     ) -> Result<CheckFlow, AllocError>
-        requires some { 1 ≤ shards }
-        requires few { shards ≤ max_shards }
         ensures asked { IfOk result (λ f. f ≡ record { shards = shards; fresh = exact place; user = user; seen = f.seen; next_name = f.next_name }) }
         ensures begins { IfOk result (λ f. f.seen ≡ at_rest catch_up (record (begins_at userset.now) { place = Some place })) }
     {

@@ -2,7 +2,6 @@
 ghost use Rattle.std.specs.Prelude.{◌≡◌, ◌≢◌, ◌≤◌, Some, None, IfOk, MatchOption, is_some, option_map};
 ghost use Rattle.calls.specs.Names.{name_of as name_of_call};
 ghost use Rattle.names.specs.declared.call_name.CallName.TheVariants as names;
-ghost use Rattle.records.specs.Identity.{max_shards};
 ghost use Rattle.answer_flow.specs.Checking.{Asks, Fits, GivesTo};
 ghost use Rattle.answer_flow.specs.CheckViews.{at_rest, begins_at, ending_of, heads};
 
@@ -13,7 +12,7 @@ use calls::{NodeCall, Reply};
 use names::CallName;
 use std::alloc::{AllocError, Global};
 use std::marker::Model;
-use tuples::{Freshness, User, Userset};
+use tuples::{Freshness, Shards, User, Userset};
 
 /// A check on its way: `heads`, until it has its place; then breadth first from the asked userset, each userset once: its shard is brought up to the
 /// place, and read. It holds nothing that has to be spent, so who cancels it drops it.
@@ -48,13 +47,11 @@ impl CheckFlow {
     /// To ask whether the user is in the userset, in a store of so many shards.
     pub fn new(
         alloc: Global,
-        shards: u8,
+        shards: Shards,
         freshness: Freshness,
         userset: &Userset,
         user: User,
     ) -> Result<CheckFlow, AllocError>
-        requires some { 1 ≤ shards }
-        requires few { shards ≤ max_shards }
         ensures { IfOk result (λ f. f ≡ record { shards = shards; fresh = freshness; user = user; seen = at_rest heads (begins_at userset.now); next_name = Some names.Heads }) }
     {
         let walk = Walk::new(alloc, userset)?;

@@ -1,6 +1,5 @@
 // Where a check is between two of its calls, and while one is out.
 ghost use Rattle.std.specs.Prelude.{◌≡◌, ◌≤◌, option_map};
-ghost use Rattle.records.specs.Identity.{max_shards};
 ghost use Rattle.answer_flow.specs.CheckViews.{ending_of, name_ready, view_of};
 
 use crate::walk::Walk;
@@ -8,17 +7,15 @@ use calls::Boxed;
 use catch_up::{CatchUp, CatchUpCall};
 use names::CallName;
 use std::alloc::Global;
-use tuples::{Freshness, Refusal, User, Userset};
+use tuples::{Freshness, Refusal, Shards, User, Userset};
 
 /// About whom a check is asked, in a store of so many shards.
 #[derive(Drop)]
 pub(crate) struct AskedCheck {
     pub(crate) alloc: Global,
-    pub(crate) shards: u8,
+    pub(crate) shards: Shards,
     pub(crate) freshness: Freshness,
     pub(crate) user: User,
-    ghost some: { 1 ≤ shards },
-    ghost few: { shards ≤ max_shards },
 }
 
 /// How a check ended.

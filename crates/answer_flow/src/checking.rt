@@ -1,6 +1,5 @@
 // What a check makes of the answers to its calls.
 ghost use Rattle.std.specs.Prelude.{◌≡◌, ◌≢◌, ◌⊎◌, ◌≤◌, ◌<◌, ◌↔◌, [], IfOk, IsTrue, Contains, MatchOption, Some, None, false};
-ghost use Rattle.records.specs.Identity.{max_shards};
 ghost use Rattle.names.specs.declared.call_name.CallName.TheVariants as names;
 ghost use Rattle.tuples.specs.Checking.{holding};
 ghost use Rattle.tuples.specs.Parts.{shard_of as shard_number};
@@ -17,7 +16,7 @@ use catch_up::{CatchUp, CatchUpCall, Progress};
 use decisions::Heads;
 use shard::ReadReply;
 use std::alloc::{AllocError, Global};
-use tuples::{MAX_WALKED, Refusal, Tuple, User, Userset, shard_of};
+use tuples::{MAX_WALKED, Refusal, Shards, Tuple, User, Userset, shard_of};
 
 fn refused(refusal: Refusal) -> Phase
     ensures { result ≡ Phase.Ended (CheckEnd.Refused refusal) }
@@ -33,9 +32,7 @@ fn answered(place: u64, is_member: bool) -> Phase
 
 /// The shard that keeps the rows of a userset.
 #[tactic(auto, using(tuples::proofs::Named::shard_below))]
-pub(crate) fn shard_to_ask(userset: &Userset, shards: u8) -> u8
-    requires some { 1 ≤ shards }
-    requires few { shards ≤ max_shards }
+pub(crate) fn shard_to_ask(userset: &Userset, shards: Shards) -> u8
     ensures value { result ≡ shard_number shards userset.now.object }
     ensures there { result < shards }
 {

@@ -2,7 +2,6 @@
 ghost use Rattle.std.specs.Prelude.{◌≡◌, ◌≢◌, ◌≤◌, Some, None, MatchOption, is_some, option_map};
 ghost use Rattle.calls.specs.Names.{name_of as name_of_call};
 ghost use Rattle.names.specs.declared.call_name.CallName.TheVariants as names;
-ghost use Rattle.records.specs.Identity.{max_shards};
 ghost use Rattle.decisions.specs.Flows.{nothing_read};
 ghost use Rattle.answer_flow.specs.Reading.{Asks, Fits, GivesTo};
 ghost use Rattle.answer_flow.specs.ReadViews.{at_rest, ending_of, heads};
@@ -13,7 +12,7 @@ use calls::{NodeCall, Reply};
 use names::CallName;
 use std::alloc::Global;
 use std::marker::Model;
-use tuples::{Freshness, Tupleset};
+use tuples::{Freshness, Shards, Tupleset};
 
 /// A read on its way: `heads`, until it has its place; then for each tupleset each shard that it needs is brought up to the place, and reads. It holds
 /// nothing that has to be spent, so who cancels it drops it.
@@ -46,9 +45,7 @@ pub(crate) fn put(place: &mut Option<Phase>, phase: Phase)
 
 impl ReadFlow {
     /// To read these tuplesets in a store of so many shards.
-    pub fn new(alloc: Global, shards: u8, freshness: Freshness, sets: Vec<Tupleset>) -> ReadFlow
-        requires some { 1 ≤ shards }
-        requires few { shards ≤ max_shards }
+    pub fn new(alloc: Global, shards: Shards, freshness: Freshness, sets: Vec<Tupleset>) -> ReadFlow
         ensures { result ≡ record { shards = shards; fresh = freshness; sets = sets.items; seen = at_rest heads nothing_read; next_name = Some names.Heads } }
     {
         ReadFlow {

@@ -1,23 +1,20 @@
 // Where a read is between two of its calls, and while one is out.
 ghost use Rattle.std.specs.Prelude.{◌≡◌, ◌≤◌, option_map};
-ghost use Rattle.records.specs.Identity.{max_shards};
 ghost use Rattle.answer_flow.specs.ReadViews.{ending_of, name_ready, view_of};
 
 use calls::Boxed;
 use catch_up::{CatchUp, CatchUpCall};
 use names::CallName;
 use std::alloc::Global;
-use tuples::{Freshness, Refusal, Tuple, Tupleset};
+use tuples::{Freshness, Refusal, Shards, Tuple, Tupleset};
 
 /// What a read is asked, in a store of so many shards.
 #[derive(Drop)]
 pub(crate) struct AskedRead {
     pub(crate) alloc: Global,
-    pub(crate) shards: u8,
+    pub(crate) shards: Shards,
     pub(crate) freshness: Freshness,
     pub(crate) sets: Vec<Tupleset>,
-    ghost some: { 1 ≤ shards },
-    ghost few: { shards ≤ max_shards },
 }
 
 /// What was gathered at the place: the rows of each tupleset that is done, and of the next one those of the shards below a number.

@@ -1,7 +1,6 @@
 // What is gathered of a read, shard by shard and tupleset by tupleset.
 ghost use Rattle.std.specs.Prelude.{◌≡◌, ◌⊎◌, ◌<◌, ◌≤◌, ◌+◌, IfOk, IsTrue, ◌↔◌, Some, None};
 ghost use Rattle.decisions.specs.Flows.{nothing_read};
-ghost use Rattle.records.specs.Identity.{max_shards};
 ghost use Rattle.answer_flow.specs.Reading.{Continues, Finishes, FlushGives, HeadsGive, CatchUpGives, LacksMemory, Merges, ReadGives, RowsGive};
 ghost use Rattle.answer_flow.specs.ReadViews.{IsNext, IsOfUser, at_rest, catch_up as to_catch_up, IsOutOf, IsBehindOf, holding, rows_of, shard_for, view_of, view_out};
 ghost use Rattle.answer_flow.specs.declared.read_phase.Out.TheVariants as out_of;
@@ -15,7 +14,7 @@ use catch_up::{CatchUp, CatchUpCall, Progress};
 use decisions::Heads;
 use shard::ReadReply;
 use std::alloc::{AllocError, Global};
-use tuples::{Refusal, Tuple, Tupleset, shard_of};
+use tuples::{Refusal, Shards, Tuple, Tupleset, shard_of};
 
 fn refused(refusal: Refusal) -> Phase
     ensures { result ≡ Phase.Ended (ReadEnd.Refused refusal) }
@@ -25,9 +24,7 @@ fn refused(refusal: Refusal) -> Phase
 
 /// The shard that is asked next.
 #[tactic(auto, using(tuples::proofs::Named::shard_below))]
-pub(crate) fn shard_to_ask(set: &Boxed<Tupleset>, shards: u8, below: u8) -> u8
-    requires some { 1 ≤ shards }
-    requires few { shards ≤ max_shards }
+pub(crate) fn shard_to_ask(set: &Boxed<Tupleset>, shards: Shards, below: u8) -> u8
     requires within { below < shards }
     ensures value { result ≡ shard_for shards set.now below }
     ensures there { result < shards }
@@ -61,6 +58,8 @@ pub(crate) fn go_on(asked: &AskedRead, place: u64, done: Vec<Vec<Tuple>>) -> Pha
     ensures goes { Continues asked.now.sets.items place (record nothing_read { place = Some place; done = rows_of done.items }) (view_of result) }
     ensures kept { IsBehindOf asked.now.shards asked.now.sets.items result }
 {
+    // There is a first shard.
+    let _count = asked.shards.count();
     let Some(set) = asked.sets.get(done.len()) else {
         return Phase::Ended(ReadEnd::Answered(place, done));
     };
@@ -173,8 +172,10 @@ fn gather_more(
         drop(set);
         return refused(Refusal::NoMemory);
     };
+    // A number of shards leaves room for one more.
+    let _count = asked.shards.count();
     let below = below + 1;
-    if below < asked.shards {
+    if asked.shards.has(below) {
         let gathered = Gathered {
             place,
             done,

@@ -21,11 +21,11 @@ use Rattle.calls.specs.declared.reply.ShardReply.TheVariants as told_by
 use Rattle.answer_flow.specs.Finding as finding
 use Rattle.answer_flow.specs.Checking.{AsksFor, CatchUpGives, CatchesUp, Continues, FlushGives, GivesTo, HeadsGive, ProgressGives, ReadGives, RowsGive}
 use Rattle.answer_flow.specs.CheckViews.{CheckStep, CheckView, at_rest, catch_up, catch_up_call, checked, ended, flush, flush_call, heads, heads_call, read, read_call, refused, waiting}
-use Rattle.turns.specs.Causes.{IsCause}
-use Rattle.turns.specs.Flows.{checking, place_of, to_check}
-use Rattle.turns.specs.Held.{IsRightCheck}
-use Rattle.turns.specs.Replies.{checked as checked_answer}
-use Rattle.turns.proofs.CheckWalk.{check_replies_select, checks_begin, checks_go_on, checks_say_no, checks_say_yes, full_checks_have_cause}
+use Rattle.stores.specs.Causes.{IsCause}
+use Rattle.stores.specs.Flows.{checking, place_of, to_check}
+use Rattle.stores.specs.Held.{IsRightCheck}
+use Rattle.stores.specs.Replies.{checked as checked_answer}
+use Rattle.stores.proofs.CheckWalk.{check_replies_select, checks_begin, checks_go_on, checks_say_no, checks_say_yes, full_checks_have_cause}
 use Rattle.turns.proofs.ShardCheckSeam.{refused_checks_have_cause}
 use Rattle.call_turns.proofs.ReadTold.{read_for_check_told}
 use Rattle.answer_turns.specs.CheckTurns.{ChecksTurn, check_in_slot, check_tells}

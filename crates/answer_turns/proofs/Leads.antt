@@ -4,9 +4,9 @@ use Rattle.tuples.specs.declared.entry.WriteId.{WriteId}
 use Rattle.answer_turns.proofs.Words.{Answered, Asked, AsksAbove, AsksBelow, Calls, Collected, FailsQuietly, Future, HasItsCause, HeadsValue, Holds, IsCalled, IsQuietlyMade, IsRight, Machine, Moment, NoMemory, NodeName, NodeView, Nodes, Refusal, Running, SlotTurns, StandsOver, State, Store, TakesMemory, TurnRuns, Unsure, answered, behind_call, coordinator, ending, fails_with, from_coordinator, goes, heads_have_cause, heads_of, heads_told, held_on, left, of_coordinator, refused_by, refuses, runs, shown_answer, stops, the_flow, with_call}
 use Rattle.calls.specs.declared.call.CoordinatorCall.TheVariants as calls
 use Rattle.calls.specs.declared.reply.CoordinatorReply.TheVariants as told
-use Rattle.turns.specs.Held.{IsRightVerdict}
-use Rattle.turns.specs.Moments.{is_write}
-use Rattle.turns.specs.Replies.{Agrees, Answer}
+use Rattle.stores.specs.Held.{IsRightVerdict}
+use Rattle.stores.specs.Moments.{is_write}
+use Rattle.stores.specs.Replies.{Agrees, Answer}
 use Rattle.turns.specs.Runs.{Told, goes_on, told_by}
 use Rattle.call_turns.proofs.Turned.{answers}
 

@@ -3,7 +3,7 @@ use Rattle.std.proofs.Common.{ℕ}
 use Rattle.answer_turns.proofs.Words.{Freshness, HeadsValue}
 use Rattle.decisions.specs.Flows.{at_least, exact, latest}
 use Rattle.answer_flow.specs.Finding as finding
-use Rattle.turns.specs.Causes.{WantsFuture}
+use Rattle.stores.specs.Causes.{WantsFuture}
 use Rattle.turns.specs.CoordinatorSeamLaws.{FindsPlace, GivesBelow}
 
 pub finds_place : (fresh : Freshness) (v : HeadsValue) (place : ℕ) → finding.FindsPlace fresh v place → FindsPlace fresh v place

@@ -16,13 +16,13 @@ use Rattle.calls.specs.declared.reply.ShardReply.TheVariants as told_by
 use Rattle.answer_flow.specs.Finding as finding
 use Rattle.answer_flow.specs.Reading.{AsksFor, CatchUpGives, CatchesUp, Continues, Finishes, FlushGives, HeadsGive, Merges, ProgressGives, ReadGives, RowsGive}
 use Rattle.answer_flow.specs.ReadViews.{ReadStep, catch_up, catch_up_call, flush, flush_call, read, read_call, refused, shard_for}
-use Rattle.turns.specs.Causes.{Needs}
-use Rattle.turns.specs.Flows.{to_read}
-use Rattle.turns.specs.Held.{IsRightRead}
-use Rattle.turns.specs.ReadingLaws.{IsReading, there_of}
-use Rattle.turns.specs.Replies.{selected as selected_answer}
+use Rattle.stores.specs.Causes.{Needs}
+use Rattle.stores.specs.Flows.{to_read}
+use Rattle.stores.specs.Held.{IsRightRead}
+use Rattle.stores.specs.ReadingLaws.{IsReading, there_of}
+use Rattle.stores.specs.Replies.{selected as selected_answer}
 use Rattle.laws.proofs.ReadRows.{one_shard_is_enough}
-use Rattle.turns.proofs.ReadAnswer.{all_replies_select, reads_answer, reads_ask_all_of, reads_begin, reads_finish, reads_go_on_all}
+use Rattle.stores.proofs.ReadAnswer.{all_replies_select, reads_answer, reads_ask_all_of, reads_begin, reads_finish, reads_go_on_all}
 use Rattle.turns.proofs.ShardReadSeam.{refused_reads_have_cause}
 use Rattle.call_turns.proofs.Belongs.{belongs_to}
 use Rattle.call_turns.proofs.ReadTold.{read_told}

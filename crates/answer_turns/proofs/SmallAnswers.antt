@@ -12,8 +12,8 @@ use Rattle.calls.specs.declared.reply.CoordinatorReply.TheVariants as told
 use Rattle.answer_flow.specs.Reading.{Asks}
 use Rattle.answer_flow.specs.ReadViews.{ReadAwaited, ReadEnding, ReadFlowValue, refused as ended_refused, selected}
 use Rattle.laws.specs.Nodes.{down, refused, up}
-use Rattle.turns.specs.Flows.{latest, nothing_read}
-use Rattle.turns.specs.Stores.{FlowView}
+use Rattle.stores.specs.Flows.{latest, nothing_read}
+use Rattle.stores.specs.Stores.{FlowView}
 use Rattle.call_turns.specs.StoreCalls.{IsNode}
 use Rattle.answer_turns.specs.ReadTurns.{ReadTurns, read_of}
 

@@ -11,11 +11,11 @@ use Rattle.calls.specs.declared.call.CoordinatorCall.TheVariants as calls
 use Rattle.calls.specs.declared.reply.CoordinatorReply.TheVariants as told
 use Rattle.answer_flow.specs.Watching.{AsksFor, BatchGives, FlushGives, GivesTo, HeadsGive, heartbeat}
 use Rattle.answer_flow.specs.WatchViews.{WatchCall, WatchView, at_rest, batch, ended, flush, heads, listed, refused, waiting, with_heads}
-use Rattle.turns.specs.Flows.{to_watch, watching}
-use Rattle.turns.specs.Held.{AreHeldHeads}
-use Rattle.turns.specs.Replies.{listed as listed_answer}
+use Rattle.stores.specs.Flows.{to_watch, watching}
+use Rattle.stores.specs.Held.{AreHeldHeads}
+use Rattle.stores.specs.Replies.{listed as listed_answer}
+use Rattle.stores.specs.Stores.{NamesHorizon}
 use Rattle.turns.specs.Runs.{Turns}
-use Rattle.turns.specs.Stores.{NamesHorizon}
 use Rattle.turns.proofs.AnswerTurns.{watches_end}
 use Rattle.turns.proofs.CoordinatorCalls.{batch_answers, batch_has_cause, horizon_is}
 use Rattle.turns.proofs.SeesOn.{heads_on}

@@ -31,18 +31,18 @@ pub use Rattle.refusal.specs.declared.refusal.Refusal.TheVariants.{Collected, Fu
 pub use Rattle.shard.specs.Shards.{memory}
 pub use Rattle.shard.specs.declared.replies.ReadReply.{ReadReply}
 pub use Rattle.shard.specs.declared.replies.ReadReply.TheVariants.{Behind, Rows}
+pub use Rattle.stores.proofs.ShardStagesStands.{contained_from}
+pub use Rattle.stores.specs.Causes.{Calls, CallsShard, HasItsCause, LetsLearn, TakesMemory}
+pub use Rattle.stores.specs.Flows.{Asked, Holds, reading}
+pub use Rattle.stores.specs.FlushLaws.{all_kept}
+pub use Rattle.stores.specs.Held.{AreRightHeads, IfHeld, IsRight, IsRightBatch}
+pub use Rattle.stores.specs.Moments.{Moment, Running}
+pub use Rattle.stores.specs.Stores.{StandsOver, Store, stops}
 pub use Rattle.tuples.specs.declared.tuple.Tuple.{Tuple}
 pub use Rattle.tuples.specs.declared.tupleset.Tupleset.{Tupleset}
 pub use Rattle.turns.proofs.CoordinatorCalls.{heads_have_cause, places_are_found, right_heads}
 pub use Rattle.turns.proofs.QuietTurns.{calls_on}
 pub use Rattle.turns.proofs.ShardSeam.{knows}
-pub use Rattle.turns.proofs.ShardStagesStands.{contained_from}
-pub use Rattle.turns.specs.Causes.{Calls, CallsShard, HasItsCause, LetsLearn, TakesMemory}
 pub use Rattle.turns.specs.CoordinatorSeamLaws.{AsksAbove, AsksBelow}
-pub use Rattle.turns.specs.Flows.{Asked, Holds, reading}
-pub use Rattle.turns.specs.FlushLaws.{all_kept}
-pub use Rattle.turns.specs.Held.{AreRightHeads, IfHeld, IsRight, IsRightBatch}
-pub use Rattle.turns.specs.Moments.{Moment, Running}
 pub use Rattle.turns.specs.QuietTurns.{batch_of, behind_call, ending, with_call}
 pub use Rattle.turns.specs.Runs.{answered, refuses}
-pub use Rattle.turns.specs.Stores.{StandsOver, Store, stops}

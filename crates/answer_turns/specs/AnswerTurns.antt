@@ -8,10 +8,10 @@ use Rattle.calls.specs.declared.reply.Reply.{Reply}
 use Rattle.answer_flow.specs.Watching as watching_by
 use Rattle.answer_flow.specs.WatchViews.{WatchEnding, WatchFlowValue, WatchView}
 use Rattle.answer_flow.specs.WatchViews as views
-use Rattle.turns.specs.Flows.{Asked, Holds, IsAsked, to_watch, watching}
-use Rattle.turns.specs.Replies.{listed}
+use Rattle.stores.specs.Flows.{Asked, Holds, IsAsked, to_watch, watching}
+use Rattle.stores.specs.Replies.{listed}
+use Rattle.stores.specs.Stores.{FlowView, Store}
 use Rattle.turns.specs.Runs.{Told, answered, goes_on, refuses}
-use Rattle.turns.specs.Stores.{FlowView, Store}
 use Rattle.call_turns.specs.StoreCalls.{IsCalled, called}
 use Rattle.call_turns.specs.StoreTurns.{SlotTurns, TurnRuns}
 

@@ -9,10 +9,10 @@ use Rattle.calls.specs.declared.reply.Reply.{Reply}
 use Rattle.answer_flow.specs.Checking as checking_by
 use Rattle.answer_flow.specs.CheckViews.{CheckEnding, CheckFlowValue, CheckView}
 use Rattle.answer_flow.specs.CheckViews as views
-use Rattle.turns.specs.Flows.{Asked, IsAsked, checking, to_check}
-use Rattle.turns.specs.Replies.{checked}
+use Rattle.stores.specs.Flows.{Asked, IsAsked, checking, to_check}
+use Rattle.stores.specs.Replies.{checked}
+use Rattle.stores.specs.Stores.{FlowView, Store}
 use Rattle.turns.specs.Runs.{Told, answered, goes_on, refuses}
-use Rattle.turns.specs.Stores.{FlowView, Store}
 use Rattle.call_turns.specs.StoreCalls.{FitsItsTypes, IsCalled, called}
 use Rattle.call_turns.specs.StoreTurns.{SlotTurns, TurnRuns}
 use Rattle.answer_turns.specs.AnswerTurns.{shown_answer}

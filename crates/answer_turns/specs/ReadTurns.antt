@@ -8,10 +8,10 @@ use Rattle.calls.specs.declared.reply.Reply.{Reply}
 use Rattle.answer_flow.specs.Reading as reading_by
 use Rattle.answer_flow.specs.ReadViews.{ReadEnding, ReadFlowValue, ReadView}
 use Rattle.answer_flow.specs.ReadViews as views
-use Rattle.turns.specs.Flows.{Asked, IsAsked, reading, to_read}
-use Rattle.turns.specs.Replies.{selected}
+use Rattle.stores.specs.Flows.{Asked, IsAsked, reading, to_read}
+use Rattle.stores.specs.Replies.{selected}
+use Rattle.stores.specs.Stores.{FlowView, Store}
 use Rattle.turns.specs.Runs.{Told, answered, goes_on, refuses}
-use Rattle.turns.specs.Stores.{FlowView, Store}
 use Rattle.call_turns.specs.StoreCalls.{FitsItsTypes, IsCalled, called}
 use Rattle.call_turns.specs.StoreTurns.{SlotTurns, TurnRuns}
 use Rattle.answer_turns.specs.AnswerTurns.{shown_answer}

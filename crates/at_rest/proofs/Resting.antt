@@ -15,8 +15,8 @@ use Rattle.records.specs.Replays.{shard_state}
 use Rattle.ties.specs.ShardTies.{AreRowsOf, RowsAnywhere}
 use Rattle.ties.specs.Ties.{AreListed, AreOf, IsLonger}
 use Rattle.tuples.specs.declared.entry.Entry.{Entry}
-use Rattle.turns.specs.Stands.{at_shards}
-use Rattle.turns.specs.Stores.{RestsOver, stops}
+use Rattle.stores.specs.Stands.{at_shards}
+use Rattle.stores.specs.Stores.{RestsOver, stops}
 use Rattle.at_rest.specs.AtRest.{IsAtRest, found_coordinator}
 use Rattle.at_rest.specs.RestingLaws.{IsJustOpened, WhatRestsIsAtRest}
 use Rattle.at_rest.proofs.Found.{at_rest_with, found_is, leaves_seen}

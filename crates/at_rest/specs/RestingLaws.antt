@@ -9,7 +9,7 @@ use Rattle.laws.specs.Machines.{Machine}
 use Rattle.locked.specs.Opening.{RestAt}
 use Rattle.records.specs.declared.record.Record.{Record}
 use Rattle.tuples.specs.declared.entry.Entry.{Entry}
-use Rattle.turns.specs.Stores.{RestsOver}
+use Rattle.stores.specs.Stores.{RestsOver}
 use Rattle.at_rest.specs.AtRest.{IsAtRest, found_coordinator}
 
 module _ {D : Type 0} (state : D → State) (honest : D → Type 0) where

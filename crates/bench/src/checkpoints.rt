@@ -1,5 +1,5 @@
 // How long a shard is held while it makes a checkpoint of so many rows, and how long the next opening takes.
-use crate::openings::{Node, made, time_shard};
+use crate::reopening::{Node, made, time_shard};
 use crate::touches::open_shard;
 use device::Device;
 use measures::timing::{now, print_since};

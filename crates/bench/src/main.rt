@@ -13,7 +13,7 @@ mod checkpoints;
 mod clearing;
 mod flush;
 mod measure;
-mod openings;
+mod reopening;
 mod steps;
 mod touches;
 mod writes;

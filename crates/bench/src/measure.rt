@@ -1,5 +1,5 @@
 // What can be measured.
-use crate::openings::{self, Node};
+use crate::reopening::{self, Node};
 use crate::{checkpoints, flush, writes};
 use measures::latest::Way;
 use measures::lines::Kind;
@@ -137,8 +137,8 @@ impl Measure {
             Measure::WritePath => writes::path(rt, alloc, count),
             Measure::Crowd => crowd::measure(rt, alloc, count),
             Measure::Decisions => writes::decisions(rt, alloc, count),
-            Measure::Records(node) => openings::records(rt, alloc, node, count),
-            Measure::Opening(node) => openings::opening(rt, alloc, node, count),
+            Measure::Records(node) => reopening::records(rt, alloc, node, count),
+            Measure::Opening(node) => reopening::opening(rt, alloc, node, count),
             Measure::Checkpoint => checkpoints::measure(rt, alloc, count),
             Measure::Lines(kind) => lines::measure(rt, alloc, kind, count),
             Measure::Pairs(by) => pairs::measure(rt, alloc, by, count),

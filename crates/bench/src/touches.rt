@@ -9,7 +9,7 @@ use measures::changes::push_touch;
 use records::Identity;
 use shard::Shard;
 use std::alloc::{AllocError, Global};
-use tuples::{Refusal, Write};
+use tuples::{Refusal, Shards, Write};
 
 /// The number of the store, which has one shard.
 pub(crate) const STORE: u64 = 1;
@@ -26,7 +26,7 @@ pub(crate) fn open_coordinator<D: Device>(
     a: D,
     b: D,
 ) -> Result<Coordinator<D>, Refusal> {
-    match Coordinator::open(alloc, a, b, Identity::coordinator(STORE, 1)) {
+    match Coordinator::open(alloc, a, b, Identity::coordinator(STORE, Shards::of(1))) {
         Ok(coordinator) => Ok(coordinator),
         Err(
             Refused {
@@ -40,7 +40,7 @@ pub(crate) fn open_coordinator<D: Device>(
 
 /// The only shard of the store.
 pub(crate) fn open_shard<D: Device>(alloc: Global, a: D, b: D) -> Result<Shard<D>, Refusal> {
-    match Shard::open(alloc, a, b, Identity::shard(STORE, 1, 0)) {
+    match Shard::open(alloc, a, b, Identity::shard(STORE, Shards::of(1), 0)) {
         Ok(shard) => Ok(shard),
         Err(
             Refused {

@@ -7,7 +7,7 @@ use Rattle.calls.specs.Views as views
 use Rattle.calls.proofs.Belonging.{answered_belongs, may_ask}
 use Rattle.call_turns.specs.StoreCalls.{IsNamed}
 
-is_node_of : {D : Type 0} (store shards : ℕ) (call : NodeCall) (was : NodeView D) → IsNamed store shards was (called call) → IsNodeOf shards (node_of call) was
+pub is_node_of : {D : Type 0} (store shards : ℕ) (call : NodeCall) (was : NodeView D) → IsNamed store shards was (called call) → IsNodeOf shards (node_of call) was
 is_node_of store shards (Coordinator call) (views.coordinator v) named = ap (λ (i : Identity). i.shards) named
 is_node_of store shards (Coordinator call) (views.shard v) named = absurd named
 is_node_of store shards (Coordinator call) (views.refused e a b) named = tt

@@ -2,8 +2,8 @@
 use Rattle.std.proofs.Common.{◌≡◌, inr, ℕ, false, List, [], Option, None, refl, sym, ◌∙◌, ap, subst}
 use Rattle.std.proofs.Math.Path.{fun_ext}
 use Rattle.call_turns.proofs.Words.{AreSound, IfRunning, IsHorizonIn, Moment, NamesHorizon, NodeName, Running, Stands, State, ended, is_write, left, restart, shown_flow, stops}
+use Rattle.stores.proofs.FlowEnds.{flows_end}
 use Rattle.turns.specs.Runs.{IsCancelled, cancel}
-use Rattle.turns.proofs.FlowEnds.{flows_end}
 use Rattle.call_turns.specs.Steps.{CancelledFlowsEnd}
 use Rattle.call_turns.proofs.Made.{inside_by, still_given, still_within}
 use Rattle.call_turns.proofs.Turned.{runs, shows_ended, the_flow}

@@ -13,8 +13,8 @@ use Rattle.catch_up.specs.Held.{CatchUpCallValue, CatchUpValue, decisions, flush
 use Rattle.catch_up.specs.declared.caught.Progress.{Progress}
 use Rattle.catch_up.specs.declared.caught.Progress.TheVariants.{Next, There, Refused}
 use Rattle.laws.specs.Nodes.{ShardKnows}
-use Rattle.turns.specs.Causes.{LetsLearn}
-use Rattle.turns.specs.Held.{IfHeld, IsRightBatch}
+use Rattle.stores.specs.Causes.{LetsLearn}
+use Rattle.stores.specs.Held.{IfHeld, IsRightBatch}
 use Rattle.turns.specs.QuietTurns.{batch_of}
 use Rattle.turns.proofs.CoordinatorCalls.{batch_answers, batch_has_cause}
 use Rattle.turns.proofs.QuietTurns.{lets_take_memory}

@@ -19,14 +19,15 @@ use Rattle.calls.specs.declared.call.ShardCall.TheVariants as shard_calls
 use Rattle.calls.specs.declared.reply.CoordinatorReply.TheVariants as told
 use Rattle.calls.specs.declared.reply.ShardReply.TheVariants as told_by
 use Rattle.laws.specs.Nodes.{IsThere}
-use Rattle.turns.specs.Causes.{IsFull, TakesMemory}
-use Rattle.turns.specs.Flows.{Asked, to_flush}
-use Rattle.turns.specs.FlushLaws.{HasOldOrSame}
-use Rattle.turns.proofs.DecisionNodes.{staged_epoch}
-use Rattle.turns.proofs.Places.{stand_for_itself}
+use Rattle.stores.specs.Causes.{IsFull, TakesMemory}
+use Rattle.stores.specs.Flows.{Asked, to_flush}
+use Rattle.stores.specs.FlushLaws.{HasOldOrSame}
+use Rattle.stores.proofs.DecisionNodes.{staged_epoch}
+use Rattle.stores.proofs.Places.{stand_for_itself}
+use Rattle.turns.proofs.ShardSeam.{same_epoch}
 use Rattle.call_turns.proofs.Flushed.{FlushesWell, ShardFlushesWell, down_coordinator_fails, down_shard_fails, flushed_ill, flushed_well, refused_fails, shard_flushed_ill, shard_flushed_well}
 use Rattle.call_turns.proofs.Made.{FailsQuietly, IsQuietlyMade, still_made, still_of}
-use Rattle.call_turns.proofs.Points.{coordinator_point_stands, shard_epoch, shard_point_stands}
+use Rattle.call_turns.proofs.Points.{coordinator_point_stands, shard_point_stands}
 use Rattle.call_turns.proofs.Standing.{is_seen, runs_now, shard_is_seen, shard_is_up}
 
 -- a flow that is to flush a node calls it
@@ -173,7 +174,7 @@ module _ {D : Type 0} (state : D → State) (honest : D → Type 0) (moment : D 
 
     shard_opened : 1 ≤ (memory v).epoch
     shard_opened = subst (λ (n : ℕ). 1 ≤ n)
-        (sym (shard_epoch v.durable v.staged (λ a b c d has. standing.stands.nodes.no_opening (shard s) v.durable v.staged a b c d shard_at has)))
+        (sym (same_epoch v.durable v.staged (λ a b c d has. standing.stands.nodes.no_opening (shard s) v.durable v.staged a b c d shard_at has)))
         (standing.stands.nodes.shard_opened s v.durable v.staged shard_at)
 
     shard_point_is : generation_of v.durable < greatest_number → (cs : List Record) → of_shards.IsNextCheckpoint v cs → StandFor (shard s) (v.durable ++ v.staged) cs

@@ -12,18 +12,18 @@ use Rattle.calls.specs.declared.call.ShardCall.TheVariants as shard_calls
 use Rattle.calls.specs.declared.reply.CoordinatorReply.TheVariants as told
 use Rattle.calls.specs.declared.reply.ShardReply.TheVariants as told_by
 use Rattle.turns.specs.CoordinatorOpeningLaws.{IsOverDevices}
-use Rattle.turns.specs.FlushLaws.{FlushesCoordinator, HasOldOrSame, IsOldOrSame, all_kept}
+use Rattle.stores.specs.FlushLaws.{FlushesCoordinator, HasOldOrSame, IsOldOrSame, all_kept}
 use Rattle.turns.specs.SeamLaws.{at_coordinator}
 use Rattle.turns.specs.ShardOpeningLaws.{IsOver, put_at}
 use Rattle.turns.proofs.CoordinatorOpeningSeam.{fails_over_devices, flushes_over_devices}
 use Rattle.turns.proofs.FailedFlushTurn.{failed_flushes_are_quiet}
 use Rattle.turns.proofs.FlushTurn.{flushes_are_quiet}
-use Rattle.turns.proofs.Places.{stand_for_itself}
-use Rattle.turns.proofs.QuietTurns.{away_nodes_have_cause}
+use Rattle.stores.proofs.Places.{stand_for_itself}
+use Rattle.turns.proofs.QuietTurns.{away_nodes_have_cause, is_same_node}
 use Rattle.turns.proofs.ShardFailedSeam.{failed_shard_flushes_are_quiet}
 use Rattle.turns.proofs.ShardOpeningSeam.{left_elsewhere, shard_flushes_are_quiet}
 use Rattle.turns.proofs.ShardSeam.{put_elsewhere, put_here}
-use Rattle.call_turns.proofs.Made.{Comes, FailsQuietly, IsQuietlyMade, IsWithin, WasOrSame, after, before, fails_by, given_by, inside_by, named_less, node_cases, shows_nodes, still_at, still_made, still_of, was_itself}
+use Rattle.call_turns.proofs.Made.{Comes, FailsQuietly, IsQuietlyMade, IsWithin, WasOrSame, after, before, fails_by, given_by, inside_by, named_less, shows_nodes, still_at, still_made, still_of, was_itself}
 use Rattle.call_turns.proofs.Standing.{coordinator_is_away, is_seen, runs_now, shard_is_away, shard_is_seen, shard_is_up}
 
 module _ {D : Type 0} (state : D → State) (honest : D → Type 0) (moment : D → ℕ) (left_since : D → ℕ → List ℕ → Type 0)
@@ -61,7 +61,7 @@ module _ {D : Type 0} (state : D → State) (honest : D → Type 0) (moment : D 
         let one = found_one x y (moments.each x y in_x_then in_y_then) in
         (one.0, one.1, subst (λ (m : NodeName). WasOrSame state honest moment left_since store shards old new now standing m one.0) (sym here) one.2))
         (λ other. still_at state honest moment left_since store shards old new now standing only_now k (others k other) x y there in_x in_y)
-        (node_cases k n)
+        (is_same_node k n)
 
     flush_left : (rs : List Record) → after state honest moment left_since store shards old new now standing coordinator rs → WasOrSame state honest moment left_since store shards old new now standing coordinator rs
     flush_left rs (x, y, in_x, in_y, is) = ⊎_elim
@@ -76,18 +76,18 @@ module _ {D : Type 0} (state : D → State) (honest : D → Type 0) (moment : D 
           (x, y, subst (λ (p : D × D). left (state p.0) x) (others coordinator other) in_x, subst (λ (p : D × D). left (state p.1) y) (others coordinator other) in_y, is),
           inl refl,
         ))
-        (node_cases coordinator n)
+        (is_same_node coordinator n)
 
     flush_sound : AreSound state honest store shards new.devices
     flush_sound = record {
       honest_a = λ k there. ⊎_elim
           (λ here. subst (λ (p : D × D). honest p.0) (sym (ap new.devices here ∙ is_devices)) honest_a)
           (λ other. subst (λ (p : D × D). honest p.0) (sym (others k other)) (standing.sound.honest_a k there))
-          (node_cases k n);
+          (is_same_node k n);
       honest_b = λ k there. ⊎_elim
           (λ here. subst (λ (p : D × D). honest p.1) (sym (ap new.devices here ∙ is_devices)) honest_b)
           (λ other. subst (λ (p : D × D). honest p.1) (sym (others k other)) (standing.sound.honest_b k there))
-          (node_cases k n);
+          (is_same_node k n);
       readable = λ k x y there in_x in_y. ⊎_elim
           (λ here.
           let new_is = ap new.devices here ∙ is_devices in
@@ -96,7 +96,7 @@ module _ {D : Type 0} (state : D → State) (honest : D → Type 0) (moment : D 
           let one = found_one x y (moments.each x y in_x_then in_y_then) in
           (one.0, one.1))
           (λ other. standing.sound.readable k x y there (subst (λ (p : D × D). left (state p.0) x) (others k other) in_x) (subst (λ (p : D × D). left (state p.1) y) (others k other) in_y))
-          (node_cases k n);
+          (is_same_node k n);
     }
 
   not_a_shard : (s : ℕ) → coordinator ≢ shard s

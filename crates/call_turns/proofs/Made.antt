@@ -1,33 +1,22 @@
 -- What is known of a store behind a call of one of its nodes.
-use Rattle.std.proofs.Common.{◌≡◌, ◌≢◌, ◌⊎◌, inl, inr, ⊎_elim, ◌==◌, ℕ, ◌≤◌, true≢false, List, [], map, Result, Ok, Err, Some, Contains, refl, sym, ◌∙◌, ap, subst, arith}
+use Rattle.std.proofs.Common.{◌≡◌, ◌≢◌, ◌⊎◌, inl, inr, ⊎_elim, ℕ, ◌≤◌, List, [], map, Result, Ok, Err, Some, Contains, refl, sym, ◌∙◌, ap, subst, arith}
 use Rattle.std.proofs.Math.Path.{fun_ext}
-use Rattle.std.proofs.lemmas.Bool.{cases_Bool, eq-eqb, eqb-true}
 use Rattle.std.proofs.lemmas.Option.{same_Some}
 use Rattle.tuples.specs.declared.entry.Entry.{Entry}
 use Rattle.call_turns.proofs.Words.{AreSound, Calls, CoordinatorState, HasDeviceCause, HasItsCause, IsCalled, IsHorizonIn, IsMade, IsQuietCall, Machine, Moment, NamesHorizon, NodeName, NodeState, NodeView, Nodes, Record, Refusal, Running, ShowsNodes, StandFor, StandsOver, State, Store, Unsure, WriteId, coordinator, coordinator_state, down, found, leaves, left, refused, shard, shown, staged_of, stops, up}
 use Rattle.decisions.specs.Standing.{IsGivenOut}
 use Rattle.records.specs.declared.record.Record.TheVariants.{Epoch}
+use Rattle.records.proofs.CoordinatorStates.{state_of_more}
 use Rattle.calls.specs.Views as views
 use Rattle.calls.specs.Views.{devices_of}
 use Rattle.laws.specs.Nodes.{IsThere, SameBut}
 use Rattle.laws.specs.Stops.{MeansOne}
 use Rattle.turns.specs.Promises.{StopsBetween, stops_since}
-use Rattle.turns.specs.Stands.{at_shards}
-use Rattle.turns.proofs.Answers.{replays}
-use Rattle.turns.proofs.DecisionNodes.{epoch_stays}
-use Rattle.turns.proofs.QuietTurns.{nothing_changes, of_node}
-use Rattle.turns.proofs.Places.{alike_place, each_in_place, forgotten_means, stand_for_itself}
+use Rattle.stores.specs.Stands.{at_shards}
+use Rattle.stores.proofs.DecisionNodes.{epoch_stays}
+use Rattle.turns.proofs.QuietTurns.{nothing_changes, of_node, is_same_node}
+use Rattle.stores.proofs.Places.{alike_place, each_in_place, forgotten_means, stand_for_itself}
 use Rattle.call_turns.specs.StoreCalls.{KeepsMemory, ShowsMemory}
-
--- two nodes are one, or not
-pub node_cases : (m n : NodeName) → (m ≡ n) ⊎ (m ≢ n)
-node_cases coordinator coordinator = inl refl
-node_cases coordinator (shard s) = inr (λ is. cc)
-node_cases (shard s) coordinator = inr (λ is. cc)
-node_cases (shard s) (shard t) = ⊎_elim
-    (λ same. inl (ap shard (eqb-true s t same)))
-    (λ other. inr (λ is. let e : s ≡ t = cc in true≢false (sym (eq-eqb s t e) ∙ other)))
-    (cases_Bool (s == t))
 
 module _ {D : Type 0} (state : D → State) (honest : D → Type 0) (moment : D → ℕ) (left_since : D → ℕ → List ℕ → Type 0) (store shards : ℕ) (old new : Store D) (now : Moment)
     (standing : StandsOver state honest store shards old now) where
@@ -70,7 +59,7 @@ module _ {D : Type 0} (state : D → State) (honest : D → Type 0) (moment : D 
     was,
     is_left,
     ap (λ (l : List Record). (coordinator_state l).epoch) more
-        ∙ ap (λ (c : CoordinatorState). c.epoch) (replays was (staged_of (now.nodes.at coordinator)))
+        ∙ ap (λ (c : CoordinatorState). c.epoch) (state_of_more was (staged_of (now.nodes.at coordinator)))
         ∙ epoch_stays (coordinator_state was) (staged_of (now.nodes.at coordinator)) (no_epoch (now.nodes.at coordinator) refl),
   )
 
@@ -172,14 +161,14 @@ module _ {D : Type 0} (state : D → State) (honest : D → Type 0) (moment : D 
     same_devices same = fun_ext (λ m. ⊎_elim
         (λ here. ap new.devices here ∙ called.after.devices ∙ same ∙ sym called.before.devices ∙ ap old.devices (sym here))
         (λ other. called.devices m other)
-        (node_cases m n))
+        (is_same_node m n))
 
     pub shows_nodes : (next : Nodes) → SameBut n now.nodes next → next.at n ≡ shown is → map (λ (w : Entry). w.id) next.open_writes ≡ new.open_ids → next.given ≡ new.given → ShowsNodes next new
     shows_nodes next others at ids given = record {
       at = λ m. ⊎_elim
           (λ here. ap next.at here ∙ at ∙ sym called.after.at ∙ ap new.at (sym here))
           (λ other. others.others m other ∙ standing.nodes.at m ∙ sym (called.at m other))
-          (node_cases m n);
+          (is_same_node m n);
       open_ids = ids;
       given = given;
     }
@@ -191,7 +180,7 @@ module _ {D : Type 0} (state : D → State) (honest : D → Type 0) (moment : D 
         (sym called.after.at ∙ ap new.at (sym here) ∙ sym (shows.at k) ∙ is_down)
         (λ was_down. not_down (standing.nodes.at k ∙ ap old.at here ∙ called.before.at ∙ was_down))))
         (λ other. absurd (not_down (standing.nodes.at k ∙ sym (called.at k other) ∙ sym (shows.at k) ∙ is_down)))
-        (node_cases k n)
+        (is_same_node k n)
 
     memory_stays : (w i : NodeView D) → i ≡ w → ShowsMemory w old → ShowsMemory i new → KeepsMemory w old new → (new.open_ids ≡ old.open_ids) × (new.given ≡ old.given)
     memory_stays (views.coordinator v) i same first then keeps =

@@ -1,27 +1,19 @@
 -- The records of a checkpoint stand for what its node had, staged records among it.
-use Rattle.std.proofs.Common.{◌≡◌, inr, ◌+◌, ◌-◌, ◌≤◌, ◌<◌, ℕ, List, ◌++◌, Contains, length-drop, refl, sym, ◌∙◌, ap, subst, arith}
+use Rattle.std.proofs.Common.{inr, ◌+◌, ◌-◌, ◌≤◌, ◌<◌, ℕ, List, ◌++◌, length-drop, refl, sym, subst, arith}
 use Rattle.call_turns.proofs.Words.{CoordinatorState, CoordinatorView, Identity, Record, ShardView, StandFor, coordinator, coordinator_state, end_of, memory, shard}
 use Rattle.records.specs.Checkpoints.{generation_of}
 use Rattle.records.specs.Coordinators.{IsCoordinatorImage}
-use Rattle.records.specs.Replays.{IsShardImage, ShardState, empty_shard, greatest_number, shard_from, shard_state}
-use Rattle.records.specs.declared.record.Record.TheVariants.{Epoch}
+use Rattle.records.specs.Replays.{IsShardImage, greatest_number, shard_state}
 use Rattle.replay.specs.Alike.{IsAlike}
 use Rattle.replay.specs.Checkpoints.{shard_checkpoint}
 use Rattle.replay.proofs.Checkpoints as of_shards
-use Rattle.replay.proofs.States.{shard_from-append}
 use Rattle.recovery.specs.Checkpoints.{above_horizon}
 use Rattle.recovery.proofs.Checkpoints as of_coordinators
 use Rattle.decisions.specs.Checkpoints.{next_checkpoint}
 use Rattle.decisions.specs.Coordinators.{memory_of}
 use Rattle.shard.specs.Checkpoints.{IsNextCheckpoint}
 use Rattle.laws.specs.Nodes.{StandsForSame}
-use Rattle.turns.proofs.ShardFlush.{epoch_stays}
 use Rattle.call_turns.proofs.Named.{one_coordinator, one_shard}
-
--- what is staged is no opening
-pub shard_epoch : (durable staged : List Record) → ((a b c d : ℕ) → Contains staged (Epoch a b c d) → ⊥) → (shard_state (durable ++ staged)).epoch ≡ (shard_state durable).epoch
-unfolding shard_state
-shard_epoch durable staged none = ap (λ (s : ShardState). s.epoch) (shard_from-append empty_shard durable staged) ∙ epoch_stays (shard_from empty_shard durable) staged none
 
 -- what a coordinator knows above its horizon stands for all that it knows
 without_collected : (s : CoordinatorState) → s.base ≤ s.horizon → s.horizon ≤ end_of s → StandsForSame s (above_horizon s)

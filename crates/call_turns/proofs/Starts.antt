@@ -9,12 +9,13 @@ use Rattle.std.proofs.lemmas.Cmp.{nat_eq_equiv}
 use Rattle.std.proofs.lemmas.List.Elements.{Contains-append_right}
 use Rattle.std.proofs.lemmas.Map.Views.{Contains-from_any, list_any-from_Contains}
 use Rattle.call_turns.proofs.Words.{AreSound, Asked, FlowView, IsAsked, IsBegunThere, IsHorizonIn, Moment, NodeName, Ran, Record, Running, ShowsSlot, Stands, StandsOver, State, Store, alone, events_of, flow_at, left, nothing_held, restart, shown_flow, start, stops}
-use Rattle.turns.specs.FlowLaws.{with_flow}
-use Rattle.turns.specs.Moments.{begun}
+use Rattle.stores.specs.FlowLaws.{with_flow}
+use Rattle.stores.specs.Moments.{begun}
 use Rattle.turns.specs.Runs.{began}
-use Rattle.turns.proofs.FlowBegins.{among, flows_begin}
+use Rattle.stores.proofs.FlowBegins.{flows_begin}
 use Rattle.call_turns.proofs.Made.{inside_by, still_given, still_within}
 use Rattle.call_turns.specs.Steps.{FlowsStart}
+use Rattle.tuples.proofs.Lists.{first_or_later}
 
 -- the slots of flows
 pub slots_of : List Running → List ℕ
@@ -50,7 +51,7 @@ of_flow [] t has = absurd (omega (arith, has.1))
 of_flow (r ∷ rs) t has = ⊎_elim
     (λ first. (zero, r, refl, first))
     (λ rest. let found = of_flow rs t rest in (suc found.0, found.1, found.2, found.3))
-    (among r.slot t (slots_of rs) has)
+    (first_or_later r.slot t (slots_of rs) has)
 
 -- and each flow's slot is among them
 in_slots : (t : ℕ) (rs : List Running) (r : Running) → flow_at t rs ≡ Some r → Contains (slots_of rs) t

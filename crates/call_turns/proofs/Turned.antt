@@ -3,7 +3,7 @@ use Rattle.std.proofs.Common.{◌≡◌, ◌≢◌, inl, ⊎_elim, ◌==◌, ℕ
 use Rattle.std.proofs.lemmas.Bool.{cases_Bool, eq-eqb, eqb-true}
 use Rattle.std.proofs.lemmas.Option.{same_Some}
 use Rattle.call_turns.proofs.Words.{Agrees, Answer, Asked, Calls, FlowView, HasItsCause, Holds, IfRunning, IsMade, IsRight, IsRightVerdict, Machine, Moment, NamesHorizon, NodeName, Nodes, Ran, Record, Refusal, Running, ShowsFlow, ShowsSlot, Stands, StandsOver, State, Store, Unsure, WriteId, answered, behind_call, ended, ending, events_of, flow_at, goes_on, is_write, refuses, replaced, restart, stops, to_raise, to_write, told_by, with_call}
-use Rattle.turns.specs.Flows.{checking, collecting, flushing, id_of, learning, raising, reading, resolving, to_check, to_collect, to_flush, to_learn, to_read, to_resolve, to_watch, watching, writing}
+use Rattle.stores.specs.Flows.{checking, collecting, flushing, id_of, learning, raising, reading, resolving, to_check, to_collect, to_flush, to_learn, to_read, to_resolve, to_watch, watching, writing}
 use Rattle.turns.specs.QuietTurns.{going_on}
 use Rattle.turns.specs.Runs.{Told, Turns, turn}
 use Rattle.turns.specs.SeamLaws.{told_unless}

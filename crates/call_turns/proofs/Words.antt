@@ -26,18 +26,18 @@ pub use Rattle.records.specs.declared.record.Record.TheVariants.{Horizon}
 pub use Rattle.refusal.specs.declared.refusal.Refusal.{Refusal}
 pub use Rattle.refusal.specs.declared.refusal.Refusal.TheVariants.{Collected, Down, Full, Future, NoMemory, Unsure}
 pub use Rattle.shard.specs.Shards.{IsUp, ShardView, memory}
+pub use Rattle.stores.proofs.FlowBegins.{alone}
+pub use Rattle.stores.specs.Causes.{Calls, HasItsCause}
+pub use Rattle.stores.specs.Flows.{Asked, Holds, IsAsked, nothing_held, to_raise, to_write}
+pub use Rattle.stores.specs.Held.{IsRight, IsRightVerdict}
+pub use Rattle.stores.specs.Moments.{Moment, Running, ended, flow_at, is_write, replaced}
+pub use Rattle.stores.specs.Replies.{Agrees, Answer}
+pub use Rattle.stores.specs.Stands.{IsHorizonIn, Stands}
+pub use Rattle.stores.specs.Stores.{AreSound, FlowView, NamesHorizon, ShowsFlow, ShowsNodes, ShowsSlot, StandsOver, Store, stops}
 pub use Rattle.tuples.specs.declared.entry.WriteId.{WriteId}
-pub use Rattle.turns.proofs.FlowBegins.{alone}
 pub use Rattle.turns.proofs.ShardSeam.{elsewhere, here}
-pub use Rattle.turns.specs.Causes.{Calls, HasItsCause}
-pub use Rattle.turns.specs.Flows.{Asked, Holds, IsAsked, nothing_held, to_raise, to_write}
-pub use Rattle.turns.specs.Held.{IsRight, IsRightVerdict}
-pub use Rattle.turns.specs.Moments.{Moment, Running, ended, flow_at, is_write, replaced}
 pub use Rattle.turns.specs.Promises.{HasDeviceCause, Ran, events_of}
 pub use Rattle.turns.specs.QuietTurns.{IsAway, IsQuietCall, behind_call, ending, with_call}
-pub use Rattle.turns.specs.Replies.{Agrees, Answer}
 pub use Rattle.turns.specs.Runs.{IfRunning, answered, goes_on, refuses, restart, start, told_by}
 pub use Rattle.turns.specs.SeamLaws.{IsSeen, behind}
 pub use Rattle.turns.specs.ShardSeamLaws.{ShardIsSeen, behind_shard}
-pub use Rattle.turns.specs.Stands.{IsHorizonIn, Stands}
-pub use Rattle.turns.specs.Stores.{AreSound, FlowView, NamesHorizon, ShowsFlow, ShowsNodes, ShowsSlot, StandsOver, Store, stops}

@@ -9,15 +9,15 @@ use Rattle.calls.specs.declared.call.NodeCall.{NodeCall}
 use Rattle.calls.specs.declared.reply.Reply.{Reply}
 use Rattle.laws.specs.Machines.{Machine}
 use Rattle.laws.specs.Nodes.{NodeName, Nodes, down}
-use Rattle.turns.specs.Causes.{HasItsCause}
-use Rattle.turns.specs.Flows.{Asked, Holds}
-use Rattle.turns.specs.Held.{IsRight, IsRightVerdict}
-use Rattle.turns.specs.Moments.{Moment, Running, flow_at, is_write}
+use Rattle.stores.specs.Causes.{HasItsCause}
+use Rattle.stores.specs.Flows.{Asked, Holds}
+use Rattle.stores.specs.Held.{IsRight, IsRightVerdict}
+use Rattle.stores.specs.Moments.{Moment, Running, flow_at, is_write}
+use Rattle.stores.specs.Replies.{Agrees, Answer}
+use Rattle.stores.specs.Stores.{FlowView, StandsOver, Store, stops}
 use Rattle.turns.specs.Promises.{HasDeviceCause, Ran, events_of}
 use Rattle.turns.specs.QuietTurns.{IsQuietCall, behind_call, ending, with_call}
-use Rattle.turns.specs.Replies.{Agrees, Answer}
 use Rattle.turns.specs.Runs.{Told, answered, goes_on, refuses, told_by, turn}
-use Rattle.turns.specs.Stores.{FlowView, StandsOver, Store, stops}
 use Rattle.call_turns.specs.StoreCalls.{IsCalled, IsMade, IsNode, shown}
 use Rattle.call_turns.specs.StoreTurns.{SlotTurns}
 

@@ -5,11 +5,11 @@ use Rattle.tuples.specs.Limits.{max_flows}
 use Rattle.refusal.specs.declared.refusal.Refusal.TheVariants.{Full}
 use Rattle.device.specs.Device.{State}
 use Rattle.laws.specs.Nodes.{NodeName}
-use Rattle.turns.specs.Flows.{Asked, Holds, IsAsked, nothing_held}
-use Rattle.turns.specs.Moments.{is_write}
+use Rattle.stores.specs.Flows.{Asked, Holds, IsAsked, nothing_held}
+use Rattle.stores.specs.Moments.{is_write}
+use Rattle.stores.specs.Stores.{FlowView, Store}
 use Rattle.turns.specs.Promises.{RunsOne, events_of}
 use Rattle.turns.specs.Runs.{began, cancel, refuses, start}
-use Rattle.turns.specs.Stores.{FlowView, Store}
 use Rattle.call_turns.specs.StoreTurns.{SlotTurns}
 
 -- no node of the store was called

@@ -13,10 +13,10 @@ use Rattle.calls.specs.declared.call.NodeCall.TheVariants.{Coordinator, Shard}
 use Rattle.laws.specs.Machines.{Machine}
 use Rattle.laws.specs.Nodes.{IsThere, NodeName, NodeState, Nodes, coordinator, shard, up, down, refused}
 use Rattle.laws.specs.Worlds.{coordinator_node, shard_node}
-use Rattle.turns.specs.Moments.{Moment}
+use Rattle.stores.specs.Moments.{Moment}
+use Rattle.stores.specs.Stands.{IsHorizonIn}
+use Rattle.stores.specs.Stores.{AreSound, NamesHorizon, ShowsNodes, Store, stops}
 use Rattle.turns.specs.Promises.{HasDeviceCause, StopsBetween}
-use Rattle.turns.specs.Stands.{IsHorizonIn}
-use Rattle.turns.specs.Stores.{AreSound, NamesHorizon, ShowsNodes, Store, stops}
 
 -- a node's name, as the laws say it
 abbrev pub name_of : names.NodeName → NodeName

@@ -1,9 +1,9 @@
 -- A turn of the flow in a slot of a store, and the promise that it keeps.
 use Rattle.std.specs.Prelude.{◌≡◌, ◌≢◌, ℕ, List, Option, Some}
 use Rattle.device.specs.Device.{State}
+use Rattle.stores.specs.Stores.{FlowView, Store}
 use Rattle.turns.specs.Promises.{RunsOne, events_of}
 use Rattle.turns.specs.Runs.{Told, turn}
-use Rattle.turns.specs.Stores.{FlowView, Store}
 
 -- The flow in a slot was shown so, and is shown so behind its turn, or has left the slot. No other slot has changed.
 pub record SlotTurns {D : Type 0} (slot : ℕ) (was : FlowView) (is : Option FlowView) (old new : Store D) : Type 0 where

@@ -1,6 +1,6 @@
 -- A request that is sent again and again, and a line that is read up to its line feed.
-use Rattle.std.proofs.Common.{◌≡◌, ◌≢◌, ◌≤◌, ◌+◌, ◌-◌, ◌⊎◌, inl, inr, ⊎_elim, ℕ, suc, true, false, cond, eqb, List, [], ◌∷◌, ◌++◌, length, take, drop, All, Option, None, Some, IfSome, Result, Ok, Err, OnErr, refl, sym, ap, subst, ◌∙◌, append-nil, length-append, encode_utf8, eqb-true, arith}
-use Rattle.std.proofs.KnownBytes.{Appends-nil, Appends-trans, Consumes-nil, Consumes-trans}
+use Rattle.std.proofs.Common.{◌≡◌, ◌≢◌, ◌+◌, ◌-◌, ℕ, suc, true, false, cond, eqb, List, [], ◌∷◌, ◌++◌, length, take, drop, All, Option, None, Some, IfSome, refl, sym, ap, subst, ◌∙◌, length-append, encode_utf8, eqb-true, arith}
+use Rattle.std.proofs.KnownBytes.{Appends-trans, Consumes-trans}
 use Rattle.std.proofs.Math.Seq.{take-append_seam}
 use Rattle.std.proofs.lemmas.List.{flat_map_more}
 use Rattle.std.proofs.lemmas.List.Elements.{All-append, All-cons, All-nil}
@@ -10,9 +10,8 @@ use Rattle.std.specs.Io.BufRead.{DropsThrough, drop_through, take_through}
 use Rattle.std.specs.Io.KnownBytes.{Appends, Consumes}
 use Rattle.std.specs.Option.{option_eq}
 use Rattle.line_io.specs.Lines.{HasNoFeed}
-use Rattle.line_io.specs.Outputs.{HasBegun}
 use Rattle.calling.specs.Answers.{IsAnswer}
-use Rattle.calling.specs.Sent.{IsAskedAgain, IsPassing, SendsAgain, StopsAsking, answer_bytes, answers_bytes, times}
+use Rattle.calling.specs.Sent.{IsAskedAgain, IsPassing, answer_bytes, answers_bytes, times}
 use Rattle.calling.specs.declared.answer.Answered.{Answered}
 
 -- The line was sent so many times, and each answer to it was read and was one behind which it may be sent again.
@@ -22,15 +21,6 @@ pub record HasAsked (count : ℕ) (line : List ℕ) (in_before in_now out_before
   pub each : All IsPassing earlier
   pub read : Consumes in_before in_now (answers_bytes earlier)
   pub sent : Appends out_before out_now (times (length earlier) line)
-
-pub asked_nothing : (line : List ℕ) (i o : Option (List ℕ)) → HasAsked 0 line i i o o
-asked_nothing line i o = record {
-  earlier = [];
-  counted = refl;
-  each = All-nil IsPassing;
-  read = Consumes-nil i;
-  sent = Appends-nil o;
-}
 
 length_more : (xs : List Answered) (a : Answered) → length (xs ++ a ∷ []) ≡ suc (length xs)
 length_more xs a = omega (arith, length-append xs (a ∷ []))
@@ -47,40 +37,6 @@ asked_more count line i j k o p q a h answer again read sent =
       read = subst (Consumes i k) (flat_map_more answer_bytes [] xs a) (Consumes-trans i j k (answers_bytes xs) (answer_bytes a) h.read read);
       sent = subst (λ (n : ℕ). Appends o q (times n line)) (sym more) (Appends-trans o p q (times (length xs) line) (line ++ 10 ∷ []) h.sent sent);
     }
-
-pub asked_last : (most count : ℕ) (line : List ℕ) (i j k o p q : Option (List ℕ)) (a : Answered) → count ≤ most → HasAsked count line i j o p → IsAnswer a
-    → (count ≡ most) ⊎ (IsAskedAgain a.refusal → ⊥) → Consumes j k (answer_bytes a) → Appends p q (line ++ 10 ∷ []) → SendsAgain most line i k o q a
-asked_last most count line i j k o p q a few h answer ends read sent =
-    let counted = h.counted in record {
-      earlier = h.earlier;
-      few = omega arith;
-      each = h.each;
-      answer = answer;
-      ends = ⊎_elim (λ all. inl (counted ∙ all)) (λ none. inr none) ends;
-      read = Consumes-trans i j k (answers_bytes h.earlier) (answer_bytes a) h.read read;
-      sent = Appends-trans o p q (times (length h.earlier) line) (line ++ 10 ∷ []) h.sent sent;
-    }
-
-pub asked_in_vain : (most count : ℕ) (line : List ℕ) (i j o p q : Option (List ℕ)) → count ≤ most → HasAsked count line i j o p → HasBegun p q (line ++ 10 ∷ [])
-    → StopsAsking most line i o q
-asked_in_vain most count line i j o p q few h begun =
-    let counted = h.counted in record {
-      earlier = h.earlier;
-      few = omega arith;
-      each = h.each;
-      in_now = j;
-      read = h.read;
-      out_now = p;
-      sent = h.sent;
-      begun = begun;
-    }
-
--- nothing is a beginning, and so is all
-pub begun_none : (o : Option (List ℕ)) (bytes : List ℕ) → HasBegun o o bytes
-begun_none o bytes = record { sent = []; unsent = bytes; whole = refl; written = Appends-nil o }
-
-pub begun_all : (o p : Option (List ℕ)) (bytes : List ℕ) → Appends o p bytes → HasBegun o p bytes
-begun_all o p bytes all = record { sent = bytes; unsent = []; whole = sym (append-nil bytes); written = all }
 
 through_whole : (xs : List ℕ) → take_through 10 xs ++ drop_through 10 xs ≡ xs
 through_whole [] = refl
@@ -110,7 +66,3 @@ pub line_has_one : (before read line : List ℕ) → before ≡ [] → read ≡ 
 line_has_one before read line none is stops =
     let all : appended_bytes before read ≡ line ++ 10 ∷ [] = ap (λ (b : List ℕ). drop (length b) read) none ∙ is in
     subst (All (λ x. x ≢ 10)) (front_taken line) (subst (λ (l : List ℕ). StopsAt l 10) all stops)
-
-pub err_always : {T E P : Type 0} (r : Result T E) → P → OnErr r P
-err_always (Ok x) p = tt
-err_always (Err e) p = p

@@ -1,5 +1,6 @@
 -- What is sent of a request, and which answers are read for it.
 use Rattle.std.specs.Prelude.{◌≡◌, ◌≤◌, ◌⊎◌, ℕ, suc, zero, List, [], ◌∷◌, ◌++◌, length, flat_map, All, Option, MatchOption, string_bytes}
+use Rattle.refusal.specs.Refusals.{IsOneOf}
 use Rattle.std.specs.Io.KnownBytes.{Appends, Consumes}
 use Rattle.line_io.specs.Outputs.{HasBegun}
 use Rattle.refusal.specs.declared.refusal.Refusal.{Refusal}
@@ -14,7 +15,7 @@ times (suc n) line = times n line ++ (line ++ 10 ∷ [])
 
 -- behind it nothing was done, and what was in the way passes by itself
 abbrev pub IsSentAgain : Refusal → Type 0
-IsSentAgain r = (r ≡ Busy) ⊎ ((r ≡ Aborted) ⊎ ((r ≡ NoMemory) ⊎ (r ≡ Full)))
+IsSentAgain r = IsOneOf r (Busy ∷ Aborted ∷ NoMemory ∷ Full ∷ [])
 
 -- a request that is answered so may be sent again
 abbrev pub IsAskedAgain : Option Refusal → Type 0

@@ -171,3 +171,7 @@ kept_beside me (opened_shard v) (opened_shard w) same is = same ∙ is
 kept_beside me old (opened_coordinator w) same is = tt
 kept_beside me old (opened_refused r) same is = tt
 kept_beside me old (opened_shard w) same is = absurd same
+
+-- the reply is one to the call of an equation
+pub to_call : (x y : NodeCall) (reply : Reply) → x ≡ y → IsReplyTo x reply → IsReplyTo y reply
+to_call x y reply is b = subst (λ (c : NodeCall). IsReplyTo c reply) is b

@@ -1,5 +1,6 @@
 -- What each call of a coordinator answers, in the words of the coordinator's own contracts.
-use Rattle.std.specs.Prelude.{◌≡◌, ◌⊎◌, ◌↔◌, ◌≤◌, ◌<◌, ℕ, true, false, List, [], Result, Ok, Err, Some, None, All, Contains, IfOk, IfErr, IsErr, IsErrOf, OnOk, OnErr}
+use Rattle.std.specs.Prelude.{◌≡◌, ◌⊎◌, ◌↔◌, ◌≤◌, ◌<◌, ℕ, true, false, List, [], Result, Ok, Err, Some, None, All, Contains, IfOk, IfErr, IsErr, IsErrOf, OnOk, OnErr, ◌∷◌}
+use Rattle.refusal.specs.Refusals.{IsOneOf}
 use Rattle.refusal.specs.declared.refusal.Refusal.{Refusal}
 use Rattle.refusal.specs.declared.refusal.Refusal.TheVariants.{Aborted, Collected, Down, Full, Future, NoMemory}
 use Rattle.tuples.specs.declared.entry.WriteId.{WriteId}
@@ -31,7 +32,7 @@ module _ {D : Type 0} (state : D → State) (honest : D → Type 0) where
     pub collected : IsRunning state honest old → IsErrOf r Collected → FirstIs old write.conditions (NamesCollected old)
     pub full : IsRunning state honest old → IsErrOf r Full → All (IsInRange old) write.conditions × HasNoId old
     pub memory : IsRunning state honest old → IsErrOf r NoMemory → All (IsInRange old) write.conditions × (HasNoId old → ⊥)
-    pub err : IfErr r (λ e. (new ≡ old) × ((e ≡ Down) ⊎ ((e ≡ Future) ⊎ ((e ≡ Collected) ⊎ ((e ≡ Full) ⊎ (e ≡ NoMemory))))))
+    pub err : IfErr r (λ e. (new ≡ old) × IsOneOf e (Down ∷ Future ∷ Collected ∷ Full ∷ NoMemory ∷ []))
 
   -- a decision is staged at the next place, or what comes back
   pub record DecideAnswers (old : CoordinatorView D) (intent : IntentValue) (votes : List VoteValue) (r : Result DecidedValue NotDecided) (new : CoordinatorView D) : Type 0 where
@@ -73,7 +74,7 @@ module _ {D : Type 0} (state : D → State) (honest : D → Type 0) where
     pub down : IsErrOf r Down ↔ (v.is_down ≡ true)
     pub future : IsRunning state honest v → IsErrOf r Future ↔ (end_of (kept_of v) < to)
     pub collected : IsRunning state honest v → IsErrOf r Collected ↔ ((to ≤ end_of (kept_of v)) × (from < (kept_of v).horizon))
-    pub err : IfErr r (λ e. (e ≡ Down) ⊎ ((e ≡ Future) ⊎ ((e ≡ Collected) ⊎ (e ≡ NoMemory))))
+    pub err : IfErr r (λ e. IsOneOf e (Down ∷ Future ∷ Collected ∷ NoMemory ∷ []))
 
   -- how far it is
   pub record HeadsAnswers (v : CoordinatorView D) (r : Result HeadsValue Refusal) : Type 0 where
@@ -89,7 +90,7 @@ module _ {D : Type 0} (state : D → State) (honest : D → Type 0) where
     pub future : IsRunning state honest old → IfErr r (λ e. (e.refusal ≡ Future) ↔ (end_of (kept_of old) < place))
     pub full : IsRunning state honest old → IfErr r (λ e. e.refusal ≡ Full → HasNoRoom old.staged (Horizon place) × (IsRising old place → ⊥))
     pub was_up : old.is_down ≡ true → IsErr r
-    pub err : IfErr r (λ e. (new ≡ old) × (e.settled.items ≡ settled) × ((e.refusal ≡ Down) ⊎ ((e.refusal ≡ Collected) ⊎ ((e.refusal ≡ Future) ⊎ (e.refusal ≡ Full)))))
+    pub err : IfErr r (λ e. (new ≡ old) × (e.settled.items ≡ settled) × IsOneOf e.refusal (Down ∷ Collected ∷ Future ∷ Full ∷ []))
 
   -- what was staged is durable; or a device failed, and it may be so or not
   pub record FlushAnswers (moment : D → ℕ) (left_since : D → ℕ → List ℕ → Type 0) (old : CoordinatorView D) (r : Result (Unit {0}) Refusal) (new : CoordinatorView D) : Type 0 where

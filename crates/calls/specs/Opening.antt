@@ -1,5 +1,6 @@
 -- What an opening makes of two devices, in the words of the nodes' own contracts.
-use Rattle.std.specs.Prelude.{◌≡◌, ◌⊎◌, ◌↔◌, ℕ, false, true, List, [], Option, Some, None}
+use Rattle.std.specs.Prelude.{◌≡◌, ◌⊎◌, ◌↔◌, ℕ, false, true, List, [], Option, Some, None, ◌∷◌}
+use Rattle.refusal.specs.Refusals.{IsOneOf}
 use Rattle.refusal.specs.declared.refusal.Refusal.{Refusal}
 use Rattle.refusal.specs.declared.refusal.Refusal.TheVariants.{Damaged, Down, Full, NoMemory}
 use Rattle.records.specs.declared.record.Record.{Record}
@@ -24,7 +25,7 @@ HasStopped state a b = ((state a).stopped ≡ true) ⊎ ((state b).stopped ≡ t
 
 -- with what an opening may be refused
 abbrev pub IsOpeningRefusal : Refusal → Type 0
-IsOpeningRefusal e = (e ≡ Down) ⊎ ((e ≡ NoMemory) ⊎ ((e ≡ Full) ⊎ (e ≡ Damaged)))
+IsOpeningRefusal e = IsOneOf e (Down ∷ NoMemory ∷ Full ∷ Damaged ∷ [])
 
 module _ {D : Type 0} (state : D → State) (honest : D → Type 0) (moment : D → ℕ) (left_since : D → ℕ → List ℕ → Type 0) (a b : D) (me : Identity) where
   -- the devices are as honest as before

@@ -1,5 +1,6 @@
 -- What each call of a shard answers, in the words of the shard's own contracts.
-use Rattle.std.specs.Prelude.{◌≡◌, ◌⊎◌, ◌↔◌, ◌≤◌, ◌<◌, ℕ, Bool, true, List, [], Result, Err, None, IfOk, IfErr, IsErr, IsErrOf, OnOk, OnErr}
+use Rattle.std.specs.Prelude.{◌≡◌, ◌⊎◌, ◌↔◌, ◌≤◌, ◌<◌, ℕ, Bool, true, List, [], Result, Err, None, IfOk, IfErr, IsErr, IsErrOf, OnOk, OnErr, ◌∷◌}
+use Rattle.refusal.specs.Refusals.{IsOneOf}
 use Rattle.std.specs.Global.{Vec}
 use Rattle.tuples.specs.declared.entry.WriteId.{WriteId}
 use Rattle.tuples.specs.declared.tuple.Tuple.{Tuple}
@@ -40,7 +41,7 @@ module _ {D : Type 0} (state : D → State) (honest : D → Type 0) where
     pub refused : IsUp state honest old → IfErr r (LearnRefused old batch)
     pub down : IsErrOf r Down ↔ (old.is_down ≡ true)
     pub stays : Stays old new
-    pub err : IfErr r (λ e. (new ≡ old) × ((e ≡ Down) ⊎ ((e ≡ NoMemory) ⊎ ((e ≡ Full) ⊎ (e ≡ Damaged)))))
+    pub err : IfErr r (λ e. (new ≡ old) × IsOneOf e (Down ∷ NoMemory ∷ Full ∷ Damaged ∷ []))
 
   -- a prepare is staged, or not
   pub record PrepareAnswers (old : ShardView D) (intent : IntentValue) (r : Result TicketValue Refusal) (new : ShardView D) : Type 0 where
@@ -49,7 +50,7 @@ module _ {D : Type 0} (state : D → State) (honest : D → Type 0) where
     pub refused : IsUp state honest old → IfErr r (PrepareRefused old intent.write)
     pub down : IsErrOf r Down ↔ (old.is_down ≡ true)
     pub stays : Stays old new
-    pub err : IfErr r (λ e. (new ≡ old) × ((e ≡ Down) ⊎ ((e ≡ Collected) ⊎ ((e ≡ Busy) ⊎ ((e ≡ Precondition) ⊎ ((e ≡ Full) ⊎ (e ≡ NoMemory)))))))
+    pub err : IfErr r (λ e. (new ≡ old) × IsOneOf e (Down ∷ Collected ∷ Busy ∷ Precondition ∷ Full ∷ NoMemory ∷ []))
 
   -- a prepare is durable, or not yet, or not there
   pub record VoteAnswers (v : ShardView D) (ticket : TicketValue) (r : VoteReply) : Type 0 where
@@ -79,7 +80,7 @@ module _ {D : Type 0} (state : D → State) (honest : D → Type 0) where
     pub behind : IsUp state honest v → IfOk r (λ reply. reply ≡ Behind → (memory v).learned < place)
     pub collected : IsUp state honest v → IsErrOf r Collected ↔ (place < (memory v).horizon)
     pub down : IsErrOf r Down ↔ (v.is_down ≡ true)
-    pub err : IfErr r (λ e. (e ≡ Down) ⊎ ((e ≡ Collected) ⊎ (e ≡ NoMemory)))
+    pub err : IfErr r (λ e. IsOneOf e (Down ∷ Collected ∷ NoMemory ∷ []))
 
   -- what a check asks of a userset, at a place
   pub record ReadForCheckAnswers (v : ShardView D) (place : ℕ) (x : Userset) (u : User) (r : Result ReadReply Refusal) : Type 0 where
@@ -87,7 +88,7 @@ module _ {D : Type 0} (state : D → State) (honest : D → Type 0) where
     pub behind : IsUp state honest v → IfOk r (λ reply. reply ≡ Behind → (memory v).learned < place)
     pub collected : IsUp state honest v → IsErrOf r Collected ↔ (place < (memory v).horizon)
     pub down : IsErrOf r Down ↔ (v.is_down ≡ true)
-    pub err : IfErr r (λ e. (e ≡ Down) ⊎ ((e ≡ Collected) ⊎ (e ≡ NoMemory)))
+    pub err : IfErr r (λ e. IsOneOf e (Down ∷ Collected ∷ NoMemory ∷ []))
 
   -- how far it has settled
   pub record SettleAnswers (v : ShardView D) (r : Result SettledValue Refusal) : Type 0 where

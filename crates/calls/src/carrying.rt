@@ -1,6 +1,5 @@
 // How far a node reaches, and what of it is carried over to a store of another number of shards.
 ghost use Rattle.std.specs.Prelude.{◌≤◌};
-ghost use Rattle.records.specs.Identity.{max_shards};
 ghost use Rattle.calls.specs.Carrying.{Carries, CoordinatorReaches, Reaches, ShardReaches};
 
 use crate::Node;
@@ -9,7 +8,7 @@ use coordinator::Coordinator;
 use device::Device;
 use journal::Begun;
 use shard::Shard;
-use tuples::Refusal;
+use tuples::{Refusal, Shards};
 
 /// How far a node reaches.
 #[derive(Clone, Copy, Debug, PartialEq, Eq)]
@@ -54,9 +53,7 @@ impl<D: Device> Node<D> {
 
     /// Ends the first checkpoint of the coordinator of a store with the same id and so many shards, with what this coordinator knows. `Down` where a call of
     /// a device failed. A shard refuses with `BadRequest`, and a node whose opening was refused with that refusal.
-    pub fn carry(&self, shards: u8, begun: &mut Begun<D>) -> Result<(), Refusal>
-        requires some { 1 ≤ shards }
-        requires few { shards ≤ max_shards }
+    pub fn carry(&self, shards: Shards, begun: &mut Begun<D>) -> Result<(), Refusal>
         ensures { Carries D.state D.honest D.moment D.left_since shards self.now begun.old result begun.new }
     {
         match &self.opened {

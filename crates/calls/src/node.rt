@@ -17,7 +17,7 @@ use replay::Memory;
 use shard::Shard;
 use std::alloc::Global;
 use std::marker::Model;
-use tuples::{Refusal, Version};
+use tuples::{Refusal, Shards, Version};
 
 #[derive(Drop)]
 pub(crate) enum Opened<D: Device> {
@@ -114,7 +114,7 @@ impl<D: Device> Node<D> {
     }
 
     /// Whether it is the node of this name in a store of so many shards. One whose opening was refused may be any.
-    pub fn is_node(&self, shards: u8, name: NodeName) -> bool
+    pub fn is_node(&self, shards: Shards, name: NodeName) -> bool
         ensures { IsTrue result ↔ IsNodeOf shards name self.now }
     {
         match (&self.opened, name) {

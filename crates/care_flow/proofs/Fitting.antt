@@ -18,6 +18,7 @@ use Rattle.calls.specs.declared.reply.Reply.{Reply}
 use Rattle.calls.specs.declared.reply.Reply.TheVariants.{Coordinator as from_coordinator, Shard as from_shard}
 use Rattle.calls.specs.declared.reply.CoordinatorReply.TheVariants as told
 use Rattle.calls.specs.declared.reply.ShardReply.TheVariants as told_by
+use Rattle.calls.proofs.Belonging.{to_call}
 use Rattle.catch_up.proofs.Fitting as caught
 use Rattle.care_flow.specs.CatchUps.{AsksToCatchUp, on_its_way}
 use Rattle.care_flow.specs.Collecting as collecting
@@ -29,10 +30,6 @@ use Rattle.care_flow.specs.Views.{CareView, out}
 use Rattle.care_flow.specs.Cares.{Answered, Awaits, IsThere, NextCall}
 use Rattle.care_flow.specs.declared.care.CareFlow.{CareFlow}
 use Rattle.care_flow.specs.declared.care.CareFlow.TheVariants.{Flush, Learn, Resolve, Raise, Collect}
-
--- the reply is one to the call of an equation
-to_call : (x y : NodeCall) (reply : Reply) → x ≡ y → IsReplyTo x reply → IsReplyTo y reply
-to_call x y reply is b = subst (λ (c : NodeCall). IsReplyTo c reply) is b
 
 same_call : (x y : NodeCall) → Some x ≡ Some y → x ≡ y
 same_call x y is = cc

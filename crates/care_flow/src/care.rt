@@ -14,6 +14,7 @@ use crate::resolving::ResolveFlow;
 use calls::{NodeCall, Reply};
 use names::{CallName, Care};
 use std::alloc::Global;
+use tuples::Shards;
 
 /// A care on its way. It can be let go between two calls, and nothing is lost by that.
 #[derive(Drop)]
@@ -29,7 +30,7 @@ pub enum CareFlow {
 
 impl CareFlow {
     /// In a store of so many shards. It takes no memory.
-    pub fn new(alloc: Global, shards: u8, care: Care) -> CareFlow
+    pub fn new(alloc: Global, shards: Shards, care: Care) -> CareFlow
         ensures { result ≡ begun shards care }
     {
         match care {

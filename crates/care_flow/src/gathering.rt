@@ -7,11 +7,12 @@ use catch_up::CatchUp;
 use decisions::{Heads, Settled};
 use std::alloc::{AllocError, Global};
 use std::marker::Model;
+use tuples::Shards;
 
 /// What the shards below one have settled, at or above the place of a raise, with room for what all will have. It is that shard's turn.
 #[derive(Drop)]
 pub(crate) struct Gathering {
-    shards: u8,
+    shards: Shards,
     place: u64,
     heads: Heads,
     next: u8,
@@ -34,7 +35,7 @@ impl Model for Gathering {
 /// What all shards have settled, at or above the place of a raise.
 #[derive(Drop)]
 pub(crate) struct Gathered {
-    shards: u8,
+    shards: Shards,
     place: u64,
     heads: Heads,
     settled: Vec<Settled>,
@@ -55,13 +56,13 @@ impl Gathering {
     /// No shard was asked.
     pub(crate) fn new(
         alloc: Global,
-        shards: u8,
+        shards: Shards,
         place: u64,
         heads: Heads,
     ) -> Result<Gathering, AllocError>
         ensures { IfOk result (λ g. g ≡ record { shards = shards; place = place; heads = heads; next = 0; settled = [] }) }
     {
-        let settled = Vec::with_capacity(alloc, shards as usize)?;
+        let settled = Vec::with_capacity(alloc, usize::from(shards.count()))?;
         Ok(Gathering {
             shards,
             place,
@@ -82,7 +83,7 @@ impl Gathering {
     pub(crate) fn has_next(&self) -> bool
         ensures { IsTrue result ↔ (self.now.next < self.now.shards) }
     {
-        self.next < self.shards
+        self.shards.has(self.next)
     }
 
     /// That shard on its way to the kept place.
@@ -133,7 +134,7 @@ impl Gathering {
 
 impl Gathered {
     /// What came back from a raise.
-    pub(crate) fn again(shards: u8, place: u64, heads: Heads, settled: Vec<Settled>) -> Gathered
+    pub(crate) fn again(shards: Shards, place: u64, heads: Heads, settled: Vec<Settled>) -> Gathered
         requires { HaveSettled shards place settled.items }
         ensures { result ≡ record { shards = shards; place = place; heads = heads; settled = settled.items } }
     {

@@ -10,6 +10,7 @@ use crate::gathering::{Gathered, Gathering};
 use crate::raise_phase::{Out, Ready};
 use calls::{CoordinatorCall, NodeCall, ShardCall};
 use catch_up::CatchUp;
+use tuples::Shards;
 
 fn catch_up(gathering: Gathering, catch_up: CatchUp) -> (NodeCall, Out)
     requires round { IsRoundOf gathering.shards gathering.place gathering }
@@ -41,7 +42,7 @@ fn flush_coordinator() -> NodeCall
 }
 
 /// The call of a phase, and the phase while it is out.
-pub(crate) fn next(shards: u8, place: u64, ready: Ready) -> (NodeCall, Out)
+pub(crate) fn next(shards: Shards, place: u64, ready: Ready) -> (NodeCall, Out)
     requires { IsReadyOf shards place ready }
     ensures asks { Asks shards place (held_ready ready) (step_ready ready) result.0 (view_out result.1) }
     ensures owed { MayBeMade shards result.0 }

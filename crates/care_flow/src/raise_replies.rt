@@ -15,7 +15,7 @@ use catch_up::{CatchUpCall, Progress};
 use coordinator::NotRaised;
 use decisions::{Heads, Settled};
 use std::alloc::Global;
-use tuples::Refusal;
+use tuples::{Refusal, Shards};
 
 fn refused(refusal: Refusal) -> Phase
     ensures { result ≡ Phase.Ended (CareEnd.Refused refusal) }
@@ -47,7 +47,7 @@ fn go_round(gathering: Gathering) -> Phase
 }
 
 // No shard can settle a place above the log, so the flow refuses it by itself.
-fn answered(alloc: Global, shards: u8, place: u64, answer: Result<Heads, Refusal>) -> Phase
+fn answered(alloc: Global, shards: Shards, place: u64, answer: Result<Heads, Refusal>) -> Phase
     ensures gives { HeadsGive shards place nothing_raised answer (view_of result) }
     ensures rests { IsBehind (view_of result) }
     ensures kept { IsPhaseOf shards place result }
@@ -116,7 +116,7 @@ fn settled(mut gathering: Gathering, answer: Result<Settled, Refusal>) -> Phase
 }
 
 fn raised(
-    shards: u8,
+    shards: Shards,
     place: u64,
     heads: Heads,
     is_again: bool,
@@ -141,7 +141,7 @@ fn raised(
 }
 
 /// What a reply makes of the phase that waits for it.
-pub(crate) fn give(alloc: Global, shards: u8, place: u64, out: Out, reply: Reply) -> Phase
+pub(crate) fn give(alloc: Global, shards: Shards, place: u64, out: Out, reply: Reply) -> Phase
     requires fits { Fits shards place (step_out out) reply }
     requires kept { IsOutOf shards place out }
     ensures gives { Gives shards place (held_out out) (step_out out) reply (view_of result) }

@@ -15,13 +15,14 @@ use calls::{NodeCall, Reply};
 use names::CallName;
 use std::alloc::Global;
 use std::marker::Model;
+use tuples::Shards;
 
 /// Raises the horizon to a place, once each shard has learned so far for good.
 #[derive(Drop)]
 #[must_use]
 pub struct RaiseFlow {
     alloc: Global,
-    shards: u8,
+    shards: Shards,
     place: u64,
     // taken out only within a call
     phase: Option<Phase>,
@@ -48,7 +49,7 @@ fn put(place: &mut Option<Phase>, phase: Phase)
 
 impl RaiseFlow {
     /// To this place, in a store of so many shards.
-    pub fn new(alloc: Global, shards: u8, place: u64) -> RaiseFlow
+    pub fn new(alloc: Global, shards: Shards, place: u64) -> RaiseFlow
         ensures { result ≡ record { shards = shards; place = place; seen = ready nothing_raised ask; next_name = Some names.Heads } }
     {
         RaiseFlow {

@@ -8,7 +8,7 @@ use Rattle.calls.specs.declared.reply.CoordinatorReply.TheVariants as told
 use Rattle.calls.specs.declared.reply.ShardReply.TheVariants as told_by
 use Rattle.care_flow.specs.Cares as cares
 use Rattle.care_flow.specs.Collecting.{Asks, CollectFlowValue, CollectGives, CollectStep, CollectView, Gives, ask, collect, flush, flush_to_collect}
-use Rattle.turns.specs.Flows.{collecting, to_collect}
+use Rattle.stores.specs.Flows.{collecting, to_collect}
 use Rattle.turns.proofs.ShardLearnSeam.{collects_quietly, refused_collects_have_cause}
 use Rattle.call_turns.proofs.AskedMore.{collect_told}
 use Rattle.care_turns.specs.CareTurns.{CollectsTurn}

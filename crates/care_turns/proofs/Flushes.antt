@@ -9,8 +9,8 @@ use Rattle.calls.specs.declared.reply.CoordinatorReply.TheVariants as told
 use Rattle.calls.specs.declared.reply.ShardReply.TheVariants as told_by
 use Rattle.care_flow.specs.Cares as cares
 use Rattle.care_flow.specs.Flushing.{FlushFlowValue, FlushStep, flush_of}
-use Rattle.turns.specs.Flows.{flushing, to_flush}
-use Rattle.turns.specs.Replies.{IsFlushed}
+use Rattle.stores.specs.Flows.{flushing, to_flush}
+use Rattle.stores.specs.Replies.{IsFlushed}
 use Rattle.call_turns.specs.StoreCalls.{name_of}
 use Rattle.call_turns.proofs.Turned.{asked_is, refused_by}
 use Rattle.call_turns.proofs.Checkpointed.{FailsToFlush, coordinator_checkpointed, fails_to_flush, shard_checkpointed}

@@ -6,7 +6,7 @@ use Rattle.calls.specs.declared.reply.CoordinatorReply.TheVariants as told
 use Rattle.catch_up.specs.CatchingUp as catching
 use Rattle.care_flow.specs.Cares as cares
 use Rattle.care_flow.specs.Learning.{Asks, Gives, LearnFlowValue, LearnStep, LearnView, ProgressGives, ask, catch_up}
-use Rattle.turns.specs.Flows.{learning, to_learn}
+use Rattle.stores.specs.Flows.{learning, to_learn}
 use Rattle.turns.proofs.SeesOn.{heads_on}
 use Rattle.care_turns.specs.CareTurns.{LearnsTurn}
 use Rattle.care_turns.proofs.Views.{IsFlow, LeadsTo, done_to, fails_to, goes_to, refuses_to}

@@ -19,12 +19,12 @@ use Rattle.calls.specs.declared.reply.ShardReply.TheVariants as told_by
 use Rattle.catch_up.specs.CatchingUp as catching
 use Rattle.care_flow.specs.Cares as cares
 use Rattle.care_flow.specs.Raising.{Asks, FlushGives, Gives, GoesRound, ProgressGives, RaiseFlowValue, RaiseGives, RaiseStep, RaiseView, SettleGives, ask, catch_up, flush, flush_raised, flush_to_ask, flush_to_raise, raise, settle}
+use Rattle.stores.specs.Flows.{raising, to_raise}
+use Rattle.stores.specs.Held.{IsRightRaise, IsRightSettled}
+use Rattle.stores.proofs.Batches.{shards_settle}
 use Rattle.turns.specs.CoordinatorSeamLaws.{AsksAbove}
-use Rattle.turns.specs.Flows.{raising, to_raise}
-use Rattle.turns.specs.Held.{IsRightRaise, IsRightSettled}
 use Rattle.turns.specs.SeamLaws.{behind}
 use Rattle.turns.proofs.AnswerTurns.{raises_end}
-use Rattle.turns.proofs.Batches.{shards_settle}
 use Rattle.turns.proofs.CoordinatorCalls.{heads_have_cause}
 use Rattle.turns.proofs.RaiseSeam.{raise_has_cause, raises_turn}
 use Rattle.call_turns.proofs.Belongs.{belongs_to}

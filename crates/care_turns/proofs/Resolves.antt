@@ -20,9 +20,9 @@ use Rattle.care_flow.specs.Ends.{resolved_value}
 use Rattle.care_flow.specs.Resolving.{Asks, DoubtsGive, DropGives, Gives, GoesThrough, HasCommitted, InquiryGives, ProgressGives, ResolveFlowValue, ResolveStep, ResolveView, catch_up, drop_write, finding, in_doubt, inquire}
 use Rattle.care_flow.specs.declared.end.CareEnd.TheVariants.{Resolved as all_resolved}
 use Rattle.care_flow.specs.declared.end.Resolved.{Resolved}
-use Rattle.turns.specs.Flows.{resolving, to_resolve}
-use Rattle.turns.specs.Held.{IfHeld, IsRightResolve, IsRightResolved, IsRightVerdict}
-use Rattle.turns.specs.Replies.{IsResolved, resolved}
+use Rattle.stores.specs.Flows.{resolving, to_resolve}
+use Rattle.stores.specs.Held.{IfHeld, IsRightResolve, IsRightResolved, IsRightVerdict}
+use Rattle.stores.specs.Replies.{IsResolved, resolved}
 use Rattle.turns.proofs.AnswerTurns.{resolves_end}
 use Rattle.turns.proofs.CoordinatorCalls.{inquiries_answer}
 use Rattle.turns.proofs.ShardLearnSeam.{drops_quietly}

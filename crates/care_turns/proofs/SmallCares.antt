@@ -11,8 +11,8 @@ use Rattle.calls.specs.declared.call.CoordinatorCall.TheVariants as calls
 use Rattle.calls.specs.declared.reply.CoordinatorReply.TheVariants as told
 use Rattle.care_flow.specs.Cares as cares
 use Rattle.laws.specs.Nodes.{NodeState, down, refused, up}
+use Rattle.stores.specs.Stores.{FlowView}
 use Rattle.turns.specs.Runs.{refuses}
-use Rattle.turns.specs.Stores.{FlowView}
 use Rattle.call_turns.specs.StoreCalls.{IsNode}
 use Rattle.care_turns.specs.CareTurns.{CareTurns}
 

@@ -3,11 +3,11 @@ use Rattle.std.proofs.Common.{◌≡◌, ◌≢◌, ℕ, false, List, [], ◌∷
 use Rattle.std.proofs.lemmas.List.Elements.{All-nil}
 use Rattle.care_turns.proofs.Words.{Asked, Calls, CareEnd, Done, FailsQuietly, HasItsCause, Holds, IsQuietlyMade, IsRight, Machine, Moment, NodeName, Nodes, Refusal, Refused, Running, Runs, SlotTurns, Stands, StandsOver, State, Store, TurnRuns, Unsure, answers, behind_call, done, ending, fails_with, going_on, in_slot, over, ready, shown_care, stops, tells, the_flow, with_call}
 use Rattle.care_flow.specs.Views.{CareView}
-use Rattle.turns.specs.Moments.{is_write}
-use Rattle.turns.specs.Replies.{Agrees, Answer}
+use Rattle.stores.specs.Moments.{is_write}
+use Rattle.stores.specs.Replies.{Agrees, Answer}
+use Rattle.stores.specs.Stores.{NamesHorizon}
 use Rattle.turns.specs.Runs.{Told, Turns, answered, goes_on, told_by}
 use Rattle.turns.specs.SeamLaws.{told_unless}
-use Rattle.turns.specs.Stores.{NamesHorizon}
 use Rattle.call_turns.specs.StoreCalls.{IsMade}
 use Rattle.call_turns.proofs.Turned.{goes, held_on, ran_ending, ran_going, refused_by, runs}
 

@@ -37,13 +37,13 @@ pub use Rattle.names.specs.declared.call_name.CallName.{CallName}
 pub use Rattle.records.specs.declared.record.Record.{Record}
 pub use Rattle.refusal.specs.declared.refusal.Refusal.{Refusal}
 pub use Rattle.refusal.specs.declared.refusal.Refusal.TheVariants.{Full, NoMemory, Unsure}
+pub use Rattle.stores.specs.Causes.{Calls, HasItsCause, LetsLearn, TakesMemory}
+pub use Rattle.stores.specs.Flows.{Asked, Holds}
+pub use Rattle.stores.specs.Held.{AreHeldHeads, AreRightHeads, IsRight}
+pub use Rattle.stores.specs.Moments.{Moment, Running}
+pub use Rattle.stores.specs.Replies.{done}
+pub use Rattle.stores.specs.Stands.{Stands}
+pub use Rattle.stores.specs.Stores.{StandsOver, Store, stops}
 pub use Rattle.turns.proofs.CoordinatorCalls.{right_heads}
 pub use Rattle.turns.proofs.QuietTurns.{calls_on}
-pub use Rattle.turns.specs.Causes.{Calls, HasItsCause, LetsLearn, TakesMemory}
-pub use Rattle.turns.specs.Flows.{Asked, Holds}
-pub use Rattle.turns.specs.Held.{AreHeldHeads, AreRightHeads, IsRight}
-pub use Rattle.turns.specs.Moments.{Moment, Running}
 pub use Rattle.turns.specs.QuietTurns.{batch_of, behind_call, ending, going_on, with_call}
-pub use Rattle.turns.specs.Replies.{done}
-pub use Rattle.turns.specs.Stands.{Stands}
-pub use Rattle.turns.specs.Stores.{StandsOver, Store, stops}

@@ -16,10 +16,10 @@ use Rattle.care_flow.specs.declared.care.CareFlow.{CareFlow}
 use Rattle.care_flow.specs.declared.care.CareFlow.TheVariants.{Flush, Learn, Resolve, Raise, Collect}
 use Rattle.care_flow.specs.declared.end.CareEnd.{CareEnd}
 use Rattle.care_flow.specs.declared.end.CareEnd.TheVariants.{Done, Resolved as all_resolved, Refused}
-use Rattle.turns.specs.Flows.{Asked, Holds, collecting, flushing, learning, raising, resolving, to_collect, to_flush, to_learn, to_raise, to_resolve}
-use Rattle.turns.specs.Replies.{done, resolved}
+use Rattle.stores.specs.Flows.{Asked, Holds, collecting, flushing, learning, raising, resolving, to_collect, to_flush, to_learn, to_raise, to_resolve}
+use Rattle.stores.specs.Replies.{done, resolved}
+use Rattle.stores.specs.Stores.{FlowView, Store}
 use Rattle.turns.specs.Runs.{Told, answered, goes_on, refuses}
-use Rattle.turns.specs.Stores.{FlowView, Store}
 use Rattle.call_turns.specs.StoreCalls.{FitsItsTypes, IsCalled, called, name_of}
 use Rattle.call_turns.specs.StoreTurns.{SlotTurns, TurnRuns}
 

@@ -3,7 +3,7 @@ use records::{Identity, decode_batch};
 use refusal::Refusal;
 use replay::{Memory, Replay};
 use std::alloc::{AllocError, Global};
-use tuples::Tupleset;
+use tuples::{Shards, Tupleset};
 
 // Each record is alone in a batch.
 
@@ -119,7 +119,7 @@ const ENDED_ELSEWHERE: &[u8] = &[2, 0, 1, 7, 2, 0, 0, 0, 0, 0, 0, 0, 4];
 /// Takes the record of a batch, at shard 1 of the two of store 9.
 fn take(alloc: Global, replay: &mut Replay, batch: &[u8]) -> Result<(), Refusal> {
     match decode_batch(alloc, batch)?.into_iter().next() {
-        Some(record) => replay.take(alloc, Identity::shard(9, 2, 1), record),
+        Some(record) => replay.take(alloc, Identity::shard(9, Shards::of(2), 1), record),
         None => Err(Refusal::Damaged),
     }
 }

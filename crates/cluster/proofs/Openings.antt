@@ -1,15 +1,12 @@
 -- One node more is opened over two devices more.
 use Rattle.std.proofs.Common.{◌≡◌, ◌+◌, ◌*◌, ◌≤◌, ◌++◌, ◌∙◌, ℕ, suc, List, [], ◌∷◌, length, refl, sym, ap, subst, append_assoc, append-nil, arith}
+use Rattle.std.proofs.lemmas.List.{nil_from_length}
 use Rattle.device.specs.Device.{State}
 use Rattle.calls.specs.Views.{NodeView}
 use Rattle.cluster.specs.Nodes.{Reopened}
 use Rattle.names.specs.declared.node_name.NodeName.{NodeName}
 use Rattle.names.specs.declared.node_name.NodeName.TheVariants.{Coordinator, Shard}
 use Rattle.cluster.specs.Openings.{AreOpened, OpensNext, name_at}
-
-none_left : {X : Type 0} (xs : List X) → length xs ≡ 0 → xs ≡ []
-none_left [] is = refl
-none_left (x ∷ xs) is = absurd (omega (arith, is))
 
 module _ {D : Type 0} (state : D → State) (honest : D → Type 0) (moment : D → ℕ) (left_since : D → ℕ → List ℕ → Type 0) (store shards : ℕ) where
   pub one_more : (place at : ℕ) (devices : List D) (nodes : List (NodeView D)) (a b : D) (is : NodeView D)
@@ -63,7 +60,7 @@ module _ {D : Type 0} (state : D → State) (honest : D → Type 0) (moment : D 
 
   -- so many devices less leave none
   pub opened : (all left : List D) (nodes : List (NodeView D)) (count s : ℕ) → SoFar all left nodes → length left ≡ count → count + 2 * s ≡ 2 * shards → shards ≤ s → AreOpened state honest moment left_since store shards 0 all nodes
-  opened all left nodes count s so len taken over = all_opened all left nodes so (none_left left (omega (arith, len, taken, over)))
+  opened all left nodes count s so len taken over = all_opened all left nodes so (nil_from_length left (omega (arith, len, taken, over)))
 
 -- two devices are taken at a time
 pub first_two : (left all n : ℕ) → left + 2 ≡ all → all ≡ 2 * (n + 1) → left + 0 ≡ 2 * n

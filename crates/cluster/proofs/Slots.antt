@@ -1,6 +1,7 @@
 -- What is put into a slot, one after another, and that flows of a store stay such.
 use Rattle.std.proofs.Common.{◌≡◌, ◌∙◌, ℕ, List, [], Option, Some, None, MatchOption, true, is_some, inl, inr, refl, sym, ap, subst}
 use Rattle.std.proofs.lemmas.Bool.{cases_eq}
+use Rattle.std.proofs.lemmas.Option.{same_Some}
 use Rattle.slab.specs.Slab.{Slab, Updates}
 use Rattle.names.specs.declared.call_name.CallName.{CallName}
 use Rattle.cluster.specs.declared.event.What.{What}
@@ -46,14 +47,11 @@ at_some here x P Q is q = subst (λ (o : Option _). MatchOption o P Q) (sym is) 
 pub at_none : {X : Type 0} (here : Option X) (P : Type 0) (Q : X → Type 0) → here ≡ None → P → MatchOption here P Q
 at_none here P Q is p = subst (λ (o : Option _). MatchOption o P Q) (sym is) p
 
-same_flow : (a b : Flow) → Some a ≡ Some b → a ≡ b
-same_flow a b is = cc
-
 no_flow : (flow : Flow) (shards : ℕ) → None ≡ Some flow → IsRunning shards flow
 no_flow flow shards is = absurd (cc)
 
 pub keeps_flow : (shards : ℕ) (old new : List (Option Flow)) (slot : ℕ) (flow : Flow) → Puts old slot (Some flow) new → AreFlows shards old → IsRunning shards flow → AreFlows shards new
-keeps_flow shards old new slot flow p all runs = keeps shards old new slot (Some flow) p all (λ other is. subst (IsRunning shards) (same_flow flow other is) runs)
+keeps_flow shards old new slot flow p all runs = keeps shards old new slot (Some flow) p all (λ other is. subst (IsRunning shards) (same_Some flow other is) runs)
 
 pub keeps_none : (shards : ℕ) (old new : List (Option Flow)) (slot : ℕ) → Puts old slot None new → AreFlows shards old → AreFlows shards new
 keeps_none shards old new slot p all = keeps shards old new slot None p all (λ other is. no_flow other shards is)

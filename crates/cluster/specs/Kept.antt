@@ -1,6 +1,5 @@
 -- What a store keeps between two steps.
-use Rattle.std.specs.Prelude.{◌≡◌, ◌≤◌, ◌+◌, ℕ, true, List, length, Option, Some, is_some}
-use Rattle.records.specs.Identity.{max_shards}
+use Rattle.std.specs.Prelude.{◌≡◌, ◌+◌, ℕ, true, List, length, Option, Some, is_some}
 use Rattle.cluster.specs.declared.flow.Flow.{Flow}
 use Rattle.cluster.specs.Flows.{IsOf, next_name_of}
 use Rattle.cluster.specs.Worlds.{WorldView, flow_at}
@@ -15,7 +14,5 @@ abbrev pub AreFlows : ℕ → List (Option Flow) → Type 0
 AreFlows shards flows = (slot : ℕ) (flow : Flow) → flow_at flows slot ≡ Some flow → IsRunning shards flow
 
 pub record IsWorld {D : Type 0} (w : WorldView D) : Type 0 where
-  pub some : 1 ≤ w.shards
-  pub few : w.shards ≤ max_shards
   pub count : length w.nodes ≡ w.shards + 1
   pub flows : AreFlows w.shards w.flows

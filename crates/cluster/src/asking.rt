@@ -6,10 +6,10 @@ ghost use Rattle.cluster.specs.Nodes.{Answers, Called};
 use crate::naming::index_of;
 use calls::{Node, NodeCall, Reply, Told, ask, refuse};
 use device::Device;
-use tuples::Refusal;
+use tuples::{Refusal, Shards};
 
 // Makes the call of this node. Nobody calls another than it names, but what the call carries has to be spent.
-fn ask_one<D: Device>(shards: u8, node: &mut Node<D>, call: NodeCall, told: &mut Told) -> Reply
+fn ask_one<D: Device>(shards: Shards, node: &mut Node<D>, call: NodeCall, told: &mut Told) -> Reply
     requires { IsOwed shards call }
     ensures answers { Answers D.state D.honest D.moment D.left_since shards node.old call result node.new }
     ensures belongs { IsReplyTo call result }
@@ -22,7 +22,7 @@ fn ask_one<D: Device>(shards: u8, node: &mut Node<D>, call: NodeCall, told: &mut
 
 /// Makes the call, at the node that it names, if that is there.
 pub(crate) fn ask_at<D: Device>(
-    shards: u8,
+    shards: Shards,
     nodes: &mut [Node<D>],
     call: NodeCall,
     told: &mut Told,

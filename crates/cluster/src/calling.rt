@@ -8,8 +8,9 @@ use crate::Flow;
 use crate::asking::ask_at;
 use calls::{Node, Running, Told};
 use device::Device;
+use tuples::Shards;
 
-fn turn<F: Running, D: Device>(shards: u8, nodes: &mut [Node<D>], told: &mut Told, flow: &mut F)
+fn turn<F: Running, D: Device>(shards: Shards, nodes: &mut [Node<D>], told: &mut Told, flow: &mut F)
     requires of { F.is_of shards flow.old }
     requires goes_on { is_some (F.next_named flow.old) ≡ true }
     ensures turns { TurnsBy D.state D.honest D.moment D.left_since F.asks F.gives shards nodes.old flow.old nodes.new flow.new }
@@ -24,7 +25,7 @@ fn turn<F: Running, D: Device>(shards: u8, nodes: &mut [Node<D>], told: &mut Tol
 
 /// Makes the flow's next call, and gives it the reply.
 pub(crate) fn turn_flow<D: Device>(
-    shards: u8,
+    shards: Shards,
     nodes: &mut [Node<D>],
     told: &mut Told,
     flow: &mut Flow,

@@ -1,7 +1,6 @@
 // A closed store is opened.
 ghost use Rattle.std.specs.Prelude.{◌≡◌, ◌≤◌, ◌<◌, ◌+◌, ◌*◌, ◌∷◌, IfErr, IfOk, MatchResult, length};
 ghost use Rattle.std.specs.Vec.{vec_capacity, vec_len};
-ghost use Rattle.records.specs.Identity.{max_shards};
 ghost use Rattle.cluster.specs.Begun.{IsNodeThere};
 ghost use Rattle.cluster.specs.Openings.{AreOpened, IsOpenedOver, OpensNext};
 
@@ -12,6 +11,7 @@ use device::Device;
 use names::NodeName;
 use slab::Slab;
 use std::alloc::Global;
+use tuples::Shards;
 
 // The two devices of the next node.
 fn take_two<D>(devices: &mut Vec<D>) -> (D, D)
@@ -28,13 +28,11 @@ fn take_two<D>(devices: &mut Vec<D>) -> (D, D)
 fn open_next<D: Device>(
     alloc: Global,
     store: u64,
-    shards: u8,
+    shards: Shards,
     name: NodeName,
     devices: &mut Vec<D>,
     nodes: &mut Vec<Node<D>>,
 )
-    requires some { 1 ≤ shards }
-    requires few { shards ≤ max_shards }
     requires there { IsNodeThere shards name }
     requires left { 2 ≤ vec_len devices.old }
     requires room { vec_len nodes.old < vec_capacity nodes.old }
@@ -52,16 +50,15 @@ fn open_all<D: Device>(
     alloc: Global,
     mut devices: Vec<D>,
     store: u64,
-    shards: u8,
+    shards: Shards,
 ) -> Result<Vec<Node<D>>, Vec<D>>
-    requires some { 1 ≤ shards }
-    requires few { shards ≤ max_shards }
     requires count { vec_len devices ≡ 2 * (shards + 1) }
     ensures opened { IfOk result (λ nodes. AreOpened D.state D.honest D.moment D.left_since store shards 0 devices.items nodes.items) }
     ensures count { IfOk result (λ nodes. length nodes.items ≡ shards + 1) }
     ensures back { IfErr result (λ back. back.items ≡ devices.items) }
 {
-    let Ok(mut nodes) = Vec::with_capacity(alloc, shards as usize + 1) else {
+    let count = shards.count();
+    let Ok(mut nodes) = Vec::with_capacity(alloc, usize::from(count) + 1) else {
         return Err(devices);
     };
     open_next(
@@ -72,7 +69,7 @@ fn open_all<D: Device>(
         &mut devices,
         &mut nodes,
     );
-    for shard in 0..shards {
+    for shard in 0..count {
         open_next(
             alloc,
             store,
@@ -91,10 +88,8 @@ pub fn reopen<D: Device>(
     alloc: Global,
     devices: Vec<D>,
     store: u64,
-    shards: u8,
+    shards: Shards,
 ) -> Result<World<D>, Vec<D>>
-    requires some { 1 ≤ shards }
-    requires few { shards ≤ max_shards }
     requires count { vec_len devices ≡ 2 * (shards + 1) }
     ensures { MatchResult result (IsOpenedOver D.state D.honest D.moment D.left_since store shards devices.items) (λ back. back.items ≡ devices.items) }
 {

@@ -2,7 +2,6 @@
 ghost use Rattle.std.specs.Prelude.{◌≡◌, ◌≤◌, ◌<◌, ◌+◌, false, IsTrue, None, MatchOption};
 ghost use Rattle.std.specs.List.{insert};
 ghost use Rattle.std.specs.Vec.{vec_capacity, vec_len};
-ghost use Rattle.records.specs.Identity.{max_shards};
 ghost use Rattle.cluster.specs.Begun.{IsNodeThere};
 ghost use Rattle.refusal.specs.declared.refusal.Refusal.TheVariants.{Down};
 ghost use Rattle.device.specs.Device.{Failed};
@@ -19,7 +18,7 @@ use device::Device;
 use names::NodeName;
 use records::Identity;
 use std::alloc::Global;
-use tuples::Refusal;
+use tuples::{Refusal, Shards};
 
 // Whether what a stop may have left of it was found. A device that fails even now answers only errors.
 fn revive<D: Device>(device: &mut D) -> bool
@@ -31,9 +30,7 @@ fn revive<D: Device>(device: &mut D) -> bool
 }
 
 // Opens the node of this name over two devices.
-fn open<D: Device>(alloc: Global, store: u64, shards: u8, name: NodeName, a: D, b: D) -> Node<D>
-    requires some { 1 ≤ shards }
-    requires few { shards ≤ max_shards }
+fn open<D: Device>(alloc: Global, store: u64, shards: Shards, name: NodeName, a: D, b: D) -> Node<D>
     requires there { IsNodeThere shards name }
     ensures { Opens D.state D.honest D.moment D.left_since store shards name a b result }
 {
@@ -50,13 +47,11 @@ fn open<D: Device>(alloc: Global, store: u64, shards: u8, name: NodeName, a: D, 
 fn stay_down<D: Device>(
     alloc: Global,
     store: u64,
-    shards: u8,
+    shards: Shards,
     name: NodeName,
     a: D,
     b: D,
 ) -> Node<D>
-    requires some { 1 ≤ shards }
-    requires few { shards ≤ max_shards }
     requires there { IsNodeThere shards name }
     requires stopped { HasStopped D.state a b }
     ensures { result ≡ refused Down a b }
@@ -72,13 +67,11 @@ fn stay_down<D: Device>(
 pub(crate) fn reopen_node<D: Device>(
     alloc: Global,
     store: u64,
-    shards: u8,
+    shards: Shards,
     name: NodeName,
     mut a: D,
     mut b: D,
 ) -> Node<D>
-    requires some { 1 ≤ shards }
-    requires few { shards ≤ max_shards }
     requires there { IsNodeThere shards name }
     ensures { Reopened D.state D.honest D.moment D.left_since store shards name a b result }
 {
@@ -113,12 +106,10 @@ fn put_back<D: Device>(nodes: &mut Vec<Node<D>>, index: usize, node: Node<D>)
 pub(crate) fn restart<D: Device>(
     alloc: Global,
     store: u64,
-    shards: u8,
+    shards: Shards,
     nodes: &mut Vec<Node<D>>,
     name: NodeName,
 ) -> Option<What>
-    requires some { 1 ≤ shards }
-    requires few { shards ≤ max_shards }
     requires count { vec_len nodes.old ≡ shards + 1 }
     ensures restarts { MatchOption (node_at nodes.old.items name) ((result ≡ None) × (nodes.new.items ≡ nodes.old.items))
         (λ was. SlotRestarts D.state D.honest D.moment D.left_since store shards nodes.old.items name was result nodes.new.items) }

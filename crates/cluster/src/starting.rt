@@ -1,6 +1,5 @@
 // A flow begins.
 ghost use Rattle.std.specs.Prelude.{◌≡◌, ◌≤◌, ◌↔◌, IsTrue, IfOk, OnErr, OnOk};
-ghost use Rattle.records.specs.Identity.{max_shards};
 ghost use Rattle.cluster.specs.Begun.{IsFresh, IsInLimits, IsNodeThere, MayCare, begun_for, caring_for};
 ghost use Rattle.slab.specs.Slab.{HasRoomFor};
 ghost use Rattle.cluster.specs.Kept.{AreFlows};
@@ -14,8 +13,8 @@ use names::{Care, NodeName};
 use slab::Slab;
 use std::alloc::{AllocError, Global};
 use tuples::{
-    Freshness, MAX_ASKED, MAX_FLOWS, MAX_NUMBER, MAX_WATCHED, Refusal, Request, Tuple, Userset,
-    Write,
+    Freshness, MAX_ASKED, MAX_FLOWS, MAX_NUMBER, MAX_WATCHED, Refusal, Request, Shards, Tuple,
+    Userset, Write,
 };
 
 fn is_place(freshness: Freshness) -> bool
@@ -51,9 +50,7 @@ fn is_in_limits(request: &Request) -> bool
     }
 }
 
-fn begin_write(alloc: Global, shards: u8, write: &Write) -> Result<Flow, AllocError>
-    requires some { 1 ≤ shards }
-    requires few { shards ≤ max_shards }
+fn begin_write(alloc: Global, shards: Shards, write: &Write) -> Result<Flow, AllocError>
     ensures { IfOk result (λ flow. flow ≡ begun_for shards (Request.Write write.now)) }
 {
     let write = write.clone()?;
@@ -69,12 +66,10 @@ fn begin_write(alloc: Global, shards: u8, write: &Write) -> Result<Flow, AllocEr
 // It asks for the user of the tuple, in the userset of its object and relation.
 fn begin_check(
     alloc: Global,
-    shards: u8,
+    shards: Shards,
     freshness: Freshness,
     tuple: &Tuple,
 ) -> Result<Flow, AllocError>
-    requires some { 1 ≤ shards }
-    requires few { shards ≤ max_shards }
     ensures { IfOk result (λ flow. flow ≡ begun_for shards (Request.Check freshness tuple.now)) }
 {
     let Tuple {
@@ -87,9 +82,7 @@ fn begin_check(
     Ok(Flow::Check(flow))
 }
 
-fn begin(alloc: Global, shards: u8, request: &Request) -> Result<Flow, AllocError>
-    requires some { 1 ≤ shards }
-    requires few { shards ≤ max_shards }
+fn begin(alloc: Global, shards: Shards, request: &Request) -> Result<Flow, AllocError>
     ensures { IfOk result (λ flow. flow ≡ begun_for shards request.now) }
 {
     match request {
@@ -121,12 +114,10 @@ fn add(flows: &mut Slab<Flow>, flow: Flow) -> Option<What>
 /// A flow for the request begins, where the request lies in its limits.
 pub(crate) fn start(
     alloc: Global,
-    shards: u8,
+    shards: Shards,
     flows: &mut Slab<Flow>,
     request: &Request,
 ) -> Result<Option<What>, AllocError>
-    requires some { 1 ≤ shards }
-    requires few { shards ≤ max_shards }
     ensures ok { IfOk result (λ told. Begins flows.old.slots (IsInLimits request.now) (begun_for shards request.now) told flows.new.slots) }
     ensures err { OnErr result (flows.new.slots ≡ flows.old.slots) }
     ensures kept { OnOk result (AreFlows shards flows.old.slots → AreFlows shards flows.new.slots) }
@@ -142,31 +133,31 @@ pub(crate) fn start(
     Ok(add(flows, flow))
 }
 
-fn is_there(shards: u8, node: NodeName) -> bool
+fn is_there(shards: Shards, node: NodeName) -> bool
     ensures { IsTrue result ↔ IsNodeThere shards node }
 {
     match node {
         NodeName::Coordinator => true,
-        NodeName::Shard(shard) => shard < shards,
+        NodeName::Shard(shard) => shards.has(shard),
     }
 }
 
-fn may_care(shards: u8, care: Care) -> bool
+fn may_care(shards: Shards, care: Care) -> bool
     ensures { IsTrue result ↔ MayCare shards care }
 {
     match care {
         Care::Flush(node) | Care::Checkpoint(node) => is_there(shards, node),
-        Care::Learn(shard) => shard < shards,
-        Care::Resolve(shard) => shard < shards,
+        Care::Learn(shard) => shards.has(shard),
+        Care::Resolve(shard) => shards.has(shard),
         Care::Raise(place) => place <= MAX_NUMBER,
-        Care::Collect(shard) => shard < shards,
+        Care::Collect(shard) => shards.has(shard),
     }
 }
 
 /// A flow for the care begins, where its node is there.
 pub(crate) fn care_for(
     alloc: Global,
-    shards: u8,
+    shards: Shards,
     flows: &mut Slab<Flow>,
     care: Care,
 ) -> Result<Option<What>, AllocError>

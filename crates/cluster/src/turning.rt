@@ -11,6 +11,7 @@ use crate::{Flow, What};
 use calls::{Node, Told};
 use device::Device;
 use slab::Slab;
+use tuples::Shards;
 
 fn unless(is_cancelled: bool, told: Option<What>) -> Option<What>
     ensures { result ≡ unless_cancelled is_cancelled told }
@@ -22,7 +23,7 @@ fn unless(is_cancelled: bool, told: Option<What>) -> Option<What>
 }
 
 // Puts a flow that was taken out back in its slot, or tells how it ended.
-fn leave(shards: u8, flows: &mut Slab<Flow>, flow: Flow) -> Option<What>
+fn leave(shards: Shards, flows: &mut Slab<Flow>, flow: Flow) -> Option<What>
     requires of { IsOf shards flow }
     requires room { HasRoomFor flows.old 1 }
     requires free { get flows.old flows.old.vacant_key ≡ None }
@@ -43,7 +44,7 @@ fn leave(shards: u8, flows: &mut Slab<Flow>, flow: Flow) -> Option<What>
 
 /// The turn of the flow in the slot, and what is told of it.
 pub(crate) fn turn<D: Device>(
-    shards: u8,
+    shards: Shards,
     nodes: &mut [Node<D>],
     flows: &mut Slab<Flow>,
     told: &mut Told,

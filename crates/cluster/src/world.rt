@@ -1,11 +1,10 @@
 // A store with its nodes and flows.
-ghost use Rattle.std.specs.Prelude.{◌≡◌, ◌≤◌, ◌↔◌, Err, IsTrue, None, MatchOption, Some};
+ghost use Rattle.std.specs.Prelude.{◌≡◌, ◌↔◌, Err, IsTrue, None, MatchOption, Some};
 ghost use Rattle.calls.specs.Rows.{RowsOf};
 ghost use Rattle.names.specs.declared.node_name.NodeName.TheVariants.{Shard as shard_name};
 ghost use Rattle.cluster.specs.Flows.{next_name_of};
 ghost use Rattle.cluster.specs.Nodes.{IsSetIn};
 ghost use Rattle.cluster.specs.Worlds.{flow_at, flow_count, node_at};
-ghost use Rattle.records.specs.Identity.{max_shards};
 
 use crate::Flow;
 use crate::naming::index_of;
@@ -16,14 +15,14 @@ use names::{CallName, NodeName};
 use slab::Slab;
 use std::alloc::Global;
 use std::marker::Model;
-use tuples::{Refusal, Version};
+use tuples::{Refusal, Shards, Version};
 
 /// A store: its nodes over their devices, and the flows that run, each in a slot. It is made by `reopen`, and steps are taken by `run`.
 #[derive(Drop)]
 pub struct World<D: Device> {
     pub(crate) alloc: Global,
     pub(crate) store: u64,
-    pub(crate) shards: u8,
+    pub(crate) shards: Shards,
     // the coordinator, and then the shards by rising number
     pub(crate) nodes: Vec<Node<D>>,
     pub(crate) flows: Slab<Flow>,
@@ -97,10 +96,8 @@ impl<D: Device> World<D> {
     }
 
     /// How many shards it has.
-    pub fn shards(&self) -> u8
-        ensures value { result ≡ self.now.shards }
-        ensures some { 1 ≤ result }
-        ensures few { result ≤ max_shards }
+    pub fn shards(&self) -> Shards
+        ensures { result ≡ self.now.shards }
     {
         self.shards
     }

@@ -2,7 +2,7 @@
 use Rattle.std.proofs.Common.{◌≡◌, ◌≢◌, ◌⊎◌, inl, inr, ⊎_elim, ◌<◌, ◌≤◌, ◌+◌, ◌++◌, ℕ, zero, suc, Bool, true, false, List, [], ◌∷◌, length, map, get_or, Contains, refl, sym, ap, ◌∙◌, subst, arith}
 use Rattle.std.specs.Prelude.{if◌then◌else◌}
 use Rattle.std.specs.List.{AllPairs}
-use Rattle.std.proofs.lemmas.Bool.{cases_eq}
+use Rattle.std.proofs.lemmas.Bool.{cases_eq, cases_Bool}
 use Rattle.std.proofs.lemmas.List.{append-nil, get_or-map, length-map, map-append}
 use Rattle.std.proofs.lemmas.List.Elements.{Contains-append_left, Contains-append_right, Contains-get_or, Contains-push, Contains-push_cases}
 use Rattle.std.proofs.lemmas.List.Quantifiers.{all_pairs_push}
@@ -14,10 +14,6 @@ use Rattle.decisions.specs.Coordinators.{HaveVoted}
 use Rattle.commit_flow.specs.Views.{ticket_value}
 use Rattle.commit_flow.specs.WriteHolds.{HeldTicket}
 use Rattle.commit_flow.specs.Participants.{ArePartsOf, AreVotesFor, participants_below, ticket_shards, vote_shards}
-
-either : (b : Bool) → (b ≡ true) ⊎ (b ≡ false)
-either true = inl refl
-either false = inr refl
 
 same_bool : (a b : Bool) → ((a ≡ true) → b ≡ true) → ((b ≡ true) → a ≡ true) → a ≡ b
 same_bool true b there back = sym (there refl)
@@ -39,7 +35,7 @@ module _ (shards : ℕ) (w : Entry) where
   below_skips from zero le none = let e : from ≡ 0 = omega (arith, le) in subst (λ (k : ℕ). participants_below shards w 0 ≡ participants_below shards w k) (sym e) refl
   below_skips from (suc n) le none = ⊎_elim
       (λ here. subst (λ (k : ℕ). participants_below shards w (suc n) ≡ participants_below shards w k) (sym here) refl)
-      (λ lt. below_passes n (⊎_elim (λ takes. absurd (none n (omega (arith, lt)) (omega arith) takes)) (λ passes. passes) (either (takes_part shards n w)))
+      (λ lt. below_passes n (⊎_elim (λ takes. absurd (none n (omega (arith, lt)) (omega arith) takes)) (λ passes. passes) (cases_Bool (takes_part shards n w)))
       ∙ below_skips from n (omega (arith, lt)) (λ t ge less. none t ge (omega (arith, less))))
       (at_end from n le)
     where
@@ -56,7 +52,7 @@ module _ (shards : ℕ) (w : Entry) where
       (λ is. let e : s ≡ n = cc in (omega (arith, e), subst (λ (k : ℕ). takes_part shards k w ≡ true) (sym e) takes))
       (Contains-push_cases (participants_below shards w n) n s (subst (λ (xs : List ℕ). Contains xs s) (below_takes n takes) there)))
       (λ passes. let was = below_are n s (subst (λ (xs : List ℕ). Contains xs s) (below_passes n passes) there) in let lt = was.0 in (omega (arith, lt), was.1))
-      (either (takes_part shards n w))
+      (cases_Bool (takes_part shards n w))
 
   -- and each that is so is one of them
   below_has : (n s : ℕ) → s < n → takes_part shards s w ≡ true → Contains (participants_below shards w n) s
@@ -79,7 +75,7 @@ module _ (shards : ℕ) (w : Entry) where
       (λ takes. subst (AllPairs (λ (s t : ℕ). s ≢ t)) (sym (below_takes n takes)) (all_pairs_push (λ (s t : ℕ). s ≢ t) (participants_below shards w n) n (below_apart n)
       (λ k d lt same. let was = (below_are n (get_or (participants_below shards w n) k d) (Contains-get_or (participants_below shards w n) k d lt)).0 in omega (arith, was, same))))
       (λ passes. subst (AllPairs (λ (s t : ℕ). s ≢ t)) (sym (below_passes n passes)) (below_apart n))
-      (either (takes_part shards n w))
+      (cases_Bool (takes_part shards n w))
 
 -- what an element of a list of votes gives
 vote_of : (votes : List VoteValue) (s : ℕ) → Contains (vote_shards votes) s → (v : VoteValue) × Contains votes v × (v.shard ≡ s)

@@ -5,10 +5,11 @@ ghost use Rattle.decisions.specs.Coordinators.{HaveVoted};
 use crate::load::leave_votes;
 use decisions::{Intent, Vote};
 use std::marker::Model;
+use tuples::Shards;
 
 /// An intent with the votes of all shards that take part in it.
 pub(crate) struct Ballot {
-    shards: u8,
+    shards: Shards,
     intent: Intent,
     votes: Vec<Vote>,
 }
@@ -25,7 +26,7 @@ impl Model for Ballot {
 }
 
 impl Ballot {
-    pub(crate) fn new(shards: u8, intent: Intent, votes: Vec<Vote>) -> Ballot
+    pub(crate) fn new(shards: Shards, intent: Intent, votes: Vec<Vote>) -> Ballot
         requires { HaveVoted shards intent.write votes.items }
         ensures { result ≡ record { shards = shards; intent = intent; votes = votes.items } }
     {
@@ -37,7 +38,7 @@ impl Ballot {
     }
 
     /// What is handed to the decision.
-    pub(crate) fn into_parts(self) -> (u8, Intent, Vec<Vote>)
+    pub(crate) fn into_parts(self) -> (Shards, Intent, Vec<Vote>)
         ensures values { (result.0 ≡ self.shards) × (result.1 ≡ self.intent) × (result.2.items ≡ self.votes) }
         ensures whole { HaveVoted self.shards self.intent.write self.votes }
     {

@@ -16,7 +16,7 @@ use crate::phase::{Leaving, Phase, Ready};
 use coordinator::{Decided, NotDecided, Outcome};
 use decisions::{Intent, Vote};
 use std::alloc::Global;
-use tuples::{Refusal, WriteId};
+use tuples::{Refusal, Shards, WriteId};
 
 // The write goes out with all of its votes.
 pub(crate) fn go_out_voted(
@@ -42,7 +42,7 @@ pub(crate) fn go_out_voted(
 // The write is not decided, and its intent has come back; a full coordinator is flushed once.
 fn come_back(
     alloc: Global,
-    shards: u8,
+    shards: Shards,
     is_again: bool,
     refusal: Refusal,
     intent: Intent,
@@ -61,7 +61,7 @@ fn come_back(
 /// The decision is staged, or not.
 pub(crate) fn decided(
     alloc: Global,
-    shards: u8,
+    shards: Shards,
     id: WriteId,
     is_again: bool,
     answer: Result<Decided, NotDecided>,

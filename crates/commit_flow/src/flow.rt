@@ -1,8 +1,7 @@
 // A write flow: one call a turn.
-ghost use Rattle.std.specs.Prelude.{◌≡◌, ◌≤◌, ◌≢◌, Some, None, false, IfOk, IfErr, MatchOption, option_map};
+ghost use Rattle.std.specs.Prelude.{◌≡◌, ◌≢◌, Some, None, false, IfOk, IfErr, MatchOption, option_map};
 ghost use Rattle.calls.specs.Names.{name_of as name_of_call};
 ghost use Rattle.names.specs.declared.call_name.CallName.TheVariants as names;
-ghost use Rattle.records.specs.Identity.{max_shards};
 ghost use Rattle.commit_flow.specs.Answering.{ComesNext, GivesTo, MayGive};
 ghost use Rattle.commit_flow.specs.Cancelling.{Cancels};
 ghost use Rattle.commit_flow.specs.WriteHolds.{nothing_begun};
@@ -18,7 +17,7 @@ use calls::{NodeCall, Reply};
 use names::CallName;
 use std::alloc::Global;
 use std::marker::Model;
-use tuples::{Refusal, Write};
+use tuples::{Refusal, Shards, Write};
 
 /// A write on its way: `begin`; each participant is caught up to the intent's place and prepares; each votes; `decide`; `outcome`. A refusal before the
 /// decision takes it out: `abort`, or `inquire` where the intent is spent, and with a verdict `drop_write` at each shard that gave something.
@@ -27,14 +26,12 @@ use tuples::{Refusal, Write};
 #[must_use]
 pub struct WriteFlow {
     alloc: Global,
-    shards: u8,
+    shards: Shards,
     // taken out only within a call
     phase: Option<Phase>,
 }
 
 impl Model for WriteFlow {
-    ghost use Rattle.std.specs.Prelude.{◌≤◌};
-    ghost use Rattle.records.specs.Identity.{max_shards};
     ghost use Rattle.commit_flow.specs.Flows.{WriteFlowValue};
 
     ghost Value = { WriteFlowValue };
@@ -44,7 +41,7 @@ impl Model for WriteFlow {
 
     ghost view = { λ f. record { shards = f.shards; seen = view_in f.phase; next_name = name_in f.phase } };
 
-    ghost invariant = { λ f. (1 ≤ f.shards) × (f.shards ≤ max_shards) × IsIn f.shards f.phase };
+    ghost invariant = { λ f. IsIn f.shards f.phase };
 }
 
 // Puts a phase where one was taken out.
@@ -58,9 +55,7 @@ fn put(place: &mut Option<Phase>, phase: Phase)
 
 impl WriteFlow {
     /// To make this write in a store of so many shards. It takes all the room that the flow needs; `NoMemory`.
-    pub fn new(alloc: Global, shards: u8, write: Write) -> Result<WriteFlow, Refusal>
-        requires some { 1 ≤ shards }
-        requires few { shards ≤ max_shards }
+    pub fn new(alloc: Global, shards: Shards, write: Write) -> Result<WriteFlow, Refusal>
         ensures ok { IfOk result (λ f. f ≡ record { shards = shards; seen = record { write = Some write; holds = nothing_begun; caught = None; flushed = false; awaited = None; ended = None }; next_name = Some names.Begin }) }
         ensures err { IfErr result (λ e. e ≡ Refusal.NoMemory) }
     {

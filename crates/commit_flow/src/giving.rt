@@ -1,6 +1,5 @@
 // What a reply makes of the phase that waits for it.
 ghost use Rattle.std.specs.Prelude.{ℕ, ◌≡◌, ◌≤◌};
-ghost use Rattle.records.specs.Identity.{max_shards};
 ghost use Rattle.commit_flow.specs.Answering.{ComesNext, Fits, GivesTo};
 ghost use Rattle.commit_flow.specs.Kept.{IsFresh, IsOutOf, IsBehindOf};
 ghost use Rattle.commit_flow.specs.Views.{awaited_of, name_of, view_of, view_out};
@@ -17,11 +16,9 @@ use calls::{CoordinatorReply, Reply, ShardReply};
 use coordinator::Decided;
 use decisions::Ticket;
 use std::alloc::Global;
-use tuples::WriteId;
+use tuples::{Shards, WriteId};
 
-fn give_decide(alloc: Global, shards: u8, id: WriteId, is_again: bool, reply: Reply) -> Phase
-    requires some { 1 ≤ shards }
-    requires few { shards ≤ max_shards }
+fn give_decide(alloc: Global, shards: Shards, id: WriteId, is_again: bool, reply: Reply) -> Phase
     requires fits { Fits shards (view_out (out_of.Decide shards id is_again)) (awaited_of (out_of.Decide shards id is_again)) reply }
     ensures gives { GivesTo (view_out (out_of.Decide shards id is_again)) (awaited_of (out_of.Decide shards id is_again)) reply (view_of result) }
     ensures kept { IsBehindOf shards result }
@@ -172,9 +169,7 @@ fn give_drop_write(leaving: Leaving, reply: Reply) -> Phase
 }
 
 /// What a reply makes of it.
-pub(crate) fn give(alloc: Global, shards: u8, out: Out, reply: Reply) -> Phase
-    requires some { 1 ≤ shards }
-    requires few { shards ≤ max_shards }
+pub(crate) fn give(alloc: Global, shards: Shards, out: Out, reply: Reply) -> Phase
     requires fits { Fits shards (view_out out) (awaited_of out) reply }
     requires kept { IsOutOf shards out }
     ensures gives { GivesTo (view_out out) (awaited_of out) reply (view_of result) }

@@ -1,18 +1,16 @@
 // The tickets and votes of a write.
 ghost use Rattle.std.specs.Prelude.{◌≡◌, ◌≤◌, ◌<◌, ◌+◌, ◌++◌, ◌∷◌, [], length, IfOk, IfNone, option_to_list};
 ghost use Rattle.std.specs.Vec.{vec_capacity, vec_len};
-ghost use Rattle.records.specs.Identity.{max_shards};
 
 use decisions::{Ticket, Vote};
 use std::alloc::{AllocError, Global};
+use tuples::Shards;
 
 /// The tickets and votes of a write, with room for as many as there are shards.
 pub(crate) struct Load {
-    pub(crate) shards: u8,
+    pub(crate) shards: Shards,
     pub(crate) tickets: Vec<(u8, Ticket)>,
     pub(crate) votes: Vec<Vote>,
-    ghost some: { 1 ≤ shards },
-    ghost few: { shards ≤ max_shards },
     ghost ticket_room: { shards ≤ vec_capacity tickets },
     ghost vote_room: { shards ≤ vec_capacity votes },
 }
@@ -21,13 +19,11 @@ impl Load {
     ghost use Rattle.commit_flow.specs.Kept.{IsFresh};
 
     /// None yet.
-    pub(crate) fn new(alloc: Global, shards: u8) -> Result<Load, AllocError>
-        requires some { 1 ≤ shards }
-        requires few { shards ≤ max_shards }
+    pub(crate) fn new(alloc: Global, shards: Shards) -> Result<Load, AllocError>
         ensures { IfOk result (λ l. IsFresh shards l) }
     {
-        let tickets = Vec::with_capacity(alloc, shards as usize)?;
-        match Vec::with_capacity(alloc, shards as usize) {
+        let tickets = Vec::with_capacity(alloc, usize::from(shards.count()))?;
+        match Vec::with_capacity(alloc, usize::from(shards.count())) {
             Ok(votes) => Ok(Load {
                 shards,
                 tickets,

@@ -13,6 +13,7 @@ use calls::{CoordinatorCall, NodeCall, ShardCall};
 use catch_up::CatchUp;
 use decisions::Ticket;
 use names::CallName;
+use tuples::Shards;
 
 fn catch_up(preparing: Preparing, catch_up: CatchUp) -> (NodeCall, Out)
     requires shard { catch_up.shard ≡ preparing.shard }
@@ -108,7 +109,7 @@ impl Ready {
 }
 
 /// The call of a phase, and the phase while it is out.
-pub(crate) fn next(shards: u8, ready: Ready) -> (NodeCall, Out)
+pub(crate) fn next(shards: Shards, ready: Ready) -> (NodeCall, Out)
     requires { IsReadyOf shards ready }
     ensures name { name_of_call result.0 ≡ name_ready ready }
     ensures asks { Asks shards (view_ready ready) result.0 (view_out result.1) }

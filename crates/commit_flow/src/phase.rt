@@ -11,7 +11,7 @@ use crate::load::Load;
 use catch_up::{CatchUp, CatchUpCall};
 use coordinator::Decided;
 use decisions::{Held, Intent, Ticket, Verdict, Vote};
-use tuples::{Refusal, Write, WriteId};
+use tuples::{Refusal, Shards, Write, WriteId};
 
 /// The shards prepare their parts, one after another. This one's turn has come.
 pub(crate) struct Preparing {
@@ -90,7 +90,7 @@ pub(crate) enum Out {
     FlushToPrepare(Preparing),
     Vote(Voting),
     FlushToVote(Voting, Ticket),
-    Decide(u8, WriteId, bool),
+    Decide(Shards, WriteId, bool),
     FlushToDecide(Ballot),
     Outcome(WriteId),
     FlushToOutcome(WriteId, Decided),

@@ -1,6 +1,7 @@
 -- Each step keeps the rule of the queue.
-use Rattle.std.proofs.Common.{◌≡◌, ◌≢◌, ℕ, zero, suc, ◌+◌, ◌≤◌, List, [], ◌∷◌, ◌++◌, length, set, true, false, true≢false, refl, sym, ap, ◌∙◌, subst, ⊎_elim, arith, length-append}
+use Rattle.std.proofs.Common.{◌≡◌, ◌≢◌, ℕ, zero, suc, ◌+◌, ◌≤◌, List, [], ◌∷◌, ◌++◌, length, set, true, false, refl, sym, ap, ◌∙◌, subst, ⊎_elim, arith, length-append}
 use Rattle.std.proofs.lemmas.List.{map-append}
+use Rattle.std.proofs.lemmas.Bool.{false≢true}
 use mathlib.Core.Option.{some, some-ne-none, some-injective}
 use lib.ListN.{get_elem?}
 use Rattle.crossbeam_queue.specs.Fifo.{Pushes, Pops, Forks, Merges, Learns}
@@ -11,9 +12,6 @@ use Rattle.connections.specs.declared.connections.rule.Numbered.{Numbered}
 use Rattle.connections.specs.Numbers.{times, behind, IsUpTo, IsOnceEach}
 use Rattle.connections.specs.Waiting.{acceptor, worker, taken_in_all, Fits, numbers, Ruled, Put, Took, Waits, gathered, note, told_of}
 use Rattle.connections.proofs.Counting.{times-append, behind-suc, up_to_more, up_to_push, up_to_both, once_at_most}
-
-not_putting : false ≡ true → ⊥
-not_putting e = true≢false (sym e)
 
 -- the total after a change of one pass
 taken_set : (x : ℕ) (views : List View) (port : ℕ) (v w : View) → get_elem? views port ≡ some v → taken_in_all x (set views port w) + times x v.taken ≡ taken_in_all x views + times x w.taken
@@ -109,7 +107,7 @@ module _ {C : Type 0} where
     once = λ y. taken-append y (set views port v) (w ∷ []) ∙ (let o = r.once y in let s : taken_in_all y (set views port v) ≡ taken_in_all y views = ap (taken_in_all y) (set_again views port v at) in let n : times y w.taken ≡ 0 = ap (times y) empty in omega arith);
     passes = λ j u e. ⊎_elim
         (λ was. r.passes j u (subst (λ l. get_elem? l j ≡ some u) (set_again views port v at) was))
-        (λ (same : w ≡ u). subst (Fits r.writer (r.gone + length items) r.gone j) same record { writes = λ l. absurd (not_putting (sym quiet ∙ l)); took = subst (IsUpTo r.gone) (sym empty) tt; told = told r.gone (r.passes port v at).took })
+        (λ (same : w ≡ u). subst (Fits r.writer (r.gone + length items) r.gone j) same record { writes = λ l. absurd (false≢true (sym quiet ∙ l)); took = subst (IsUpTo r.gone) (sym empty) tt; told = told r.gone (r.passes port v at).took })
         (at_snoc (set views port v) w u j e);
   }
 
@@ -139,7 +137,7 @@ module _ {C : Type 0} where
         passes = passes_set F (set views port w) other (worker [])
             (λ j x _ e. passes_set F views port w (λ i z _ e'. r.passes i z e')
             record { writes = λ l. let m = mine.writes (sym puts ∙ l) in (m.0, put ∙ m.1); took = took r.gone mine.took theirs.took; told = told r.gone mine.told theirs.told } j x e)
-            record { writes = λ l. absurd (not_putting l); took = tt; told = tt };
+            record { writes = λ l. absurd (false≢true l); took = tt; told = tt };
       }
 
   pub merges_workers : (port : ℕ) (v : View) (other : ℕ) (u : View) → Merges (Ruled {C = C}) port v other u (gathered v u) (worker [])

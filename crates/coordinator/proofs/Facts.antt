@@ -4,6 +4,7 @@ use Rattle.std.proofs.lemmas.Option.{slice_get_within}
 use Rattle.std.proofs.lemmas.List.{drop-append-le, drop-drop, take-append-drop, take-append-le}
 use Rattle.tuples.specs.declared.entry.Entry.{Entry}
 use Rattle.tuples.specs.declared.entry.WriteId.{WriteId}
+use Rattle.tuples.proofs.Lists.{slice_get_drop}
 use Rattle.records.specs.declared.record.Record.{Record}
 use Rattle.records.specs.Coordinators.{CoordinatorState, IsNotAbove, coordinator_state}
 use Rattle.records.specs.Replays.{Identity}
@@ -19,11 +20,6 @@ use Rattle.coordinator.proofs.OpenIds.{numbers_open}
 -- the coordinator as its callers see it
 abbrev pub view_of : {D : Type 0} → View D → Identity → ℕ → List ℕ → ℕ → CoordinatorView D
 view_of j me epoch numbers given = record { a = j.a; b = j.b; end = j.end; durable = j.durable; staged = j.staged; is_down = j.is_down; me = me; open_ids = newest_first epoch numbers []; given = given }
-
-pub slice_get_drop : {X : Type 0} (n : ℕ) (xs : List X) (j : ℕ) → slice_get (drop n xs) j ≡ slice_get xs (n + j)
-slice_get_drop zero xs j = ap (slice_get xs) (let e : j ≡ 0 + j = omega arith in e)
-slice_get_drop (suc n) [] j = refl
-slice_get_drop (suc n) (x ∷ xs) j = slice_get_drop n xs j ∙ ap (slice_get (x ∷ xs)) (let e : suc (n + j) ≡ suc n + j = omega arith in e)
 
 slice_get_front : {X : Type 0} (xs ys : List X) (j : ℕ) → j < length xs → slice_get (xs ++ ys) j ≡ slice_get xs j
 slice_get_front [] ys j lt = absurd (let e : j < 0 = lt in omega (arith, e))

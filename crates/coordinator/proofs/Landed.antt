@@ -1,15 +1,18 @@
 -- What a coordinator keeps in memory, while its devices are elsewhere and once they are back.
 use Rattle.std.proofs.Common.{◌≡◌, ◌≤◌, ◌+◌, ◌-◌, ◌++◌, ◌||◌, ℕ, Bool, true, false, List, Option, None, drop, length, take, length-append, length-drop, append_assoc, true≢false, refl, sym, ap, ◌∙◌, subst, arith}
 use Rattle.std.proofs.lemmas.List.{drop-drop, take-append-drop}
+use Rattle.std.proofs.lemmas.Bool.{or_parts}
 use Rattle.away.specs.Aways.{lent_honest, lent_state}
 use Rattle.away.specs.declared.away.Away.{Away}
 use Rattle.tuples.specs.declared.entry.Entry.{Entry}
 use Rattle.records.specs.declared.record.Record.{Record}
 use Rattle.records.specs.Coordinators.{CoordinatorState, coordinator_from, coordinator_state, end_of}
 use Rattle.records.specs.Replays.{Identity, greatest_number}
-use Rattle.device.specs.Device.{State, left}
+use Rattle.records.proofs.CoordinatorStates.{state_of_more}
+use Rattle.device.specs.Device.{State}
 use Rattle.journal.specs.Lending.{IsLent, landed}
 use Rattle.journal.specs.Records.{HasRecords, View}
+use Rattle.journal.proofs.Calls.{records_lent}
 use Rattle.ledger.specs.Ledgers.{LedgerValue}
 use Rattle.decisions.specs.Coordinators.{CoordinatorView, IsRunning}
 use Rattle.coordinator.specs.Keeping.{IsKept, Remembers, risen}
@@ -17,7 +20,7 @@ use Rattle.coordinator.specs.Lending.{HasFlown, IsLentCoordinator, IsToldOf}
 use Rattle.coordinator.specs.declared.lending.Flying.{Flying}
 use Rattle.coordinator.specs.Staged.{AreInOrder, decided, last_horizon}
 use Rattle.coordinator.proofs.Facts.{view_of}
-use Rattle.coordinator.proofs.Staged.{GoesOn, base_behind, decided_behind, epoch_behind, horizon_behind, in_two, last_of_more, left_is, lies_below, lies_on, lies_within, order_of_first, order_wider, rises_still, risen_twice, state_of_more}
+use Rattle.coordinator.proofs.Staged.{GoesOn, base_behind, decided_behind, epoch_behind, horizon_behind, in_two, last_of_more, left_is, lies_below, lies_on, lies_within, order_of_first, order_wider, rises_still, risen_twice}
 
 -- The first of what is staged is durable: what the memory remembers then.
 module _ (ds xs ys : List Record) (l : LedgerValue) (epoch kept horizon : ℕ) (rising flown : Option ℕ) (count : ℕ)
@@ -118,11 +121,6 @@ module _ (ds xs ys : List Record) (l : LedgerValue) (epoch kept horizon : ℕ) (
 
         len : length m.log ≡ length l.log - (r - horizon)
         len = ap length log ∙ length-drop (r - horizon) l.log
-
--- what stands for the devices has the same records
-records_lent : {D : Type 0} (state : D → State) (a b : D) (x y : Away D) (rs : List Record) → x.was.value ≡ a → y.was.value ≡ b → HasRecords (state a) (state b) rs → HasRecords (lent_state state x) (lent_state state y) rs
-records_lent {D} state a b x y rs at_a at_b has c d in_c in_d =
-    has c d (subst (λ (v : D). left (state v) c) at_a in_c) (subst (λ (v : D). left (state v) d) at_b in_d)
 
 module _ {D : Type 0} (state : D → State) (honest : D → Type 0) where
   -- the same over what stands for the devices
@@ -243,10 +241,6 @@ module _ {D : Type 0} (state : D → State) (honest : D → Type 0) where
             };
       }
 
-or_false : (a b : Bool) → (a || b) ≡ false → (a ≡ false) × (b ≡ false)
-or_false true b is = absurd (true≢false is)
-or_false false b is = (refl, is)
-
 module _ {D : Type 0} (state : D → State) (honest : D → Type 0) where
   -- the same of equal values
   same_kept : (j : View D) (l m : LedgerValue) (epoch kept kept_too horizon horizon_too : ℕ) (rising rising_too : Option ℕ) (numbers : List ℕ) (given : ℕ)
@@ -263,7 +257,7 @@ module _ {D : Type 0} (state : D → State) (honest : D → Type 0) where
       (told : v.is_down ≡ false → f.is_down ≡ false → IsToldOf (take flying.sent.count v.staged) flying) where
     module _ (up : k.is_down ≡ false) where
       both_up : (j.is_down ≡ false) × (f.is_down ≡ false)
-      both_up = or_false j.is_down f.is_down (sym (ap (λ (x : View D). x.is_down) back) ∙ up)
+      both_up = or_parts j.is_down f.is_down (sym (ap (λ (x : View D). x.is_down) back) ∙ up)
 
       view_up : v.is_down ≡ false
       view_up = sym (ap (λ (x : CoordinatorView (Away D)). x.is_down) is) ∙ both_up.0

@@ -1,21 +1,13 @@
 -- The ids of the open writes, by their numbers.
-use Rattle.std.proofs.Common.{◌≡◌, ◌⊎◌, inl, inr, ⊎_elim, ℕ, ◌+◌, ◌==◌, ◌&&◌, not, true, false, Bool, List, [], ◌∷◌, ◌++◌, length, Contains, refl, sym, ◌∙◌, ap, subst, arith, rules, if◌then◌else◌}
+use Rattle.std.proofs.Common.{◌≡◌, ◌⊎◌, inl, inr, ⊎_elim, ℕ, ◌+◌, ◌==◌, ◌&&◌, not, true, false, Bool, List, [], ◌∷◌, ◌++◌, length, Contains, refl, sym, ◌∙◌, ap, subst, arith, if◌then◌else◌}
 use Rattle.std.proofs.lemmas.Bool.{cases_Bool, eqb-true, eq-eqb}
-use Rattle.std.proofs.lemmas.List.Elements.{Contains-append_cases, Contains-append_left, Contains-append_right, Contains-push, Contains-push_cases}
+use Rattle.std.proofs.lemmas.List.Elements.{Contains-append_left, Contains-append_right, Contains-push}
 use Rattle.tuples.specs.declared.entry.WriteId.{WriteId}
 use Rattle.tuples.specs.Log.{same_id}
+use Rattle.tuples.proofs.Lists.{first_or_later, nothing_in}
 use Rattle.holds.proofs.Doubts.{same_id_refl}
 use Rattle.decisions.specs.Coordinators.{without_id}
 use Rattle.coordinator.specs.Keeping.{newest_first, others}
-
-pub first_or_later : {X : Type 0} (x y : X) (xs : List X) → Contains (x ∷ xs) y → (x ≡ y) ⊎ Contains xs y
-first_or_later x y xs there = ⊎_elim
-    (λ one. ⊎_elim (λ none. absurd (search rules)) (λ is. inl is) (Contains-push_cases [] x y one))
-    (λ later. inr later)
-    (Contains-append_cases (x ∷ []) xs y there)
-
-pub nothing_in : {X : Type 0} (x : X) → Contains [] x → ⊥
-nothing_in x there = search rules
 
 pub newest_push : (epoch n : ℕ) (numbers : List ℕ) (ids : List WriteId) → newest_first epoch (numbers ++ n ∷ []) ids ≡ record { epoch = epoch; number = n } ∷ newest_first epoch numbers ids
 newest_push epoch n [] ids = refl

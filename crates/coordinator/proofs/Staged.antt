@@ -3,17 +3,12 @@ use Rattle.std.proofs.Common.{◌≡◌, ◌⊎◌, inl, inr, ⊎_elim, ◌≤�
 use Rattle.std.proofs.lemmas.List.{append-nil}
 use Rattle.std.proofs.lemmas.List.Elements.{Contains-append_left, Contains-append_right, Contains-push}
 use Rattle.tuples.specs.declared.entry.Entry.{Entry}
+use Rattle.tuples.proofs.Lists.{first_or_later, nothing_in}
 use Rattle.records.specs.declared.record.Record.{Record}
 use Rattle.records.specs.declared.record.Record.TheVariants.{Decision, Dropped, Epoch, Horizon, Learned, Prepare, Checkpoint}
-use Rattle.records.specs.Coordinators.{CoordinatorState, coordinator_from, coordinator_state, coordinator_step, empty_coordinator, marked_base}
-use Rattle.records.proofs.CoordinatorStates.{coordinator_from-append}
+use Rattle.records.specs.Coordinators.{CoordinatorState, coordinator_from, coordinator_step, marked_base}
 use Rattle.coordinator.specs.Keeping.{risen}
 use Rattle.coordinator.specs.Staged.{AreInOrder, decided, last_horizon}
-use Rattle.coordinator.proofs.OpenIds.{first_or_later, nothing_in}
-
-pub state_of_more : (rs more : List Record) → coordinator_state (rs ++ more) ≡ coordinator_from (coordinator_state rs) more
-unfolding coordinator_state
-state_of_more rs more = coordinator_from-append empty_coordinator rs more
 
 -- the decisions among them stand behind those that were known
 pub decided_behind : (s : CoordinatorState) (rs : List Record) → (coordinator_from s rs).log ≡ s.log ++ decided rs

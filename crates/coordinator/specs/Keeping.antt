@@ -1,15 +1,14 @@
 -- What a coordinator keeps beside its journal: in memory what its records stand for, above the durable horizon.
-use Rattle.std.specs.Prelude.{◌≡◌, ◌⊎◌, ◌≤◌, ◌+◌, ◌-◌, ℕ, false, List, [], ◌∷◌, ◌++◌, Option, Some, None, All, drop, length, filter, not, ◌==◌}
+use Rattle.std.specs.Prelude.{◌≡◌, ◌≤◌, ◌+◌, ◌-◌, ℕ, false, List, [], ◌∷◌, ◌++◌, Option, Some, None, All, drop, length, filter, not, ◌==◌}
 use Rattle.tuples.specs.declared.entry.Entry.{Entry}
 use Rattle.tuples.specs.declared.entry.WriteId.{WriteId}
 use Rattle.records.specs.declared.record.Record.{Record}
-use Rattle.records.specs.declared.record.Record.TheVariants.{Epoch}
-use Rattle.records.specs.Coordinators.{CoordinatorState, IsCoordinatorImage, coordinator_state, end_of}
+use Rattle.records.specs.Coordinators.{CoordinatorState, coordinator_state, end_of}
 use Rattle.records.specs.Replays.{Identity, greatest_number}
 use Rattle.device.specs.Device.{State}
-use Rattle.journal.specs.Records.{BankLacksRoom, HasRecords, IsOpened, View, found}
+use Rattle.journal.specs.Records.{HasRecords, View}
 use Rattle.ledger.specs.Ledgers.{LedgerValue}
-use Rattle.decisions.specs.Coordinators.{coordinator_opening}
+use Rattle.openings.specs.Openings.{LacksRoomToReopen}
 use Rattle.coordinator.specs.Staged.{AreInOrder, last_horizon}
 
 -- the ids of this epoch with these numbers, the last of them first, before others
@@ -72,23 +71,14 @@ pub record IsKept {D : Type 0} (state : D → State) (honest : D → Type 0) (jo
   pub staged_is : journal.is_down ≡ false → staged ≡ journal.staged
   pub backed : journal.is_down ≡ false → honest journal.a → honest journal.b → AreDurable state journal durable
 
--- the contents have the records that were found, or those of a coordinator with one opening more
-abbrev pub HasFoundOrOpened : Identity → List Record → List ℕ → List ℕ → Type 0
-HasFoundOrOpened me rs x y = (found x y ≡ Some rs) ⊎ (IsCoordinatorImage me (rs ++ coordinator_opening me rs ∷ []) × (found x y ≡ Some (rs ++ coordinator_opening me rs ∷ [])))
+-- how often a coordinator of these records was opened
+abbrev pub openings_in : List Record → ℕ
+openings_in rs = (coordinator_state rs).epoch
 
--- the records were found, they are those of this coordinator, and this is what they stand for
-pub record AreReplayed (me : Identity) (records : Option (List Record)) (so_far : CoordinatorState) : Type 0 where
-  pub rs : List Record
-  pub found : records ≡ Some rs
-  pub replayed : so_far ≡ coordinator_state rs
-  pub image : IsCoordinatorImage me rs
+-- what these records stand for
+abbrev pub IsMemoryOf : List Record → CoordinatorState → Type 0
+IsMemoryOf rs s = s ≡ coordinator_state rs
 
 -- a journal that was opened over these devices has no room for the record of an opening
-pub record HasNoRoomToOpen {D : Type 0} (state : D → State) (honest : D → Type 0) (a b : D) (me : Identity) : Type 0 where
-  pub rs : List Record
-  pub journal : View D
-  pub found : honest a → honest b → IsOpened state a b rs journal
-  pub same : honest a → honest journal.a
-  pub same_b : honest b → honest journal.b
-  pub epoch : ℕ
-  pub lacks : BankLacksRoom state honest journal.a journal.b journal.end (Epoch epoch me.store me.shards me.node ∷ [])
+abbrev pub HasNoRoomToOpen : {D : Type 0} → (D → State) → (D → Type 0) → D → D → Identity → Type 0
+HasNoRoomToOpen state honest = LacksRoomToReopen state honest openings_in

@@ -1,5 +1,6 @@
 // Beginning a write.
-ghost use Rattle.std.specs.Prelude.{◌≡◌, ◌⊎◌, ◌↔◌, ◌≤◌, ◌<◌, true, false, All, OnOk, IfOk, IfErr, IsErrOf, IsTrue};
+ghost use Rattle.std.specs.Prelude.{◌≡◌, ◌⊎◌, ◌↔◌, ◌≤◌, ◌<◌, true, false, All, OnOk, IfOk, IfErr, IsErrOf, IsTrue, ◌∷◌, []};
+ghost use Rattle.refusal.specs.Refusals.{IsOneOf};
 ghost use Rattle.tuples.specs.Limits.{max_open};
 ghost use Rattle.tuples.specs.declared.change.Condition.{Condition as AnyCondition};
 ghost use Rattle.decisions.specs.Coordinators.{BeginsAt, FirstIs, HasNoId, IsInRange, IsRunning, NamesCollected, NamesFuture};
@@ -66,7 +67,7 @@ impl<D: Device> Coordinator<D> {
         ensures collected { IsRunning D.state D.honest self.old → IsErrOf result Refusal.Collected → FirstIs self.old write.conditions (NamesCollected self.old) }
         ensures full { IsRunning D.state D.honest self.old → IsErrOf result Refusal.Full → All (IsInRange self.old) write.conditions × HasNoId self.old }
         ensures memory { IsRunning D.state D.honest self.old → IsErrOf result Refusal.NoMemory → All (IsInRange self.old) write.conditions × (HasNoId self.old → ⊥) }
-        ensures err { IfErr result (λ e. (self.new ≡ self.old) × ((e ≡ Refusal.Down) ⊎ ((e ≡ Refusal.Future) ⊎ ((e ≡ Refusal.Collected) ⊎ ((e ≡ Refusal.Full) ⊎ (e ≡ Refusal.NoMemory)))))) }
+        ensures err { IfErr result (λ e. (self.new ≡ self.old) × IsOneOf e (Refusal.Down ∷ Refusal.Future ∷ Refusal.Collected ∷ Refusal.Full ∷ Refusal.NoMemory ∷ [])) }
     {
         if self.journal.is_down() {
             return Err(Refusal::Down);

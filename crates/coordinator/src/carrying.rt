@@ -4,7 +4,6 @@ ghost use Rattle.device.specs.Device.{HasFailed, LeavesOnly};
 ghost use Rattle.journal.specs.Ahead.{LacksRoomAhead, checkpoint_of};
 ghost use Rattle.journal.specs.Beginnings.{HasBeginsOr};
 ghost use Rattle.journal.specs.Records.{HasRecords};
-ghost use Rattle.records.specs.Identity.{max_shards};
 ghost use Rattle.decisions.specs.Checkpoints.{carried_checkpoint};
 ghost use Rattle.decisions.specs.Coordinators.{IsRunning};
 ghost use Rattle.coordinator.specs.Checkpoints.{told_by};
@@ -16,7 +15,7 @@ use device::Device;
 use journal::Begun;
 use ledger::Ledger;
 use records::Identity;
-use tuples::Refusal;
+use tuples::{Refusal, Shards};
 
 // Ends the checkpoint behind the decisions of a ledger above a horizon.
 fn write<D: Device>(
@@ -43,9 +42,7 @@ fn write<D: Device>(
 impl<D: Device> Coordinator<D> {
     /// Ends the first checkpoint of the coordinator of a store with the same id and so many shards, with what this one knows: how often it was opened, its
     /// horizon, and its decisions above that. `Down` where a call of a device failed.
-    pub fn carry(&self, shards: u8, begun: &mut Begun<D>) -> Result<(), Refusal>
-        requires some { 1 ≤ shards }
-        requires few { shards ≤ max_shards }
+    pub fn carry(&self, shards: Shards, begun: &mut Begun<D>) -> Result<(), Refusal>
         ensures honest { (D.honest begun.old.a ↔ D.honest begun.new.a) × (D.honest begun.old.b ↔ D.honest begun.new.b) }
         ensures ok { IsRunning D.state D.honest self.now → D.honest begun.old.a → D.honest begun.old.b
             → OnOk result (HasRecords (D.state begun.new.a) (D.state begun.new.b) (carried_checkpoint shards self.now)) }

@@ -38,7 +38,7 @@ pub(crate) fn heads(me: Identity, epoch: u64, horizon: u64) -> [Record; 2]
     let opened = Record::Epoch {
         epoch,
         store: me.store(),
-        shards: me.shards(),
+        shards: me.shards().count(),
         node: me.node(),
     };
     [opened, Record::Horizon(horizon)]

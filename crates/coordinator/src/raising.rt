@@ -1,5 +1,6 @@
 // Raising the horizon.
-ghost use Rattle.std.specs.Prelude.{◌≡◌, ◌⊎◌, ◌↔◌, ◌≤◌, ◌<◌, ℕ, Some, true, false, IfErr, OnOk, IsErr, IsErrOf, IsTrue};
+ghost use Rattle.std.specs.Prelude.{◌≡◌, ◌↔◌, ◌≤◌, ◌<◌, ℕ, Some, true, false, IfErr, OnOk, IsErr, IsErrOf, IsTrue, ◌∷◌, []};
+ghost use Rattle.refusal.specs.Refusals.{IsOneOf};
 ghost use Rattle.journal.specs.Records.{HasNoRoom};
 ghost use Rattle.records.specs.declared.record.Record.TheVariants.{Horizon as horizon_record};
 ghost use Rattle.records.specs.Coordinators.{end_of};
@@ -10,7 +11,7 @@ use crate::Coordinator;
 use crate::staging::stage_horizon;
 use decisions::Settled;
 use device::Device;
-use tuples::Refusal;
+use tuples::{Refusal, Shards};
 
 /// Why the horizon was not raised, with the values that were handed in.
 #[derive(Drop)]
@@ -20,10 +21,10 @@ pub struct NotRaised {
 }
 
 /// Whether each shard of so many has settled at least to the place.
-pub fn settles(shards: u8, place: u64, settled: &[Settled]) -> bool
+pub fn settles(shards: Shards, place: u64, settled: &[Settled]) -> bool
     ensures { IsTrue result ↔ HaveSettled shards place settled.now }
 {
-    for shard in 0..shards {
+    for shard in 0..shards.count() {
         if !has_settled(shard, place, settled) {
             return false;
         }
@@ -63,7 +64,7 @@ impl<D: Device> Coordinator<D> {
         ensures future { IsRunning D.state D.honest self.old → IfErr result (λ e. (e.refusal ≡ Refusal.Future) ↔ (end_of (kept_of self.old) < place)) }
         ensures full { IsRunning D.state D.honest self.old → IfErr result (λ e. e.refusal ≡ Refusal.Full → HasNoRoom self.old.staged (horizon_record place) × (IsRising self.old place → ⊥)) }
         ensures err { IfErr result (λ e. (self.new ≡ self.old) × (e.settled.items ≡ settled.items)
-            × ((e.refusal ≡ Refusal.Down) ⊎ ((e.refusal ≡ Refusal.Collected) ⊎ ((e.refusal ≡ Refusal.Future) ⊎ (e.refusal ≡ Refusal.Full))))) }
+            × IsOneOf e.refusal (Refusal.Down ∷ Refusal.Collected ∷ Refusal.Future ∷ Refusal.Full ∷ [])) }
     {
         match self.try_raise(place) {
             Ok(()) => Ok(()),
@@ -77,7 +78,7 @@ impl<D: Device> Coordinator<D> {
         ensures collected { IsRunning D.state D.honest self.old → IsErrOf result Refusal.Collected ↔ (place < (kept_of self.old).horizon) }
         ensures future { IsRunning D.state D.honest self.old → IsErrOf result Refusal.Future ↔ (end_of (kept_of self.old) < place) }
         ensures full { IsRunning D.state D.honest self.old → IsErrOf result Refusal.Full → HasNoRoom self.old.staged (horizon_record place) × (IsRising self.old place → ⊥) }
-        ensures err { IfErr result (λ e. (self.new ≡ self.old) × ((e ≡ Refusal.Down) ⊎ ((e ≡ Refusal.Collected) ⊎ ((e ≡ Refusal.Future) ⊎ (e ≡ Refusal.Full))))) }
+        ensures err { IfErr result (λ e. (self.new ≡ self.old) × IsOneOf e (Refusal.Down ∷ Refusal.Collected ∷ Refusal.Future ∷ Refusal.Full ∷ [])) }
     {
         if self.journal.is_down() {
             return Err(Refusal::Down);

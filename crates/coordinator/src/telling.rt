@@ -1,5 +1,6 @@
 // What a coordinator tells of its decisions.
-ghost use Rattle.std.specs.Prelude.{◌≡◌, ◌⊎◌, ◌↔◌, ◌≤◌, ◌<◌, Ok, true, IfOk, IfErr, IsErr, IsErrOf, Contains, IsTrue};
+ghost use Rattle.std.specs.Prelude.{◌≡◌, ◌↔◌, ◌≤◌, ◌<◌, Ok, true, IfOk, IfErr, IsErr, IsErrOf, Contains, IsTrue, ◌∷◌, []};
+ghost use Rattle.refusal.specs.Refusals.{IsOneOf};
 ghost use Rattle.records.specs.Coordinators.{end_of};
 ghost use Rattle.decisions.specs.Coordinators.{BatchesAt, FindsAt, FindsNone, FindsNothingYet, IsGivenAt, IsKeptBy, IsOfNow, IsRunning, IsStagedBy, heads_of, kept_of};
 ghost use Rattle.coordinator.specs.declared.telling.Inquiry.TheVariants.{Commit, Abort, Undecided};
@@ -119,7 +120,7 @@ impl<D: Device> Coordinator<D> {
         ensures down { IsErrOf result Refusal.Down ↔ (self.now.is_down ≡ true) }
         ensures future { IsRunning D.state D.honest self.now → IsErrOf result Refusal.Future ↔ (end_of (kept_of self.now) < to) }
         ensures collected { IsRunning D.state D.honest self.now → IsErrOf result Refusal.Collected ↔ ((to ≤ end_of (kept_of self.now)) × (from < (kept_of self.now).horizon)) }
-        ensures err { IfErr result (λ e. (e ≡ Refusal.Down) ⊎ ((e ≡ Refusal.Future) ⊎ ((e ≡ Refusal.Collected) ⊎ (e ≡ Refusal.NoMemory)))) }
+        ensures err { IfErr result (λ e. IsOneOf e (Refusal.Down ∷ Refusal.Future ∷ Refusal.Collected ∷ Refusal.NoMemory ∷ [])) }
     {
         if self.journal.is_down() {
             return Err(Refusal::Down);

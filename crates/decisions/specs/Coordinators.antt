@@ -1,6 +1,7 @@
 -- A coordinator as its callers see it, and what each of its calls does, over lists of records alone: what stops leave, locks and logs are the
 -- matter of whoever calls.
 use Rattle.std.specs.Prelude.{◌≡◌, ◌≢◌, ◌⊎◌, ◌≤◌, ◌<◌, ◌+◌, ◌-◌, ℕ, min, Bool, false, true, List, [], ◌∷◌, ◌++◌, length, take, drop, All, AllPairs, Some, Contains, if◌then◌else◌, slice_get}
+use Rattle.refusal.specs.Refusals.{IsOneOf}
 use Rattle.tuples.specs.Limits.{max_batch, max_open}
 use Rattle.tuples.specs.declared.change.Change.{Change}
 use Rattle.tuples.specs.declared.change.Condition.{Condition}
@@ -105,7 +106,7 @@ pub record BeginsRefused {D : Type 0} (old : CoordinatorView D) (conditions : Li
   pub future : e ≡ Future → FirstIs old conditions (NamesFuture old)
   pub collected : e ≡ Collected → FirstIs old conditions (NamesCollected old)
   pub full : e ≡ Full → HasNoId old
-  pub others : (e ≡ Future) ⊎ ((e ≡ Collected) ⊎ ((e ≡ Full) ⊎ (e ≡ NoMemory)))
+  pub others : IsOneOf e (Future ∷ Collected ∷ Full ∷ NoMemory ∷ [])
 
 -- a vote for the write, of a shard that takes part in it
 pub record IsVoteFor (shards : ℕ) (w : Entry) (v : VoteValue) : Type 0 where

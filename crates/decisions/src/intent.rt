@@ -1,14 +1,13 @@
 // A write that was begun.
-ghost use Rattle.std.specs.Prelude.{◌≡◌, ◌≤◌, ◌<◌, ◌^◌, ◌↔◌, ℕ, true, IsBitSet};
+ghost use Rattle.std.specs.Prelude.{◌≡◌, ◌<◌, ◌^◌, ◌↔◌, ℕ, true, IsBitSet};
 ghost use Rattle.tuples.specs.Parts.{takes_part};
-ghost use Rattle.records.specs.Identity.{max_shards};
 ghost use Rattle.records.specs.Replays.{AskOfLog};
 ghost use Rattle.decisions.specs.Values.{IsBegunBy, IsGiven, IsIntent};
 
 use device::Device;
 use journal::Journal;
 use std::marker::Model;
-use tuples::{Entry, Write, WriteId};
+use tuples::{Entry, Shards, Write, WriteId};
 
 /// A write that was begun, with its id. It has no `Drop`, so it has to be decided or left.
 #[must_use]
@@ -77,9 +76,7 @@ impl Intent {
     }
 
     /// The shards that take part in its write, in a store of so many: bit s for shard s.
-    pub fn participants(&self, shards: u8) -> u64
-        requires some { 1 ≤ shards }
-        requires few { shards ≤ max_shards }
+    pub fn participants(&self, shards: Shards) -> u64
         ensures each { (s : ℕ) → IsBitSet result s ↔ (takes_part shards s self.now.write ≡ true) }
         ensures below { result < 2 ^ shards }
     {

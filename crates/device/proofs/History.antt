@@ -25,7 +25,7 @@ made_image first was calls more step same made =
     ∙ made.1 (replay first calls)
     ∙ ap (λ (f : List ℕ). step (replay f calls)) same
 
-reach_push : (w : List (ℕ × ℕ)) (at n d : ℕ) → (reach w d ≤ reach (w ++ (at, n) ∷ []) d) × (at + n ≤ reach (w ++ (at, n) ∷ []) d) × (d ≤ reach w d)
+pub reach_push : (w : List (ℕ × ℕ)) (at n d : ℕ) → (reach w d ≤ reach (w ++ (at, n) ∷ []) d) × (at + n ≤ reach (w ++ (at, n) ∷ []) d) × (d ≤ reach w d)
 reach_push [] at n d = (omega arith, omega arith, omega arith)
 reach_push (r ∷ w) at n d = let rest = reach_push w at n d in (omega arith, omega arith, omega arith)
 
@@ -37,7 +37,12 @@ reach_push_most (r ∷ w) at n d =
     (λ up. inr (omega (arith, up)))
     (reach_push_most w at n d)
 
-untouched_push : (w : List (ℕ × ℕ)) (at n i : ℕ) → Untouched (w ++ (at, n) ∷ []) i → Untouched w i × ((i < at) ⊎ (at + n ≤ i))
+-- what reads may be what was durable
+pub reach_least : (w : List (ℕ × ℕ)) (n : ℕ) → n ≤ reach w n
+reach_least [] n = omega arith
+reach_least (r ∷ w) n = omega (arith, reach_least w n)
+
+pub untouched_push : (w : List (ℕ × ℕ)) (at n i : ℕ) → Untouched (w ++ (at, n) ∷ []) i → Untouched w i × ((i < at) ⊎ (at + n ≤ i))
 untouched_push [] at n i un = (tt, un.0)
 untouched_push (r ∷ w) at n i un = let rest = untouched_push w at n i un.1 in ((un.0, rest.0), rest.1)
 
@@ -46,7 +51,7 @@ length-patched s b at =
     omega (arith, length-append (take at s ++ b) (drop (at + length b) s), length-append (take at s) b, length-take at s, length-drop (at + length b) s)
 
 -- what was not written is as before
-same_elsewhere : (s b : List ℕ) (at i : ℕ) → i < length s → (i < at) ⊎ (at + length b ≤ i) → get_or (patched s at b) i 0 ≡ get_or s i 0
+pub same_elsewhere : (s b : List ℕ) (at i : ℕ) → i < length s → (i < at) ⊎ (at + length b ≤ i) → get_or (patched s at b) i 0 ≡ get_or s i 0
 same_elsewhere s b at i lt (inl below) =
     let len = length-take at s in
     get_or_append_left (take at s ++ b) (drop (at + length b) s) 0 i (omega (arith, length-append (take at s) b, len))
@@ -59,7 +64,7 @@ same_elsewhere s b at i lt (inr above) =
     ∙ get_or-drop (at + length b) s (i - (at + length b)) 0 ∙ ap (λ (j : ℕ). get_or s j 0) back
 
 -- a write leaves what a stop may leave
-written_readable : (d s b : List ℕ) (w : List (ℕ × ℕ)) (at : ℕ) → Leaves d w s → Leaves d (w ++ (at, length b) ∷ []) (patched s at b)
+pub written_readable : (d s b : List ℕ) (w : List (ℕ × ℕ)) (at : ℕ) → Leaves d w s → Leaves d (w ++ (at, length b) ∷ []) (patched s at b)
 written_readable d s b w at leaves =
     let len = length-patched s b at in
     let reaches = reach_push w at (length b) (length d) in

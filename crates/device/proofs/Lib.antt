@@ -1,3 +1,4 @@
 pub mod Fresh
 pub mod History
 pub mod Moments
+pub mod States

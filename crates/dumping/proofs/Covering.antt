@@ -34,13 +34,13 @@ use Rattle.tuples.specs.Log.{is_at, there_after}
 use Rattle.tuples.specs.Order.{tuple_eq}
 use Rattle.tuples.specs.Parts.{shard_of}
 use Rattle.tuples.specs.Versions.{there_at}
-use Rattle.turns.proofs.FlowBegins.{alone}
-use Rattle.turns.proofs.ReadAnswer.{rows_show}
+use Rattle.stores.proofs.FlowBegins.{alone}
+use Rattle.stores.proofs.ReadAnswer.{rows_show}
+use Rattle.stores.specs.Flows.{to_learn}
+use Rattle.stores.specs.Moments.{Running}
+use Rattle.stores.specs.Replies.{IsLearnAnswer, done}
+use Rattle.stores.specs.Stores.{stops}
 use Rattle.turns.proofs.ShardSeam.{known_left}
-use Rattle.turns.specs.Flows.{to_learn}
-use Rattle.turns.specs.Moments.{Running}
-use Rattle.turns.specs.Replies.{IsLearnAnswer, done}
-use Rattle.turns.specs.Stores.{stops}
 use Rattle.versions.specs.Rows.{AreRows}
 use Rattle.dumping.specs.Dumped.{GoesOn}
 use Rattle.dumping.specs.Gathering.{AllTell, TellsOne}

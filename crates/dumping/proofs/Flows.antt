@@ -1,5 +1,5 @@
 -- A flow over a store that stands, from its beginning to its answer.
-use Rattle.std.proofs.Common.{◌≡◌, ◌⊎◌, inl, inr, ⊎_elim, ◌==◌, ℕ, true≢false, false, List, [], ◌∷◌, ◌++◌, map, Contains, Option, Some, None, MatchOption, slice_get, refl, sym, ◌∙◌, ap, subst, arith, eq-eqb, if◌then◌else◌}
+use Rattle.std.proofs.Common.{◌≡◌, ◌⊎◌, inl, inr, ⊎_elim, ◌==◌, ℕ, true≢false, false, List, [], ◌∷◌, ◌++◌, Contains, Option, Some, None, MatchOption, slice_get, refl, sym, ◌∙◌, ap, subst, arith, eq-eqb, if◌then◌else◌}
 use Rattle.std.proofs.lemmas.List.Elements.{Contains-push_cases}
 use Rattle.call_turns.proofs.Slots.{at_ended, at_replaced, found_at}
 use Rattle.cluster.specs.Flows.{next_name_of}
@@ -23,26 +23,18 @@ use Rattle.scripts.specs.Stepping.{IsNext}
 use Rattle.tuples.specs.declared.change.Change.{Change}
 use Rattle.tuples.specs.declared.change.Condition.{Condition}
 use Rattle.tuples.specs.declared.entry.WriteId.{WriteId}
-use Rattle.turns.proofs.FlowBegins.{alone}
-use Rattle.turns.specs.Flows.{Asked, IsAsked, to_write}
-use Rattle.turns.specs.Moments.{Moment, Running, SawFirst, begun, ended, flow_at, replaced}
-use Rattle.turns.specs.Promises.{events_of}
-use Rattle.turns.specs.Replies as replies
-use Rattle.turns.specs.Replies.{Agrees}
+use Rattle.stores.proofs.FlowBegins.{alone}
+use Rattle.turns.proofs.Chains.{same_told}
+use Rattle.stores.specs.Flows.{Asked, IsAsked, to_write}
+use Rattle.stores.specs.Moments.{Moment, Running, SawFirst, begun, ended, flow_at, replaced}
+use Rattle.stores.specs.Replies as replies
+use Rattle.stores.specs.Replies.{Agrees}
 use Rattle.turns.specs.Runs as runs
-use Rattle.turns.specs.Runs.{Begins, Decides, DecidesNothing, EndsAs, Event, IfRunning, IsIdle, MayRise, Told, Turns, answered, began, came_up, goes_on, refuses, start, told_by}
-use Rattle.turns.specs.Stores.{FlowView, NamesHorizon, ShowsSlot, StandsOver, Store}
+use Rattle.turns.specs.Runs.{Begins, Decides, DecidesNothing, EndsAs, IfRunning, IsIdle, MayRise, Told, Turns, answered, began, came_up, goes_on, refuses, start, told_by}
+use Rattle.stores.specs.Stores.{FlowView, NamesHorizon, ShowsSlot, StandsOver, Store}
 use Rattle.dumping.specs.Dumped.{GoesOn}
 use Rattle.dumping.specs.Gathering.{Plays, PlaysOn}
 use Rattle.dumping.proofs.Machines.{goes_nowhere, goes_then, quiet_moves}
-
--- what events tell is what was told
-told_of_events : (n : ℕ) (told : List Told) → map (λ (e : Event). e.told) (events_of n told) ≡ told
-told_of_events n [] = refl
-told_of_events n (t ∷ told) = ap (λ l. t ∷ l) (told_of_events n told)
-
-same_told : (n : ℕ) (a b : List Told) → events_of n a ≡ events_of n b → b ≡ a
-same_told n a b is = sym (told_of_events n b) ∙ ap (map (λ (e : Event). e.told)) (sym is) ∙ told_of_events n a
 
 -- the first of machines of which there is a last
 first_of : (seen : List Machine) (m : Machine) → (f : Machine) × (slice_get (seen ++ m ∷ []) 0 ≡ Some f) × Contains (seen ++ m ∷ []) f

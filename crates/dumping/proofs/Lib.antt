@@ -1,4 +1,3 @@
-mod Bools
 mod OneShardMore
 mod Machines
 mod Flows

@@ -1,9 +1,10 @@
 -- Reads at one place: of one tupleset, and of each tuple of a set.
-use Rattle.std.proofs.Common.{◌≡◌, ◌⊎◌, inl, inr, ⊎_elim, ◌||◌, ℕ, Bool, true, false, List, [], ◌∷◌, ◌++◌, Contains, slice_get, refl, sym, ◌∙◌, ap, subst, arith}
+use Rattle.std.proofs.Common.{◌≡◌, ◌⊎◌, ⊎_elim, ◌||◌, ℕ, Bool, true, false, List, [], ◌∷◌, ◌++◌, Contains, slice_get, refl, sym, ◌∙◌, ap, subst, arith}
 use Rattle.std.specs.List.{AllByRecursion}
 use Rattle.std.specs.List.Sorted.{IsStrictlySortedBy}
 use Rattle.std.specs.declared.cmp.Ordering.TheVariants.{Less}
 use Rattle.std.proofs.lemmas.List.Elements.{Contains-append_cases, Contains-append_left, Contains-append_right}
+use Rattle.std.proofs.lemmas.Bool.{or_left, or_right, or_cases}
 use Rattle.cluster.specs.Steps.{Takes}
 use Rattle.cluster.specs.Worlds.{WorldView}
 use Rattle.cluster.specs.declared.event.Answer.TheVariants.{Selected}
@@ -26,14 +27,14 @@ use Rattle.tuples.specs.Log.{is_at}
 use Rattle.tuples.specs.Order.{tuple_eq, tuple_lt}
 use Rattle.tuples.specs.Reads.{AreAscending, IsSelection}
 use Rattle.tuples.proofs.Same.{tuple_same}
-use Rattle.turns.proofs.FlowBegins.{alone}
-use Rattle.turns.specs.Flows.{to_read}
-use Rattle.turns.specs.Replies.{selected}
-use Rattle.versions.proofs.Tables.{before, same_tie}
+use Rattle.tuples.proofs.Ordered.{same_tie}
+use Rattle.stores.proofs.FlowBegins.{alone}
+use Rattle.stores.specs.Flows.{to_read}
+use Rattle.stores.specs.Replies.{selected}
+use Rattle.versions.proofs.Tables.{before}
 use Rattle.dumping.specs.Dumped.{GoesOn}
 use Rattle.dumping.specs.Gathering.{AllRead, Reads}
 use Rattle.dumping.proofs.Flows.{Answered, Standing, played}
-use Rattle.dumping.proofs.Bools.{or_left, or_right}
 use Rattle.dumping.proofs.Machines.{goes_nowhere, goes_then}
 
 -- ---- lists that ascend
@@ -50,10 +51,6 @@ ascend_all (x ∷ xs) ys left right lt = ascend x xs ys left right lt
 -- one of the set has the tuple
 in_first : (t k : Tuple) (keys : List Tuple) → is_in (k ∷ keys) t ≡ (tuple_eq t k || is_in keys t)
 in_first t k keys = ap (λ (b : Bool). b || is_in keys t) (same_tie t k)
-
-or_cases : (a b : Bool) → (a || b) ≡ true → (a ≡ true) ⊎ (b ≡ true)
-or_cases true b is = inl refl
-or_cases false b is = inr is
 
 pub has_same : (t u : Tuple) (keys : List Tuple) → tuple_eq t u ≡ true → is_in keys u ≡ true → is_in keys t ≡ true
 has_same t u keys same is = ap (is_in keys) (tuple_same t u same) ∙ is

@@ -9,8 +9,8 @@ use Rattle.tuples.specs.declared.freshness.Freshness.TheVariants.{Exact, Latest}
 use Rattle.tuples.specs.Changes.{tuple_of}
 use Rattle.tuples.specs.Log.{is_at}
 use Rattle.tuples.proofs.Named.{shard_below}
+use Rattle.stores.specs.Stores.{IsToldOver}
 use Rattle.turns.proofs.ClosedStoreRests.{closed_stores_rest}
-use Rattle.turns.specs.Stores.{IsToldOver}
 use Rattle.dumping.specs.Dumped.{GoesOn}
 use Rattle.dumping.specs.DumpLaws.{DumpsAreSnapshots}
 use Rattle.dumping.specs.Dumps.{IsPlaceFor}

@@ -10,7 +10,7 @@ use Rattle.records.specs.Identity.{max_shards}
 use Rattle.scripts.specs.Stepping.{IsNext, ShowsRows}
 use Rattle.tuples.specs.declared.entry.WriteId.{WriteId}
 use Rattle.tuples.specs.declared.tuple.Tuple.{Tuple}
-use Rattle.turns.specs.Stores.{IsToldOver, RestsOver}
+use Rattle.stores.specs.Stores.{IsToldOver, RestsOver}
 use Rattle.dumping.specs.Dumped.{IsSnapshotOver}
 use Rattle.dumping.specs.Dumps.{Dumps}
 

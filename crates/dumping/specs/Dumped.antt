@@ -17,8 +17,8 @@ use Rattle.tuples.specs.declared.tuple.Tuple.{Tuple}
 use Rattle.tuples.specs.Log.{is_at}
 use Rattle.tuples.specs.Reads.{AreAscending}
 use Rattle.tuples.specs.Texts.{tuple_text}
+use Rattle.stores.specs.Stores.{IsToldOver, RestsOver, Store}
 use Rattle.turns.specs.Reopens.{IsOpenedFrom}
-use Rattle.turns.specs.Stores.{IsToldOver, RestsOver, Store}
 use Rattle.zookie.specs.Zookies.{zookie_text}
 use Rattle.dumping.specs.Dumps.{Dumps}
 use Rattle.dumping.specs.Looking.{AreOfOneMoment}

@@ -1,11 +1,11 @@
 // A dump of a store that a folder keeps.
 ghost use Rattle.std.specs.Prelude.{◌≡◌, ◌≤◌, ◌⊎◌, OnOk};
 ghost use Rattle.dumping.specs.Folders.{DumpsFiles};
-ghost use Rattle.tuples.specs.Limits.{max_shards};
 
 use crate::over_devices::{Fault, dump_over};
 use node_files::open_all;
 use std::io;
+use tuples::Shards;
 
 // The status of a dump that was not written, or not to its end.
 const FAILED: u8 = 1;
@@ -16,9 +16,13 @@ const FAILED: u8 = 1;
 ///
 /// Files that are missing are made, and each node's opening adds a record of that to its file, as each start of a server does. A shard that has to learn what
 /// was kept may write what it learns.
-pub fn dump_folder(rt: &HostRuntime, folder: &str, store: u64, shards: u8, at: Option<u64>) -> u8
-    requires some { 1 ≤ shards }
-    requires few { shards ≤ max_shards }
+pub fn dump_folder(
+    rt: &HostRuntime,
+    folder: &str,
+    store: u64,
+    shards: Shards,
+    at: Option<u64>,
+) -> u8
     ensures status { (result ≡ 0) ⊎ (result ≡ 1) }
     ensures dumped { result ≡ 0 → DumpsFiles store shards at }
 {
@@ -33,11 +37,9 @@ fn write_folder(
     rt: &HostRuntime,
     folder: &str,
     store: u64,
-    shards: u8,
+    shards: Shards,
     at: Option<u64>,
 ) -> Result<(), Fault>
-    requires some { 1 ≤ shards }
-    requires few { shards ≤ max_shards }
     ensures { OnOk result (DumpsFiles store shards at) }
 {
     match open_all(rt, folder, shards) {

@@ -15,7 +15,7 @@ use cluster::{Answer, Step};
 use names::Care;
 use scripts::Store;
 use std::collections::BTreeSet;
-use tuples::{Refusal, Tuple, Version};
+use tuples::{Refusal, Shards, Tuple, Version};
 
 fn learn<S: Store>(store: &mut S, shard: u8) -> Result<(), Refusal>
     ensures ok { OnOk result (Plays S.takes S.nexts (Step.Care (Care.Learn shard)) store.old (Some (Ended Done)) store.new) }
@@ -56,13 +56,13 @@ fn put(found: &mut BTreeSet<Tuple>, versions: &[Version]) -> Result<(), Refusal>
 /// Each shard learns what is kept, and the tuples of all their versions are put into the set.
 pub(crate) fn gather<S: Store>(
     store: &mut S,
-    shards: u8,
+    shards: Shards,
     found: &mut BTreeSet<Tuple>,
 ) -> Result<(), Refusal>
     ensures tell { OnOk result ((told : List AnyVersion) × AllTell S.takes S.nexts S.shows shards store.old told store.new × HasAll found.new.keys told) }
     ensures looks { LooksOn S.takes store.old store.new }
 {
-    for shard in 0..shards {
+    for shard in 0..shards.count() {
         gather_one(store, shard, found)?;
     }
     Ok(())

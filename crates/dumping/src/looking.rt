@@ -30,7 +30,7 @@ pub(crate) fn look_over<D: Device>(world: &World<D>) -> Result<(), Refusal>
     ensures { OnOk result (AreOfOneMoment D.state D.honest world.now.nodes world.now.shards) }
 {
     let log = reach_of(world, NodeName::Coordinator)?;
-    for shard in 0..world.shards() {
+    for shard in 0..world.shards().count() {
         if !is_within(reach_of(world, NodeName::Shard(shard))?, log) {
             return Err(Refusal::Damaged);
         }

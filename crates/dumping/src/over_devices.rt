@@ -10,7 +10,6 @@ ghost use Rattle.dumping.specs.Steps.{LooksOn};
 ghost use Rattle.line_io.specs.Outputs.{HasBegun};
 ghost use Rattle.scripts.specs.Stepping.{IsNext, ShowsRows};
 ghost use Rattle.std.specs.Io.KnownBytes.{Appends};
-ghost use Rattle.tuples.specs.Limits.{max_shards};
 ghost use Rattle.tuples.specs.declared.tuple.Tuple.{Tuple as AnyTuple};
 
 use crate::dump_laws::dumps_are_snapshots;
@@ -23,7 +22,7 @@ use line_io::write_all;
 use scripts::{NoDevices, Stepping, Store};
 use std::alloc::{AllocError, Global};
 use std::io::Write;
-use tuples::Refusal;
+use tuples::{Refusal, Shards};
 
 /// Why a dump was not written, or not to its end.
 #[derive(Clone, Copy, Debug, PartialEq, Eq)]
@@ -38,11 +37,9 @@ pub enum Fault {
 fn open<D: Device>(
     alloc: Global,
     store: u64,
-    shards: u8,
+    shards: Shards,
     devices: Vec<D>,
 ) -> Result<Stepping<D, NoDevices>, Refusal>
-    requires some { 1 ≤ shards }
-    requires few { shards ≤ max_shards }
     requires count { vec_len devices ≡ 2 * (shards + 1) }
     ensures opened { IfOk result (IsOpenedOver D.state D.honest D.moment D.left_since store shards devices.items) }
     ensures moment { IfOk result (λ opened. AreOfOneMoment D.state D.honest opened.nodes opened.shards) }
@@ -79,7 +76,7 @@ fn append<S: Store>(
     alloc: Global,
     id: u64,
     store: &mut S,
-    shards: u8,
+    shards: Shards,
     at: Option<u64>,
     text: &mut Vec<u8>,
 ) -> Result<(), Refusal>
@@ -96,13 +93,11 @@ fn append<S: Store>(
 fn append_over<D: Device>(
     alloc: Global,
     store: u64,
-    shards: u8,
+    shards: Shards,
     at: Option<u64>,
     devices: Vec<D>,
     text: &mut Vec<u8>,
 ) -> Result<(), Refusal>
-    requires some { 1 ≤ shards }
-    requires few { shards ≤ max_shards }
     requires count { vec_len devices ≡ 2 * (shards + 1) }
     ensures { OnOk result ((opened new : WorldView D) × (place : ℕ) × (rows : List AnyTuple) × IsOpenedOver D.state D.honest D.moment D.left_since store shards devices.items opened
         × AreOfOneMoment D.state D.honest opened.nodes opened.shards × Dumps (Takes D.state D.honest D.moment D.left_since) IsNext (ShowsRows D.state D.honest) shards at opened place rows new × (text.new.items ≡ text.old.items ++ dump_text store place rows)) }
@@ -119,19 +114,18 @@ fn append_over<D: Device>(
 pub fn dump_over<D: Device, W: Write>(
     alloc: Global,
     store: u64,
-    shards: u8,
+    shards: Shards,
     at: Option<u64>,
     devices: Vec<D>,
     output: &mut W,
 ) -> Result<(), Fault>
-    requires some { 1 ≤ shards }
-    requires few { shards ≤ max_shards }
     requires count { vec_len devices ≡ 2 * (shards + 1) }
     ensures ok { OnOk result (IsDumped D.state D.honest D.moment D.left_since store shards devices.items at (W.contents output.old) (W.contents output.new)) }
     ensures err { IfErr result (Leaves D.state D.honest D.moment D.left_since store shards devices.items at (W.contents output.old) (W.contents output.new)) }
 {
     // A law: it does nothing.
     dumps_are_snapshots::<D>();
+    let _count = shards.count();
     let mut text = Vec::new(alloc);
     match append_over(alloc, store, shards, at, devices, &mut text) {
         Ok(()) => write(output, &text),

@@ -14,7 +14,7 @@ use crate::reading::{place_of, read};
 use scripts::Store;
 use std::alloc::{AllocError, Global};
 use std::collections::BTreeSet;
-use tuples::{Freshness, Refusal, Tuple, Tupleset};
+use tuples::{Freshness, Refusal, Shards, Tuple, Tupleset};
 
 /// A place, and all tuples that are there, ascending.
 #[derive(Drop)]
@@ -105,7 +105,7 @@ fn find_place<S: Store>(alloc: Global, store: &mut S, at: Option<u64>) -> Result
 fn find_all<S: Store>(
     alloc: Global,
     store: &mut S,
-    shards: u8,
+    shards: Shards,
     place: u64,
     found: &mut BTreeSet<Tuple>,
     tuples: &mut Vec<Tuple>,
@@ -125,7 +125,7 @@ fn find_all<S: Store>(
 pub fn take_dump<S: Store>(
     alloc: Global,
     store: &mut S,
-    shards: u8,
+    shards: Shards,
     at: Option<u64>,
 ) -> Result<Dump, Refusal>
     ensures ok { IfOk result (λ d. Dumps S.takes S.nexts S.shows shards at store.old d.place d.tuples.items store.new) }

@@ -1,13 +1,11 @@
 -- A call that is no flush leaves a shard sound, and stages behind what is staged.
-use Rattle.std.proofs.Common.{◌≡◌, ◌⊎◌, ◌≤◌, ◌<◌, ◌+◌, ⊎_elim, inl, inr, true, false, ℕ, List, [], ◌∷◌, ◌++◌, length, Result, Option, Some, None, Ok, Err, is_some, refl, sym, ◌∙◌, ap, subst, arith}
-use Rattle.std.proofs.lemmas.Bool.{cases_lt}
+use Rattle.std.proofs.Common.{◌≡◌, ◌⊎◌, ◌≤◌, ◌<◌, ◌+◌, ⊎_elim, inl, inr, false, ℕ, List, [], ◌∷◌, length, Result, Option, Some, Ok, Err, refl, sym, ◌∙◌, ap, subst}
+use Rattle.std.proofs.lemmas.Bool.{cases_lt, false_from_ne_true}
 use Rattle.std.proofs.lemmas.List.{append-nil}
 use mathlib.Core.List.{IsPrefix}
-use Rattle.flights.proofs.Words.{Answered, AnsweredIn, Away, batch_size, Checkpoint, from_shard, IntentValue, is_up, IsSoundIn, IsSoundShard, Launch, NodeView, prefix_trans, Record, Refusal, refused, Reply, shard, ShardAnswers, ShardReply, ShardView, State, StaysIn, VerdictValue}
+use Rattle.flights.proofs.Words.{Answered, AnsweredIn, Away, Checkpoint, from_shard, IntentValue, IsSoundIn, IsSoundShard, Launch, NodeView, prefix_trans, Record, Refusal, refused, Reply, shard, ShardAnswers, ShardReply, ShardView, State, StaysIn, VerdictValue}
 use Rattle.records.specs.declared.record.Record.TheVariants.{Dropped}
 use Rattle.records.specs.Replays.{find_in_doubt}
-use Rattle.gated.specs.Gated.{max_body}
-use Rattle.journal.specs.Records.{HasNoRoom, max_records}
 use Rattle.decisions.specs.Values.{BatchValue, HeadsValue, TicketValue}
 use Rattle.shard.specs.Shards.{IsUp, Stages, memory}
 use Rattle.calls.specs.declared.call.NodeCall.TheVariants.{Shard}
@@ -16,19 +14,8 @@ use Rattle.calls.specs.declared.call.ShardCall.TheVariants.{Learned, Learn, Stag
 use Rattle.calls.specs.declared.reply.ShardReply.TheVariants as told_by
 use Rattle.calls.specs.ShardAnswers.{CollectAnswers, DropAnswers, LearnAnswers, PrepareAnswers}
 use Rattle.flights.specs.Places.{is_flush}
-
-has_room : (staged : List Record) (r : Record) → HasNoRoom staged r ⊎ (HasNoRoom staged r → ⊥)
-has_room staged r = ⊎_elim
-    (λ few. ⊎_elim
-    (λ long. inl (inr long))
-    (λ short. inr (λ full. ⊎_elim (λ many. omega (arith, few, many)) (λ long. omega (arith, short, long)) full))
-    (cases_lt max_body (batch_size (staged ++ r ∷ []))))
-    (λ many. inl (inl many))
-    (cases_lt (length staged) max_records)
-
-found_or_not : {X : Type 0} (o : Option X) → (o ≡ None) ⊎ (is_some o ≡ true)
-found_or_not None = inl refl
-found_or_not (Some x) = inr refl
+use Rattle.tuples.proofs.Options.{none_or_some}
+use Rattle.journal.proofs.Staged.{room_or_none}
 
 module _ {D : Type 0} (state : D → State) (honest : D → Type 0) where
   -- it is sound, and what was staged is staged before anything else
@@ -54,7 +41,7 @@ module _ {D : Type 0} (state : D → State) (honest : D → Type 0) where
 
     learned : (b : BatchValue) (r : Result _ Refusal) → LearnAnswers state honest old b r new → Goes
     learned b (Ok is_known) a =
-        let call = a.ok (sound.running (is_up old.is_down (λ down. cc (a.down.1 down)))) in
+        let call = a.ok (sound.running (false_from_ne_true old.is_down (λ down. cc (a.down.1 down)))) in
         ⊎_elim
         (λ (ahead : (memory old).learned < b.from). unchanged (call.ahead ahead).1)
         (λ (low_enough : b.from ≤ (memory old).learned). ⊎_elim
@@ -65,24 +52,24 @@ module _ {D : Type 0} (state : D → State) (honest : D → Type 0) where
     learned b (Err e) a = unchanged a.err.0
 
     prepared : (intent : IntentValue) (r : Result TicketValue Refusal) → PrepareAnswers state honest old intent r new → Goes
-    prepared intent (Ok t) a = let call = a.ok (sound.running (is_up old.is_down (λ down. cc (a.down.1 down)))) in staged_one _ call.stages call.up
+    prepared intent (Ok t) a = let call = a.ok (sound.running (false_from_ne_true old.is_down (λ down. cc (a.down.1 down)))) in staged_one _ call.stages call.up
     prepared intent (Err e) a = unchanged a.err.0
 
     dropped : (verdict : VerdictValue) (r : Result (Unit {0}) Refusal) → DropAnswers state honest old verdict r new → Goes
     dropped verdict (Ok done) a =
-        let call = a.drops (sound.running (is_up old.is_down (λ down. cc (a.down.1 down)))) in
+        let call = a.drops (sound.running (false_from_ne_true old.is_down (λ down. cc (a.down.1 down)))) in
         ⊎_elim
         (λ none. unchanged (call.not_here none))
         (λ some. ⊎_elim
         (λ full. unchanged (call.full full))
         (λ room. let d = call.dropped some room in staged_one _ d.0 d.1)
-        (has_room old.staged (Dropped verdict.id)))
-        (found_or_not (find_in_doubt verdict.id (memory old).in_doubt))
+        (room_or_none old.staged (Dropped verdict.id)))
+        (none_or_some (find_in_doubt verdict.id (memory old).in_doubt))
     dropped verdict (Err e) a = unchanged a.err.1
 
     collected : (heads : HeadsValue) (r : Result (Unit {0}) Refusal) → CollectAnswers state honest old heads r new → Goes
     collected heads (Ok done) a =
-        let call = a.ok (sound.running (is_up old.is_down (λ down. cc (a.down.1 down)))) in
+        let call = a.ok (sound.running (false_from_ne_true old.is_down (λ down. cc (a.down.1 down)))) in
         ⊎_elim
         (λ (above : (memory old).horizon < heads.horizon). ⊎_elim
         (λ (far : (memory old).learned < heads.horizon). unchanged (call.nothing (inl far)))

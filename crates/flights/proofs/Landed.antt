@@ -1,8 +1,8 @@
 -- What comes back, and what the shard is then.
-use Rattle.std.proofs.Common.{◌≡◌, ◌||◌, ◌++◌, ◌≤◌, ⊎_elim, inl, inr, ℕ, zero, suc, Bool, true, false, true≢false, List, [], ◌∷◌, length, take, Option, Some, None, Result, Ok, Err, slice_get, refl, sym, ◌∙◌, ap, subst, arith}
-use Rattle.std.specs.Prelude.{IfErr, OnOk}
+use Rattle.std.proofs.Common.{◌≡◌, ◌++◌, ◌≤◌, ⊎_elim, inl, inr, ℕ, zero, suc, false, true≢false, List, [], ◌∷◌, length, take, Option, Some, None, slice_get, refl, sym, ◌∙◌, ap, subst, arith}
 use Rattle.std.proofs.lemmas.List.{append-nil}
 use Rattle.std.proofs.lemmas.Option.{same_Some}
+use Rattle.std.proofs.lemmas.Bool.{or_parts}
 use mathlib.Core.List.{IsPrefix}
 use Rattle.flights.proofs.Words.{AreRowsAround, AreRowsOf, Away, batch_size, Coordinator, coordinator, Entry, Flying, HasFlown, IsReady, IsSoundIn, IsSoundShard, Known, Launch, launch_of, lent_honest, lent_state, MayLandIn, NodeView, OfShard, Record, refused, Shard, shard, shard_state, ShardView, State, StaysIn, View}
 use Rattle.device.specs.Device.{left}
@@ -11,14 +11,7 @@ use Rattle.shard.specs.Keeping.{prepared_ids}
 use Rattle.calls.specs.Lending.{ShardLands, ShardMayLand}
 use Rattle.sides.specs.Lending.{LandsIn, LandsRows}
 use Rattle.flights.specs.Flights.{StaysBehind}
-
-went_well : {T E P : Type 0} (Q : E → Type 0) (r : Result T E) (down : Bool) → IfErr r (λ e. Q e × (down ≡ true)) → down ≡ false → OnOk r P → P
-went_well Q (Ok x) down err up ok = ok
-went_well Q (Err e) down err up ok = absurd (true≢false (sym err.1 ∙ up))
-
-either_down : (a b : Bool) → (a || b) ≡ false → (a ≡ false) × (b ≡ false)
-either_down true b e = absurd (true≢false e)
-either_down false b e = (refl, e)
+use Rattle.tuples.proofs.Lists.{prefix_length}
 
 pub taken : {X : Type 0} (xs ys : List X) (n : ℕ) → IsPrefix xs ys → n ≡ length xs → take n ys ≡ xs
 taken [] ys zero pre is = refl
@@ -26,11 +19,6 @@ taken [] ys (suc n) pre is = absurd (omega (arith, is))
 taken (x ∷ xs) ys zero pre is = absurd (omega (arith, is))
 taken (x ∷ xs) [] (suc n) pre is = absurd (cc (pre.1))
 taken (x ∷ xs) (y ∷ ys) (suc n) pre is = let rest = taken xs ys n (pre.0, cc (pre.1)) (omega (arith, is)) in cc (pre.1, rest)
-
-pub no_longer : {X : Type 0} (xs ys : List X) → IsPrefix xs ys → length xs ≤ length ys
-no_longer [] ys pre = omega arith
-no_longer (x ∷ xs) [] pre = absurd (cc (pre.1))
-no_longer (x ∷ xs) (y ∷ ys) pre = let rest = no_longer xs ys (pre.0, cc (pre.1)) in omega (arith, rest)
 
 -- two that know the same list know the same flight
 pub same_launch : {X : Type 0} (one other all : List X) (n : ℕ) (x y : X) → IsPrefix one all → IsPrefix other all → slice_get one n ≡ Some x → slice_get other n ≡ Some y → x ≡ y
@@ -72,7 +60,7 @@ module _ {D : Type 0} (state : D → State) (honest : D → Type 0) where
     may_land_shard : ShardMayLand state honest v flown flying
     may_land_shard = record {
       sent = record {
-        count = let n = no_longer x.staged v.staged stays.staged in omega (arith, n, came.told.all);
+        count = let n = prefix_length x.staged v.staged stays.staged in omega (arith, n, came.told.all);
         len = ap batch_size (first ∙ sym (taken x.staged x.staged flying.sent.count ([], append-nil x.staged) came.told.all)) ∙ came.told.sent.len;
       };
       prepares = λ up flew. came.told.prepares ∙ ap (λ (l : List Record). length (prepared_ids l)) (sym first);
@@ -88,7 +76,7 @@ module _ {D : Type 0} (state : D → State) (honest : D → Type 0) where
     landed_shard_sound : (new : ShardView D) → ShardLands state honest v flown flying new → IsSoundShard state honest new
     landed_shard_sound new lands = record {
       running = λ up.
-          let both = either_down v.is_down flown.is_down (sym (ap (λ (y : ShardView D). y.is_down) lands.landed) ∙ up) in
+          let both = or_parts v.is_down flown.is_down (sym (ap (λ (y : ShardView D). y.is_down) lands.landed) ∙ up) in
           lands.up both.0 both.1 came.honest_a came.honest_b;
       honest_a = subst honest (sym (ap (λ (y : ShardView D). y.a) lands.landed)) came.honest_a;
       honest_b = subst honest (sym (ap (λ (y : ShardView D). y.b) lands.landed)) came.honest_b;

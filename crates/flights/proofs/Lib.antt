@@ -3,7 +3,6 @@ pub mod Rows
 pub mod ToldRows
 pub mod Called
 pub mod Pointed
-pub mod Opened
 pub mod Launched
 pub mod Landed
 pub mod LogLaunched

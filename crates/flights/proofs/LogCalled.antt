@@ -1,15 +1,14 @@
 -- A call that is no flush leaves a coordinator up whose devices are out, and stages behind what is staged; and what its reply tells a writer.
-use Rattle.std.proofs.Common.{◌≡◌, ◌≤◌, ⊎_elim, false, ℕ, List, [], ◌++◌, length, Result, Option, Some, Ok, Err, slice_get, refl, sym, ◌∙◌, ap, subst, arith}
+use Rattle.std.proofs.Common.{◌≡◌, ⊎_elim, false, ℕ, List, [], ◌++◌, Result, Option, Some, Ok, Err, refl, sym, ◌∙◌, ap, subst}
 use Rattle.std.proofs.lemmas.List.{append-nil}
-use Rattle.std.specs.Global.{Vec}
+use Rattle.std.proofs.lemmas.Bool.{false_from_ne_true}
 use mathlib.Core.List.{IsPrefix}
-use Rattle.flights.proofs.Words.{Answered, Attempt, Away, coordinator, CoordinatorView, Entry, IntentValue, is_up, IsSound, IsSoundThere, Launch, LogStaysIn, NodeView, prefix_trans, Record, Refusal, refused, Reply, State, VerdictValue}
+use Rattle.flights.proofs.Words.{Answered, Away, coordinator, CoordinatorView, IntentValue, IsSound, IsSoundThere, Launch, LogStaysIn, NodeView, prefix_trans, Record, Refusal, refused, Reply, State, VerdictValue}
 use Rattle.tuples.specs.Writes.{WriteValue}
 use Rattle.decisions.specs.Standing.{DecidedValue}
 use Rattle.decisions.specs.Values.{SettledValue, VoteValue}
 use Rattle.coordinator.specs.declared.decided.NotDecided.{NotDecided}
 use Rattle.coordinator.specs.declared.raising.NotRaised.{NotRaised}
-use Rattle.coordinator.specs.declared.telling.Outcome.TheVariants.{Kept, Later}
 use Rattle.calls.specs.declared.call.NodeCall.TheVariants.{Coordinator}
 use Rattle.calls.specs.declared.call.CoordinatorCall.{CoordinatorCall}
 use Rattle.calls.specs.declared.call.CoordinatorCall.TheVariants.{Begin, Heads, Batch, Decide, Outcome, Abort, Inquire, Raise, Flush, Checkpoint}
@@ -18,11 +17,8 @@ use Rattle.calls.specs.declared.reply.CoordinatorReply.{CoordinatorReply}
 use Rattle.calls.specs.declared.reply.CoordinatorReply.TheVariants as told
 use Rattle.calls.specs.Asking.{CoordinatorAnswers}
 use Rattle.calls.specs.CoordinatorAnswers.{AbortAnswers, BeginAnswers, DecideAnswers, RaiseAnswers}
-use Rattle.ties.specs.DecidingLaws.{attempt}
-use Rattle.flow_ties.specs.Writes.{TellsWriter}
-use Rattle.sides.specs.CoordinatorSides.{AnsweredThere, IsTried, TellsDecided, TellsKept, tried_by}
+use Rattle.sides.specs.CoordinatorSides.{AnsweredThere}
 use Rattle.flights.specs.LogPlaces.{is_log_flush}
-use Rattle.flights.proofs.Launched.{at_the_end}
 
 module _ {D : Type 0} (state : D → State) (honest : D → Type 0) (moment : D → ℕ) (left_since : D → ℕ → List ℕ → Type 0) (store shards : ℕ) where
   -- what was staged is staged before anything else, and it is up where it was
@@ -42,25 +38,25 @@ module _ {D : Type 0} (state : D → State) (honest : D → Type 0) (moment : D 
 
     begun : (write : WriteValue) (r : Result IntentValue Refusal) → BeginAnswers state honest old write r new → LogGoesOn old new
     begun write (Ok i) a =
-        let begins = (a.ok (sound.running (is_up old.is_down (λ down. cc (a.down.1 down))))).0 in
+        let begins = (a.ok (sound.running (false_from_ne_true old.is_down (λ down. cc (a.down.1 down))))).0 in
         more [] (ap (λ (v : CoordinatorView D). v.durable) begins.new_is) (ap (λ (v : CoordinatorView D). v.staged) begins.new_is ∙ sym (append-nil old.staged)) (ap (λ (v : CoordinatorView D). v.is_down) begins.new_is)
     begun write (Err e) a = unchanged a.err.0
 
     decided : (intent : IntentValue) (votes : List VoteValue) (r : Result DecidedValue NotDecided) → DecideAnswers state honest old intent votes r new → LogGoesOn old new
     decided intent votes (Ok d) a =
-        let decides = (a.ok (sound.running (is_up old.is_down (λ down. cc (a.was_up down))))).0 in
+        let decides = (a.ok (sound.running (false_from_ne_true old.is_down (λ down. cc (a.was_up down))))).0 in
         more _ (ap (λ (v : CoordinatorView D). v.durable) decides.new_is) (ap (λ (v : CoordinatorView D). v.staged) decides.new_is) (ap (λ (v : CoordinatorView D). v.is_down) decides.new_is)
     decided intent votes (Err e) a = unchanged a.same
 
     aborted : (intent : IntentValue) (r : Result VerdictValue Refusal) → AbortAnswers state honest old intent r new → LogGoesOn old new
     aborted intent (Ok v) a =
-        let aborts = (a.ok (sound.running (is_up old.is_down (λ down. cc (a.down.1 down))))).1 in
+        let aborts = (a.ok (sound.running (false_from_ne_true old.is_down (λ down. cc (a.down.1 down))))).1 in
         more [] (ap (λ (v : CoordinatorView D). v.durable) aborts.new_is) (ap (λ (v : CoordinatorView D). v.staged) aborts.new_is ∙ sym (append-nil old.staged)) (ap (λ (v : CoordinatorView D). v.is_down) aborts.new_is)
     aborted intent (Err e) a = unchanged a.err.0
 
     raised : (place : ℕ) (settled : List SettledValue) (r : Result (Unit {0}) NotRaised) → RaiseAnswers state honest old place settled r new → LogGoesOn old new
     raised place settled (Ok done) a =
-        let raises = (a.ok (sound.running (is_up old.is_down (λ down. cc (a.was_up down))))).0 in
+        let raises = (a.ok (sound.running (false_from_ne_true old.is_down (λ down. cc (a.was_up down))))).0 in
         ⊎_elim
         (λ one. more _ (ap (λ (v : CoordinatorView D). v.durable) one.1) (ap (λ (v : CoordinatorView D). v.staged) one.1) (ap (λ (v : CoordinatorView D). v.is_down) one.1))
         (λ none. unchanged none.1)
@@ -95,18 +91,3 @@ module _ {D : Type 0} (state : Away D → State) (honest : Away D → Type 0) (m
       → LogStaysIn x old → LogStaysIn x new
   log_stays_behind call (Some old) (Some new) reply calm sound a stays = behind_still call old reply new calm sound a stays
   log_stays_behind call old new reply calm sound a stays = absurd a
-
--- a writer that decides then knows of its decision
-pub tells_decided : (asked : WriteValue) (above : ℕ) (seen : List Entry) (before tried : List Attempt) (intent : IntentValue) (votes : Vec VoteValue) (reply : Reply) → above ≤ length seen → tried ≡ before ++ tried_by intent.write reply → TellsDecided seen reply
-    → TellsWriter (IsTried tried) asked above seen (Coordinator (Decide intent votes)) reply
-tells_decided asked above seen before tried intent votes (from_coordinator (told.Decide (Ok d))) le adds tells = (
-  (length before, ap (λ (l : List Attempt). slice_get l (length before)) adds ∙ at_the_end before (attempt d intent.write) (length before) refl),
-  omega (arith, le, tells),
-)
-tells_decided asked above seen before tried intent votes reply le adds tells = tt
-
--- and what it is told of one that is kept stands there
-pub tells_kept : (asked : WriteValue) (above : ℕ) (seen : List Entry) (tried : List Attempt) (d : DecidedValue) (reply : Reply) → TellsKept seen tried d reply → TellsWriter (IsTried tried) asked above seen (Coordinator (Outcome d)) reply
-tells_kept asked above seen tried d (from_coordinator (told.Outcome (Kept place))) tells = tells
-tells_kept asked above seen tried d (from_coordinator (told.Outcome (Later back))) tells = tells
-tells_kept asked above seen tried d reply tells = tt

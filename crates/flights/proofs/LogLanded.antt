@@ -6,7 +6,8 @@ use Rattle.coordinator.specs.Lending.{IsToldOf}
 use Rattle.calls.specs.Lending.{CoordinatorMayLand}
 use Rattle.sides.specs.Lending.{ComesBack, ComesBackIn}
 use Rattle.flights.specs.Flights.{LogStaysBehind}
-use Rattle.flights.proofs.Landed.{no_longer, taken}
+use Rattle.flights.proofs.Landed.{taken}
+use Rattle.tuples.proofs.Lists.{prefix_length}
 
 module _ {D : Type 0} (state : D → State) (honest : D → Type 0) (store shards : ℕ) where
   -- Given a coordinator without its devices, and what comes back of the launch with which they left
@@ -17,7 +18,7 @@ module _ {D : Type 0} (state : D → State) (honest : D → Type 0) (store shard
     may_land_one : IsSound (lent_state state) (lent_honest honest) store shards v → CoordinatorMayLand state honest v flown flying
     may_land_one sound = record {
       sent = record {
-        count = let n = no_longer x.staged v.staged stays.staged in omega (arith, n, came.told.all);
+        count = let n = prefix_length x.staged v.staged stays.staged in omega (arith, n, came.told.all);
         len = ap batch_size (first ∙ sym (taken x.staged x.staged flying.sent.count ([], append-nil x.staged) came.told.all)) ∙ came.told.sent.len;
       };
       told = λ up flew. subst (λ (l : List Record). IsToldOf l flying) (sym first) came.told.told;

@@ -1,7 +1,7 @@
 -- What leaves of a coordinator, and what stays behind it.
 use Rattle.std.proofs.Common.{◌≡◌, ℕ, false, [], Option, Some, None, refl, sym, ◌∙◌, ap, subst}
 use Rattle.std.proofs.lemmas.List.{append-nil}
-use Rattle.flights.proofs.Words.{Away, Coordinator, coordinator, CoordinatorView, Flying, IsReady, IsSound, IsSoundThere, launch_of, LendsIn, LogStaysIn, NodeView, OfCoordinator, refusal_in, refused, Shard, shard, State, View}
+use Rattle.flights.proofs.Words.{Away, Coordinator, coordinator, CoordinatorView, Flying, IsReady, IsSound, launch_of, LendsIn, LogStaysIn, NodeView, OfCoordinator, refusal_in, refused, Shard, shard, State, View}
 use Rattle.calls.specs.Lending.{CoordinatorLends}
 use Rattle.sides.specs.Lending.{IsUpThere}
 
@@ -30,17 +30,6 @@ module _ {D : Type 0} (state : D → State) (honest : D → Type 0) (store shard
       staged = ([], append-nil flight.staged ∙ ap (λ (j : View D). j.staged) lends.flight_is ∙ sym lends.stays.staged);
       up = lends.stays.is_down ∙ up;
     }
-
-  pub log_is_ready : (old : Option (NodeView D)) (new : Option (NodeView (Away D))) (flight : View D) (flying : Flying) → LendsIn state honest old new flight flying → IsSoundThere state honest store shards old → IsUpThere old
-      → IsReady state honest flight flying
-  log_is_ready (Some (coordinator v)) (Some (coordinator u)) flight (Coordinator flying) lends sound up = ready_one v u flight flying lends up sound
-  log_is_ready (Some (coordinator v)) (Some (coordinator u)) flight (Shard flying) lends sound up = absurd lends
-  log_is_ready (Some (coordinator v)) (Some (shard u)) flight flying lends sound up = absurd lends
-  log_is_ready (Some (coordinator v)) (Some (refused e a b)) flight flying lends sound up = absurd lends
-  log_is_ready (Some (coordinator v)) None flight flying lends sound up = absurd lends
-  log_is_ready (Some (shard v)) new flight flying lends sound up = absurd up
-  log_is_ready (Some (refused e a b)) new flight flying lends sound up = absurd up
-  log_is_ready None new flight flying lends sound up = absurd up
 
   pub log_left_behind : (old : Option (NodeView D)) (new : Option (NodeView (Away D))) (flight : View D) (flying : Flying) → LendsIn state honest old new flight flying → IsUpThere old → LogStaysIn (launch_of flight flying) new
   log_left_behind (Some (coordinator v)) (Some (coordinator u)) flight (Coordinator flying) lends up = stays_one v u flight flying lends up

@@ -1,6 +1,7 @@
 -- A checkpoint leaves a shard sound.
 use Rattle.std.proofs.Common.{⊎_elim, true≢false, ℕ, List, Result, Option, Some, Ok, Err, sym, ◌∙◌, subst}
-use Rattle.flights.proofs.Words.{Answered, AnsweredIn, Checkpoint, from_shard, is_up, IsSoundIn, IsSoundShard, NodeView, Refusal, refused, Reply, shard, ShardAnswers, ShardReply, ShardView, State}
+use Rattle.std.proofs.lemmas.Bool.{false_from_ne_true}
+use Rattle.flights.proofs.Words.{Answered, AnsweredIn, Checkpoint, from_shard, IsSoundIn, IsSoundShard, NodeView, Refusal, refused, Reply, shard, ShardAnswers, ShardReply, ShardView, State}
 use Rattle.calls.specs.declared.call.NodeCall.TheVariants.{Shard}
 use Rattle.calls.specs.declared.reply.ShardReply.TheVariants as told_by
 use Rattle.calls.specs.ShardAnswers.{CheckpointAnswers}
@@ -8,7 +9,7 @@ use Rattle.calls.specs.ShardAnswers.{CheckpointAnswers}
 module _ {D : Type 0} (state : D → State) (honest : D → Type 0) (moment : D → ℕ) (left_since : D → ℕ → List ℕ → Type 0) where
   sound_behind : (old new : ShardView D) (r : Result (Unit {0}) Refusal) → IsSoundShard state honest old → CheckpointAnswers state honest moment left_since old r new → IsSoundShard state honest new
   sound_behind old new (Ok done) sound a =
-      let up = (a.ok (sound.running (is_up old.is_down (λ down. cc (a.down down).0)))).up in
+      let up = (a.ok (sound.running (false_from_ne_true old.is_down (λ down. cc (a.down down).0)))).up in
       record { running = λ is_up. up; honest_a = up.honest_a; honest_b = up.honest_b }
   sound_behind old new (Err e) sound a = ⊎_elim
       (λ failed. record { running = λ is_up. absurd (true≢false (sym failed.1 ∙ is_up)); honest_a = a.still_honest.0.0 sound.honest_a; honest_b = a.still_honest.1.0 sound.honest_b })

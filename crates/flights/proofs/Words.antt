@@ -23,7 +23,6 @@ pub use Rattle.records.specs.declared.record.Record.{Record}
 pub use Rattle.refusal.specs.declared.refusal.Refusal.{Refusal}
 pub use Rattle.shard.specs.Shards.{ShardView}
 pub use Rattle.shard.specs.declared.lending.Flying.{Flying as OfShard}
-pub use Rattle.sides.proofs.ShardCalls.{is_up}
 pub use Rattle.sides.specs.CoordinatorSides.{IsSound, IsSoundThere}
 pub use Rattle.sides.specs.Lending.{IsSoundIn, IsSoundShard, LendsIn, MayLandIn, refusal_in}
 pub use Rattle.sides.specs.Sides.{AnsweredIn}

@@ -3,7 +3,7 @@ ghost use Rattle.std.specs.Prelude.{◌≡◌};
 
 use crate::call_names::Named;
 use crate::logging::{log_check, log_read, log_watch};
-use crate::stores::{SHARDS, Store};
+use crate::stores::{Store, shards};
 use crate::turning::turn;
 use answer_flow::{CheckFlow, ReadFlow, WatchFlow};
 use calls::Told;
@@ -39,7 +39,7 @@ impl Checking {
             user,
         } = tuple;
         let userset = Userset { object, relation };
-        let flow = CheckFlow::new(alloc, SHARDS, freshness, &userset, user)?;
+        let flow = CheckFlow::new(alloc, shards(), freshness, &userset, user)?;
         Ok(Checking { flow })
     }
 
@@ -62,7 +62,7 @@ impl Asking {
         match request {
             Request::Write(_) => Err(Refusal::BadRequest),
             Request::Read { freshness, sets } => {
-                let flow = ReadFlow::new(alloc, SHARDS, freshness, sets);
+                let flow = ReadFlow::new(alloc, shards(), freshness, sets);
                 Ok(Asking::Read(Reading { flow }))
             }
             Request::Check { freshness, tuple } => {

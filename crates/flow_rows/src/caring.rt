@@ -2,7 +2,7 @@
 ghost use Rattle.std.specs.Prelude.{◌≡◌, true, IfSome};
 ghost use Rattle.care_flow.specs.Cares.{IsThere, begun};
 
-use crate::stores::{SHARDS, Store};
+use crate::stores::{SHARDS, Store, shards};
 use crate::turning::turn;
 use calls::Told;
 use care_flow::CareFlow;
@@ -33,7 +33,7 @@ pub(crate) fn begin_care(alloc: Global, care: Care) -> Option<CareFlow>
     if !is_there(care) {
         return None;
     }
-    Some(CareFlow::new(alloc, SHARDS, care))
+    Some(CareFlow::new(alloc, shards(), care))
 }
 
 /// Makes so many of its calls, and logs them; fewer where it ends before.

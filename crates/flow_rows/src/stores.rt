@@ -1,6 +1,5 @@
 // Stores of two shards over disks in memory, and what stores of any number of them are made of.
-ghost use Rattle.std.specs.Prelude.{◌≤◌, ◌<◌};
-ghost use Rattle.records.specs.Identity.{max_shards};
+ghost use Rattle.std.specs.Prelude.{◌≡◌, ◌<◌};
 ghost use Rattle.calls.specs.Belonging.{IsOwed, IsReplyTo};
 
 use crate::refusing::{Refusing, answer};
@@ -10,13 +9,20 @@ use journal::Bank;
 use names::NodeName;
 use records::Identity;
 use std::alloc::{AllocError, Global};
-use tuples::Refusal;
+use tuples::{Refusal, Shards};
 
 /// The number of each store.
 pub(crate) const STORE: u64 = 1;
 
 /// How many shards each store has.
 pub(crate) const SHARDS: u8 = 2;
+
+/// That number, as a store has it.
+pub(crate) fn shards() -> Shards
+    ensures { result ≡ SHARDS }
+{
+    Shards::of(SHARDS)
+}
 
 /// The nodes of a store. One is not there while it is opened again.
 #[derive(Drop)]
@@ -52,29 +58,27 @@ fn two_of<D: Device>(devices: &mut Vec<D>) -> Option<(D, D)> {
 }
 
 /// The coordinator of a store of so many shards.
-pub(crate) fn open_coordinator<D: Device>(alloc: Global, a: D, b: D, shards: u8) -> Node<D>
-    requires { (1 ≤ shards) × (shards ≤ max_shards) }
-{
+pub(crate) fn open_coordinator<D: Device>(alloc: Global, a: D, b: D, shards: Shards) -> Node<D> {
     Node::open_coordinator(alloc, a, b, Identity::coordinator(STORE, shards))
 }
 
 /// One of so many shards.
-pub(crate) fn open_shard<D: Device>(alloc: Global, a: D, b: D, shards: u8, shard: u8) -> Node<D>
-    requires { (shard < shards) × (shards ≤ max_shards) }
+pub(crate) fn open_shard<D: Device>(alloc: Global, a: D, b: D, shards: Shards, shard: u8) -> Node<D>
+    requires { shard < shards }
 {
     Node::open_shard(alloc, a, b, Identity::shard(STORE, shards, shard))
 }
 
 fn next_coordinator<D: Device>(alloc: Global, devices: &mut Vec<D>) -> Option<Node<D>> {
     let (a, b) = two_of(devices)?;
-    Some(open_coordinator(alloc, a, b, SHARDS))
+    Some(open_coordinator(alloc, a, b, shards()))
 }
 
 fn next_shard<D: Device>(alloc: Global, devices: &mut Vec<D>, shard: u8) -> Option<Node<D>>
     requires { shard < 2 }
 {
     let (a, b) = two_of(devices)?;
-    Some(open_shard(alloc, a, b, SHARDS, shard))
+    Some(open_shard(alloc, a, b, shards(), shard))
 }
 
 // What its devices are found with.
@@ -88,7 +92,7 @@ fn revived<D: Device>(node: Node<D>) -> (D, D) {
 /// Makes the call at a node of a store of so many shards, where it is the one that is named.
 pub(crate) fn ask_at<D: Device>(
     node: &mut Option<Node<D>>,
-    shards: u8,
+    shards: Shards,
     call: NodeCall,
     told: &mut Told,
 ) -> Reply
@@ -113,9 +117,9 @@ fn open_again<D: Device>(alloc: Global, place: &mut Option<Node<D>>, name: NodeN
     };
     let (a, b) = revived(node);
     let opened = match name {
-        NodeName::Coordinator => open_coordinator(alloc, a, b, SHARDS),
-        NodeName::Shard(0) => open_shard(alloc, a, b, SHARDS, 0),
-        NodeName::Shard(_) => open_shard(alloc, a, b, SHARDS, 1),
+        NodeName::Coordinator => open_coordinator(alloc, a, b, shards()),
+        NodeName::Shard(0) => open_shard(alloc, a, b, shards(), 0),
+        NodeName::Shard(_) => open_shard(alloc, a, b, shards(), 1),
     };
     drop(place.replace(opened));
 }
@@ -141,9 +145,9 @@ impl<D: Device> Store<D> {
             return answer(refusal, call);
         }
         match call.node() {
-            NodeName::Coordinator => ask_at(&mut self.coordinator, SHARDS, call, told),
-            NodeName::Shard(0) => ask_at(&mut self.first, SHARDS, call, told),
-            NodeName::Shard(_) => ask_at(&mut self.second, SHARDS, call, told),
+            NodeName::Coordinator => ask_at(&mut self.coordinator, shards(), call, told),
+            NodeName::Shard(0) => ask_at(&mut self.first, shards(), call, told),
+            NodeName::Shard(_) => ask_at(&mut self.second, shards(), call, told),
         }
     }
 

@@ -1,5 +1,5 @@
 // The words of a step.
-use crate::stores::{SHARDS, STORE};
+use crate::stores::{STORE, shards};
 use lines::Command;
 use names::{Care, NodeName};
 use std::alloc::Global;
@@ -17,7 +17,7 @@ pub(crate) fn two_numbers(text: &str) -> Result<(usize, usize), Refusal> {
 
 /// The line of a script, in which no flow has a name.
 pub(crate) fn command(alloc: Global, line: &str) -> Result<Command, Refusal> {
-    Command::parse(alloc, line.as_bytes(), STORE, SHARDS, &[])
+    Command::parse(alloc, line.as_bytes(), STORE, shards(), &[])
 }
 
 /// A request, as a script spells it.

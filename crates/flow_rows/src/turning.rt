@@ -2,7 +2,7 @@
 ghost use Rattle.std.specs.Prelude.{◌≡◌};
 
 use crate::call_names::Named;
-use crate::stores::{SHARDS, Store};
+use crate::stores::{Store, shards};
 use calls::{Running, Told};
 use commit_flow::{WriteEnd, WriteFlow};
 use device::Device;
@@ -34,7 +34,7 @@ pub(crate) struct Turning {
 
 impl Turning {
     pub(crate) fn new(alloc: Global, write: Write) -> Result<Turning, Refusal> {
-        let flow = WriteFlow::new(alloc, SHARDS, write)?;
+        let flow = WriteFlow::new(alloc, shards(), write)?;
         Ok(Turning { flow })
     }
 

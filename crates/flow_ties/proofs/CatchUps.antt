@@ -1,33 +1,19 @@
 -- What is on its way to a shard is a part of the list that was seen.
-use Rattle.std.proofs.Common.{◌≡◌, ◌≢◌, ◌⊎◌, inl, inr, ⊎_elim, ℕ, zero, suc, Bool, ◌≤◌, ◌<◌, List, [], ◌∷◌, ◌++◌, length, Option, Some, None, Result, Ok, Err, refl, sym, ◌∙◌, ap, subst, arith, length-append}
+use Rattle.std.proofs.Common.{◌≡◌, ◌⊎◌, inl, inr, ⊎_elim, ℕ, Bool, ◌≤◌, ◌<◌, List, Option, Some, None, Result, Ok, Err, sym, ◌∙◌, ap, subst}
 use Rattle.std.proofs.lemmas.Bool.{cases_Bool, cases_lt}
-use Rattle.std.proofs.lemmas.List.{length-take, take-append-le}
 use Rattle.std.proofs.lemmas.Option.{same_Some}
 use mathlib.Core.List.{IsPrefix}
-use Rattle.flow_ties.proofs.Words.{AreOfLog, Asks, BatchValue, CatchUpCallValue, CatchUpValue, Coordinator, Entry, from_coordinator, from_shard, Full, Gives, IsBatchOf, IsHeld, IsReplyTo, IsTold, learning, Next, NodeCall, Progress, Refusal, Refused, Reply, Shard, There}
-use Rattle.refusal.specs.declared.refusal.Refusal.TheVariants.{Collected}
+use Rattle.flow_ties.proofs.Words.{Asks, BatchValue, CatchUpCallValue, CatchUpValue, Coordinator, Entry, from_coordinator, from_shard, Gives, IsBatchOf, IsHeld, IsReplyTo, IsTold, learning, Next, NodeCall, Progress, Refusal, Refused, Reply, Shard, There}
+use Rattle.refusal.proofs.Cases.{is_full, is_collected}
 use Rattle.calls.specs.declared.call.CoordinatorCall.TheVariants as calls
 use Rattle.calls.specs.declared.call.ShardCall.TheVariants as shard_calls
 use Rattle.calls.specs.declared.reply.CoordinatorReply.TheVariants as told
 use Rattle.calls.specs.declared.reply.ShardReply.TheVariants as told_by
 use Rattle.catch_up.specs.CatchingUp.{BatchGives, LearnGives}
-
-stretch_longer : (seen more : List Entry) (from : ℕ) (writes : List Entry) → AreOfLog seen from writes → AreOfLog (seen ++ more) from writes
-stretch_longer seen more zero writes of_list =
-    of_list ∙ sym (take-append-le (length writes) seen more (omega (arith, ap length of_list, length-take (length writes) seen)))
-stretch_longer [] more (suc from) [] of_list = refl
-stretch_longer [] more (suc from) (w ∷ writes) of_list = absurd (cc of_list)
-stretch_longer (x ∷ seen) more (suc from) writes of_list = stretch_longer seen more from writes of_list
-
--- a batch of a list is one of each longer list
-pub batch_longer : (seen longer : List Entry) (b : BatchValue) → IsPrefix seen longer → IsBatchOf seen b → IsBatchOf longer b
-batch_longer seen longer b pre is = record { of_list = subst (λ (l : List Entry). AreOfLog l b.from b.writes) pre.1 (stretch_longer seen pre.0 b.from b.writes is.of_list); whole = is.whole }
+use Rattle.ties.proofs.Telling.{batch_longer}
 
 pub held_longer : (seen longer : List Entry) (held : Option BatchValue) → IsPrefix seen longer → IsHeld seen held → IsHeld longer held
 held_longer seen longer held pre is b has = batch_longer seen longer b pre (is b has)
-
-pub prefix_length : {X : Type 0} (xs ys : List X) → IsPrefix xs ys → length xs ≤ length ys
-prefix_length xs ys pre = omega (arith, ap length pre.1, length-append xs pre.0)
 
 pub none_held : (seen : List Entry) → IsHeld seen None
 none_held seen b none = absurd (let bad : None ≡ Some b = none in cc)
@@ -40,14 +26,6 @@ abbrev pub HoldsOn : List Entry → Progress → Type 0
 HoldsOn seen (Next c) = IsHeld seen c.batch
 HoldsOn seen There = Unit {0}
 HoldsOn seen (Refused e) = Unit {0}
-
-pub is_collected : (f : Refusal) → (f ≡ Collected) ⊎ (f ≢ Collected)
-is_collected Collected = inl refl
-is_collected f = inr (λ is. cc)
-
-pub is_full : (f : Refusal) → (f ≡ Full) ⊎ (f ≢ Full)
-is_full Full = inl refl
-is_full f = inr (λ is. cc)
 
 -- a batch that is handed over is the one that was held
 pub handed_over : (seen : List Entry) (v : CatchUpValue) (s : ℕ) (b : BatchValue) (then : CatchUpCallValue) → IsHeld seen v.batch → Asks v (Shard s (shard_calls.Learn b)) then → IsBatchOf seen b

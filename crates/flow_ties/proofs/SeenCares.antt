@@ -29,7 +29,8 @@ use Rattle.care_flow.specs.Raising as raising
 use Rattle.care_flow.specs.Resolving as resolving
 use Rattle.care_flow.specs.Views.{out, ready}
 use Rattle.flow_ties.specs.Cares.{CaresBegin, CaresGoOn, CaresHandOverWhatIsSeen, CaresStaySeen, IsCareOf, on_the_way}
-use Rattle.flow_ties.proofs.CatchUps.{HoldsOn, caught, handed_over, held_longer, is_full, none_held}
+use Rattle.flow_ties.proofs.CatchUps.{HoldsOn, caught, handed_over, held_longer, none_held}
+use Rattle.refusal.proofs.Cases.{is_full}
 
 -- what is said of an option that is not empty is said of its value
 some_of : {X : Type 0} (P : X → Type 0) (o : Option X) → MatchOption o ⊥ P → (x : X) × (o ≡ Some x) × P x

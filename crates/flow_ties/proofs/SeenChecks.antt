@@ -6,17 +6,17 @@ use mathlib.Core.List.{IsPrefix}
 use Rattle.flow_ties.proofs.Words.{AsksFor, at_rest, BatchValue, Behind, catch_up, catch_up_call, CatchesUp, CatchUpGives, CheckAwaited, checked, CheckHolds, CheckStep, CheckView, Continues, Coordinator, ended, Entry, flush, flush_call, FlushGives, Freshness, from_coordinator, from_shard, Full, GivesTo, goes_on, has_or_not, heads, heads_call, HeadsGive, HeadsValue, holding, HoldsWalk, IsAsAsked, IsBatchOf, IsCheckOf, IsCheckSelection, IsHeld, IsMembershipAt, IsReplyTo, IsTold, max_walked, Next, NodeCall, NoMemory, one_shard_is_asked, Progress, ProgressGives, read, read_call, ReadGives, ReadReply, Refusal, Refused, refused, Reply, Rows, RowsGive, Shard, shard_of, There, Tuple, User, Userset}
 use Rattle.tuples.specs.Checking.{IsMember}
 use Rattle.tuples.specs.Log.{is_at}
+use Rattle.tuples.proofs.Lists.{contained_from, prefix_length}
 use Rattle.calls.specs.declared.call.CoordinatorCall.TheVariants as calls
 use Rattle.calls.specs.declared.call.ShardCall.TheVariants as shard_calls
 use Rattle.calls.specs.declared.reply.CoordinatorReply.TheVariants as told
 use Rattle.calls.specs.declared.reply.ShardReply.TheVariants as told_by
 use Rattle.answer_flow.specs.CheckViews.{CheckEnding, begins_at}
 use Rattle.laws.specs.Walks.{IsWalk}
-use Rattle.laws.proofs.Lists.{contained_from}
 use Rattle.laws.proofs.Walk.{says_no, says_yes, walk_begins}
 use Rattle.flow_ties.specs.Checks.{AnswersMembership, ChecksAnswerWhatIsSeen, ChecksBegin, ChecksBeginAtPlaces, ChecksHandOverWhatIsSeen, ChecksStaySeen}
 use Rattle.flow_ties.proofs.Places.{asked_place, at_prefix, kept_place}
-use Rattle.flow_ties.proofs.CatchUps.{HoldsOn, caught, held_longer, none_held, prefix_length}
+use Rattle.flow_ties.proofs.CatchUps.{HoldsOn, caught, held_longer, none_held}
 
 module _ (fresh : Freshness) (x : Userset) (u : User) where
   longer_check : (seen longer : List Entry) (v : CheckView) → IsPrefix seen longer → IsCheckOf seen fresh x u v → IsCheckOf longer fresh x u v

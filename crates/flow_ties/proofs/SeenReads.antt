@@ -7,6 +7,7 @@ use mathlib.Core.List.{IsPrefix}
 use Rattle.flow_ties.proofs.Words.{AreRowsAt, BatchValue, Behind, Coordinator, Entry, Finishes, Freshness, from_coordinator, from_shard, HeadsValue, IsAsAsked, IsBatchOf, IsHeld, IsReplyTo, IsSelection, IsTold, Key, MayBeMade, Next, NodeCall, NoMemory, nothing_read, OfObject, OfUser, Progress, ReadAwaited, ReadHolds, ReadReply, ReadStep, ReadView, Refusal, Refused, Reply, Rows, selected, Shard, shard_of, There, Tuple, Tupleset}
 use Rattle.tuples.specs.Log.{is_at}
 use Rattle.tuples.specs.Reads.{AreAscending}
+use Rattle.tuples.proofs.Lists.{slice_get_push, prefix_length}
 use Rattle.decisions.specs.Merging.{IsMerged, NeedsOnly}
 use Rattle.calls.specs.declared.call.CoordinatorCall.TheVariants as calls
 use Rattle.calls.specs.declared.call.ShardCall.TheVariants as shard_calls
@@ -15,11 +16,10 @@ use Rattle.calls.specs.declared.reply.ShardReply.TheVariants as told_by
 use Rattle.answer_flow.specs.Reading.{Asks, AsksFor, CatchUpGives, CatchesUp, Continues, FlushGives, GivesTo, HeadsGive, Merges, ProgressGives, ReadGives, RowsGive}
 use Rattle.answer_flow.specs.ReadViews.{ReadEnding, at_rest, catch_up, catch_up_call, ended, flush, flush_call, heads, heads_call, read, read_call, refused, shard_for, waiting}
 use Rattle.laws.specs.Shards.{there_below, there_of}
-use Rattle.laws.proofs.Lists.{slice_get_push}
 use Rattle.laws.proofs.ReadRows.{none_below, one_shard_is_enough, rows_go_on, rows_of_all}
 use Rattle.flow_ties.specs.Reads.{AnswersRows, HoldsRows, IsReadOf, ReadsAnswerWhatIsSeen, ReadsBegin, ReadsBeginAtPlaces, ReadsHandOverWhatIsSeen, ReadsStaySeen}
 use Rattle.flow_ties.proofs.Places.{asked_place, at_prefix, kept_place}
-use Rattle.flow_ties.proofs.CatchUps.{HoldsOn, caught, held_longer, none_held, prefix_length}
+use Rattle.flow_ties.proofs.CatchUps.{HoldsOn, caught, held_longer, none_held}
 
 module _ (shards : ℕ) (fresh : Freshness) (sets : List Tupleset) where
   rows_longer : (seen longer : List Entry) (place : ℕ) (h : ReadHolds) → IsPrefix seen longer → HoldsRows shards seen fresh sets place h → HoldsRows shards longer fresh sets place h

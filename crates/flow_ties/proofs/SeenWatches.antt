@@ -5,12 +5,12 @@ use Rattle.std.proofs.lemmas.Option.{same_Some}
 use Rattle.flow_ties.proofs.Words.{AreEventsTo, AreOfLog, batch, BatchGives, BatchValue, Coordinator, Entry, events_from, from_coordinator, HeadsHeld, HeadsValue, heartbeat, IsTold, listed, no_heads, NodeCall, NoMemory, Placed, Refusal, Reply, Shard, waiting, WatchCall, WatchView, with_heads}
 use Rattle.tuples.specs.Limits.{max_watched}
 use Rattle.tuples.specs.Watching.{events}
+use Rattle.tuples.proofs.Lists.{prefix_length}
 use Rattle.calls.specs.declared.call.CoordinatorCall.TheVariants as calls
 use Rattle.calls.specs.declared.reply.CoordinatorReply.TheVariants as told
 use Rattle.answer_flow.specs.Watching.{AsksFor, FlushGives, GivesTo, HeadsGive}
 use Rattle.answer_flow.specs.WatchViews.{WatchEnding, at_rest, ended, flush, heads, refused}
 use Rattle.flow_ties.specs.Watches.{AreHeadsOf, IsWatchOf, TellsWatcher, WatchesBegin, WatchesListWhatIsSeen, WatchesStaySeen}
-use Rattle.flow_ties.proofs.CatchUps.{prefix_length}
 
 module _ (cursor limit : ℕ) (names : List (List ℕ)) (before shards : ℕ) (seen : List Entry) where
   abbrev Is : WatchView → Type 0

@@ -20,7 +20,8 @@ use Rattle.commit_flow.specs.WriteHolds as waits
 use Rattle.commit_flow.specs.Views.{at_rest}
 use Rattle.commit_flow.specs.Writing.{Asks}
 use Rattle.flow_ties.specs.Writes.{IsDecisionOf, IsOfRequest, IsWriteOf, Linking, TellsWriter, WritesAreRelinked, WritesBegin, WritesHandOverWhatIsSeen, WritesStaySeen, WritesTellWhatStands}
-use Rattle.flow_ties.proofs.CatchUps.{HoldsOn, by_batch, by_flush, by_learn, by_learned, held_longer, is_full, none_held}
+use Rattle.flow_ties.proofs.CatchUps.{HoldsOn, by_batch, by_flush, by_learn, by_learned, held_longer, none_held}
+use Rattle.refusal.proofs.Cases.{is_full}
 
 -- a way out ends at no place
 no_place_out : (way : Way) (place : ℕ) → end_of way ≡ Wrote place → ⊥
@@ -37,9 +38,6 @@ module _ (links : DecidedValue → Entry → Type 0) (asked : WriteValue) (above
     pub intent : (i : IntentValue) → h.intent ≡ Some i → IsOfRequest asked i.write
     pub batch : IsHeld seen h.batch
     pub decided : (d : DecidedValue) → h.decided ≡ Some d → IsDecisionOf links asked above d × (h.way ≡ onward)
-
-  none_decided : (h : WriteHolds) → h.decided ≡ None → (d : DecidedValue) → h.decided ≡ Some d → IsDecisionOf links asked above d × (h.way ≡ onward)
-  none_decided h none d is = absurd (let bad : None ≡ Some d = sym none ∙ is in cc)
 
   rests : (h : WriteHolds) (caught : Option ℕ) (flushed : Bool) → Holds h → Is (record (at_rest h) { caught = caught; flushed = flushed })
   rests h caught flushed holds = record {

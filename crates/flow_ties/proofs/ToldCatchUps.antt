@@ -6,7 +6,7 @@ use Rattle.calls.specs.declared.call.CoordinatorCall.TheVariants as calls
 use Rattle.calls.specs.declared.call.ShardCall.TheVariants as shard_calls
 use Rattle.calls.specs.declared.reply.CoordinatorReply.TheVariants as told
 use Rattle.calls.specs.declared.reply.ShardReply.TheVariants as told_by
-use Rattle.flow_ties.proofs.CatchUps.{is_collected, is_full}
+use Rattle.refusal.proofs.Cases.{is_full, is_collected}
 
 goes_on : (c : _) (progress : Progress) (e : AnyRefusal) → progress ≡ Next c → progress ≡ Refused e → ⊥
 goes_on c progress e next refused = absurd (let bad : Next c ≡ Refused e = sym next ∙ refused in cc)

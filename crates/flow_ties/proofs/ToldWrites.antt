@@ -17,8 +17,8 @@ use Rattle.commit_flow.specs.Views.{as_tickets, at_rest, ticket_value}
 use Rattle.commit_flow.specs.Writing.{Asks, IsOnItsWayOut}
 use Rattle.flow_ties.specs.Refusing.{Notices}
 use Rattle.flow_ties.specs.Writes.{AreThere, WritesBeginUntold, WritesRefuseAsTold}
-use Rattle.flow_ties.proofs.CatchUps.{is_full}
 use Rattle.flow_ties.proofs.ToldCatchUps.{batch_carries, flush_carries, learn_carries, learned_carries}
+use Rattle.refusal.proofs.Cases.{is_full}
 
 -- what a reply refuses is told then, of whichever call it is one
 record Noted (old : List Bool) (reply : Reply) (new : List Bool) : Type 0 where

@@ -3,6 +3,7 @@ use Rattle.std.proofs.Common.{◌≡◌, inl, ℕ, ◌+◌, ◌≤◌, ◌-◌, 
 use Rattle.std.specs.Int.{w32, to_be_bytes}
 use Rattle.device.specs.Device.{State, Leaves, Wrote, Tore, Synced, Keeps, Elapses, LeavesOnly, patched, left}
 use Rattle.std.proofs.lemmas.List.{length-take-le, length-drop, drop_more, drop_all, take-append-drop, set_at}
+use Rattle.std.proofs.lemmas.Option.{same_Some}
 use Rattle.gated.specs.Gated.{body_of, gated, max_body, open_gate, record_head, spelled, Fits, IsOldOrNew, IsReady, HasList, WasPut}
 use Rattle.std.specs.Result.{OnOk, OnErr}
 use Rattle.gated.proofs.Spelled.{gated_spelled, spelled-split, spelled-push, fit-push}
@@ -27,9 +28,6 @@ framed gate buf size four some =
     ap (λ (l : List ℕ). set l (4 + n) gate) whole
     ∙ set_at (size ++ body_of buf) (get_or (drop 4 buf) n 0) [] gate (4 + n) (omega (arith, four, length-body buf some, length-append size (body_of buf)))
 
-some_is : {X : Type 0} (x y : X) → Some x ≡ Some y → x ≡ y
-some_is x y is = cc
-
 module _ (s : State) (end : ℕ) (r : IsReady s end) where
   durable_is : s.durable ≡ spelled r.bodies (r.gate ∷ r.rest)
   durable_is = r.durable ∙ r.seen
@@ -43,7 +41,7 @@ module _ (s : State) (end : ℕ) (r : IsReady s end) where
   pub same_list : (bodies : List (List ℕ)) → HasList s bodies → r.bodies ≡ bodies
   same_list bodies has =
       let here = has s.durable (subst (λ (w : List (ℕ × ℕ)). Leaves s.durable w s.durable) (sym r.written) (leaves_itself s.durable)) in
-      some_is r.bodies bodies (sym (gated_spelled r.bodies r.gate r.rest r.fit r.closed) ∙ ap gated (sym durable_is) ∙ here)
+      same_Some r.bodies bodies (sym (gated_spelled r.bodies r.gate r.rest r.fit r.closed) ∙ ap gated (sym durable_is) ∙ here)
 
   pub first_leaves : (bodies : List (List ℕ)) → HasList s bodies → (body : List ℕ) (n : ℕ) (c : List ℕ) → Leaves s.durable ((end + 1, n) ∷ []) c → IsOldOrNew bodies body c
   first_leaves bodies has body n c leaves =

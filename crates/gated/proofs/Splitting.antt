@@ -1,6 +1,6 @@
 -- A content that is read record by record.
-use Rattle.std.proofs.Common.{◌≡◌, ◌⊎◌, inl, inr, ⊎_elim, ℕ, zero, suc, Bool, true, false, not, ◌+◌, ◌-◌, ◌<◌, ◌≤◌, ◌==◌, ◌&&◌, nat_lt, nat_le, List, [], ◌∷◌, ◌++◌, length, take, drop, get_or, Some, None, refl, sym, ◌∙◌, ap, subst, arith, cond, length-append, length-drop}
-use Rattle.std.proofs.lemmas.Bool.{cases_eq, lt-ltb, ne_eqb, eq-eqb, ltb-true, leb-true, cases_lt, and_left, and_from, and_parts}
+use Rattle.std.proofs.Common.{◌≡◌, ◌⊎◌, inl, inr, ⊎_elim, ℕ, zero, suc, true, false, ◌+◌, ◌-◌, ◌<◌, ◌≤◌, ◌==◌, ◌&&◌, nat_lt, nat_le, List, [], ◌∷◌, ◌++◌, length, take, drop, get_or, Some, None, refl, sym, ◌∙◌, ap, subst, arith, cond, length-append, length-drop}
+use Rattle.std.proofs.lemmas.Bool.{cases_eq, lt-ltb, ne_eqb, eq-eqb, ltb-true, leb-true, cases_lt, and_left, and_from, and_parts, not-true}
 use Rattle.std.proofs.lemmas.List.{take_all, drop-drop, take-append-drop, length-take-le, drop_more, get_or-take, get_or-drop, get_or_past, length-take}
 use Rattle.std.proofs.lemmas.Nat.{be_bytes_4}
 use Rattle.std.specs.Int.{w32, to_be_bytes}
@@ -34,17 +34,13 @@ gate_opens rest fair is =
     let long : 1 < length rest = ⊎_elim (λ (e : length rest ≡ 1). absurd (unfair rest fair is e)) (λ (l : 1 < length rest). l) (one_or_more (length rest) fair.some) in
     and_from _ _ (lt-ltb 1 (length rest) long) (eq-eqb (get_or rest 0 0) 165 is)
 
-not_true : (x : Bool) → not x ≡ true → x ≡ false
-not_true true e = cc
-not_true false e = refl
-
 whole_parts : (rest : List ℕ) → is_whole rest ≡ true → (1 ≤ body_length rest) × (body_length rest ≤ 1048576) × (5 + body_length rest < length rest) × (((length (behind rest) == 1) && (get_or (behind rest) 0 0 == 165)) ≡ false)
 whole_parts rest whole =
     let n = body_length rest in
     let first = and_parts (nat_le 1 n) _ whole in
     let second = and_parts (nat_le n 1048576) _ first.1 in
     let third = and_parts (nat_lt (5 + n) (length rest)) _ second.1 in
-    (leb-true 1 n first.0, leb-true n 1048576 second.0, ltb-true (5 + n) (length rest) third.0, not_true _ third.1)
+    (leb-true 1 n first.0, leb-true n 1048576 second.0, ltb-true (5 + n) (length rest) third.0, not-true _ third.1)
 
 size_bytes : (rest : List ℕ) → ((i : ℕ) → get_or rest i 0 < 256) → (i : ℕ) → get_or (take 4 (drop 1 rest)) i 0 < 256
 size_bytes rest bytes i =

@@ -1,5 +1,6 @@
 // The list of a device, found at its opening.
-ghost use Rattle.std.specs.Prelude.{◌≡◌, ◌≤◌, ◌⊎◌, ◌↔◌, [], None, true, false, length, map, OnOk, OnErr, IsErr, IsErrOf, IfOk, IfErr, vec_len};
+ghost use Rattle.std.specs.Prelude.{◌≡◌, ◌≤◌, ◌⊎◌, ◌↔◌, [], None, true, false, length, map, OnOk, OnErr, IsErr, IsErrOf, IfOk, IfErr, vec_len, ◌∷◌};
+ghost use Rattle.refusal.specs.Refusals.{IsOneOf};
 ghost use Rattle.gated.specs.Gated.{gated, IsReady, IsFoundList};
 ghost use Rattle.device.specs.Device.{Keeps, LeavesOnly, Failed, HasFailed, left};
 
@@ -59,7 +60,7 @@ pub(crate) fn find_list<D: Device>(
     ensures ok { D.honest device.old → IfOk result (λ r. IsFoundList (D.state device.old) (map (λ b. b.items) r.0.items) (D.state device.new)) }
     ensures damaged { D.honest device.old → IfErr result (λ e. e ≡ Refusal.Damaged → gated (D.state device.old).seen ≡ None) }
     ensures down { IfErr result (λ e. e ≡ Refusal.Down → HasFailed (D.state device.old) (D.state device.new)) }
-    ensures err { IfErr result (λ e. (e ≡ Refusal.Down) ⊎ ((e ≡ Refusal.NoMemory) ⊎ (e ≡ Refusal.Damaged))) }
+    ensures err { IfErr result (λ e. IsOneOf e (Refusal.Down ∷ Refusal.NoMemory ∷ Refusal.Damaged ∷ [])) }
     ensures stopped { (D.state device.old).stopped ≡ true → IsErr result }
     ensures counts { (D.state device.old).failures ≤ (D.state device.new).failures }
     ensures none { IsErrOf result Refusal.Down ⊎ ((D.state device.new).failures ≡ (D.state device.old).failures) }

@@ -18,6 +18,7 @@ use refusal::Refusal;
 use scripts::{InMemory, NoDevices, devices, run_over};
 use std::alloc::Global;
 use std::io::{Read, Write};
+use tuples::Shards;
 
 // Of the store on disks in memory, its id and its shards.
 const STORE: u64 = 1;
@@ -47,7 +48,7 @@ fn run_in_files<R: Read, W: Write>(
     reader: &mut R,
     writer: &mut W,
 ) -> u8 {
-    let (alloc, store, shards) = (rt.alloc(), asked.store, asked.shards);
+    let (alloc, store, shards) = (rt.alloc(), asked.store, Shards::of(asked.shards));
     match open_all(rt, asked.folder, shards) {
         Ok(files) => run_over(alloc, store, shards, files, NoDevices, reader, writer),
         Err(refusal) => tell_refusal(rt, refusal),
@@ -61,11 +62,12 @@ fn run_failing<R: Read, W: Write>(
     writer: &mut W,
 ) -> u8 {
     let mut first = InMemory;
-    match devices(alloc, &mut first, SHARDS) {
+    let shards = Shards::of(SHARDS);
+    match devices(alloc, &mut first, shards) {
         Ok(disks) => run_over(
             alloc,
             STORE,
-            SHARDS,
+            shards,
             disks,
             Failing::new(asked),
             reader,

@@ -4,9 +4,9 @@ use Rattle.std.proofs.lemmas.List.Elements.{All-head, All-tail}
 use Rattle.device.specs.Device.{State, left}
 use Rattle.device.specs.declared.tear.Tear.{Tear}
 use Rattle.laws.specs.Nodes.{coordinator}
+use Rattle.stores.specs.Stores.{NamesHorizon, StandsOver}
 use Rattle.turns.specs.Promises.{events_of}
 use Rattle.turns.specs.Runs as runs
-use Rattle.turns.specs.Stores.{NamesHorizon, StandsOver}
 use Rattle.turns.proofs.RunLogs.{run_more}
 use Rattle.turns.proofs.ClosedStoreRests.{closed_stores_rest}
 use Rattle.cluster.specs.Worlds.{WorldView}

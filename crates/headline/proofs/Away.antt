@@ -9,7 +9,7 @@ use Rattle.calls.specs.declared.reply.ShardReply.TheVariants as told_by
 use Rattle.commit_flow.specs.Views.{ticket_value}
 use Rattle.commit_flow.specs.Writing.{AsksShard}
 use Rattle.commit_flow.specs.WriteHolds.{HeldTicket}
-use Rattle.turns.specs.Held.{IsRightTicket, own_write}
+use Rattle.stores.specs.Held.{IsRightTicket, own_write}
 use Rattle.call_turns.proofs.Made.{IsQuietlyMade, still_made}
 use Rattle.write_turns.specs.Seen.{shown}
 use Rattle.write_turns.proofs.Going.{IsFlow, changes, conditions, flow_there, right}

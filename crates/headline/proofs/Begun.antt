@@ -10,7 +10,8 @@ use Rattle.records.specs.Coordinators.{end_of}
 use Rattle.device.specs.Device.{Leaves}
 use Rattle.turns.specs.ReopenLaws.{FindsCoordinator}
 use Rattle.turns.proofs.ClosedStore.{closed_stores_stand}
-use Rattle.headline.proofs.Closed.{closed_with, opening_wider, stands_told, stands_uncut, told_cut}
+use Rattle.turns.proofs.RunNames.{of_opening}
+use Rattle.headline.proofs.Closed.{closed_with, stands_told, stands_uncut, told_cut}
 use Rattle.headline.proofs.Places.{in_place}
 use Rattle.headline.proofs.Within.{found_again, less_left}
 
@@ -140,7 +141,7 @@ module _ {D : Type 0} (state : D → State) (honest : D → Type 0) (moment : D 
             machine = later;
             moves = closed.1.0;
             moved = closed.1.1;
-            allowed = λ j d lt. opening_wider _ (FoundHorizon state honest moment left_since store shards old) (λ x high. (high.0, (reads.0, could, high.1))) (get_or closed.1.0 j d) (closed.1.2 j d lt);
+            allowed = λ j d lt. of_opening _ (FoundHorizon state honest moment left_since store shards old) (λ x high. (high.0, (reads.0, could, high.1))) (get_or closed.1.0 j d) (closed.1.2 j d lt);
             stands = stands_told store shards (stops state honest store shards between) later told closed.0 (λ j d lt.
                 let was = told_over j d lt in (
                   λ rs left_there. subst (λ (l : List Record). (get_or told j d).epoch ≤ (coordinator_state l).epoch) (sym (finds.here rs left_there)) (was.given reads.0 could),

@@ -1,9 +1,9 @@
 -- A cancel of the flow in a slot keeps the promise of a step: a write goes out, or on to its end, and any other flow is gone.
-use Rattle.std.proofs.Common.{◌≡◌, ◌≢◌, ⊎_elim, ℕ, true, false, List, [], Option, Some, None, MatchOption, is_some, refl, sym, ◌∙◌, ap, subst}
+use Rattle.std.proofs.Common.{◌≡◌, ⊎_elim, ℕ, true, false, List, [], Option, Some, None, MatchOption, is_some, refl, sym, ◌∙◌, ap, subst}
 use Rattle.std.proofs.lemmas.Bool.{cases_eq}
-use Rattle.headline.proofs.Words.{Asked, CallName, Cancel, Care, CareFlow, Check, Flow, FlowView, Holds, IsIdle, IsShownFlow, IsShownSlot, Keeps, NamesHorizon, NodeName, Read, Running, RunsOne, Shows, SlotTurns, State, StepKeeps, Store, Watch, What, WorldView, Write, WriteEnd, Writing, all_told, asked_of, check_of, checking, events_of, flow_at, left, read_of, reading, running_at, shown_flow, shown_until, shows_care, watching}
+use Rattle.headline.proofs.Words.{Asked, Cancel, Care, CareFlow, Check, Flow, FlowView, Holds, IsIdle, IsShownFlow, IsShownSlot, Keeps, NamesHorizon, NodeName, Read, Running, RunsOne, Shows, SlotTurns, State, StepKeeps, Store, Watch, What, WorldView, Write, WriteEnd, Writing, all_told, asked_of, check_of, checking, events_of, flow_at, left, read_of, reading, running_at, shown_flow, shown_until, shows_care, watching}
 use Rattle.care_flow.specs.declared.care.CareFlow.TheVariants as cares
-use Rattle.turns.specs.Moments.{is_write}
+use Rattle.stores.specs.Moments.{is_write}
 use Rattle.turns.specs.Runs as runs
 use Rattle.call_turns.proofs.Cancels.{cancelled_flows_end}
 use Rattle.write_turns.specs.Seen.{shown}
@@ -16,10 +16,7 @@ use Rattle.headline.proofs.Leaving.{names_on, not_ended, not_waiting}
 use Rattle.headline.proofs.Lifts.{shown_there}
 use Rattle.headline.proofs.Slots.{none_shown}
 use Rattle.headline.proofs.Still.{keeps_idle, none_runs, other_flows}
-
-some_name : (o : Option CallName) → is_some o ≡ true → o ≢ None
-some_name None is none = let both : false ≡ true = is in cc
-some_name (Some name) is none = cc
+use Rattle.tuples.proofs.Options.{some_not_none}
 
 module _ {D : Type 0} (state : D → State) (honest : D → Type 0) (moment : D → ℕ) (left_since : D → ℕ → List ℕ → Type 0)
     (only_now : (d : D) (c : List ℕ) → honest d → left_since d (moment d) c → left (state d) c) where
@@ -74,7 +71,7 @@ module _ {D : Type 0} (state : D → State) (honest : D → Type 0) (moment : D 
 
       on : is_some w.flow.next_name ≡ true → Puts old.flows slot (Some (Write w)) new.flows → Keeps state honest moment left_since old s (Cancel slot) told new
       on goes put =
-          let named = some_name w.flow.next_name goes in
+          let named = some_not_none w.flow.next_name goes in
           let ended = not_ended w.flow.next_name w.flow.seen.awaited w.flow.seen.ended c.named named in
           let waits = not_waiting w.flow.next_name w.flow.seen.awaited w.flow.seen.ended c.named named in
           keeps (shown v.flow.seen v.is_cancelled) view_then before (Some (Write w)) put

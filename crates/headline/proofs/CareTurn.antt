@@ -12,7 +12,7 @@ use Rattle.care_flow.specs.declared.end.CareEnd.{CareEnd}
 use Rattle.care_flow.specs.declared.end.CareEnd.TheVariants as care_ends
 use Rattle.care_flow.proofs.Fitting.{there_given, there_next}
 use Rattle.laws.specs.Nodes as nodes
-use Rattle.turns.specs.Stores.{FlowView, Store}
+use Rattle.stores.specs.Stores.{FlowView, Store}
 use Rattle.call_turns.specs.StoreCalls.{called}
 use Rattle.care_turns.specs.CareTurns.{in_slot, shows as shows_care, tells}
 use Rattle.care_turns.proofs.AnyCare.{cares_turn}
@@ -29,6 +29,7 @@ use Rattle.headline.specs.Shown.{IsShownSlot, Shows}
 use Rattle.headline.specs.Told.{all_told}
 use Rattle.headline.proofs.Leaving.{goes_on, has_gone, others}
 use Rattle.headline.proofs.Lifts.{keeps_turn, never_away, shown_there}
+use Rattle.tuples.proofs.Options.{some_not_none}
 
 -- the node of a call that may be made is there
 pub made_there : (shards : ℕ) (call : NodeCall) → MayBeMade shards call → nodes.IsThere shards (called call)
@@ -44,10 +45,6 @@ end_told (care_ends.Refused e) told is = ap all_told is
 no_name : (o : Option CallName) → is_some o ≡ false → o ≡ None
 no_name None is = refl
 no_name (Some name) is = absurd (true≢false is)
-
-some_name : (o : Option CallName) → is_some o ≡ true → o ≢ None
-some_name None is none = true≢false (sym is)
-some_name (Some name) is none = cc
 
 -- behind its turn it stands in its slot or has left it, as is told
 module _ (shards : ℕ) (old : List (Option Flow)) (slot : ℕ) (next : CareFlow) (told : Option What) (new : List (Option Flow)) (l : Leaves old slot (Care next) told new) (there : IsThere shards next) where
@@ -65,7 +62,7 @@ module _ (shards : ℕ) (old : List (Option Flow)) (slot : ℕ) (next : CareFlow
 
   stands : (b : Bool) → has_next next ≡ b → GoesOrEnds b (end_of next) → IsLeft (end_of next)
   stands true on rests =
-      let it = goes_on old slot (Care next) told new l (some_name (next_name_of next) (l.named ∙ on)) in
+      let it = goes_on old slot (Care next) told new l (some_not_none (next_name_of next) (l.named ∙ on)) in
       subst IsLeft (sym rests) (stays it.0 it.1)
   stands false over rests = subst IsLeft (sym rests.1) (leaves rests.0 rests.1 (has_gone old slot (Care next) told new l (no_name (next_name_of next) (l.named ∙ over))))
 

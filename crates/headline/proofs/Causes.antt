@@ -1,17 +1,14 @@
 -- A node that was opened again is up, or its opening was refused with its cause.
-use Rattle.std.proofs.Common.{◌≡◌, ◌⊎◌, inl, inr, ⊎_elim, ◌≤◌, ◌+◌, ◌++◌, ℕ, Bool, false, List, [], ◌∷◌, Some, sym, ◌∙◌, ap, subst, arith, if◌then◌else◌}
+use Rattle.std.proofs.Common.{◌≡◌, ◌⊎◌, inl, inr, ⊎_elim, ◌+◌, ◌++◌, ℕ, Bool, false, List, [], ◌∷◌, Some, sym, ◌∙◌, ap, subst, if◌then◌else◌}
 use Rattle.headline.proofs.Words.{ComesUp, Down, Full, HasFailed, IsFound, IsRevived, NodeName, NodeState, NodeView, Opens, OpensWithCause, Record, Refusal, Reopened, State, coordinator, devices_of, down, found, named, refused, shard, shown, stops, up}
 use Rattle.records.specs.Replays.{greatest_number}
 use Rattle.journal.specs.Records.{BankLacksRoom, IsOpened, View}
+use Rattle.journal.proofs.Failures.{failed_since}
 use Rattle.calls.specs.Views as views
 use Rattle.laws.specs.Nodes.{epoch_of, opening_record}
 use Rattle.turns.specs.Promises.{HasDeviceCause}
 use Rattle.turns.specs.ShardOpeningLaws.{AreRevived}
 use Rattle.turns.proofs.Rooms.{openings_without_room_have_cause}
-
--- a device that failed since it was revived failed since before
-failed_before : (x y z : State) → x.failures ≤ y.failures → HasFailed y z → HasFailed x z
-failed_before x y z le has = ⊎_elim (λ more. inl (omega (arith, more, le))) (λ most. inr most) has
 
 pub not_up : (e : Refusal) (durable staged : List Record) → refused e ≡ up durable staged → ⊥
 not_up e durable staged is = cc
@@ -80,10 +77,10 @@ module _ {D : Type 0} (state : D → State) (honest : D → Type 0) (moment : D 
 
     -- a device failed in it
     fails_a : (x y : D) → new n ≡ (x, y) → HasFailed (state a) (state x) → HasCause
-    fails_a x y is has = inl (subst (λ (p : D × D). HasFailed (state (old n).0) (state p.0)) (sym is) (failed_before (state (old n).0) (state a) (state x) revived_a.counts has))
+    fails_a x y is has = inl (subst (λ (p : D × D). HasFailed (state (old n).0) (state p.0)) (sym is) (failed_since (state (old n).0) (state a) (state x) revived_a.counts has))
 
     fails_b : (x y : D) → new n ≡ (x, y) → HasFailed (state b) (state y) → HasCause
-    fails_b x y is has = inr (inl (subst (λ (p : D × D). HasFailed (state (old n).1) (state p.1)) (sym is) (failed_before (state (old n).1) (state b) (state y) revived_b.counts has)))
+    fails_b x y is has = inr (inl (subst (λ (p : D × D). HasFailed (state (old n).1) (state p.1)) (sym is) (failed_since (state (old n).1) (state b) (state y) revived_b.counts has)))
 
 module _ {D : Type 0} (state : D → State) (honest : D → Type 0) (moment : D → ℕ) (left_since : D → ℕ → List ℕ → Type 0) (store shards : ℕ) (old new : NodeName → D × D) where
   by_view : (n : NodeName) (a b : D) (hon_a : honest (old n).0) (hon_b : honest (old n).1) (revived_a : IsRevived state honest moment left_since (old n).0 a) (revived_b : IsRevived state honest moment left_since (old n).1 b)

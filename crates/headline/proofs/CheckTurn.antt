@@ -5,8 +5,8 @@ use Rattle.tuples.specs.declared.object.Userset.{Userset}
 use Rattle.calls.specs.Asking.{MayBeMade}
 use Rattle.answer_flow.specs.CheckViews as check_views
 use Rattle.answer_flow.specs.CheckViews.{CheckEnding, CheckFlowValue}
-use Rattle.turns.specs.Flows.{Asked, IsAsked, checking}
-use Rattle.turns.specs.Stores.{FlowView, Store}
+use Rattle.stores.specs.Flows.{Asked, IsAsked, checking}
+use Rattle.stores.specs.Stores.{FlowView, Store}
 use Rattle.answer_turns.specs.AnswerTurns.{shown_answer}
 use Rattle.answer_turns.specs.CheckTurns.{check_in_slot, check_of, check_tells}
 use Rattle.answer_turns.proofs.ChecksTurn.{checks_turn}

@@ -1,25 +1,21 @@
 -- A store that is closed stands with all nodes down, at what its coordinator is found to hold, or at all of its log.
-use Rattle.std.proofs.Common.{◌≡◌, ⊎_elim, ◌≤◌, ◌<◌, ◌++◌, ℕ, List, [], ◌∷◌, take, Option, Some, None, slice_get, Contains, All, refl, sym, ◌∙◌, subst, arith, append-nil}
+use Rattle.std.proofs.Common.{◌≡◌, ⊎_elim, ◌≤◌, ◌<◌, ℕ, List, take, Option, Some, None, slice_get, Contains, All, refl, sym, ◌∙◌, subst, arith, append-nil}
 use Rattle.std.proofs.lemmas.List.Elements.{All-nil}
-use Rattle.headline.proofs.Words.{Entry, IsGivenOut, IsOfOpening, Machine, Moment, Move, Moves, NodeName, Record, Refusal, Rests, ShardMeans, Stands, WasGiven, WriteId, append, at_shards, closed_nodes, contained_at, coordinator, coordinator_state, cut, down, keep, leaves, less_rests, raise, refused, shard, shard_node, shard_state, slice_get_taken, up}
+use Rattle.headline.proofs.Words.{Entry, IsGivenOut, Machine, Moment, NodeName, Record, Refusal, Rests, ShardMeans, Stands, WasGiven, WriteId, at_shards, closed_nodes, contained_at, coordinator, coordinator_state, down, leaves, less_rests, refused, shard, shard_node, shard_state, slice_get_taken}
 use Rattle.records.specs.Replays.{find_in_doubt}
 use Rattle.laws.specs.ShardLaws.{IsUnlistedAbove}
 use Rattle.laws.proofs.Locks.{doubts_apart, not_found}
-use Rattle.turns.specs.Held.{IsRightVerdict}
+use Rattle.stores.specs.Held.{IsRightVerdict}
 use Rattle.turns.specs.ReopenLaws.{closed_at}
+use Rattle.turns.proofs.ClosedStore.{nothing_is_up}
+use Rattle.tuples.proofs.Lists.{nothing_in}
 
 -- the same with these ids, of which somebody was told
 abbrev pub closed_with : Machine → List WriteId → Moment
 closed_with m told = record (closed_at m) { told = told }
 
-nothing_is_up : {d g : List Record} → down ≡ up d g → ⊥
-nothing_is_up is = cc
-
 never_refused : (e : Refusal) → down ≡ refused e → ⊥
 never_refused e is = cc
-
-nothing_has : {X : Type 0} {x : X} → Contains [] x → ⊥
-nothing_has has = omega (arith, has.1)
 
 -- an id of which somebody was told that it is aborted: it was given out, and no write above the horizon has it
 abbrev pub IsSoTold : (List Record → Type 0) → Machine → WriteId → Type 0
@@ -48,13 +44,13 @@ module _ (store shards : ℕ) (left : NodeName → List Record → Type 0) (m : 
       few = omega arith;
       slots = λ i j q r is_q is_r same. absurd cc;
       ids = λ i j q r id is_q is_r same also. absurd cc;
-      held = λ r has. absurd (nothing_has has);
-      seen = λ r has. absurd (nothing_has has);
-      quiet = λ r has. absurd (nothing_has has);
+      held = λ r has. absurd (nothing_in _ has);
+      seen = λ r has. absurd (nothing_in _ has);
+      quiet = λ r has. absurd (nothing_in _ has);
     };
     told = λ j d lt.
         let told_so = all j d lt in
-        record { given = record { epoch = told_so.0; now = λ kept memory k. absurd (nothing_is_up k.is_up) }; closed = λ w has. absurd (nothing_has has); none = told_so.1 };
+        record { given = record { epoch = told_so.0; now = λ kept memory k. absurd (nothing_is_up k.is_up) }; closed = λ w has. absurd (nothing_in _ has); none = told_so.1 };
   }
 
   -- Where whatever a stop leaves of a shard means the whole log, the store stands at all of it, whatever is left of the coordinator.
@@ -94,8 +90,8 @@ module _ (store shards : ℕ) (left : NodeName → List Record → Type 0) (m : 
       ids = record {
         distinct = λ i j v w is_v is_w same. absurd cc;
         few = omega arith;
-        unlisted = λ w has. absurd (nothing_has has);
-        of_now = λ w has. absurd (nothing_has has);
+        unlisted = λ w has. absurd (nothing_in _ has);
+        of_now = λ w has. absurd (nothing_in _ has);
         log_given = λ w has. was_given w.id (given w has);
         prepares_given = λ s rs w lt is has. was_given w.id (in_doubt_given s rs w lt (only_left left (shard s) rs is) has);
       };
@@ -103,9 +99,9 @@ module _ (store shards : ℕ) (left : NodeName → List Record → Type 0) (m : 
         few = omega arith;
         slots = λ i j q r is_q is_r same. absurd cc;
         ids = λ i j q r id is_q is_r same also. absurd cc;
-        held = λ r has. absurd (nothing_has has);
-        seen = λ r has. absurd (nothing_has has);
-        quiet = λ r has. absurd (nothing_has has);
+        held = λ r has. absurd (nothing_in _ has);
+        seen = λ r has. absurd (nothing_in _ has);
+        quiet = λ r has. absurd (nothing_in _ has);
       };
       told = All-nil (IsRightVerdict shards left (closed_at m));
     }
@@ -113,15 +109,3 @@ module _ (store shards : ℕ) (left : NodeName → List Record → Type 0) (m : 
 -- what was told stays so of a log that was cut, with a horizon that rose
 pub told_cut : (m : Machine) (n h : ℕ) (id : WriteId) → m.horizon ≤ h → IsUnlistedAbove m.horizon id m.log → IsUnlistedAbove h id (take n m.log)
 told_cut m n h id low none j w is above = none j w (slice_get_taken n m.log j w is) (omega (arith, low, above))
-
--- moves and then others
-pub moves_join : (m mid later : Machine) (first second : List Move) → Moves m first mid → Moves mid second later → Moves m (first ++ second) later
-moves_join m mid later [] second is then = subst (λ (x : Machine). Moves x second later) is then
-moves_join m mid later (move ∷ first) second (next, makes, is) then = (next, makes, moves_join next mid later first second is then)
-
--- moves of an opening to fewer horizons are moves of one to more
-pub opening_wider : (few more : ℕ → Type 0) → ((x : ℕ) → few x → more x) → (move : Move) → IsOfOpening few move → IsOfOpening more move
-opening_wider few more wider (append w) is = is
-opening_wider few more wider (keep i) is = tt
-opening_wider few more wider (cut i) is = tt
-opening_wider few more wider (raise x) is = wider x is

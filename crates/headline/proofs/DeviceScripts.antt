@@ -2,8 +2,9 @@
 use Rattle.std.proofs.Common.{◌≡◌, ◌≢◌, ⊎_elim, ℕ, List, length, Option, Some, None, MatchOption, refl, sym, ◌∙◌, ap, subst, if◌then◌else◌}
 use Rattle.std.proofs.Math.Path.{fun_ext}
 use Rattle.std.proofs.lemmas.List.{length-set}
-use Rattle.headline.proofs.Words.{Bank, Finds, IsHorizonIn, IsNamed, IsNode, IsThere, Moment, NamesHorizon, NodeName, NodeView, Record, Shows, ShowsMemory, Stands, StandsOver, State, Store, Tear, WorldView, coordinator, devices_of, down, index_of, left, named, node_at, node_cases, refused, shard, shown, stops, up}
+use Rattle.headline.proofs.Words.{Bank, Finds, IsHorizonIn, IsNamed, IsNode, IsThere, Moment, NamesHorizon, NodeName, NodeView, Record, Shows, ShowsMemory, Stands, StandsOver, State, Store, Tear, WorldView, coordinator, devices_of, down, index_of, left, named, node_at, refused, shard, shown, stops, up}
 use Rattle.device.specs.Device.{Keeps}
+use Rattle.device.proofs.States.{kept_left}
 use Rattle.calls.specs.Failing.{DevicesAreSet, NodeIsSet}
 use Rattle.calls.specs.Views as views
 use Rattle.names.specs.declared.node_name.NodeName.TheVariants.{Coordinator, Shard}
@@ -11,6 +12,8 @@ use Rattle.cluster.specs.Nodes.{IsSetIn}
 use Rattle.headline.specs.DeviceScripts.{ScriptsKeep, StandsAsBefore}
 use Rattle.headline.proofs.Behind.{behind, same_at, same_devices, shows_node}
 use Rattle.headline.proofs.Nodes.{IsPut, is_put}
+use Rattle.headline.proofs.Memory.{same_memory}
+use Rattle.turns.proofs.QuietTurns.{is_same_node}
 
 -- of two devices that hold the same, a stop may leave the same
 same_found : (a b x y : State) → Keeps a x → Keeps b y → Finds (left x) (left y) ≡ Finds (left a) (left b)
@@ -19,17 +22,6 @@ same_found a b x y in_a in_b =
     ∙ ap (λ (w : List (ℕ × ℕ)). Finds (left (record x { durable = a.durable; written = w })) (left y)) in_a.written
     ∙ ap (λ (d : List ℕ). Finds (left a) (left (record y { durable = d }))) in_b.durable
     ∙ ap (λ (w : List (ℕ × ℕ)). Finds (left a) (left (record y { durable = b.durable; written = w }))) in_b.written
-
--- one that holds the same leaves no more
-less_found : (a x : State) → Keeps a x → (c : List ℕ) → left x c → left a c
-less_found a x keeps c in_x =
-    subst (λ (w : List (ℕ × ℕ)). left (record a { written = w }) c) keeps.written (subst (λ (d : List ℕ). left (record x { durable = d }) c) keeps.durable in_x)
-
--- what lies in a coordinator's memory alone is shown by each store that has the same of it
-same_memory : {D : Type 0} (v : NodeView D) (s t : Store D) → t.open_ids ≡ s.open_ids → t.given ≡ s.given → ShowsMemory v s → ShowsMemory v t
-same_memory (views.coordinator v) s t ids given shows = (ids ∙ shows.0, given ∙ shows.1)
-same_memory (views.shard v) s t ids given shows = tt
-same_memory (views.refused e a b) s t ids given shows = tt
 
 module _ {D : Type 0} (set : D → ℕ → Tear → Type 0) (state : D → State) (honest : D → Type 0) (moment : D → ℕ) (left_since : D → ℕ → List ℕ → Type 0) (bank : Bank) (k : ℕ) (tear : Tear) where
   abbrev IsSet : NodeView D → NodeView D → Type 0
@@ -102,7 +94,7 @@ module _ {D : Type 0} (set : D → ℕ → Tear → Type 0) (state : D → State
         let same_v : is ≡ v = (let both : Some is ≡ Some v = sym put.here ∙ ap (λ (l : NodeName). node_at nodes (named l)) (sym same) ∙ is_v in cc) in
         subst (λ (l : NodeName). IsNode old.store old.shards later l v) (sym same) (subst (λ (x : NodeView D). IsNode old.store old.shards later n x) same_v after))
         (λ ne. let node = shows.nodes m v (sym (put.others m ne) ∙ is_v) in shown_later m v is_v node.there node.named node.memory)
-        (node_cases m n)
+        (is_same_node m n)
 
     shows_later : Shows (record old { nodes = nodes }) later
     shows_later = record {
@@ -144,15 +136,15 @@ module _ {D : Type 0} (set : D → ℕ → Tear → Type 0) (state : D → State
       same_stops = fun_ext (λ m. ⊎_elim
           (λ here. subst (λ (l : NodeName). stops_of later.devices l ≡ stops_of s.devices l) (sym here) here_stops)
           (λ other. ap found_of (other_devices m other))
-          (node_cases m n))
+          (is_same_node m n))
 
       abbrev IsWithin : D × D → D × D → Type 0
       IsWithin p q = ((c : List ℕ) → left (state p.0) c → left (state q.0) c) × ((c : List ℕ) → left (state p.1) c → left (state q.1) c)
 
       here_within : IsWithin (devices_of is) (devices_of was)
       here_within = (
-        less_found (state (devices_of was).0) (state (devices_of is).0) (set_is.keeps_a honest_a),
-        less_found (state (devices_of was).1) (state (devices_of is).1) (set_is.keeps_b honest_b),
+        kept_left (state (devices_of was).0) (state (devices_of is).0) (set_is.keeps_a honest_a),
+        kept_left (state (devices_of was).1) (state (devices_of is).1) (set_is.keeps_b honest_b),
       )
 
       within : (m : NodeName) → IsWithin (later.devices m) (s.devices m)
@@ -160,7 +152,7 @@ module _ {D : Type 0} (set : D → ℕ → Tear → Type 0) (state : D → State
           (λ here. subst (λ (l : NodeName). IsWithin (later.devices l) (s.devices l)) (sym here)
           (subst (λ (p : D × D). IsWithin p (s.devices n)) (sym after.devices) (subst (λ (p : D × D). IsWithin (devices_of is) p) (sym before.devices) here_within)))
           (λ other. subst (λ (p : D × D). IsWithin p (s.devices m)) (sym (other_devices m other)) (λ c in_a. in_a, λ c in_b. in_b))
-          (node_cases m n)
+          (is_same_node m n)
 
       here_at : later.at n ≡ s.at n
       here_at = after.at ∙ same_shown was is is_set.is_set honest_a honest_b ∙ sym before.at
@@ -171,15 +163,15 @@ module _ {D : Type 0} (set : D → ℕ → Tear → Type 0) (state : D → State
           honest_a = λ m there. ⊎_elim
               (λ here. subst (λ (l : NodeName). honest (later.devices l).0) (sym here) (subst (λ (p : D × D). honest p.0) (sym after.devices) (set_is.still_honest.0.0 honest_a)))
               (λ other. subst (λ (p : D × D). honest p.0) (sym (other_devices m other)) (standing.sound.honest_a m there))
-              (node_cases m n);
+              (is_same_node m n);
           honest_b = λ m there. ⊎_elim
               (λ here. subst (λ (l : NodeName). honest (later.devices l).1) (sym here) (subst (λ (p : D × D). honest p.1) (sym after.devices) (set_is.still_honest.1.0 honest_b)))
               (λ other. subst (λ (p : D × D). honest p.1) (sym (other_devices m other)) (standing.sound.honest_b m there))
-              (node_cases m n);
+              (is_same_node m n);
           readable = λ m a b there in_a in_b. standing.sound.readable m a b there ((within m).0 a in_a) ((within m).1 b in_b);
         };
         nodes = record {
-          at = λ m. standing.nodes.at m ∙ ⊎_elim (λ here. subst (λ (l : NodeName). s.at l ≡ later.at l) (sym here) (sym here_at)) (λ other. sym (other_at m other)) (node_cases m n);
+          at = λ m. standing.nodes.at m ∙ ⊎_elim (λ here. subst (λ (l : NodeName). s.at l ≡ later.at l) (sym here) (sym here_at)) (λ other. sym (other_at m other)) (is_same_node m n);
           open_ids = standing.nodes.open_ids;
           given = standing.nodes.given;
         };

@@ -2,15 +2,16 @@
 use Rattle.std.proofs.Common.{◌≡◌, ◌≢◌, ⊎_elim, ◌==◌, ℕ, true, true≢false, List, [], ◌∷◌, Option, Some, None, Contains, slice_get, sym, ◌∙◌, ap, subst, arith, if◌then◌else◌}
 use Rattle.std.proofs.lemmas.Bool.{cases_Bool, eq-eqb}
 use Rattle.std.proofs.lemmas.Option.{same_Some}
-use Rattle.headline.proofs.Words.{Asked, DecidesNothing, EndsAs, Holds, IfRunning, IsPast, IsUnlisted, MayRise, Moment, NamesHorizon, NodeName, Ran, Record, Refusal, Running, StandsOver, State, Store, Turns, WasGiven, WriteId, among, checking, contained_at, ended, found_at, id_of, ran_before, reading, refuses, replaced, stops, to_check, to_collect, to_flush, to_learn, to_raise, to_read, to_resolve, to_watch, to_write, turn, watching}
+use Rattle.headline.proofs.Words.{Asked, DecidesNothing, EndsAs, Holds, IfRunning, IsPast, IsUnlisted, MayRise, Moment, NamesHorizon, NodeName, Ran, Record, Refusal, Running, StandsOver, State, Store, Turns, WasGiven, WriteId, checking, contained_at, ended, found_at, id_of, ran_before, reading, refuses, replaced, stops, to_check, to_collect, to_flush, to_learn, to_raise, to_read, to_resolve, to_watch, to_write, turn, watching}
 use Rattle.refusal.specs.declared.refusal.Refusal.TheVariants.{Unsure}
-use Rattle.turns.specs.Flows.{collecting, flushing, learning, raising, resolving, writing}
-use Rattle.turns.specs.Held.{IsRight}
-use Rattle.turns.specs.Moments.{flow_at}
+use Rattle.stores.specs.Flows.{collecting, flushing, learning, raising, resolving, writing}
+use Rattle.stores.specs.Held.{IsRight}
+use Rattle.stores.specs.Moments.{flow_at}
 use Rattle.turns.specs.Runs.{Event}
 use Rattle.call_turns.proofs.Slots.{at_ended, at_replaced}
 use Rattle.headline.specs.PastWrites.{CancelledWritesArePast, RefusedWritesArePast}
 use Rattle.headline.proofs.PastWrites.{coordinator_stays, given_by_it, more_given, no_value, quiet_on}
+use Rattle.tuples.proofs.Lists.{first_or_later}
 
 -- a flow that runs in a slot is found there
 found_some : (slot : ℕ) (rs : List Running) (q : Running) → Contains rs q → q.slot ≡ slot → flow_at slot rs ≢ None
@@ -20,7 +21,7 @@ found_some slot (x ∷ rs) q has is none = ⊎_elim
     (λ other. ⊎_elim
     (λ same. true≢false (sym (eq-eqb x.slot slot (ap (λ (y : Running). y.slot) same ∙ is)) ∙ other))
     (λ further. found_some slot rs q further is (sym (ap (λ b. if b then Some x else flow_at slot rs) other) ∙ none))
-    (among x q rs has))
+    (first_or_later x q rs has))
     (cases_Bool (x.slot == slot))
 
 module _ {D : Type 0} (state : D → State) (honest : D → Type 0) (moment : D → ℕ) (left_since : D → ℕ → List ℕ → Type 0) (store shards : ℕ) (old new : Store D) (now : Moment) (number slot : ℕ) (events : List Event)

@@ -7,7 +7,7 @@ use Rattle.gated.proofs.Splitting.{spelled_list}
 use Rattle.journal.specs.Records.{bank_records, found, of_current, then_batches}
 use Rattle.laws.specs.Nodes.{IsThere, NodeName, coordinator, shard}
 use Rattle.records.specs.declared.record.Record.{Record}
-use Rattle.turns.specs.Stores.{AreSound, stops}
+use Rattle.stores.specs.Stores.{AreSound, stops}
 use Rattle.headline.specs.Found.{AreFoundOf, CountsForNothing, IsFoundIn, IsFoundOf, WhatIsFoundRests}
 use Rattle.headline.specs.Promised.{devices_at}
 use Rattle.headline.proofs.Likewise.{rest_likewise}

@@ -4,9 +4,9 @@ use Rattle.std.proofs.lemmas.Option.{same_Some}
 use Rattle.headline.proofs.Words.{AreSound, CoordinatorState, Epoch, IsCoordinatorImage, IsGivenOut, IsHorizonIn, IsThere, Machine, NodeName, NodeView, Nodes, Record, Rests, State, WriteId, at_shards, coordinator, coordinator_node, coordinator_push, coordinator_state, devices_of, found, leaves, left, shard, shard_state, staged_of, stops, stops_since}
 use Rattle.records.specs.Coordinators.{MayOpenAgain, coordinator_step}
 use Rattle.laws.proofs.CoordinatorStates.{coordinator_last}
+use Rattle.stores.proofs.Places.{each_in_place}
 use Rattle.turns.specs.Promises.{StopsBetween}
 use Rattle.turns.specs.RestartLaws.{IsReopenedCoordinator, IsReopenedShard}
-use Rattle.turns.proofs.Places.{each_in_place}
 use Rattle.turns.proofs.StopInside.{left_or_opened, means_or_opened}
 use Rattle.headline.proofs.Reopening.{AreOver, image_of, opening_of}
 use Rattle.headline.proofs.Within.{IsLonger, WasOrIsLonger, opened_now, opened_since}

@@ -2,24 +2,16 @@
 use Rattle.std.proofs.Common.{◌≡◌, ◌≢◌, ⊎_elim, ℕ, List, length, Option, Some, None, MatchOption, set, refl, sym, ◌∙◌, ap, subst}
 use Rattle.std.proofs.lemmas.Bool.{cases_eq}
 use Rattle.std.proofs.lemmas.List.{length-set}
-use Rattle.headline.proofs.Words.{Answered, Damaged, Flow, FlowView, Identity, IsCalled, IsNamed, IsNode, IsShownFlow, IsShownSlot, IsThere, Keeps, KeepsMemory, Moment, NodeCall, NodeName, NodeView, Ran, Refuses, Reply, Shows, SlotTurns, StandsOver, State, Store, Told, Turn, What, WorldView, all_told, called, coordinator, events_of, flow_at, index_of, named, node_at, node_cases, node_of, of_coordinator, of_shard, shard, turn}
-use Rattle.calls.specs.Belonging.{IsNodeOf}
+use Rattle.headline.proofs.Words.{Answered, Damaged, Flow, FlowView, IsCalled, IsNamed, IsNode, IsShownFlow, IsShownSlot, IsThere, Keeps, KeepsMemory, Moment, NodeCall, NodeName, NodeView, Ran, Refuses, Reply, Shows, SlotTurns, StandsOver, State, Store, Told, Turn, What, WorldView, all_told, called, coordinator, events_of, flow_at, index_of, named, node_at, node_of, shard, turn}
 use Rattle.calls.specs.Views as views
 use Rattle.call_turns.specs.StoreTurns.{TurnRuns}
 use Rattle.call_turns.proofs.Fails.{failed_calls_have_cause}
+use Rattle.call_turns.proofs.Belongs.{is_node_of}
 use Rattle.cluster.specs.Nodes.{AnsweredBy, Called}
 use Rattle.headline.proofs.Behind.{at_slot, behind, off_slot, same_at, same_devices, same_memory, shows_node, slot_turns, with_slot}
 use Rattle.headline.proofs.Nodes.{IsPut, is_put, named_called, node_there}
 use Rattle.headline.proofs.Stays.{keeps_name}
-
--- a node that has the name of a call is one that the call is for
-is_node_of : {D : Type 0} (store shards : ℕ) (call : NodeCall) (was : NodeView D) → IsNamed store shards was (called call) → IsNodeOf shards (node_of call) was
-is_node_of store shards (of_coordinator call) (views.coordinator v) name = ap (λ (i : Identity). i.shards) name
-is_node_of store shards (of_coordinator call) (views.shard v) name = absurd name
-is_node_of store shards (of_coordinator call) (views.refused e a b) name = tt
-is_node_of store shards (of_shard s call) (views.coordinator v) name = absurd name
-is_node_of store shards (of_shard s call) (views.shard v) name = (ap (λ (i : Identity). i.node) name, ap (λ (i : Identity). i.shards) name)
-is_node_of store shards (of_shard s call) (views.refused e a b) name = tt
+use Rattle.turns.proofs.QuietTurns.{is_same_node}
 
 -- the flow in a slot is shown there
 pub shown_there : (shards : ℕ) (flow : Flow) (o : Option FlowView) → IsShownSlot shards (Some flow) o → (view : FlowView) × (o ≡ Some view) × IsShownFlow shards flow view
@@ -91,7 +83,7 @@ module _ {D : Type 0} (state : D → State) (honest : D → Type 0) (moment : D 
         (λ ne.
         let node = shows.nodes n v (sym (put.others n ne) ∙ is_v) in
         shows_node old.store old.shards nodes flows s n v is_v node.there node.named)
-        (node_cases n (called call))
+        (is_same_node n (called call))
 
   -- A call of a node that the store has not leads to nothing, or to a turn in which no node was called.
   abbrev pub Stays : WorldView D → ℕ → NodeCall → Reply → Option FlowView → List Told → Type 0

@@ -4,7 +4,7 @@ use Rattle.records.specs.declared.record.Record.{Record}
 use Rattle.device.specs.Device.{State}
 use Rattle.laws.specs.Machines.{Machine}
 use Rattle.laws.specs.Nodes.{IsThere, NodeName, coordinator, shard}
-use Rattle.turns.specs.Stores.{AreSound, RestsOver, stops}
+use Rattle.stores.specs.Stores.{AreSound, RestsOver, stops}
 use Rattle.headline.specs.Found.{RestLikewise}
 
 module _ {D : Type 0} (state : D → State) (honest : D → Type 0) (moment : D → ℕ) (left_since : D → ℕ → List ℕ → Type 0) (store shards : ℕ) (old new : NodeName → D × D)

@@ -2,7 +2,7 @@
 use Rattle.std.proofs.Common.{◌≡◌, ◌≢◌, ⊎_elim, ◌==◌, ◌+◌, ◌<◌, ℕ, zero, suc, Bool, true, false, List, [], ◌∷◌, length, Option, Some, None, slice_get, slice_set, refl, ap, arith, if◌then◌else◌}
 use Rattle.std.proofs.lemmas.Option.{slice_get_cases}
 use Rattle.headline.proofs.Words.{FlowView, IsThere, NodeName, Running, ShowsSlot, coordinator, index_of, named, reopened, shard}
-use Rattle.turns.specs.Moments.{flow_at}
+use Rattle.stores.specs.Moments.{flow_at}
 
 -- what was put in a place of a list is there
 pub set_here : {X : Type 0} (xs : List X) (i : ℕ) (x v : X) → slice_get (slice_set xs i x) i ≡ Some v → v ≡ x

@@ -12,10 +12,10 @@ use Rattle.cluster.specs.Worlds.{WorldView, node_at}
 use Rattle.laws.specs.Machines.{Machine, Move, Moves}
 use Rattle.laws.specs.Nodes.{IsThere, NodeName}
 use Rattle.laws.proofs.MachineMoves.{kept_stay, moves_then}
+use Rattle.stores.specs.Stores.{AreSound, IsToldOver, NamesHorizon, RestsOver, StandsOver, Store, stops}
 use Rattle.turns.specs.Promises.{Ran, events_of}
 use Rattle.turns.specs.Reopens.{Reopened}
 use Rattle.turns.specs.StoreLaws.{IsStopped, SettlesOne}
-use Rattle.turns.specs.Stores.{AreSound, IsToldOver, NamesHorizon, RestsOver, StandsOver, Store, stops}
 use Rattle.turns.proofs.Chains.{stopped_openings_rest, stopped_steps_rest}
 use Rattle.turns.proofs.ClosedStoreRests.{closed_stores_rest}
 use Rattle.turns.proofs.RunChain.{runs_move}

@@ -2,16 +2,19 @@
 use Rattle.std.proofs.Common.{◌≡◌, ◌≢◌, ◌⊎◌, inl, inr, ⊎_elim, ◌≤◌, ◌<◌, ◌++◌, ℕ, zero, suc, List, [], get_or, length, map, refl, sym, ◌∙◌, ap, subst, arith}
 use Rattle.std.proofs.lemmas.Bool.{cases_lt}
 use Rattle.std.proofs.lemmas.List.Elements.{All-append}
-use Rattle.headline.proofs.Words.{AreSound, CoordinatorKnows, CoordinatorState, Entry, FoundHorizon, IsHorizonIn, IsOfOpening, IsOfRefusedOpening, IsThere, Machine, MayRise, Moment, Move, Moves, NodeName, NodeState, NodeView, OpensAs, Record, Refusal, Reopened, Stands, State, Told, WriteId, closed_nodes, coordinator, devices_of, down, left, named, node_cases, refused, shard, shown, stops, up}
+use Rattle.headline.proofs.Words.{AreSound, CoordinatorKnows, CoordinatorState, Entry, FoundHorizon, IsHorizonIn, IsOfOpening, IsOfRefusedOpening, IsThere, Machine, MayRise, Moment, Move, Moves, NodeName, NodeState, NodeView, OpensAs, Record, Refusal, Reopened, Stands, State, Told, WriteId, closed_nodes, coordinator, devices_of, down, left, named, refused, shard, shown, stops, up}
 use Rattle.turns.specs.Reopens.{IsOpenedFrom}
 use Rattle.turns.specs.Runs as runs
-use Rattle.turns.proofs.ShardStages.{shard_number}
+use Rattle.stores.proofs.ShardStages.{shard_number}
+use Rattle.turns.proofs.QuietTurns.{is_same_node}
+use Rattle.turns.proofs.RunNames.{of_opening}
 use Rattle.headline.proofs.Begun.{Begins}
-use Rattle.headline.proofs.Closed.{closed_with, moves_join, only_left, opening_wider}
+use Rattle.headline.proofs.Closed.{closed_with, only_left}
 use Rattle.headline.proofs.Inside.{HoldsOn, holds_opened, holds_still, sound_now}
 use Rattle.headline.proofs.Places.{in_place, in_place_elsewhere, in_place_here}
 use Rattle.headline.proofs.Reopening.{are_over}
 use Rattle.headline.proofs.Stepped.{IsStepped, given_behind, stepped}
+use Rattle.laws.proofs.MachineMoves.{moves_then}
 
 -- what stands at the coordinator and at the first of the shards, and at the others what stood there
 abbrev pub opened_to : {X : Type 0} → (NodeName → X) → (NodeName → X) → ℕ → NodeName → X
@@ -32,7 +35,7 @@ at_opened f g zero (shard s) there = absurd (omega (arith, there))
 at_opened f g (suc k) n there = ⊎_elim
     (λ same. ap (opened_to f g (suc k)) same ∙ in_place_here (shard k) (f (shard k)) (opened_to f g k) ∙ ap f (sym same))
     (λ other. in_place_elsewhere (shard k) (f (shard k)) (opened_to f g k) n other ∙ at_opened f g k n (among_first k n there other))
-    (node_cases n (shard k))
+    (is_same_node n (shard k))
 
 pub at_unopened : {X : Type 0} (f g : NodeName → X) (k s : ℕ) → k ≤ s → opened_to f g k (shard s) ≡ g (shard s)
 at_unopened f g zero s le = refl
@@ -135,9 +138,9 @@ module _ {D : Type 0} (state : D → State) (honest : D → Type 0) (moment : D 
         stands = of_coordinator.stands;
         opened = record {
           moves = begun.moves ++ of_coordinator.step.moves;
-          machine = moves_join m begun.machine of_coordinator.after.machine begun.moves of_coordinator.step.moves begun.moved of_coordinator.step.machine;
+          machine = moves_then m begun.machine of_coordinator.after.machine begun.moves of_coordinator.step.moves begun.moved of_coordinator.step.machine;
           allowed = All-append (IsOfOpening (FoundHorizon state honest moment left_since store shards old)) begun.moves of_coordinator.step.moves begun.allowed
-              (λ j d lt. opening_wider may_rise (FoundHorizon state honest moment left_since store shards old) was_found (get_or of_coordinator.step.moves j d) (of_coordinator.step.allowed.0 j d lt));
+              (λ j d lt. of_opening may_rise (FoundHorizon state honest moment left_since store shards old) was_found (get_or of_coordinator.step.moves j d) (of_coordinator.step.allowed.0 j d lt));
         };
         running = of_coordinator.step.allowed.1;
         told_before = of_coordinator.step.told_before;
@@ -168,13 +171,13 @@ module _ {D : Type 0} (state : D → State) (honest : D → Type 0) (moment : D 
         at_next n = ⊎_elim
             (λ same. ap of_shard.after.nodes.at same ∙ of_shard.at ∙ sym (in_place_here (shard k) (shown (node (shard k))) (states k)) ∙ ap (states (suc k)) (sym same))
             (λ other. of_shard.step.others.others n other ∙ u.at n ∙ sym (in_place_elsewhere (shard k) (shown (node (shard k))) (states k) n other))
-            (node_cases n (shard k))
+            (is_same_node n (shard k))
 
         fine_next : (n : NodeName) → IsThere (suc k) n → IsFine (shown (node n))
         fine_next n there = ⊎_elim
             (λ same. let t = of_shard.step.tells in subst (λ (j : NodeName). IsFine (shown (node j))) (sym same) (subst IsFine of_shard.at (fine_by shards (IsHorizonIn store shards (stops state honest store shards (devices k)) u.after.nodes) (shard k) of_shard.after t.0 t.2)))
             (λ other. u.fine n (among_first k n there other))
-            (node_cases n (shard k))
+            (is_same_node n (shard k))
 
         next : IsOpenedUpTo m told (suc k)
         next = record {

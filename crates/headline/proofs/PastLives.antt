@@ -6,9 +6,9 @@ use Rattle.device.specs.declared.tear.Tear.{Tear}
 use Rattle.cluster.specs.Worlds.{WorldView}
 use Rattle.cluster.specs.declared.event.What.{What}
 use Rattle.laws.specs.Machines.{Machine}
-use Rattle.turns.specs.Moments.{Moment}
+use Rattle.stores.specs.Moments.{Moment}
+use Rattle.stores.specs.Stores.{RestsOver, StandsOver, Store}
 use Rattle.turns.specs.Promises.{Ran, events_of}
-use Rattle.turns.specs.Stores.{RestsOver, StandsOver, Store}
 use Rattle.turns.proofs.Chains.{stopped_steps_rest}
 use Rattle.turns.proofs.ClosedStoreRests.{closed_stores_rest}
 use Rattle.headline.specs.Acts.{Act, KeepsActs}

@@ -14,12 +14,12 @@ use Rattle.laws.specs.LogLaws.{IsUnlisted}
 use Rattle.laws.specs.Machines.{Machine}
 use Rattle.laws.specs.Nodes.{CoordinatorKnows, IsThere, NodeName, coordinator, up}
 use Rattle.laws.proofs.CoordinatorStates.{coordinator_push}
-use Rattle.turns.specs.Held.{IsRightVerdict}
-use Rattle.turns.specs.Moments.{Running}
+use Rattle.stores.specs.Held.{IsRightVerdict}
+use Rattle.stores.specs.Moments.{Running}
+use Rattle.stores.specs.Stores.{IsToldOver, RestsOver, Store, stops}
 use Rattle.turns.specs.Promises.{StopsBetween, stops_since}
 use Rattle.turns.specs.Reopens.{FoundHorizon, Reopened, Reopens}
 use Rattle.turns.specs.StoreLaws.{IsStopOf, IsStopped}
-use Rattle.turns.specs.Stores.{IsToldOver, RestsOver, Store, stops}
 use Rattle.turns.proofs.RunLogs.{opened_log}
 use Rattle.headline.specs.PastWrites.{IsPast, IsPastOver}
 use Rattle.headline.proofs.PastWrites.{records_of}

@@ -2,16 +2,17 @@
 use Rattle.std.proofs.Common.{◌≡◌, ◌≢◌, ◌⊎◌, inl, inr, ⊎_elim, ◌≤◌, ◌<◌, ◌+◌, ◌==◌, ◌++◌, ℕ, zero, suc, Bool, true, false, List, [], ◌∷◌, Option, Some, None, Contains, All, slice_get, refl, sym, ◌∙◌, ap, subst, arith, append_assoc, if◌then◌else◌}
 use Rattle.std.proofs.lemmas.List.{append-nil}
 use Rattle.std.proofs.lemmas.List.Elements.{Contains-append_right}
-use Rattle.headline.proofs.Words.{Asked, CoordinatorKnows, CoordinatorState, DecidesNothing, EndsAs, Entry, Epoch, IfRunning, IsOfOpening, IsPast, IsUnlisted, Machine, MayRise, Moment, Move, Moves, NamesHorizon, NodeName, NodeState, Nodes, Ran, Record, Restarts, Running, StandsOver, State, Store, Told, Turns, WriteId, alone, among, answered, append, coordinator, coordinator_push, coordinator_state, cut, down, ended, found_at, id_of, keep, nothing_held, raise, ran_before, refused, refuses, reopened, replaced, restart, shard, to_check, to_collect, to_flush, to_learn, to_raise, to_read, to_resolve, to_watch, to_write, turn, up}
+use Rattle.headline.proofs.Words.{Asked, CoordinatorKnows, CoordinatorState, DecidesNothing, EndsAs, Entry, Epoch, IfRunning, IsOfOpening, IsPast, IsUnlisted, Machine, MayRise, Moment, Move, Moves, NamesHorizon, NodeName, NodeState, Nodes, Ran, Record, Restarts, Running, StandsOver, State, Store, Told, Turns, WriteId, alone, answered, append, coordinator, coordinator_push, coordinator_state, cut, down, ended, found_at, id_of, keep, raise, ran_before, refused, refuses, reopened, replaced, restart, shard, turn, up}
 use Rattle.records.specs.Coordinators.{coordinator_step}
+use Rattle.records.proofs.CoordinatorStates.{state_of_more}
 use Rattle.laws.specs.Nodes.{IsGivenBy, NodeTurns, SameBut}
-use Rattle.laws.proofs.Lists.{slice_get_push}
-use Rattle.turns.specs.Moments.{begun, flow_at}
+use Rattle.stores.specs.Moments.{begun, flow_at}
 use Rattle.turns.specs.Runs.{Decides, Event, IsCancelled, IsQuiet, OpenTurns, Step, Takes, began, came_up, cancel, goes_on, start}
-use Rattle.turns.proofs.Answers.{replays}
-use Rattle.turns.proofs.DecisionNodes.{epoch_stays}
+use Rattle.stores.proofs.DecisionNodes.{epoch_stays}
 use Rattle.turns.proofs.RunLogs.{opened_log}
+use Rattle.stores.proofs.FlowBegins.{no_id}
 use Rattle.headline.specs.PastWrites.{PastWritesAreNeverListed, PastWritesStay}
+use Rattle.tuples.proofs.Lists.{slice_get_push, first_or_later}
 
 -- a flow of a list in which one was replaced is that one, or was there
 in_replaced : (later : Running) (rs : List Running) (q : Running) → Contains (replaced later rs) q → (q ≡ later) ⊎ Contains rs q
@@ -19,11 +20,11 @@ in_replaced later [] q has = inr has
 in_replaced later (x ∷ rs) q has = by_slot (x.slot == later.slot) has (in_replaced later rs q)
   where
     by_slot : (b : Bool) → Contains (if b then later ∷ rs else x ∷ replaced later rs) q → (Contains (replaced later rs) q → (q ≡ later) ⊎ Contains rs q) → (q ≡ later) ⊎ Contains (x ∷ rs) q
-    by_slot true is rest = ⊎_elim (λ same. inl (sym same)) (λ further. inr (Contains-append_right (x ∷ []) rs q further)) (among later q rs is)
+    by_slot true is rest = ⊎_elim (λ same. inl (sym same)) (λ further. inr (Contains-append_right (x ∷ []) rs q further)) (first_or_later later q rs is)
     by_slot false is rest = ⊎_elim
         (λ same. inr (subst (Contains (x ∷ rs)) same (alone x rs)))
         (λ further. ⊎_elim (λ here. inl here) (λ there. inr (Contains-append_right (x ∷ []) rs q there)) (rest further))
-        (among x q (replaced later rs) is)
+        (first_or_later x q (replaced later rs) is)
 
 -- flows that an opening found hold what they held
 in_reopened : (rs : List Running) (q : Running) → Contains (reopened rs) q → (r : Running) × Contains rs r × (q.holds ≡ r.holds)
@@ -31,19 +32,7 @@ in_reopened [] q has = absurd (omega (arith, has.1))
 in_reopened (r ∷ rs) q has = ⊎_elim
     (λ same. (r, alone r rs, ap (λ (x : Running). x.holds) (sym same)))
     (λ further. let one = in_reopened rs q further in (one.0, Contains-append_right (r ∷ []) rs one.0 one.1, one.2))
-    (among (record r { is_reopened = true }) q (reopened rs) has)
-
--- a flow that has not begun has no id
-unbegun : (asked : Asked) → id_of (nothing_held asked) ≡ None
-unbegun (to_write changes conditions) = refl
-unbegun (to_read fresh sets) = refl
-unbegun (to_check fresh x u) = refl
-unbegun (to_watch c limit names) = refl
-unbegun (to_flush n) = refl
-unbegun (to_learn s) = refl
-unbegun (to_resolve s) = refl
-unbegun (to_raise x) = refl
-unbegun (to_collect s) = refl
+    (first_or_later (record r { is_reopened = true }) q (reopened rs) has)
 
 pub no_value : {X : Type 0} {x : X} → None ≡ Some x → ⊥
 no_value is = cc
@@ -88,7 +77,7 @@ stays_up old new (inr (inl more)) durable staged is = (more.durable, more.staged
 
     same_epoch : (coordinator_state (durable ++ staged)).epoch ≡ (coordinator_state (more.durable ++ more.staged)).epoch
     same_epoch = ap (λ (l : List Record). (coordinator_state l).epoch) all
-        ∙ ap (λ (c : CoordinatorState). c.epoch) (replays (more.durable ++ more.staged) (more.next ∷ []))
+        ∙ ap (λ (c : CoordinatorState). c.epoch) (state_of_more (more.durable ++ more.staged) (more.next ∷ []))
         ∙ epoch_stays (coordinator_state (more.durable ++ more.staged)) (more.next ∷ []) none
 stays_up old new (inr (inr (inl all))) durable staged is = (
   all.durable,
@@ -219,9 +208,9 @@ module _ {D : Type 0} (state : D → State) (honest : D → Type 0) (moment : D 
       given = past.given.now;
       unlisted = past.unlisted;
       unheld = λ q has holds. ⊎_elim
-          (λ same. no_value (sym (unbegun asked) ∙ ap (λ (x : Running). id_of x.holds) same ∙ holds))
+          (λ same. no_value (sym (no_id asked) ∙ ap (λ (x : Running). id_of x.holds) same ∙ holds))
           (λ there. past.unheld q there holds)
-          (among (begun slot asked) q now.running has);
+          (first_or_later (begun slot asked) q now.running has);
     })
     started asked told after (inl (whole, inr (many, tells, is))) = idle after is
     started asked told after (inr (away, (tells, is))) = idle after is

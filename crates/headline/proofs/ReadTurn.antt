@@ -5,10 +5,10 @@ use Rattle.tuples.specs.declared.tuple.Tuple.{Tuple}
 use Rattle.calls.specs.Asking.{MayBeMade}
 use Rattle.answer_flow.specs.ReadViews as read_views
 use Rattle.answer_flow.specs.ReadViews.{ReadEnding, ReadFlowValue, rows_of}
-use Rattle.turns.specs.Flows.{Asked, IsAsked, reading}
-use Rattle.turns.specs.Replies.{selected}
+use Rattle.stores.specs.Flows.{Asked, IsAsked, reading}
+use Rattle.stores.specs.Replies.{selected}
+use Rattle.stores.specs.Stores.{FlowView, Store}
 use Rattle.turns.specs.Runs.{answered}
-use Rattle.turns.specs.Stores.{FlowView, Store}
 use Rattle.answer_turns.specs.AnswerTurns.{shown_answer}
 use Rattle.answer_turns.specs.ReadTurns.{read_in_slot, read_of, read_tells}
 use Rattle.answer_turns.proofs.ReadsTurn.{reads_turn}

@@ -1,12 +1,13 @@
 -- A restart of a node keeps the promise of a step.
 use Rattle.std.proofs.Common.{◌≡◌, ◌≢◌, inl, inr, ⊎_elim, ◌≤◌, ◌++◌, ℕ, List, [], ◌∷◌, Option, Some, None, MatchOption, slice_set, refl, sym, ◌∙◌, ap, subst}
 use Rattle.std.proofs.lemmas.List.{length-set}
-use Rattle.headline.proofs.Words.{FlowView, IsIdle, IsNode, IsThere, Moment, NamesHorizon, NodeName, NodeState, NodeView, OpensAs, OpensWithCause, Ran, Reopened, Restart, Restarts, Running, RunsOne, Shows, ShowsSlot, StandsOver, State, StepKeeps, Store, Told, What, WorldView, all_told, coordinator, devices_of, down, events_of, index_of, inside_by, left, named, node_at, node_cases, refused, restart, shard, shown, staged_of, still_given, still_within, stops, up}
+use Rattle.headline.proofs.Words.{FlowView, IsIdle, IsNode, IsThere, Moment, NamesHorizon, NodeName, NodeState, NodeView, OpensAs, OpensWithCause, Ran, Reopened, Restart, Restarts, Running, RunsOne, Shows, ShowsSlot, StandsOver, State, StepKeeps, Store, Told, What, WorldView, all_told, coordinator, devices_of, down, events_of, index_of, inside_by, left, named, node_at, refused, restart, shard, shown, staged_of, still_given, still_within, stops, up}
 use Rattle.names.specs.declared.node_name.NodeName as names
 use Rattle.names.specs.declared.node_name.NodeName.TheVariants as called
 use Rattle.cluster.specs.Steps.{RestartsIn, Takes}
-use Rattle.turns.specs.Moments.{flow_at}
+use Rattle.stores.specs.Moments.{flow_at}
 use Rattle.turns.specs.Runs as runs
+use Rattle.turns.proofs.QuietTurns.{is_same_node}
 use Rattle.headline.proofs.Causes.{opens_with_cause}
 use Rattle.headline.proofs.Inside.{HoldsOn, given_still, holds_opened, holds_still, inside, now_left, old_horizon, sound_now}
 use Rattle.headline.proofs.Lists.{is_somewhere, places_apart, set_elsewhere, set_here, shows_reopened}
@@ -51,7 +52,7 @@ module _ {D : Type 0} (state : D → State) (honest : D → Type 0) (moment : D 
         (holds_opened state honest moment left_since counts_now only_now store shards old.devices later.devices standing.sound n there is devices_here
         (are_over state honest moment left_since counts_now only_now store shards n (old.devices n).0 (old.devices n).1 is (standing.sound.honest_a n there) (standing.sound.honest_b n there) reopened)))
         (λ other. holds_still state honest moment left_since counts_now only_now store shards old.devices later.devices standing.sound k there_k (in_place_elsewhere n (devices_of is) old.devices k other))
-        (node_cases k n)
+        (is_same_node k n)
 
     state_now : (staged_of (is_stepped.after.nodes.at n) ≡ []) × (is_stepped.after.nodes.at n ≢ down)
     state_now = let t = is_stepped.step.tells in opened_so shards (NamesHorizon state honest store shards old now) n is_stepped.after t.0 t.2
@@ -61,7 +62,7 @@ module _ {D : Type 0} (state : D → State) (honest : D → Type 0) (moment : D 
         (λ same. old_horizon state honest moment left_since counts_now only_now store shards old.devices later.devices holds_on is_stepped.after.nodes now.nodes
         (ap (λ (k : NodeName). staged_of (is_stepped.after.nodes.at k)) same ∙ state_now.0) x high)
         (λ other. still other high)
-        (node_cases coordinator n)
+        (is_same_node coordinator n)
       where
         still : coordinator ≢ n → NamesHorizon state honest store shards later is_stepped.after x → NamesHorizon state honest store shards old now x
         still other (some, (rs, (was, is_left, which), at)) = (
@@ -89,7 +90,7 @@ module _ {D : Type 0} (state : D → State) (honest : D → Type 0) (moment : D 
           at = λ k. ⊎_elim
               (λ same. ap is_stepped.after.nodes.at same ∙ is_stepped.at ∙ sym (in_place_here n (shown is) old.at) ∙ ap later.at (sym same))
               (λ other. is_stepped.step.others.others k other ∙ standing.nodes.at k ∙ sym (in_place_elsewhere n (shown is) old.at k other))
-              (node_cases k n);
+              (is_same_node k n);
           open_ids = is_stepped.open_ids ∙ ap (ids_behind n) standing.nodes.open_ids;
           given = is_stepped.given ∙ ap (given_behind n is) standing.nodes.given;
         };
@@ -100,7 +101,7 @@ module _ {D : Type 0} (state : D → State) (honest : D → Type 0) (moment : D 
       fails = λ k there_k is_down not_down. absurd (⊎_elim
           (λ same. state_now.1 (ap is_stepped.after.nodes.at (sym same) ∙ is_down))
           (λ other. not_down (sym (is_stepped.step.others.others k other) ∙ is_down))
-          (node_cases k n));
+          (is_same_node k n));
       opens = λ k there_k same. subst (λ (j : NodeName). OpensWithCause state honest moment left_since store shards old.devices later.devices j (is_stepped.after.nodes.at j)) (one_node k same)
           (subst (OpensWithCause state honest moment left_since store shards old.devices later.devices n) (sym is_stepped.at)
           (opens_with_cause state honest moment left_since store shards old.devices later.devices n is (standing.sound.honest_a n there) (standing.sound.honest_b n there) reopened devices_here));
@@ -199,7 +200,7 @@ module _ {D : Type 0} (state : D → State) (honest : D → Type 0) (moment : D 
           at = in_place_elsewhere n (shown is) s.at k other ∙ was_k.at;
           memory = memory_elsewhere old.store old.shards k n v is s other was_k.named was_k.memory;
         })
-        (node_cases k n)
+        (is_same_node k n)
 
     shows_put : Shows put (with_node s n is)
     shows_put = record {

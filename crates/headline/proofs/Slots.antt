@@ -5,7 +5,8 @@ use Rattle.std.proofs.Math.Dec.{eqb}
 use Rattle.std.proofs.lemmas.Bool.{cases_Bool, eqb-true}
 use Rattle.std.proofs.lemmas.List.Elements.{Contains-append_right}
 use Rattle.std.proofs.lemmas.List.Recursion.{is_count_by}
-use Rattle.headline.proofs.Words.{Flow, FlowView, IsShownSlot, alone, among, flow_at, flow_count}
+use Rattle.headline.proofs.Words.{Flow, FlowView, IsShownSlot, alone, flow_at, flow_count}
+use Rattle.tuples.proofs.Lists.{first_or_later}
 
 -- those from a number on
 slots_from : ℕ → List (Option Flow) → List ℕ
@@ -47,7 +48,7 @@ flow_of k (None ∷ flows) t has = let found = flow_of (suc k) flows t has in (s
 flow_of k (Some f ∷ flows) t has = ⊎_elim
     (λ first. (zero, f, omega (arith, first), refl))
     (λ rest. let found = flow_of (suc k) flows t rest in (suc found.0, found.1, omega (arith, found.2), found.3))
-    (among k t (slots_from (suc k) flows) has)
+    (first_or_later k t (slots_from (suc k) flows) has)
 
 -- and each flow's slot is one of them
 slot_of : (k : ℕ) (flows : List (Option Flow)) (j t : ℕ) (f : Flow) → t ≡ k + j → slice_index_or flows j None ≡ Some f → Contains (slots_from k flows) t

@@ -17,7 +17,7 @@ use Rattle.cluster.specs.Runs.{Took}
 use Rattle.cluster.specs.declared.event.What.TheVariants.{Refused}
 use Rattle.names.specs.declared.node_name.NodeName.{NodeName}
 use Rattle.laws.specs.Nodes as nodes
-use Rattle.turns.specs.NewStores.{empty_machine}
+use Rattle.stores.specs.NewStores.{empty_machine}
 use Rattle.turns.specs.StoreLaws.{IsUnmade}
 use Rattle.turns.proofs.ClosedStoreRests.{unmade_stores_rest}
 use Rattle.headline.proofs.Joined.{lives}

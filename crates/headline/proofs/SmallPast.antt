@@ -8,8 +8,8 @@ use Rattle.records.specs.Checkpoints.{is_complete}
 use Rattle.records.specs.Coordinators.{coordinator_state}
 use Rattle.laws.specs.Machines.{Machine}
 use Rattle.laws.specs.Nodes.{NodeName, coordinator}
-use Rattle.turns.specs.NewStores.{empty_machine}
-use Rattle.turns.specs.Stores.{stops}
+use Rattle.stores.specs.NewStores.{empty_machine}
+use Rattle.stores.specs.Stores.{stops}
 use Rattle.headline.specs.PastWrites.{IsPastOver}
 use Rattle.headline.proofs.SmallHeadline.{IsHonest, at_once, itself, left_now, unmade, unmade_honest}
 

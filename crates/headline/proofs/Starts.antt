@@ -10,7 +10,7 @@ use Rattle.care_flow.specs.Flushing as flushes
 use Rattle.names.specs.declared.care.Care.{Care}
 use Rattle.names.specs.declared.care.Care.TheVariants as any_care
 use Rattle.tuples.specs.Checking.{userset_of}
-use Rattle.turns.specs.Flows.{IsFreshness}
+use Rattle.stores.specs.Flows.{IsFreshness}
 use Rattle.turns.specs.Runs as runs
 use Rattle.call_turns.specs.StoreCalls.{name_of}
 use Rattle.call_turns.proofs.FullStores.{full_stores_refuse}

@@ -4,12 +4,12 @@ use Rattle.headline.proofs.Words.{AreSound, Damaged, Down, Entry, Finds, IsFound
 use Rattle.calls.specs.Opening.{IsOpeningRefusal, refusal_of}
 use Rattle.calls.specs.Views as views
 use Rattle.cluster.specs.Steps.{told_of_opening}
+use Rattle.stores.specs.StagingLaws.{with_nodes}
 use Rattle.turns.specs.CoordinatorOpeningLaws.{IsOverDevices, behind_refusal}
 use Rattle.turns.specs.RestartLaws.{with_restart}
 use Rattle.turns.specs.SeamLaws.{behind}
 use Rattle.turns.specs.ShardOpeningLaws.{IsOver, put_at}
 use Rattle.turns.specs.ShardSeamLaws.{behind_shard}
-use Rattle.turns.specs.StagingLaws.{with_nodes}
 use Rattle.turns.proofs.CoordinatorOpening.{refused_coordinators_stand}
 use Rattle.turns.proofs.CoordinatorOpeningSeam as of_coordinator
 use Rattle.turns.proofs.RefusedOpening.{refused_shards_stand}

@@ -4,10 +4,10 @@ use Rattle.device.specs.Device.{State, left}
 use Rattle.tuples.specs.Watching.{Placed}
 use Rattle.answer_flow.specs.WatchViews as watch_views
 use Rattle.answer_flow.specs.WatchViews.{WatchEnding, WatchFlowValue, name_of, name_unless}
-use Rattle.turns.specs.Flows.{Asked, IsAsked, watching}
-use Rattle.turns.specs.Replies.{listed}
+use Rattle.stores.specs.Flows.{Asked, IsAsked, watching}
+use Rattle.stores.specs.Replies.{listed}
+use Rattle.stores.specs.Stores.{FlowView, Store}
 use Rattle.turns.specs.Runs.{answered}
-use Rattle.turns.specs.Stores.{FlowView, Store}
 use Rattle.answer_turns.specs.AnswerTurns.{asked_of, shown_answer, watch_in_slot, watch_tells}
 use Rattle.answer_turns.proofs.Watches.{watches_turn}
 use Rattle.cluster.specs.Ends.{IfEnded, TellsWatch}

@@ -4,7 +4,7 @@ use Rattle.std.proofs.lemmas.Option.{get_or_from_slice_get, slice_get_within}
 use Rattle.headline.proofs.Words.{AreOpened, ComesUp, Down, Flow, IsNode, IsThere, NodeName, NodeView, OpensWithCause, Reopened, Running, Shows, ShowsMemory, ShowsSlot, State, Store, WorldView, closed_nodes, coordinator, devices_at, devices_of, down, index_of, left, named, node_at, shard, shown, stops}
 use Rattle.calls.specs.Views as views
 use Rattle.cluster.specs.Openings.{name_at}
-use Rattle.turns.specs.Moments.{flow_at}
+use Rattle.stores.specs.Moments.{flow_at}
 use Rattle.turns.specs.Reopens.{Reopens}
 use Rattle.headline.specs.Promised.{OpeningsKeep}
 use Rattle.headline.proofs.Begun.{begins}

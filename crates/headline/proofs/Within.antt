@@ -1,19 +1,10 @@
 -- What a stop may leave of two devices at any moment since a node over them was opened again.
 use Rattle.std.proofs.Common.{◌≡◌, ◌⊎◌, inl, inr, ⊎_elim, ◌≤◌, ◌++◌, ℕ, List, [], ◌∷◌, Some, refl, sym, ◌∙◌, subst, arith}
-use Rattle.headline.proofs.Words.{Finds, IsRevived, LeavesBoth, Record, Revived, State, found, leaves_nothing_else, left}
-use Rattle.device.specs.Device.{Keeps, Leaves}
+use Rattle.headline.proofs.Words.{Finds, IsRevived, LeavesBoth, Record, Revived, State, found, left}
+use Rattle.device.specs.Device.{Leaves}
 use Rattle.device.proofs.Moments.{leaves_itself}
+use Rattle.device.proofs.States.{kept_left, revived_left}
 use Rattle.journal.specs.Records.{WasLeftOrFound}
-
--- of a device that was revived a stop leaves one of the contents that it could leave before
-revived_less : (old new : State) → Revived old new → (c : List ℕ) → left new c → left old c
-revived_less old new r c is =
-    let same : c ≡ new.seen = leaves_nothing_else new.durable c (subst (λ (w : List (ℕ × ℕ)). Leaves new.durable w c) r.written is) ∙ r.durable in
-    subst (left old) (sym same) r.found
-
--- and of one that keeps what it has any of them
-kept_less : (old new : State) → Keeps old new → (c : List ℕ) → left new c → left old c
-kept_less old new k c is = subst (λ (w : List (ℕ × ℕ)). Leaves old.durable w c) k.written (subst (λ (d : List ℕ). Leaves d new.written c) k.durable is)
 
 -- a device that was revived is found as it is, were it revived again
 pub found_again : (old new : State) → Revived old new → Revived new new
@@ -33,8 +24,8 @@ module _ {D : Type 0} (state : D → State) (honest : D → Type 0) (moment : D 
   -- so it is in the words of an opening
   pub less_left : (old new : D) → honest old → IsRevived state honest moment left_since old new → (c : List ℕ) → left (state new) c → left (state old) c
   less_left old new hon revived c is = ⊎_elim
-      (λ was. revived_less (state old) (state new) (was.0 hon) c is)
-      (λ failed. kept_less (state old) (state new) (failed.0 hon) c is)
+      (λ was. revived_left (state old) (state new) (was.0 hon) c is)
+      (λ failed. kept_left (state old) (state new) (failed.0 hon) c is)
       revived.found
 
   -- and at every moment since before the device was revived

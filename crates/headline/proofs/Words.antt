@@ -2,7 +2,7 @@
 pub use Rattle.answer_turns.specs.AnswerTurns.{asked_of, shown_answer}
 pub use Rattle.answer_turns.specs.CheckTurns.{check_of}
 pub use Rattle.answer_turns.specs.ReadTurns.{read_of}
-pub use Rattle.call_turns.proofs.Made.{inside_by, node_cases, still_given, still_within}
+pub use Rattle.call_turns.proofs.Made.{inside_by, still_given, still_within}
 pub use Rattle.call_turns.proofs.Slots.{found_at}
 pub use Rattle.call_turns.specs.Steps.{shown_flow}
 pub use Rattle.call_turns.specs.StoreCalls.{IsCalled, IsNamed, IsNode, KeepsMemory, ShowsMemory, called, shown}
@@ -73,24 +73,24 @@ pub use Rattle.records.specs.declared.record.Record.{Record}
 pub use Rattle.records.specs.declared.record.Record.TheVariants.{Epoch}
 pub use Rattle.refusal.specs.declared.refusal.Refusal.{Refusal}
 pub use Rattle.refusal.specs.declared.refusal.Refusal.TheVariants.{Damaged, Down, Full}
+pub use Rattle.stores.proofs.FlowBegins.{alone}
+pub use Rattle.stores.proofs.FlowEnds.{ran_before}
+pub use Rattle.stores.proofs.ShardStagesStands.{contained_at}
+pub use Rattle.stores.specs.Flows.{Asked, Holds, IsAsked, checking, id_of, nothing_held, reading, to_check, to_collect, to_flush, to_learn, to_raise, to_read, to_resolve, to_watch, to_write, watching}
+pub use Rattle.stores.specs.Held.{WasGiven}
+pub use Rattle.stores.specs.Moments.{Moment, Running, ended, flow_at as running_at, reopened, replaced}
+pub use Rattle.stores.specs.Stands.{IsHorizonIn, Stands, at_shards}
+pub use Rattle.stores.specs.Stores.{AreSound, FlowView, IsToldOver, NamesHorizon, RestsOver, ShowsSlot, StandsOver, Store, stops}
 pub use Rattle.tuples.specs.Writes.{WriteValue}
 pub use Rattle.tuples.specs.declared.entry.Entry.{Entry}
 pub use Rattle.tuples.specs.declared.entry.WriteId.{WriteId}
 pub use Rattle.tuples.specs.declared.object.Userset.{Userset}
 pub use Rattle.tuples.specs.declared.tuple.Tuple.{Tuple}
 pub use Rattle.turns.proofs.ClosedStoreRests.{closed_stores_rest}
-pub use Rattle.turns.proofs.FlowBegins.{alone, among}
-pub use Rattle.turns.proofs.FlowEnds.{ran_before}
 pub use Rattle.turns.proofs.ShardPrepareSeam.{last_sync}
-pub use Rattle.turns.proofs.ShardStagesStands.{contained_at}
-pub use Rattle.turns.specs.Flows.{Asked, Holds, IsAsked, checking, id_of, nothing_held, reading, to_check, to_collect, to_flush, to_learn, to_raise, to_read, to_resolve, to_watch, to_write, watching}
-pub use Rattle.turns.specs.Held.{WasGiven}
-pub use Rattle.turns.specs.Moments.{Moment, Running, ended, flow_at as running_at, reopened, replaced}
 pub use Rattle.turns.specs.Promises.{ComesUp, OpensWithCause, Ran, RunsAll, RunsOne, events_of, stops_since}
 pub use Rattle.turns.specs.ReopenLaws.{closed_nodes}
 pub use Rattle.turns.specs.Reopens.{FoundHorizon}
 pub use Rattle.turns.specs.RestartLaws.{cut_to}
 pub use Rattle.turns.specs.Runs.{DecidesNothing, EndsAs, IfRunning, IsOfOpening, MayRise, OpensAs, Restarts, Told, Turns, answered, refuses, restart, turn}
-pub use Rattle.turns.specs.Stands.{IsHorizonIn, Stands, at_shards}
-pub use Rattle.turns.specs.Stores.{AreSound, FlowView, IsToldOver, NamesHorizon, RestsOver, ShowsSlot, StandsOver, Store, stops}
 pub use Rattle.write_turns.specs.Seen.{shown_until, told_of}

@@ -6,10 +6,10 @@ use Rattle.journal.specs.declared.refused.Bank.{Bank}
 use Rattle.names.specs.declared.node_name.NodeName.{NodeName}
 use Rattle.cluster.specs.Nodes.{IsSetIn}
 use Rattle.cluster.specs.Worlds.{WorldView, node_at}
-use Rattle.turns.specs.Moments.{Moment}
+use Rattle.stores.specs.Moments.{Moment}
 use Rattle.laws.specs.Nodes as laws
 use Rattle.records.specs.declared.record.Record.{Record}
-use Rattle.turns.specs.Stores.{NamesHorizon, StandsOver, Store, stops}
+use Rattle.stores.specs.Stores.{NamesHorizon, StandsOver, Store, stops}
 use Rattle.headline.specs.Shown.{Shows}
 
 -- A store that shows the world behind the script, and stands for each moment that the store before it stands for. No horizon is named that was not, and a

@@ -6,7 +6,7 @@ use Rattle.gated.specs.Gated.{IsSpelled, gated}
 use Rattle.journal.specs.Records.{found}
 use Rattle.laws.specs.Machines.{Machine}
 use Rattle.laws.specs.Nodes.{NodeName}
-use Rattle.turns.specs.Stores.{IsToldOver, RestsOver}
+use Rattle.stores.specs.Stores.{IsToldOver, RestsOver}
 use Rattle.headline.specs.PastWrites.{IsPastOver}
 use Rattle.headline.specs.Promised.{devices_at}
 

@@ -10,11 +10,11 @@ use Rattle.cluster.specs.declared.event.Event.{Event}
 use Rattle.cluster.specs.declared.step.Step.{Step}
 use Rattle.laws.specs.Machines.{Machine}
 use Rattle.laws.specs.Nodes.{NodeName}
-use Rattle.turns.specs.Moments.{Moment}
+use Rattle.stores.specs.Moments.{Moment}
+use Rattle.stores.specs.Stores.{IsToldOver, NamesHorizon, RestsOver, StandsOver, Store}
 use Rattle.turns.specs.Promises.{RunsAll, StopsBetween}
 use Rattle.turns.specs.Reopens.{Reopened}
 use Rattle.turns.specs.Runs.{IsRun}
-use Rattle.turns.specs.Stores.{IsToldOver, NamesHorizon, RestsOver, StandsOver, Store}
 use Rattle.headline.specs.Promised.{devices_at}
 use Rattle.headline.specs.Shown.{Shows}
 use Rattle.headline.specs.Told.{IsWholeStep, event_of, step_of}

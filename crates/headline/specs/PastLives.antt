@@ -6,8 +6,8 @@ use Rattle.device.specs.declared.tear.Tear.{Tear}
 use Rattle.cluster.specs.Worlds.{WorldView}
 use Rattle.cluster.specs.declared.event.What.{What}
 use Rattle.laws.specs.Machines.{Machine}
-use Rattle.turns.specs.Moments.{Moment}
-use Rattle.turns.specs.Stores.{RestsOver, StandsOver, Store}
+use Rattle.stores.specs.Moments.{Moment}
+use Rattle.stores.specs.Stores.{RestsOver, StandsOver, Store}
 use Rattle.headline.specs.Acts.{Act}
 use Rattle.headline.specs.ManyLives.{End, EndsOver, stops_opening}
 use Rattle.headline.specs.PastWrites.{IsPast, IsPastOver}

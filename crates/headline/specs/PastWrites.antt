@@ -8,12 +8,12 @@ use Rattle.device.specs.Device.{State}
 use Rattle.laws.specs.LogLaws.{IsUnlisted}
 use Rattle.laws.specs.Machines.{Machine}
 use Rattle.laws.specs.Nodes.{NodeName, coordinator}
-use Rattle.turns.specs.Flows.{id_of}
-use Rattle.turns.specs.Held.{WasGiven}
-use Rattle.turns.specs.Moments.{Moment, Running, flow_at}
+use Rattle.stores.specs.Flows.{id_of}
+use Rattle.stores.specs.Held.{WasGiven}
+use Rattle.stores.specs.Moments.{Moment, Running, flow_at}
+use Rattle.stores.specs.Stores.{StandsOver, Store, stops}
 use Rattle.turns.specs.Promises.{Ran, RunsAll}
 use Rattle.turns.specs.Runs.{Event, Step, refuses, turn}
-use Rattle.turns.specs.Stores.{StandsOver, Store, stops}
 
 -- Given what a device holds and whether it is honest, how often a stop may have come at it, what a stop since then may have left, and a store's id
 -- and number of shards

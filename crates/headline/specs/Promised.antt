@@ -10,10 +10,10 @@ use Rattle.cluster.specs.declared.event.Event.{Event}
 use Rattle.cluster.specs.declared.event.What.{What}
 use Rattle.cluster.specs.declared.step.Step.{Step}
 use Rattle.laws.specs.Nodes.{NodeName, coordinator, shard}
-use Rattle.turns.specs.Moments.{Moment}
+use Rattle.stores.specs.Moments.{Moment}
+use Rattle.stores.specs.Stores.{StandsOver, Store}
 use Rattle.turns.specs.Promises.{RunsAll, RunsOne, events_of}
 use Rattle.turns.specs.Reopens.{Reopens}
-use Rattle.turns.specs.Stores.{StandsOver, Store}
 use Rattle.headline.specs.Shown.{Shows}
 use Rattle.headline.specs.Told.{IsWholeStep, all_told, event_of, step_of}
 

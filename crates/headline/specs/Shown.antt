@@ -6,8 +6,8 @@ use Rattle.names.specs.declared.node_name.NodeName as names
 use Rattle.names.specs.declared.node_name.NodeName.TheVariants as called
 use Rattle.care_flow.specs.Cares.{IsThere as IsCareThere}
 use Rattle.laws.specs.Nodes.{NodeName, coordinator, shard}
-use Rattle.turns.specs.Flows.{IsAsked, checking, reading, watching}
-use Rattle.turns.specs.Stores.{FlowView, Store}
+use Rattle.stores.specs.Flows.{IsAsked, checking, reading, watching}
+use Rattle.stores.specs.Stores.{FlowView, Store}
 use Rattle.call_turns.specs.StoreCalls.{IsNode}
 use Rattle.write_turns.specs.Seen as writes
 use Rattle.care_turns.specs.CareTurns.{shows}

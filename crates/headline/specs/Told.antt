@@ -6,8 +6,8 @@ use Rattle.answer_flow.specs.ReadViews.{rows_of}
 use Rattle.care_flow.specs.Ends.{resolved_value}
 use Rattle.names.specs.declared.care.Care.{Care}
 use Rattle.names.specs.declared.care.Care.TheVariants as cares
-use Rattle.turns.specs.Flows.{Asked, to_check, to_collect, to_flush, to_learn, to_raise, to_read, to_resolve, to_watch, to_write}
-use Rattle.turns.specs.Replies as replies
+use Rattle.stores.specs.Flows.{Asked, to_check, to_collect, to_flush, to_learn, to_raise, to_read, to_resolve, to_watch, to_write}
+use Rattle.stores.specs.Replies as replies
 use Rattle.turns.specs.Runs as runs
 use Rattle.turns.specs.Runs.{Told, answered, began, came_up, goes_on, refuses}
 use Rattle.call_turns.specs.StoreCalls.{name_of}

@@ -1,5 +1,5 @@
 -- Writes stay apart where a free one is added, and where some are taken out.
-use Rattle.std.proofs.Common.{◌≡◌, ◌⊎◌, inl, inr, ⊎_elim, ℕ, zero, suc, Bool, true, false, not, List, [], ◌∷◌, ◌++◌, Some, None, length, cond, ◌||◌, filter, refl, sym, ◌∙◌, ap, subst, arith, All, slice_get, ◌↔◌}
+use Rattle.std.proofs.Common.{◌≡◌, ◌⊎◌, ⊎_elim, ℕ, zero, suc, Bool, true, false, not, List, [], ◌∷◌, Some, None, cond, ◌||◌, filter, refl, sym, ◌∙◌, ap, subst, arith, All, slice_get, ◌↔◌}
 use Rattle.std.specs.List.{list_any}
 use Rattle.std.proofs.lemmas.Bool.{cases_Bool, not-true, not_from_false, or_cases}
 use Rattle.std.proofs.lemmas.List.Folds.{list_any-append}
@@ -16,12 +16,6 @@ use Rattle.records.specs.Replays.{find_in_doubt, is_held, named, put, without, w
 use Rattle.holds.specs.Holds.{AreApart, IsFree}
 use Rattle.holds.proofs.Doubts.{same_id_refl, without_filter}
 use Rattle.holds.proofs.Put.{put_cases, put_or_there}
-
-pub slice_get_push : {X : Type 0} (xs : List X) (x y : X) (j : ℕ) → slice_get (xs ++ x ∷ []) j ≡ Some y → (slice_get xs j ≡ Some y) ⊎ ((j ≡ length xs) × (x ≡ y))
-slice_get_push [] x y zero is = inr (refl, cc)
-slice_get_push [] x y (suc j) is = absurd (cc)
-slice_get_push (z ∷ xs) x y zero is = inl is
-slice_get_push (z ∷ xs) x y (suc j) is = ⊎_elim (λ old. inl old) (λ new. inr (omega (arith, new.0), new.1)) (slice_get_push xs x y j is)
 
 -- what is left by a test was there before
 still_there : {X : Type 0} (p : X → Bool) (xs : List X) (j : ℕ) (y : X) → slice_get (filter p xs) j ≡ Some y → (k : ℕ) × (slice_get xs k ≡ Some y)

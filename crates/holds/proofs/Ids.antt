@@ -2,12 +2,13 @@
 use Rattle.std.proofs.Common.{◌≡◌, ◌⊎◌, inl, inr, ⊎_elim, ◌<◌, ◌&&◌, ◌==◌, Bool, List, [], ◌∷◌, refl, sym, ◌∙◌, ap}
 use Rattle.std.specs.Cmp.{IsEquivalence, IsTotalOrder, ranked, unsigned_ties}
 use Rattle.std.specs.List.Sorted.{IsStrictlySortedBy}
-use Rattle.std.specs.Ordering.{nat_cmp, ordering_then, eq_by_cmp, is_eq}
+use Rattle.std.specs.Ordering.{nat_cmp, ordering_then, eq_by_cmp}
 use Rattle.std.specs.declared.cmp.Ordering.{Ordering}
 use Rattle.std.specs.declared.cmp.Ordering.TheVariants.{Less, Equal, Greater}
 use Rattle.std.proofs.lemmas.Cmp.{eq_by_cmp_equiv, on_total, then_total, nat_cmp_total}
 use Rattle.tuples.specs.declared.entry.WriteId.{WriteId}
 use Rattle.tuples.specs.Log.{same_id}
+use Rattle.tuples.proofs.Same.{is_eq_then}
 use Rattle.holds.proofs.Doubts.{same_id_refl, same_id_true}
 use Rattle.records.specs.Replays.{id_cmp}
 use Rattle.holds.specs.Holds.{AreAscendingIds}
@@ -15,14 +16,9 @@ use Rattle.holds.specs.Holds.{AreAscendingIds}
 pub id_total : IsTotalOrder id_cmp
 id_total = then_total (on_total (λ (a : WriteId). a.epoch) nat_cmp_total) (on_total (λ (a : WriteId). a.number) nat_cmp_total)
 
-both_equal : (x y : Ordering) → is_eq (ordering_then x y) ≡ (is_eq x && is_eq y)
-both_equal Less y = refl
-both_equal Equal y = refl
-both_equal Greater y = refl
-
 pub id_ties : (a b : WriteId) → same_id a b ≡ eq_by_cmp id_cmp a b
 id_ties a b =
-    ap (λ (t : Bool). t && (a.number == b.number)) (unsigned_ties a.epoch b.epoch) ∙ ap (λ (t : Bool). eq_by_cmp nat_cmp a.epoch b.epoch && t) (unsigned_ties a.number b.number) ∙ sym (both_equal (nat_cmp a.epoch b.epoch) (nat_cmp a.number b.number))
+    ap (λ (t : Bool). t && (a.number == b.number)) (unsigned_ties a.epoch b.epoch) ∙ ap (λ (t : Bool). eq_by_cmp nat_cmp a.epoch b.epoch && t) (unsigned_ties a.number b.number) ∙ sym (is_eq_then (nat_cmp a.epoch b.epoch) (nat_cmp a.number b.number))
 
 first_less : (x y : Ordering) → ordering_then x y ≡ Less → (x ≡ Less) ⊎ ((x ≡ Equal) × (y ≡ Less))
 first_less Less y is = inl refl

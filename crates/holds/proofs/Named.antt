@@ -1,5 +1,5 @@
 -- A set of tuples to which those of writes are added, and from which they are taken.
-use Rattle.std.proofs.Common.{◌≡◌, ℕ, zero, suc, Bool, true, false, not, cond, ◌+◌, ◌<◌, ◌||◌, ◌&&◌, List, [], ◌∷◌, ◌++◌, map, take, length, get_or, Some, None, slice_get, Option, Result, Ok, Err, refl, sym, ◌∙◌, ap, rules, inl, inr, arith}
+use Rattle.std.proofs.Common.{◌≡◌, ℕ, zero, suc, Bool, true, false, not, cond, ◌+◌, ◌<◌, ◌||◌, ◌&&◌, List, [], ◌∷◌, ◌++◌, map, take, length, get_or, Some, None, slice_get, Option, Result, Ok, Err, refl, sym, ◌∙◌, ap, inl, inr, arith}
 use Rattle.std.specs.Prelude.{OnOk}
 use Rattle.std.specs.Result.{is_err}
 use Rattle.std.specs.List.{list_any}
@@ -7,25 +7,19 @@ use Rattle.std.specs.Ordering.{is_eq}
 use Rattle.std.proofs.lemmas.Bool.{cases_Bool}
 use Rattle.std.proofs.lemmas.List.{map-append, take_more}
 use Rattle.std.proofs.lemmas.List.Folds.{list_any-append}
+use Rattle.std.proofs.Math.Bool.{or-false}
 use Rattle.tuples.specs.contracts.tuple.TupleOrd.TheImpl.{ghosts}
 use Rattle.tuples.specs.declared.tuple.Tuple.{Tuple}
 use Rattle.tuples.specs.declared.entry.Entry.{Entry}
 use Rattle.tuples.specs.declared.entry.WriteId.{WriteId}
 use Rattle.tuples.specs.Changes.{has_tuple}
 use Rattle.tuples.specs.Log.{same_id}
-use Rattle.tuples.specs.Order.{tuple_cmp, tuple_eq}
-use Rattle.tuples.proofs.Ordered.{tuple_eq_symm}
+use Rattle.tuples.specs.Order.{tuple_eq}
+use Rattle.tuples.proofs.Ordered.{tuple_eq_symm, same_tie}
 use Rattle.records.specs.Replays.{find_in_doubt, is_held, named, put, without}
 use Rattle.holds.specs.Holds.{AreApart, is_in}
 use Rattle.holds.proofs.Doubts.{found_id, same_id_refl, same_id_true}
 use Rattle.holds.proofs.Put.{put_cases}
-
-same_order : (a b : Tuple) → ghosts.cmp a b ≡ tuple_cmp a b
-same_order a b = search rules
-
-pub same_tie : (a b : Tuple) → is_eq (ghosts.cmp a b) ≡ tuple_eq a b
-unfolding tuple_eq
-same_tie a b = ap is_eq (same_order a b)
 
 or_cond : (b c : Bool) → cond b true c ≡ (b || c)
 or_cond true c = refl
@@ -44,17 +38,13 @@ taken_out old new u t is = is ∙ ap (λ (b : Bool). cond b false (is_in old t))
 
 -- ---- the tuples of a list so far
 
-or_false : (b : Bool) → (b || false) ≡ b
-or_false true = refl
-or_false false = refl
-
 module _ {X : Type 0} (tuple : X → Tuple) where
   pub has_more : (t : Tuple) (xs : List X) (i : ℕ) (x : X) → i < length xs → x ≡ get_or xs i x → has_tuple t (map tuple (take (i + 1) xs)) ≡ (has_tuple t (map tuple (take i xs)) || tuple_eq t (tuple x))
   has_more t xs i x within at =
       ap (λ (l : List X). has_tuple t (map tuple l)) (take_more xs i x within ∙ ap (λ (y : X). take i xs ++ y ∷ []) (sym at))
       ∙ ap (has_tuple t) (map-append tuple (take i xs) (x ∷ []))
       ∙ list_any-append (tuple_eq t) (map tuple (take i xs)) (tuple x ∷ [])
-      ∙ ap (λ (b : Bool). has_tuple t (map tuple (take i xs)) || b) (or_false (tuple_eq t (tuple x)))
+      ∙ ap (λ (b : Bool). has_tuple t (map tuple (take i xs)) || b) (or-false (tuple_eq t (tuple x)))
 
   pub has_take : (t : Tuple) (xs : List X) (i : ℕ) → has_tuple t (map tuple xs) ≡ false → has_tuple t (map tuple (take i xs)) ≡ false
   has_take t xs zero none = refl
@@ -128,14 +118,14 @@ held_at t (v ∷ ws) is = elim (cases_Bool (has_tuple t (named v))) [
   | inr past ↦ let more = held_at t ws (sym (ap (λ (b : Bool). cond b true (is_held t ws)) past) ∙ is) in (suc more.0, more.1, more.2, more.3)
 ]
 
-found_at : (id : WriteId) (ws : List Entry) (w : Entry) → find_in_doubt id ws ≡ Some w → (j : ℕ) × (slice_get ws j ≡ Some w)
+pub found_at : (id : WriteId) (ws : List Entry) (w : Entry) → find_in_doubt id ws ≡ Some w → (j : ℕ) × (slice_get ws j ≡ Some w)
 found_at id [] w is = absurd cc
 found_at id (v ∷ ws) w is = elim (cases_Bool (same_id v.id id)) [
   | inl here ↦ (0, sym (ap (λ (b : Bool). cond b (Some v) (find_in_doubt id ws)) here) ∙ is)
   | inr past ↦ let more = found_at id ws w (sym (ap (λ (b : Bool). cond b (Some v) (find_in_doubt id ws)) past) ∙ is) in (suc more.0, more.1)
 ]
 
-apart_rest : (v : Entry) (ws : List Entry) → AreApart (v ∷ ws) → AreApart ws
+pub apart_rest : (v : Entry) (ws : List Entry) → AreApart (v ∷ ws) → AreApart ws
 apart_rest v ws apart = record {
   tuples = λ i j u w at_u at_w t in_u in_w. let h : suc i ≡ suc j = apart.tuples (suc i) (suc j) u w at_u at_w t in_u in_w in omega (arith, h);
   ids = λ i j u w at_u at_w is. let h : suc i ≡ suc j = apart.ids (suc i) (suc j) u w at_u at_w is in omega (arith, h);
@@ -157,18 +147,6 @@ first_new v ws id apart is = none_of (find_in_doubt id ws) refl
     none_of (Some w) at =
         let place = found_at id ws w at in
         absurd (let h : suc place.0 ≡ 0 = apart.ids (suc place.0) 0 w v place.1 refl (found_id id ws w at ∙ sym is) in omega (arith, h))
-
-still_free : (t : Tuple) (id : WriteId) (ws : List Entry) → is_held t ws ≡ false → is_held t (without id ws) ≡ false
-still_free t id [] none = refl
-still_free t id (v ∷ ws) none = elim (cases_Bool (has_tuple t (named v))) [
-  | inl here ↦ absurd (let never : true ≡ false = sym (ap (λ (b : Bool). cond b true (is_held t ws)) here) ∙ none in cc)
-  | inr past ↦
-      let rest : is_held t (without id ws) ≡ false = still_free t id ws (sym (ap (λ (b : Bool). cond b true (is_held t ws)) past) ∙ none) in
-      elim (cases_Bool (same_id v.id id)) [
-        | inl out ↦ ap (λ (b : Bool). is_held t (cond b (without id ws) (v ∷ without id ws))) out ∙ rest
-        | inr stays ↦ ap (λ (b : Bool). is_held t (cond b (without id ws) (v ∷ without id ws))) stays ∙ ap (λ (b : Bool). cond b true (is_held t (without id ws))) past ∙ rest
-      ]
-]
 
 -- without a write its tuples are free, and the others are held as before
 pub held_without : (t : Tuple) (id : WriteId) (ws : List Entry) (w : Entry) → AreApart ws → find_in_doubt id ws ≡ Some w → is_held t (without id ws) ≡ (not (has_tuple t (named w)) && is_held t ws)

@@ -1,6 +1,6 @@
 -- A write that is put in its place among those in doubt.
-use Rattle.std.proofs.Common.{◌≡◌, ◌≢◌, ◌⊎◌, inl, inr, ⊎_elim, ℕ, zero, suc, Bool, true, false, List, [], ◌∷◌, Option, Some, None, refl, sym, ◌∙◌, ap, cond, subst, slice_get, ◌<◌}
-use Rattle.std.specs.Ordering.{is_eq, match_ordering, ordering_reverse}
+use Rattle.std.proofs.Common.{◌≡◌, ◌≢◌, ◌⊎◌, inl, inr, ⊎_elim, ℕ, zero, suc, Bool, true, false, List, [], ◌∷◌, Option, Some, None, refl, sym, ◌∙◌, ap, cond, slice_get}
+use Rattle.std.specs.Ordering.{is_eq, match_ordering}
 use Rattle.std.specs.declared.cmp.Ordering.{Ordering}
 use Rattle.std.specs.declared.cmp.Ordering.TheVariants.{Less, Equal, Greater}
 use Rattle.tuples.specs.declared.entry.Entry.{Entry}
@@ -9,7 +9,7 @@ use Rattle.tuples.specs.Log.{same_id}
 use Rattle.records.specs.Replays.{find_in_doubt, id_cmp, put}
 use Rattle.holds.specs.Holds.{AreAscendingIds, ids}
 use Rattle.holds.proofs.Doubts.{same_id_other, same_id_refl, same_id_true}
-use Rattle.holds.proofs.Ids.{below, id_ties, id_total}
+use Rattle.holds.proofs.Ids.{id_ties}
 
 -- ids of which one is greater are two
 greater_is_other : (w v : Entry) → id_cmp w.id v.id ≡ Greater → v.id ≢ w.id
@@ -67,29 +67,3 @@ put_or_there w (v ∷ ws) = put_cases (λ l. (j : ℕ) (y : Entry) → slice_get
 
 abbrev pub AreAscending : List Entry → Type 0
 AreAscending ws = AreAscendingIds (ids ws)
-
-above_less : (w v : Entry) → id_cmp w.id v.id ≡ Greater → id_cmp v.id w.id ≡ Less
-above_less w v greater = id_total.antisymm v.id w.id ∙ ap ordering_reverse greater
-
-put_behind_first : (v w : Entry) (ws : List Entry) → id_cmp w.id v.id ≡ Greater → AreAscending (v ∷ ws) → AreAscending (put w ws) → AreAscending (v ∷ put w ws)
-put_behind_first v w [] greater first = λ rest. (below v.id w.id (above_less w v greater), tt)
-put_behind_first v w (u ∷ ws) greater first = put_cases (λ l. AreAscending l → AreAscending (v ∷ l)) w u ws
-    (λ less rest. (below v.id w.id (above_less w v greater), rest))
-    (λ same rest. (below v.id w.id (above_less w v greater), rest))
-    (λ more other rest. (first.0, rest))
-
--- a write is put so that ids ascend still
-pub put_ascends : (w : Entry) (ws : List Entry) → AreAscending ws → AreAscending (put w ws)
-put_ascends w [] ascending = tt
-put_ascends w (v ∷ ws) ascending = put_cases AreAscending w v ws
-    (λ less. (below w.id v.id less, ascending))
-    (λ same. instead ws same ascending)
-    (λ greater other. put_behind_first v w ws greater ascending (put_ascends w ws (rest ws ascending)))
-  where
-    rest : (us : List Entry) → AreAscending (v ∷ us) → AreAscending us
-    rest [] are = tt
-    rest (u ∷ us) are = are.1
-
-    instead : (us : List Entry) → w.id ≡ v.id → AreAscending (v ∷ us) → AreAscending (w ∷ us)
-    instead [] same are = tt
-    instead (u ∷ us) same are = (subst (λ (i : WriteId). (i.epoch < u.id.epoch) ⊎ ((i.epoch ≡ u.id.epoch) × (i.number < u.id.number))) (sym same) are.0, are.1)

@@ -1,6 +1,10 @@
 -- What a stop leaves during one call and then another.
-use Rattle.std.proofs.Common.{◌≡◌, inl, inr, ⊎_elim, ℕ, Bool, true, false, List, Result, Ok, Err, MatchResult, refl, sym, ◌∙◌, arith}
-use Rattle.journal.specs.Records.{LeavesBoth, found}
+use Rattle.std.proofs.Common.{◌≡◌, inl, inr, ⊎_elim, ℕ, Bool, true, false, List, Result, Ok, Err, MatchResult, refl, sym, ◌∙◌, arith, subst}
+use Rattle.journal.specs.Records.{LeavesBoth, found, HasRecords}
+use Rattle.away.specs.Aways.{lent_state}
+use Rattle.away.specs.declared.away.Away.{Away}
+use Rattle.records.specs.declared.record.Record.{Record}
+use Rattle.device.specs.Device.{State, left}
 
 -- one call, and then another
 pub then_both : {D : Type 0} (moment : D → ℕ) (left_since : D → ℕ → List ℕ → Type 0) (a b c d e f : D) (P Q R : List ℕ → List ℕ → Type 0) → LeavesBoth moment left_since a b c d P → LeavesBoth moment left_since c d e f Q
@@ -29,3 +33,8 @@ not_stopped false opened = refl
 pub match_weaker : {X Y : Type 0} (r : Result X Y) (P P' : X → Type 0) (Q Q' : Y → Type 0) → MatchResult r P Q → ((x : X) → P x → P' x) → ((y : Y) → Q y → Q' y) → MatchResult r P' Q'
 match_weaker (Ok x) P P' Q Q' is ok err = ok x is
 match_weaker (Err y) P P' Q Q' is ok err = err y is
+
+-- what stands for the devices has the same records
+pub records_lent : {D : Type 0} (state : D → State) (a b : D) (x y : Away D) (rs : List Record) → x.was.value ≡ a → y.was.value ≡ b → HasRecords (state a) (state b) rs → HasRecords (lent_state state x) (lent_state state y) rs
+records_lent {D} state a b x y rs at_a at_b has c d in_c in_d =
+    has c d (subst (λ (v : D). left (state v) c) at_a in_c) (subst (λ (v : D). left (state v) d) at_b in_d)

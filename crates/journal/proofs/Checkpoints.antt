@@ -1,6 +1,6 @@
 -- A checkpoint while it is written ahead, and what two banks have behind it.
 use Rattle.std.proofs.Common.{◌≡◌, inl, inr, ⊎_elim, ◌↔◌, ℕ, ◌≤◌, false, List, [], ◌∷◌, ◌++◌, Some, Result, Ok, Err, refl, sym, ◌∙◌, ap, arith, append_assoc}
-use Rattle.device.specs.Device.{State, LeavesOnly, left}
+use Rattle.device.specs.Device.{State, LeavesOnly}
 use Rattle.device.proofs.Moments.{leaves_map, leaves_then}
 use Rattle.gated.specs.Gated.{HasList, IsAhead, IsOldOrLonger, IsOldOrNone, LogView, gated}
 use Rattle.std.specs.Result.{OnOk}
@@ -31,21 +31,6 @@ pub record SoFar {D : Type 0} (state : D → State) (honest : D → Type 0) (mom
   pub none : (state new.device).failures ≡ (state old.device).failures
 
 module _ {D : Type 0} (state : D → State) (honest : D → Type 0) (moment : D → ℕ) (left_since : D → ℕ → List ℕ → Type 0) where
-  pub nothing_put : (log : LogView D) (piece had : List Record) → (honest log.device → (state log.device).stopped ≡ false) → (honest log.device → (c : List ℕ) → left_since log.device (moment log.device) c → left (state log.device) c)
-      → SoFar state honest moment left_since log log piece piece had had
-  nothing_put log piece had up only = record {
-    still_honest = (λ h. h, λ h. h);
-    lists = λ hon. record {
-      moments = λ bodies list. record { later = omega arith; each = λ c is. list c (only hon c is); before = λ t c le is. inl is };
-      list = λ bodies list. list;
-    };
-    up = up;
-    put = λ all hon is. (all, refl, is);
-    end = refl;
-    counts = omega arith;
-    none = refl;
-  }
-
   module _ (old mid new : LogView D) (piece_then piece now had has rest : List Record) (r : Record) (so_far : SoFar state honest moment left_since old mid piece_then piece had has) (took : has ≡ r ∷ rest)
       (still : honest mid.device ↔ honest new.device) (lists : honest mid.device → KeepsLists state moment left_since mid.device new.device) (up : honest mid.device → (state new.device).stopped ≡ false)
       (put : (all : List Record) → honest mid.device → IsPut (state mid.device) mid.end mid.at piece all → IsPut (state new.device) new.end new.at now (all ++ r ∷ []))

@@ -2,18 +2,17 @@
 use Rattle.std.proofs.Common.{◌≡◌, ◌⊎◌, inl, inr, ⊎_elim, ℕ, Bool, true, false, ◌≤◌, List, [], ◌∷◌, ◌++◌, Some, length, All, refl, sym, ◌∙◌, ap, subst, arith}
 use Rattle.records.specs.declared.record.Record.{Record}
 use Rattle.records.specs.Reading.{batch}
-use Rattle.device.specs.Device.{State, left, LeavesOnly, Leaves, reach}
+use Rattle.device.specs.Device.{State, left, LeavesOnly, Leaves}
 use Rattle.std.proofs.lemmas.Bool.{cases_Bool}
+use Rattle.std.proofs.lemmas.Option.{same_Some}
 use Rattle.device.proofs.Moments.{leaves_map}
+use Rattle.device.proofs.History.{reach_least}
 use Rattle.gated.specs.Gated.{gated, HasList, IsOldOrNew}
 use Rattle.records.specs.Checkpoints.{generation_of, is_complete}
 use Rattle.journal.specs.Records.{bank_records, current_bank, found, batches, then_batches, HadRecords, HasRecords, or_none, durable_of, LeavesBoth, HasOldOrNew, WasLeftOrFound}
 use Rattle.journal.specs.Rest.{AreLed, BankHas, IsAtRest, IsPlain, bank_of}
 use Rattle.journal.proofs.Joined.{batches-push}
 use Rattle.journal.proofs.Picked.{found_current, found_same, generation_longer_a, generation_longer_b, leads_longer_a, leads_longer_b, led_a, led_b, longer_a, longer_b}
-
-some_is : {X : Type 0} (x y : X) → Some x ≡ Some y → x ≡ y
-some_is x y is = cc
 
 pub listed_records : (c : List ℕ) (bodies : List (List ℕ)) (rs : List Record) → gated c ≡ Some bodies → batches bodies ≡ Some rs → bank_records c ≡ Some rs
 listed_records c bodies rs list is = ap then_batches list ∙ is
@@ -23,7 +22,7 @@ rest_has s r c is = listed_records c r.bodies r.rs (r.has c is) r.read
 
 -- the records are the ones that each content has
 same_records : (s : State) (r : IsAtRest s) (rs : List Record) → left s s.seen → BankHas s rs → r.rs ≡ rs
-same_records s r rs here has = some_is r.rs rs (sym (rest_has s r s.seen here) ∙ has s.seen here)
+same_records s r rs here has = same_Some r.rs rs (sym (rest_has s r s.seen here) ∙ has s.seen here)
 
 old_or_new : (s : State) (r : IsAtRest s) (body : List ℕ) (more : List Record) (c : List ℕ) → batch body ≡ Some more → IsOldOrNew r.bodies body c → (bank_records c ≡ Some r.rs) ⊎ (bank_records c ≡ Some (r.rs ++ more))
 old_or_new s r body more c one (inl old) = inl (listed_records c r.bodies r.rs old r.read)
@@ -47,10 +46,6 @@ module _ {D : Type 0} (state : D → State) (moment : D → ℕ) (left_since : D
       let same = same_records (state old) r durable here has in
       listed_records c (r.bodies ++ body ∷ []) (durable ++ more) (new_list c is) (batches-push r.bodies body durable more (r.read ∙ ap (λ (rs : List Record). Some rs) same) one)
 
-reach_least : (w : List (ℕ × ℕ)) (n : ℕ) → n ≤ reach w n
-reach_least [] n = omega arith
-reach_least (r ∷ w) n = omega (arith, reach_least w n)
-
 pub durable_left : (s : State) → left s s.durable
 durable_left s = record { no_shorter = omega arith; no_longer = reach_least s.written (length s.durable); same = λ i lt un. refl }
 
@@ -73,21 +68,6 @@ module _ (sa sb : State) (is_b : Bool) (generation : ℕ) (led : AreLed sa sb is
 
 pub same_durable : (sa sb ta tb : State) → ta.durable ≡ sa.durable → tb.durable ≡ sb.durable → durable_of ta tb ≡ durable_of sa sb
 same_durable sa sb ta tb is_a is_b = ap (λ (c : List ℕ). or_none (found c tb.durable)) is_a ∙ ap (λ (c : List ℕ). or_none (found sa.durable c)) is_b
-
-kept_left : (s t : State) → t.durable ≡ s.durable → t.written ≡ s.written → (c : List ℕ) → left t c → left s c
-kept_left s t durable written c is = subst (λ (d : List ℕ). Leaves d s.written c) durable (subst (λ (w : List (ℕ × ℕ)). Leaves t.durable w c) written is)
-
--- the same where nothing that is stored is another
-pub led_kept : (sa sb ta tb : State) (is_b : Bool) (generation : ℕ) → ta.durable ≡ sa.durable → ta.written ≡ sa.written → tb.durable ≡ sb.durable → tb.written ≡ sb.written
-    → AreLed sa sb is_b generation → AreLed ta tb is_b generation
-led_kept sa sb ta tb is_b generation durable_a written_a durable_b written_b led = record {
-  first = led.first;
-  other = led.other;
-  a = λ c is. led.a c (kept_left sa ta durable_a written_a c is);
-  b = λ c is. led.b c (kept_left sb tb durable_b written_b c is);
-  leads = led.leads;
-  generation_is = led.generation_is;
-}
 
 pub rest_kept : (s t : State) → t.durable ≡ s.durable → t.written ≡ s.written → t.stopped ≡ s.stopped → IsAtRest s → IsAtRest t
 rest_kept s t durable written stopped r = record {

@@ -1,7 +1,7 @@
 -- Which of two banks is the current one.
 use Rattle.std.proofs.Common.{◌≡◌, ◌⊎◌, inl, inr, ⊎_elim, ℕ, zero, suc, Bool, true, false, ◌≤◌, ◌<◌, ◌&&◌, ◌||◌, nat_lt, if◌then◌else◌, List, [], ◌∷◌, ◌++◌, length, Option, Some, None, All, refl, sym, ◌∙◌, ap, subst, arith}
 use Rattle.std.specs.List.{list_any}
-use Rattle.std.proofs.lemmas.Bool.{lt-ltb, le-ltb}
+use Rattle.std.proofs.lemmas.Bool.{lt-ltb, le-ltb, and_parts}
 use Rattle.std.proofs.lemmas.List.Folds.{list_any-append}
 use Rattle.records.specs.declared.record.Record.{Record}
 use Rattle.records.specs.Checkpoints.{generation_begun, generation_of, is_complete, is_end, is_ended}
@@ -95,14 +95,10 @@ by_a true false true n g h is = absurd cc
 by_a true false false true g h is = inr refl
 by_a true false false false g h is = absurd cc
 
-both_none : (b c : Bool) → (b && c) ≡ true → (b ≡ true) × (c ≡ true)
-both_none true c is = (refl, is)
-both_none false c is = absurd cc
-
 pub led_a : (rs ss : List Record) → current_bank rs ss ≡ Some false → (is_complete rs ≡ true) ⊎ ((rs ≡ []) × (ss ≡ []))
 led_a rs ss leads = ⊎_elim
     (λ whole. inl whole)
-    (λ none. let both = both_none (has_none rs) (has_none ss) none in inr (nothing_at rs both.0, nothing_at ss both.1))
+    (λ none. let both = and_parts (has_none rs) (has_none ss) none in inr (nothing_at rs both.0, nothing_at ss both.1))
     (by_a (is_behind_checkpoint ss) (is_complete rs) (is_complete ss) (has_none rs && has_none ss) (generation_of rs) (generation_of ss) (sym (is_current rs ss) ∙ leads))
 
 by_b : (b r s n : Bool) (g h : ℕ) → (if b then later_bank r s n g h else None) ≡ Some true → s ≡ true

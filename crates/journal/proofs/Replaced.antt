@@ -5,6 +5,7 @@ use Rattle.std.proofs.lemmas.Bool.{eq-eqb}
 use Rattle.std.proofs.lemmas.List.{append-nil}
 use Rattle.std.proofs.lemmas.List.Elements.{All-nil}
 use Rattle.std.proofs.lemmas.List.Folds.{list_any-append}
+use Rattle.std.proofs.Math.Bool.{or-true}
 use Rattle.device.specs.Device.{State, LeavesOnly, left}
 use Rattle.records.specs.Checkpoints.{generation_of, is_complete, is_end}
 use Rattle.records.specs.declared.mark.Mark.TheVariants.{Ends}
@@ -55,16 +56,12 @@ same_found false x y = refl
 same_number : (n : ℕ) → (n == n) ≡ true
 same_number n = eq-eqb n n refl
 
-or_true : (b : Bool) → (b || true) ≡ true
-or_true true = refl
-or_true false = refl
-
 pub checkpoint_whole : (generation : ℕ) (rs : List Record) → is_complete (checkpoint_of generation rs) ≡ true
 unfolding is_complete
 checkpoint_whole generation rs =
     list_any-append (is_end generation) rs (Checkpoint (Ends generation) ∷ [])
     ∙ ap (λ (b : Bool). list_any (is_end generation) rs || (b || false)) (same_number generation)
-    ∙ or_true (list_any (is_end generation) rs)
+    ∙ or-true (list_any (is_end generation) rs)
 
 pub checkpoint_generation : (generation : ℕ) (rs : List Record) → generation_of (checkpoint_of generation rs) ≡ generation
 unfolding generation_of
@@ -101,9 +98,6 @@ module _ (is_b : Bool) (current other staged rs : List Record) (now next : ℕ) 
     each_of x y (inr more) (inl is) = inl (inr (found_lead is_b x y (current ++ staged) other more (listed_records y bodies other is read) longer))
     each_of x y (inr more) (inr (inl is)) = inl (inr (found_lead is_b x y (current ++ staged) [] more (listed_records y [] [] is refl) leads_still))
     each_of x y (inr more) (inr (inr is)) = inr (same_found is_b x y ∙ found_lead (not is_b) y x new (current ++ staged) is more leads_then)
-
-some_same : {X : Type 0} (x y : X) → Some x ≡ Some y → x ≡ y
-some_same x y is = cc
 
 -- the list of the other bank has its records
 pub list_read : (s : State) (r : IsAtRest s) (rs : List Record) → left s s.seen → BankHas s rs → then_batches (Some r.bodies) ≡ Some rs

@@ -1,18 +1,18 @@
 -- What the bytes of a batch stand for.
-use Rattle.std.proofs.Common.{◌≡◌, ◌≢◌, inl, inr, ⊎_elim, ◌≤◌, ◌<◌, ◌+◌, ◌-◌, ◌==◌, ℕ, zero, suc, false, cond, List, [], ◌∷◌, ◌++◌, Some, length, take, drop, refl, sym, ◌∙◌, ap, subst, arith, append_assoc, length-append}
+use Rattle.std.proofs.Common.{◌≡◌, ◌≢◌, inl, inr, ⊎_elim, ◌≤◌, ◌<◌, ◌+◌, ◌-◌, ◌==◌, ℕ, zero, suc, false, cond, List, [], ◌∷◌, ◌++◌, Some, length, take, drop, refl, sym, ◌∙◌, ap, subst, arith, append_assoc, length-append, ◌⊎◌}
 use Rattle.std.proofs.lemmas.List.Edits.{take-paste}
 use Rattle.std.proofs.Math.Seq.{paste}
 use Rattle.std.proofs.lemmas.List.{append-nil, drop-drop, take-append-drop, take_at, drop_at, length-take-le, length-drop, drop-append-le, drop_all, take_all}
-use Rattle.std.proofs.lemmas.Bool.{ne_eqb}
+use Rattle.std.proofs.lemmas.Bool.{ne_eqb, cases_lt}
 use Rattle.std.proofs.lemmas.Grind.{flat_map-append}
 use Rattle.std.specs.List.{flat_map}
 use Rattle.std.specs.Int.{w16, to_be_bytes}
 use Rattle.records.specs.declared.record.Record.{Record}
 use Rattle.records.specs.Format.{AreRecords, IsRecord, record_bytes, batch_bytes}
 use Rattle.records.specs.Reading.{batch}
-use Rattle.gated.specs.Gated.{body_of}
+use Rattle.gated.specs.Gated.{body_of, max_body}
 use Rattle.journal.specs.Lending.{Flies}
-use Rattle.journal.specs.Records.{or_none, batch_size, HasNoRoom}
+use Rattle.journal.specs.Records.{or_none, batch_size, HasNoRoom, max_records}
 use Rattle.records.proofs.Spelled.{batch_spelled}
 use Rattle.journal.specs.Staging.{staged_in, IsSpelled}
 
@@ -190,3 +190,13 @@ moved_down bytes len cut fits is =
     ap (λ k. take k (paste bytes 7 (drop (7 + len) bytes) (length bytes - (7 + len)))) where_to
     ∙ take-paste bytes 7 (drop (7 + len) bytes) (length bytes - (7 + len)) (omega (arith, fits)) (omega (arith, rest))
     ∙ ap (λ (l : List ℕ). take 7 bytes ++ l) (take_all (length bytes - (7 + len)) (drop (7 + len) bytes) (omega (arith, rest)))
+
+-- there is room for a record, or there is none
+pub room_or_none : (staged : List Record) (r : Record) → HasNoRoom staged r ⊎ (HasNoRoom staged r → ⊥)
+room_or_none staged r = ⊎_elim
+    (λ few. ⊎_elim
+    (λ long. inl (inr long))
+    (λ short. inr (λ full. ⊎_elim (λ many. omega (arith, few, many)) (λ long. omega (arith, short, long)) full))
+    (cases_lt max_body (batch_size (staged ++ r ∷ []))))
+    (λ many. inl (inl many))
+    (cases_lt (length staged) max_records)

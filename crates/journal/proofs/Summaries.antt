@@ -1,5 +1,5 @@
 -- What is counted of the records of a bank.
-use Rattle.std.proofs.Common.{◌≡◌, ◌⊎◌, inl, inr, ℕ, zero, suc, ◌+◌, ◌<◌, Bool, true, false, ◌||◌, ◌&&◌, not, map, drop, length, get_or, Vec, Global, nat_lt, if◌then◌else◌, List, [], ◌∷◌, ◌++◌, Option, Some, None, refl, sym, ◌∙◌, ap, arith}
+use Rattle.std.proofs.Common.{◌≡◌, ◌⊎◌, inl, inr, ℕ, zero, suc, ◌+◌, ◌<◌, Bool, true, false, ◌||◌, ◌&&◌, map, drop, length, get_or, Vec, Global, nat_lt, if◌then◌else◌, List, [], ◌∷◌, ◌++◌, Option, Some, None, refl, sym, ◌∙◌, ap, arith}
 use Rattle.std.proofs.lemmas.Bool.{lt-ltb}
 use Rattle.std.specs.List.{list_any}
 use Rattle.std.proofs.Math.Seq.{drop-cons}
@@ -8,7 +8,7 @@ use Rattle.records.specs.declared.record.Record.{Record}
 use Rattle.records.specs.Checkpoints.{generation_begun, generation_of, is_complete, is_end, is_ended}
 use Rattle.records.specs.Inside.{begun_by}
 use Rattle.records.specs.declared.mark.Inside.{Inside}
-use Rattle.journal.specs.Records.{batches, both, current_bank, of_bank, of_current, has_none, is_behind_checkpoint, later_bank}
+use Rattle.journal.specs.Records.{batches, both, current_bank, has_none, is_behind_checkpoint, later_bank}
 use Rattle.journal.specs.Summaries.{IsChosen, first_summary, generation_in, no_summary, summary_from, summary_step, then_summary}
 use Rattle.journal.specs.declared.summary.Summary.{Summary}
 
@@ -20,10 +20,6 @@ summary_append s (r ∷ rs) more = summary_append (summary_step s r) rs more
 pub summary_both : (s : Summary) (rs : List Record) (o : Option (List Record)) → then_summary s (both (Some rs) o) ≡ then_summary (summary_from s rs) o
 summary_both s rs None = refl
 summary_both s rs (Some more) = ap (λ (t : Summary). Some t) (summary_append s rs more)
-
-pub summary_none : (s : Summary) (o : Option (List Record)) → then_summary s (both None o) ≡ None
-summary_none s None = refl
-summary_none s (Some more) = refl
 
 pub no_records : (s : Summary) (o : Option (List Record)) → then_summary s o ≡ None → o ≡ None
 no_records s None is = refl
@@ -99,14 +95,6 @@ module _ (rs ss : List Record) (s t : Summary) (s_is : s ≡ summary_from no_sum
   behind_if (inl none) = is_behind (behind_nothing ss (sym (ap (λ (x : Summary). x.is_empty) of_other) ∙ none))
   behind_if (inr some) = is_behind (behind_positive (generation_of ss) refl (λ is. some (ap (λ (x : Summary). x.generation) of_other ∙ is)))
 
-pub is_not : (b : Bool) → not b ≡ true → b ≡ false
-is_not true is = absurd cc
-is_not false is = refl
-
-pub is_so : (b : Bool) → not b ≡ false → b ≡ true
-is_so true is = refl
-is_so false is = absurd cc
-
 -- One batch more is counted
 batch_more : (s t : Summary) (o rest : Option (List Record)) → Some t ≡ then_summary s o → then_summary s (both o rest) ≡ then_summary t rest
 batch_more s t None rest is = absurd cc
@@ -155,8 +143,3 @@ module _ (in_a in_b : List (List ℕ)) (s t : Summary) (of_a : Some s ≡ then_s
       generation_is = ap (λ (x : Summary). x.generation) (first.2 ∙ summary_is first.0);
       records_are = are ∙ first.1;
     }
-
-  pub none_chosen : ((rs ss : List Record) → s ≡ summary_from no_summary rs → t ≡ summary_from no_summary ss → None ≡ current_bank rs ss) → of_current (batches in_a) (batches in_b) ≡ None
-  none_chosen current =
-      ap (λ (o : Option (List Record)). of_current o (batches in_b)) first.1 ∙ ap (of_current (Some first.0)) other.1
-      ∙ ap (λ (o : Option Bool). of_bank o first.0 other.0) (sym (current first.0 other.0 first.2 other.2))

@@ -1,5 +1,6 @@
 // The first checkpoint of devices that were empty: that it begins is durable before anything of it is there.
 ghost use Rattle.std.specs.Prelude.{◌≡◌, ◌⊎◌, ◌↔◌, ◌≤◌, ◌<◌, ◌∷◌, [], List, ℕ, IfErr, IfOk, Err, IsErrOf, MatchResult, OnErr, OnOk, false, map, true};
+ghost use Rattle.refusal.specs.Refusals.{IsOneOf};
 ghost use Rattle.device.specs.Device.{HasFailed, LeavesOnly};
 ghost use Rattle.gated.specs.Gated.{HasList};
 ghost use Rattle.journal.specs.Ahead.{LacksRoomAhead, checkpoint_of};
@@ -86,7 +87,7 @@ fn begin_in<D: Device>(
     ensures empty { IfOk result (λ piece. (piece ≡ []) × (map (λ b. b.items) in_a.items ≡ []) × (map (λ b. b.items) in_b.items ≡ [])) }
     ensures begun { D.honest log.old.device → HasList (D.state log.old.device) [] → OnOk result (HasBegun (D.state log.new.device) log.new.end log.new.at) }
     ensures any_moment { D.honest log.old.device → HasList (D.state log.old.device) [] → LeavesOnly D.moment D.left_since log.old.device log.new.device HasNoneOrBegins }
-    ensures err { IfErr result (λ e. (e ≡ Refusal.Down) ⊎ ((e ≡ Refusal.NoMemory) ⊎ (e ≡ Refusal.Damaged))) }
+    ensures err { IfErr result (λ e. IsOneOf e (Refusal.Down ∷ Refusal.NoMemory ∷ Refusal.Damaged ∷ [])) }
     ensures damaged { IsErrOf result Refusal.Damaged → (map (λ b. b.items) in_a.items ≡ []) → (map (λ b. b.items) in_b.items ≡ []) → ⊥ }
     ensures down { IsErrOf result Refusal.Down → HasFailed (D.state log.old.device) (D.state log.new.device) ⊎ LacksRoomAhead D.state D.honest log.old.device }
     ensures counts { (D.state log.old.device).failures ≤ (D.state log.new.device).failures }
@@ -143,7 +144,7 @@ impl<D: Device> Begun<D> {
             (λ r. LeavesOnly D.moment D.left_since a r.a HasNoneOrBegins × LeavesOnly D.moment D.left_since b r.b HasNone)
             (λ e. LeavesOnly D.moment D.left_since a e.a HasNoneOrBegins × LeavesOnly D.moment D.left_since b e.b HasNone) }
         ensures open { IfOk result (λ r. r.is_open ≡ true) }
-        ensures err { IfErr result (λ e. (e.refusal ≡ Refusal.Down) ⊎ ((e.refusal ≡ Refusal.NoMemory) ⊎ (e.refusal ≡ Refusal.Damaged))) }
+        ensures err { IfErr result (λ e. IsOneOf e.refusal (Refusal.Down ∷ Refusal.NoMemory ∷ Refusal.Damaged ∷ [])) }
         ensures counts { MatchResult result (λ r. ((D.state a).failures ≤ (D.state r.a).failures) × ((D.state b).failures ≤ (D.state r.b).failures))
             (λ e. ((D.state a).failures ≤ (D.state e.a).failures) × ((D.state b).failures ≤ (D.state e.b).failures)) }
     {

@@ -1,5 +1,6 @@
 // Opening a journal: its batches are found, and read one behind the other.
-ghost use Rattle.std.specs.Prelude.{◌≡◌, ◌⊎◌, ◌↔◌, ◌≤◌, ◌<◌, [], List, Some, None, IfOk, IfErr, IsErr, IsErrOf, MatchResult, length, map, true, false};
+ghost use Rattle.std.specs.Prelude.{◌≡◌, ◌⊎◌, ◌↔◌, ◌≤◌, ◌<◌, [], List, Some, None, IfOk, IfErr, IsErr, IsErrOf, MatchResult, length, map, true, false, ◌∷◌};
+ghost use Rattle.refusal.specs.Refusals.{IsOneOf};
 ghost use Rattle.device.specs.Device.{HasFailed};
 ghost use Rattle.journal.specs.Records.{IsOpened, LeavesBoth, WasLeftOrFound, batches, found, of_current};
 ghost use Rattle.journal.specs.Summaries.{IsChosen};
@@ -69,7 +70,7 @@ impl<D: Device> Opening<D> {
         ensures opened { D.honest a → D.honest b → IfOk result (λ r. (rs : List AnyRecord) → r.1.records ≡ Some rs → IsOpened D.state a b rs (journal_of r.0)) }
         ensures damaged { D.honest a → D.honest b → IfErr result (λ e. e.refusal ≡ Refusal.Damaged → found (D.state a).seen (D.state b).seen ≡ None) }
         ensures down { IfErr result (λ e. e.refusal ≡ Refusal.Down → HasFailed (D.state a) (D.state e.a) ⊎ HasFailed (D.state b) (D.state e.b)) }
-        ensures err { IfErr result (λ e. (e.refusal ≡ Refusal.Down) ⊎ ((e.refusal ≡ Refusal.NoMemory) ⊎ (e.refusal ≡ Refusal.Damaged))) }
+        ensures err { IfErr result (λ e. IsOneOf e.refusal (Refusal.Down ∷ Refusal.NoMemory ∷ Refusal.Damaged ∷ [])) }
         ensures stopped { ((D.state a).stopped ≡ true) ⊎ ((D.state b).stopped ≡ true) → IsErr result }
         ensures counts_a { MatchResult result (λ r. (D.state a).failures ≤ (D.state r.0.a).failures) (λ e. (D.state a).failures ≤ (D.state e.a).failures) }
         ensures counts_b { MatchResult result (λ r. (D.state b).failures ≤ (D.state r.0.b).failures) (λ e. (D.state b).failures ≤ (D.state e.b).failures) }
@@ -163,7 +164,7 @@ impl<D: Device> Journal<D> {
         ensures fresh { IfOk result (λ r. (r.0.staged ≡ []) × (r.0.is_down ≡ false)) }
         ensures damaged { D.honest a → D.honest b → IfErr result (λ e. e.refusal ≡ Refusal.Damaged → found (D.state a).seen (D.state b).seen ≡ None) }
         ensures down { IfErr result (λ e. e.refusal ≡ Refusal.Down → HasFailed (D.state a) (D.state e.a) ⊎ HasFailed (D.state b) (D.state e.b)) }
-        ensures err { IfErr result (λ e. (e.refusal ≡ Refusal.Down) ⊎ ((e.refusal ≡ Refusal.NoMemory) ⊎ (e.refusal ≡ Refusal.Damaged))) }
+        ensures err { IfErr result (λ e. IsOneOf e.refusal (Refusal.Down ∷ Refusal.NoMemory ∷ Refusal.Damaged ∷ [])) }
         ensures stopped { ((D.state a).stopped ≡ true) ⊎ ((D.state b).stopped ≡ true) → IsErr result }
         ensures counts_a { MatchResult result (λ r. (D.state a).failures ≤ (D.state r.0.a).failures) (λ e. (D.state a).failures ≤ (D.state e.a).failures) }
         ensures counts_b { MatchResult result (λ r. (D.state b).failures ≤ (D.state r.0.b).failures) (λ e. (D.state b).failures ≤ (D.state e.b).failures) }

@@ -5,13 +5,15 @@ ghost use Rattle.laws.specs.Nodes.{NodeName};
 
 use device::SimDisk;
 use laws::Leavings;
-use turns::{
-    aborts_leave_the_store_standing, busy_shards_have_cause, chains_run, closed_stores_rest,
-    closed_stores_stand, deciders_take_their_turn, decisions_leave_the_store_standing,
+use stores::{
+    aborts_leave_the_store_standing, busy_shards_have_cause, decisions_leave_the_store_standing,
     failed_flushes_leave_the_store_standing, flushes_of_the_coordinator_leave_the_store_standing,
+    replies_select, tickets_are_refused_with_cause,
+};
+use turns::{
+    chains_run, closed_stores_rest, closed_stores_stand, deciders_take_their_turn,
     openings_of_the_coordinator_leave_the_store_standing, prepare_takes_its_turn, quiet_calls_keep,
-    replies_select, shard_opening_takes_its_step, stopped_steps_rest,
-    stops_within_a_step_leave_all_at_rest, tickets_are_refused_with_cause,
+    shard_opening_takes_its_step, stopped_steps_rest, stops_within_a_step_leave_all_at_rest,
 };
 
 struct Unmade;

@@ -1,47 +1,12 @@
 -- A condition that is met after the whole log is met by the rows of its tuple's shard, where no write in doubt names the tuple.
-use Rattle.std.proofs.Common.{◌≡◌, ⊎_elim, ℕ, Bool, true, false, ◌||◌, ◌==◌, ◌+◌, ◌<◌, ◌≤◌, max, List, [], ◌∷◌, ◌++◌, take, filter, refl, sym, ◌∙◌, ap, subst, arith, if◌then◌else◌, length, nat_lt, ◌&&◌, not}
+use Rattle.std.proofs.Common.{◌≡◌, ⊎_elim, ℕ, Bool, true, ◌||◌, ◌==◌, ◌≤◌, List, [], ◌∷◌, take, filter, sym, ◌∙◌, ap, subst, arith, length, nat_lt, ◌&&◌, not}
 use Rattle.std.proofs.lemmas.Bool.{cases_Bool, eq-eqb, le-leb, leb-true}
-use Rattle.laws.proofs.Words.{Absent, Change, Entry, Exists, NotAfter, ShardMeans, ShardState, Tuple, Version, Want, changed, changes_from, has_tuple, is_at, is_touch, last_alike, last_from, meets_want, of_shard, placed, shard_of, superseded, tuple_eq, tuple_of}
+use Rattle.laws.proofs.Words.{Absent, Entry, Exists, NotAfter, ShardMeans, ShardState, Tuple, Version, Want, changes_from, is_at, is_touch, last_alike, meets_want, of_shard, shard_of, superseded, tuple_eq, tuple_of}
 use Rattle.tuples.specs.Log.{last_place}
 use Rattle.tuples.specs.Versions.{collected, last_version, there_at, versions}
 use Rattle.laws.specs.LockLaws.{MetConditionsAreMetHere}
 use Rattle.laws.proofs.PreparableConditions.{last_before, there_before, there_by_rows, unheld_unchanged}
-
-either : (b d : Bool) (place last : ℕ) → (if b then max place (if d then max place last else last) else (if d then max place last else last)) ≡ (if b || d then max place last else last)
-either true true place last = omega arith
-either true false place last = refl
-either false d place last = refl
-
--- the last version behind the changes of one place
-last_placed : (place : ℕ) (changes : List Change) (rows : List Version) (t : Tuple)
-    → last_version (placed place changes ++ rows) t ≡ (if has_tuple t (changed changes) then max place (last_version rows t) else last_version rows t)
-unfolding last_version
-last_placed place [] rows t = refl
-last_placed place (c ∷ changes) rows t =
-    let last = last_version rows t in
-    ap (λ (n : ℕ). if tuple_eq t (tuple_of c) then max place n else n) (last_placed place changes rows t)
-    ∙ either (tuple_eq t (tuple_of c)) (has_tuple t (changed changes)) place last
-
-step : (named : Bool) (found place last : ℕ) → found < place → max (if named then place else found) last ≡ max found (if named then max place last else last)
-step true found place last lt = omega arith
-step false found place last lt = refl
-
-bound : (named : Bool) (found place : ℕ) → found < place → (if named then place else found) < place + 1
-bound true found place lt = omega arith
-bound false found place lt = omega arith
-
-last_none : (found : ℕ) (t : Tuple) → found ≡ max found (last_version [] t)
-unfolding last_version
-last_none found t = omega arith
-
--- the last change of a log by its versions
-last_from_is : (found place : ℕ) (t : Tuple) (log : List Entry) → found < place → last_from found place t log ≡ max found (last_version (changes_from place log) t)
-last_from_is found place t [] lt = last_none found t
-last_from_is found place t (w ∷ log) lt =
-    let named = has_tuple t (changed w.changes) in
-    last_from_is (if named then place else found) (place + 1) t log (bound named found place lt)
-    ∙ step named found place (last_version (changes_from (place + 1) log) t) lt
-    ∙ ap (λ (n : ℕ). max found n) (sym (last_placed place w.changes (changes_from (place + 1) log) t))
+use Rattle.versions.proofs.Newest.{last_from_is}
 
 -- the last of some versions is no later than the last of all
 last_some : (p : Version → Bool) (rows : List Version) (t : Tuple) → last_version (filter p rows) t ≤ last_version rows t

@@ -1,7 +1,6 @@
 -- Rows that are collected again under a higher horizon, and the rows of one shard.
-use Rattle.records.proofs.LastWrites.{or_left, or_right}
 use Rattle.std.proofs.Common.{◌≡◌, ◌⊎◌, inl, inr, ⊎_elim, ℕ, Bool, true, false, not, ◌<◌, ◌≤◌, ◌==◌, ◌&&◌, ◌||◌, nat_lt, nat_le, cond, List, [], ◌∷◌, filter, take, refl, sym, ◌∙◌, ap, arith}
-use Rattle.std.proofs.lemmas.Bool.{cases_Bool, lt-ltb, le-leb, ltb-true, leb-true, leb-false, or_cases, both_ways}
+use Rattle.std.proofs.lemmas.Bool.{cases_Bool, lt-ltb, le-leb, ltb-true, leb-true, leb-false, or_cases, both_ways, or_left, or_right}
 use Rattle.tuples.specs.declared.entry.Entry.{Entry}
 use Rattle.tuples.specs.declared.tuple.Tuple.{Tuple}
 use Rattle.tuples.specs.declared.version.Version.{Version}
@@ -11,15 +10,11 @@ use Rattle.tuples.specs.Parts.{shard_of}
 use Rattle.tuples.specs.Versions.{changes_from, collected, is_touch, of_shard, superseded, versions}
 use Rattle.tuples.proofs.Same.{tuple_same}
 use Rattle.versions.specs.Alike.{AreAlike}
-use Rattle.versions.proofs.Alike.{alike_same, alike_trans, collected_alike}
+use Rattle.versions.proofs.Alike.{alike_same, alike_trans, collected_alike, is_kept_of}
 
 -- the second is a later version of the first one's tuple, at or below the horizon
 abbrev follows : ℕ → Version → Version → Bool
 follows h v u = tuple_eq (tuple_of v.change) (tuple_of u.change) && nat_lt v.place u.place && nat_le u.place h
-
--- a version stays under the horizon, among these rows
-abbrev stays : ℕ → List Version → Version → Bool
-stays h rows v = nat_lt h v.place || (is_touch v.change && not (superseded h v rows))
 
 three : (a b c : Bool) → (a && b && c) ≡ true → (a ≡ true) × (b ≡ true) × (c ≡ true)
 three true true true is = (refl, refl, refl)
@@ -53,24 +48,24 @@ among_some g v p (u ∷ rows) is = ⊎_elim
     (cases_Bool (p u))
 
 -- what follows below the higher horizon follows below the lower one, or is left under that
-still_follows : (h g : ℕ) (v : Version) (whole rows : List Version) → superseded g v rows ≡ true → (superseded h v rows ≡ true) ⊎ (superseded g v (filter (stays h whole) rows) ≡ true)
+still_follows : (h g : ℕ) (v : Version) (whole rows : List Version) → superseded g v rows ≡ true → (superseded h v rows ≡ true) ⊎ (superseded g v (filter (is_kept_of h whole) rows) ≡ true)
 still_follows h g v whole [] is = absurd cc
 still_follows h g v whole (u ∷ rows) is = ⊎_elim
     (λ here. ⊎_elim
     (λ low. let a = three (tuple_eq (tuple_of v.change) (tuple_of u.change)) (nat_lt v.place u.place) (nat_le u.place g) here in inl (or_left (follows h v u) (superseded h v rows) (from_three _ _ _ a.0 a.1 low)))
     (λ high.
     let above : nat_lt h u.place ≡ true = lt-ltb h u.place (leb-false _ _ high) in
-    let kept : stays h whole u ≡ true = or_left (nat_lt h u.place) (is_touch u.change && not (superseded h u whole)) above in
-    inr (rw kept (or_left (follows g v u) (superseded g v (filter (stays h whole) rows)) here)))
+    let kept : is_kept_of h whole u ≡ true = or_left (nat_lt h u.place) (is_touch u.change && not (superseded h u whole)) above in
+    inr (rw kept (or_left (follows g v u) (superseded g v (filter (is_kept_of h whole) rows)) here)))
     (cases_Bool (nat_le u.place h)))
     (λ later. ⊎_elim
     (λ low. inl (or_right (follows h v u) (superseded h v rows) low))
-    (λ left. inr (in_longer (stays h whole u) left))
+    (λ left. inr (in_longer (is_kept_of h whole u) left))
     (still_follows h g v whole rows later))
     (or_cases (follows g v u) (superseded g v rows) is)
   where
-    in_longer : (b : Bool) → superseded g v (filter (stays h whole) rows) ≡ true → superseded g v (cond b (u ∷ filter (stays h whole) rows) (filter (stays h whole) rows)) ≡ true
-    in_longer true there = or_right (follows g v u) (superseded g v (filter (stays h whole) rows)) there
+    in_longer : (b : Bool) → superseded g v (filter (is_kept_of h whole) rows) ≡ true → superseded g v (cond b (u ∷ filter (is_kept_of h whole) rows) (filter (is_kept_of h whole) rows)) ≡ true
+    in_longer true there = or_right (follows g v u) (superseded g v (filter (is_kept_of h whole) rows)) there
     in_longer false there = there
 
 -- a version above the horizon is not followed below it
@@ -120,15 +115,15 @@ both_tests false false true false false false ba ax yxz xy zy = refl
 -- collected under one horizon and then under a higher one is collected under the higher one
 pub collected_again : (h g : ℕ) (rows : List Version) → h ≤ g → collected g (collected h rows) ≡ collected g rows
 unfolding collected
-collected_again h g rows le = filter_twice (stays g (filter (stays h rows) rows)) (stays h rows) (stays g rows) same rows
+collected_again h g rows le = filter_twice (is_kept_of g (filter (is_kept_of h rows) rows)) (is_kept_of h rows) (is_kept_of g rows) same rows
   where
-    same : (v : Version) → stays g rows v ≡ (stays h rows v && stays g (filter (stays h rows) rows) v)
-    same v = both_tests (nat_lt h v.place) (nat_lt g v.place) (is_touch v.change) (superseded h v rows) (superseded g v rows) (superseded g v (filter (stays h rows) rows))
+    same : (v : Version) → is_kept_of g rows v ≡ (is_kept_of h rows v && is_kept_of g (filter (is_kept_of h rows) rows) v)
+    same v = both_tests (nat_lt h v.place) (nat_lt g v.place) (is_touch v.change) (superseded h v rows) (superseded g v rows) (superseded g v (filter (is_kept_of h rows) rows))
         (λ above. let over : g < v.place = ltb-true _ _ above in lt-ltb h v.place (omega arith))
         (above_stays h v rows)
         (still_follows h g v rows rows)
         (higher h g v le rows)
-        (among_some g v (stays h rows) rows)
+        (among_some g v (is_kept_of h rows) rows)
 
 filter_swapped : {X : Type 0} (p q r : X → Bool) → ((x : X) → q x ≡ true → p x ≡ r x) → (xs : List X) → filter p (filter q xs) ≡ filter q (filter r xs)
 filter_swapped p q r same [] = refl
@@ -163,7 +158,7 @@ followed_own shards s h v own (u ∷ rows) = ⊎_elim
 -- the rows of one shard are collected by themselves
 pub collected_own : (shards s h : ℕ) (rows : List Version) → collected h (of_shard shards s rows) ≡ of_shard shards s (collected h rows)
 unfolding collected
-collected_own shards s h rows = filter_swapped (stays h (of_shard shards s rows)) (λ (v : Version). shard_of shards (tuple_of v.change).object == s) (stays h rows)
+collected_own shards s h rows = filter_swapped (is_kept_of h (of_shard shards s rows)) (λ (v : Version). shard_of shards (tuple_of v.change).object == s) (is_kept_of h rows)
     (λ v own. ap (λ b. nat_lt h v.place || (is_touch v.change && not b)) (followed_own shards s h v own rows)) rows
 
 -- rows that stand for the first writes of a list stand for them under a higher horizon once they are collected

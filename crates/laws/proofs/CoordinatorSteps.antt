@@ -7,8 +7,8 @@ use Rattle.laws.specs.Coordinators.{AreGiven}
 use Rattle.laws.specs.CoordinatorLaws.{DecisionsRest, FlushesRest, HorizonsRest, IsLearnedInAll, MayBeListed, OpeningsRest, RestartsRest}
 use Rattle.laws.proofs.CoordinatorStates.{coordinator_last, coordinator_push, end_is_length}
 use Rattle.laws.proofs.DecisionStep.{listed_means}
-use Rattle.laws.proofs.Lists.{slice_get_push}
 use Rattle.laws.proofs.Logs.{log_push, log_taken}
+use Rattle.tuples.proofs.Lists.{slice_get_push}
 
 -- the longer list means what its last record makes of the rest
 pushed : (store shards : ℕ) (log : List Entry) (h : ℕ) (records : List Record) (r : Record) (shard : ℕ → List Record → Type 0) → IsCoordinatorImage (coordinator_node store shards) (records ++ r ∷ [])

@@ -4,7 +4,7 @@ use Rattle.std.proofs.lemmas.List.{take-append-le, length_push}
 use Rattle.laws.proofs.Words.{Entry, ShardMeans, ShardState, alike_same, alike_trans, find_in_doubt, of_shard}
 use Rattle.tuples.specs.Parts.{expected}
 use Rattle.tuples.specs.Versions.{versions}
-use Rattle.laws.proofs.Lists.{slice_get_push}
+use Rattle.tuples.proofs.Lists.{slice_get_push}
 
 -- the versions of the writes before it are the same
 versions_push : (log : List Entry) (w : Entry) (p h : ℕ) → p ≤ length log → versions (log ++ w ∷ []) p h ≡ versions log p h

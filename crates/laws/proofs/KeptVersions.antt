@@ -1,5 +1,5 @@
 -- What is kept under a horizon shows each snapshot from the horizon on.
-use Rattle.std.proofs.Common.{◌≡◌, ◌⊎◌, inl, inr, ⊎_elim, ℕ, zero, suc, Bool, true, false, true≢false, not, ◌&&◌, ◌||◌, nat_lt, nat_le, ◌<◌, ◌≤◌, ◌+◌, List, [], ◌∷◌, ◌++◌, map, filter, take, refl, sym, ◌∙◌, ap, subst, arith, append_assoc, if◌then◌else◌}
+use Rattle.std.proofs.Common.{◌≡◌, ◌⊎◌, inl, inr, ⊎_elim, ℕ, zero, suc, Bool, true, false, true≢false, ◌&&◌, ◌||◌, nat_lt, nat_le, ◌<◌, ◌≤◌, ◌+◌, List, [], ◌∷◌, ◌++◌, filter, take, refl, sym, ◌∙◌, ap, subst, arith, append_assoc, if◌then◌else◌}
 use Rattle.std.proofs.lemmas.Bool.{cases_Bool, lt-ltb, lt-leb, le-leb, le-ltb, ltb-true, ltb-false}
 use Rattle.tuples.specs.declared.change.Change.{Change}
 use Rattle.tuples.specs.declared.change.Change.TheVariants.{Touch, Delete}
@@ -14,7 +14,8 @@ use Rattle.tuples.proofs.Same.{tuple_same}
 use Rattle.laws.specs.LogLaws.{VersionsGiveSnapshots}
 use Rattle.laws.specs.Worlds.{AreWhole}
 use Rattle.laws.proofs.Lists.{slice_get_taken}
-use Rattle.laws.proofs.Snapshots.{there_at-changes}
+use Rattle.laws.proofs.Snapshots.{there_at-changes, changes_of}
+use Rattle.versions.proofs.Alike.{is_kept_of}
 
 -- a version of the tuple
 abbrev is_of : Tuple → Version → Bool
@@ -44,12 +45,6 @@ Free h t before (v ∷ rows) = (is_of t v ≡ true → superseded h v before ≡
 abbrev walk : Tuple → Bool → (Version → Bool) → List Version → Bool
 walk t b test [] = b
 walk t b test (v ∷ rows) = walk t (if test v then (if is_of t v then is_touch v.change else b) else b) test rows
-
-abbrev stays : ℕ → List Version → Version → Bool
-stays h all v = nat_lt h v.place || (is_touch v.change && not (superseded h v all))
-
-abbrev changes_of : List Version → List Change
-changes_of = map (λ (v : Version). v.change)
 
 -- one change more
 one_more : (t : Tuple) (b : Bool) (c : Change) (changes : List Change) → there_after t b (c ∷ changes) ≡ there_after t (if tuple_eq t (tuple_of c) then is_touch c else b) changes
@@ -128,7 +123,7 @@ if_same false x = refl
 module _ (h s : ℕ) (t : Tuple) (le : h ≤ s) where
   -- the state behind one version, of those that stay, and of all
   abbrev kept_state : List Version → Version → Bool → Bool
-  kept_state all v x = if (stays h all v && nat_le v.place s) then (if is_of t v then is_touch v.change else x) else x
+  kept_state all v x = if (is_kept_of h all v && nat_le v.place s) then (if is_of t v then is_touch v.change else x) else x
 
   abbrev full_state : Version → Bool → Bool
   full_state v y = if nat_le v.place s then (if is_of t v then is_touch v.change else y) else y
@@ -136,23 +131,23 @@ module _ (h s : ℕ) (t : Tuple) (le : h ≤ s) where
   -- the walk over what stays, with the tuple there or not, goes as the walk over all
   abbrev Same : List Version → List Version → Type 0
   Same all rows = (x y : Bool) → (x ≡ y) ⊎ (low h t rows ≡ true) → (low h t rows ≡ true → x ≡ false)
-      → walk t x (λ v. stays h all v && nat_le v.place s) rows ≡ walk t y (λ v. nat_le v.place s) rows
+      → walk t x (λ v. is_kept_of h all v && nat_le v.place s) rows ≡ walk t y (λ v. nat_le v.place s) rows
 
   -- from the states behind the first version on
   goes_on : (all rows : List Version) (v : Version) (x y x' y' : Bool) → Same all rows → kept_state all v x ≡ x' → full_state v y ≡ y'
       → (x' ≡ y') ⊎ (low h t rows ≡ true) → (low h t rows ≡ true → x' ≡ false)
-      → walk t x (λ u. stays h all u && nat_le u.place s) (v ∷ rows) ≡ walk t y (λ u. nat_le u.place s) (v ∷ rows)
+      → walk t x (λ u. is_kept_of h all u && nat_le u.place s) (v ∷ rows) ≡ walk t y (λ u. nat_le u.place s) (v ∷ rows)
   goes_on all rows v x y x' y' rest ex ey same none =
-      ap (λ b. walk t b (λ u. stays h all u && nat_le u.place s) rows) ex ∙ rest x' y' same none ∙ ap (λ b. walk t b (λ u. nat_le u.place s) rows) (sym ey)
+      ap (λ b. walk t b (λ u. is_kept_of h all u && nat_le u.place s) rows) ex ∙ rest x' y' same none ∙ ap (λ b. walk t b (λ u. nat_le u.place s) rows) (sym ey)
 
   -- a version of another tuple
   other : (all rows : List Version) (v : Version) (x y : Bool) → is_of t v ≡ false → Same all rows
       → (x ≡ y) ⊎ (low h t (v ∷ rows) ≡ true) → (low h t (v ∷ rows) ≡ true → x ≡ false)
-      → walk t x (λ u. stays h all u && nat_le u.place s) (v ∷ rows) ≡ walk t y (λ u. nat_le u.place s) (v ∷ rows)
+      → walk t x (λ u. is_kept_of h all u && nat_le u.place s) (v ∷ rows) ≡ walk t y (λ u. nat_le u.place s) (v ∷ rows)
   other all rows v x y is rest same none =
       let low_is : low h t (v ∷ rows) ≡ low h t rows = rw is refl in
       goes_on all rows v x y x y rest
-      (rw is (if_same (stays h all v && nat_le v.place s) x))
+      (rw is (if_same (is_kept_of h all v && nat_le v.place s) x))
       (rw is (if_same (nat_le v.place s) y))
       (⊎_elim (λ e. inl e) (λ l. inr (sym low_is ∙ l)) same)
       (λ l. none (low_is ∙ l))
@@ -160,7 +155,7 @@ module _ (h s : ℕ) (t : Tuple) (le : h ≤ s) where
   -- a version of the tuple above the horizon
   above_it : (all rows : List Version) (v : Version) (x y : Bool) → is_of t v ≡ true → h < v.place → Above t v.place rows → Same all rows
       → (x ≡ y) ⊎ (low h t (v ∷ rows) ≡ true)
-      → walk t x (λ u. stays h all u && nat_le u.place s) (v ∷ rows) ≡ walk t y (λ u. nat_le u.place s) (v ∷ rows)
+      → walk t x (λ u. is_kept_of h all u && nat_le u.place s) (v ∷ rows) ≡ walk t y (λ u. nat_le u.place s) (v ∷ rows)
   above_it all rows v x y is lt above rest same =
       let none : low h t rows ≡ false = none_low h v.place t rows (omega (arith, lt)) above in
       let no_low : low h t (v ∷ rows) ≡ false = rw (is, lt-leb v.place h lt, none) refl in
@@ -175,7 +170,7 @@ module _ (h s : ℕ) (t : Tuple) (le : h ≤ s) where
   -- a version of the tuple at or below the horizon
   below_it : (all rows : List Version) (v : Version) (x y : Bool) → is_of t v ≡ true → v.place ≤ h → superseded h v all ≡ low h t rows → Same all rows
       → (low h t (v ∷ rows) ≡ true → x ≡ false)
-      → walk t x (λ u. stays h all u && nat_le u.place s) (v ∷ rows) ≡ walk t y (λ u. nat_le u.place s) (v ∷ rows)
+      → walk t x (λ u. is_kept_of h all u && nat_le u.place s) (v ∷ rows) ≡ walk t y (λ u. nat_le u.place s) (v ∷ rows)
   below_it all rows v x y is at sup rest none = by_low (low h t rows) (is_touch v.change) refl refl
     where
       low_is : low h t (v ∷ rows) ≡ true
@@ -191,7 +186,7 @@ module _ (h s : ℕ) (t : Tuple) (le : h ≤ s) where
       full = rw (is, counts) refl
 
       by_low : (b touch : Bool) → low h t rows ≡ b → is_touch v.change ≡ touch
-          → walk t x (λ u. stays h all u && nat_le u.place s) (v ∷ rows) ≡ walk t y (λ u. nat_le u.place s) (v ∷ rows)
+          → walk t x (λ u. is_kept_of h all u && nat_le u.place s) (v ∷ rows) ≡ walk t y (λ u. nat_le u.place s) (v ∷ rows)
       by_low true true l c = goes_on all rows v x y false (is_touch v.change) rest (rw (is, counts, not_high, sup, l, c) (none low_is)) full (inr l) (λ l. refl)
       by_low true false l c = goes_on all rows v x y false (is_touch v.change) rest (rw (is, counts, not_high, sup, l, c) (none low_is)) full (inr l) (λ l. refl)
       by_low false true l c = goes_on all rows v x y (is_touch v.change) (is_touch v.change) rest (rw (is, counts, not_high, sup, l, c) refl) full (inl refl) (λ k. absurd (true≢false (sym k ∙ l)))
@@ -238,7 +233,7 @@ module _ (h s : ℕ) (t : Tuple) (le : h ≤ s) where
   collected_shows : (rows : List Version) → Rising t rows → there_at (collected h rows) s t ≡ there_at rows s t
   unfolding there_at collected
   collected_shows rows rising =
-      walked t false (stays h rows) (λ v. nat_le v.place s) rows
+      walked t false (is_kept_of h rows) (λ v. nat_le v.place s) rows
       ∙ all_same rows [] rows refl rising (free_of_none rows) false false (inl refl) (λ l. refl)
       ∙ sym (nothing_first false (λ v. nat_le v.place s) rows)
 

@@ -14,23 +14,13 @@ use Rattle.tuples.specs.Versions.{changes_from, of_shard, collected, versions}
 use Rattle.tuples.specs.declared.entry.Entry.{Entry}
 use Rattle.tuples.specs.declared.entry.WriteId.{WriteId}
 use Rattle.tuples.specs.declared.version.Version.{Version}
+use Rattle.tuples.proofs.Lists.{slice_get_drop, slice_get_take}
 use Rattle.records.specs.declared.record.PlacedId.{PlacedId}
 use Rattle.records.specs.declared.record.Record.TheVariants.{Learned}
 use Rattle.replay.proofs.Doubts.{HasPlacedId, none_stays, find_learned, find_not_learned}
 use Rattle.laws.proofs.Rows.{ArePreparedIn, above_changes, changes_from-append, collected-append, rows_of_segment}
 use Rattle.versions.proofs.Alike.{alike_refl, alike_same, alike_trans, append_alike}
 use Rattle.versions.specs.Alike.{AreAlike}
-
-pub slice_get_drop : {X : Type 0} (p : ℕ) (xs : List X) (j : ℕ) → slice_get (drop p xs) j ≡ slice_get xs (p + j)
-slice_get_drop zero xs j = ap (slice_get xs) (omega arith)
-slice_get_drop (suc p) [] j = refl
-slice_get_drop (suc p) (x ∷ xs) j = slice_get_drop p xs j ∙ ap (slice_get (x ∷ xs)) (let e : suc (p + j) ≡ suc p + j = omega arith in e)
-
-slice_get_take : {X : Type 0} (n : ℕ) (xs : List X) (j : ℕ) → j < n → slice_get (take n xs) j ≡ slice_get xs j
-slice_get_take zero xs j lt = absurd (omega arith)
-slice_get_take (suc n) [] j lt = refl
-slice_get_take (suc n) (x ∷ xs) zero lt = refl
-slice_get_take (suc n) (x ∷ xs) (suc j) lt = slice_get_take n xs j (omega arith)
 
 has_placed_id : (shards s place : ℕ) (seg : List Entry) (j : ℕ) (w : Entry) → slice_get seg j ≡ Some w → takes_part shards s w ≡ true → HasPlacedId w.id (placed_ids_from shards s place seg)
 has_placed_id shards s place [] j w is takes = absurd cc

@@ -20,7 +20,6 @@ pub mod WatchesJoin
 pub mod MachineMoves
 pub mod Selections
 pub mod ReadRows
-pub mod OnceEach
 pub mod Walk
 pub mod TupleLists
 pub mod KeptVersions

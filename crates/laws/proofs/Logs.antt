@@ -5,7 +5,8 @@ use Rattle.std.proofs.lemmas.Option.{slice_get_within}
 use Rattle.std.proofs.Math.Seq.{take-append_seam}
 use Rattle.laws.proofs.Words.{AreNew, Entry, IsLog, IsUnlisted, IsWrite}
 use Rattle.tuples.specs.Log.{HoldAfter, IsLegal}
-use Rattle.laws.proofs.Lists.{new_taken, slice_get_push, slice_get_taken}
+use Rattle.tuples.proofs.Lists.{slice_get_push}
+use Rattle.laws.proofs.Lists.{new_taken, slice_get_taken}
 
 legal_push : (log : List Entry) (w : Entry) → IsLegal log → HoldAfter log w.conditions → IsLegal (log ++ w ∷ [])
 unfolding IsLegal HoldAfter

@@ -10,12 +10,14 @@ use Rattle.laws.proofs.Words.{Absent, Change, Condition, Delete, Entry, Exists, 
 use Rattle.tuples.specs.Log.{HoldAfter, is_at, last_place}
 use Rattle.tuples.specs.Parts.{expected, part, takes_part}
 use Rattle.tuples.specs.Versions.{collected, last_version, there_at, versions}
+use Rattle.tuples.proofs.Ordered.{tuple_eq_refl}
+use Rattle.tuples.proofs.Lists.{slice_get_drop}
 use Rattle.laws.specs.LockLaws.{IsPreparable, PreparableConditionsHold}
-use Rattle.laws.proofs.WriteConditions.{changed_in_part, find_at, last_from-append, or_left, or_right, own_conditioned, some_changes, there_both, there_last, there_unchanged, tuple_itself}
+use Rattle.laws.proofs.WriteConditions.{changed_in_part, last_from-append, or_left, or_right, own_conditioned, some_changes, there_both, there_last, there_unchanged}
 use Rattle.laws.proofs.KeptVersions.{versions_give_snapshots}
-use Rattle.laws.proofs.LearnStep.{slice_get_drop}
 use Rattle.laws.proofs.Locks.{all_has, not_held}
 use Rattle.versions.proofs.Alike.{there_at_alike}
+use Rattle.holds.proofs.Named.{found_at}
 
 -- writes of which none changes the tuple
 abbrev ChangeNone : Tuple → List Entry → Type 0
@@ -162,7 +164,7 @@ module _ (shards s : ℕ) (log : List Entry) (hc h : ℕ) (state : ShardState) (
       let takes : takes_part shards s v ≡ true = or_left (not (length (part shards s v).changes == 0)) (not (length (part shards s v).conditions == 0)) (some_changes t (part shards s v).changes in_part) in
       let at : slice_get log (state.learned + j) ≡ Some v = sym (slice_get_drop state.learned log j) ∙ is in
       let there : find_in_doubt v.id state.in_doubt ≡ Some (part shards s v) = m.in_doubt.above (state.learned + j) v at (omega arith) ∙ ap (λ b. cond b (Some (part shards s v)) None) takes in
-      let index = find_at v.id state.in_doubt (part shards s v) there in
+      let index = found_at v.id state.in_doubt (part shards s v) there in
       let other = not_held t state.in_doubt index.0 (part shards s v) free index.1 in
       let has_it : has_tuple t (named (part shards s v)) ≡ true = list_any-append (tuple_eq t) (changed (part shards s v).changes) (conditioned (part shards s v).conditions) ∙ or_left (has_tuple t (changed (part shards s v).changes)) (has_tuple t (conditioned (part shards s v).conditions)) in_part in
       absurd (both_ways _ other has_it))
@@ -212,7 +214,7 @@ module _ (shards s : ℕ) (log : List Entry) (hc h : ℕ) (state : ShardState) (
     where
       has_condition : (conditions : List Condition) (d : Condition) → Contains conditions d → has_tuple d.tuple (conditioned conditions) ≡ true
       has_condition [] d is = absurd (omega (arith, is.1))
-      has_condition (e ∷ conditions) d (zero, lt, is) = or_left (tuple_eq d.tuple e.tuple) (has_tuple d.tuple (conditioned conditions)) (ap (λ (x : Condition). tuple_eq d.tuple x.tuple) is ∙ tuple_itself d.tuple)
+      has_condition (e ∷ conditions) d (zero, lt, is) = or_left (tuple_eq d.tuple e.tuple) (has_tuple d.tuple (conditioned conditions)) (ap (λ (x : Condition). tuple_eq d.tuple x.tuple) is ∙ tuple_eq_refl d.tuple)
       has_condition (e ∷ conditions) d (suc k, lt, is) = or_right (tuple_eq d.tuple e.tuple) (has_tuple d.tuple (conditioned conditions)) (has_condition conditions d (k, omega (arith, lt), is))
 
       own_of_part : (t : Tuple) → has_tuple t (conditioned (part shards s w).conditions) ≡ true → (shard_of shards t.object == s) ≡ true

@@ -5,12 +5,7 @@ use Rattle.tuples.specs.declared.tuple.Tuple.{Tuple}
 use Rattle.tuples.specs.declared.tupleset.Tupleset.{Tupleset}
 use Rattle.tuples.specs.Order.{tuple_lt}
 use Rattle.tuples.specs.Reads.{AreAscending, IsSelection}
-use Rattle.tuples.proofs.Ordered.{tuple_lt_trans, tuple_lt_irrefl, tuple_lt_asymm, tuple_lt_total}
-
--- the list without its first tuple ascends too
-rest_ascends : (t : Tuple) (ts : List Tuple) → AreAscending (t ∷ ts) → AreAscending ts
-rest_ascends t [] asc = tt
-rest_ascends t (u ∷ ts) asc = asc.1
+use Rattle.tuples.proofs.Ordered.{tuple_lt_trans, tuple_lt_irrefl, tuple_lt_asymm, tuple_lt_total, rest_ascends}
 
 -- the first tuple stands before each other
 first_before : (t : Tuple) (ts : List Tuple) → AreAscending (t ∷ ts) → (j : ℕ) (u : Tuple) → slice_get ts j ≡ Some u → tuple_lt t u ≡ true

@@ -1,6 +1,7 @@
 -- What the rows of a shard show, beside a list of whole writes of which nothing else has to be known.
 use Rattle.std.proofs.Common.{◌≡◌, ⊎_elim, ◌==◌, ◌&&◌, ℕ, Bool, true, false, ◌≤◌, nat_le, List, [], ◌∷◌, map, filter, take, refl, sym, ◌∙◌, ap}
 use Rattle.std.proofs.lemmas.Bool.{both_ways, cases_Bool}
+use Rattle.std.proofs.Math.Bool.{and-true, and-false}
 use Rattle.tuples.specs.declared.entry.Entry.{Entry}
 use Rattle.tuples.specs.declared.tuple.Tuple.{Tuple}
 use Rattle.tuples.specs.declared.version.Version.{Version}
@@ -35,14 +36,6 @@ there_other shards s place t other (v ∷ rows) b = ⊎_elim
         (λ no. no)
         (cases_Bool (tuple_eq t (tuple_of v.change)))
 
-and_true : (x : Bool) → (x && true) ≡ x
-and_true true = refl
-and_true false = refl
-
-and_false : (x : Bool) → (x && false) ≡ false
-and_false true = refl
-and_false false = refl
-
 -- the rows of a shard show at each place from the horizon up to what it has learned which of its own tuples were there, and no others
 pub rows_show_parts : (shards s : ℕ) (log : List Entry) (rows : List Version) (p h place : ℕ) (t : Tuple) → AreWhole (take p log) → AreAlike rows (of_shard shards s (versions log p h))
     → h ≤ place → place ≤ p → there_at rows place t ≡ there_of shards s log place t
@@ -54,11 +47,11 @@ rows_show_parts shards s log rows p h place t whole alike above within =
     same
     ∙ there_own shards s place t its (versions log p h) false
     ∙ whole_writes_give_snapshots log p h place t whole above within
-    ∙ sym (and_true (is_at log place t))
+    ∙ sym (and-true (is_at log place t))
     ∙ ap (λ (b : Bool). is_at log place t && b) (sym its))
     (λ other.
     same
     ∙ there_other shards s place t other (versions log p h) false
-    ∙ sym (and_false (is_at log place t))
+    ∙ sym (and-false (is_at log place t))
     ∙ ap (λ (b : Bool). is_at log place t && b) (sym other))
     (cases_Bool (shard_of shards t.object == s))

@@ -123,14 +123,6 @@ unfolding shard_step
 opened_shard_means shards s log hc h records epoch a b c m = subst (ShardMeans shards s log hc h) (sym (shard_push records (Epoch epoch a b c)))
     (record { learned = m.learned; horizon = m.horizon; rows = m.rows; settled = m.settled; in_doubt = record { above = m.in_doubt.above; below = m.in_doubt.below } })
 
--- one list of records with an opening behind it means what it meant
-pub opened_meaning : (store shards s : ℕ) (log : List Entry) (h : ℕ) (c : CoordinatorState) (records : List Record) (epoch : ℕ) → IsShardImage (shard_node store shards s) (records ++ Epoch epoch store shards s ∷ [])
-    → IsMeaning store shards s log h c records → IsMeaning store shards s log h c (records ++ Epoch epoch store shards s ∷ [])
-unfolding shard_step
-opened_meaning store shards s log h c records epoch image m = pushed store shards s log h c records (Epoch epoch store shards s) image
-    (record { learned = m.means.learned; horizon = m.means.horizon; rows = m.means.rows; settled = m.means.settled; in_doubt = record { above = m.means.in_doubt.above; below = m.means.in_doubt.below } })
-    m.given
-
 -- rows that are collected under a horizon at or below that of the whole store mean what they meant
 pub collected_means : (me : Identity) (shards s : ℕ) (log : List Entry) (hc h : ℕ) (records : List Record) (place : ℕ) → IsShardImage me (records ++ Horizon place ∷ []) → place ≤ h
     → ShardMeans shards s log hc h (shard_state records) → ShardMeans shards s log hc h (shard_step (shard_state records) (Horizon place))

@@ -1,13 +1,12 @@
 -- The versions of a log give back its snapshots.
-use Rattle.std.proofs.Common.{◌≡◌, ◌⊎◌, inl, inr, ⊎_elim, ℕ, zero, suc, Bool, true, false, ◌+◌, ◌-◌, ◌<◌, ◌≤◌, ◌==◌, nat_le, List, [], ◌∷◌, ◌++◌, map, filter, take, refl, sym, ◌∙◌, ap, arith}
-use Rattle.std.proofs.lemmas.Bool.{cases_Bool, le-leb, lt-leb, leb-true, leb-false, eq-eqb}
+use Rattle.std.proofs.Common.{◌≡◌, ◌⊎◌, inl, inr, ⊎_elim, ℕ, zero, suc, Bool, false, ◌+◌, ◌-◌, ◌<◌, ◌≤◌, nat_le, List, [], ◌∷◌, ◌++◌, map, filter, take, refl, sym, ◌∙◌, ap, arith}
+use Rattle.std.proofs.lemmas.Bool.{cases_Bool, le-leb, lt-leb, leb-true, leb-false}
 use Rattle.std.proofs.lemmas.List.Elements.{filter-append}
+use Rattle.std.proofs.lemmas.List.{take-take}
 use Rattle.std.specs.List.{flat_map}
-use Rattle.laws.proofs.Words.{Change, Entry, Tuple, Version, changes_from, of_shard, placed, there_after, tuple_of}
+use Rattle.laws.proofs.Words.{Change, Entry, Tuple, Version, changes_from, placed, there_after}
 use Rattle.tuples.specs.Log.{is_at}
-use Rattle.tuples.specs.Parts.{shard_of}
-use Rattle.tuples.specs.Versions.{collected, there_at, versions}
-use Rattle.laws.proofs.Rows.{above_changes, kept_all}
+use Rattle.tuples.specs.Versions.{there_at}
 
 abbrev at_or_below : ℕ → Version → Bool
 at_or_below s v = nat_le v.place s
@@ -63,12 +62,6 @@ counted_changes s place (w ∷ log) = ⊎_elim
     ∙ ap (flat_map (λ (v : Entry). v.changes)) (sym (take_none (s + 1 - place) (w ∷ log) n)))
     (cases_le place s)
 
-take-take-le : {X : Type 0} (s p : ℕ) (xs : List X) → s ≤ p → take s (take p xs) ≡ take s xs
-take-take-le zero p xs le = refl
-take-take-le (suc s) zero xs le = absurd (omega arith)
-take-take-le (suc s) (suc p) [] le = refl
-take-take-le (suc s) (suc p) (x ∷ xs) le = ap (λ (l : List _). x ∷ l) (take-take-le s p xs (omega arith))
-
 -- by the changes of the first p writes a tuple is there at a place up to p as the log says
 pub there_at-changes : (log : List Entry) (p s : ℕ) (t : Tuple) → s ≤ p → there_at (changes_from 1 (take p log)) s t ≡ is_at log s t
 unfolding there_at is_at
@@ -76,18 +69,4 @@ there_at-changes log p s t le =
     let n : s + 1 - 1 ≡ s = omega arith in
     ap (there_after t false) (counted_changes s 1 (take p log)
     ∙ ap (λ (k : ℕ). flat_map (λ (w : Entry). w.changes) (take k (take p log))) n
-    ∙ ap (flat_map (λ (w : Entry). w.changes)) (take-take-le s p log le))
-
--- one shard has all objects
-shard_of_one : (t : Tuple) → (shard_of 1 t.object == 0) ≡ true
-unfolding shard_of
-shard_of_one t = eq-eqb _ 0 (omega arith)
-
-pub of_one_shard : (rows : List Version) → of_shard 1 0 rows ≡ rows
-of_one_shard [] = refl
-of_one_shard (v ∷ rows) = rw (shard_of_one (tuple_of v.change)) (ap (λ (l : List Version). v ∷ l) (of_one_shard rows))
-
--- with no horizon all versions are kept
-pub versions_all : (log : List Entry) (p : ℕ) → versions log p 0 ≡ changes_from 1 (take p log)
-unfolding versions collected
-versions_all log p = kept_all 0 (changes_from 1 (take p log)) (changes_from 1 (take p log)) (above_changes 0 1 (take p log) (omega arith))
+    ∙ ap (flat_map (λ (w : Entry). w.changes)) (take-take s p log le))

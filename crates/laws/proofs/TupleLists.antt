@@ -6,7 +6,7 @@ use Rattle.tuples.specs.declared.tuple.Tuple.{Tuple}
 use Rattle.tuples.specs.Order.{tuple_eq}
 use Rattle.tuples.proofs.Ordered.{tuple_eq_from_same}
 use Rattle.tuples.proofs.Same.{tuple_same}
-use Rattle.laws.proofs.Lists.{contained_from}
+use Rattle.tuples.proofs.Lists.{contained_from}
 
 pub has_or_not : (rows : List Tuple) (t : Tuple) → Contains rows t ⊎ (Contains rows t → ⊥)
 has_or_not [] t = inr (λ has. omega (arith, has.1))

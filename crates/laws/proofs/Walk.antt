@@ -16,12 +16,12 @@ use Rattle.tuples.specs.Parts.{shard_of}
 use Rattle.tuples.specs.Walking.{IsCheckSelection, meets_check}
 use Rattle.tuples.proofs.Reaching.{closed_has_no_member, reached_is_member, reaches_further, reaches_itself}
 use Rattle.tuples.proofs.Walked.{asked_of, set_asked, user_asked}
+use Rattle.tuples.proofs.Lists.{first_or_later}
+use Rattle.tuples.proofs.OnceEach.{once_right, once_apart, once_both}
 use Rattle.decisions.specs.Flows.{CheckHolds}
 use Rattle.decisions.specs.Walks.{Walks}
 use Rattle.laws.specs.Shards.{there_of}
 use Rattle.laws.specs.Walks.{IsWalk}
-use Rattle.laws.proofs.Lists.{among}
-use Rattle.laws.proofs.OnceEach.{once_apart, once_both, once_right}
 
 -- all that a check asks of a userset has the shard of the userset's object
 pub one_shard_is_asked : (shards s : ℕ) (log : List Entry) (place : ℕ) (y : Userset) (u : User) (rows : List Tuple) → s ≡ shard_of shards y.object
@@ -100,7 +100,7 @@ module _ (there : Tuple → Bool) (x : Userset) (u : User) (h : CheckHolds) (wal
         (λ waiting. ⊎_elim
         (λ (is : y ≡ z). Contains-append_left next.walked next.waiting z ((walks.walked.has z).1 (inr (sym is))))
         (λ rest. Contains-append_right next.walked next.waiting z (subst (λ (l : List Userset). Contains l z) (sym walks.waiting) (Contains-append_left walks.rest walks.more z rest)))
-        (among y z walks.rest (subst (λ (l : List Userset). Contains l z) walks.first waiting)))
+        (first_or_later y z walks.rest (subst (λ (l : List Userset). Contains l z) walks.first waiting)))
         (Contains-append_cases h.walked h.waiting z has)
 
     -- what this one holds is met
@@ -173,4 +173,4 @@ walk_begins there x u = record {
 }
   where
     only : (y : Userset) → Contains (x ∷ []) y → x ≡ y
-    only y has = ⊎_elim (λ is. is) (λ never. absurd (omega (arith, never.1))) (among x y [] has)
+    only y has = ⊎_elim (λ is. is) (λ never. absurd (omega (arith, never.1))) (first_or_later x y [] has)

@@ -1,19 +1,22 @@
 -- Which conditions hold after a log: one write more, part by part, and by its last writes alone.
-use Rattle.std.proofs.Common.{◌≡◌, ◌≢◌, ◌⊎◌, inl, inr, ⊎_elim, ℕ, zero, suc, Bool, true, false, not, ◌+◌, ◌<◌, ◌≤◌, ◌==◌, ◌||◌, List, [], ◌∷◌, ◌++◌, length, take, drop, filter, Some, None, All, refl, sym, ◌∙◌, ap, subst, arith, cond, append-nil, slice_get}
+use Rattle.std.proofs.Common.{◌≡◌, ◌≢◌, ◌⊎◌, inl, inr, ⊎_elim, ℕ, Bool, true, false, not, ◌+◌, ◌<◌, ◌≤◌, ◌==◌, List, [], ◌∷◌, ◌++◌, length, take, drop, filter, Some, None, All, refl, sym, ◌∙◌, ap, subst, arith, cond, append-nil, slice_get}
 use Rattle.std.specs.List.{flat_map, list_any}
 use Rattle.std.proofs.lemmas.Bool.{cases_Bool, both_ways, eq-eqb, or_cases, or_parts}
 use Rattle.std.proofs.lemmas.Grind.{flat_map-append}
-use Rattle.std.proofs.lemmas.List.{length-take-le, map-append, take-append-drop, take_all}
+use Rattle.std.proofs.lemmas.List.{length-take-le, take-append-drop}
 use Rattle.std.proofs.lemmas.List.Elements.{All-cons, All-head, All-nil, All-tail}
 use Rattle.std.proofs.lemmas.List.Folds.{list_any-append}
-use Rattle.laws.proofs.Words.{Change, Condition, Delete, Entry, Holds, Touch, Tuple, WriteId, changed, conditioned, find_in_doubt, has_tuple, last_from, meets_want, named, same_id, shard_of, there_after, tuple_eq, tuple_of, tuple_same}
+use Rattle.laws.proofs.Words.{Change, Condition, Delete, Entry, Holds, Touch, Tuple, changed, conditioned, find_in_doubt, has_tuple, last_from, meets_want, named, shard_of, there_after, tuple_eq, tuple_of, tuple_same}
 use Rattle.tuples.specs.Log.{HoldAfter, is_at, last_place}
-pub use Rattle.records.proofs.LastWrites.{last_from-append, or_left, or_right, there_both, there_last}
+pub use Rattle.records.proofs.LastWrites.{last_from-append, there_both, there_last}
+pub use Rattle.std.proofs.lemmas.Bool.{or_left, or_right}
 use Rattle.records.proofs.LastWrites.{last_behind, there_behind}
 use Rattle.tuples.specs.Parts.{expected, part, takes_part}
-use Rattle.tuples.proofs.Named.{shard_below, tuple_equivalence}
+use Rattle.tuples.proofs.Named.{shard_below}
+use Rattle.tuples.proofs.Ordered.{tuple_eq_refl}
 use Rattle.laws.specs.LockLaws.{ConditionsHoldAsKnown, ConditionsHoldByParts, DecisionsLeaveConditions}
 use Rattle.holds.specs.Holds.{AreApart}
+use Rattle.holds.proofs.Named.{found_at}
 use Rattle.laws.proofs.Rows.{empty_of_length}
 
 -- changes of other tuples leave a tuple there or not, as it was
@@ -46,15 +49,12 @@ holds_push log w c none holds =
     ∙ ap (λ (b : Bool). meets_want c.want (last_place log c.tuple) b) (there_push c.tuple log w none)
     ∙ holds
 
-pub tuple_itself : (t : Tuple) → tuple_eq t t ≡ true
-tuple_itself t = tuple_equivalence.refl t
-
 -- conditions of tuples that the write does not change go on to hold
 hold_apart : (log : List Entry) (w : Entry) (conditions : List Condition) → ((t : Tuple) → has_tuple t (conditioned conditions) ≡ true → has_tuple t (changed w.changes) ≡ false)
     → All (Holds log) conditions → All (Holds (log ++ w ∷ [])) conditions
 hold_apart log w [] apart hold = All-nil (Holds (log ++ w ∷ []))
 hold_apart log w (c ∷ conditions) apart hold = All-cons (Holds (log ++ w ∷ [])) c conditions
-    (holds_push log w c (apart c.tuple (or_left (tuple_eq c.tuple c.tuple) (has_tuple c.tuple (conditioned conditions)) (tuple_itself c.tuple))) (All-head (Holds log) c conditions hold))
+    (holds_push log w c (apart c.tuple (or_left (tuple_eq c.tuple c.tuple) (has_tuple c.tuple (conditioned conditions)) (tuple_eq_refl c.tuple))) (All-head (Holds log) c conditions hold))
     (hold_apart log w conditions (λ t has. apart t (or_right (tuple_eq t c.tuple) (has_tuple t (conditioned conditions)) has)) (All-tail (Holds log) c conditions hold))
 
 -- a tuple that a shard's part conditions is the shard's
@@ -90,13 +90,6 @@ some_changes t changes has = ⊎_elim
     (λ none. let gone : false ≡ true = ap (λ (l : List Change). has_tuple t (changed l)) (sym (empty_of_length changes none)) ∙ has in absurd (both_ways false refl gone))
     (cases_Bool (not (length changes == 0)))
 
-pub find_at : (id : WriteId) (ws : List Entry) (w : Entry) → find_in_doubt id ws ≡ Some w → (j : ℕ) × (slice_get ws j ≡ Some w)
-find_at id [] w is = absurd cc
-find_at id (v ∷ ws) w is = ⊎_elim
-    (λ here. (zero, ap (λ b. cond b (Some v) (find_in_doubt id ws)) (sym here) ∙ is))
-    (λ later. let r = find_at id ws w (ap (λ b. cond b (Some v) (find_in_doubt id ws)) (sym later) ∙ is) in (suc r.0, r.1))
-    (cases_Bool (same_id v.id id))
-
 -- of two writes that a shard has in doubt, one changes no tuple that the other's part conditions
 not_changed : (shards s : ℕ) (v w : Entry) (in_doubt : List Entry) → AreApart in_doubt → v.id ≢ w.id
     → find_in_doubt w.id in_doubt ≡ expected shards s w → find_in_doubt v.id in_doubt ≡ Some (part shards s v)
@@ -108,8 +101,8 @@ not_changed shards s v w in_doubt apart ne found_w found_v t has = ⊎_elim
     let in_part : has_tuple t (changed (part shards s w).changes) ≡ true = changed_in_part shards s t w.changes own changes_it in
     let takes : takes_part shards s w ≡ true = or_left (not (length (part shards s w).changes == 0)) (not (length (part shards s w).conditions == 0)) (some_changes t (part shards s w).changes in_part) in
     let there : find_in_doubt w.id in_doubt ≡ Some (part shards s w) = found_w ∙ ap (λ b. cond b (Some (part shards s w)) None) takes in
-    let at_v = find_at v.id in_doubt (part shards s v) found_v in
-    let at_w = find_at w.id in_doubt (part shards s w) there in
+    let at_v = found_at v.id in_doubt (part shards s v) found_v in
+    let at_w = found_at w.id in_doubt (part shards s w) there in
     let other : at_v.0 ≢ at_w.0 = λ same. ne (same_ids (part shards s v) (part shards s w) (sym at_v.1 ∙ ap (slice_get in_doubt) same ∙ at_w.1)) in
     let named_v : has_tuple t (named (part shards s v)) ≡ true = list_any-append (tuple_eq t) (changed (part shards s v).changes) (conditioned (part shards s v).conditions) ∙ or_right (has_tuple t (changed (part shards s v).changes)) (has_tuple t (conditioned (part shards s v).conditions)) has in
     let named_w : has_tuple t (named (part shards s w)) ≡ true = list_any-append (tuple_eq t) (changed (part shards s w).changes) (conditioned (part shards s w).conditions) ∙ or_left (has_tuple t (changed (part shards s w).changes)) (has_tuple t (conditioned (part shards s w).conditions)) in_part in

@@ -1,5 +1,6 @@
 -- The nodes of a store at a moment, seen as lists of records.
 use Rattle.std.specs.Prelude.{◌≡◌, ◌≢◌, ◌⊎◌, ◌≤◌, ◌<◌, ◌-◌, ℕ, List, [], ◌∷◌, ◌++◌, drop}
+use Rattle.refusal.specs.Refusals.{IsOneOf}
 use Rattle.tuples.specs.declared.entry.Entry.{Entry}
 use Rattle.tuples.specs.declared.entry.WriteId.{WriteId}
 use Rattle.refusal.specs.declared.refusal.Refusal.{Refusal}
@@ -30,7 +31,7 @@ pub data NodeState : Type 0 where
 
 -- with what an opening is refused for as long as the node is there: a device failed, memory, or the last epoch
 abbrev pub IsOfRefusedOpening : Refusal → Type 0
-IsOfRefusedOpening e = (e ≡ Down) ⊎ ((e ≡ NoMemory) ⊎ (e ≡ Full))
+IsOfRefusedOpening e = IsOneOf e (Down ∷ NoMemory ∷ Full ∷ [])
 
 -- a node that is up stages one record more, which is no opening
 pub record StagesMore (old new : NodeState) : Type 0 where

@@ -1,7 +1,9 @@
 -- How a line is gathered.
 use Rattle.std.proofs.Common.{◌≡◌, ℕ, Bool, true, false, List, [], ◌∷◌, ◌++◌, refl, sym, ap, ◌∙◌, append_assoc, append-nil, Option}
 use Rattle.std.proofs.KnownBytes.{Consumes-trans}
+use Rattle.std.proofs.lemmas.Grind.{flat_map-append}
 use Rattle.std.specs.Io.KnownBytes.{IsAtEnd}
+use Rattle.std.specs.List.{flat_map}
 use Rattle.line_io.specs.Blocks.{Gathers, HasTaken, Refills, TakesPart}
 use Rattle.line_io.specs.declared.input.Ending.TheVariants.{Feed, Input}
 use Rattle.line_io.specs.declared.line.Line.{Line}
@@ -47,3 +49,15 @@ module _ (before now after : Option (List ℕ)) (first left : List ℕ) (line : 
     held = g.held;
     ends = (end, g.whole ∙ ap (λ (l : List ℕ). g.front ++ l) none ∙ append-nil g.front, none);
   }
+
+-- lines with one more, whose line feed was read
+pub read_more : (lines : List (List ℕ)) (old read line new : List ℕ) → old ++ read ≡ line ++ 10 ∷ new
+    → (flat_map (λ (l : List ℕ). l ++ 10 ∷ []) lines ++ old) ++ read ≡ flat_map (λ (l : List ℕ). l ++ 10 ∷ []) (lines ++ line ∷ []) ++ new
+read_more lines old read line new e =
+    let ended : List ℕ → List ℕ = λ l. l ++ 10 ∷ [] in
+    let before : List ℕ = flat_map ended lines in
+    let more : flat_map ended (lines ++ line ∷ []) ≡ before ++ (line ++ 10 ∷ []) = flat_map-append ended lines (line ∷ []) ∙ ap (λ (l : List ℕ). before ++ l) (append-nil (line ++ 10 ∷ [])) in
+    append_assoc before old read
+    ∙ ap (λ (l : List ℕ). before ++ l) (e ∙ sym (append_assoc line (10 ∷ []) new))
+    ∙ sym (append_assoc before (line ++ 10 ∷ []) new)
+    ∙ ap (λ (l : List ℕ). l ++ new) (sym more)

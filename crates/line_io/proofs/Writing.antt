@@ -1,6 +1,6 @@
 -- How far a write has come.
-use Rattle.std.proofs.Common.{◌≡◌, ℕ, ◌+◌, ◌-◌, ◌≤◌, length, ap, ◌∙◌, arith, List, ◌++◌, take, drop, sym, subst, append-nil, take-append-drop, Option}
-use Rattle.std.proofs.KnownBytes.{Appends-kept, Appends-trans}
+use Rattle.std.proofs.Common.{◌≡◌, ℕ, ◌+◌, ◌-◌, ◌≤◌, length, ap, ◌∙◌, arith, List, ◌++◌, take, drop, sym, subst, append-nil, take-append-drop, Option, [], refl}
+use Rattle.std.proofs.KnownBytes.{Appends-kept, Appends-trans, Appends-nil}
 use Rattle.std.proofs.Math.Seq.{take-add}
 use Rattle.std.proofs.lemmas.List.{length-drop, take_all}
 use Rattle.std.specs.Io.KnownBytes.{Appends, Keeps}
@@ -34,3 +34,10 @@ module _ (before mid after : Option (List ℕ)) (bytes : List ℕ) (n : ℕ) whe
     whole = sym (take-append-drop n bytes);
     written = subst (Appends before after) (ap (λ (j : ℕ). take n bytes ++ take j rest) zero ∙ append-nil (take n bytes)) (Appends-trans before mid after (take n bytes) (take k rest) first none);
   }
+
+-- nothing is a beginning, and so is all
+pub begun_none : (o : Option (List ℕ)) (bytes : List ℕ) → HasBegun o o bytes
+begun_none o bytes = record { sent = []; unsent = bytes; whole = refl; written = Appends-nil o }
+
+pub begun_all : (o p : Option (List ℕ)) (bytes : List ℕ) → Appends o p bytes → HasBegun o p bytes
+begun_all o p bytes all = record { sent = bytes; unsent = []; whole = sym (append-nil bytes); written = all }

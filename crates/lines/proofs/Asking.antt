@@ -1,13 +1,11 @@
 -- A condition is cut from its word in one way.
-use Rattle.std.proofs.Common.{◌≡◌, ◌≢◌, ℕ, suc, ◌+◌, ◌<◌, ◌≤◌, true, false, eqb, List, [], ◌∷◌, ◌++◌, length, get_or, take, drop, Bor, Option, Some, None, MatchOption, refl, sym, ap, ◌∙◌, subst, append_assoc, inl, arith}
-use Rattle.std.specs.List.{All, list_all}
+use Rattle.std.proofs.Common.{◌≡◌, ◌≢◌, ℕ, suc, ◌+◌, ◌<◌, ◌≤◌, true, false, List, [], ◌∷◌, ◌++◌, length, get_or, take, drop, Bor, Option, Some, None, MatchOption, refl, sym, ap, ◌∙◌, subst, append_assoc, inl, arith}
+use Rattle.std.specs.List.{list_all}
 use Rattle.std.specs.Fmt.{decimal}
-use Rattle.std.proofs.lemmas.Bool.{ne_eqb}
 use Rattle.std.proofs.lemmas.Bool.Decides.{nat_tests}
 use Rattle.std.proofs.lemmas.Fmt.{decimal_injective}
 use Rattle.std.proofs.lemmas.List.{get_or-drop, length-drop}
-use Rattle.std.proofs.lemmas.List.Elements.{All-from_get_or, All-weaker}
-use Rattle.std.proofs.lemmas.List.Folds.{list_any_none}
+use Rattle.std.proofs.lemmas.List.Elements.{All-from_get_or}
 use Rattle.std.proofs.Math.Seq.{split_at}
 use Rattle.tuples.specs.declared.change.Want.{Want}
 use Rattle.tuples.specs.declared.change.Want.TheVariants.{NotAfter, Exists, Absent}
@@ -15,10 +13,10 @@ use Rattle.tuples.specs.declared.tuple.Tuple.{Tuple}
 use Rattle.tuples.specs.Names.{IsName, is_name_byte}
 use Rattle.tuples.specs.Parsing.{Lacks, SpellsNone}
 use Rattle.tuples.specs.Texts.{IsTuple, object_text, tuple_text, user_text}
-use Rattle.tuples.proofs.Cuts.{cut_nowhere}
+use Rattle.tuples.proofs.Cuts.{cut_nowhere, lacks_everywhere}
+use Rattle.tuples.proofs.Lists.{heads, tails}
 use Rattle.lines.specs.Texts.{IsPlace, IsWanted, wanted_text}
 use Rattle.lines.specs.Words.{AsksNothing, IsAskedOf, IsPlacedOf, NamesNoPlace}
-use Rattle.lines.proofs.Lists.{heads, tails}
 use Rattle.lines.proofs.Digits.{decimal_lacks}
 
 -- by a mark that neither back has, two cuts of one text are the same
@@ -29,9 +27,6 @@ cut_last_once mark (x ∷ a) b [] d hb hd e = absurd (cut_nowhere mark a b (subs
 cut_last_once mark (x ∷ a) b (y ∷ c) d hb hd e =
     let rest = cut_last_once mark a b c d hb hd (tails x y (a ++ mark ∷ b) (c ++ mark ∷ d) e) in
     (ap (λ (n : ℕ). n ∷ a) (heads x y (a ++ mark ∷ b) (c ++ mark ∷ d) e) ∙ ap (λ (l : List ℕ). y ∷ l) rest.0, rest.1)
-
-pub lacks_everywhere : (mark : ℕ) (text : List ℕ) → All (λ b. b ≢ mark) text → Lacks mark text
-lacks_everywhere mark text none = list_any_none (λ b. eqb b mark) text (All-weaker (λ b. b ≢ mark) (λ b. eqb b mark ≡ false) (λ b other. ne_eqb b mark other) text none)
 
 -- the cut at the place where the byte stands last
 pub cut_at_last : (mark : ℕ) (text : List ℕ) (at : ℕ) → at < length text → get_or text at 0 ≡ mark → ((k : ℕ) → at + 1 ≤ k → k < length text → get_or text k 0 ≢ mark)

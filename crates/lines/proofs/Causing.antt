@@ -1,7 +1,7 @@
 -- Which refusal each thing that is wrong with a line has.
-use Rattle.std.proofs.Common.{◌≡◌, ℕ, ◌<◌, ◌≤◌, Bool, true, false, eqb, not, List, [], ◌∷◌, ◌++◌, map, codes, length, refl, sym, ap, ◌∙◌, subst, ◌⊎◌, inl, inr, Bor, arith}
+use Rattle.std.proofs.Common.{◌≡◌, ℕ, ◌≤◌, Bool, true, false, eqb, not, List, [], ◌∷◌, ◌++◌, codes, length, refl, sym, ap, ◌∙◌, subst, ◌⊎◌, inl, inr, Bor, arith}
 use Rattle.std.specs.List.{All, list_all, list_any}
-use Rattle.std.proofs.lemmas.Bool.{false≢true}
+use Rattle.std.proofs.lemmas.Bool.{false≢true, both_ways}
 use Rattle.std.proofs.lemmas.Bool.Decides.{nat_tests}
 use Rattle.std.proofs.lemmas.List.{length-map}
 use Rattle.std.proofs.lemmas.List.Elements.{All-cons, All-head, All-nil, All-tail}
@@ -11,6 +11,7 @@ use Rattle.tuples.specs.declared.change.Condition.{Condition}
 use Rattle.refusal.specs.declared.refusal.Refusal.{Refusal}
 use Rattle.refusal.specs.declared.refusal.Refusal.TheVariants.{BadRequest, TooLarge, Repeated, NoMemory}
 use Rattle.tuples.specs.declared.tupleset.Tupleset.{Tupleset}
+use Rattle.tuples.proofs.Lists.{tails}
 use Rattle.requests.specs.Causes.{AreSets, ListCause}
 use Rattle.requests.specs.Spelling.{IsMisspelled}
 use Rattle.lines.specs.Causes.{AreFew, HaveNoShape, IsAsked, ShapeCause, WordsCause, WriteCause}
@@ -20,7 +21,6 @@ use Rattle.lines.specs.Lines.{IsFree, SpellNoOrder, SpellsWords}
 use Rattle.lines.specs.Shapes.{AreListed, ArePartsShaped, HasShape, Shape, check, read, watch, write}
 use Rattle.lines.specs.Words.{AreBehind, AreChanges, AreConditions, AreFull, HasConditionShape, if_words, is_marked, texts}
 use Rattle.lines.proofs.Firsts.{start_is_no_order, start_is_no_request, write_only}
-use Rattle.lines.proofs.Lists.{tails, not_both}
 use Rattle.lines.proofs.Spelled.{spelled_shape}
 use Rattle.lines.proofs.Writing.{cut_marked, if_behind, if_words_once}
 
@@ -42,7 +42,7 @@ some_full (w ∷ words) full =
 
 -- words of which none is empty
 pub listed : (words : List (Bor (List ℕ))) (gap : Bool) → 1 ≤ length words → gap ≡ list_any (λ w. eqb (length w.now) 0) words → (not gap ≡ true → AreListed (texts words)) × (AreListed (texts words) → not gap ≡ true)
-listed words true some is = (λ e. absurd (false≢true e), λ l. absurd (not_both (list_any (λ w. eqb (length w.now) 0) words) (sym is) (some_full words l.1)))
+listed words true some is = (λ e. absurd (false≢true e), λ l. absurd (both_ways (list_any (λ w. eqb (length w.now) 0) words) (some_full words l.1) (sym is)))
 listed words false some is =
     let long = length-map words (λ (w : Bor (List ℕ)). w.now) in
     (λ e. (omega arith, full_texts words (sym is)), λ l. refl)
@@ -163,7 +163,3 @@ words_refused store shards running words none shapeless no_start = no_shape stor
     refuse : (request : List (List ℕ)) (shape : Shape) → IsAsked running words request → HasShape request shape → ⊥
     refuse request shape (inl same) has = shapeless shape (subst (λ l. HasShape l shape) (sym same) has)
     refuse request shape (inr (name, free, same)) has = no_start (name ∷ request) same
-
-pub in_limits : (m n : ℕ) → m ≤ 64 → n ≤ 16 → (64 < m) ⊎ (16 < n) → ⊥
-in_limits m n few fewer (inl h) = absurd (omega arith)
-in_limits m n few fewer (inr h) = absurd (omega arith)

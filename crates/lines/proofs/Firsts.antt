@@ -1,7 +1,5 @@
 -- Which command the first word of a line tells.
-use Rattle.std.proofs.Common.{◌≡◌, ℕ, true, false, eqb, List, [], ◌∷◌, ◌++◌, codes, get_or, refl, sym, ap, ◌∙◌}
-use Rattle.std.proofs.lemmas.Bool.{false≢true}
-use Rattle.std.proofs.lemmas.Bool.Decides.{Decides-eqb}
+use Rattle.std.proofs.Common.{◌≡◌, ℕ, List, [], ◌∷◌, ◌++◌, codes, refl, sym, ◌∙◌}
 use Rattle.names.specs.declared.care.Care.{Care}
 use Rattle.names.specs.declared.care.Care.TheVariants as care
 use Rattle.lines.specs.declared.command.Command.TheVariants as command
@@ -16,13 +14,7 @@ use Rattle.lines.specs.Shapes.{ArePartsShaped, HasShape, Shape, check, read, wat
 use Rattle.std.specs.Fmt.{decimal}
 use Rattle.lines.specs.Texts.{IsNode, bank_text, node_text}
 use Rattle.lines.specs.Words.{if_words}
-use Rattle.lines.proofs.Lists.{heads, tails}
-
--- words that differ in a byte are not the same first word
-pub other_first : (i : ℕ) (a b : List ℕ) (ws vs : List (List ℕ)) → eqb (get_or a i 0) (get_or b i 0) ≡ false → a ∷ ws ≡ b ∷ vs → ⊥
-other_first i a b ws vs differ e =
-    let same : get_or a i 0 ≡ get_or b i 0 = ap (λ (x : List ℕ). get_or x i 0) (heads a b ws vs e) in
-    false≢true (sym differ ∙ (Decides-eqb (get_or a i 0) (get_or b i 0)).1 same)
+use Rattle.tuples.proofs.Lists.{heads, tails, other_first}
 
 -- no order is begun with `start`
 pub start_is_no_order : (store shards : ℕ) (running ws : List (List ℕ)) → SpellNoOrder store shards running (codes "start" ∷ ws)

@@ -1,7 +1,8 @@
 -- The words in front that have the mark of a change.
-use Rattle.std.proofs.Common.{◌≡◌, ℕ, zero, suc, ◌<◌, ◌≤◌, Bool, true, false, not, ◌&&◌, List, [], ◌∷◌, ◌++◌, map, length, get_or, take, drop, Some, None, refl, sym, ap, ◌∙◌, subst, Bor, arith}
+use Rattle.std.proofs.Common.{◌≡◌, ℕ, zero, suc, ◌<◌, ◌≤◌, Bool, true, false, not, List, [], ◌∷◌, ◌++◌, map, length, get_or, take, drop, Some, None, refl, sym, ap, ◌∙◌, subst, Bor, arith}
 use Rattle.std.specs.List.{list_all, position, position_or_len}
 use Rattle.std.proofs.lemmas.Bool.Decides.{nat_tests}
+use Rattle.std.proofs.lemmas.Bool.{and_from}
 use Rattle.std.proofs.lemmas.List.{map-append, take-append-drop, take_all, drop_more}
 use Rattle.std.proofs.lemmas.List.Quantifiers.{position-Some}
 use Rattle.std.proofs.lemmas.List.Sums.{fails_before_first}
@@ -14,14 +15,11 @@ texts = map (λ (w : Bor (List ℕ)). w.now)
 abbrev lacks_mark : Bor (List ℕ) → Bool
 lacks_mark w = not (is_marked w.now)
 
-both : (a b : Bool) → a ≡ true → b ≡ true → (a && b) ≡ true
-both a b ha hb = grind (arith, nat_tests)
-
 marks : (words : List (Bor (List ℕ))) (at : ℕ) (d : Bor (List ℕ)) → at ≤ length words → ((k : ℕ) → k < at → lacks_mark (get_or words k d) ≡ false) → list_all is_marked (texts (take at words)) ≡ true
 marks words zero d le each = refl
 marks [] (suc at) d le each = absurd (omega arith)
 marks (w ∷ words) (suc at) d le each =
-    both (is_marked w.now) (list_all is_marked (texts (take at words))) (not_false (is_marked w.now) (lacks_mark w) refl (each 0 (omega arith)))
+    and_from (is_marked w.now) (list_all is_marked (texts (take at words))) (not_false (is_marked w.now) (lacks_mark w) refl (each 0 (omega arith)))
     (marks words at d (omega arith) (λ k lt. each (suc k) (omega arith)))
 
 pub marked_all : (words : List (Bor (List ℕ))) → position lacks_mark words ≡ None → list_all is_marked (texts words) ≡ true

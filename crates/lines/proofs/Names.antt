@@ -3,12 +3,12 @@ use Rattle.std.proofs.Common.{◌≡◌, ℕ, ◌≤◌, Bool, List, [], length,
 use Rattle.std.specs.List.{All, position, position_or_len}
 use Rattle.std.specs.Str.{bytes_eq}
 use Rattle.std.proofs.lemmas.Bool.Decides.{nat_tests}
+use Rattle.std.proofs.lemmas.Bool.{both_ways}
 use Rattle.std.proofs.lemmas.List.Elements.{All-from_get_or}
 use Rattle.std.proofs.lemmas.List.Quantifiers.{position-Some}
 use Rattle.std.proofs.lemmas.List.Sums.{fails_before_first}
 use Rattle.std.proofs.lemmas.Option.{slice_get-get_or}
 use Rattle.std.proofs.lemmas.Slice.Eq.{bytes_eq-Decides}
-use Rattle.lines.proofs.Lists.{not_both}
 
 abbrev has : List ℕ → List ℕ → Bool
 has name other = bytes_eq other name
@@ -17,7 +17,7 @@ missing : (name : List ℕ) (xs : List (List ℕ)) → position (has name) xs �
 missing name xs none =
     let all : length xs ≤ position_or_len (has name) xs = grind (arith, nat_tests) in
     All-from_get_or (λ other. other ≡ name → ⊥) xs [] (λ i lt same.
-    not_both (has name (get_or xs i [])) ((bytes_eq-Decides (get_or xs i []) name).1 same) (fails_before_first (has name) xs i [] (omega arith)))
+    both_ways (has name (get_or xs i [])) (fails_before_first (has name) xs i [] (omega arith)) ((bytes_eq-Decides (get_or xs i []) name).1 same))
 
 found : (name : List ℕ) (xs : List (List ℕ)) (i : ℕ) → position (has name) xs ≡ Some i → slice_get xs i ≡ Some name
 found name xs i is =

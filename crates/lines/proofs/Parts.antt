@@ -1,5 +1,5 @@
 -- What the words of a list say of the values that they spell.
-use Rattle.std.proofs.Common.{◌≡◌, subst, true, ℕ, suc, zero, ◌+◌, ◌<◌, List, [], ◌∷◌, ◌++◌, map, take, length, get_or, Option, Some, None, MatchOption, is_some, false, sym, ap, ◌∙◌, inl, inr, Bor, arith}
+use Rattle.std.proofs.Common.{◌≡◌, subst, true, ℕ, suc, zero, ◌+◌, ◌<◌, List, [], ◌∷◌, map, take, length, get_or, Option, Some, None, MatchOption, is_some, false, sym, ap, ◌∙◌, inl, inr, Bor, arith}
 use Rattle.std.specs.List.{All}
 use Rattle.std.proofs.lemmas.Bool.{false≢true}
 use Rattle.std.proofs.lemmas.List.{take_more, map-append}
@@ -14,6 +14,7 @@ use Rattle.tuples.specs.Texts.{IsTuple}
 use Rattle.lines.specs.Texts.{IsWanted, change_text, condition_text}
 use Rattle.lines.specs.Words.{AreChanges, AreConditions, AsksNothing, HasConditionShape, IsAskedOf, IsChangeOf, IsConditionOf}
 use Rattle.requests.specs.Spelling.{IsMisspelled}
+use Rattle.requests.proofs.Spelled.{value_at}
 
 -- what holds of each changed tuple holds of the tuple of each change
 pub each_change : (P : Tuple → Type 0) (cs : List Change) → All P (changed cs) → All (λ c. P (tuple_of c)) cs
@@ -26,24 +27,6 @@ each_condition [] t w = All-nil (λ (c : Condition). IsTuple c.tuple × IsWanted
 each_condition (c ∷ cs) t w = All-cons (λ (x : Condition). IsTuple x.tuple × IsWanted x.want) c cs
     (All-head IsTuple c.tuple (conditioned cs) t, All-head (λ (x : Condition). IsWanted x.want) c cs w)
     (each_condition cs (All-tail IsTuple c.tuple (conditioned cs) t) (All-tail (λ (x : Condition). IsWanted x.want) c cs w))
-
--- the value that a word spells
-pub value_at : {A B C : Type 0} (f : A → C) (g : B → C) (P : B → Type 0) (xs : List A) (ys : List B) (i : ℕ) (d : A) → i < length xs → map f xs ≡ map g ys → All P ys → (y : B) × P y × (f (get_or xs i d) ≡ g y)
-value_at f g P [] ys i d h e each = absurd (omega arith)
-value_at f g P (x ∷ xs) [] i d h e each = absurd cc
-value_at f g P (x ∷ xs) (y ∷ ys) zero d h e each = (y, All-head P y ys each, cc)
-value_at f g P (x ∷ xs) (y ∷ ys) (suc i) d h e each =
-    let more : map f xs ≡ map g ys = cc in
-    value_at f g P xs ys i d (omega arith) more (All-tail P y ys each)
-
--- one more word, and its value
-pub map_more : {A B C : Type 0} (f : A → C) (g : B → C) (xs : List A) (ys : List B) (i : ℕ) (d : A) (y : B) → i < length xs → map f (take i xs) ≡ map g ys → f (get_or xs i d) ≡ g y → map f (take (i + 1) xs) ≡ map g (ys ++ y ∷ [])
-map_more {A} {B} {C} f g xs ys i d y h e here =
-    ap (map f) (take_more xs i d h)
-    ∙ map-append f (take i xs) (get_or xs i d ∷ [])
-    ∙ ap (λ (t : List C). t ++ f (get_or xs i d) ∷ []) e
-    ∙ ap (λ (c : C). map g ys ++ c ∷ []) here
-    ∙ sym (map-append g ys (y ∷ []))
 
 -- a word that is no change
 pub changes_refused : (words : List (Bor (List ℕ))) (i : ℕ) (d : Bor (List ℕ)) (e : Refusal) → i < length words → IsMisspelled (IsChangeOf (get_or words i d).now) e → IsMisspelled (AreChanges (map (λ w. w.now) words)) e

@@ -2,15 +2,16 @@
 use Rattle.std.proofs.Common.{◌≡◌, eqb, ℕ, Bool, true, false, List, [], ◌∷◌, ◌++◌, map, codes, length, refl, sym, ap, ◌∙◌, Bor, arith}
 use Rattle.std.specs.List.{list_all}
 use Rattle.std.proofs.lemmas.Bool.Decides.{nat_tests}
+use Rattle.std.proofs.lemmas.Bool.{both_ways}
 use Rattle.lines.specs.Words.{AreBehind, if_words, is_marked}
-use Rattle.lines.proofs.Lists.{heads, tails, not_both}
+use Rattle.tuples.proofs.Lists.{heads, tails}
 
 no_more : {A : Type 0} (x : A) (xs : List A) → [] ≡ x ∷ xs → ⊥
 no_more x xs e = cc
 
 -- a test that holds of the first and not of the second
 differs : {A : Type 0} (p : A → Bool) (a b : A) → p a ≡ true → p b ≡ false → a ≡ b → ⊥
-differs p a b t f e = not_both (p a) t (ap p e ∙ f)
+differs p a b t f e = both_ways (p a) (ap p e ∙ f) t
 
 first_marked : (w : List ℕ) (ws : List (List ℕ)) → list_all is_marked (w ∷ ws) ≡ true → is_marked w ≡ true
 first_marked w ws h = grind (arith, nat_tests)
@@ -38,7 +39,7 @@ if_behind (w ∷ ws) = refl
 -- `if` and a word
 pub behind_if : (words conditions : List (Bor (List ℕ))) (name : Bor (List ℕ)) (none : Bool) → words ≡ name ∷ conditions → name.now ≡ codes "if" → none ≡ eqb (length conditions) 0 → none ≡ false
     → map (λ w. w.now) words ≡ if_words (map (λ w. w.now) conditions)
-behind_if words [] name none cut is e some = absurd (not_both none e some)
+behind_if words [] name none cut is e some = absurd (both_ways none some e)
 behind_if words (c ∷ conditions) name none cut is e some =
     ap (map (λ (w : Bor (List ℕ)). w.now)) cut ∙ ap (λ (t : List ℕ). t ∷ map (λ (w : Bor (List ℕ)). w.now) (c ∷ conditions)) is
 

@@ -8,9 +8,10 @@ use crate::node::{parse_node, parse_shard};
 use crate::numbers::parse_place;
 use crate::words::one_behind;
 use names::Care;
+use tuples::Shards;
 
 /// The care of these words, in a store of so many shards.
-pub(crate) fn parse_care(words: &[&[u8]], shards: u8) -> Option<Care>
+pub(crate) fn parse_care(words: &[&[u8]], shards: Shards) -> Option<Care>
     ensures { MatchOption result ((care : AnyCare) → SpellsCare shards (texts words.now) care → ⊥) (SpellsCare shards (texts words.now)) }
 {
     if let Some(node) = one_behind(words, b"flush") {

@@ -16,7 +16,7 @@ use crate::shapes::shape_of;
 use crate::words::{behind, split_words};
 use names::{Care, NodeName};
 use std::alloc::Global;
-use tuples::{MAX_LINE, Refusal, Request};
+use tuples::{MAX_LINE, Refusal, Request, Shards};
 
 /// What one line of a script asks for.
 #[derive(Drop)]
@@ -39,7 +39,7 @@ pub enum Command {
     /// `fail 0a 4 a5`
     Fail(Failure),
     /// `reshard 3`: the store is carried over to one of so many shards.
-    Reshard(u8),
+    Reshard(Shards),
 }
 
 impl Command {
@@ -53,7 +53,7 @@ impl Command {
         alloc: Global,
         line: &[u8],
         store: u64,
-        shards: u8,
+        shards: Shards,
         running: &[Name],
     ) -> Result<Command, Refusal>
         ensures long { max_line < length line.now → IsErrOf result Refusal.TooLarge }
@@ -85,7 +85,7 @@ fn parse_words(
     alloc: Global,
     words: &[&[u8]],
     store: u64,
-    shards: u8,
+    shards: Shards,
     running: &[Name],
 ) -> Result<Command, Refusal>
     ensures ok { IfOk result (SpellsWords store shards running.now (texts words.now)) }
@@ -127,7 +127,7 @@ fn parse_start(
 }
 
 // A command that is no request.
-fn parse_order(words: &[&[u8]], shards: u8, running: &[Name]) -> Option<Command>
+fn parse_order(words: &[&[u8]], shards: Shards, running: &[Name]) -> Option<Command>
     ensures { (store : ℕ) → MatchOption result (SpellNoOrder store shards running.now (texts words.now)) (SpellsWords store shards running.now (texts words.now)) }
 {
     if let Some((flow, handling)) = parse_handling(words, running) {

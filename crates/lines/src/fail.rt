@@ -11,6 +11,7 @@ use crate::words::three_behind;
 use device::Tear;
 use journal::Bank;
 use names::NodeName;
+use tuples::Shards;
 
 /// A failure that is set on one device of a node.
 #[derive(Clone, Copy, Debug, PartialEq, Eq)]
@@ -23,7 +24,7 @@ pub struct Failure {
 }
 
 /// The failure of these words, in a store of so many shards.
-pub(crate) fn parse_fail(words: &[&[u8]], shards: u8) -> Option<Failure>
+pub(crate) fn parse_fail(words: &[&[u8]], shards: Shards) -> Option<Failure>
     ensures { MatchOption result ((f : AnyFailure) → SpellsFailure shards (texts words.now) f → ⊥) (SpellsFailure shards (texts words.now)) }
 {
     let Some((bank, number, tear)) = three_behind(words, b"fail") else {

@@ -1,14 +1,10 @@
 -- A care of a shared store goes on to hold what is of the list and of the horizon, turn by turn.
 use Rattle.std.proofs.Common.{ℕ, List, Bool}
-use Rattle.locked.proofs.Words.{Entry, HandsWhatIsSeen, IsCareOf, Known, Turns}
+use Rattle.locked.proofs.Words.{Entry, IsCareOf, Known, Turns}
 use Rattle.care_flow.specs.declared.care.CareFlow.{CareFlow}
 use Rattle.care_flow.specs.Cares.{AsksCare, GivesCare}
 use Rattle.flow_ties.specs.Cares.{CareTurns}
-use Rattle.flow_ties.proofs.SeenCares.{cares_go_on, cares_hand_over_what_is_seen}
-
--- what it hands to a shard is of the list, or of the horizon
-pub cares_hand_over : (pass : Known Entry) (v : CareFlow) → IsCareOf pass.seen pass.horizon v → HandsWhatIsSeen AsksCare pass v
-cares_hand_over pass v is call out asks = cares_hand_over_what_is_seen pass.seen pass.horizon v out call is asks
+use Rattle.flow_ties.proofs.SeenCares.{cares_go_on}
 
 -- what it holds behind a turn is of them
 pub care_goes_on : (rests : Type 0) (shards : ℕ) (old new : Known Entry) (marks later : List Bool) (v after : CareFlow) → IsCareOf old.seen old.horizon v → Turns AsksCare rests GivesCare shards old new marks later v after

@@ -1,29 +1,15 @@
 -- A check of a shared store goes on to hold what is of the list, turn by turn.
 use Rattle.std.proofs.Common.{◌≡◌, inl, inr, ⊎_elim, ◌≤◌, ℕ, List, length, Bool, Option, Some, None, Result, Ok, Err, IfOk, MatchOption, refl, sym, ◌∙◌, ap, subst}
-use Rattle.locked.proofs.Words.{at_rest, begins_at, CallName, catch_up, CheckFlowValue, CheckHasReason, checks_at_rest_have_reason, CheckView, Entry, exact, Freshness, HandsWhatIsSeen, heads, IsAsAsked, IsBeyond, IsCheckOf, IsFresh, Known, LiesBeyond, Narrows, read, Reply, Shard, Turns, User, Userset}
+use Rattle.locked.proofs.Words.{at_rest, begins_at, CallName, catch_up, CheckFlowValue, CheckHasReason, checks_at_rest_have_reason, CheckView, Entry, exact, Freshness, heads, IsAsAsked, IsBeyond, IsCheckOf, IsFresh, Known, LiesBeyond, Narrows, Reply, Turns, User, Userset}
 use Rattle.calls.specs.declared.call.ShardCall.TheVariants as shard_calls
-use Rattle.answer_flow.specs.Checking.{Asks, AsksFor, GivesTo}
-use Rattle.answer_flow.specs.CheckViews.{CheckAwaited, CheckEnding, CheckStep, flush}
+use Rattle.answer_flow.specs.Checking.{Asks, GivesTo}
+use Rattle.answer_flow.specs.CheckViews.{CheckAwaited, CheckEnding, CheckStep}
 use Rattle.answer_flow.specs.Running.{AsksCheck, GivesCheck}
 use Rattle.flow_ties.specs.Checks.{CheckTurns, IsMembershipAt, IsTooFar}
-use Rattle.flow_ties.proofs.SeenChecks.{checks_answer_what_is_seen, checks_begin, checks_begin_at_places, checks_hand_over_what_is_seen, checks_stay_seen}
+use Rattle.flow_ties.proofs.SeenChecks.{checks_answer_what_is_seen, checks_begin, checks_begin_at_places, checks_stay_seen}
 use Rattle.flow_ties.proofs.ToldChecks.{checks_refuse_for_a_reason}
 use Rattle.locked.specs.Answering.{CheckEnds, CheckRefuses, CheckRuns}
 use Rattle.locked.proofs.FreshPlaces.{beyond_is_fresh, fresh_is_as_asked, place_is_reached, reason_asked}
-
--- a check calls no shard to collect
-no_collect : (shards : ℕ) (u : User) (step : CheckStep) (v out : CheckView) (s : ℕ) (h : _) → AsksFor step shards u v (Shard s (shard_calls.Collect h)) out → ⊥
-no_collect shards u heads v out s h asks = cc asks.1
-no_collect shards u flush v out s h asks = cc asks.1
-no_collect shards u catch_up v out s h asks = asks.asks.1
-no_collect shards u read v out s h asks = cc asks.call_is
-
--- what it hands to a shard is a part of the list
-pub checks_hand_over : (shards : ℕ) (pass : Known Entry) (x : Userset) (v : CheckFlowValue) → v.shards ≡ shards → IsCheckOf pass.seen v.fresh x v.user v.seen → HandsWhatIsSeen AsksCheck pass v
-checks_hand_over shards pass x v of is (Shard s (shard_calls.Learn b)) out asks =
-    checks_hand_over_what_is_seen shards s pass.seen v.fresh x v.user v.seen out.seen b is (subst (λ (n : ℕ). Asks n v.user v.seen (Shard s (shard_calls.Learn b)) out.seen) of asks.2)
-checks_hand_over shards pass x v of is (Shard s (shard_calls.Collect h)) out asks = absurd (no_collect v.shards v.user v.seen.next v.seen out.seen s h asks.2.asks)
-checks_hand_over shards pass x v of is call out asks = tt
 
 -- what the reply makes of it, in its own words
 gives_to : (v out : CheckFlowValue) (awaited : CheckAwaited) (reply : Reply) (after : CheckView) → out ≡ record v { seen = out.seen; next_name = None } → out.seen.awaited ≡ Some awaited

@@ -38,13 +38,13 @@ use Rattle.flights.specs.contracts.shard_place.ShardPlace as ShardPlace
 
 -- ---- what no device is in
 
-entry : IsSend Entry.the_row
+pub entry : IsSend Entry.the_row
 entry = search (sendable, crosses, maps_cross, sets_cross) depth 400 fits 50000
 
 write_id : IsSend WriteId.the_row
 write_id = search (sendable, crosses, maps_cross, sets_cross) depth 400 fits 50000
 
-tuple : IsSend Tuple.the_row
+pub tuple : IsSend Tuple.the_row
 tuple = search (sendable, crosses, maps_cross, sets_cross) depth 400 fits 50000
 
 identity : IsSend Identity.the_row

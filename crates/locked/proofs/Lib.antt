@@ -11,7 +11,6 @@ mod WatchTurns
 mod CareTurns
 mod RefusedCalls
 mod WriteTurns
-mod NoFlush
 pub mod NewDevices
 pub mod Crosses
 mod Looked

@@ -36,13 +36,13 @@ use Rattle.locked.proofs.Crosses.{place_send}
 
 -- ---- what no device is in
 
-entry : IsSync Entry.the_row
+pub entry : IsSync Entry.the_row
 entry = search (sendable, crosses, maps_cross, sets_cross) depth 400 fits 50000
 
 write_id : IsSync WriteId.the_row
 write_id = search (sendable, crosses, maps_cross, sets_cross) depth 400 fits 50000
 
-tuple : IsSync Tuple.the_row
+pub tuple : IsSync Tuple.the_row
 tuple = search (sendable, crosses, maps_cross, sets_cross) depth 400 fits 50000
 
 identity : IsSync Identity.the_row

@@ -1,30 +1,16 @@
 -- A read of a shared store goes on to hold what is of the list, turn by turn.
 use Rattle.std.proofs.Common.{◌≡◌, inl, inr, ◌≤◌, ℕ, List, Bool, length, Option, Some, None, MatchOption, refl, sym, ◌∙◌, ap, subst}
-use Rattle.locked.proofs.Words.{Entry, exact, Freshness, HandsWhatIsSeen, HasReason, IsAsAsked, IsBeyond, IsFresh, IsReadOf, Known, LiesBeyond, ReadFlowValue, ReadHasReason, reads_at_rest_have_reason, ReadView, Reply, Shard, Tupleset, Turns}
+use Rattle.locked.proofs.Words.{Entry, exact, Freshness, HasReason, IsAsAsked, IsBeyond, IsFresh, IsReadOf, Known, LiesBeyond, ReadFlowValue, ReadHasReason, reads_at_rest_have_reason, ReadView, Reply, Tupleset, Turns}
 use Rattle.decisions.specs.Flows.{nothing_read}
 use Rattle.calls.specs.declared.call.ShardCall.TheVariants as shard_calls
-use Rattle.answer_flow.specs.Reading.{Asks, AsksFor, Continues, GivesTo}
-use Rattle.answer_flow.specs.ReadViews.{ReadAwaited, ReadEnding, ReadStep, at_rest, heads, flush, catch_up, read}
+use Rattle.answer_flow.specs.Reading.{Asks, Continues, GivesTo}
+use Rattle.answer_flow.specs.ReadViews.{ReadAwaited, ReadEnding, at_rest, heads}
 use Rattle.answer_flow.specs.Running.{AsksRead, GivesRead}
 use Rattle.flow_ties.specs.Reads.{AreRowsAt, ReadTurns}
 use Rattle.flow_ties.proofs.ToldReads.{reads_begin_for_a_reason, reads_refuse_for_a_reason}
-use Rattle.flow_ties.proofs.SeenReads.{reads_answer_what_is_seen, reads_begin, reads_begin_at_places, reads_hand_over_what_is_seen}
+use Rattle.flow_ties.proofs.SeenReads.{reads_answer_what_is_seen, reads_begin, reads_begin_at_places}
 use Rattle.locked.specs.Answering.{ReadEnds, ReadRefuses, ReadRuns}
 use Rattle.locked.proofs.FreshPlaces.{beyond_is_fresh, fresh_is_as_asked, place_is_reached, reason_asked}
-
--- a read calls no shard to collect
-no_collect : (shards : ℕ) (sets : List Tupleset) (step : ReadStep) (v out : ReadView) (s : ℕ) (h : _) → AsksFor step shards sets v (Shard s (shard_calls.Collect h)) out → ⊥
-no_collect shards sets heads v out s h asks = cc asks.0
-no_collect shards sets flush v out s h asks = cc asks.0
-no_collect shards sets catch_up v out s h asks = asks.asks.1
-no_collect shards sets read v out s h asks = cc asks.call_is
-
--- what it hands to a shard is a part of the list
-pub reads_hand_over : (shards : ℕ) (pass : Known Entry) (v : ReadFlowValue) → v.shards ≡ shards → IsReadOf shards pass.seen v.fresh v.sets v.seen → HandsWhatIsSeen AsksRead pass v
-reads_hand_over shards pass v of is (Shard s (shard_calls.Learn b)) out asks =
-    reads_hand_over_what_is_seen shards s pass.seen v.fresh v.sets v.seen out.seen b is (subst (λ (n : ℕ). Asks n v.sets v.seen (Shard s (shard_calls.Learn b)) out.seen) of asks.2)
-reads_hand_over shards pass v of is (Shard s (shard_calls.Collect h)) out asks = absurd (no_collect v.shards v.sets v.seen.next v.seen out.seen s h asks.2.asks)
-reads_hand_over shards pass v of is call out asks = tt
 
 -- what the reply makes of it, in its own words
 gives_to : (shards : ℕ) (v out : ReadFlowValue) (awaited : ReadAwaited) (reply : Reply) (after : ReadView) → v.shards ≡ shards → out ≡ record v { seen = out.seen; next_name = None } → out.seen.awaited ≡ Some awaited

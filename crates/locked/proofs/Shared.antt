@@ -29,8 +29,8 @@ use Rattle.flights.specs.contracts.launch.LaunchLog as LaunchLog
 use Rattle.flights.specs.contracts.coordinator_cell.CoordinatorCell as CoordinatorCell
 use Rattle.locked.specs.contracts.caller.Caller as Caller
 use Rattle.locked.specs.contracts.store.Store as Store
-use Rattle.locked.proofs.Crosses.{log_place_send}
-use Rattle.locked.proofs.Looked.{cell_sync}
+use Rattle.locked.proofs.Crosses.{entry as entry_send, log_place_send, tuple as tuple_send}
+use Rattle.locked.proofs.Looked.{cell_sync, entry as entry_sync, tuple as tuple_sync}
 
 -- at the heap, since a search finds no allocator's ghost members in a row
 list_send : (T : RattleType) → IsSend T → IsSend (Nodes.the_row T Heap.the_row ghosts)
@@ -44,18 +44,6 @@ lease_sync T = lease.the_sync T Heap.the_row ghosts heap_send frees
 
 pub lease_send : (T : RattleType) → IsSend (SendLease.the_row T Heap.the_row ghosts)
 lease_send T = lease.the_send T Heap.the_row ghosts heap_send frees
-
-tuple_send : IsSend Tuple.the_row
-tuple_send = search (sendable, crosses, maps_cross, sets_cross) depth 400 fits 50000
-
-tuple_sync : IsSync Tuple.the_row
-tuple_sync = search (sendable, crosses, maps_cross, sets_cross) depth 400 fits 50000
-
-entry_send : IsSend Entry.the_row
-entry_send = let a = tuple_send in search (sendable, crosses, maps_cross, sets_cross) depth 400 fits 50000
-
-entry_sync : IsSync Entry.the_row
-entry_sync = let a = tuple_sync in search (sendable, crosses, maps_cross, sets_cross) depth 400 fits 50000
 
 change_send : IsSend Change.the_row
 change_send = let a = tuple_send in search (sendable, crosses, maps_cross, sets_cross) depth 400 fits 50000
@@ -125,26 +113,14 @@ launch_send = let a = record_send in search (list_send, sendable, crosses, maps_
 launch_sync : IsSync Launch.the_row
 launch_sync = let a = record_sync in let b = record_send in search (list_sync, sendable, crosses, maps_cross, sets_cross) depth 400 fits 50000
 
-words_sync : IsSync (Published.the_row Entry.the_row)
-words_sync = let a = entry_send in let b = entry_sync in search (lease_sync, shared.the_sync, sendable, crosses, maps_cross, sets_cross) depth 400 fits 50000
-
-launches_sync : IsSync (Published.the_row Launch.the_row)
-launches_sync = let a = launch_send in let b = launch_sync in search (lease_sync, shared.the_sync, sendable, crosses, maps_cross, sets_cross) depth 400 fits 50000
-
 attempt_send : IsSend Attempt.the_row
 attempt_send = let a = entry_send in search (sendable, crosses, maps_cross, sets_cross) depth 400 fits 50000
 
 attempt_sync : IsSync Attempt.the_row
 attempt_sync = let a = entry_sync in search (sendable, crosses, maps_cross, sets_cross) depth 400 fits 50000
 
-attempts_sync : IsSync (Published.the_row Attempt.the_row)
-attempts_sync = let a = attempt_send in let b = attempt_sync in search (lease_sync, shared.the_sync, sendable, crosses, maps_cross, sets_cross) depth 400 fits 50000
-
 launch_log_send : (B : RattleType) (h : Room.Ghosts B.Denot) → IsSend B → IsSend (LaunchLog.the_row B h)
 launch_log_send B h b = let a = launch_send in search (sendable, crosses, maps_cross, sets_cross, seat.the_send) depth 400 fits 50000
-
-log_cell_sync : (D B : RattleType) (g : Device.Ghosts D.Denot) (h : Room.Ghosts B.Denot) → IsSend D → IsSend B → IsSync (CoordinatorCell.the_row D B g h)
-log_cell_sync D B g h d b = let p = log_place_send D B g h d b in search (sendable, crosses, maps_cross, sets_cross) depth 400 fits 50000
 
 pub store_sync : (D B G : RattleType) (g : Device.Ghosts D.Denot) (h : Room.Ghosts B.Denot) → IsSend D → IsSync D → IsSend B → IsSync B → IsSync G → IsSync (Store.the_row D B G g h)
 store_sync D B G g h d e b c y =

@@ -1,6 +1,6 @@
 -- A watch of a shared store goes on to hold what is of the list, turn by turn.
 use Rattle.std.proofs.Common.{◌≡◌, ◌≤◌, ℕ, List, Bool, true, false, length, Option, Some, None, Ok, is_some, refl, MatchOption, sym, ◌∙◌, ap, subst, arith}
-use Rattle.locked.proofs.Words.{Coordinator, Entry, exact, from_coordinator, HandsWhatIsSeen, HasReason, IsWatchOf, Known, max_watched, NodeCall, Reply, Shard, Turns, WatchFlowValue, WatchHasReason}
+use Rattle.locked.proofs.Words.{Coordinator, Entry, exact, from_coordinator, HasReason, IsWatchOf, Known, max_watched, NodeCall, Reply, Turns, WatchFlowValue, WatchHasReason}
 use Rattle.calls.specs.declared.call.CoordinatorCall.TheVariants.{Batch, Heads}
 use Rattle.calls.specs.declared.call.ShardCall.TheVariants as shard_calls
 use Rattle.calls.specs.declared.reply.CoordinatorReply.TheVariants as told
@@ -16,12 +16,6 @@ use Rattle.locked.specs.Answering.{WatchEnds, WatchRefuses}
 pub not_ended : (ended : Option WatchEnding) (awaited : Option WatchCall) (next : WatchCall) → is_some (name_unless ended awaited next) ≡ true → ended ≡ None
 not_ended None awaited next some = refl
 not_ended (Some end) awaited next some = absurd (let bad : false ≡ true = some in cc)
-
--- a watch calls no shard
-pub watches_hand_over : (pass : Known Entry) (v : WatchFlowValue) → HandsWhatIsSeen AsksWatch pass v
-watches_hand_over pass v (Shard s (shard_calls.Learn b)) out asks = absurd asks.2.asks
-watches_hand_over pass v (Shard s (shard_calls.Collect h)) out asks = absurd asks.2.asks
-watches_hand_over pass v call out asks = tt
 
 -- what a watch is told that had seen more, it is told that had seen less
 tells_before : (before seen : ℕ) (call : NodeCall) (reply : Reply) → before ≤ seen → TellsWatcher seen call reply → TellsWatcher before call reply

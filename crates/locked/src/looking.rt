@@ -68,7 +68,7 @@ impl<D: Device, B: Room, G: Gate> Store<D, B, G> {
         ensures all { OnOk result (vec_len places.new ≡ vec_len places.old + B.shards) }
         ensures refused { IfErr result (λ e. HasTold told.new e ⊎ (e ≡ AnyRefusal.NoMemory)) }
     {
-        for shard in 0..self.count {
+        for shard in 0..self.count.count() {
             let place = self.learned(rt, caller, told, shard)?;
             places.reserve(1)?;
             places.push_reserved(place);

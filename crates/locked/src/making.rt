@@ -139,7 +139,8 @@ impl<D: Device, B: Room, G: Gate> Store<D, B, G> {
         ensures serves { Serves B.rests B.shards pass.old pass.new (of_shard shard call) result }
         ensures told { Notices B.shards told.old (of_shard shard call) result told.new }
     {
-        if shard >= self.count {
+        let count = self.count.count();
+        if shard >= count {
             return refuse(Refusal::Damaged, NodeCall::Shard(shard, call));
         }
         if call.is_read() {

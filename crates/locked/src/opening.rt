@@ -1,7 +1,6 @@
 // A store is opened.
 ghost use Rattle.std.specs.Prelude.{◌≡◌, ◌≤◌, ◌<◌, ◌+◌, ◌*◌, ◌∷◌, [], All, IfErr, IfOk};
 ghost use Rattle.std.specs.Vec.{vec_len};
-ghost use Rattle.records.specs.Identity.{max_shards};
 ghost use mathlib.Core.List.{IsPrefix};
 ghost use Rattle.locked.specs.Opening.{HasFound, RefusesCoordinator, RefusesStore, RestAt, ShardsRest};
 
@@ -19,7 +18,7 @@ use std::marker::PhantomData;
 use std::sync::Mutex;
 use std::sync::atomic::AtomicBool;
 use std::thread::{self, Threads};
-use tuples::{Entry, Refusal};
+use tuples::{Entry, Refusal, Shards};
 
 // The two devices of the next node.
 fn take_two<D>(devices: &mut Vec<D>) -> (D, D)
@@ -39,12 +38,10 @@ struct Ground<'a, B: Room> {
     words: &'a Published<Entry>,
     launches: &'a Published<Launch>,
     store: u64,
-    shards: u8,
+    shards: Shards,
     room: PhantomData<B>,
     ghost own: { (words.now ≡ B.log) × (launches.now ≡ B.launches) },
     ghost of: { (store ≡ B.store) × (shards ≡ B.shards) },
-    ghost some: { 1 ≤ shards },
-    ghost few: { shards ≤ max_shards },
 }
 
 // The coordinator over the first two devices.
@@ -132,8 +129,8 @@ fn closed_shards<D: Device, B: Room>(
     requires list { B.rests → IsPrefix B.first coordinator.old.seen × (B.low ≤ coordinator.old.low) }
     ensures all { IfOk result (λ closed. vec_len closed ≡ B.shards) }
 {
-    let mut closed = Vec::with_capacity(ground.alloc, ground.shards as usize)?;
-    for shard in 0..ground.shards {
+    let mut closed = Vec::with_capacity(ground.alloc, usize::from(ground.shards.count()))?;
+    for shard in 0..ground.shards.count() {
         let room = BatchRoom::new(ground.alloc)?;
         closed.push_reserved(next_shard(ground, launch_log, coordinator, shard, devices, room));
     }
@@ -232,7 +229,7 @@ impl<D: Device, B: Room, G: Gate> Store<D, B, G> {
         parts: Parts,
         mut devices: Vec<D>,
         store: u64,
-        shards: u8,
+        shards: Shards,
     ) -> Result<(Store<D, B, G>, Caller<B>), Refusal>
     where
         D: Send,
@@ -242,8 +239,6 @@ impl<D: Device, B: Room, G: Gate> Store<D, B, G> {
         requires tried { parts.attempts ≡ B.attempts }
         requires flights { parts.launches ≡ B.launches }
         requires of { (store ≡ B.store) × (shards ≡ B.shards) }
-        requires some { 1 ≤ shards }
-        requires few { shards ≤ max_shards }
         requires count { vec_len devices ≡ 2 * (shards + 1) }
         requires honest { All D.honest devices.items }
         requires rests { B.rests → RestAt D.state D.honest B.shards B.first B.low devices.items }

@@ -70,7 +70,7 @@ impl<D: Device, B: Room, G: Gate> Store<D, B, G> {
             return limits;
         }
         limits.coordinator = limit_behind(self.bank_len(rt, NodeName::Coordinator));
-        for shard in 0..self.count {
+        for shard in 0..self.count.count() {
             limits.shards[shard as usize] = limit_behind(self.bank_len(rt, NodeName::Shard(shard)));
         }
         limits
@@ -109,7 +109,7 @@ impl<D: Device, B: Room, G: Gate> Store<D, B, G> {
     )
         ensures caller { IsLater caller.old caller.new }
     {
-        for shard in 0..self.count {
+        for shard in 0..self.count.count() {
             let at = shard as usize;
             limits[at] = self.shorten(rt, alloc, caller, NodeName::Shard(shard), limits[at]);
         }

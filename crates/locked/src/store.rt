@@ -1,7 +1,6 @@
 // The store: its words, and each node under a lock of its own.
 ghost use Rattle.std.specs.Prelude.{◌≡◌, ◌≤◌, ◌<◌, length, vec_len};
 ghost use Rattle.std.specs.Sync.RwLock.{read_guard_value, write_guard_value};
-ghost use Rattle.records.specs.Identity.{max_shards};
 ghost use Rattle.flights.specs.Places.{number_at};
 ghost use Rattle.sides.specs.Sides.{IsLater};
 ghost use Rattle.locked.specs.Serving.{KnowsOf};
@@ -15,7 +14,7 @@ use sides::{Attempt, Room};
 use std::alloc::Global;
 use std::sync::atomic::AtomicBool;
 use std::sync::{Mutex, RwLockReadGuard, RwLockWriteGuard, Wait};
-use tuples::{Entry, Refusal};
+use tuples::{Entry, Refusal, Shards};
 
 /// A store that callers share.
 #[derive(Drop)]
@@ -33,22 +32,18 @@ pub struct Store<D: Device, B: Room, G: Gate> {
     pub(crate) launch_log: Mutex<LaunchLog<B>>,
     // the shard of each number, in their order
     pub(crate) shards: Vec<ShardCell<D, B>>,
-    pub(crate) count: u8,
+    pub(crate) count: Shards,
     ghost own: { words ≡ B.log },
     ghost tried: { attempts ≡ B.attempts },
     ghost flights: { launches ≡ B.launches },
     ghost of: { count ≡ B.shards },
     ghost all: { vec_len shards ≡ count },
-    ghost some: { 1 ≤ count },
-    ghost few: { count ≤ max_shards },
 }
 
 impl<D: Device, B: Room, G: Gate> Store<D, B, G> {
     /// How many shards it has.
-    pub fn shards(&self) -> u8
-        ensures of { result ≡ B.shards }
-        ensures some { 1 ≤ result }
-        ensures few { result ≤ max_shards }
+    pub fn shards(&self) -> Shards
+        ensures { result ≡ B.shards }
     {
         self.count
     }

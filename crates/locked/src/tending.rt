@@ -55,7 +55,7 @@ impl<D: Device, B: Room, G: Gate> Store<D, B, G> {
     fn settle_all<R: Wait>(&self, rt: &R, alloc: Global, caller: &mut Caller<B>)
         ensures caller { IsLater caller.old caller.new }
     {
-        for shard in 0..self.count {
+        for shard in 0..self.count.count() {
             self.try_care(rt, alloc, caller, Care::Resolve(shard));
             self.try_care(rt, alloc, caller, Care::Learn(shard));
         }
@@ -65,7 +65,7 @@ impl<D: Device, B: Room, G: Gate> Store<D, B, G> {
     fn collect_all<R: Wait>(&self, rt: &R, alloc: Global, caller: &mut Caller<B>)
         ensures caller { IsLater caller.old caller.new }
     {
-        for shard in 0..self.count {
+        for shard in 0..self.count.count() {
             self.try_care(rt, alloc, caller, Care::Collect(shard));
         }
     }
@@ -111,7 +111,7 @@ impl<D: Device, B: Room, G: Gate> Store<D, B, G> {
         ensures caller { IsLater caller.old caller.new }
     {
         self.flush(rt, alloc, caller, NodeName::Coordinator, notice);
-        for shard in 0..self.count {
+        for shard in 0..self.count.count() {
             self.flush(rt, alloc, caller, NodeName::Shard(shard), notice);
         }
     }

@@ -4,8 +4,9 @@ use Rattle.std.specs.List.{AllByRecursion}
 use Rattle.std.specs.List.Sorted.{IsPermutation, IsSorted}
 use Rattle.std.proofs.lemmas.Bool.{cases_Bool}
 use Rattle.std.proofs.lemmas.List.Sorted.{IsPermutation-append, IsPermutation-cons, IsPermutation-middle, IsPermutation-refl, IsPermutation-trans}
-use Rattle.replay.proofs.Doubting.{each_filter, each_weaker}
+use Rattle.replay.proofs.Doubting.{each_filter}
 use Rattle.tuples.specs.declared.version.Version.{Version}
+use Rattle.tuples.proofs.Lists.{each_weaker}
 use Rattle.versions.specs.Rows.{version_cmp}
 use Rattle.versions.proofs.Listed.{version_ranks}
 use Rattle.merging.specs.Merging.{all_of, into, is_below, merge, merged}

@@ -1,8 +1,8 @@
 -- The versions that are a node's, of one memory after another.
-use Rattle.std.proofs.Common.{◌≡◌, ◌≤◌, ◌<◌, ◌+◌, ◌++◌, ℕ, List, [], ◌∷◌, Bor, map, take, length, get_or, sym, ◌∙◌, ap, arith}
+use Rattle.std.proofs.Common.{◌≡◌, ◌≤◌, ℕ, List, Bor, map, take, length, ◌∙◌, ap}
 use Rattle.std.specs.Global.{Vec}
 use Rattle.std.specs.Vec.{vec_capacity, vec_len}
-use Rattle.std.proofs.lemmas.List.{map-append, take_all, take_more}
+use Rattle.std.proofs.lemmas.List.{take_all}
 use Rattle.std.specs.List.{AllByRecursion}
 use Rattle.std.specs.List.Sorted.{IsSorted}
 use Rattle.records.specs.Identity.{Identity}
@@ -22,21 +22,6 @@ pub record OwnSoFar (me : Identity) (memories : Vec (Bor ShardState)) (count : �
   pub items : owns.items ≡ own_of me (take count memories.items)
   pub len : vec_len owns ≡ count
   pub room : vec_len memories ≤ vec_capacity owns
-
-pub none_own : (me : Identity) (memories : Vec (Bor ShardState)) (owns : Vec (List Version)) → owns.items ≡ [] → vec_len owns ≡ 0 → vec_len memories ≤ vec_capacity owns → OwnSoFar me memories 0 owns
-none_own me memories owns none len room = record { items = none; len = len; room = room }
-
-pub one_more_own : (me : Identity) (memories : Vec (Bor ShardState)) (i : ℕ) (m : Bor ShardState) (owns new : Vec (List Version)) (own : List Version) → OwnSoFar me memories i owns → i < length memories.items
-    → m ≡ get_or memories.items i m → own ≡ of_shard me.shards me.node m.now.rows → new.items ≡ owns.items ++ own ∷ [] → vec_len new ≡ vec_len owns + 1 → vec_capacity new ≡ vec_capacity owns → OwnSoFar me memories (i + 1) new
-one_more_own me memories i m owns new own before lt is own_is items len room = record {
-  items = items
-      ∙ ap (λ (l : List (List Version)). l ++ own ∷ []) before.items
-      ∙ ap (λ (o : List Version). own_of me (take i memories.items) ++ o ∷ []) (own_is ∙ ap (λ (x : Bor ShardState). of_shard me.shards me.node x.now.rows) is)
-      ∙ sym (ap (map (of_shard me.shards me.node)) (map-append _ (take i memories.items) (get_or memories.items i m ∷ [])) ∙ map-append _ (lists_of (take i memories.items)) (lists_of (get_or memories.items i m ∷ [])))
-      ∙ ap (own_of me) (sym (take_more memories.items i m lt));
-  len = (let a = before.len in omega (arith, a, len));
-  room = (let a = before.room in omega (arith, a, room));
-}
 
 pub all_own : (me : Identity) (memories : Vec (Bor ShardState)) (count : ℕ) (owns : Vec (List Version)) → OwnSoFar me memories count owns → length memories.items ≤ count → AllByRecursion (IsSorted version_cmp) (lists_of memories.items)
     → merged owns.items ≡ of_shard me.shards me.node (merged (lists_of memories.items))

@@ -1,10 +1,9 @@
 -- The list that the merged one begins with, found from the last one on.
-use Rattle.std.proofs.Common.{◌≡◌, ◌≤◌, ◌<◌, ◌+◌, ◌-◌, ℕ, zero, suc, true, true≢false, false, List, [], ◌∷◌, get_or, set, drop, length, Option, None, Some, MatchOption, refl, sym, ◌∙◌, ap, subst, arith}
-use Rattle.std.proofs.lemmas.List.{drop_more, get_or_default, get_or_past, get_or-drop}
+use Rattle.std.proofs.Common.{◌≡◌, ◌≤◌, ◌<◌, ◌+◌, ◌-◌, ℕ, suc, true, true≢false, false, List, [], ◌∷◌, get_or, set, drop, length, refl, sym, ◌∙◌, ap, subst, arith}
+use Rattle.std.proofs.lemmas.List.{drop_more, get_or-drop}
 use Rattle.tuples.specs.declared.version.Version.{Version}
-use Rattle.merging.specs.Merging.{is_lower, merge, merged, version_at}
+use Rattle.merging.specs.Merging.{is_lower, merge, merged}
 use Rattle.merging.specs.Picking.{BeginsWith, Picks}
-use Rattle.merging.specs.declared.own.Head.{Head}
 
 -- one list more, before those of which one was picked
 module _ (w : List Version) (ws : List (List Version)) (i : ℕ) where
@@ -38,20 +37,6 @@ pub record PicksFrom (lists : List (List Version)) (index least : ℕ) : Type 0 
   pub within : index ≤ length lists
   pub behind : index ≤ least
   pub picks : Picks (drop index lists) (least - index)
-
-nothing_behind : (n : ℕ) (lists : List (List Version)) → length lists ≤ n → drop n lists ≡ []
-nothing_behind zero [] past = refl
-nothing_behind (suc n) [] past = refl
-nothing_behind zero (l ∷ lists) past = absurd (omega (arith, past))
-nothing_behind (suc n) (l ∷ lists) past = nothing_behind n lists (omega (arith, past))
-
-pub picks_none : (lists : List (List Version)) (n : ℕ) → n ≡ length lists → PicksFrom lists n n
-picks_none lists n is = record {
-  within = omega (arith, is);
-  behind = omega arith;
-  picks = subst (λ (l : List (List Version)). Picks l (n - n)) (sym (nothing_behind n lists (omega (arith, is))))
-      (subst (BeginsWith [] (n - n)) (sym (get_or_past [] (n - n) [] (omega arith))) refl);
-}
 
 module _ (lists : List (List Version)) (index least : ℕ) (before : PicksFrom lists index least) (some : 0 < index) where
   abbrev here : List Version
@@ -90,22 +75,4 @@ module _ (lists : List (List Version)) (index least : ℕ) (before : PicksFrom l
         (pick_goes here (drop index lists) (least - index) before.picks (subst (λ (l : List Version). is_lower l here ≡ false) (sym there) not)));
   }
 
-pub picks_all : (lists : List (List Version)) (index least : ℕ) → PicksFrom lists index least → index ≡ 0 → Picks lists least
-picks_all lists index least before none =
-    let at : Picks (drop index lists) (least - index) = before.picks in
-    let end : least - index ≡ least = omega (arith, none) in
-    subst (Picks lists) end (subst (λ (n : ℕ). Picks (drop n lists) (least - index)) none at)
-
 -- ---- the next one is told
-
-pub told_next : (lists : List (List Version)) (i : ℕ) (l new : List Version) (h : Option Head) → Picks lists i → i < length lists → l ≡ get_or lists i l → MatchOption h ((l ≡ []) × (new ≡ [])) (λ x. l ≡ version_at x ∷ new)
-    → MatchOption h (merged lists ≡ []) (λ x. merged lists ≡ version_at x ∷ merged (set lists i new))
-told_next lists i l new h picks lt is told =
-    by h l told (subst (BeginsWith lists i) (get_or_default lists i [] l lt ∙ sym is) picks)
-  where
-    by : (h : Option Head) (l : List Version) → MatchOption h ((l ≡ []) × (new ≡ [])) (λ x. l ≡ version_at x ∷ new) → BeginsWith lists i l → MatchOption h (merged lists ≡ []) (λ x. merged lists ≡ version_at x ∷ merged (set lists i new))
-    by None l none begins = subst (BeginsWith lists i) none.0 begins
-    by (Some x) l some begins = subst (BeginsWith lists i) some begins
-
-pub told_none : (lists : List (List Version)) (i : ℕ) → Picks lists i → length lists ≤ i → merged lists ≡ []
-told_none lists i picks past = subst (BeginsWith lists i) (get_or_past lists i [] past) picks

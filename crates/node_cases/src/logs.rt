@@ -12,7 +12,7 @@ use journal::Journal;
 use records::{COORDINATOR, Identity, PlacedIds, Record};
 use shard::Shard;
 use std::alloc::Global;
-use tuples::{Entry, Refusal, WriteId};
+use tuples::{Entry, Refusal, Shards, WriteId};
 
 /// A journal over two of the devices.
 fn journal<D: Device>(alloc: Global, devices: &mut Vec<D>) -> Result<Journal<D>, Refusal> {
@@ -161,7 +161,7 @@ pub(crate) fn coordinator_with<D: Device>(
     let mut journal = opened_once(alloc, devices, COORDINATOR)?;
     let kept = keep(alloc, &mut journal, decisions, horizon);
     let (a, b) = devices_behind(journal, kept)?;
-    open_coordinator(alloc, a, b, Identity::coordinator(STORE, 1))
+    open_coordinator(alloc, a, b, Identity::coordinator(STORE, Shards::of(1)))
 }
 
 /// Stages that all up to a place is learned, without a part of the shard, and flushes.
@@ -180,5 +180,5 @@ pub(crate) fn shard_with<D: Device>(
     let mut journal = opened_once(alloc, devices, 0)?;
     let learned = learn(alloc, &mut journal, to);
     let (a, b) = devices_behind(journal, learned)?;
-    open_shard(alloc, a, b, Identity::shard(STORE, 1, 0))
+    open_shard(alloc, a, b, Identity::shard(STORE, Shards::of(1), 0))
 }

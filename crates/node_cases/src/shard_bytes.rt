@@ -3,7 +3,7 @@ use crate::stores::{new_disks, open_shard, two_of};
 use device::{Device, SimDisk};
 use records::Identity;
 use std::alloc::Global;
-use tuples::Refusal;
+use tuples::{Refusal, Shards};
 
 /// What shard 1 of 2 of store 1 has on its first device after its first opening, in the version that was written first.
 const OPENED: [u8; 28] = [
@@ -35,7 +35,7 @@ fn opened_over<D: Device>(alloc: Global, (mut a, b): (D, D), bytes: &[u8]) -> Re
     if a.write_at(0, bytes).is_err() {
         return Err(Refusal::Down);
     }
-    let shard = open_shard(alloc, a, b, Identity::shard(1, 2, 1))?;
+    let shard = open_shard(alloc, a, b, Identity::shard(1, Shards::of(2), 1))?;
     let (a, b) = shard.into_devices();
     drop(b);
     Ok(a)

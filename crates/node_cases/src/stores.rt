@@ -8,7 +8,7 @@ use device::{Device, SimDisk};
 use records::Identity;
 use shard::Shard;
 use std::alloc::{AllocError, Global};
-use tuples::Refusal;
+use tuples::{Refusal, Shards};
 
 /// The number of each store.
 pub(crate) const STORE: u64 = 1;
@@ -93,7 +93,7 @@ pub(crate) fn open_only_shard<D: Device>(
     devices: &mut Vec<D>,
 ) -> Result<Shard<D>, Refusal> {
     let (a, b) = two_of(devices)?;
-    open_shard(alloc, a, b, Identity::shard(STORE, 1, 0))
+    open_shard(alloc, a, b, Identity::shard(STORE, Shards::of(1), 0))
 }
 
 /// Raises the horizon of a coordinator; none where the values don't settle the place at each shard of its store.

@@ -4,6 +4,7 @@ ghost use Rattle.node_files.specs.Devices.{IsFound};
 
 use files::{FileDevice, HostFile, open};
 use refusal::Refusal;
+use tuples::Shards;
 
 // Opens the file of a bank of a node, behind the others.
 fn open_next(
@@ -55,7 +56,7 @@ fn open_shard(
 fn fill(
     rt: &HostRuntime,
     folder: &str,
-    shards: u8,
+    shards: Shards,
     devices: &mut Vec<FileDevice<HostFile>>,
 ) -> Result<(), Refusal>
     requires { vec_len devices.old ≡ 0 }
@@ -63,7 +64,7 @@ fn fill(
     ensures found { All (λ d. IsFound d.history.events d.is_stopped d.failures) devices.old.items → OnOk result (All (λ d. IsFound d.history.events d.is_stopped d.failures) devices.new.items) }
 {
     open_two(rt, folder, "c", devices)?;
-    for shard in 0..shards {
+    for shard in 0..shards.count() {
         open_shard(rt, folder, shard, devices)?;
     }
     Ok(())
@@ -77,7 +78,7 @@ fn fill(
 pub fn open_all(
     rt: &HostRuntime,
     folder: &str,
-    shards: u8,
+    shards: Shards,
 ) -> Result<Vec<FileDevice<HostFile>>, Refusal>
     ensures count { IfOk result (λ devices. vec_len devices ≡ 2 * (shards + 1)) }
     ensures found { IfOk result (λ devices. All (λ d. IsFound d.history.events d.is_stopped d.failures) devices.items) }

@@ -1,6 +1,7 @@
 -- Each step keeps the rule.
-use Rattle.std.proofs.Common.{◌≡◌, ◌≢◌, ℕ, zero, suc, ◌+◌, ◌≤◌, List, [], ◌∷◌, ◌++◌, length, set, max, true, false, true≢false, refl, sym, ap, ◌∙◌, subst, ⊎_elim, arith, length-append}
+use Rattle.std.proofs.Common.{◌≡◌, ◌≢◌, ℕ, zero, suc, ◌+◌, ◌≤◌, List, [], ◌∷◌, ◌++◌, length, set, max, true, false, refl, sym, ap, ◌∙◌, subst, ⊎_elim, arith, length-append}
 use Rattle.std.proofs.lemmas.List.{append-nil}
+use Rattle.std.proofs.lemmas.Bool.{false≢true}
 use Rattle.std.specs.Prelude.{slice_index, slice_set}
 use mathlib.Core.Option.{none, some, some-ne-none, some-injective}
 use lib.ListN.{get_elem?}
@@ -10,9 +11,6 @@ use Rattle.published.specs.declared.rule.View.{View}
 use Rattle.published.specs.OneList.{leader, opener, Fits, Kept}
 use Rattle.published.specs.Tells.{note, nobody, told_of, LoadedPlace, LoadedHorizon, Advanced, Raised}
 use Rattle.published.proofs.Prefixes.{prefix_self, prefix_trans, prefix_more}
-
-not_leading : false ≡ true → ⊥
-not_leading e = true≢false (sym e)
 
 module _ {W : Type 0} where
   pub begins : Kept (opening {S = Unit {0}} (0 ∷ 0 ∷ []) [] (opener {W = W}))
@@ -174,7 +172,7 @@ module _ {W : Type 0} where
         below = k.below;
         passes = λ j u e. ⊎_elim
             (λ was. k.passes j u (subst (λ l. get_elem? l j ≡ some u) (set_again s.views id v at) was))
-            (λ (same : note v ≡ u). subst (Fits k.list k.horizon k.log_seat j) same record { seen = f.seen; told = (k.list, refl); known = f.known; told_known = omega arith; first = λ l. absurd (not_leading l) })
+            (λ (same : note v ≡ u). subst (Fits k.list k.horizon k.log_seat j) same record { seen = f.seen; told = (k.list, refl); known = f.known; told_known = omega arith; first = λ l. absurd (false≢true l) })
             (at_snoc (set s.views id v) (note v) u j e);
       }
 
@@ -193,5 +191,5 @@ module _ {W : Type 0} where
         passes = fits_set k.list k.horizon k.log_seat (set s.views id w) other nobody
             (λ j x _ e. fits_set k.list k.horizon k.log_seat s.views id w (λ i y _ e'. k.passes i y e')
             record { seen = f.seen; told = theirs.seen; known = f.known; told_known = theirs.known; first = f.first } j x e)
-            record { seen = (k.list, refl); told = (k.list, refl); known = omega arith; told_known = omega arith; first = λ l. absurd (not_leading l) };
+            record { seen = (k.list, refl); told = (k.list, refl); known = omega arith; told_known = omega arith; first = λ l. absurd (false≢true l) };
       }

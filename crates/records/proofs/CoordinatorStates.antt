@@ -9,6 +9,7 @@ use Rattle.records.specs.Coordinators.{BeginsCoordinatorImage, CoordinatorState,
 use Rattle.records.specs.Inside.{MayBegin, begun_by, inside_of, inside_step}
 use Rattle.records.specs.Replays.{Identity}
 use Rattle.records.proofs.Insides.{UnlessMark, begin_is_mark, end_is_mark, inside_push, unless_mark}
+use Rattle.tuples.proofs.Lists.{cut_last, no_element}
 
 pub coordinator_from-append : (s : CoordinatorState) (rs more : List Record) → coordinator_from s (rs ++ more) ≡ coordinator_from (coordinator_from s rs) more
 coordinator_from-append s [] more = refl
@@ -17,23 +18,6 @@ coordinator_from-append s (r ∷ rs) more = coordinator_from-append (coordinator
 pub coordinator_push : (rs : List Record) (r : Record) → coordinator_state (rs ++ r ∷ []) ≡ coordinator_step (coordinator_state rs) r
 unfolding coordinator_state
 coordinator_push rs r = coordinator_from-append empty_coordinator rs (r ∷ [])
-
-pub no_element : {X : Type 0} (before after : List X) (x : X) → [] ≡ before ++ x ∷ after → ⊥
-no_element [] after x is = absurd cc
-no_element (y ∷ before) after x is = absurd cc
-
--- an element of a longer list is the new one, or one of the old
-pub cut_last : {X : Type 0} (rs before after : List X) (r x : X) → rs ++ r ∷ [] ≡ before ++ x ∷ after → ((rs ≡ before) × (r ≡ x)) ⊎ ((more : List X) × (rs ≡ before ++ x ∷ more))
-cut_last [] [] after r x is = inl (refl, cc)
-cut_last [] (b ∷ before) after r x is = absurd (no_element before after x cc)
-cut_last (y ∷ rs) [] after r x is = inr (rs, cc)
-cut_last (y ∷ rs) (b ∷ before) after r x is =
-    let first : y ≡ b = cc in
-    let rest : rs ++ r ∷ [] ≡ before ++ x ∷ after = cc in
-    ⊎_elim
-    (λ new. inl (cc, new.1))
-    (λ old. let whole = old.1 in inr (old.0, cc))
-    (cut_last rs before after r x rest)
 
 pub coordinator_empty : (me : Identity) → IsCoordinatorImage me []
 unfolding inside_of
@@ -96,3 +80,7 @@ module _ (me : Identity) (P : CoordinatorState → Type 0)
       let whole : (before ++ r ∷ []) ++ rs ≡ before ++ r ∷ rs = append_assoc before (r ∷ []) rs in
       let one : P (coordinator_state (before ++ r ∷ [])) = subst P (sym (coordinator_push before r)) (kept_by (inside_of before) (coordinator_state before) r p (image before rs r refl)) in
       subst (λ (l : List Record). P (coordinator_state l)) whole (coordinator_keeps (before ++ r ∷ []) rs (subst (BeginsCoordinatorImage me) (sym whole) image) one)
+
+pub state_of_more : (rs more : List Record) → coordinator_state (rs ++ more) ≡ coordinator_from (coordinator_state rs) more
+unfolding coordinator_state
+state_of_more rs more = coordinator_from-append empty_coordinator rs more

@@ -1,7 +1,7 @@
 -- The last change of a tuple, and whether it is there, by the last writes of a log alone.
 use Rattle.std.proofs.Common.{◌≡◌, ◌⊎◌, ⊎_elim, ℕ, Bool, true, false, ◌+◌, ◌||◌, List, [], ◌∷◌, ◌++◌, length, refl, sym, ◌∙◌, ap, arith, cond}
 use Rattle.std.specs.List.{flat_map, list_any}
-use Rattle.std.proofs.lemmas.Bool.{or_cases}
+use Rattle.std.proofs.lemmas.Bool.{or_cases, or_left, or_right}
 use Rattle.std.proofs.lemmas.Grind.{flat_map-append}
 use Rattle.std.proofs.lemmas.List.{map-append, take_all}
 use Rattle.std.proofs.lemmas.List.Folds.{list_any-append}
@@ -22,13 +22,6 @@ there_both t b (Delete u ∷ xs) ys = there_both t (cond (tuple_eq t u) false b)
 pub there_last : (t : Tuple) (log : List Entry) → is_at log (length log) t ≡ there_after t false (flat_map (λ (w : Entry). w.changes) log)
 unfolding is_at
 there_last t log = ap (λ (l : List Entry). there_after t false (flat_map (λ (w : Entry). w.changes) l)) (take_all (length log) log (omega arith))
-
-pub or_left : (a b : Bool) → a ≡ true → (a || b) ≡ true
-or_left a b is = rw is refl
-
-pub or_right : (a b : Bool) → b ≡ true → (a || b) ≡ true
-or_right true b is = refl
-or_right false b is = is
 
 -- what changes that name a tuple leave does not hang on what was there before
 pub there_changed : (t : Tuple) (a b : Bool) (changes : List Change) → has_tuple t (changed changes) ≡ true → there_after t a changes ≡ there_after t b changes

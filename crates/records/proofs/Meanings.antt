@@ -1,11 +1,11 @@
 -- What the tests of a reader mean.
-use Rattle.std.proofs.Common.{◌≡◌, ℕ, Bool, true, false, not, ◌&&◌, leb, ltb, List, [], ◌∷◌, length, ◌↔◌, IsTrue, refl}
+use Rattle.std.proofs.Common.{◌≡◌, ℕ, Bool, true, not, ◌&&◌, leb, ltb, List, [], ◌∷◌, length, ◌↔◌, IsTrue, refl}
 use Rattle.std.specs.List.{list_all}
-use Rattle.std.proofs.lemmas.Bool.{leb-true, le-leb, ltb-true, lt-ltb, and_parts, and_from, not-true}
+use Rattle.std.proofs.lemmas.Bool.{leb-true, le-leb, ltb-true, lt-ltb, and_parts, and_from, not-true, not_from_false}
 use Rattle.tuples.specs.declared.tuple.Tuple.{Tuple}
 use Rattle.tuples.specs.Changes.{AreDistinct, has_tuple}
 use Rattle.tuples.specs.Names.{IsId, IsName, is_id_byte, is_name_byte}
-use Rattle.tuples.proofs.Ordered.{same_tests}
+use Rattle.tuples.proofs.Options.{same_tests}
 use Rattle.records.specs.declared.record.PlacedId.{PlacedId}
 use Rattle.records.specs.Format.{AreRisingTo}
 use Rattle.records.specs.Reading.{are_distinct, are_rising_to, is_id, is_name}
@@ -34,13 +34,9 @@ distinct_of_test (t ∷ ts) h =
     let p = and_parts (not (has_tuple t ts)) (are_distinct ts) h in
     (not-true _ p.0, distinct_of_test ts p.1)
 
-not_of_false : (b : Bool) → b ≡ false → not b ≡ true
-not_of_false true e = absurd cc
-not_of_false false e = refl
-
 pub test_of_distinct : (ts : List Tuple) → AreDistinct ts → are_distinct ts ≡ true
 test_of_distinct [] h = refl
-test_of_distinct (t ∷ ts) h = and_from _ _ (not_of_false _ h.0) (test_of_distinct ts h.1)
+test_of_distinct (t ∷ ts) h = and_from _ _ (not_from_false _ h.0) (test_of_distinct ts h.1)
 
 -- the test says what the definition does
 pub distinct_is : (ts : List Tuple) (b : Bool) → (IsTrue b ↔ AreDistinct ts) → b ≡ are_distinct ts

@@ -10,6 +10,7 @@ use Rattle.tuples.specs.declared.entry.Entry.{Entry}
 use Rattle.tuples.specs.declared.entry.WriteId.{WriteId}
 use Rattle.tuples.specs.Changes.{IsPart, changed, conditioned, tuple_of}
 use Rattle.tuples.specs.Texts.{IsTuple}
+use Rattle.tuples.proofs.Lists.{each_weaker}
 use Rattle.records.specs.declared.mark.Mark.{Mark}
 use Rattle.records.specs.declared.mark.Mark.TheVariants.{Begins, Row, Ends}
 use Rattle.records.specs.declared.record.PlacedId.{PlacedId}
@@ -28,10 +29,6 @@ IsSpelled first r = IsRecord r × InFirst first (IsOfFirst r)
 
 -- ---- the conditions of a write, in either way of saying them
 
-each : {A : Type 0} (P Q : A → Type 0) → ((x : A) → P x → Q x) → (xs : List A) → AllByRecursion P xs → AllByRecursion Q xs
-each P Q h [] all = tt
-each P Q h (x ∷ xs) all = (h x all.0, each P Q h xs all.1)
-
 unmapped : {A B : Type 0} (P : B → Type 0) (f : A → B) (xs : List A) → AllByRecursion P (map f xs) → AllByRecursion (λ x. P (f x)) xs
 unmapped P f [] all = tt
 unmapped P f (x ∷ xs) all = (all.0, unmapped P f xs all.1)
@@ -41,7 +38,7 @@ in_first true = tt
 in_first false = tt
 
 all_in_first : (first : Bool) (cs : List Condition) → AllByRecursion (IsCondition first) cs → InFirst first (ArePlaces cs)
-all_in_first true cs all = each (IsCondition true) (λ c. IsPlace c.want) (λ c h. h.1.1) cs all
+all_in_first true cs all = each_weaker (IsCondition true) (λ c. IsPlace c.want) (λ c h. h.1.1) cs all
 all_in_first false cs all = tt
 
 part_of : (first : Bool) (w : Entry) → IsSpelledEntry first w → IsPart w.changes w.conditions
@@ -51,11 +48,11 @@ part_of first w h = record {
   distinct_changes = distinct_of_test _ h.changes.1;
   distinct_conditions = distinct_of_test _ h.conditions.1;
   changes_spelled = All-map IsTuple tuple_of w.changes (All-from_recursion (λ c. IsTuple (tuple_of c)) w.changes h.changes.0.1);
-  conditions_spelled = All-map IsTuple (λ (c : Condition). c.tuple) w.conditions (All-from_recursion (λ (c : Condition). IsTuple c.tuple) w.conditions (each (IsCondition first) (λ c. IsTuple c.tuple) (λ c k. k.0) w.conditions h.conditions.0.1));
+  conditions_spelled = All-map IsTuple (λ (c : Condition). c.tuple) w.conditions (All-from_recursion (λ (c : Condition). IsTuple c.tuple) w.conditions (each_weaker (IsCondition first) (λ c. IsTuple c.tuple) (λ c k. k.0) w.conditions h.conditions.0.1));
 }
 
 wants_of : (first : Bool) (w : Entry) → IsSpelledEntry first w → ConditionsFit w.conditions
-wants_of first w h = each (IsCondition first) (λ c. WantFits c.want) (λ c k. k.1.0) w.conditions h.conditions.0.1
+wants_of first w h = each_weaker (IsCondition first) (λ c. WantFits c.want) (λ c k. k.1.0) w.conditions h.conditions.0.1
 
 conditions_back : (first : Bool) (cs : List Condition) → AllByRecursion (λ (c : Condition). IsTuple c.tuple) cs → ConditionsFit cs → InFirst first (ArePlaces cs) → AllByRecursion (IsCondition first) cs
 conditions_back first [] tuples wants places = tt
@@ -92,7 +89,7 @@ unfolding learned_at
 learned_case = two_case (number_at w64) (to_be_bytes w64) Fits64 placed_ids_at placed_ids_bytes ArePlacedIds are_rising_to (λ to placed_ids. Learned to placed_ids) place_field placed_ids_field
 
 learned_fits : (first : Bool) (x : ℕ × List PlacedId) → FitsLearned x → IsSpelled first (Learned x.0 x.1)
-learned_fits first x h = (record { to_fits = h.0.0; few = h.0.1.0; ids = each IsSpelledPlacedId (λ p. IsWriteId p.id) (λ p k. k.0) x.1 h.0.1.1; places = rising_of_test _ _ h.1 }, in_first first)
+learned_fits first x h = (record { to_fits = h.0.0; few = h.0.1.0; ids = each_weaker IsSpelledPlacedId (λ p. IsWriteId p.id) (λ p k. k.0) x.1 h.0.1.1; places = rising_of_test _ _ h.1 }, in_first first)
 
 placed_ids_back : (to : ℕ) (placed_ids : List PlacedId) → Fits64 to → AreRisingTo to placed_ids → AllByRecursion (λ (p : PlacedId). IsWriteId p.id) placed_ids → AllByRecursion IsSpelledPlacedId placed_ids
 placed_ids_back to [] fits rising ids = tt

@@ -1,9 +1,9 @@
 // Which node of which store.
-ghost use Rattle.std.specs.Prelude.{◌≡◌, ◌↔◌, ◌<◌, ◌≤◌, IsTrue};
-ghost use Rattle.records.specs.Identity.{IsIdentity, coordinator_number, max_shards};
+ghost use Rattle.std.specs.Prelude.{◌≡◌, ◌↔◌, ◌<◌, IsTrue};
+ghost use Rattle.records.specs.Identity.{IsIdentity, coordinator_number};
 
 use std::marker::Model;
-use tuples::MAX_SHARDS;
+use tuples::Shards;
 
 /// The number of the coordinator among the nodes of its store.
 pub const COORDINATOR: u8 = 255;
@@ -12,7 +12,7 @@ pub const COORDINATOR: u8 = 255;
 #[derive(Clone, Copy, Debug, PartialEq, Eq)]
 pub struct Identity {
     store: u64,
-    shards: u8,
+    shards: Shards,
     node: u8,
 }
 
@@ -30,9 +30,8 @@ impl Model for Identity {
 
 impl Identity {
     /// Shard `node` of a store of so many shards.
-    pub fn shard(store: u64, shards: u8, node: u8) -> Identity
-        requires few { shards ≤ max_shards }
-        requires node { node < shards }
+    pub fn shard(store: u64, shards: Shards, node: u8) -> Identity
+        requires { node < shards }
         ensures { result ≡ record { store = store; shards = shards; node = node } }
     {
         Identity {
@@ -43,9 +42,7 @@ impl Identity {
     }
 
     /// The coordinator of a store of so many shards.
-    pub fn coordinator(store: u64, shards: u8) -> Identity
-        requires some { 1 ≤ shards }
-        requires few { shards ≤ max_shards }
+    pub fn coordinator(store: u64, shards: Shards) -> Identity
         ensures { result ≡ record { store = store; shards = shards; node = coordinator_number } }
     {
         Identity {
@@ -63,7 +60,7 @@ impl Identity {
     }
 
     /// The number of shards of the store.
-    pub fn shards(self) -> u8
+    pub fn shards(self) -> Shards
         ensures value { result ≡ self.shards }
         ensures whole { IsIdentity self }
     {
@@ -81,6 +78,6 @@ impl Identity {
     pub fn is(self, store: u64, shards: u8, node: u8) -> bool
         ensures { IsTrue result ↔ ((store ≡ self.store) × (shards ≡ self.shards) × (node ≡ self.node)) }
     {
-        store == self.store && shards == self.shards && node == self.node
+        store == self.store && shards == self.shards.count() && node == self.node
     }
 }

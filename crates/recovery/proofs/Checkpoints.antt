@@ -4,6 +4,7 @@ use Rattle.std.specs.List.{list_any}
 use Rattle.std.proofs.lemmas.List.{append-nil, length-take-le, take-append-drop}
 use Rattle.std.proofs.lemmas.List.Elements.{All-weaker}
 use Rattle.std.proofs.lemmas.List.Folds.{list_any-append}
+use Rattle.std.proofs.lemmas.Bool.{or_right}
 use Rattle.tuples.specs.declared.change.Condition.{Condition}
 use Rattle.tuples.specs.declared.entry.Entry.{Entry}
 use Rattle.tuples.specs.Changes.{changed, has_tuple}
@@ -20,17 +21,17 @@ use Rattle.records.specs.Inside.{inside_from, inside_of, inside_step}
 use Rattle.records.specs.Replays.{greatest_number}
 use Rattle.records.proofs.CoordinatorStates.{coordinator_empty, coordinator_more, coordinator_push}
 use Rattle.records.proofs.Insides.{inside_push}
-use Rattle.records.proofs.LastWrites.{last_behind, or_right, there_behind}
+use Rattle.records.proofs.LastWrites.{last_behind, there_behind}
 use Rattle.recovery.specs.Checkpoints.{CoordinatorCheckpointsStand, above_horizon}
 use Rattle.recovery.proofs.Known.{AreDecided, IsDecided, IsKnown, image_known, knowing}
 
 -- ---- records that may follow one another
 
-abbrev FollowAll : Identity → Option Inside → CoordinatorState → List Record → Type 0
+abbrev pub FollowAll : Identity → Option Inside → CoordinatorState → List Record → Type 0
 FollowAll me i s [] = Unit {0}
 FollowAll me i s (r ∷ rs) = MayFollowNext me i s r × FollowAll me (inside_step i r) (coordinator_step s r) rs
 
-begins_from : (me : Identity) (before rs : List Record) → BeginsCoordinatorImage me before → FollowAll me (inside_of before) (coordinator_state before) rs → BeginsCoordinatorImage me (before ++ rs)
+pub begins_from : (me : Identity) (before rs : List Record) → BeginsCoordinatorImage me before → FollowAll me (inside_of before) (coordinator_state before) rs → BeginsCoordinatorImage me (before ++ rs)
 begins_from me before [] begins follow = subst (BeginsCoordinatorImage me) (sym (append-nil before)) begins
 begins_from me before (r ∷ rs) begins follow =
     let next : FollowAll me (inside_of (before ++ r ∷ [])) (coordinator_state (before ++ r ∷ [])) rs =
@@ -155,7 +156,7 @@ module _ (me : Identity) (generation : ℕ) where
   unfolding inside_of coordinator_checkpoint
   checkpoint_ends s = inside_decisions (s.horizon + 1) (drop (s.horizon - s.base) s.log)
 
-follows_nothing : (me : Identity) (rs : List Record) → FollowAll me None empty_coordinator rs → FollowAll me (inside_of []) (coordinator_state []) rs
+pub follows_nothing : (me : Identity) (rs : List Record) → FollowAll me None empty_coordinator rs → FollowAll me (inside_of []) (coordinator_state []) rs
 unfolding inside_of coordinator_state
 follows_nothing me rs follow = follow
 

@@ -3,6 +3,8 @@ use Rattle.std.proofs.Common.{◌≡◌, ◌≢◌, ◌≤◌, ◌+◌, ⊎_elim
 use Rattle.std.proofs.lemmas.List.{append-nil}
 use Rattle.tuples.specs.declared.change.Condition.{Condition}
 use Rattle.tuples.specs.declared.entry.Entry.{Entry}
+use Rattle.tuples.proofs.Lists.{cut_last, no_element}
+use Rattle.tuples.proofs.Options.{never_none}
 use Rattle.records.specs.declared.mark.Inside.{Inside}
 use Rattle.records.specs.declared.mark.Mark.TheVariants.{Begins, Row, Ends}
 use Rattle.records.specs.declared.mark.Stage.{Stage}
@@ -13,7 +15,7 @@ use Rattle.records.specs.Coordinators.{BeginsCoordinatorImage, CoordinatorState,
 use Rattle.records.specs.Identity.{Identity, coordinator_number}
 use Rattle.records.specs.Inside.{MayBegin, inside_of, inside_step}
 use Rattle.records.specs.Replays.{AskOfLog, greatest_number}
-use Rattle.records.proofs.CoordinatorStates.{coordinator_push, cut_last, no_element}
+use Rattle.records.proofs.CoordinatorStates.{coordinator_push}
 use Rattle.records.proofs.Insides.{inside_push}
 
 -- decisions behind a base, and nothing else
@@ -90,9 +92,6 @@ longer (v ∷ log) w = let e = longer log w in omega (arith, e)
 
 -- ---- one record more
 
-never : {P : Type 0} {i : Inside} → Some i ≡ None → P
-never is = absurd cc
-
 known_outside : (me : Identity) (s : CoordinatorState) (r : Record) → IsKnown me None s → MayComeNext me s r → IsKnown me (inside_step None r) (coordinator_step s r)
 unfolding coordinator_step
 known_outside me s (Prepare w) known may = absurd may
@@ -144,7 +143,7 @@ known_begun me s (Checkpoint (Begins generation)) known may = record {
   horizon = known.horizon;
   low = omega arith;
   fits = (let a = known.come may.unopened in let none = ap length a.0 in let low = a.1 in omega (arith, none, low));
-  within = never;
+  within = never_none;
   node = known.node;
   come = known.come may.unopened;
 }
@@ -162,7 +161,7 @@ known_inside me i s (Learned to placed_ids) known may = absurd may
 known_inside me i s (Dropped id) known may = absurd may
 known_inside me i s (Epoch epoch store shards node) known may =
     let at = at_stage i s Begun may.may.after known.come in
-    record { each = known.each; epoch = may.may.greatest; horizon = known.horizon; low = omega arith; fits = known.fits; within = never; node = λ opened. may.coordinator; come = (at.0, (at.1, may.may.some)) }
+    record { each = known.each; epoch = may.may.greatest; horizon = known.horizon; low = omega arith; fits = known.fits; within = never_none; node = λ opened. may.coordinator; come = (at.0, (at.1, may.may.some)) }
 known_inside me i s (Decision place w) known may =
     record {
       each = one_more s.horizon s.log w known.each (may_decided (record s { base = s.horizon }) place w may.may);
@@ -170,13 +169,13 @@ known_inside me i s (Decision place w) known may =
       horizon = known.horizon;
       low = omega arith;
       fits = (let a = may.may.next in let b = may.may.place_fits in let c = longer s.log w in omega (arith, a, b, c));
-      within = never;
+      within = never_none;
       node = known.node;
       come = subst (λ (t : Stage). IsAt t (record s { log = s.log ++ w ∷ [] })) (sym may.after) (at_stage i s Bounded may.after known.come);
     }
 known_inside me i s (Horizon place) known may =
     let at = at_stage i s Opened may.after known.come in
-    record { each = none_decided place s.log at.0; epoch = known.epoch; horizon = may.fits; low = omega arith; fits = (let none = ap length at.0 in let b = may.fits in omega (arith, none, b)); within = never; node = known.node; come = at.1.1 }
+    record { each = none_decided place s.log at.0; epoch = known.epoch; horizon = may.fits; low = omega arith; fits = (let none = ap length at.0 in let b = may.fits in omega (arith, none, b)); within = never_none; node = known.node; come = at.1.1 }
 known_inside me i s (Checkpoint (Begins generation)) known may = absurd may
 known_inside me i s (Checkpoint (Row place change)) known may = absurd may
 known_inside me i s (Checkpoint (Ends generation)) known may =

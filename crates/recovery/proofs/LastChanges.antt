@@ -1,5 +1,5 @@
 -- The index of last changes tells what the log does.
-use Rattle.std.proofs.Common.{◌≡◌, ◌⊎◌, ◌↔◌, ◌==◌, ◌||◌, inl, inr, is_some, ⊎_elim, ℕ, zero, suc, ◌+◌, true, false, Bool, List, [], ◌∷◌, ◌++◌, length, Option, Some, None, refl, sym, ◌∙◌, ap, arith, rules, subst, if◌then◌else◌}
+use Rattle.std.proofs.Common.{◌≡◌, ◌⊎◌, ◌↔◌, ◌==◌, ◌||◌, inl, inr, is_some, ⊎_elim, ℕ, zero, suc, ◌+◌, true, false, Bool, List, [], ◌∷◌, ◌++◌, length, Option, Some, None, refl, sym, ◌∙◌, ap, arith, subst, if◌then◌else◌}
 use Rattle.std.proofs.Math.Dec.{eqb-suc-zero}
 use Rattle.std.proofs.lemmas.Bool.{cases_Bool}
 use Rattle.std.proofs.lemmas.List.{take_all}
@@ -14,7 +14,7 @@ use Rattle.tuples.specs.Changes.{changed, has_tuple, tuple_of}
 use Rattle.tuples.specs.Log.{is_at as is_there_at, last_from, meets_want, there_after}
 use Rattle.tuples.specs.Order.{tuple_eq}
 use Rattle.tuples.specs.Versions.{is_touch}
-use Rattle.tuples.proofs.Ordered.{tuple_eq_symm}
+use Rattle.tuples.proofs.Ordered.{tuple_eq_symm, same_order}
 use Rattle.std.specs.BTreeMap.{BTreeMap, get, is_at}
 use Rattle.std.specs.Map.{lookup}
 use Rattle.std.specs.Ordering.{is_eq}
@@ -127,10 +127,6 @@ known_by_index at s c latest =
     no_more : (b : Bool) → (b || false) ≡ b
     no_more true = refl
     no_more false = refl
-
--- the order that the type derives is that of tuples
-same_order : (a b : Tuple) → ghosts.cmp a b ≡ tuple_cmp a b
-same_order a b = search rules
 
 look_up : (t : Tuple) (entries : List (Tuple × LastChange)) → lookup (is_at (ghosts.cmp t)) entries ≡ lookup (is_at (tuple_cmp t)) entries
 look_up t [] = refl

@@ -1,5 +1,5 @@
 -- The numbers and names of the refusals.
-use Rattle.std.specs.Prelude.{◌≡◌, ℕ, List, ◌∷◌, ◌++◌, codes}
+use Rattle.std.specs.Prelude.{◌≡◌, ◌⊎◌, ℕ, List, [], ◌∷◌, ◌++◌, codes}
 use Rattle.std.specs.Fmt.{decimal}
 use Rattle.refusal.specs.declared.refusal.Refusal.{Refusal}
 use Rattle.refusal.specs.declared.refusal.Refusal.TheVariants.{BadRequest, BadTuple, TooLarge, Repeated, BadZookie, WrongStore, Future, Collected, Precondition, Busy, Aborted, Unsure, Down, NoMemory, Full, Damaged}
@@ -45,6 +45,12 @@ name_of Damaged = codes "Damaged"
 -- the number, a space and the name
 abbrev pub refusal_text : Refusal → List ℕ
 refusal_text r = decimal (number_of r) ++ 32 ∷ name_of r
+
+-- it is one of these
+abbrev pub IsOneOf : Refusal → List Refusal → Type 0
+IsOneOf e [] = ⊥
+IsOneOf e (r ∷ []) = e ≡ r
+IsOneOf e (r ∷ s ∷ others) = (e ≡ r) ⊎ IsOneOf e (s ∷ others)
 
 -- a number is that of one refusal
 abbrev pub OneRefusalANumber : Type 0

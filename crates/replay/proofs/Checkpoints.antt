@@ -1,5 +1,5 @@
 -- A checkpoint of a shard is the shard's, and stands for what reads the same.
-use Rattle.std.proofs.Common.{◌≡◌, ◌≤◌, ◌⊎◌, inl, inr, ℕ, All, List, [], ◌∷◌, ◌++◌, map, Option, Some, None, refl, sym, ◌∙◌, ap, subst, arith, append_assoc}
+use Rattle.std.proofs.Common.{◌≡◌, ◌≤◌, ◌⊎◌, inl, inr, ℕ, List, [], ◌∷◌, ◌++◌, map, Option, Some, None, refl, sym, ◌∙◌, ap, subst, arith, append_assoc}
 use Rattle.std.specs.List.{AllByRecursion}
 use Rattle.std.proofs.lemmas.List.{append-nil}
 use Rattle.std.proofs.lemmas.List.Elements.{All-nil}
@@ -7,19 +7,18 @@ use Rattle.tuples.specs.declared.entry.Entry.{Entry}
 use Rattle.tuples.specs.declared.version.Version.{Version}
 use Rattle.tuples.specs.Versions.{collected}
 use Rattle.records.specs.declared.mark.Inside.{Inside}
-use Rattle.records.specs.declared.mark.Mark.TheVariants.{Begins, Row, Ends}
+use Rattle.records.specs.declared.mark.Mark.TheVariants.{Ends}
 use Rattle.records.specs.declared.mark.Stage.{Stage}
 use Rattle.records.specs.declared.mark.Stage.TheVariants.{Listed, Doubted}
 use Rattle.records.specs.declared.record.Record.{Record}
-use Rattle.records.specs.declared.record.Record.TheVariants.{Prepare, Checkpoint}
+use Rattle.records.specs.declared.record.Record.TheVariants.{Checkpoint}
 use Rattle.records.specs.Inside.{inside_from, inside_of, inside_step}
 use Rattle.records.specs.Replays.{BeginsShardImage, Identity, IsShardImage, MayFollow, ShardState, empty_shard, greatest_number, shard_from, shard_state, shard_step}
 use Rattle.records.proofs.Insides.{inside_push}
 use Rattle.holds.specs.Holds.{AreApart}
-use Rattle.versions.specs.Alike.{AreAlike}
 use Rattle.replay.specs.Alike.{IsAlike}
 use Rattle.replay.specs.Checkpoints.{ShardCheckpointsStand, prepare_of, row_of, shard_checkpoint}
-use Rattle.replay.proofs.Doubting.{AreInOrder, IsBefore, all_before, each_middle, free_last, new_last, put_last}
+use Rattle.replay.proofs.Doubting.{AreInOrder, all_before, each_middle, free_last, new_last, put_last}
 use Rattle.replay.proofs.Fit.{IsFit, IsOwn, image_fit}
 use Rattle.replay.proofs.Images.{image_apart}
 use Rattle.replay.proofs.Rising.{AreKept, IsKept, kept_alike, newest_below, some_place}
@@ -27,11 +26,11 @@ use Rattle.replay.proofs.States.{image_empty, image_more, shard_push}
 
 -- ---- records that may follow one another
 
-abbrev FollowAll : Identity → Option Inside → ShardState → List Record → Type 0
+abbrev pub FollowAll : Identity → Option Inside → ShardState → List Record → Type 0
 FollowAll me i s [] = Unit {0}
 FollowAll me i s (r ∷ rs) = MayFollow me i s r × FollowAll me (inside_step i r) (shard_step s r) rs
 
-begins_from : (me : Identity) (before rs : List Record) → BeginsShardImage me before → FollowAll me (inside_of before) (shard_state before) rs → BeginsShardImage me (before ++ rs)
+pub begins_from : (me : Identity) (before rs : List Record) → BeginsShardImage me before → FollowAll me (inside_of before) (shard_state before) rs → BeginsShardImage me (before ++ rs)
 begins_from me before [] begins follow = subst (BeginsShardImage me) (sym (append-nil before)) begins
 begins_from me before (r ∷ rs) begins follow =
     let next : FollowAll me (inside_of (before ++ r ∷ [])) (shard_state (before ++ r ∷ [])) rs =
@@ -145,7 +144,7 @@ module _ (me : Identity) (generation : ℕ) where
   unfolding inside_of
   checkpoint_ends s listed = inside_rows listed (map prepare_of s.in_doubt ++ Checkpoint (Ends generation) ∷ []) ∙ inside_doubts Listed s.in_doubt
 
-follows_nothing : (me : Identity) (rs : List Record) → FollowAll me None empty_shard rs → FollowAll me (inside_of []) (shard_state []) rs
+pub follows_nothing : (me : Identity) (rs : List Record) → FollowAll me None empty_shard rs → FollowAll me (inside_of []) (shard_state []) rs
 unfolding inside_of shard_state
 follows_nothing me rs follow = follow
 

@@ -8,6 +8,7 @@ use Rattle.tuples.specs.declared.entry.Entry.{Entry}
 use Rattle.tuples.specs.declared.entry.WriteId.{WriteId}
 use Rattle.tuples.specs.Log.{same_id}
 use Rattle.tuples.specs.Parts.{shard_of}
+use Rattle.tuples.proofs.Options.{some_value}
 use Rattle.records.specs.declared.record.PlacedId.{PlacedId}
 use Rattle.records.specs.Replays.{ArePrepared, Identity, find_in_doubt, without}
 use Rattle.replay.specs.Rules.{are_prepared, has_placed_id, is_own}
@@ -29,10 +30,6 @@ own_from me (t ∷ ts) own =
 
 pub own_decides : (me : Identity) (ts : List Tuple) → (list_all (is_own me) ts ≡ true) ↔ AreOwn me ts
 own_decides me ts = (own_parts me ts, own_from me ts)
-
-found_or : {X : Type 0} (o : Option X) → is_some o ≡ true → (x : X) × (o ≡ Some x)
-found_or None is = absurd cc
-found_or (Some x) is = (x, refl)
 
 is_found : {X : Type 0} (o : Option X) (x : X) → o ≡ Some x → is_some o ≡ true
 is_found o x is = ap (λ p. is_some p) is
@@ -75,7 +72,7 @@ prepared_parts [] ws is = tt
 prepared_parts (p ∷ placed_ids) ws is =
     let both = and_parts (is_some (find_in_doubt p.id ws) && not (has_placed_id p.id placed_ids)) (are_prepared placed_ids ws) is in
     let here = and_parts (is_some (find_in_doubt p.id ws)) (not (has_placed_id p.id placed_ids)) both.0 in
-    (found_or (find_in_doubt p.id ws) here.0, prepared_without p.id placed_ids ws (not-true _ here.1) (prepared_parts placed_ids ws both.1))
+    (some_value (find_in_doubt p.id ws) here.0, prepared_without p.id placed_ids ws (not-true _ here.1) (prepared_parts placed_ids ws both.1))
 
 prepared_from : (placed_ids : List PlacedId) (ws : List Entry) → ArePrepared placed_ids ws → are_prepared placed_ids ws ≡ true
 prepared_from [] ws prepared = refl

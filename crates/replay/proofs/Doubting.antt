@@ -1,9 +1,8 @@
 -- Writes in doubt in the order of their ids: one more, fewer, and each put behind the others again.
-use Rattle.std.proofs.Common.{◌≡◌, ◌⊎◌, inl, inr, ⊎_elim, ℕ, zero, suc, Bool, true, false, cond, not, filter, List, [], ◌∷◌, ◌++◌, Some, None, refl, sym, ◌∙◌, ap, subst, arith, length, All, slice_get}
+use Rattle.std.proofs.Common.{◌≡◌, inl, inr, suc, Bool, true, false, cond, not, filter, List, [], ◌∷◌, ◌++◌, Some, None, refl, sym, ◌∙◌, ap, subst, arith, length, All, slice_get}
 use Rattle.std.specs.List.{AllByRecursion}
 use Rattle.std.specs.Ordering.{ordering_reverse}
-use Rattle.std.specs.declared.cmp.Ordering.{Ordering}
-use Rattle.std.specs.declared.cmp.Ordering.TheVariants.{Less, Equal, Greater}
+use Rattle.std.specs.declared.cmp.Ordering.TheVariants.{Less, Greater}
 use Rattle.std.proofs.lemmas.Bool.{cases_Bool}
 use Rattle.std.proofs.lemmas.List.Elements.{All-from_recursion, All-filter, All-weaker, recursion_from_All}
 use Rattle.tuples.specs.declared.tuple.Tuple.{Tuple}
@@ -13,12 +12,14 @@ use Rattle.tuples.specs.Changes.{has_tuple}
 use Rattle.tuples.specs.Log.{same_id}
 use Rattle.tuples.specs.Order.{tuple_eq}
 use Rattle.tuples.proofs.Ordered.{tuple_eq_refl}
+use Rattle.tuples.proofs.Lists.{each_weaker}
 use Rattle.records.specs.declared.record.PlacedId.{PlacedId}
 use Rattle.records.specs.Replays.{find_in_doubt, id_cmp, is_held, named, put, without, without_placed_ids}
 use Rattle.holds.specs.Holds.{AreApart}
-use Rattle.holds.proofs.Doubts.{same_id_other, same_id_refl, without_filter}
+use Rattle.holds.proofs.Doubts.{same_id_other, without_filter}
 use Rattle.holds.proofs.Ids.{id_total}
 use Rattle.holds.proofs.Put.{put_cases}
+use Rattle.holds.proofs.Named.{apart_rest}
 
 -- the write stands before the other one
 abbrev pub IsBefore : Entry → Entry → Type 0
@@ -40,10 +41,6 @@ each_put P w (v ∷ ws) is each = put_cases (AllByRecursion P) w v ws
 
 pub each_filter : {X : Type 0} (P : X → Type 0) (p : X → Bool) (xs : List X) → AllByRecursion P xs → AllByRecursion P (filter p xs)
 each_filter P p xs each = recursion_from_All P (filter p xs) (All-filter p P xs (All-from_recursion P xs each))
-
-pub each_weaker : {X : Type 0} (P Q : X → Type 0) → ((x : X) → P x → Q x) → (xs : List X) → AllByRecursion P xs → AllByRecursion Q xs
-each_weaker P Q weaker [] each = tt
-each_weaker P Q weaker (x ∷ xs) each = (weaker x each.0, each_weaker P Q weaker xs each.1)
 
 pub each_append : {X : Type 0} (P : X → Type 0) (xs ys : List X) → AllByRecursion P xs → AllByRecursion P ys → AllByRecursion P (xs ++ ys)
 each_append P [] ys each more = more
@@ -127,22 +124,12 @@ at_middle : (done : List Entry) (w : Entry) (ws : List Entry) → slice_get (don
 at_middle [] w ws = refl
 at_middle (v ∷ done) w ws = at_middle done w ws
 
-apart_rest : (v : Entry) (ws : List Entry) → AreApart (v ∷ ws) → AreApart ws
-apart_rest v ws apart = record {
-  tuples = λ i j u w at_u at_w t in_u in_w. let h : suc i ≡ suc j = apart.tuples (suc i) (suc j) u w at_u at_w t in_u in_w in omega (arith, h);
-  ids = λ i j u w at_u at_w is. let h : suc i ≡ suc j = apart.ids (suc i) (suc j) u w at_u at_w is in omega (arith, h);
-}
-
 free_before : (done : List Entry) (w : Entry) (ws : List Entry) (t : Tuple) → AreApart (done ++ w ∷ ws) → has_tuple t (named w) ≡ true → is_held t done ≡ false
 free_before [] w ws t apart has = refl
 free_before (v ∷ done) w ws t apart has = elim (cases_Bool (has_tuple t (named v))) [
   | inl here ↦ absurd (let h : 0 ≡ suc (length done) = apart.tuples 0 (suc (length done)) v w refl (at_middle done w ws) t here has in omega (arith, h))
   | inr past ↦ rw past (free_before done w ws t (apart_rest v (done ++ w ∷ ws) apart) has)
 ]
-
-or_right : (b : Bool) → cond b true true ≡ true
-or_right true = refl
-or_right false = refl
 
 have_each : (us ts : List Tuple) → ((t : Tuple) → has_tuple t us ≡ true → has_tuple t ts ≡ true) → AllByRecursion (λ (t : Tuple). has_tuple t ts ≡ true) us
 have_each [] ts within = tt

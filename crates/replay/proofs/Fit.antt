@@ -1,5 +1,5 @@
 -- What a shard's records stand for is fit for a checkpoint.
-use Rattle.std.proofs.Common.{◌≡◌, ◌≤◌, ◌<◌, ◌+◌, ◌⊎◌, inl, inr, ⊎_elim, ℕ, All, List, [], ◌∷◌, ◌++◌, Option, Some, None, refl, sym, ap, subst, arith, append_assoc}
+use Rattle.std.proofs.Common.{◌≡◌, ◌≤◌, ◌<◌, ◌+◌, ◌⊎◌, ⊎_elim, ℕ, All, List, [], ◌∷◌, ◌++◌, Option, Some, None, refl, sym, subst, arith, append_assoc}
 use Rattle.std.specs.List.{AllByRecursion}
 use Rattle.std.proofs.lemmas.List.{append-nil}
 use Rattle.std.proofs.lemmas.List.Elements.{All-head, recursion_from_All}
@@ -8,9 +8,10 @@ use Rattle.tuples.specs.declared.change.Change.{Change}
 use Rattle.tuples.specs.declared.entry.Entry.{Entry}
 use Rattle.tuples.specs.declared.entry.WriteId.{WriteId}
 use Rattle.tuples.specs.declared.version.Version.{Version}
-use Rattle.tuples.specs.Changes.{changed, conditioned, tuple_of}
+use Rattle.tuples.specs.Changes.{changed, conditioned}
 use Rattle.tuples.specs.Parts.{shard_of}
 use Rattle.tuples.specs.Versions.{placed}
+use Rattle.tuples.proofs.Options.{never_none}
 use Rattle.records.specs.declared.mark.Inside.{Inside}
 use Rattle.records.specs.declared.mark.Mark.TheVariants.{Begins, Row, Ends}
 use Rattle.records.specs.declared.record.PlacedId.{PlacedId}
@@ -109,10 +110,6 @@ module _ (me : Identity) (to : ℕ) where
 same_rows : (me : Identity) (s : ShardState) → AreKept me s.learned s.rows → AreKept me s.learned (s.rows ++ [])
 same_rows me s kept = subst (AreKept me s.learned) (sym (append-nil s.rows)) kept
 
--- more of a checkpoint is to come
-never : {P : Type 0} {i : Inside} → Some i ≡ None → P
-never is = absurd cc
-
 fit_outside : (me : Identity) (s : ShardState) (r : Record) → IsFit me None s → MayCome me s r → IsFit me (inside_step None r) (shard_step s r)
 unfolding shard_step
 fit_outside me s (Prepare w) fit may = record {
@@ -164,7 +161,7 @@ fit_begun me s (Dropped id) fit may = absurd may
 fit_begun me s (Epoch epoch store shards node) fit may = absurd may
 fit_begun me s (Decision place w) fit may = absurd may
 fit_begun me s (Horizon place) fit may = absurd may
-fit_begun me s (Checkpoint (Begins generation)) fit may = record { own = fit.own; order = fit.order; rows = same_rows me s fit.rows; place = fit.place; epoch = fit.epoch; horizon = fit.horizon; within = never }
+fit_begun me s (Checkpoint (Begins generation)) fit may = record { own = fit.own; order = fit.order; rows = same_rows me s fit.rows; place = fit.place; epoch = fit.epoch; horizon = fit.horizon; within = never_none }
 fit_begun me s (Checkpoint (Row place change)) fit may = absurd may
 fit_begun me s (Checkpoint (Ends generation)) fit may = absurd may
 
@@ -177,7 +174,7 @@ fit_inside me i s (Prepare w) fit may = record {
   place = fit.place;
   epoch = fit.epoch;
   horizon = fit.horizon;
-  within = never;
+  within = never_none;
 }
 fit_inside me i s (Learned to placed_ids) fit may = record {
   own = each_without_all (IsOwn me) placed_ids s.in_doubt fit.own;
@@ -187,12 +184,12 @@ fit_inside me i s (Learned to placed_ids) fit may = record {
   place = may.may.place;
   epoch = fit.epoch;
   horizon = fit.horizon;
-  within = never;
+  within = never_none;
 }
 fit_inside me i s (Dropped id) fit may = absurd may
-fit_inside me i s (Epoch epoch store shards node) fit may = record { own = fit.own; order = fit.order; rows = fit.rows; place = fit.place; epoch = may.greatest; horizon = fit.horizon; within = never }
+fit_inside me i s (Epoch epoch store shards node) fit may = record { own = fit.own; order = fit.order; rows = fit.rows; place = fit.place; epoch = may.greatest; horizon = fit.horizon; within = never_none }
 fit_inside me i s (Decision place w) fit may = absurd may
-fit_inside me i s (Horizon place) fit may = record { own = fit.own; order = fit.order; rows = kept_collected me s.learned place s.rows fit.rows; place = fit.place; epoch = fit.epoch; horizon = may.fits; within = never }
+fit_inside me i s (Horizon place) fit may = record { own = fit.own; order = fit.order; rows = kept_collected me s.learned place s.rows fit.rows; place = fit.place; epoch = fit.epoch; horizon = may.fits; within = never_none }
 fit_inside me i s (Checkpoint (Begins generation)) fit may = absurd may
 fit_inside me i s (Checkpoint (Row place change)) fit may = record {
   own = fit.own;
@@ -201,7 +198,7 @@ fit_inside me i s (Checkpoint (Row place change)) fit may = record {
   place = fit.place;
   epoch = fit.epoch;
   horizon = fit.horizon;
-  within = never;
+  within = never_none;
 }
 fit_inside me i s (Checkpoint (Ends generation)) fit may = record { own = fit.own; order = fit.order; rows = same_rows me s fit.rows; place = fit.place; epoch = fit.epoch; horizon = fit.horizon; within = λ none. may.within }
 

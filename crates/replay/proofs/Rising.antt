@@ -1,5 +1,5 @@
 -- Versions whose places rise within each tuple.
-use Rattle.std.proofs.Common.{◌≡◌, ◌≤◌, ◌+◌, ◌⊎◌, inl, inr, ⊎_elim, ℕ, Bool, true, false, cond, filter, max, List, [], ◌∷◌, ◌++◌, map, Option, Some, None, refl, sym, ◌∙◌, ap, subst, arith}
+use Rattle.std.proofs.Common.{◌≡◌, ◌≤◌, ◌+◌, inl, inr, ℕ, Bool, true, false, cond, filter, max, List, [], ◌∷◌, ◌++◌, sym, ◌∙◌, ap, subst, arith}
 use Rattle.std.specs.List.{AllByRecursion}
 use Rattle.std.proofs.lemmas.Bool.{cases_Bool}
 use Rattle.std.proofs.lemmas.List.{append-nil}
@@ -10,12 +10,12 @@ use Rattle.tuples.specs.Changes.{tuple_of}
 use Rattle.tuples.specs.Order.{tuple_eq}
 use Rattle.tuples.specs.Parts.{shard_of}
 use Rattle.tuples.specs.Versions.{collected, last_version}
-use Rattle.tuples.proofs.Ordered.{tuple_eq_refl}
 use Rattle.tuples.proofs.Same.{tuple_same}
+use Rattle.tuples.proofs.Lists.{each_weaker}
 use Rattle.records.specs.Replays.{Identity}
 use Rattle.versions.specs.Alike.{AreAlike, of_tuple}
-use Rattle.versions.proofs.Alike.{collected_own, last_own}
-use Rattle.replay.proofs.Doubting.{each_append, each_filter, each_middle, each_weaker}
+use Rattle.versions.proofs.Alike.{collected_own, last_own, of_own}
+use Rattle.replay.proofs.Doubting.{each_append, each_filter}
 
 -- each place is no lower than the one before
 abbrev pub RisesFrom : ℕ → List Version → Type 0
@@ -64,9 +64,6 @@ last_below n (u ∷ xs) v ys t rises = elim (cases_Bool (tuple_eq t (tuple_of u.
 ]
 
 -- ---- the versions of one tuple
-
-pub of_own : (v : Version) (rows : List Version) → of_tuple (tuple_of v.change) (v ∷ rows) ≡ v ∷ of_tuple (tuple_of v.change) rows
-of_own v rows = ap (λ (e : Bool). cond e (v ∷ of_tuple (tuple_of v.change) rows) (of_tuple (tuple_of v.change) rows)) (tuple_eq_refl (tuple_of v.change))
 
 -- the newest before a version of its tuple is no newer
 pub newest_below : (done : List Version) (v : Version) (vs : List Version) → ((t : Tuple) → RisesFrom 1 (of_tuple t (done ++ v ∷ vs))) → last_version done (tuple_of v.change) ≤ v.place

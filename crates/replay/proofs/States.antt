@@ -8,6 +8,7 @@ use Rattle.records.specs.declared.record.Record.TheVariants.{Prepare, Learned, D
 use Rattle.records.specs.Inside.{MayBegin, begun_by, inside_of, inside_step}
 use Rattle.records.specs.Replays.{BeginsShardImage, Identity, IsShardImage, MayCome, MayComeInside, MayFollow, ShardState, empty_shard, shard_from, shard_state, shard_step}
 use Rattle.records.proofs.Insides.{UnlessMark, begin_is_mark, end_is_mark, inside_push, unless_mark}
+use Rattle.tuples.proofs.Lists.{cut_last, no_element}
 
 pub shard_from-append : (s : ShardState) (rs more : List Record) → shard_from s (rs ++ more) ≡ shard_from (shard_from s rs) more
 shard_from-append s [] more = refl
@@ -16,23 +17,6 @@ shard_from-append s (r ∷ rs) more = shard_from-append (shard_step s r) rs more
 pub shard_push : (rs : List Record) (r : Record) → shard_state (rs ++ r ∷ []) ≡ shard_step (shard_state rs) r
 unfolding shard_state
 shard_push rs r = shard_from-append empty_shard rs (r ∷ [])
-
-no_element : {X : Type 0} (before after : List X) (x : X) → [] ≡ before ++ x ∷ after → ⊥
-no_element [] after x is = absurd cc
-no_element (y ∷ before) after x is = absurd cc
-
--- an element of a longer list is the new one, or one of the old
-cut_last : {X : Type 0} (rs before after : List X) (r x : X) → rs ++ r ∷ [] ≡ before ++ x ∷ after → ((rs ≡ before) × (r ≡ x)) ⊎ ((more : List X) × (rs ≡ before ++ x ∷ more))
-cut_last [] [] after r x is = inl (refl, cc)
-cut_last [] (b ∷ before) after r x is = absurd (no_element before after x cc)
-cut_last (y ∷ rs) [] after r x is = inr (rs, cc)
-cut_last (y ∷ rs) (b ∷ before) after r x is =
-    let first : y ≡ b = cc in
-    let rest : rs ++ r ∷ [] ≡ before ++ x ∷ after = cc in
-    ⊎_elim
-    (λ new. inl (cc, new.1))
-    (λ old. let whole = old.1 in inr (old.0, cc))
-    (cut_last rs before after r x rest)
 
 pub image_empty : (me : Identity) → IsShardImage me []
 unfolding inside_of

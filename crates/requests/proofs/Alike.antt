@@ -11,8 +11,9 @@ use Rattle.requests.specs.declared.shape.FreshnessShape.{FreshnessShape}
 use Rattle.requests.specs.declared.shape.FreshnessShape.TheVariants.{Latest, AtLeast, Exact}
 use Rattle.requests.specs.Causes.{ArePlaced, IsFirst, IsFresh, IsMisplaced, IsOfStore, IsPlaced, changed_text, conditioned_text, listed}
 use Rattle.requests.specs.Shapes.{Field, Form, Writes, Reads, Checks, Watches, change_json, change_with, condition_json, form_fields, freshness_fields, question_with, since_with, texts_json, want_with, wanted_json}
-use Rattle.requests.proofs.Inverting.{first_bytes, no_question_c, no_question_f, questions_once, seconds, tails}
+use Rattle.requests.proofs.Inverting.{first_bytes, no_question_c, no_question_f, questions_once, seconds}
 use Rattle.requests.proofs.Values.{lists_once, objects_once}
+use Rattle.tuples.proofs.Lists.{tails}
 
 abbrev pub borrowed_texts : List (Bor (List ℕ)) → List (List ℕ)
 borrowed_texts = map (λ (t : Bor (List ℕ)). t.now)

@@ -1,11 +1,12 @@
 -- What the members of a request say of its parts.
 use Rattle.std.proofs.Common.{◌≡◌, ℕ, ◌≤◌, List, [], ◌∷◌, map, length, get_or, sym, ap, ◌∙◌, ◌⊎◌, inl, inr, arith, refl, codes, Bor, Some, None, Bool, true, false, eqb}
 use Rattle.std.specs.Cmp.Lexicographic.{pointwise}
-use Rattle.std.proofs.lemmas.Bool.{false≢true}
+use Rattle.std.proofs.lemmas.Bool.{both_ways}
 use Rattle.std.proofs.lemmas.Bool.Decides.{Decides-eqb, nat_tests}
 use Rattle.std.proofs.lemmas.Slice.Eq.{slice_eq-Decides}
 use Rattle.std.proofs.lemmas.List.{length-map}
 use Rattle.tuples.specs.Limits.{max_watched}
+use Rattle.tuples.proofs.Lists.{tails}
 use Rattle.serde_json.specs.Data.{Data, string}
 use Rattle.refusal.specs.declared.refusal.Refusal.{Refusal}
 use Rattle.requests.proofs.Values.{lists_once}
@@ -32,9 +33,6 @@ pub no_question_f : NoQuestion 102
 no_question_f Latest op asked first rest e is = let same = first_bytes first _ rest _ e in omega arith
 no_question_f (AtLeast z) op asked first rest e is = let same = first_bytes first _ rest _ e in omega arith
 no_question_f (Exact z) op asked first rest e is = let same = first_bytes first _ rest _ e in omega arith
-
-pub tails : {A : Type 0} (a b : A) (xs ys : List A) → a ∷ xs ≡ b ∷ ys → xs ≡ ys
-tails a b xs ys e = cc
 
 pub seconds : (k : List ℕ) (d e : Data) (fs gs : List Field) → (k, d) ∷ fs ≡ (k, e) ∷ gs → d ≡ e
 seconds k d e fs gs same = let one : (k, d) ≡ (k, e) = cc in ap (λ (x : Field). x.1) one
@@ -163,12 +161,9 @@ tuple_misshapen fields f op asked is check none = question_none fields f op aske
 pub none_is : (n : ℕ) (r : Bool) → r ≡ eqb n 0 → r ≡ true → n ≡ 0
 none_is n r e was = grind (arith, nat_tests)
 
-pub not_both : (b : Bool) → b ≡ true → b ≡ false → ⊥
-not_both b t f = false≢true (sym f ∙ t)
-
 -- what a comparison of texts says
 pub same_text : (s t : List ℕ) (r : Bool) → r ≡ pointwise eqb s t → r ≡ true → s ≡ t
 same_text s t r e was = (slice_eq-Decides Decides-eqb s t r e).0 was
 
 pub other_text : (s t : List ℕ) (r : Bool) → r ≡ pointwise eqb s t → r ≡ false → s ≡ t → ⊥
-other_text s t r e was same = not_both r ((slice_eq-Decides Decides-eqb s t r e).1 same) was
+other_text s t r e was same = both_ways r was ((slice_eq-Decides Decides-eqb s t r e).1 same)

@@ -17,7 +17,7 @@ use Rattle.requests.specs.Shapes.{change_json}
 use Rattle.requests.specs.Spelling.{IsMisspelled, ReadsChange}
 use Rattle.requests.proofs.Values.{map_more}
 
-value_at : {A B C : Type 0} (f : A → C) (g : B → C) (P : B → Type 0) (xs : List A) (ys : List B) (i : ℕ) (d : A) → i < length xs → map f xs ≡ map g ys → All P ys → (y : B) × P y × (f (get_or xs i d) ≡ g y)
+pub value_at : {A B C : Type 0} (f : A → C) (g : B → C) (P : B → Type 0) (xs : List A) (ys : List B) (i : ℕ) (d : A) → i < length xs → map f xs ≡ map g ys → All P ys → (y : B) × P y × (f (get_or xs i d) ≡ g y)
 value_at f g P [] ys i d h e each = absurd (omega arith)
 value_at f g P (x ∷ xs) [] i d h e each = absurd cc
 value_at f g P (x ∷ xs) (y ∷ ys) zero d h e each = (y, All-head P y ys each, cc)

@@ -1,5 +1,5 @@
 -- One care more, and what a care that is served or refused is.
-use Rattle.std.proofs.Common.{◌≡◌, ◌++◌, ◌∷◌, [], ◌⊎◌, inl, inr, ⊎_elim, ℕ, List, Option, Some, Result, Ok, Err, length, refl, sym, subst, arith}
+use Rattle.std.proofs.Common.{◌≡◌, ◌++◌, ◌∷◌, [], ◌⊎◌, inl, inr, ℕ, List, Option, Some, Result, Ok, Err, length, refl, sym, subst, arith}
 use Rattle.std.specs.List.{AllByRecursion}
 use Rattle.std.specs.Result.{IfErr, OnOk}
 use Rattle.std.proofs.lemmas.List.Elements.{Contains-push}
@@ -66,11 +66,6 @@ module _ {D : Type 0} (state : D → State) (honest : D → Type 0) (moment : D 
   pub plays_on : (slot : ℕ) (old mid new : WorldView D) (before r : Result (Unit {0}) Refusal) → Plays state honest moment left_since slot old before mid → TurnsTo state honest moment left_since slot mid r new
       → Plays state honest moment left_since slot old r new
   plays_on slot old mid new before r (all, turns, come) (told, takes, comes) = (told ∷ all, (mid, turns, takes), has_come told all r comes)
-
-  -- it is left
-  pub plays_no_more : (slot : ℕ) (old new : WorldView D) (before : Result (Unit {0}) Refusal) (e : Refusal) → (e ≡ Damaged) ⊎ (e ≡ NoMemory) → Plays state honest moment left_since slot old before new
-      → Plays state honest moment left_since slot old (Err e) new
-  plays_no_more slot old new before e cause (all, turns, come) = (all, turns, ⊎_elim (λ damaged. inl damaged) (λ none. inr (inl none)) cause)
 
   -- ---- refusals
 

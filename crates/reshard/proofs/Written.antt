@@ -46,10 +46,6 @@ module _ {D : Type 0} (state : D → State) (honest : D → Type 0) (moment : D 
       inl (is ∙ none, inr (record { a = p.a; b = p.b; later_a = p.later_a; later_b = p.later_b; rest = p.rest; old_is = sym same ∙ p.old_is; new_is = p.new_is; moments = p.moments }))
   head_back given devices new nodes news (inr (head, others, at, begun)) p is = inr (head, others, is ∙ at, begun)
 
-  pub head_now : (given devices : List D) (nodes : List (BegunView D)) → HeadSoFar given nodes devices → HeadBegins state honest moment left_since given nodes devices
-  head_now given devices nodes (inl (none, same)) = inl (none, inl same)
-  head_now given devices nodes (inr begun) = inr begun
-
   module _ (old : WorldView D) (shards : ℕ) where
     -- the end of the coordinator's is tried
     pub ends_first : (node : NodeView D) (nodes : List (BegunView D)) (was new : BegunView D) (r : Result (Unit {0}) Refusal) → node_at old.nodes Coordinator ≡ Some node → was ≡ get_or nodes 0 was

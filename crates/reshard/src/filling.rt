@@ -5,7 +5,6 @@ ghost use Rattle.journal.specs.Beginnings.{BegunView};
 ghost use Rattle.journal.specs.Records.{HasRecords};
 ghost use Rattle.merging.specs.Merging.{merged};
 ghost use Rattle.records.specs.Format.{AreRecords};
-ghost use Rattle.records.specs.Identity.{max_shards};
 ghost use Rattle.replay.specs.Checkpoints.{row_of};
 ghost use Rattle.reshard.specs.Made.{AreHonest, HasLog, HaveShards, heads_of, shard_first};
 ghost use Rattle.reshard.specs.Refusing.{LacksLog};
@@ -20,7 +19,7 @@ use merging::{Rows, Told};
 use names::NodeName;
 use records::{Identity, PlacedIds, Record};
 use std::alloc::Global;
-use tuples::Refusal;
+use tuples::{Refusal, Shards};
 
 // The records before the versions, which take no memory.
 fn heads(alloc: Global, me: Identity, reach: Reach) -> [Record; 3]
@@ -30,7 +29,7 @@ fn heads(alloc: Global, me: Identity, reach: Reach) -> [Record; 3]
     let epoch = Record::Epoch {
         epoch: 1,
         store: me.store(),
-        shards: me.shards(),
+        shards: me.shards().count(),
         node: me.node(),
     };
     let learned = Record::Learned {
@@ -79,19 +78,18 @@ fn fill_shard<D: Device>(
 fn fill_shards<D: Device>(
     alloc: Global,
     store: u64,
-    shards: u8,
+    shards: Shards,
     reach: Reach,
     rows: &Rows<'_>,
     begun: &mut [Begun<D>],
 ) -> Result<(), Refusal>
-    requires few { shards ≤ max_shards }
     requires count { length begun.old ≡ shards + 1 }
     ensures honest { AreHonest D.honest begun.old → AreHonest D.honest begun.new }
     ensures ok { AreHonest D.honest begun.old → OnOk result (HaveShards D.state store shards reach (merged rows.now) shards begun.new) }
     ensures head { KeepsFirst begun.old begun.new }
     ensures err { IfErr result (λ e. (e ≡ Refusal.Down) ⊎ (e ≡ Refusal.NoMemory)) }
 {
-    for shard in 0..shards {
+    for shard in 0..shards.count() {
         let me = Identity::shard(store, shards, shard);
         fill_shard(alloc, &mut begun[shard as usize + 1], me, reach, rows)?;
     }
@@ -99,9 +97,11 @@ fn fill_shards<D: Device>(
 }
 
 // Ends the checkpoint of the coordinator.
-fn fill_log<D: Device>(old: &World<D>, shards: u8, begun: &mut [Begun<D>]) -> Result<(), Refusal>
-    requires some { 1 ≤ shards }
-    requires few { shards ≤ max_shards }
+fn fill_log<D: Device>(
+    old: &World<D>,
+    shards: Shards,
+    begun: &mut [Begun<D>],
+) -> Result<(), Refusal>
     requires there { 1 ≤ length begun.old }
     ensures honest { AreHonest D.honest begun.old → AreHonest D.honest begun.new }
     ensures ok { AreHonest D.honest begun.old → OnOk result (HasLog D.state D.honest old.now shards begun.new) }
@@ -119,13 +119,11 @@ fn fill_log<D: Device>(old: &World<D>, shards: u8, begun: &mut [Begun<D>]) -> Re
 pub(crate) fn fill<D: Device>(
     alloc: Global,
     old: &World<D>,
-    shards: u8,
+    shards: Shards,
     reach: Reach,
     rows: &Rows<'_>,
     begun: &mut [Begun<D>],
 ) -> Result<(), Refusal>
-    requires some { 1 ≤ shards }
-    requires few { shards ≤ max_shards }
     requires count { length begun.old ≡ shards + 1 }
     ensures honest { AreHonest D.honest begun.old → AreHonest D.honest begun.new }
     ensures each { AreHonest D.honest begun.old → OnOk result (HaveShards D.state old.now.store shards reach (merged rows.now) shards begun.new) }

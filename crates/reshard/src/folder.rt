@@ -3,7 +3,6 @@ ghost use Rattle.std.specs.Prelude.{◌≤◌, ◌≡◌, ◌⊎◌, ◌+◌, �
 ghost use Rattle.cluster.specs.Worlds.{flow_count};
 ghost use Rattle.node_files.specs.Devices.{HostDevice, IsFound, is_honest, left_since_of, moment_of, state_of};
 ghost use Rattle.reshard.specs.Folders.{CarriesDevices, CarriesDevicesNot, CarriesFiles, CarriesWorld, CarriesWorldNot};
-ghost use Rattle.tuples.specs.Limits.{max_shards};
 
 use crate::carry_over;
 use cluster::{World, reopen};
@@ -13,7 +12,7 @@ use node_files::open_all;
 use std::alloc::Global;
 use std::fs;
 use std::io::ErrorKind;
-use tuples::{MAX_SHARDS, Refusal};
+use tuples::{MAX_SHARDS, Refusal, Shards};
 
 // The status of a resharding that was not done.
 const FAILED: u8 = 1;
@@ -37,13 +36,9 @@ pub fn reshard_folder(
     rt: &HostRuntime,
     folders: Folders<'_>,
     store: u64,
-    shards: u8,
-    new_shards: u8,
+    shards: Shards,
+    new_shards: Shards,
 ) -> u8
-    requires some { 1 ≤ shards }
-    requires few { shards ≤ max_shards }
-    requires some_new { 1 ≤ new_shards }
-    requires few_new { new_shards ≤ max_shards }
     ensures status { (result ≡ 0) ⊎ (result ≡ 1) }
     ensures carried { result ≡ 0 → (made : List HostDevice) × CarriesFiles store shards new_shards made }
 {
@@ -58,13 +53,9 @@ fn carry_folder(
     rt: &HostRuntime,
     folders: Folders<'_>,
     store: u64,
-    shards: u8,
-    new_shards: u8,
+    shards: Shards,
+    new_shards: Shards,
 ) -> Result<(), Refusal>
-    requires some { 1 ≤ shards }
-    requires few { shards ≤ max_shards }
-    requires some_new { 1 ≤ new_shards }
-    requires few_new { new_shards ≤ max_shards }
     ensures { OnOk result ((made : List HostDevice) × CarriesFiles store shards new_shards made) }
 {
     let devices = open_all(rt, folders.dir, shards)?;
@@ -79,15 +70,11 @@ fn carry_files(
     alloc: Global,
     devices: Vec<FileDevice<HostFile>>,
     store: u64,
-    shards: u8,
+    shards: Shards,
     new_devices: Vec<FileDevice<HostFile>>,
-    new_shards: u8,
+    new_shards: Shards,
 ) -> Result<(), Refusal>
-    requires some { 1 ≤ shards }
-    requires few { shards ≤ max_shards }
     requires count { vec_len devices ≡ 2 * (shards + 1) }
-    requires some_new { 1 ≤ new_shards }
-    requires few_new { new_shards ≤ max_shards }
     requires count_new { vec_len new_devices ≡ 2 * (new_shards + 1) }
     ensures { OnOk result ((made : List HostDevice) × CarriesDevices state_of is_honest moment_of left_since_of store shards devices.items new_shards new_devices.items made) }
 {
@@ -102,15 +89,11 @@ fn carry_devices<D: Device>(
     alloc: Global,
     devices: Vec<D>,
     store: u64,
-    shards: u8,
+    shards: Shards,
     new_devices: Vec<D>,
-    new_shards: u8,
+    new_shards: Shards,
 ) -> Result<Vec<D>, Refusal>
-    requires some { 1 ≤ shards }
-    requires few { shards ≤ max_shards }
     requires count { vec_len devices ≡ 2 * (shards + 1) }
-    requires some_new { 1 ≤ new_shards }
-    requires few_new { new_shards ≤ max_shards }
     requires count_new { vec_len new_devices ≡ 2 * (new_shards + 1) }
     ensures ok { IfOk result (λ made. CarriesDevices D.state D.honest D.moment D.left_since store shards devices.items new_shards new_devices.items made.items) }
     ensures err { IfErr result (CarriesDevicesNot D.state D.honest D.moment D.left_since store shards devices.items) }
@@ -125,11 +108,9 @@ fn carry_world<D: Device>(
     alloc: Global,
     mut world: World<D>,
     new_devices: Vec<D>,
-    new_shards: u8,
+    new_shards: Shards,
 ) -> Result<Vec<D>, Refusal>
     requires quiet { flow_count world.flows ≡ 0 }
-    requires some_new { 1 ≤ new_shards }
-    requires few_new { new_shards ≤ max_shards }
     requires count_new { vec_len new_devices ≡ 2 * (new_shards + 1) }
     ensures ok { IfOk result (λ made. CarriesWorld D.state D.honest D.moment D.left_since world new_shards new_devices.items made.items) }
     ensures err { IfErr result (CarriesWorldNot D.state D.honest D.moment D.left_since world) }
@@ -181,7 +162,7 @@ fn has_store(rt: &HostRuntime, folder: &str) -> Result<bool, Refusal> {
 fn open_new(
     rt: &HostRuntime,
     folder: &str,
-    shards: u8,
+    shards: Shards,
 ) -> Result<Vec<FileDevice<HostFile>>, Refusal>
     ensures count { IfOk result (λ devices. vec_len devices ≡ 2 * (shards + 1)) }
     ensures found { IfOk result (λ devices. All (λ d. IsFound d.history.events d.is_stopped d.failures) devices.items) }

@@ -1,5 +1,6 @@
 // The devices of the new nodes, on each of which a checkpoint begins before any of them has more.
-ghost use Rattle.std.specs.Prelude.{◌≡◌, ◌⊎◌, ◌≤◌, ◌<◌, ◌+◌, ◌*◌, ◌++◌, ◌∷◌, [], All, IfErr, OnErr, OnOk};
+ghost use Rattle.std.specs.Prelude.{◌≡◌, ◌≤◌, ◌<◌, ◌+◌, ◌*◌, ◌++◌, ◌∷◌, [], All, IfErr, OnErr, OnOk};
+ghost use Rattle.refusal.specs.Refusals.{IsOneOf};
 ghost use Rattle.std.specs.Vec.{vec_capacity, vec_len};
 ghost use Rattle.reshard.specs.Made.{AreHonest, devices_of};
 ghost use Rattle.reshard.specs.Written.{BeginsNode, HeadBegins, PutsTwoBack};
@@ -47,7 +48,7 @@ fn begin_next<D: Device>(
     ensures capacity { (vec_capacity devices.new ≡ vec_capacity devices.old) × (vec_capacity begun.new ≡ vec_capacity begun.old) }
     ensures node { OnOk result (BeginsNode D.state D.honest D.moment D.left_since devices.old.items begun.old.items devices.new.items begun.new.items) }
     ensures back { OnErr result (PutsTwoBack D.state D.honest D.moment D.left_since devices.old.items devices.new.items × (begun.new ≡ begun.old)) }
-    ensures err { IfErr result (λ e. (e ≡ Refusal.Down) ⊎ ((e ≡ Refusal.NoMemory) ⊎ (e ≡ Refusal.Damaged))) }
+    ensures err { IfErr result (λ e. IsOneOf e (Refusal.Down ∷ Refusal.NoMemory ∷ Refusal.Damaged ∷ [])) }
 {
     let (a, b) = take_two(devices);
     match Begun::begin(alloc, a, b) {
@@ -80,7 +81,7 @@ pub(crate) fn begin_all<D: Device>(
     ensures honest { All D.honest devices.old.items → OnOk result (AreHonest D.honest begun.new.items) }
     ensures capacity { vec_capacity devices.new ≡ vec_capacity devices.old }
     ensures head { HeadBegins D.state D.honest D.moment D.left_since devices.old.items begun.new.items devices.new.items }
-    ensures err { IfErr result (λ e. (e ≡ Refusal.Down) ⊎ ((e ≡ Refusal.NoMemory) ⊎ (e ≡ Refusal.Damaged))) }
+    ensures err { IfErr result (λ e. IsOneOf e (Refusal.Down ∷ Refusal.NoMemory ∷ Refusal.Damaged ∷ [])) }
 {
     while begun.len() < count {
         begin_next(alloc, devices, begun)?;

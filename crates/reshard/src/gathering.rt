@@ -38,7 +38,7 @@ fn append_all<'a, D: Device>(world: &'a World<D>, rows: &mut Rows<'a>) -> Result
     ensures ok { OnOk result (TellAll D.state D.honest world.now.nodes world.now.shards (all_of rows.new)) }
     ensures err { IfErr result (λ e. ((s : ℕ) × TellsNot D.state D.honest world.now.nodes s e) ⊎ (e ≡ Refusal.NoMemory)) }
 {
-    for shard in 0..world.shards() {
+    for shard in 0..world.shards().count() {
         append(world, shard, rows)?;
     }
     Ok(())

@@ -6,7 +6,6 @@ ghost use Rattle.cluster.specs.Openings.{IsOpenedOver};
 ghost use Rattle.cluster.specs.Worlds.{flow_count};
 ghost use Rattle.journal.specs.Beginnings.{BegunView};
 ghost use Rattle.merging.specs.Merging.{merged};
-ghost use Rattle.records.specs.Identity.{max_shards};
 ghost use Rattle.refusal.specs.declared.refusal.Refusal.{Refusal as AnyRefusal};
 ghost use Rattle.reshard.specs.Caring.{Cares, HaveReached, IsCaredFor};
 ghost use Rattle.reshard.specs.Gathering.{AreGathered};
@@ -25,7 +24,7 @@ use device::Device;
 use journal::Begun;
 use merging::Rows;
 use std::alloc::Global;
-use tuples::Refusal;
+use tuples::{Refusal, Shards};
 
 // What the shards of a store know, which is to be known by others: how far they reach, and their versions, where they lie.
 #[derive(Drop)]
@@ -58,13 +57,11 @@ fn close<D: Device>(old: &mut World<D>) -> Result<(), Refusal>
 fn write<D: Device>(
     alloc: Global,
     old: &World<D>,
-    shards: u8,
+    shards: Shards,
     known: &Known<'_>,
     devices: &mut Vec<D>,
     begun: &mut Vec<Begun<D>>,
 ) -> Result<(), Refusal>
-    requires some { 1 ≤ shards }
-    requires few { shards ≤ max_shards }
     requires count { vec_len devices.old ≡ 2 * (shards + 1) }
     requires within { vec_len devices.old ≤ vec_capacity devices.old }
     requires none { begun.old.items ≡ [] }
@@ -82,7 +79,7 @@ fn write<D: Device>(
         ⊎ ((head : BegunView D) × HasBegunOn D.state D.honest D.moment D.left_since devices.old.items head × HasTried D.state D.honest D.moment D.left_since old.now shards known.now.reach (merged known.now.rows) (All D.honest devices.old.items) head begun.new.items) }
     ensures err { IfErr result (IsNotWritten old.now.nodes) }
 {
-    begin_all(alloc, shards as usize + 1, devices, begun)?;
+    begin_all(alloc, shards.count() as usize + 1, devices, begun)?;
     fill(alloc, old, shards, known.reach, &known.rows, begun)
 }
 
@@ -90,12 +87,10 @@ fn write<D: Device>(
 fn make<D: Device>(
     alloc: Global,
     old: &World<D>,
-    shards: u8,
+    shards: Shards,
     known: &Known<'_>,
     devices: &mut Vec<D>,
 ) -> Result<(), Refusal>
-    requires some { 1 ≤ shards }
-    requires few { shards ≤ max_shards }
     requires count { vec_len devices.old ≡ 2 * (shards + 1) }
     ensures count { vec_len devices.new ≡ vec_len devices.old }
     ensures ok { OnOk result (AreMade D.state D.honest old.now shards known.now.reach (merged known.now.rows) devices.old.items devices.new.items) }
@@ -103,7 +98,7 @@ fn make<D: Device>(
     ensures left { OnErr result (AreLeft D.state D.honest D.moment D.left_since old.now shards known.now.reach (merged known.now.rows) devices.old.items devices.new.items) }
     ensures err { IfErr result (IsNotWritten old.now.nodes) }
 {
-    let Ok(mut begun) = Vec::with_capacity(alloc, shards as usize + 1) else {
+    let Ok(mut begun) = Vec::with_capacity(alloc, shards.count() as usize + 1) else {
         return Err(Refusal::NoMemory);
     };
     let made = write(alloc, old, shards, known, devices, &mut begun);
@@ -115,12 +110,10 @@ fn make<D: Device>(
 fn carry_known<D: Device>(
     alloc: Global,
     old: &World<D>,
-    shards: u8,
+    shards: Shards,
     known: &Known<'_>,
     mut devices: Vec<D>,
 ) -> Result<Vec<D>, (Refusal, Vec<D>)>
-    requires some { 1 ≤ shards }
-    requires few { shards ≤ max_shards }
     requires count { vec_len devices ≡ 2 * (shards + 1) }
     ensures ok { IfOk result (λ made. AreMade D.state D.honest old.now shards known.now.reach (merged known.now.rows) devices.items made.items) }
     ensures count { IfOk result (λ made. vec_len made ≡ vec_len devices) }
@@ -139,11 +132,9 @@ fn carry_known<D: Device>(
 fn carry<D: Device>(
     alloc: Global,
     old: &World<D>,
-    shards: u8,
+    shards: Shards,
     devices: Vec<D>,
 ) -> Result<Vec<D>, (Refusal, Vec<D>)>
-    requires some { 1 ≤ shards }
-    requires few { shards ≤ max_shards }
     requires count { vec_len devices ≡ 2 * (shards + 1) }
     ensures ok { IfOk result (λ made. IsCarriedOver D.state D.honest old.now shards devices.items made.items) }
     ensures count { IfOk result (λ made. vec_len made ≡ vec_len devices) }
@@ -172,10 +163,8 @@ pub fn carry_over<D: Device>(
     alloc: Global,
     old: &mut World<D>,
     devices: Vec<D>,
-    shards: u8,
+    shards: Shards,
 ) -> Result<Vec<D>, (Refusal, Vec<D>)>
-    requires some { 1 ≤ shards }
-    requires few { shards ≤ max_shards }
     requires quiet { flow_count old.old.flows ≡ 0 }
     requires count { vec_len devices ≡ 2 * (shards + 1) }
     ensures cares { Cares D.state D.honest D.moment D.left_since old.old old.new }
@@ -198,10 +187,8 @@ pub fn reshard<D: Device>(
     alloc: Global,
     old: &mut World<D>,
     devices: Vec<D>,
-    shards: u8,
+    shards: Shards,
 ) -> Result<World<D>, (Refusal, Vec<D>)>
-    requires some { 1 ≤ shards }
-    requires few { shards ≤ max_shards }
     requires quiet { flow_count old.old.flows ≡ 0 }
     requires count { vec_len devices ≡ 2 * (shards + 1) }
     ensures cares { Cares D.state D.honest D.moment D.left_since old.old old.new }
@@ -221,11 +208,9 @@ pub fn reshard<D: Device>(
 fn open<D: Device>(
     alloc: Global,
     store: u64,
-    shards: u8,
+    shards: Shards,
     devices: Vec<D>,
 ) -> Result<World<D>, (Refusal, Vec<D>)>
-    requires some { 1 ≤ shards }
-    requires few { shards ≤ max_shards }
     requires count { vec_len devices ≡ 2 * (shards + 1) }
     ensures ok { IfOk result (IsOpenedOver D.state D.honest D.moment D.left_since store shards devices.items) }
     ensures back { IfErr result (λ e. vec_len e.1 ≡ vec_len devices) }

@@ -9,7 +9,7 @@ use calls::Reach;
 use cluster::World;
 use device::Device;
 use names::{Care, NodeName};
-use tuples::Refusal;
+use tuples::{Refusal, Shards};
 
 fn reach_of<D: Device>(world: &World<D>, name: NodeName) -> Result<Reach, Refusal>
     ensures { MatchResult result (ReachesAt D.state D.honest world.now.nodes name) (RefusesAt D.state D.honest world.now.nodes name) }
@@ -25,7 +25,7 @@ pub fn are_up<D: Device>(world: &World<D>) -> Result<(), Refusal>
     ensures { MatchResult result (λ _. AreUp D.state D.honest world.now) (IsFirstDown D.state D.honest world.now) }
 {
     let _log = reach_of(world, NodeName::Coordinator)?;
-    for shard in 0..world.shards() {
+    for shard in 0..world.shards().count() {
         let _shard = reach_of(world, NodeName::Shard(shard))?;
     }
     Ok(())
@@ -41,11 +41,11 @@ fn care_for<D: Device>(world: &mut World<D>, shard: u8) -> Result<(), Refusal>
     serve(world, Care::Collect(shard))
 }
 
-fn care_for_all<D: Device>(world: &mut World<D>, shards: u8) -> Result<(), Refusal>
+fn care_for_all<D: Device>(world: &mut World<D>, shards: Shards) -> Result<(), Refusal>
     ensures ok { OnOk result (CaresOn D.state D.honest D.moment D.left_since world.old world.new) }
     ensures err { IfErr result (λ e. RefusesCare D.state D.honest D.moment D.left_since world.old e world.new) }
 {
-    for shard in 0..shards {
+    for shard in 0..shards.count() {
         care_for(world, shard)?;
     }
     Ok(())
@@ -67,7 +67,7 @@ pub(crate) fn reach<D: Device>(world: &World<D>) -> Result<Reach, Refusal>
     ensures err { IfErr result (λ e. ((name : AnyName) × RefusesAt D.state D.honest world.now.nodes name e) ⊎ (e ≡ Refusal.Damaged)) }
 {
     let reach = reach_of(world, NodeName::Coordinator)?;
-    for shard in 0..world.shards() {
+    for shard in 0..world.shards().count() {
         if reach_of(world, NodeName::Shard(shard))? != reach {
             return Err(Refusal::Damaged);
         }

@@ -4,7 +4,7 @@ use Rattle.std.specs.List.{AllByRecursion}
 use Rattle.std.proofs.lemmas.List.Elements.{Contains-append_right}
 use Rattle.cluster.specs.Runs.{TookAll}
 use Rattle.cluster.specs.Steps.{Takes}
-use Rattle.reshard_laws.proofs.Words.{answered, Asked, began, Begins, care_for, ended, EndsAs, Event, events_of, flow_at, Flush, HasSameList, IfRunning, IsAsked, IsIdle, KeepsList, Moment, NamesHorizon, replaced, Running, Shows, StandsOver, State, StepsKeep, Store, Told, Turn, Turns, What, WorldView, WriteId}
+use Rattle.reshard_laws.proofs.Words.{answered, Asked, began, Begins, care_for, ended, EndsAs, events_of, flow_at, Flush, HasSameList, IfRunning, IsAsked, IsIdle, KeepsList, Moment, NamesHorizon, replaced, Running, Shows, StandsOver, State, StepsKeep, Store, Told, Turn, Turns, What, WorldView, WriteId}
 use Rattle.cluster.specs.declared.event.Event.{Event as AnyEvent}
 use Rattle.cluster.specs.declared.step.Step.{Step}
 use Rattle.cluster.specs.declared.step.Step.TheVariants.{Start, Cancel, Restart}
@@ -14,10 +14,11 @@ use Rattle.headline.specs.Told.{IsWholeStep, all_told, asked_for, step_of}
 use Rattle.names.specs.declared.care.Care.{Care}
 use Rattle.names.specs.declared.care.Care.TheVariants.{Checkpoint, Learn, Resolve, Raise, Collect}
 use Rattle.reshard.specs.Caring.{IsCaring, IsOfClosing}
-use Rattle.turns.specs.Moments.{is_write}
+use Rattle.stores.specs.Flows.{named_by}
+use Rattle.stores.specs.Moments.{is_write}
 use Rattle.turns.specs.Promises.{Ran, RunsOne}
 use Rattle.turns.specs.Runs as runs
-use Rattle.turns.specs.Runs.{Decides, DecidesNothing, EndsQuietly, MayRise, came_up, goes_on, named_by, refuses, told_by}
+use Rattle.turns.specs.Runs.{Decides, DecidesNothing, EndsQuietly, MayRise, came_up, goes_on, refuses, told_by}
 use Rattle.reshard_laws.proofs.Flows.{Each, each_at, each_ended, each_replaced}
 use Rattle.reshard_laws.proofs.Machines.{GoesQuietly, goes_nowhere, goes_then, quiet_moves, stays, stays_then}
 

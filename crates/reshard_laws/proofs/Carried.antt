@@ -12,8 +12,8 @@ use Rattle.laws.proofs.MachineMoves.{snapshots_stay}
 use Rattle.records.specs.Checkpoints.{coordinator_checkpoint}
 use Rattle.records.specs.Coordinators.{coordinator_state}
 use Rattle.reshard.specs.Made.{IsCarriedOver, shard_of_store}
+use Rattle.stores.specs.Stores.{IsToldOver}
 use Rattle.turns.proofs.ClosedStoreRests.{closed_stores_rest}
-use Rattle.turns.specs.Stores.{IsToldOver}
 use Rattle.reshard_laws.specs.Carried.{CarriesOn, ClosedStoresAreCarriedOver, KeepsAndCarries, TokensReadTheSame, WhatIsCarriedOverRests}
 use Rattle.reshard_laws.proofs.Flushed.{keeps_all}
 use Rattle.reshard_laws.proofs.Known as known

@@ -1,16 +1,12 @@
 -- The first checkpoint of the coordinator of another number of shards: it is that coordinator's, and stands for what the old one knows.
 use Rattle.std.proofs.Common.{◌≡◌, ◌+◌, ◌-◌, ℕ, List, [], ◌∷◌, ◌++◌, drop, Option, Some, None, refl, sym, subst, append_assoc}
-use Rattle.std.proofs.lemmas.List.{append-nil}
-use Rattle.reshard_laws.proofs.Words.{Checkpoint, coordinator_empty, coordinator_number, CoordinatorState, decisions_from, Ends, Entry, Identity, Inside, inside_from, inside_push, inside_step, IsCoordinatorImage, Record}
+use Rattle.reshard_laws.proofs.Words.{Checkpoint, coordinator_empty, coordinator_number, CoordinatorState, decisions_from, Ends, Entry, Identity, Inside, inside_from, inside_push, IsCoordinatorImage, Record}
 use Rattle.records.specs.declared.mark.Stage.TheVariants.{Bounded}
 use Rattle.records.specs.Checkpoints.{coordinator_checkpoint}
-use Rattle.records.specs.Coordinators.{BeginsCoordinatorImage, MayFollowNext, coordinator_state, coordinator_step, empty_coordinator}
+use Rattle.records.specs.Coordinators.{BeginsCoordinatorImage, coordinator_state, coordinator_step, empty_coordinator}
 use Rattle.records.specs.Inside.{inside_of}
-use Rattle.records.proofs.CoordinatorStates.{coordinator_more, coordinator_push}
-
-abbrev FollowAll : Identity → Option Inside → CoordinatorState → List Record → Type 0
-FollowAll me i s [] = Unit {0}
-FollowAll me i s (r ∷ rs) = MayFollowNext me i s r × FollowAll me (inside_step i r) (coordinator_step s r) rs
+use Rattle.records.proofs.CoordinatorStates.{coordinator_push}
+use Rattle.recovery.proofs.Checkpoints.{FollowAll, begins_from, follows_nothing}
 
 -- an image, record by record
 follow_of : (me : Identity) (before rs : List Record) → BeginsCoordinatorImage me (before ++ rs) → FollowAll me (inside_of before) (coordinator_state before) rs
@@ -22,21 +18,9 @@ follow_of me before (r ∷ rs) begins = (
       (follow_of me (before ++ r ∷ []) rs (subst (BeginsCoordinatorImage me) (sym (append_assoc before (r ∷ []) rs)) begins))),
 )
 
-begins_from : (me : Identity) (before rs : List Record) → BeginsCoordinatorImage me before → FollowAll me (inside_of before) (coordinator_state before) rs → BeginsCoordinatorImage me (before ++ rs)
-begins_from me before [] begins follow = subst (BeginsCoordinatorImage me) (sym (append-nil before)) begins
-begins_from me before (r ∷ rs) begins follow =
-    let next : FollowAll me (inside_of (before ++ r ∷ [])) (coordinator_state (before ++ r ∷ [])) rs =
-    subst (λ (i : Option Inside). FollowAll me i (coordinator_state (before ++ r ∷ [])) rs) (sym (inside_push before r))
-    (subst (λ (s : CoordinatorState). FollowAll me (inside_step (inside_of before) r) s rs) (sym (coordinator_push before r)) follow.1) in
-    subst (BeginsCoordinatorImage me) (append_assoc before (r ∷ []) rs) (begins_from me (before ++ r ∷ []) rs (coordinator_more me before r begins follow.0) next)
-
 from_nothing : (me : Identity) (rs : List Record) → FollowAll me (inside_of []) (coordinator_state []) rs → FollowAll me None empty_coordinator rs
 unfolding inside_of coordinator_state
 from_nothing me rs follow = follow
-
-to_nothing : (me : Identity) (rs : List Record) → FollowAll me None empty_coordinator rs → FollowAll me (inside_of []) (coordinator_state []) rs
-unfolding inside_of coordinator_state
-to_nothing me rs follow = follow
 
 module _ (me you : Identity) where
   abbrev listing : Option Inside
@@ -70,6 +54,6 @@ module _ (me you : Identity) where
   pub first_log : (s : CoordinatorState) → you.node ≡ coordinator_number → IsCoordinatorImage me (coordinator_checkpoint me 1 s) → IsCoordinatorImage you (coordinator_checkpoint you 1 s)
   first_log s is image = record {
     each = begins_from you [] (coordinator_checkpoint you 1 s) (coordinator_empty you).each
-        (to_nothing you (coordinator_checkpoint you 1 s) (same_checkpoint s is (from_nothing me (coordinator_checkpoint me 1 s) (follow_of me [] (coordinator_checkpoint me 1 s) image.each))));
+        (follows_nothing you (coordinator_checkpoint you 1 s) (same_checkpoint s is (from_nothing me (coordinator_checkpoint me 1 s) (follow_of me [] (coordinator_checkpoint me 1 s) image.each))));
     whole = ends s;
   }

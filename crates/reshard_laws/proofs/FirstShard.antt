@@ -1,34 +1,18 @@
 -- The first checkpoint of a shard that was never opened: it is the shard's, and stands for its versions.
 use Rattle.std.proofs.Common.{◌≡◌, ◌≤◌, inl, inr, List, [], ◌∷◌, ◌++◌, map, Option, Some, None, refl, sym, ◌∙◌, ap, subst, arith, append_assoc}
-use Rattle.std.proofs.lemmas.List.{append-nil}
 use Rattle.std.proofs.lemmas.List.Elements.{All-nil}
-use Rattle.reshard_laws.proofs.Words.{AreKept, Checkpoint, Ends, greatest_number, Inside, inside_from, inside_push, inside_step, IsKept, IsShardImage, of_shard, Reach, Record, shard_first, ShardState, Version}
+use Rattle.reshard_laws.proofs.Words.{AreKept, Checkpoint, Ends, greatest_number, Inside, inside_from, IsKept, IsShardImage, of_shard, Reach, shard_first, ShardState, Version}
 use Rattle.records.specs.declared.mark.Stage.TheVariants.{Listed}
 use Rattle.records.specs.Inside.{inside_of}
-use Rattle.records.specs.Replays.{BeginsShardImage, Identity, MayFollow, empty_shard, shard_from, shard_state, shard_step}
+use Rattle.records.specs.Replays.{Identity, empty_shard, shard_from, shard_state, shard_step}
 use Rattle.replay.specs.Checkpoints.{row_of}
 use Rattle.replay.proofs.Doubting.{each_middle}
 use Rattle.replay.proofs.Rising.{newest_below, some_place}
-use Rattle.replay.proofs.States.{image_empty, image_more, shard_push}
+use Rattle.replay.proofs.States.{image_empty}
+use Rattle.replay.proofs.Checkpoints.{FollowAll, begins_from, follows_nothing}
 use Rattle.tuples.specs.Versions.{collected}
 
 -- ---- records that may follow one another
-
-abbrev FollowAll : Identity → Option Inside → ShardState → List Record → Type 0
-FollowAll me i s [] = Unit {0}
-FollowAll me i s (r ∷ rs) = MayFollow me i s r × FollowAll me (inside_step i r) (shard_step s r) rs
-
-begins_from : (me : Identity) (before rs : List Record) → BeginsShardImage me before → FollowAll me (inside_of before) (shard_state before) rs → BeginsShardImage me (before ++ rs)
-begins_from me before [] begins follow = subst (BeginsShardImage me) (sym (append-nil before)) begins
-begins_from me before (r ∷ rs) begins follow =
-    let next : FollowAll me (inside_of (before ++ r ∷ [])) (shard_state (before ++ r ∷ [])) rs =
-    subst (λ (i : Option Inside). FollowAll me i (shard_state (before ++ r ∷ [])) rs) (sym (inside_push before r))
-    (subst (λ (s : ShardState). FollowAll me (inside_step (inside_of before) r) s rs) (sym (shard_push before r)) follow.1) in
-    subst (BeginsShardImage me) (append_assoc before (r ∷ []) rs) (begins_from me (before ++ r ∷ []) rs (image_more me before r begins follow.0) next)
-
-follows_nothing : (me : Identity) (rs : List Record) → FollowAll me None empty_shard rs → FollowAll me (inside_of []) (shard_state []) rs
-unfolding inside_of shard_state
-follows_nothing me rs follow = follow
 
 -- what the shard knows by it
 abbrev pub first_state : Reach → List Version → ShardState

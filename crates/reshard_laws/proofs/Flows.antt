@@ -7,7 +7,7 @@ use Rattle.cluster.specs.declared.flow.Flow.{Flow}
 use Rattle.reshard_laws.proofs.Words.{Asked, ended, flow_at, flow_count, Moment, replaced, Running, Shows, StandsOver, State, Store, WorldView}
 use Rattle.cluster.specs.Worlds.{flow_at as flow_in}
 use Rattle.headline.specs.Shown.{IsShownSlot}
-use Rattle.turns.specs.Stores.{FlowView, ShowsSlot}
+use Rattle.stores.specs.Stores.{FlowView, ShowsSlot}
 
 -- what each flow was asked has P
 abbrev pub Each : (Asked → Type 0) → List Running → Type 0

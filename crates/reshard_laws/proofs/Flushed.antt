@@ -1,25 +1,18 @@
 -- A flush of the coordinator that told its end: all of the list is kept.
-use Rattle.std.proofs.Common.{◌≡◌, ◌⊎◌, inl, inr, ⊎_elim, ℕ, List, [], ◌∷◌, map, Option, Some, None, length, refl, sym, ◌∙◌, ap, subst, arith}
-use Rattle.reshard_laws.proofs.Words.{answered, Asked, began, Begins, care_for, Coordinator, coordinator, EndsAs, Event, events_of, flow_at, flow_count, Flush, IfRunning, IsAsked, IsIdle, KeepsList, Moment, NamesHorizon, Running, Shows, StandsOver, State, StepsKeep, Store, Told, Turn, Turns, What, WorldView}
+use Rattle.std.proofs.Common.{◌≡◌, ◌⊎◌, inl, inr, ⊎_elim, ℕ, List, [], ◌∷◌, Option, Some, None, length, refl, sym, ◌∙◌, ap, subst, arith}
+use Rattle.reshard_laws.proofs.Words.{answered, Asked, began, Begins, care_for, Coordinator, coordinator, EndsAs, flow_at, flow_count, Flush, IfRunning, IsAsked, IsIdle, KeepsList, Moment, NamesHorizon, Running, Shows, StandsOver, State, StepsKeep, Store, Told, Turn, Turns, What, WorldView}
 use Rattle.cluster.specs.declared.event.Answer.{Answer as AnyAnswer}
 use Rattle.cluster.specs.declared.event.Answer.TheVariants.{Checked, Done, Listed, Resolved, Selected, Wrote}
 use Rattle.cluster.specs.declared.event.What.TheVariants.{Began, Ended}
 use Rattle.headline.specs.Told.{answer_of}
 use Rattle.reshard.specs.Caring.{Cares, IsCaredFor, Serves, TurnsOf}
 use Rattle.reshard.proofs.Caring.{nothing_done}
-use Rattle.turns.specs.Flows.{to_flush}
-use Rattle.turns.specs.Replies.{Agrees}
+use Rattle.stores.specs.Flows.{to_flush}
+use Rattle.stores.specs.Replies.{Agrees}
+use Rattle.turns.proofs.Chains.{same_told}
 use Rattle.reshard_laws.specs.Cared.{CaresKeepTheList, FlushedListsAreKept}
 use Rattle.reshard_laws.proofs.Cares.{AreNoWrites, Cared, all_steps, each_turned, nothing_yet, one_step, ran}
 use Rattle.reshard_laws.proofs.Flows.{Each, each_at, none_running}
-
--- what was told, by its events
-told_of_events : (n : ℕ) (told : List Told) → map (λ (e : Event). e.told) (events_of n told) ≡ told
-told_of_events n [] = refl
-told_of_events n (t ∷ told) = ap (λ (l : List Told). t ∷ l) (told_of_events n told)
-
-pub same_told : (n : ℕ) (a b : List Told) → events_of n a ≡ events_of n b → b ≡ a
-same_told n a b is = sym (told_of_events n b) ∙ ap (map (λ (e : Event). e.told)) (sym is) ∙ told_of_events n a
 
 abbrev pub IsFlush : Asked → Type 0
 IsFlush asked = asked ≡ to_flush coordinator

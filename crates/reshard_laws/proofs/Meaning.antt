@@ -15,7 +15,7 @@ use Rattle.recovery.proofs.Known.{image_known}
 use Rattle.recovery.specs.Checkpoints.{above_horizon}
 use Rattle.replay.proofs.Rising.{kept_alike}
 use Rattle.tuples.specs.Versions.{versions}
-use Rattle.turns.specs.Stands.{at_shards}
+use Rattle.stores.specs.Stands.{at_shards}
 use Rattle.versions.proofs.Alike.{alike_sym}
 use Rattle.reshard_laws.proofs.FirstLog.{first_log}
 use Rattle.reshard_laws.proofs.FirstShard.{first_image, first_is}

@@ -9,7 +9,7 @@ use Rattle.std.proofs.lemmas.Cmp.{tied_itself}
 use Rattle.std.proofs.lemmas.List.Sorted.{Contains-permutation, IsPermutation-sym, sum_by-IsPermutation}
 use Rattle.std.proofs.lemmas.List.Sums.{sum_by-cons}
 use Rattle.std.proofs.lemmas.Map.Keys.{ge_from_not_lt}
-use Rattle.reshard_laws.proofs.Words.{AreAlike, each_filter, of_tuple, RisesFrom, Tuple, tuple_of, tuple_same, Version}
+use Rattle.reshard_laws.proofs.Words.{AreAlike, of_tuple, RisesFrom, Tuple, tuple_of, tuple_same, Version}
 use Rattle.tuples.specs.Order.{tuple_cmp, tuple_eq}
 use Rattle.tuples.proofs.Ordered.{tuple_total}
 use Rattle.versions.specs.Rows.{version_cmp}

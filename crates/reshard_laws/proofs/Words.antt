@@ -33,6 +33,9 @@ pub use Rattle.replay.proofs.Doubting.{each_filter}
 pub use Rattle.replay.proofs.Rising.{AreKept, IsKept, RisesFrom}
 pub use Rattle.reshard.specs.Made.{AreHonest, devices_of, HasAt, shard_first}
 pub use Rattle.reshard_laws.specs.Cared.{HasSameList, KeepsList}
+pub use Rattle.stores.specs.Flows.{Asked, IsAsked}
+pub use Rattle.stores.specs.Moments.{ended, flow_at, Moment, replaced, Running}
+pub use Rattle.stores.specs.Stores.{NamesHorizon, RestsOver, StandsOver, stops, Store}
 pub use Rattle.tuples.proofs.Same.{tuple_same}
 pub use Rattle.tuples.specs.Changes.{tuple_of}
 pub use Rattle.tuples.specs.Versions.{of_shard}
@@ -40,10 +43,7 @@ pub use Rattle.tuples.specs.declared.entry.Entry.{Entry}
 pub use Rattle.tuples.specs.declared.entry.WriteId.{WriteId}
 pub use Rattle.tuples.specs.declared.tuple.Tuple.{Tuple}
 pub use Rattle.tuples.specs.declared.version.Version.{Version}
-pub use Rattle.turns.specs.Flows.{Asked, IsAsked}
-pub use Rattle.turns.specs.Moments.{ended, flow_at, Moment, replaced, Running}
 pub use Rattle.turns.specs.Promises.{events_of}
 pub use Rattle.turns.specs.Runs.{answered, began, Begins, EndsAs, Event, IfRunning, IsIdle, Told, Turns}
 pub use Rattle.turns.specs.SeamLaws.{IsSeen}
-pub use Rattle.turns.specs.Stores.{NamesHorizon, RestsOver, StandsOver, stops, Store}
 pub use Rattle.versions.specs.Alike.{AreAlike, of_tuple}

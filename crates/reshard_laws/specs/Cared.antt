@@ -7,10 +7,10 @@ use Rattle.headline.specs.PastWrites.{IsPast}
 use Rattle.headline.specs.Shown.{Shows}
 use Rattle.laws.specs.Machines.{Machine}
 use Rattle.reshard.specs.Caring.{Cares, IsCaredFor}
-use Rattle.turns.specs.Moments.{Moment}
+use Rattle.stores.specs.Moments.{Moment}
+use Rattle.stores.specs.Stores.{NamesHorizon, StandsOver, Store}
 use Rattle.turns.specs.Promises.{Ran}
 use Rattle.turns.specs.Runs.{Event, Step}
-use Rattle.turns.specs.Stores.{NamesHorizon, StandsOver, Store}
 
 -- the second machine has the same list, and keeps no less of it; its horizon is no lower
 pub record HasSameList (old new : Machine) : Type 0 where

@@ -18,10 +18,10 @@ use Rattle.laws.specs.Machines.{Machine}
 use Rattle.laws.specs.Nodes.{NodeName, coordinator}
 use Rattle.reshard.specs.Caring.{IsCaredFor}
 use Rattle.reshard.specs.Made.{IsCarriedOver}
-use Rattle.turns.specs.Moments.{Moment}
+use Rattle.stores.specs.Moments.{Moment}
+use Rattle.stores.specs.Stores.{IsToldOver, RestsOver, StandsOver, Store, stops}
 use Rattle.turns.specs.Promises.{StopsBetween}
 use Rattle.turns.specs.Reopens.{Reopened}
-use Rattle.turns.specs.Stores.{IsToldOver, RestsOver, StandsOver, Store, stops}
 use Rattle.reshard_laws.specs.Cared.{KeepsList}
 
 module _ {D : Type 0} (state : D → State) (honest : D → Type 0) (moment : D → ℕ) (left_since : D → ℕ → List ℕ → Type 0) where

@@ -15,4 +15,4 @@ among id shards names line (Care c) spells = tt
 among id shards names line (Rows shard) spells = tt
 among id shards names line (Restart node) spells = tt
 among id shards names line (Fail f) spells = tt
-among id shards names line (Reshard count) spells = spells.1
+among id shards names line (Reshard count) spells = tt

@@ -1,5 +1,6 @@
 -- How a line is answered.
 use Rattle.std.proofs.Common.{◌≡◌, ◌≤◌, ℕ, List, [], ◌∷◌, ◌++◌, length, Bool, true, false, sym, ap, ◌∙◌, subst, inl, refl, Option}
+use Rattle.std.proofs.lemmas.Bool.{both_ways}
 use Rattle.std.specs.Global.{Vec}
 use Rattle.std.specs.Io.KnownBytes.{Appends}
 use Rattle.std.specs.Prelude.{Result}
@@ -17,10 +18,6 @@ use Rattle.scripts.specs.Scripts.{ScriptView}
 use Rattle.tuples.specs.declared.version.Version.{Version}
 use Rattle.scripts.specs.Runs.{EndsPart, EndsWith, RepliesTo, Tells, TellsPart}
 use Rattle.scripts.proofs.RunLemmas.{prints_one}
-
-not_both : (r : Bool) → r ≡ true → r ≡ false → ⊥
-not_both true is isnt = cc
-not_both false is isnt = cc
 
 module _ {S : Type 0} (takes : S → Step → Option What → S → Type 0) (nexts : S → ℕ → Option CallName → Type 0) (shows : S → ℕ → Result (Vec Version) Refusal → Type 0) (sets : S → NodeName → Bank → ℕ → Tear → S → Type 0) (reshards : S → ℕ → Result (Unit {0}) Refusal → S → S → Type 0) (shards_of : S → ℕ) (line : List ℕ) (a b : ScriptView S) (before after : Option (List ℕ)) where
   -- the script has put its answer behind nothing
@@ -53,4 +50,4 @@ module _ {S : Type 0} (takes : S → Step → Option What → S → Type 0) (nex
 
 -- a line that was found to have bytes
 pub has_bytes : (r : Bool) (line : List ℕ) → (line ≡ [] → r ≡ true) → r ≡ false → line ≡ [] → ⊥
-has_bytes r line found isnt none = not_both r (found none) isnt
+has_bytes r line found isnt none = both_ways r isnt (found none)

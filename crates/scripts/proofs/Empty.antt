@@ -5,9 +5,9 @@ use Rattle.device.specs.declared.sim_disk.SimDisk.{SimDisk}
 use Rattle.headline.specs.Promised.{devices_at}
 use Rattle.laws.specs.Nodes.{NodeName, coordinator, shard, IsThere}
 use Rattle.scripts.specs.Sims.{IsEmptyDisk}
-use Rattle.turns.specs.NewStores.{empty_machine}
+use Rattle.stores.specs.NewStores.{empty_machine}
+use Rattle.stores.specs.Stores.{RestsOver}
 use Rattle.turns.specs.StoreLaws.{IsUnmade}
-use Rattle.turns.specs.Stores.{RestsOver}
 use Rattle.turns.proofs.ClosedStoreRests.{unmade_stores_rest}
 
 unmade_at : (disks : List SimDisk) (i : ℕ) (any : SimDisk) → i < length disks → All IsEmptyDisk disks → IsUnmade (state_of (get_or disks i any))

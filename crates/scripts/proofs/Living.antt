@@ -20,8 +20,8 @@ use Rattle.scripts.specs.Sims.{BrokeOver, IsEmptyDisk, RanOver, begun}
 use Rattle.scripts.specs.Stepping.{IsNext, SetsScript, ShowsRows, shards_in}
 use Rattle.tuples.specs.Limits.{max_shards}
 use Rattle.tuples.specs.declared.entry.WriteId.{WriteId}
-use Rattle.turns.specs.NewStores.{empty_machine}
-use Rattle.turns.specs.Stores.{IsToldOver, RestsOver, StandsOver}
+use Rattle.stores.specs.NewStores.{empty_machine}
+use Rattle.stores.specs.Stores.{IsToldOver, RestsOver, StandsOver}
 use Rattle.scripts.specs.Deeds.{Deed, Story, took, set, acts_of, done_for, more_lives, one_life, told_by}
 use Rattle.scripts.specs.Lives.{BrokeAsLife, Lives, RanAsLife}
 use Rattle.scripts.proofs.Done.{Did, Went, lines_went}

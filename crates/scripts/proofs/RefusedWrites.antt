@@ -1,6 +1,7 @@
 -- A line that asks for a write, and prints that memory was refused, has made none that was told.
 use Rattle.std.proofs.Common.{◌≡◌, ◌≤◌, ◌<◌, ◌⊎◌, ⊎_elim, inl, inr, ℕ, Bool, true, false, List, [], ◌∷◌, length, Option, Some, None, MatchOption, refl, sym, ◌∙◌, ap, subst, arith}
 use Rattle.std.proofs.lemmas.Bool.{cases_lt}
+use Rattle.std.proofs.lemmas.Option.{same_Some}
 use Rattle.tuples.specs.Limits.{max_flows}
 use Rattle.names.specs.declared.call_name.CallName.{CallName}
 use Rattle.commit_flow.specs.declared.end.WriteEnd.{WriteEnd}
@@ -26,7 +27,7 @@ use Rattle.refusal.specs.declared.refusal.Refusal.{Refusal}
 use Rattle.refusal.specs.declared.refusal.Refusal.TheVariants.{Full, NoMemory}
 use Rattle.scripts.proofs.Short.{refusal_short}
 use Rattle.scripts.specs.Going as going
-use Rattle.scripts.specs.Going.{Goes, last_told, most_calls}
+use Rattle.scripts.specs.Going.{Goes, last_told}
 use Rattle.scripts.specs.Refusing.{EndsNot, ServesNot}
 use Rattle.scripts.specs.Scripts.{Ends, Serves, slot_of}
 use Rattle.scripts.specs.Stepping.{IsNext}
@@ -93,9 +94,6 @@ unless_told : (b : Bool) (told : Option What) → IsOfWrite told → IsOfWrite (
 unless_told true told is = tt
 unless_told false told is = is
 
-same_flow : (f g : Flow) → Some f ≡ Some g → f ≡ g
-same_flow f g is = cc
-
 no_flow : (f : Flow) → None ≡ Some f → ⊥
 no_flow f is = cc
 
@@ -121,7 +119,7 @@ module _ {D : Type 0} (gives : D → Type 0) (set : D → ℕ → Tear → Type 
       where
         by_next : (next : Option CallName) → MatchOption next (HasGone old.flows slot later told new.flows) (λ name. GoesOn old.flows slot later name told new.flows) → HasWrite slot new × IsOfWrite told
         by_next None gone = (λ f at. absurd (no_flow f (sym gone.puts.at ∙ at)), subst IsOfWrite (sym gone.tells) (unless_told (is_cancelled later) gone.end (end_told later gone.end is gone.ends)))
-        by_next (Some name) goes = (λ f at. subst IsWriteFlow (same_flow later f (sym goes.puts.at ∙ at)) is, subst IsOfWrite (sym goes.tells) (unless_told (is_cancelled later) (Some (Next name)) tt))
+        by_next (Some name) goes = (λ f at. subst IsWriteFlow (same_Some later f (sym goes.puts.at ∙ at)) is, subst IsOfWrite (sym goes.tells) (unless_told (is_cancelled later) (Some (Next name)) tt))
 
     turned : HasWrite slot old → Takes state honest moment left_since old (step.Turn slot) told new → HasWrite slot new × IsOfWrite told
     turned has takes = by_flow (flow_at old.flows slot) refl takes
@@ -144,7 +142,7 @@ module _ {D : Type 0} (gives : D → Type 0) (set : D → ℕ → Tear → Type 
   begun w old new told (begins, is) = ⊎_elim
       (λ (few : flow_count old.flows < max_flows).
       let adds = begins.begins tt few in
-      inr (adds.slot, adds.tells, λ f at. subst IsWriteFlow (same_flow (begun_for old.shards (request.Write w)) f (sym adds.puts.at ∙ at)) tt))
+      inr (adds.slot, adds.tells, λ f at. subst IsWriteFlow (same_Some (begun_for old.shards (request.Write w)) f (sym adds.puts.at ∙ at)) tt))
       (λ (many : max_flows ≤ flow_count old.flows).
       let full = begins.full tt many in
       inl (full.0, is ∙ ap (λ (fs : List (Option Flow)). record old { flows = fs }) full.1))

@@ -1,7 +1,6 @@
 -- How a run goes on.
-use Rattle.std.proofs.Common.{◌≡◌, ℕ, List, [], ◌∷◌, ◌++◌, refl, sym, ap, ◌∙◌, subst, append_assoc, append-nil, inl, inr, Option}
+use Rattle.std.proofs.Common.{ℕ, List, [], ◌∷◌, ◌++◌, refl, sym, ap, ◌∙◌, subst, append_assoc, append-nil, inl, inr, Option}
 use Rattle.std.proofs.KnownBytes.{Appends-nil, Appends-trans, Consumes-nil, Consumes-trans}
-use Rattle.std.proofs.lemmas.Grind.{flat_map-append}
 use Rattle.std.proofs.lemmas.List.Elements.{All-nil, All-push}
 use Rattle.std.specs.Global.{Vec}
 use Rattle.std.specs.Io.KnownBytes.{Appends, Consumes}
@@ -17,16 +16,14 @@ use Rattle.line_io.specs.Lines.{HasNoFeed}
 use Rattle.line_io.specs.Outputs.{HasBegun}
 use Rattle.line_io.specs.declared.input.Ending.TheVariants.{Feed, Input}
 use Rattle.line_io.specs.declared.line.Line.{Line}
+use Rattle.line_io.proofs.Writing.{begun_all}
+use Rattle.line_io.proofs.Gathering.{read_more}
 use Rattle.refusal.specs.declared.refusal.Refusal.{Refusal}
 use Rattle.scripts.specs.Scripts.{ScriptView}
 use Rattle.tuples.specs.declared.version.Version.{Version}
 use Rattle.scripts.specs.Runs.{Broke, EndsPart, EndsWith, Prints, Ran, RepliesTo, BetweenLines, Tells, TellsPart, joined, last_line}
 
 -- ---- what is written
-
--- all of it was written
-begun_whole : (before after : Option (List ℕ)) (text : List ℕ) → Appends before after text → HasBegun before after text
-begun_whole before after text h = record { sent = text; unsent = []; whole = sym (append-nil text); written = h }
 
 begun_more : (before mid after : Option (List ℕ)) (text bytes : List ℕ) → Appends before mid text → HasBegun mid after bytes → HasBegun before after (text ++ bytes)
 begun_more before mid after text bytes first h = record {
@@ -37,16 +34,6 @@ begun_more before mid after text bytes first h = record {
 }
 
 -- ---- one line more
-
-joined_more : (lines : List (List ℕ)) (line : List ℕ) → joined (lines ++ line ∷ []) ≡ joined lines ++ (line ++ 10 ∷ [])
-joined_more lines line =
-    flat_map-append (λ (l : List ℕ). l ++ 10 ∷ []) lines (line ∷ []) ∙ ap (λ (l : List ℕ). joined lines ++ l) (append-nil (line ++ 10 ∷ []))
-
--- lines with one more, whose line feed was read
-read_more : (lines : List (List ℕ)) (old read line new : List ℕ) → old ++ read ≡ line ++ 10 ∷ new → (joined lines ++ old) ++ read ≡ joined (lines ++ line ∷ []) ++ new
-read_more lines old read line new e =
-    append_assoc (joined lines) old read ∙ ap (λ (l : List ℕ). joined lines ++ l) (e ∙ sym (append_assoc line (10 ∷ []) new))
-    ∙ sym (append_assoc (joined lines) (line ++ 10 ∷ []) new) ∙ ap (λ (l : List ℕ). l ++ new) (sym (joined_more lines line))
 
 module _ {S : Type 0} (takes : S → Step → Option What → S → Type 0) (nexts : S → ℕ → Option CallName → Type 0) (shows : S → ℕ → Result (Vec Version) Refusal → Type 0) (sets : S → NodeName → Bank → ℕ → Tear → S → Type 0) (reshards : S → ℕ → Result (Unit {0}) Refusal → S → S → Type 0) (shards_of : S → ℕ) where
   prints_more : (a : ScriptView S) (lines : List (List ℕ)) (text : List ℕ) (b : ScriptView S) (more : List (List ℕ)) (rest : List ℕ) (c : ScriptView S)
@@ -100,7 +87,7 @@ module _ {S : Type 0} (takes : S → Step → Option What → S → Type 0) (nex
       ended = s.ended;
       which = inl refl;
       prints = s.prints;
-      written = begun_whole out0 out1 s.text s.written;
+      written = begun_all out0 out1 s.text s.written;
     }
 
     -- the write of an answer failed
@@ -145,7 +132,7 @@ module _ {S : Type 0} (takes : S → Step → Option What → S → Type 0) (nex
       ended = s.ended;
       which = inl refl;
       prints = s.prints;
-      written = begun_whole out0 out1 s.text s.written;
+      written = begun_all out0 out1 s.text s.written;
     }
 
     -- memory for the run was refused
@@ -159,5 +146,5 @@ module _ {S : Type 0} (takes : S → Step → Option What → S → Type 0) (nex
       ended = All-nil HasNoFeed;
       which = inl refl;
       prints = (refl, refl);
-      written = begun_whole out0 out0 [] (Appends-nil out0);
+      written = begun_all out0 out0 [] (Appends-nil out0);
     }

@@ -1,5 +1,5 @@
 -- Steps leave a store its id.
-use Rattle.std.proofs.Common.{◌≡◌, ◌∙◌, ℕ, List, [], ◌∷◌, Option, None, Some, MatchOption, ap, refl}
+use Rattle.std.proofs.Common.{◌≡◌, ◌∙◌, ℕ, List, [], ◌∷◌, Option, None, Some, MatchOption, ap}
 use Rattle.calls.specs.Views.{NodeView}
 use Rattle.cluster.specs.Steps.{CancelsIn, IsIdle, RestartsIn, Takes, TurnsIn}
 use Rattle.cluster.specs.Worlds.{WorldView, flow_at, node_at}

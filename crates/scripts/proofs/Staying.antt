@@ -1,5 +1,5 @@
 -- A script none of whose lines carries the store over is one life of it.
-use Rattle.std.proofs.Common.{◌≡◌, ◌⊎◌, inl, inr, ℕ, List, [], ◌∷◌, ◌++◌, All, Option, Result, ap, refl, subst, sym}
+use Rattle.std.proofs.Common.{◌≡◌, inl, inr, ℕ, List, [], ◌∷◌, ◌++◌, All, Option, Result, refl, subst, sym}
 use Rattle.std.proofs.lemmas.List.Elements.{All-head, All-tail}
 use Rattle.std.specs.Global.{Vec}
 use Rattle.names.specs.declared.node_name.NodeName.{NodeName}
@@ -16,7 +16,7 @@ use Rattle.scripts.specs.Answering.{Tries}
 use Rattle.scripts.specs.Runs.{Prints, RepliesTo}
 use Rattle.scripts.specs.Scripts.{RunningView, ScriptView}
 use Rattle.tuples.specs.declared.version.Version.{Version}
-use Rattle.scripts.specs.Deeds.{Deed, Story, done_for, joined, not_carrying_done, one_life, reply_done, trying_done}
+use Rattle.scripts.specs.Deeds.{Deed, Story, done_for, joined, one_life, reply_done, trying_done}
 use Rattle.scripts.specs.Staying.{Stays}
 
 -- it is the story of one life

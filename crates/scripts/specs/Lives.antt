@@ -15,8 +15,8 @@ use Rattle.scripts.specs.Runs.{last_line}
 use Rattle.scripts.specs.Sims.{BrokeOver, RanOver, begun}
 use Rattle.scripts.specs.Stepping.{IsNext, SetsScript, ShowsRows, shards_in}
 use Rattle.tuples.specs.declared.entry.WriteId.{WriteId}
-use Rattle.turns.specs.NewStores.{empty_machine}
-use Rattle.turns.specs.Stores.{IsToldOver, RestsOver}
+use Rattle.stores.specs.NewStores.{empty_machine}
+use Rattle.stores.specs.Stores.{IsToldOver, RestsOver}
 use Rattle.scripts.specs.Deeds.{Story, acts_of, done_for, more_lives, one_life, told_by}
 
 -- Given which devices there are for the nodes of a store that is carried over

@@ -127,8 +127,7 @@ module _ {S : Type 0} (takes : S → Step → Option What → S → Type 0) (nex
   CarriesOut id (Fail f) old text new = sets old.store f.node f.bank f.n f.tear new.store × (text ≡ set_line) × KeepsFlows old new
   CarriesOut id (Reshard shards) old text new = ReshardsTo shards old.store text new.store × KeepsFlows old new
 
--- the flow that a command names is one of so many, and the number of shards one that a store may have
+-- the flow that a command names is one of so many
 abbrev pub IsAmong : Command → ℕ → Type 0
 IsAmong (Handle flow h) count = flow < count
-IsAmong (Reshard shards) count = (1 ≤ shards) × (shards ≤ max_shards)
 IsAmong c count = Unit {0}

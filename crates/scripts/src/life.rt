@@ -6,7 +6,6 @@ ghost use Rattle.device.specs.Disk.{is_set_to_fail, left_since_of, moment_of, st
 ghost use Rattle.device.specs.declared.sim_disk.SimDisk.{SimDisk as AnyDisk};
 ghost use Rattle.scripts.specs.Lives.{BrokeAsLife, RanAsLife};
 ghost use Rattle.scripts.specs.Sims.{IsEmptyDisk, IsUntouched};
-ghost use Rattle.tuples.specs.Limits.{max_shards};
 
 use crate::over_disks::{BROKE, run_over};
 use crate::{InMemory, devices};
@@ -15,24 +14,24 @@ use headline::acted_headline;
 use reshard_laws::what_is_carried_over_rests;
 use std::alloc::Global;
 use std::io::{Read, Write};
+use tuples::Shards;
 
 /// Runs a script over a store of 1 to 64 shards on disks in memory. The status is 0 at the end of the script, and 1 where the reader or the writer failed,
 /// or where there is no memory for the disks.
 pub fn sim<R: Read, W: Write>(
     alloc: Global,
     store: u64,
-    shards: u8,
+    shards: Shards,
     reader: &mut R,
     writer: &mut W,
 ) -> u8
-    requires some { 1 ≤ shards }
-    requires few { shards ≤ max_shards }
     ensures ran { result ≡ 0 → (disks : List AnyDisk) × All IsEmptyDisk disks × RanAsLife IsEmptyDisk is_set_to_fail state_of (λ d. Unit {0}) moment_of left_since_of store shards disks (R.remaining reader.old) (R.remaining reader.new) (W.contents writer.old) (W.contents writer.new) }
     ensures broke { result ≢ 0 → (result ≡ 1) × (((disks : List AnyDisk) × All IsEmptyDisk disks × BrokeAsLife IsEmptyDisk is_set_to_fail state_of (λ d. Unit {0}) moment_of left_since_of store shards disks (R.remaining reader.old) (R.remaining reader.new) (W.contents writer.old) (W.contents writer.new)) ⊎ IsUntouched (R.remaining reader.old) (R.remaining reader.new) (W.contents writer.old) (W.contents writer.new)) }
 {
     // Laws: they do nothing.
     acted_headline::<SimDisk>();
     what_is_carried_over_rests::<SimDisk>();
+    let _count = shards.count();
     let mut supply = InMemory;
     match devices(alloc, &mut supply, shards) {
         Ok(disks) => run_over(alloc, store, shards, disks, supply, reader, writer),

@@ -4,7 +4,6 @@ ghost use Rattle.cluster.specs.Openings.{IsOpenedOver};
 ghost use Rattle.scripts.specs.Runs.{Broke, Ran};
 ghost use Rattle.scripts.specs.Scripts.{ScriptView};
 ghost use Rattle.scripts.specs.Sims.{BrokeOver, IsUntouched, RanOver, begun};
-ghost use Rattle.tuples.specs.Limits.{max_shards};
 
 use crate::runs::run;
 use crate::{Script, Stepping, Store, Supply};
@@ -12,6 +11,7 @@ use cluster::reopen;
 use device::Device;
 use std::alloc::{AllocError, Global};
 use std::io::{self, Read, Write};
+use tuples::Shards;
 
 /// The status where the script broke off, or there is no memory for the nodes or for their disks.
 pub(crate) const BROKE: u8 = 1;
@@ -20,12 +20,10 @@ pub(crate) const BROKE: u8 = 1;
 fn open<D: Device, P: Supply<D>>(
     alloc: Global,
     store: u64,
-    shards: u8,
+    shards: Shards,
     devices: Vec<D>,
     supply: P,
 ) -> Result<Stepping<D, P>, AllocError>
-    requires some { 1 ≤ shards }
-    requires few { shards ≤ max_shards }
     requires count { vec_len devices ≡ 2 * (shards + 1) }
     ensures { IfOk result (IsOpenedOver D.state D.honest D.moment D.left_since store shards devices.items) }
 {
@@ -56,14 +54,12 @@ fn run_new<S: Store, R: Read, W: Write>(
 pub fn run_over<D: Device, P: Supply<D>, R: Read, W: Write>(
     alloc: Global,
     store: u64,
-    shards: u8,
+    shards: Shards,
     devices: Vec<D>,
     supply: P,
     reader: &mut R,
     writer: &mut W,
 ) -> u8
-    requires some { 1 ≤ shards }
-    requires few { shards ≤ max_shards }
     requires count { vec_len devices ≡ 2 * (shards + 1) }
     ensures ran { result ≡ 0 → RanOver P.gives D.set_to_fail D.state D.honest D.moment D.left_since store shards devices.items (R.remaining reader.old) (R.remaining reader.new) (W.contents writer.old) (W.contents writer.new) }
     ensures broke { result ≢ 0 → (result ≡ BROKE) × (BrokeOver P.gives D.set_to_fail D.state D.honest D.moment D.left_since store shards devices.items (R.remaining reader.old) (R.remaining reader.new) (W.contents writer.old) (W.contents writer.new) ⊎ IsUntouched (R.remaining reader.old) (R.remaining reader.new) (W.contents writer.old) (W.contents writer.new)) }

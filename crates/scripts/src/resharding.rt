@@ -3,7 +3,6 @@ ghost use Rattle.std.specs.Prelude.{◌≡◌, ◌≤◌, IfOk, MatchResult};
 ghost use Rattle.cluster.specs.Steps.{Takes};
 ghost use Rattle.scripts.specs.Cares.{Cares};
 ghost use Rattle.scripts.specs.Resharding.{IsMoved, IsReady, IsUnready};
-ghost use Rattle.tuples.specs.Limits.{max_shards};
 
 use crate::Supply;
 use crate::supply::devices;
@@ -11,7 +10,7 @@ use cluster::World;
 use device::Device;
 use reshard::{are_up, reshard};
 use std::alloc::Global;
-use tuples::Refusal;
+use tuples::{Refusal, Shards};
 
 /// Whether no flow runs and each node is up.
 pub(crate) fn is_ready<D: Device>(world: &World<D>) -> Result<(), Refusal>
@@ -28,10 +27,8 @@ pub(crate) fn carry<D: Device, P: Supply<D>>(
     alloc: Global,
     world: &mut World<D>,
     supply: &mut P,
-    shards: u8,
+    shards: Shards,
 ) -> Result<World<D>, Refusal>
-    requires some { 1 ≤ shards }
-    requires few { shards ≤ max_shards }
     requires ready { IsReady D.state D.honest world.old }
     ensures cares { Cares (Takes D.state D.honest D.moment D.left_since) world.old world.new }
     ensures ok { IfOk result (IsMoved P.gives D.state D.honest D.moment D.left_since world.old world.new shards) }

@@ -18,7 +18,6 @@ ghost use Rattle.scripts.specs.Scripts.{
   TellsCancel,
 };
 ghost use Rattle.scripts.specs.Telling.{set_line, told_text};
-ghost use Rattle.tuples.specs.Limits.{max_shards};
 
 use crate::Store;
 use crate::going::{cancel, go};
@@ -30,7 +29,7 @@ use names::NodeName;
 use printed::Printed;
 use std::alloc::{AllocError, Global};
 use std::marker::Model;
-use tuples::Refusal;
+use tuples::{Refusal, Shards};
 
 // Room for what became of one write that was in doubt. A flow that finds out makes a call for each.
 const RESOLVED: usize = 80;
@@ -228,9 +227,7 @@ impl<S: Store> Running<S> {
         Ok(())
     }
 
-    fn reshard(&mut self, id: u64, shards: u8, out: &mut Vec<u8>) -> Result<(), AllocError>
-        requires some { 1 ≤ shards }
-        requires few { shards ≤ max_shards }
+    fn reshard(&mut self, id: u64, shards: Shards, out: &mut Vec<u8>) -> Result<(), AllocError>
         requires room { vec_len out.old + line_room ≤ vec_capacity out.old }
         ensures ok { OnOk result ((text : List ℕ) × ReshardsTo S.takes S.nexts S.shows S.sets S.reshards S.shards_of shards self.old.store text self.new.store × (out.new.items ≡ out.old.items ++ text)) }
         ensures flows { KeepsFlows self.old self.new }

@@ -13,7 +13,7 @@ use names::{CallName, NodeName};
 use std::alloc::{AllocError, Global};
 use std::marker::Model;
 use std::mem;
-use tuples::{Refusal, Version};
+use tuples::{Refusal, Shards, Version};
 
 /// A cluster that takes its steps one at a time, and what gives the devices of new nodes.
 #[derive(Drop)]
@@ -74,11 +74,11 @@ impl<D: Device, P: Supply<D>> Store for Stepping<D, P> {
         self.world.fail(node, bank, n, tear);
     }
 
-    fn shards(&self) -> u8 {
+    fn shards(&self) -> Shards {
         self.world.shards()
     }
 
-    fn reshard(&mut self, shards: u8) -> Result<(), Refusal> {
+    fn reshard(&mut self, shards: Shards) -> Result<(), Refusal> {
         is_ready(&self.world)?;
         let new = carry(self.alloc, &mut self.world, &mut self.supply, shards)?;
         drop(mem::replace(&mut self.world, new));

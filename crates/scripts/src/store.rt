@@ -10,7 +10,6 @@ ghost use Rattle.device.specs.declared.tear.Tear.{Tear as AnyTear};
 ghost use Rattle.journal.specs.declared.refused.Bank.{Bank as AnyBank};
 ghost use Rattle.refusal.specs.declared.refusal.Refusal.{Refusal as AnyRefusal};
 ghost use Rattle.scripts.specs.Cares.{Moves};
-ghost use Rattle.tuples.specs.Limits.{max_shards};
 ghost use Rattle.tuples.specs.declared.version.Version.{Version as AnyVersion};
 
 use cluster::{Step, What};
@@ -18,7 +17,7 @@ use device::Tear;
 use journal::Bank;
 use names::{CallName, NodeName};
 use std::alloc::AllocError;
-use tuples::{Refusal, Version};
+use tuples::{Refusal, Shards, Version};
 
 /// A store that takes steps, one at a time.
 pub trait Store: Drop {
@@ -55,12 +54,10 @@ pub trait Store: Drop {
     fn fail(&mut self, node: NodeName, bank: Bank, n: u64, tear: Tear)
         ensures { sets self.old node bank n tear self.new };
 
-    fn shards(&self) -> u8
+    fn shards(&self) -> Shards
         ensures { result ≡ shards_of self.now };
 
     /// It is cared for, step by step, and carried over to so many shards. An `Err` says why it was not.
-    fn reshard(&mut self, shards: u8) -> Result<(), Refusal>
-        requires some { 1 ≤ shards }
-        requires few { shards ≤ max_shards }
+    fn reshard(&mut self, shards: Shards) -> Result<(), Refusal>
         ensures { Moves takes reshards shards self.old result self.new };
 }

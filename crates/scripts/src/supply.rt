@@ -4,6 +4,7 @@ ghost use Rattle.scripts.specs.Sims.{IsEmptyDisk};
 
 use device::{Device, SimDisk};
 use std::alloc::{AllocError, Global};
+use tuples::Shards;
 
 /// What gives the devices of new nodes, one by one.
 pub trait Supply<D: Device>: Drop {
@@ -43,12 +44,12 @@ impl<D: Device> Supply<D> for NoDevices {
 pub fn devices<D: Device, P: Supply<D>>(
     alloc: Global,
     supply: &mut P,
-    shards: u8,
+    shards: Shards,
 ) -> Result<Vec<D>, AllocError>
     ensures count { IfOk result (λ devices. vec_len devices ≡ 2 * (shards + 1)) }
     ensures each { IfOk result (λ devices. All P.gives devices.items) }
 {
-    let count = 2 * (shards as usize + 1);
+    let count = 2 * (usize::from(shards.count()) + 1);
     let mut devices = Vec::with_capacity(alloc, count)?;
     for _ in 0..count {
         devices.push_reserved(supply.give(alloc)?);

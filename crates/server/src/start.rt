@@ -26,7 +26,7 @@ pub(crate) fn tell_start(
     found: u64,
     began: Option<Instant>,
 ) {
-    let (dir, shards) = (settings.dir.as_str(), settings.shards);
+    let (dir, shards) = (settings.dir.as_str(), settings.shards.count());
     // Two for each shard and two for the coordinator.
     let files = 2 * (u16::from(shards) + 1);
     let (horizon, latest) = (start.found.horizon, start.found.latest);

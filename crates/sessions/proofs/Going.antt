@@ -1,7 +1,6 @@
 -- How a session goes on.
 use Rattle.std.proofs.Common.{◌≡◌, ℕ, List, [], ◌∷◌, ◌++◌, refl, sym, ap, ◌∙◌, subst, append_assoc, append-nil, inl, inr, Option}
 use Rattle.std.proofs.KnownBytes.{Appends-nil, Appends-trans, Consumes-nil, Consumes-trans}
-use Rattle.std.proofs.lemmas.Grind.{flat_map-append}
 use Rattle.std.proofs.lemmas.List.Elements.{All-nil, All-push}
 use Rattle.std.specs.Io.KnownBytes.{Appends, Consumes}
 use Rattle.std.specs.Prelude.{Result}
@@ -12,12 +11,11 @@ use Rattle.line_io.specs.declared.input.Ending.TheVariants.{Feed, Input}
 use Rattle.line_io.specs.declared.line.Line.{Line}
 use Rattle.line_io.specs.Lines.{HasNoFeed}
 use Rattle.line_io.specs.Outputs.{HasBegun, Sends}
+use Rattle.line_io.proofs.Writing.{begun_none}
+use Rattle.line_io.proofs.Gathering.{read_more}
 use Rattle.sessions.specs.Sessions.{Broke, Giving, RepliesTo, Served, Serving, Session, end_text, joined, reply_line}
 
 -- ---- what is written
-
-pub begun_none : (o : Option (List ℕ)) (bytes : List ℕ) → HasBegun o o bytes
-begun_none o bytes = record { sent = []; unsent = bytes; whole = refl; written = Appends-nil o }
 
 regroup : (a b c d : List ℕ) → (a ++ (b ++ c)) ++ d ≡ (a ++ b) ++ (c ++ d)
 regroup a b c d = ap (λ (l : List ℕ). l ++ d) (sym (append_assoc a b c)) ∙ append_assoc (a ++ b) c d
@@ -32,10 +30,6 @@ begun_more before mid after text sent waiting tail e first h = record {
 
 -- ---- one line more
 
-joined_more : (lines : List (List ℕ)) (line : List ℕ) → joined (lines ++ line ∷ []) ≡ joined lines ++ (line ++ 10 ∷ [])
-joined_more lines line =
-    flat_map-append (λ (l : List ℕ). l ++ 10 ∷ []) lines (line ∷ []) ∙ ap (λ (l : List ℕ). joined lines ++ l) (append-nil (line ++ 10 ∷ []))
-
 session_more : {A : Type 0} (store : ℕ) (gives : Giving A) (a : A) (lines : List (List ℕ)) (text : List ℕ) (b : A) (line : List ℕ) (reply : Result Answer Refusal) (c : A)
     → Session store gives a lines text b → RepliesTo store gives b line reply c → Session store gives a (lines ++ line ∷ []) (text ++ reply_line store reply) c
 session_more {A} store gives a [] text b line reply c s r =
@@ -48,12 +42,6 @@ session_more store gives a (first ∷ lines) text b line reply c s r = (
   session_more store gives s.1 lines s.2 b line reply c s.4 r,
   ap (λ (l : List ℕ). l ++ reply_line store reply) s.5 ∙ append_assoc (reply_line store s.0) s.2 (reply_line store reply),
 )
-
--- lines with one more, whose line feed was read
-read_more : (lines : List (List ℕ)) (old read line new : List ℕ) → old ++ read ≡ line ++ 10 ∷ new → (joined lines ++ old) ++ read ≡ joined (lines ++ line ∷ []) ++ new
-read_more lines old read line new e =
-    append_assoc (joined lines) old read ∙ ap (λ (l : List ℕ). joined lines ++ l) (e ∙ sym (append_assoc line (10 ∷ []) new))
-    ∙ sym (append_assoc (joined lines) (line ++ 10 ∷ []) new) ∙ ap (λ (l : List ℕ). l ++ new) (sym (joined_more lines line))
 
 module _ {A : Type 0} (store : ℕ) (gives : Giving A) (in0 in1 in2 out0 out1 out2 : Option (List ℕ)) (a b : A) (unread waiting : List ℕ) where
   pub serving_first : Serving store gives in0 in0 out0 out0 a a [] []

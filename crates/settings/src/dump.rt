@@ -3,7 +3,6 @@ ghost use Rattle.std.specs.Prelude.{◌≡◌, ◌≤◌, ◌⊎◌, ◌↔◌, 
 ghost use Rattle.std.specs.Prelude.{option_map, slice_get, string_bytes};
 ghost use Rattle.settings.specs.CommandLine.{IsFor};
 ghost use Rattle.settings.specs.declared.limits.TheConstants.{MAX_STORE};
-ghost use Rattle.tuples.specs.Limits.{max_shards};
 
 use crate::given::{number_in, store_in};
 use crate::limits::{MAX_PLACE, USAGE};
@@ -12,6 +11,7 @@ use crate::reading::{Asked, are_for, read};
 use clap::{ArgMatches, Command, Error};
 use std::alloc::{AllocError, Global};
 use std::io::{Eprint, Print};
+use tuples::Shards;
 
 const EXAMPLE: &str = "Example:
   zanstore dump --dir data --store 1 --shards 2
@@ -57,12 +57,10 @@ pub struct DumpSettings {
     /// The id of the store, from 0 to 4,294,967,295.
     pub store: u64,
     /// The number of shards, from 1 to 64.
-    pub shards: u8,
+    pub shards: Shards,
     /// The place, from 0 to 4,294,967,295, where one is given.
     pub at: Option<u64>,
     ghost fits: { store ≤ MAX_STORE },
-    ghost some: { 1 ≤ shards },
-    ghost few: { shards ≤ max_shards },
 }
 
 impl DumpSettings {

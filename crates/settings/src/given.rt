@@ -1,19 +1,17 @@
 // What the words gave a command.
 ghost use Rattle.std.specs.Prelude.{◌≤◌, IfSome};
 ghost use Rattle.settings.specs.declared.limits.TheConstants.{MAX_STORE};
-ghost use Rattle.tuples.specs.Limits.{max_shards};
 
 use crate::limits::{MAX_SHARDS, MAX_STORE};
 use clap::ArgMatches;
+use tuples::Shards;
 
 /// A store in files.
 #[derive(Clone, Copy)]
 pub(crate) struct StoreGiven {
     pub(crate) store: u64,
-    pub(crate) shards: u8,
+    pub(crate) shards: Shards,
     ghost fits: { store ≤ MAX_STORE },
-    ghost some: { 1 ≤ shards },
-    ghost few: { shards ≤ max_shards },
 }
 
 /// The store, where its id and its number of shards are within their ranges.
@@ -22,7 +20,7 @@ pub(crate) fn store_in(matches: &ArgMatches) -> Option<StoreGiven> {
     let shards = number_in(matches, "shards", 1, MAX_SHARDS)?;
     Some(StoreGiven {
         store,
-        shards: shards as u8,
+        shards: Shards::of(shards as u8),
     })
 }
 

@@ -3,7 +3,6 @@ ghost use Rattle.std.specs.Prelude.{◌≡◌, ◌≤◌, ◌⊎◌, ◌↔◌, 
 ghost use Rattle.std.specs.Prelude.{option_map, slice_get, string_bytes};
 ghost use Rattle.settings.specs.CommandLine.{IsFor};
 ghost use Rattle.settings.specs.declared.limits.TheConstants.{MAX_STORE};
-ghost use Rattle.tuples.specs.Limits.{max_shards};
 
 use crate::given::{StoreGiven, number_in, store_in};
 use crate::limits::{MAX_SHARDS, USAGE};
@@ -12,6 +11,7 @@ use crate::reading::{Asked, are_for, read};
 use clap::{ArgMatches, Command, Error};
 use std::alloc::{AllocError, Global};
 use std::io::{Eprint, Print};
+use tuples::Shards;
 
 const EXAMPLE: &str = "Example:
   mkdir wider && zanstore reshard --dir data --to wider --store 1 --shards 2 --new-shards 8
@@ -66,14 +66,10 @@ pub struct ReshardSettings {
     /// The id of the store, from 0 to 4,294,967,295.
     pub store: u64,
     /// The number of shards, from 1 to 64.
-    pub shards: u8,
+    pub shards: Shards,
     /// The new number of shards, from 1 to 64.
-    pub new_shards: u8,
+    pub new_shards: Shards,
     ghost fits: { store ≤ MAX_STORE },
-    ghost some: { 1 ≤ shards },
-    ghost few: { shards ≤ max_shards },
-    ghost some_new: { 1 ≤ new_shards },
-    ghost few_new: { new_shards ≤ max_shards },
 }
 
 impl ReshardSettings {
@@ -117,9 +113,7 @@ impl Asked for ReshardSettings {
 #[derive(Clone, Copy)]
 struct Numbers {
     given: StoreGiven,
-    new_shards: u8,
-    ghost some_new: { 1 ≤ new_shards },
-    ghost few_new: { new_shards ≤ max_shards },
+    new_shards: Shards,
 }
 
 fn numbers_of(reshard: &ArgMatches) -> Option<Numbers> {
@@ -127,7 +121,7 @@ fn numbers_of(reshard: &ArgMatches) -> Option<Numbers> {
     let new_shards = number_in(reshard, "new-shards", 1, MAX_SHARDS)?;
     Some(Numbers {
         given,
-        new_shards: new_shards as u8,
+        new_shards: Shards::of(new_shards as u8),
     })
 }
 
@@ -138,14 +132,16 @@ fn settings_in(
     to: &str,
     numbers: Numbers,
 ) -> Result<ReshardSettings, AllocError> {
+    let Numbers { given, new_shards } = numbers;
+    let StoreGiven { store, shards } = given;
     let dir = String::from_str(alloc, dir)?;
     match String::from_str(alloc, to) {
         Ok(to) => Ok(ReshardSettings {
             dir,
             to,
-            store: numbers.given.store,
-            shards: numbers.given.shards,
-            new_shards: numbers.new_shards,
+            store,
+            shards,
+            new_shards,
         }),
         Err(error) => Err(error),
     }

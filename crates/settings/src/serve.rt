@@ -3,7 +3,6 @@ ghost use Rattle.std.specs.Prelude.{◌≡◌, ◌≤◌, ◌⊎◌, ◌↔◌, 
 ghost use Rattle.std.specs.Prelude.{option_map, slice_get, string_bytes};
 ghost use Rattle.settings.specs.CommandLine.{IsFor};
 ghost use Rattle.settings.specs.declared.limits.TheConstants.{MAX_STORE, MAX_WORKERS};
-ghost use Rattle.tuples.specs.Limits.{max_shards};
 
 use crate::given::{StoreGiven, number_in, store_in};
 use crate::limits::{MAX_AMOUNT, MAX_WORKERS, USAGE};
@@ -12,6 +11,7 @@ use crate::reading::{Asked, are_for, read};
 use clap::{ArgMatches, Command, Error};
 use std::alloc::{AllocError, Global};
 use std::io::{Eprint, Print};
+use tuples::Shards;
 
 const EXAMPLE: &str = "Example:
   mkdir data
@@ -85,7 +85,7 @@ pub struct ServeSettings {
     /// The id of the store, from 0 to 4,294,967,295.
     pub store: u64,
     /// The number of shards, from 1 to 64.
-    pub shards: u8,
+    pub shards: Shards,
     /// The address to listen at.
     pub listen: String,
     /// The number of threads that answer, from 1 to 64.
@@ -97,8 +97,6 @@ pub struct ServeSettings {
     /// The seconds that an idle session keeps its worker while others wait; 0 for ever.
     pub idle: u64,
     ghost fits: { store ≤ MAX_STORE },
-    ghost some: { 1 ≤ shards },
-    ghost few: { shards ≤ max_shards },
     ghost staffed: { 1 ≤ workers },
     ghost affordable: { workers ≤ MAX_WORKERS },
 }
@@ -174,12 +172,13 @@ fn settings_at(
     listen: &str,
     numbers: Numbers,
 ) -> Result<ServeSettings, AllocError> {
+    let StoreGiven { store, shards } = numbers.given;
     let dir = String::from_str(alloc, dir)?;
     match String::from_str(alloc, listen) {
         Ok(listen) => Ok(ServeSettings {
             dir,
-            store: numbers.given.store,
-            shards: numbers.given.shards,
+            store,
+            shards,
             listen,
             workers: numbers.workers,
             window: numbers.window,

@@ -5,7 +5,6 @@ ghost use Rattle.clap.specs.declared.builder.command.Command.TheViews.{out-Comma
 ghost use Rattle.clap.specs.declared.error.kind.ErrorKind.TheVariants.{OutOfMemory};
 ghost use Rattle.settings.specs.CommandLine.{AsksFor, AsksWhatThereIs, program, shards_option, sim, store_option};
 ghost use Rattle.settings.specs.declared.limits.TheConstants.{MAX_STORE};
-ghost use Rattle.tuples.specs.Limits.{max_shards};
 
 use crate::limits::{MAX_STORE, USAGE};
 use crate::telling::tell;
@@ -14,6 +13,7 @@ use clap::{Arg, ArgAction, Command, Error};
 use std::alloc::Global;
 use std::env::{self, Env};
 use std::io::{Eprint, Print};
+use tuples::Shards;
 
 const EXAMPLE: &str = "Commands that have a help of their own:
   serve    A store in files, served over TCP
@@ -71,10 +71,8 @@ pub struct Settings {
     /// The id of the store, from 0 to 4,294,967,295.
     pub store: u64,
     /// The number of shards, from 1 to 64.
-    pub shards: u8,
+    pub shards: Shards,
     ghost fits: { store ≤ MAX_STORE },
-    ghost some: { 1 ≤ shards },
-    ghost few: { shards ≤ max_shards },
 }
 
 impl Settings {
@@ -103,7 +101,10 @@ impl Settings {
         let (_, sim) = matches.subcommand().unwrap();
         let store = sim.get_one::<u64>("store").unwrap();
         let shards = sim.get_one::<u8>("shards").unwrap();
-        Ok(Settings { store, shards })
+        Ok(Settings {
+            store,
+            shards: Shards::of(shards),
+        })
     }
 }
 

@@ -14,8 +14,8 @@ enum Reader {
 // Lines, and behind each the settings that it asks for, or the status to end with: 2 for one without an option that has to be there, with a number out of its range, or with
 // what there is not; 0 for help. They are texts, since a list of as many rows takes long to be proved wherever it is read.
 const SERVE: &str =
-    r#"zanstore serve --dir data --store=7 --shards 2 --listen 127.0.0.1:7700 --workers=4 => Ok(ServeSettings { dir: "data", store: 7, shards: 2, listen: "127.0.0.1:7700", workers: 4, window: 1000000, connections: 0, idle: 10 })
-zanstore serve --idle 4294967295 --connections=4294967295 --window 0 --workers 64 --listen a --shards 64 --store 4294967295 --dir b => Ok(ServeSettings { dir: "b", store: 4294967295, shards: 64, listen: "a", workers: 64, window: 0, connections: 4294967295, idle: 4294967295 })
+    r#"zanstore serve --dir data --store=7 --shards 2 --listen 127.0.0.1:7700 --workers=4 => Ok(ServeSettings { dir: "data", store: 7, shards: Shards { count: 2 }, listen: "127.0.0.1:7700", workers: 4, window: 1000000, connections: 0, idle: 10 })
+zanstore serve --idle 4294967295 --connections=4294967295 --window 0 --workers 64 --listen a --shards 64 --store 4294967295 --dir b => Ok(ServeSettings { dir: "b", store: 4294967295, shards: Shards { count: 64 }, listen: "a", workers: 64, window: 0, connections: 4294967295, idle: 4294967295 })
 zanstore => Err(2)
 zanstore serve --store 1 --shards 2 --listen a --workers 4 => Err(2)
 zanstore serve --dir d --shards 2 --listen a --workers 4 => Err(2)
@@ -37,8 +37,8 @@ zanstore serve -h => Err(0)
 zanstore help serve => Err(0)"#;
 
 const DUMP: &str =
-    r#"zanstore dump --dir data --store=7 --shards 2 => Ok(DumpSettings { dir: "data", store: 7, shards: 2, at: None })
-zanstore dump --at 4294967295 --shards 64 --store 4294967295 --dir b => Ok(DumpSettings { dir: "b", store: 4294967295, shards: 64, at: Some(4294967295) })
+    r#"zanstore dump --dir data --store=7 --shards 2 => Ok(DumpSettings { dir: "data", store: 7, shards: Shards { count: 2 }, at: None })
+zanstore dump --at 4294967295 --shards 64 --store 4294967295 --dir b => Ok(DumpSettings { dir: "b", store: 4294967295, shards: Shards { count: 64 }, at: Some(4294967295) })
 zanstore => Err(2)
 zanstore dump --store 1 --shards 2 => Err(2)
 zanstore dump --dir d --shards 2 => Err(2)
@@ -57,7 +57,7 @@ zanstore dump -h => Err(0)
 zanstore help dump => Err(0)"#;
 
 const RESHARD: &str =
-    r#"zanstore reshard --new-shards 64 --dir data --to=wider --store 7 --shards 2 => Ok(ReshardSettings { dir: "data", to: "wider", store: 7, shards: 2, new_shards: 64 })
+    r#"zanstore reshard --new-shards 64 --dir data --to=wider --store 7 --shards 2 => Ok(ReshardSettings { dir: "data", to: "wider", store: 7, shards: Shards { count: 2 }, new_shards: Shards { count: 64 } })
 zanstore reshard --to e --store 1 --shards 2 --new-shards 3 => Err(2)
 zanstore reshard --dir d --store 1 --shards 2 --new-shards 3 => Err(2)
 zanstore reshard --dir d --to e --shards 2 --new-shards 3 => Err(2)

@@ -1,16 +1,15 @@
 -- A checkpoint of what the memory has: it is one of what the shard knows, and the memory is what it stands for.
-use Rattle.std.proofs.Common.{◌≡◌, ◌≤◌, ◌<◌, ◌+◌, ◌⊎◌, inl, inr, ⊎_elim, ◌++◌, ◌∷◌, [], ℕ, List, Contains, Some, map, min, false, refl, sym, ◌∙◌, ap, subst, arith, append_assoc}
+use Rattle.std.proofs.Common.{◌≡◌, ◌≤◌, ◌<◌, ◌+◌, ◌⊎◌, inl, inr, ⊎_elim, ◌++◌, ◌∷◌, [], ℕ, List, map, min, false, refl, sym, ◌∙◌, ap, subst, arith, append_assoc}
 use Rattle.std.proofs.lemmas.List.{append-nil}
 use Rattle.tuples.specs.declared.entry.Entry.{Entry}
 use Rattle.tuples.specs.declared.entry.WriteId.{WriteId}
-use Rattle.tuples.specs.declared.tuple.Tuple.{Tuple}
 use Rattle.tuples.specs.declared.version.Version.{Version}
 use Rattle.records.specs.declared.mark.Mark.TheVariants.{Begins, Ends}
 use Rattle.records.specs.declared.record.Record.{Record}
 use Rattle.records.specs.declared.record.Record.TheVariants.{Checkpoint, Epoch, Horizon, Learned}
 use Rattle.records.specs.Checkpoints.{generation_of}
 use Rattle.records.specs.Replays.{Identity, IsShardImage, ShardState, greatest_number, shard_state}
-use Rattle.versions.specs.Alike.{AreAlike, of_tuple}
+use Rattle.versions.specs.Alike.{of_tuple}
 use Rattle.versions.specs.Walks.{IsInOrder, Rise}
 use Rattle.versions.proofs.Alike.{alike_sym}
 use Rattle.replay.specs.Alike.{IsAlike}
@@ -24,7 +23,7 @@ use Rattle.journal.specs.Ahead.{HasOldOrNewOr, checkpoint_of}
 use Rattle.journal.specs.Records.{HasRecords, LeavesEach, View}
 use Rattle.decisions.specs.Values.{NamesNode}
 use Rattle.shard.specs.Checkpoints.{ChecksPointAt, HasOldNewOrPoint, IsNextCheckpoint, told_by}
-use Rattle.shard.specs.Keeping.{IsBacked, IsKept, prepared_ids}
+use Rattle.shard.specs.Keeping.{IsKept, prepared_ids}
 use Rattle.shard.specs.Shards.{IsUp, ShardView, memory}
 use Rattle.shard.proofs.Kept.{memory_is, view_of}
 

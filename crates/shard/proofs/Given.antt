@@ -1,7 +1,6 @@
 -- The ids of the writes in doubt are ids that a coordinator gives.
-use Rattle.std.proofs.Common.{◌≡◌, ◌++◌, ⊎_elim, List, [], ◌∷◌, Some, refl, sym, ◌∙◌, subst, append_assoc, arith}
+use Rattle.std.proofs.Common.{◌≡◌, ⊎_elim, List, [], ◌∷◌, Some, sym, ◌∙◌, subst, arith}
 use Rattle.std.specs.List.{AllByRecursion}
-use Rattle.std.proofs.lemmas.List.{append-nil}
 use Rattle.tuples.specs.declared.entry.Entry.{Entry}
 use Rattle.tuples.specs.declared.entry.WriteId.{WriteId}
 use Rattle.records.specs.Format.{IsWriteId}

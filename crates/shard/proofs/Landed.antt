@@ -1,28 +1,25 @@
 -- What a shard keeps in memory, while its devices are elsewhere and once they are back.
-use Rattle.std.proofs.Common.{◌≡◌, ◌++◌, ◌||◌, ℕ, Bool, true, false, List, drop, length, take, append_assoc, true≢false, refl, sym, ap, ◌∙◌, subst}
+use Rattle.std.proofs.Common.{◌≡◌, ◌++◌, ◌||◌, ℕ, Bool, true, false, List, drop, length, take, append_assoc, true≢false, sym, ap, ◌∙◌, subst}
 use Rattle.std.proofs.Math.Seq.{drop-append_seam}
 use Rattle.std.proofs.lemmas.List.{take-append-drop}
 use Rattle.std.proofs.lemmas.List.Elements.{Contains-append_left}
+use Rattle.std.proofs.lemmas.Bool.{or_parts}
 use Rattle.away.specs.Aways.{lent_honest, lent_state}
 use Rattle.away.specs.declared.away.Away.{Away}
 use Rattle.tuples.specs.declared.entry.WriteId.{WriteId}
 use Rattle.records.specs.declared.record.Record.{Record}
 use Rattle.records.specs.declared.record.Record.TheVariants.{Epoch}
 use Rattle.records.specs.Replays.{Identity, IsShardImage, ShardState, shard_state}
-use Rattle.device.specs.Device.{State, left}
+use Rattle.device.specs.Device.{State}
 use Rattle.journal.specs.Lending.{IsLent, landed}
 use Rattle.journal.specs.Records.{HasRecords, View}
+use Rattle.journal.proofs.Calls.{records_lent}
 use Rattle.decisions.specs.Values.{NamesNode}
 use Rattle.shard.specs.Keeping.{IsKept, prepared_ids}
 use Rattle.shard.specs.Lending.{HasFlown, IsLentShard}
 use Rattle.shard.specs.Shards.{IsUp, ShardView, memory}
 use Rattle.shard.specs.declared.lending.Flying.{Flying}
 use Rattle.shard.proofs.Kept.{prepared_append, view_of}
-
--- what stands for the devices has the same records
-records_lent : {D : Type 0} (state : D → State) (a b : D) (x y : Away D) (rs : List Record) → x.was.value ≡ a → y.was.value ≡ b → HasRecords (state a) (state b) rs → HasRecords (lent_state state x) (lent_state state y) rs
-records_lent {D} state a b x y rs at_a at_b has c d in_c in_d =
-    has c d (subst (λ (v : D). left (state v) c) at_a in_c) (subst (λ (v : D). left (state v) d) at_b in_d)
 
 named_still : (rs more : List Record) (node : ℕ) → NamesNode rs node → NamesNode (rs ++ more) node
 named_still rs more node named = (named.0, named.1, named.2, Contains-append_left rs more (Epoch named.0 named.1 named.2 node) named.3)
@@ -33,10 +30,6 @@ left_ids n prepares staged ids is count =
     ap (drop prepares) (is ∙ ap prepared_ids (sym (take-append-drop n staged)) ∙ prepared_append (take n staged) (drop n staged))
     ∙ ap (λ (k : ℕ). drop k (prepared_ids (take n staged) ++ prepared_ids (drop n staged))) count
     ∙ drop-append_seam (prepared_ids (take n staged)) (prepared_ids (drop n staged))
-
-or_false : (a b : Bool) → (a || b) ≡ false → (a ≡ false) × (b ≡ false)
-or_false true b is = absurd (true≢false is)
-or_false false b is = (refl, is)
 
 -- what is durable then, and what is staged still
 all_of : (n : ℕ) (durable staged now : List Record) → now ≡ durable ++ take n staged → durable ++ staged ≡ now ++ drop n staged
@@ -91,7 +84,7 @@ module _ {D : Type 0} (state : D → State) (honest : D → Type 0) where
   module _ (j : View (Away D)) (f k : View D) (me : Identity) (m : ShardState) (ids : List WriteId) (settled : ℕ) (flying : Flying) (v : ShardView (Away D))
       (was : IsKept (lent_state state) (lent_honest honest) j me m ids settled) (is : view_of j me ≡ v) (back : k ≡ landed j f flying.sent) where
     both_up : k.is_down ≡ false → (j.is_down ≡ false) × (f.is_down ≡ false)
-    both_up up = or_false j.is_down f.is_down (sym (ap (λ (x : View D). x.is_down) back) ∙ up)
+    both_up up = or_parts j.is_down f.is_down (sym (ap (λ (x : View D). x.is_down) back) ∙ up)
 
     view_down : j.is_down ≡ v.is_down
     view_down = ap (λ (x : ShardView (Away D)). x.is_down) is

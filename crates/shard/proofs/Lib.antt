@@ -2,7 +2,6 @@ mod Kept
 mod Checkpointed
 pub mod Waiting
 pub mod Tested
-mod Below
 mod Prepared
 mod Ids
 mod Undone

@@ -1,9 +1,9 @@
 -- What a shard tests of its part of a write.
-use Rattle.std.proofs.Common.{◌≡◌, ◌≤◌, ◌+◌, ◌++◌, ◌||◌, ◌&&◌, ◌==◌, ℕ, Bool, true, false, not, List, [], ◌∷◌, length, map, filter, None, Some, All, refl, sym, ap, ◌∙◌, arith}
-use Rattle.std.specs.List.{list_all, list_any}
-use Rattle.std.proofs.lemmas.Bool.{and_parts, cases_Bool, eqb-true, ne_eqb, or_parts}
+use Rattle.std.proofs.Common.{◌≡◌, ◌≤◌, ◌+◌, ◌++◌, ◌||◌, ◌==◌, ℕ, Bool, true, false, not, List, [], ◌∷◌, length, map, None, Some, All, refl, sym, ap, ◌∙◌, arith}
+use Rattle.std.specs.List.{list_any}
+use Rattle.std.proofs.lemmas.Bool.{cases_Bool, eqb-true, ne_eqb, or_parts}
 use Rattle.std.proofs.lemmas.List.Folds.{list_any_none}
-use Rattle.std.proofs.lemmas.List.Elements.{All-append, All-cons, All-filter, All-head, All-map, All-nil, All-tail, All-weaker}
+use Rattle.std.proofs.lemmas.List.Elements.{All-append, All-cons, All-filter, All-head, All-map, All-nil, All-tail, All-weaker, filter_passes}
 use Rattle.std.proofs.Common.{⊎_elim, ◌↔◌, Bor, IsTrue, Option, MatchOption}
 use Rattle.std.specs.Option.{is_some}
 use Rattle.tuples.specs.declared.entry.WriteId.{WriteId}
@@ -27,16 +27,6 @@ none_passes p [] no_x = All-nil (λ x. p x ≡ false)
 none_passes p (x ∷ xs) no_x =
     let parts = or_parts (p x) (list_any p xs) no_x in
     All-cons (λ y. p y ≡ false) x xs parts.0 (none_passes p xs parts.1)
-
-all_pass : {X : Type 0} (p : X → Bool) (xs : List X) → list_all p xs ≡ true → All (λ x. p x ≡ true) xs
-all_pass p [] is = All-nil (λ x. p x ≡ true)
-all_pass p (x ∷ xs) is =
-    let parts = and_parts (p x) (list_all p xs) is in
-    All-cons (λ y. p y ≡ true) x xs parts.0 (all_pass p xs parts.1)
-
-passed : {X : Type 0} (p : X → Bool) (xs : List X) → All (λ x. p x ≡ true) xs → list_all p xs ≡ true
-passed p [] all = refl
-passed p (x ∷ xs) all = ap (λ b. b && list_all p xs) (All-head (λ y. p y ≡ true) x xs all) ∙ passed p xs (All-tail (λ y. p y ≡ true) x xs all)
 
 unmapped : {X Y : Type 0} (P : Y → Type 0) (f : X → Y) (xs : List X) → All P (map f xs) → All (λ x. P (f x)) xs
 unmapped P f [] all = All-nil (λ x. P (f x))
@@ -81,13 +71,6 @@ free_changes_of m w free = free_changes m.in_doubt w free.tuples
 pub free_conditions_of : (m : ShardState) (w : Entry) → AreFree m w → conditions_held m.in_doubt w ≡ false
 free_conditions_of m w free = free_conditions m.in_doubt w free.tuples
 
-passing : {X : Type 0} (p : X → Bool) (xs : List X) → All (λ x. p x ≡ true) (filter p xs)
-passing p [] = All-nil (λ x. p x ≡ true)
-passing p (x ∷ xs) = ⊎_elim
-    (λ (is : p x ≡ true). rw is (All-cons (λ y. p y ≡ true) x (filter p xs) is (passing p xs)))
-    (λ (is : p x ≡ false). rw is (passing p xs))
-    (cases_Bool (p x))
-
 abbrev IsOwn : ℕ → ℕ → Tuple → Type 0
 IsOwn shards s t = shard_of shards t.object ≡ s
 
@@ -96,8 +79,8 @@ unfolding part
 own_tuples shards s w =
     let own = λ (t : Tuple) (is : is_of shards s t ≡ true). eqb-true (shard_of shards t.object) s is in
     All-append (IsOwn shards s) (changed (own_changes shards s w.changes)) (conditioned (own_conditions shards s w.conditions))
-    (All-map (IsOwn shards s) tuple_of (own_changes shards s w.changes) (All-weaker (λ (c : Change). is_of shards s (tuple_of c) ≡ true) (λ (c : Change). IsOwn shards s (tuple_of c)) (λ c. own (tuple_of c)) (own_changes shards s w.changes) (passing (λ (c : Change). is_of shards s (tuple_of c)) w.changes)))
-    (All-map (IsOwn shards s) of_condition (own_conditions shards s w.conditions) (All-weaker (λ (c : Condition). is_of shards s c.tuple ≡ true) (λ (c : Condition). IsOwn shards s c.tuple) (λ c. own c.tuple) (own_conditions shards s w.conditions) (passing (λ (c : Condition). is_of shards s c.tuple) w.conditions)))
+    (All-map (IsOwn shards s) tuple_of (own_changes shards s w.changes) (All-weaker (λ (c : Change). is_of shards s (tuple_of c) ≡ true) (λ (c : Change). IsOwn shards s (tuple_of c)) (λ c. own (tuple_of c)) (own_changes shards s w.changes) (filter_passes (λ (c : Change). is_of shards s (tuple_of c)) w.changes)))
+    (All-map (IsOwn shards s) of_condition (own_conditions shards s w.conditions) (All-weaker (λ (c : Condition). is_of shards s c.tuple ≡ true) (λ (c : Condition). IsOwn shards s c.tuple) (λ c. own c.tuple) (own_conditions shards s w.conditions) (filter_passes (λ (c : Condition). is_of shards s c.tuple) w.conditions)))
 
 pub same_part_id : (shards s : ℕ) (w : Entry) → (part shards s w).id ≡ w.id
 unfolding part
@@ -112,13 +95,13 @@ some_part : (shards s : ℕ) (w : Entry) → takes_part shards s w ≡ true → 
 unfolding takes_part
 some_part shards s w is = some_kept (part shards s w).changes (part shards s w).conditions is
 
-want_fits : (want : Want) → AsksOfLog want → WantFits want
+pub want_fits : (want : Want) → AsksOfLog want → WantFits want
 want_fits (NotAfter place) asks = omega (arith, asks)
 want_fits Exists asks = tt
 want_fits Absent asks = tt
 
 -- places of a log are numbers of 64 bits
-fit : (cs : List Condition) → AskOfLog cs → ConditionsFit cs
+pub fit : (cs : List Condition) → AskOfLog cs → ConditionsFit cs
 fit [] asks = tt
 fit (c ∷ cs) asks = (want_fits c.want (All-head (λ (d : Condition). AsksOfLog d.want) c cs asks), fit cs (All-tail (λ (d : Condition). AsksOfLog d.want) c cs asks))
 

@@ -1,5 +1,5 @@
 -- What a shard keeps beside its journal: in memory the replay of its records, and the ids whose prepares are not flushed.
-use Rattle.std.specs.Prelude.{◌≡◌, ◌⊎◌, ◌≤◌, ◌<◌, ℕ, Bool, false, Option, Some, List, [], ◌∷◌, ◌++◌}
+use Rattle.std.specs.Prelude.{◌≡◌, ◌≤◌, ◌<◌, ℕ, Bool, false, List, [], ◌∷◌, ◌++◌}
 use Rattle.std.specs.List.{list_any}
 use Rattle.tuples.specs.declared.entry.WriteId.{WriteId}
 use Rattle.tuples.specs.Log.{same_id}
@@ -10,8 +10,7 @@ use Rattle.records.specs.Replays.{Identity, IsShardImage, ShardState, shard_stat
 use Rattle.replay.specs.Alike.{IsAlike}
 use Rattle.device.specs.Device.{State}
 use Rattle.decisions.specs.Values.{NamesNode}
-use Rattle.journal.specs.Records.{HasRecords, View, found}
-use Rattle.shard.specs.Shards.{opening}
+use Rattle.journal.specs.Records.{HasRecords, View}
 
 -- the ids of the prepares among these records
 abbrev pub prepared_ids : List Record → List WriteId
@@ -48,13 +47,6 @@ pub record IsKept {D : Type 0} (state : D → State) (honest : D → Type 0) (jo
   pub unflushed_are : journal.is_down ≡ false → unflushed ≡ prepared_ids journal.staged
   pub settled_is : journal.is_down ≡ false → honest journal.a → honest journal.b → settled ≡ (shard_state journal.durable).learned
 
--- the records were found, they are those of this shard, and the memory is alike to their replay
-pub record IsReplayed (me : Identity) (records : Option (List Record)) (memory : ShardState) : Type 0 where
-  pub rs : List Record
-  pub found : records ≡ Some rs
-  pub replayed : IsAlike memory (shard_state rs)
-  pub image : IsShardImage me rs
-
--- the contents have the records that were found, or those of a shard with one opening more
-abbrev pub HasFoundOrOpened : Identity → List Record → List ℕ → List ℕ → Type 0
-HasFoundOrOpened me rs x y = (found x y ≡ Some rs) ⊎ (IsShardImage me (rs ++ opening me rs ∷ []) × (found x y ≡ Some (rs ++ opening me rs ∷ [])))
+-- the memory is alike to the replay of these records
+abbrev pub IsMemoryOf : List Record → ShardState → Type 0
+IsMemoryOf rs memory = IsAlike memory (shard_state rs)

@@ -15,7 +15,8 @@ use Rattle.records.specs.declared.record.Record.TheVariants.{Learned, Epoch}
 use Rattle.records.specs.Replays.{Identity, ShardState, IsShardImage, shard_state, find_in_doubt, is_held, named}
 pub use Rattle.holds.specs.Holds.{AreAscendingIds, ids}
 use Rattle.device.specs.Device.{State, left}
-use Rattle.journal.specs.Records.{BankLacksRoom, Finds, HasRecords, IsOpened, View, WasLeftOrFound, found}
+use Rattle.journal.specs.Records.{Finds, HasRecords, View, WasLeftOrFound, found}
+use Rattle.openings.specs.Openings.{LacksRoomToReopen}
 
 -- a shard over two devices: where the list of the current bank ends, what is durable, what is staged, whether a flush failed since the opening, and which shard it is
 pub record ShardView (D : Type 0) : Type 0 where
@@ -101,14 +102,13 @@ pub record IsOpenedShard {D : Type 0} (state : D → State) (honest : D → Type
   pub durable : new.durable ≡ rs ++ opening me rs ∷ []
   pub up : IsUp state honest new
 
+-- how often a shard of these records was opened
+abbrev pub openings_in : List Record → ℕ
+openings_in rs = (shard_state rs).epoch
+
 -- a journal that was opened over these devices has no room for the record of an opening
-pub record LacksRoomToOpen {D : Type 0} (state : D → State) (honest : D → Type 0) (a b : D) (me : Identity) : Type 0 where
-  pub rs : List Record
-  pub journal : View D
-  pub found : honest a → honest b → IsOpened state a b rs journal
-  pub same : honest a → honest journal.a
-  pub same_b : honest b → honest journal.b
-  pub lacks : BankLacksRoom state honest journal.a journal.b journal.end (opening me rs ∷ [])
+abbrev pub LacksRoomToOpen : {D : Type 0} → (D → State) → (D → Type 0) → D → D → Identity → Type 0
+LacksRoomToOpen state honest = LacksRoomToReopen state honest openings_in
 
 -- at a moment of an opening the contents have the records of some that could be left before it, or those found with the opening's
 abbrev pub WasLeftOrOpened : Identity → State → State → List ℕ → List ℕ → Type 0

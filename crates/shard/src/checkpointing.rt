@@ -27,7 +27,7 @@ fn heads(alloc: Global, me: Identity, memory: &Memory) -> [Record; 3]
     let epoch = Record::Epoch {
         epoch: memory.epoch(),
         store: me.store(),
-        shards: me.shards(),
+        shards: me.shards().count(),
         node: me.node(),
     };
     let learned = Record::Learned {

@@ -1,5 +1,6 @@
 // Learning decisions: each part is compared with its prepare, and applied at its place.
 ghost use Rattle.std.specs.Prelude.{◌≡◌, ◌⊎◌, ◌↔◌, ◌≤◌, ◌<◌, ◌+◌, ◌-◌, ◌++◌, ◌∷◌, [], true, false, length, drop, Some, OnOk, IfOk, IfErr, IsErr, IsErrOf, IsTrue};
+ghost use Rattle.refusal.specs.Refusals.{IsOneOf};
 ghost use Rattle.std.specs.List.{list_any};
 ghost use Rattle.journal.specs.Records.{HasNoRoom};
 ghost use Rattle.records.specs.Format.{IsLearned, max_placed_ids};
@@ -206,7 +207,7 @@ impl<D: Device> Shard<D> {
         ensures full { IsUp D.state D.honest self.old → IsErrOf result Refusal.Full → HasNoRoom self.old.staged (learning self.old.me (memory_of self.old) batch.now.from batch.now.writes) }
         ensures down { IsErrOf result Refusal.Down ↔ (self.old.is_down ≡ true) }
         ensures kept { self.new ≡ record self.old { staged = self.new.staged } }
-        ensures err { IfErr result (λ e. (self.new ≡ self.old) × ((e ≡ Refusal.Down) ⊎ ((e ≡ Refusal.NoMemory) ⊎ ((e ≡ Refusal.Full) ⊎ (e ≡ Refusal.Damaged))))) }
+        ensures err { IfErr result (λ e. (self.new ≡ self.old) × IsOneOf e (Refusal.Down ∷ Refusal.NoMemory ∷ Refusal.Full ∷ Refusal.Damaged ∷ [])) }
     {
         if self.journal.is_down() {
             return Err(Refusal::Down);

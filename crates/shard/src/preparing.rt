@@ -1,5 +1,6 @@
 // Preparing a write: its part is tested, staged and held in doubt.
-ghost use Rattle.std.specs.Prelude.{◌≡◌, ◌⊎◌, ◌↔◌, ◌++◌, ◌∷◌, [], true, false, OnOk, IfOk, IfErr, IsErrOf};
+ghost use Rattle.std.specs.Prelude.{◌≡◌, ◌↔◌, ◌++◌, ◌∷◌, [], true, false, OnOk, IfOk, IfErr, IsErrOf};
+ghost use Rattle.refusal.specs.Refusals.{IsOneOf};
 ghost use Rattle.decisions.specs.Values.{IsIntent};
 ghost use Rattle.holds.specs.Holds.{IsFree};
 ghost use Rattle.journal.specs.Records.{HasNoRoom};
@@ -97,7 +98,7 @@ fn prepare<D: Device>(
     ensures broken { journal.old.is_down ≡ false → IsErrOf result Refusal.Precondition ↔ IsBroken memory.old (part me.shards me.node write.now) }
     ensures full { journal.old.is_down ≡ false → IsErrOf result Refusal.Full ↔ (IsPreparable memory.old (part me.shards me.node write.now) × HasNoRoom journal.old.staged (prepare_record (part me.shards me.node write.now))) }
     ensures memory { IsErrOf result Refusal.NoMemory → IsPreparable memory.old (part me.shards me.node write.now) × (HasNoRoom journal.old.staged (prepare_record (part me.shards me.node write.now)) → ⊥) }
-    ensures err { IfErr result (λ e. ((e ≡ Refusal.Down) ⊎ ((e ≡ Refusal.Collected) ⊎ ((e ≡ Refusal.Busy) ⊎ ((e ≡ Refusal.Precondition) ⊎ ((e ≡ Refusal.Full) ⊎ (e ≡ Refusal.NoMemory)))))) × (journal.new ≡ journal.old) × (memory.new ≡ memory.old) × (unflushed.new ≡ unflushed.old)) }
+    ensures err { IfErr result (λ e. IsOneOf e (Refusal.Down ∷ Refusal.Collected ∷ Refusal.Busy ∷ Refusal.Precondition ∷ Refusal.Full ∷ Refusal.NoMemory ∷ []) × (journal.new ≡ journal.old) × (memory.new ≡ memory.old) × (unflushed.new ≡ unflushed.old)) }
 {
     if journal.is_down() {
         return Err(Refusal::Down);
@@ -143,7 +144,7 @@ impl<D: Device> Shard<D> {
         ensures memory { IsUp D.state D.honest self.old → IsErrOf result Refusal.NoMemory
             → IsPreparable (memory_of self.old) (own_part_of self.old intent.now.write) × (HasNoRoom self.old.staged (prepare_record (own_part_of self.old intent.now.write)) → ⊥) }
         ensures kept { self.new ≡ record self.old { staged = self.new.staged } }
-        ensures err { IfErr result (λ e. (self.new ≡ self.old) × ((e ≡ Refusal.Down) ⊎ ((e ≡ Refusal.Collected) ⊎ ((e ≡ Refusal.Busy) ⊎ ((e ≡ Refusal.Precondition) ⊎ ((e ≡ Refusal.Full) ⊎ (e ≡ Refusal.NoMemory))))))) }
+        ensures err { IfErr result (λ e. (self.new ≡ self.old) × IsOneOf e (Refusal.Down ∷ Refusal.Collected ∷ Refusal.Busy ∷ Refusal.Precondition ∷ Refusal.Full ∷ Refusal.NoMemory ∷ [])) }
     {
         let write = intent.entry();
         prepare(

@@ -1,5 +1,6 @@
 // What a shard tells of what it knows.
-ghost use Rattle.std.specs.Prelude.{◌≡◌, ◌⊎◌, ◌≤◌, ◌<◌, true, IfOk, IfErr, IsErr, IsErrOf, ◌↔◌, Contains};
+ghost use Rattle.std.specs.Prelude.{◌≡◌, ◌⊎◌, ◌≤◌, ◌<◌, true, IfOk, IfErr, IsErr, IsErrOf, ◌↔◌, Contains, ◌∷◌, []};
+ghost use Rattle.refusal.specs.Refusals.{IsOneOf};
 ghost use Rattle.tuples.specs.Reads.{IsSelection};
 ghost use Rattle.tuples.specs.Walking.{IsCheckSelection};
 ghost use Rattle.tuples.specs.Versions.{there_at};
@@ -69,7 +70,7 @@ impl<D: Device> Shard<D> {
         ensures ahead { IsUp D.state D.honest self.now → (memory self.now).horizon ≤ place → (memory self.now).learned < place → IfOk result (λ r. r ≡ Behind) × (IsErr result → ⊥) }
         ensures collected { IsUp D.state D.honest self.now → IsErrOf result Refusal.Collected ↔ (place < (memory self.now).horizon) }
         ensures down { IsErrOf result Refusal.Down ↔ (self.now.is_down ≡ true) }
-        ensures err { IfErr result (λ e. (e ≡ Refusal.Down) ⊎ ((e ≡ Refusal.Collected) ⊎ (e ≡ Refusal.NoMemory))) }
+        ensures err { IfErr result (λ e. IsOneOf e (Refusal.Down ∷ Refusal.Collected ∷ Refusal.NoMemory ∷ [])) }
     {
         if self.journal.is_down() {
             return Err(Refusal::Down);
@@ -101,7 +102,7 @@ impl<D: Device> Shard<D> {
         ensures ahead { IsUp D.state D.honest self.now → (memory self.now).horizon ≤ place → (memory self.now).learned < place → IfOk result (λ r. r ≡ Behind) × (IsErr result → ⊥) }
         ensures collected { IsUp D.state D.honest self.now → IsErrOf result Refusal.Collected ↔ (place < (memory self.now).horizon) }
         ensures down { IsErrOf result Refusal.Down ↔ (self.now.is_down ≡ true) }
-        ensures err { IfErr result (λ e. (e ≡ Refusal.Down) ⊎ ((e ≡ Refusal.Collected) ⊎ (e ≡ Refusal.NoMemory))) }
+        ensures err { IfErr result (λ e. IsOneOf e (Refusal.Down ∷ Refusal.Collected ∷ Refusal.NoMemory ∷ [])) }
     {
         if self.journal.is_down() {
             return Err(Refusal::Down);

@@ -4,21 +4,18 @@ use Rattle.std.specs.List.{All}
 use Rattle.std.specs.Str.{NoCharPasses}
 use Rattle.std.specs.Bool.{MatchBool}
 use Rattle.std.specs.Str.Pattern.{FindsChar, RFindsChar, SplitsAroundMatch}
-use Rattle.std.proofs.lemmas.Bool.{ne_eqb, false≢true}
+use Rattle.std.proofs.lemmas.Bool.{false≢true}
 use Rattle.std.proofs.lemmas.List.{map-append, take-append-drop, drop_more}
-use Rattle.std.proofs.lemmas.List.Elements.{All-from_get_or, All-weaker, All-head, All-tail}
-use Rattle.std.proofs.lemmas.List.Folds.{list_any_none}
+use Rattle.std.proofs.lemmas.List.Elements.{All-from_get_or, All-head, All-tail}
 use Rattle.std.proofs.lemmas.Str.Pattern.{NoCharPasses-char, contains_char, drop_at_char}
-use Rattle.serde_json.specs.Data.{Data, Members, put}
-use Rattle.requests.specs.Shapes.{list_with}
+use Rattle.serde_json.specs.Data.{Data}
 use Rattle.tuples.specs.Parsing.{Lacks}
-use Rattle.short_forms.specs.Forms.{Asked, Changed, IsAsked, asked_json, asked_word, changed_word, deleted, if_words, touched}
-use Rattle.short_forms.specs.Reading.{AreAsked, BeginsNoChange, IsMistaken, PutsConditions, SpellsNone}
+use Rattle.tuples.proofs.Lists.{tails, heads, other_first}
+use Rattle.tuples.proofs.Cuts.{lacks_everywhere}
+use Rattle.short_forms.specs.Forms.{Asked, Changed, IsAsked, asked_word, changed_word, deleted, if_words, touched}
+use Rattle.short_forms.specs.Reading.{AreAsked, BeginsNoChange, IsMistaken, SpellsNone}
 use Rattle.short_forms.specs.declared.mistake.Mistake.{Mistake}
-use Rattle.short_forms.proofs.Verbs.{heads, other_first, tails, write_only}
-
-lacks_everywhere : (mark : ℕ) (text : List ℕ) → All (λ b. b ≢ mark) text → Lacks mark text
-lacks_everywhere mark text none = list_any_none (λ b. eqb b mark) text (All-weaker (λ b. b ≢ mark) (λ b. eqb b mark ≡ false) (λ b other. ne_eqb b mark other) text none)
+use Rattle.short_forms.proofs.Verbs.{write_only}
 
 lacks_char : (c : ℕ) (bs : List ℕ) → NoCharPasses (λ d. eqb d c) bs → c < 128 → Lacks c bs
 lacks_char c bs none small = lacks_everywhere c bs (All-from_get_or (λ b. b ≢ c) bs 0 (λ k lt. NoCharPasses-char c bs k none small lt))
@@ -85,16 +82,6 @@ no_changes words none = write_only words (no_first words none)
 -- and so are changes behind which no conditions stand
 pub no_conditions : (words rest : List (List ℕ)) (cs : List Changed) → words ≡ map changed_word cs ++ rest → BeginsNoChange rest → ((asks : List Asked) → All IsAsked asks → rest ≡ if_words (map asked_word asks) → ⊥) → SpellsNone (codes "write" ∷ words)
 no_conditions words rest cs whole ends none = write_only words (λ ds asks e some all. none asks all (changes_once cs ds rest (if_words (map asked_word asks)) (sym whole ∙ e) ends (if_is_no_change asks)))
-
--- conditions that are none
-pub none_behind_if : (words conditions : List (List ℕ)) → words ≡ codes "if" ∷ conditions → ((cs : List Asked) → AreAsked conditions cs → ⊥) → (cs : List Asked) → All IsAsked cs → words ≡ if_words (map asked_word cs) → ⊥
-none_behind_if words conditions whole none [] all e = let no : codes "if" ∷ conditions ≡ [] = sym whole ∙ e in cc
-none_behind_if words conditions whole none (c ∷ cs) all e = none (c ∷ cs) (tails (codes "if") (codes "if") conditions (map asked_word (c ∷ cs)) (sym whole ∙ e), all)
-
-pub puts_conditions : (words conditions : List (List ℕ)) (cs : List Asked) (old new : Members) → words ≡ codes "if" ∷ conditions → 1 ≤ length conditions → AreAsked conditions cs
-    → new ≡ put (codes "conditions") (list_with (map asked_json cs)) old → PutsConditions words old new
-puts_conditions words conditions [] old new whole some a e = let none : conditions ≡ [] = a.0 in absurd (omega (arith, ap (length {A = List ℕ}) none))
-puts_conditions words conditions (c ∷ cs) old new whole some a e = (c ∷ cs, whole ∙ ap (λ (l : List (List ℕ)). codes "if" ∷ l) a.0, a.1, e)
 
 pub mistaken : (Cause Other : Type 0) (e : Mistake) → (Cause → Other) → IsMistaken Cause e → IsMistaken Other e
 mistaken Cause Other e f (inl m) = inl m

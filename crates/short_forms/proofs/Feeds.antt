@@ -1,5 +1,5 @@
 -- The JSON of a short form is shallow, and its text has no line feed.
-use Rattle.std.proofs.Common.{◌≡◌, ℕ, suc, ◌<◌, ◌≤◌, ◌^◌, ◌/◌, ◌%◌, Bool, true, false, ◌||◌, eqb, nat_lt, cond, List, [], ◌∷◌, ◌++◌, map, codes, Some, refl, sym, ap, ◌∙◌, subst, arith}
+use Rattle.std.proofs.Common.{◌≡◌, ℕ, suc, ◌<◌, ◌≤◌, ◌^◌, ◌/◌, ◌%◌, Bool, true, false, eqb, nat_lt, cond, List, [], ◌∷◌, ◌++◌, map, codes, Some, refl, sym, ap, ◌∙◌, subst, arith}
 use Rattle.std.specs.List.{list_any}
 use Rattle.std.specs.Char.{digit_char}
 use Rattle.std.specs.Fmt.{decimal}
@@ -7,7 +7,7 @@ use Rattle.std.specs.Int.{IsInRange}
 use Rattle.std.specs.Str.Parse.{AllDigits}
 use Rattle.std.proofs.lemmas.Fmt.{decimal_is_IsNumeral}
 use Rattle.std.proofs.lemmas.Str.Parse.{digit_from_value}
-use Rattle.std.proofs.lemmas.Bool.{ne_eqb}
+use Rattle.std.proofs.lemmas.Bool.{ne_eqb, or_from}
 use Rattle.std.proofs.lemmas.Bool.Decides.{nat_tests}
 use Rattle.std.proofs.lemmas.List.Folds.{list_any-append}
 use Rattle.json.specs.Print.{escape, escape_byte, escape_letter, quoted}
@@ -19,14 +19,11 @@ use Rattle.requests.specs.Shapes.{Field, list_with, members_with, object_with, t
 use Rattle.tuples.specs.Parsing.{Lacks}
 use Rattle.short_forms.specs.Forms.{Asked, Changed, Fresh, IsShort, Short, absent, asked_json, at_least, changed_json, checks, deleted, exact, exists, fresh_fields, latest, limit_of, reads, short_fields, since, touched, unsaid, watches, writes}
 
-or_false : (a b : Bool) → a ≡ false → b ≡ false → (a || b) ≡ false
-or_false a b ha hb = grind (arith, nat_tests)
-
 lacks_cons : (b : ℕ) (bs : List ℕ) → (b ≡ 10 → ⊥) → Lacks 10 bs → Lacks 10 (b ∷ bs)
-lacks_cons b bs other h = or_false (eqb b 10) (list_any (λ c. eqb c 10) bs) (ne_eqb b 10 other) h
+lacks_cons b bs other h = or_from (eqb b 10) (list_any (λ c. eqb c 10) bs) (ne_eqb b 10 other) h
 
 lacks_append : (a b : List ℕ) → Lacks 10 a → Lacks 10 b → Lacks 10 (a ++ b)
-lacks_append a b ha hb = list_any-append (λ c. eqb c 10) a b ∙ or_false (list_any (λ c. eqb c 10) a) (list_any (λ c. eqb c 10) b) ha hb
+lacks_append a b ha hb = list_any-append (λ c. eqb c 10) a b ∙ or_from (list_any (λ c. eqb c 10) a) (list_any (λ c. eqb c 10) b) ha hb
 
 lacks_cond : (t : Bool) (a b : List ℕ) → (t ≡ true → Lacks 10 a) → (t ≡ false → Lacks 10 b) → Lacks 10 (cond t a b)
 lacks_cond true a b ha hb = ha refl
@@ -64,7 +61,7 @@ digit_is_not c h = ne_eqb c 10 (λ e. omega (arith, h.0, e))
 
 digits_lack : (ds : List ℕ) → AllDigits 10 ds → Lacks 10 ds
 digits_lack [] h = refl
-digits_lack (c ∷ cs) h = or_false (eqb c 10) (list_any (λ b. eqb b 10) cs) (digit_is_not c (digit_from_value c h.0)) (digits_lack cs h.1)
+digits_lack (c ∷ cs) h = or_from (eqb c 10) (list_any (λ b. eqb b 10) cs) (digit_is_not c (digit_from_value c h.0)) (digits_lack cs h.1)
 
 decimal_lacks : (n : ℕ) → n < 2 ^ 64 → Lacks 10 (decimal n)
 decimal_lacks n h = digits_lack (decimal n) ((decimal_is_IsNumeral n h).0).1
@@ -102,7 +99,7 @@ items_fine n [] h = (omega arith, refl, λ later. refl)
 items_fine n (d ∷ ds) h =
     let more = items_fine n ds h.1 in (
       omega (arith, h.0.0, more.0),
-      or_false (has_float d) (items_have_float (items_of ds)) h.0.1 more.1,
+      or_from (has_float d) (items_have_float (items_of ds)) h.0.1 more.1,
       λ later. lacks_append (comma_if later) (compact_text d ++ items_text true (items_of ds)) (comma_lacks later) (lacks_append (compact_text d) (items_text true (items_of ds)) h.0.2 (more.2 true)),
     )
 
@@ -115,7 +112,7 @@ members_fine n (f ∷ fs) h =
     let more = members_fine n fs h.1 in
     let rest = members_text true (members_with fs) in (
       omega (arith, h.0.0, more.0),
-      or_false (has_float f.1) (members_have_float (members_with fs)) h.0.1 more.1,
+      or_from (has_float f.1) (members_have_float (members_with fs)) h.0.1 more.1,
       λ later. lacks_append (comma_if later) (quoted f.0 ++ 58 ∷ (compact_text f.1 ++ rest)) (comma_lacks later)
           (lacks_append (quoted f.0) (58 ∷ (compact_text f.1 ++ rest)) (quoted_lacks f.0) (lacks_cons 58 (compact_text f.1 ++ rest) (λ e. omega (arith, e)) (lacks_append (compact_text f.1) rest h.0.2 (more.2 true)))),
     )

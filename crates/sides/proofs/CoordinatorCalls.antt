@@ -2,13 +2,14 @@
 use Rattle.std.proofs.Common.{◌≡◌, ◌≤◌, ◌<◌, ⊎_elim, ℕ, true≢false, List, [], ◌∷◌, ◌++◌, length, Result, Option, Some, Ok, Err, refl, sym, ◌∙◌, subst, ap}
 use Rattle.std.specs.Global.{Vec}
 use Rattle.std.proofs.lemmas.List.{append-nil}
+use Rattle.std.proofs.lemmas.Bool.{false_from_ne_true}
 use Rattle.sides.proofs.Words.{Abort, AbortAnswers, Answered, AnsweredThere, Attempt, attempt, Batch, Begin, BeginAnswers, beginnings_stay_tied, Checkpoint, CheckpointAnswers, Coordinator, coordinator, CoordinatorAnswers, CoordinatorCall, CoordinatorMayJoin, CoordinatorReply, CoordinatorView, Decide, DecideAnswers, DecidedValue, Entry, Flush, FlushAnswers, from_coordinator, Heads, Inquire, IntentValue, IsOpenedTied, IsTied, IsTiedThere, IsTiedUp, landings_stay_tied, left, MayJoin, NodeView, NotRaised, Outcome, Raise, RaiseAnswers, Refusal, refused, Refuses, Reply, SettledValue, State, tied_up_is_tied, tried_by, VerdictValue, VoteValue, WriteValue}
 use Rattle.calls.specs.declared.reply.CoordinatorReply.TheVariants as told
 use Rattle.ties.proofs.Deciding.{aborts_stay_tied, decisions_stay_tied, raises_stay_tied}
 use Rattle.ties.proofs.Landing.{flushes_stay_tied}
 use Rattle.ties.proofs.Opening.{failed_flushes_stay_tied}
 use Rattle.ties.proofs.Points.{checkpoints_stay_tied, failed_checkpoints_stay_tied}
-use Rattle.sides.proofs.ShardCalls.{is_up, up_or_down}
+use Rattle.sides.proofs.ShardCalls.{up_or_down}
 
 module _ {D : Type 0} (state : D → State) (honest : D → Type 0) (store shards : ℕ) where
   -- Given a coordinator before and after a call
@@ -18,7 +19,7 @@ module _ {D : Type 0} (state : D → State) (honest : D → Type 0) (store shard
 
     begun : (write : WriteValue) (r : Result IntentValue Refusal) → BeginAnswers state honest old write r new → IsOpenedTied state honest store shards new seen low tried
     begun write (Ok i) a =
-        let up = tied.up (is_up old.is_down (λ down. cc (a.down.1 down))) in
+        let up = tied.up (false_from_ne_true old.is_down (λ down. cc (a.down.1 down))) in
         let begins = (a.ok up.running).0 in
         tied_up_is_tied state honest store shards new seen low tried (beginnings_stay_tied state honest old new write.changes write.conditions i seen low tried up begins).0
         (ap (λ (v : CoordinatorView D). v.me) begins.new_is ∙ tied.me)
@@ -26,7 +27,7 @@ module _ {D : Type 0} (state : D → State) (honest : D → Type 0) (store shard
 
     aborted : (intent : IntentValue) (r : Result VerdictValue Refusal) → AbortAnswers state honest old intent r new → IsOpenedTied state honest store shards new seen low tried
     aborted intent (Ok v) a =
-        let up = tied.up (is_up old.is_down (λ down. cc (a.down.1 down))) in
+        let up = tied.up (false_from_ne_true old.is_down (λ down. cc (a.down.1 down))) in
         let aborts = (a.ok up.running).1 in
         tied_up_is_tied state honest store shards new seen low tried (aborts_stay_tied state honest old new intent.write.id seen low tried up aborts)
         (ap (λ (v : CoordinatorView D). v.me) aborts.new_is ∙ tied.me)
@@ -34,7 +35,7 @@ module _ {D : Type 0} (state : D → State) (honest : D → Type 0) (store shard
 
     raised : (place : ℕ) (settled : List SettledValue) (r : Result (Unit {0}) NotRaised) → RaiseAnswers state honest old place settled r new → IsOpenedTied state honest store shards new seen low tried
     raised place settled (Ok done) a =
-        let up = tied.up (is_up old.is_down (λ down. cc (a.was_up down))) in
+        let up = tied.up (false_from_ne_true old.is_down (λ down. cc (a.was_up down))) in
         let raises = (a.ok up.running).0 in
         tied_up_is_tied state honest store shards new seen low tried (raises_stay_tied state honest old new place seen low tried up raises (a.ok up.running).1)
         (⊎_elim (λ one. ap (λ (v : CoordinatorView D). v.me) one.1) (λ none. ap (λ (v : CoordinatorView D). v.me) none.1) raises.new_is ∙ tied.me)
@@ -43,14 +44,14 @@ module _ {D : Type 0} (state : D → State) (honest : D → Type 0) (store shard
     decided_up : (intent : IntentValue) (votes : List VoteValue) (d : DecidedValue) → DecideAnswers state honest old intent votes (Ok d) new
         → IsTiedUp state honest new seen low (tried ++ attempt d intent.write ∷ []) × (length seen < d.place)
     decided_up intent votes d a =
-        let up = tied.up (is_up old.is_down (λ down. cc (a.was_up down))) in
+        let up = tied.up (false_from_ne_true old.is_down (λ down. cc (a.was_up down))) in
         decisions_stay_tied state honest old new intent.write d seen low tried up (a.ok up.running).0
 
     -- a decision that is staged is one more that is known
     pub decided : (intent : IntentValue) (votes : List VoteValue) (d : DecidedValue) → DecideAnswers state honest old intent votes (Ok d) new
         → IsOpenedTied state honest store shards new seen low (tried ++ attempt d intent.write ∷ []) × (length seen < d.place)
     decided intent votes d a =
-        let up = tied.up (is_up old.is_down (λ down. cc (a.was_up down))) in
+        let up = tied.up (false_from_ne_true old.is_down (λ down. cc (a.was_up down))) in
         let next = decided_up intent votes d a in (
           tied_up_is_tied state honest store shards new seen low (tried ++ attempt d intent.write ∷ []) next.0 (ap (λ (v : CoordinatorView D). v.me) (a.ok up.running).0.new_is ∙ tied.me),
           next.1,
@@ -92,7 +93,7 @@ module _ {D : Type 0} (state : D → State) (honest : D → Type 0) (store shard
     pub checkpointed : (moment : D → ℕ) (left_since : D → ℕ → List ℕ → Type 0) → ((d : D) (t : ℕ) (c : List ℕ) → honest d → t ≤ moment d → left (state d) c → left_since d t c)
         → (r : Result (Unit {0}) Refusal) → CheckpointAnswers state honest moment left_since old r new → CoordinatorMayJoin state honest store shards new seen low tried
     checkpointed moment left_since counts_now (Ok done) a =
-        let up = tied.up (is_up old.is_down (λ down. cc (a.down down).0)) in
+        let up = tied.up (false_from_ne_true old.is_down (λ down. cc (a.down down).0)) in
         let ok = a.ok up.running in
         record {
           up = λ is_up. checkpoints_stay_tied state honest old new seen low tried up (record { durable = ok.1; staged = ok.2 }) a.keeps ok.0;

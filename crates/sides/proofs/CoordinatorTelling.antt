@@ -2,6 +2,7 @@
 use Rattle.std.proofs.Common.{◌≡◌, ◌≤◌, ◌-◌, ℕ, min, List, ◌++◌, length, drop, Result, Option, Some, Ok, Err, refl, sym, ◌∙◌, subst, ap, arith, length-append}
 use Rattle.std.specs.Global.{Vec}
 use Rattle.std.proofs.lemmas.List.{length-drop, length-take}
+use Rattle.std.proofs.lemmas.Bool.{false_from_ne_true}
 use Rattle.sides.proofs.Words.{Answered, AnsweredThere, Attempt, attempt, Batch, BatchValue, Begin, BeginAnswers, beginnings_stay_tied, Coordinator, coordinator, CoordinatorAnswers, CoordinatorReply, CoordinatorView, Decide, DecideAnswers, DecidedValue, end_of, Entry, from_coordinator, Heads, HeadsAnswers, HeadsValue, Inquire, IntentValue, IsOpenedTied, IsTied, IsTiedThere, IsTiedUp, kept_of, memory_of, NodeView, NotDecided, Outcome, Refusal, refused, Refuses, Reply, State, TellsBatch, TellsDecided, TellsFound, TellsHeads, TellsKept, VoteValue, WriteId, WriteValue}
 use Rattle.tuples.specs.Limits.{max_batch}
 use Rattle.coordinator.specs.declared.telling.Inquiry as inquiries
@@ -15,7 +16,6 @@ use Rattle.ties.proofs.Deciding.{kept_attempts_stand}
 use Rattle.ties.proofs.Telling.{batches_are_seen, found_writes_stand, heads_are_seen}
 use Rattle.sides.specs.CoordinatorSides.{TellsBegun}
 use Rattle.sides.proofs.CoordinatorCalls.{decided}
-use Rattle.sides.proofs.ShardCalls.{is_up}
 
 module _ {D : Type 0} (state : D → State) (honest : D → Type 0) (moment : D → ℕ) (left_since : D → ℕ → List ℕ → Type 0) (store shards : ℕ) (seen : List Entry) (low : ℕ) (tried : List Attempt) where
   -- what is decided is no less than the list
@@ -29,7 +29,7 @@ module _ {D : Type 0} (state : D → State) (honest : D → Type 0) (moment : D 
 
   heads_by : (v : CoordinatorView D) (r : Result HeadsValue Refusal) → IsOpenedTied state honest store shards v seen low tried → HeadsAnswers state honest v r → TellsHeads seen low (from_coordinator (told.Heads r))
   heads_by v (Ok h) tied a =
-      let up = tied.up (is_up v.is_down (λ down. cc (a.down.1 down))) in
+      let up = tied.up (false_from_ne_true v.is_down (λ down. cc (a.down.1 down))) in
       let is = a.ok up.running in
       let are = heads_are_seen state honest v seen low tried up in (
         ap (λ (x : HeadsValue). x.kept) is ∙ are.0,
@@ -61,7 +61,7 @@ module _ {D : Type 0} (state : D → State) (honest : D → Type 0) (moment : D 
   module _ (from to : ℕ) where
     batch_by : (v : CoordinatorView D) (r : Result BatchValue Refusal) → IsOpenedTied state honest store shards v seen low tried → BatchAnswers state honest v from to r → TellsBatch seen from to (from_coordinator (told.Batch r))
     batch_by v (Ok b) tied a =
-        let up = tied.up (is_up v.is_down (λ down. cc (a.down.1 down))) in
+        let up = tied.up (false_from_ne_true v.is_down (λ down. cc (a.down.1 down))) in
         let batches = a.ok up.running in
         let are = batches_are_seen state honest v from to b seen low tried up batches in
         let base = up.kept.base in
@@ -95,7 +95,7 @@ module _ {D : Type 0} (state : D → State) (honest : D → Type 0) (moment : D 
   module _ (id : WriteId) where
     found_by : (v : CoordinatorView D) (r : Result inquiries.Inquiry Refusal) → IsOpenedTied state honest store shards v seen low tried → InquireAnswers state honest v id r → TellsFound seen id (from_coordinator (told.Inquire r))
     found_by v (Ok (Commit place)) tied a =
-        let up = tied.up (is_up v.is_down (λ down. cc (a.down.1 down))) in
+        let up = tied.up (false_from_ne_true v.is_down (λ down. cc (a.down.1 down))) in
         found_writes_stand state honest v id place seen low tried up (a.commit place up.running refl)
     found_by v (Ok (is_aborted verdict)) tied a = tt
     found_by v (Ok Undecided) tied a = tt
@@ -124,7 +124,7 @@ module _ {D : Type 0} (state : D → State) (honest : D → Type 0) (moment : D 
   module _ (write : WriteValue) where
     begun_by : (old new : CoordinatorView D) (r : Result IntentValue Refusal) → IsOpenedTied state honest store shards old seen low tried → BeginAnswers state honest old write r new → TellsBegun write seen (from_coordinator (told.Begin r))
     begun_by old new (Ok i) tied a =
-        let up = tied.up (is_up old.is_down (λ down. cc (a.down.1 down))) in
+        let up = tied.up (false_from_ne_true old.is_down (λ down. cc (a.down.1 down))) in
         let begins = (a.ok up.running).0 in
         ((beginnings_stay_tied state honest old new write.changes write.conditions i seen low tried up begins).1, ap (λ (w : Entry). w.changes) begins.write, ap (λ (w : Entry). w.conditions) begins.write)
     begun_by old new (Err e) tied a = tt
@@ -177,7 +177,7 @@ module _ {D : Type 0} (state : D → State) (honest : D → Type 0) (moment : D 
   module _ (d : DecidedValue) where
     kept_by : (v : CoordinatorView D) (place : ℕ) → IsOpenedTied state honest store shards v seen low tried → OutcomeAnswers state honest v d (Kept place) → TellsKept seen tried d (from_coordinator (told.Outcome (Kept place)))
     kept_by v place tied a =
-        let was_up = is_up v.is_down (λ down. cc (a.down down)) in
+        let was_up = false_from_ne_true v.is_down (λ down. cc (a.down down)) in
         let kept = a.kept place (tied.up was_up).running refl in (
           kept.0,
           λ w known.
@@ -188,7 +188,7 @@ module _ {D : Type 0} (state : D → State) (honest : D → Type 0) (moment : D 
     outcome_by : (v : CoordinatorView D) (r : outcomes.Outcome) → IsOpenedTied state honest store shards v seen low tried → OutcomeAnswers state honest v d r → TellsKept seen tried d (from_coordinator (told.Outcome r))
     outcome_by v (Kept place) tied a = kept_by v place tied a
     outcome_by v (Later back) tied a =
-        let was_up = is_up v.is_down (λ down. cc (a.down down)) in
+        let was_up = false_from_ne_true v.is_down (λ down. cc (a.down down)) in
         (a.later back (tied.up was_up).running refl).0
     outcome_by v Unsure tied a = tt
 

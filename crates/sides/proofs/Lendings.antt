@@ -1,16 +1,13 @@
 -- A shard whose devices were lent is tied as it was, and so is one that has them again.
-use Rattle.std.proofs.Common.{◌≡◌, ◌||◌, ◌++◌, ℕ, Bool, true, false, true≢false, List, take, drop, Option, Some, None, refl, sym, ◌∙◌, ap, subst, append_assoc}
+use Rattle.std.proofs.Common.{◌≡◌, ◌++◌, ℕ, false, List, take, drop, Option, Some, None, sym, ◌∙◌, ap, subst, append_assoc}
 use Rattle.std.proofs.lemmas.List.{take-append-drop}
+use Rattle.std.proofs.lemmas.Bool.{or_parts}
 use Rattle.sides.proofs.Words.{Away, coordinator, Entry, Flying, IsOfShard, IsOpenedShardTied, IsTiedIn, Known, LandsIn, LandsRows, left, LendsIn, lent_honest, lent_state, MayLandIn, NodeView, Record, refused, RowsAnywhere, shard, ShardView, State, View}
 use Rattle.records.specs.Replays.{shard_state}
 use Rattle.shard.specs.declared.lending.Flying.{Flying as OfShard}
 use Rattle.calls.specs.Lending.{ShardLands, ShardLends, ShardMayLand}
 use Rattle.calls.specs.declared.lending.Flying.TheVariants as flies
 use Rattle.ties.specs.ShardTies.{AreRowsOf, IsShardTiedUp}
-
-pub either_down : (a b : Bool) → (a || b) ≡ false → (a ≡ false) × (b ≡ false)
-either_down true b e = absurd (true≢false e)
-either_down false b e = (refl, e)
 
 module _ {D : Type 0} (state : D → State) (honest : D → Type 0) (store shards s : ℕ) where
   -- Given a shard, and what stays where its devices are elsewhere
@@ -91,7 +88,7 @@ module _ {D : Type 0} (state : D → State) (honest : D → Type 0) (store shard
 
     landed_opened : IsOpenedShardTied state honest store shards s new seen low
     landed_opened = record {
-      up = λ up. let both = either_down v.is_down flown.is_down (sym (ap (λ (x : ShardView D). x.is_down) lands.landed) ∙ up) in landed_up both.0 both.1;
+      up = λ up. let both = or_parts v.is_down flown.is_down (sym (ap (λ (x : ShardView D). x.is_down) lands.landed) ∙ up) in landed_up both.0 both.1;
       anywhere = subst (λ (x : ShardView D). RowsAnywhere state honest shards s x.a x.b seen low) (sym lands.landed) rows.anywhere;
       me = ap (λ (x : ShardView D). x.me) lands.landed ∙ tied.me;
     }

@@ -1,10 +1,10 @@
 -- What joins the list leaves the coordinator tied to it.
-use Rattle.std.proofs.Common.{◌≡◌, ◌≤◌, ⊎_elim, ℕ, true≢false, List, ◌++◌, length, Result, Option, Some, None, Ok, Err, refl, sym, ◌∙◌, subst, ap, arith}
+use Rattle.std.proofs.Common.{◌≡◌, ◌≤◌, ℕ, true≢false, List, ◌++◌, length, Result, Option, Some, None, Ok, Err, refl, sym, ◌∙◌, subst, ap, arith}
+use Rattle.std.proofs.lemmas.Bool.{false_from_ne_true}
 use Rattle.sides.proofs.Words.{Answered, AnsweredThere, AreHeadsOf, Attempt, behind_in, Coordinator, coordinator, CoordinatorAnswers, CoordinatorMayJoin, CoordinatorReply, CoordinatorView, Entry, from_coordinator, Heads, HeadsAnswers, HeadsValue, IsTiedThere, kept_of, MayJoin, NodeView, Refusal, refused, Refuses, Reply, shard, State, tied_up_is_tied}
 use Rattle.decisions.specs.Coordinators.{heads_of}
 use Rattle.calls.specs.declared.reply.CoordinatorReply.TheVariants as told
 use Rattle.sides.specs.Joining.{heads_in}
-use Rattle.sides.proofs.ShardCalls.{is_up, up_or_down}
 
 module _ {D : Type 0} (state : D → State) (honest : D → Type 0) (moment : D → ℕ) (left_since : D → ℕ → List ℕ → Type 0) where
   coordinator_heads : (v : CoordinatorView D) (r : Result HeadsValue Refusal) → HeadsAnswers state honest v r → AreHeadsOf state honest (Some (coordinator v)) (heads_in (from_coordinator (told.Heads r)))
@@ -44,7 +44,7 @@ module _ {D : Type 0} (state : D → State) (honest : D → Type 0) (store shard
   up_joins : (v : CoordinatorView D) (seen : List Entry) (low : ℕ) (tried : List Attempt) (heads : HeadsValue) → CoordinatorMayJoin state honest store shards v seen low tried
       → AreHeadsOf state honest (Some (coordinator v)) (Some heads) → JoinsTo (Some (coordinator v)) seen low tried heads
   up_joins v seen low tried heads may are =
-      let joins = may.up (is_up v.is_down (λ down. cc (are.1 down))) in
+      let joins = may.up (false_from_ne_true v.is_down (λ down. cc (are.1 down))) in
       let is : heads ≡ heads_of v = cc (are.0 joins.tied.running) in
       let kept = ap (λ (h : HeadsValue). h.kept) is in
       let horizon = ap (λ (h : HeadsValue). h.horizon) is in
@@ -64,14 +64,3 @@ module _ {D : Type 0} (state : D → State) (honest : D → Type 0) (store shard
   told_joins (Some (refused e a b)) seen low tried heads may are = absurd (cc are)
   told_joins (Some (shard v)) seen low tried heads may are = absurd may
   told_joins None seen low tried heads may are = absurd may
-
-  -- one that told none is tied to the list as it was
-  pub untold_stays : (node : Option (NodeView D)) (seen : List Entry) (low : ℕ) (tried : List Attempt) → MayJoin state honest store shards node seen low tried
-      → AreHeadsOf state honest node None → IsTiedThere state honest store shards node seen low tried
-  untold_stays (Some (coordinator v)) seen low tried may are = ⊎_elim
-      (λ up. absurd (cc (are.0 (may.up up).tied.running)))
-      (λ down. record { up = λ up. absurd (true≢false (sym down ∙ up)); anywhere = may.down down; me = may.me })
-      (up_or_down v.is_down)
-  untold_stays (Some (refused e a b)) seen low tried may are = may
-  untold_stays (Some (shard v)) seen low tried may are = absurd may
-  untold_stays None seen low tried may are = absurd may

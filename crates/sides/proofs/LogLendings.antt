@@ -1,19 +1,21 @@
 -- The coordinator whose devices were lent is tied as it was, and what they made durable may join the list once it has them again.
-use Rattle.std.proofs.Common.{◌≡◌, ◌++◌, ◌≤◌, ℕ, true, false, List, length, take, drop, Option, Some, None, is_some, slice_get, Contains, ⊎_elim, sym, ◌∙◌, ap, subst, arith, append_assoc, length-append}
-use Rattle.std.proofs.lemmas.List.{drop-append-le, take-append-drop}
-use Rattle.sides.proofs.Words.{Anywhere, AreHeadsOf, Attempt, Away, ComesBackIn, coordinator, CoordinatorMayJoin, CoordinatorView, end_of, Entry, Flying, HeadsValue, IsOpenedTied, IsSound, IsSoundThere, IsTiedThere, IsTiedUp, kept_of, landings_stay_tied, LandsIn, left, LendsIn, lent_honest, lent_state, MayJoin, MayLandIn, memory_of, NodeView, Record, refused, shard, State, View, WriteId}
+use Rattle.std.proofs.Common.{◌≡◌, ◌++◌, ◌≤◌, ℕ, List, length, take, drop, Option, Some, None, slice_get, Contains, ⊎_elim, sym, ◌∙◌, ap, subst, arith, append_assoc, length-append}
+use Rattle.std.proofs.lemmas.List.{drop-append-le, take-append-drop, append_cancel_left}
+use Rattle.std.proofs.lemmas.Bool.{or_parts}
+use Rattle.sides.proofs.Words.{Anywhere, Attempt, Away, ComesBackIn, coordinator, CoordinatorMayJoin, CoordinatorView, end_of, Entry, Flying, IsOpenedTied, IsSound, IsSoundThere, IsTiedThere, IsTiedUp, kept_of, landings_stay_tied, LandsIn, left, LendsIn, lent_honest, lent_state, MayJoin, MayLandIn, memory_of, NodeView, Record, refused, shard, State, View, WriteId}
 use Rattle.records.specs.Coordinators.{CoordinatorState, coordinator_from, coordinator_state}
+use Rattle.records.proofs.CoordinatorStates.{state_of_more}
 use Rattle.coordinator.specs.declared.lending.Flying.{Flying as OfCoordinator}
+use Rattle.coordinator.specs.Staged.{decided}
+use Rattle.coordinator.proofs.Staged.{decided_behind}
 use Rattle.calls.specs.Lending.{CoordinatorLands, CoordinatorLends, CoordinatorMayLand}
 use Rattle.calls.specs.declared.lending.Flying.TheVariants as flies
 use Rattle.ties.specs.Ties.{AreListed, AreOf, AreStaged, AreTried, IsLonger}
-use Rattle.ties.proofs.Decided.{base_behind, base_staged, decided, decided-append, decided_behind, staged_in_two, staged_whole, staged_within, state_of_more}
-use Rattle.ties.proofs.Lists.{get_front, same_rest}
+use Rattle.ties.proofs.Decided.{base_behind, base_staged, decided-append, staged_in_two, staged_whole, staged_within}
 use Rattle.ties.proofs.Opening.{durable_longer}
 use Rattle.ties.proofs.Outside.{still_outside}
-use Rattle.sides.specs.Lending.{ComesBack, IsUpThere}
-use Rattle.sides.proofs.Lendings.{either_down}
-use Rattle.sides.proofs.ShardCalls.{up_or_down}
+use Rattle.sides.specs.Lending.{ComesBack}
+use Rattle.tuples.proofs.Lists.{slice_get_longer}
 
 -- Given a coordinator that is up and tied, the records with the first of what is staged are the list, and perhaps more.
 module _ {E : Type 0} (state_of : E → State) (honest_of : E → Type 0) (v : CoordinatorView E) (count : ℕ) (seen : List Entry) (low : ℕ) (tried : List Attempt) (tied : IsTiedUp state_of honest_of v seen low tried) where
@@ -56,7 +58,7 @@ module _ {E : Type 0} (state_of : E → State) (honest_of : E → Type 0) (v : C
 
   more_is : tied.more ≡ decided first ++ decided rest
   more_is =
-      same_rest (drop (kept_of v).base seen) tied.more (decided v.staged)
+      append_cancel_left (drop (kept_of v).base seen) tied.more (decided v.staged)
       (sym (drop-append-le (kept_of v).base seen tied.more low_base)
       ∙ ap (λ (n : ℕ). drop n (seen ++ tied.more)) (sym whole_base)
       ∙ sym tied.all.decisions
@@ -74,7 +76,7 @@ module _ {E : Type 0} (state_of : E → State) (honest_of : E → Type 0) (v : C
       parts.2 ∙ sym whole.2 ∙ ap (λ (s : CoordinatorState). s.epoch) (sym (state_of_more v.durable v.staged))
 
   there : (j : ℕ) (w : Entry) → slice_get (seen ++ decided first) j ≡ Some w → slice_get (seen ++ tied.more) j ≡ Some w
-  there j w is = subst (λ (l : List Entry). slice_get l j ≡ Some w) (sym list_is) (get_front (seen ++ decided first) (decided rest) w j is)
+  there j w is = subst (λ (l : List Entry). slice_get l j ≡ Some w) (sym list_is) (slice_get_longer (seen ++ decided first) (decided rest) j w is)
 
   pub first_longer : IsLonger seen low tried (coordinator_state (v.durable ++ first))
   first_longer = subst (IsLonger seen low tried) (sym (state_of_more v.durable first)) (record {
@@ -93,17 +95,6 @@ module _ {E : Type 0} (state_of : E → State) (honest_of : E → Type 0) (v : C
     within = within;
     past = λ j x is. ⊎_elim (λ before. omega (arith, before, epoch_is)) (λ here. omega (arith, here.0, epoch_is)) (tied.attempts j x is);
   })
-
-module _ {D : Type 0} (state : D → State) (honest : D → Type 0) where
-  -- what told its heads is up, and what is up tells them
-  pub heads_show_up : (node : Option (NodeView D)) (store shards : ℕ) (heads : Option HeadsValue) → IsSoundThere state honest store shards node → AreHeadsOf state honest node heads → (is_some heads ≡ true → IsUpThere node) × (IsUpThere node → is_some heads ≡ true)
-  heads_show_up (Some (coordinator v)) store shards heads sound are = (
-    λ some. ⊎_elim (λ up. up) (λ down. absurd (let bad : false ≡ true = ap is_some (sym (are.1 down)) ∙ some in cc)) (up_or_down v.is_down),
-    λ up. ap is_some (are.0 (sound.running up)),
-  )
-  heads_show_up (Some (refused e a b)) store shards heads sound are = (λ some. absurd (let bad : false ≡ true = ap is_some (sym are) ∙ some in cc), λ up. absurd up)
-  heads_show_up (Some (shard v)) store shards heads sound are = absurd sound
-  heads_show_up None store shards heads sound are = absurd sound
 
 module _ {D : Type 0} (state : D → State) (honest : D → Type 0) (store shards : ℕ) where
   -- Given a coordinator, and what stays where its devices are elsewhere
@@ -183,7 +174,7 @@ module _ {D : Type 0} (state : D → State) (honest : D → Type 0) (store shard
     landed_sound_one : IsSound (lent_state state) (lent_honest honest) store shards v → IsSound state honest store shards new
     landed_sound_one sound = record {
       running = λ up.
-          let both = either_down v.is_down flown.is_down (sym (ap (λ (x : CoordinatorView D). x.is_down) lands.landed) ∙ up) in
+          let both = or_parts v.is_down flown.is_down (sym (ap (λ (x : CoordinatorView D). x.is_down) lands.landed) ∙ up) in
           lands.running both.0 both.1 comes.honest_a comes.honest_b;
       honest_a = subst honest (sym (ap (λ (x : CoordinatorView D). x.a) lands.landed)) comes.honest_a;
       honest_b = subst honest (sym (ap (λ (x : CoordinatorView D). x.b) lands.landed)) comes.honest_b;
@@ -195,7 +186,7 @@ module _ {D : Type 0} (state : D → State) (honest : D → Type 0) (store shard
       joins_one : CoordinatorMayJoin state honest store shards new seen low tried
       joins_one = record {
         up = λ up.
-            let both = either_down v.is_down flown.is_down (sym (ap (λ (x : CoordinatorView D). x.is_down) lands.landed) ∙ up) in
+            let both = or_parts v.is_down flown.is_down (sym (ap (λ (x : CoordinatorView D). x.is_down) lands.landed) ∙ up) in
             let flight = may.has_flown both.0 both.1 comes.honest_a comes.honest_b in
             landings_stay_tied state honest (lent_state state) (lent_honest honest) v new flying.sent.count seen low tried (tied.up both.0)
             (record {

@@ -1,37 +1,20 @@
 -- The calls of a shard under its lock leave it tied.
-use Rattle.std.proofs.Common.{◌≡◌, ◌≤◌, ⊎_elim, inl, inr, ◌⊎◌, zero, suc, ℕ, Bool, true, false, List, [], ◌∷◌, ◌++◌, length, Result, Option, Some, None, Ok, Err, refl, sym, ◌∙◌, subst, ap, arith}
-use Rattle.std.proofs.lemmas.List.{length-take, take-append-le}
-use mathlib.Core.List.{IsPrefix}
-use Rattle.sides.proofs.Words.{Answered, AnsweredIn, BatchValue, Collect, DropWrite, Entry, from_shard, HeadsValue, IntentValue, IsOpenedShardTied, IsShardTied, IsTiedIn, Known, Learn, left, NodeView, Read, ReadForCheck, Refusal, refused, Reply, Shard, shard, shard_tied_up_is_tied, ShardAnswers, ShardCall, ShardReply, ShardView, StagePrepare, State, VerdictValue}
+use Rattle.std.proofs.Common.{◌≡◌, ◌≤◌, ⊎_elim, inl, inr, ◌⊎◌, ℕ, Bool, true, false, List, Result, Option, Some, None, Ok, Err, refl, sym, subst}
+use Rattle.std.proofs.lemmas.Bool.{false_from_ne_true}
+use Rattle.sides.proofs.Words.{Answered, AnsweredIn, BatchValue, Collect, DropWrite, Entry, from_shard, HeadsValue, IntentValue, IsOpenedShardTied, IsShardTied, IsTiedIn, Known, Learn, left, NodeView, Refusal, refused, Reply, Shard, shard, shard_tied_up_is_tied, ShardAnswers, ShardCall, ShardReply, ShardView, StagePrepare, State, VerdictValue}
 use Rattle.decisions.specs.Values.{TicketValue}
-use Rattle.calls.specs.declared.call.ShardCall.TheVariants.{Learned, Vote, InDoubt, Settle, Flush, Checkpoint}
+use Rattle.calls.specs.declared.call.ShardCall.TheVariants.{Flush, Checkpoint}
 use Rattle.calls.specs.declared.reply.ShardReply.TheVariants as told_by
 use Rattle.calls.specs.ShardAnswers.{CheckpointAnswers, CollectAnswers, DropAnswers, FlushAnswers, LearnAnswers, PrepareAnswers}
-use Rattle.laws.specs.ShardLaws.{AreOfLog}
 use Rattle.ties.specs.TellingLaws.{IsBatchOf}
 use Rattle.ties.proofs.ShardCalls.{collections_stay_tied, drops_stay_tied, learnings_stay_tied, prepares_stay_tied, shard_flushes_stay_tied}
 use Rattle.ties.proofs.ShardOpening.{failed_shard_flushes_stay_tied, longer_lists_stay_tied}
 use Rattle.ties.proofs.ShardPoints.{failed_shard_checkpoints_stay_tied, shard_checkpoints_stay_tied}
 use Rattle.sides.specs.Sides.{IsLater}
 
-pub is_up : (b : Bool) → (b ≡ true → ⊥) → b ≡ false
-is_up false down = refl
-is_up true down = absurd (down refl)
-
 pub up_or_down : (b : Bool) → (b ≡ false) ⊎ (b ≡ true)
 up_or_down false = inl refl
 up_or_down true = inr refl
-
-stretch_longer : (seen more : List Entry) (from : ℕ) (writes : List Entry) → AreOfLog seen from writes → AreOfLog (seen ++ more) from writes
-stretch_longer seen more zero writes of_list =
-    of_list ∙ sym (take-append-le (length writes) seen more (omega (arith, ap length of_list, length-take (length writes) seen)))
-stretch_longer [] more (suc from) [] of_list = refl
-stretch_longer [] more (suc from) (w ∷ writes) of_list = absurd (cc of_list)
-stretch_longer (x ∷ seen) more (suc from) writes of_list = stretch_longer seen more from writes of_list
-
--- a batch of a list is one of each longer list
-pub batch_longer : (seen longer : List Entry) (b : BatchValue) → IsPrefix seen longer → IsBatchOf seen b → IsBatchOf longer b
-batch_longer seen longer b pre is = record { of_list = subst (λ (l : List Entry). AreOfLog l b.from b.writes) pre.1 (stretch_longer seen pre.0 b.from b.writes is.of_list); whole = is.whole }
 
 module _ {D : Type 0} (state : D → State) (honest : D → Type 0) (store shards s : ℕ) where
   -- a pass that knows more is as good
@@ -46,32 +29,32 @@ module _ {D : Type 0} (state : D → State) (honest : D → Type 0) (store shard
 
     learned : (b : BatchValue) (r : Result Bool Refusal) → IsBatchOf seen b → LearnAnswers state honest old b r new → IsOpenedShardTied state honest store shards s new seen low
     learned b (Ok is_known) of_list a =
-        let up = tied.up (is_up old.is_down (λ down. cc (a.down.1 down))) in
+        let up = tied.up (false_from_ne_true old.is_down (λ down. cc (a.down.1 down))) in
         shard_tied_up_is_tied state honest store shards s new seen low (learnings_stay_tied state honest store shards s old new b is_known seen low up of_list (a.ok up.up)).0
     learned b (Err e) of_list a = unchanged a.err.0
 
     prepared : (intent : IntentValue) (r : Result TicketValue Refusal) → PrepareAnswers state honest old intent r new → IsOpenedShardTied state honest store shards s new seen low
     prepared intent (Ok t) a =
-        let up = tied.up (is_up old.is_down (λ down. cc (a.down.1 down))) in
+        let up = tied.up (false_from_ne_true old.is_down (λ down. cc (a.down.1 down))) in
         shard_tied_up_is_tied state honest store shards s new seen low (prepares_stay_tied state honest store shards s old new intent.write t seen low up (a.ok up.up))
     prepared intent (Err e) a = unchanged a.err.0
 
     dropped : (verdict : VerdictValue) (r : Result (Unit {0}) Refusal) → DropAnswers state honest old verdict r new → IsOpenedShardTied state honest store shards s new seen low
     dropped verdict (Ok done) a =
-        let up = tied.up (is_up old.is_down (λ down. cc (a.down.1 down))) in
+        let up = tied.up (false_from_ne_true old.is_down (λ down. cc (a.down.1 down))) in
         shard_tied_up_is_tied state honest store shards s new seen low (drops_stay_tied state honest store shards s old new verdict.id seen low up (a.drops up.up))
     dropped verdict (Err e) a = unchanged a.err.1
 
     collected : (heads : HeadsValue) (r : Result (Unit {0}) Refusal) → heads.horizon ≤ low → CollectAnswers state honest old heads r new → IsOpenedShardTied state honest store shards s new seen low
     collected heads (Ok done) le a =
-        let up = tied.up (is_up old.is_down (λ down. cc (a.down.1 down))) in
+        let up = tied.up (false_from_ne_true old.is_down (λ down. cc (a.down.1 down))) in
         shard_tied_up_is_tied state honest store shards s new seen low (collections_stay_tied state honest store shards s old new heads.horizon seen low up le (a.ok up.up))
     collected heads (Err e) le a = unchanged a.err.0
 
     flushed : (moment : D → ℕ) (left_since : D → ℕ → List ℕ → Type 0) → ((d : D) (t : ℕ) (c : List ℕ) → honest d → t ≤ moment d → left (state d) c → left_since d t c)
         → (r : Result (Unit {0}) Refusal) → FlushAnswers state honest moment left_since old r new → IsOpenedShardTied state honest store shards s new seen low
     flushed moment left_since counts_now (Ok done) a =
-        let up = tied.up (is_up old.is_down (λ down. cc (a.down down))) in
+        let up = tied.up (false_from_ne_true old.is_down (λ down. cc (a.down down))) in
         shard_tied_up_is_tied state honest store shards s new seen low (shard_flushes_stay_tied state honest store shards s old new seen low up (a.ok up.up) a.me)
     flushed moment left_since counts_now (Err e) a = ⊎_elim
         (λ is_up.
@@ -83,7 +66,7 @@ module _ {D : Type 0} (state : D → State) (honest : D → Type 0) (store shard
     checkpointed : (moment : D → ℕ) (left_since : D → ℕ → List ℕ → Type 0) → ((d : D) (t : ℕ) (c : List ℕ) → honest d → t ≤ moment d → left (state d) c → left_since d t c)
         → (r : Result (Unit {0}) Refusal) → CheckpointAnswers state honest moment left_since old r new → IsOpenedShardTied state honest store shards s new seen low
     checkpointed moment left_since counts_now (Ok done) a =
-        let up = tied.up (is_up old.is_down (λ down. cc (a.down down).0)) in
+        let up = tied.up (false_from_ne_true old.is_down (λ down. cc (a.down down).0)) in
         shard_tied_up_is_tied state honest store shards s new seen low (shard_checkpoints_stay_tied state honest store shards s old new seen low up (a.ok up.up) a.me)
     checkpointed moment left_since counts_now (Err e) a = ⊎_elim
         (λ is_up.
@@ -125,24 +108,6 @@ module _ {D : Type 0} (state : D → State) (honest : D → Type 0) (moment : D 
   stays : (call : ShardCall) (pass : Known Entry) → Keeps call pass → Stays call pass
   stays call pass keeps (Some old) (Some new) reply tied a = node_stays call pass keeps old reply new tied a
   stays call pass keeps old new reply tied a = absurd a
-
-  same_shard : (old new : ShardView D) (call : ShardCall) (reply : ShardReply) → IsQuiet call → ShardAnswers state honest moment left_since old call reply new → new ≡ old
-  same_shard old new (Learn b) reply quiet a = absurd quiet
-  same_shard old new (StagePrepare intent) reply quiet a = absurd quiet
-  same_shard old new (DropWrite verdict held) reply quiet a = absurd quiet
-  same_shard old new (Collect heads) reply quiet a = absurd quiet
-  same_shard old new Flush reply quiet a = absurd quiet
-  same_shard old new Checkpoint reply quiet a = absurd quiet
-  same_shard old new Learned (told_by.Learned r) quiet a = a.0
-  same_shard old new (Vote ticket) (told_by.Vote r) quiet a = a.0
-  same_shard old new InDoubt (told_by.InDoubt r) quiet a = a.0
-  same_shard old new (Read place set) (told_by.Read back r) quiet a = a.0
-  same_shard old new (ReadForCheck place x u) (told_by.ReadForCheck back_x back_u r) quiet a = a.0
-  same_shard old new Settle (told_by.Settle r) quiet a = a.0
-  same_shard old new call reply quiet a = absurd a
-
-  pub quiet_stays : (call : ShardCall) (pass : Known Entry) → IsQuiet call → Stays call pass
-  quiet_stays call pass quiet = stays call pass (λ old new reply tied a. subst (λ (v : ShardView D). IsOpenedShardTied state honest store shards s v pass.seen pass.horizon) (sym (same_shard old new call reply quiet a)) tied)
 
   keeps_learn : (b : BatchValue) (pass : Known Entry) → IsBatchOf pass.seen b → Keeps (Learn b) pass
   keeps_learn b pass of_list old new (told_by.Learn back r) tied a = learned state honest store shards s old new pass.seen pass.horizon tied b r of_list a.1

@@ -1,5 +1,6 @@
 -- What a shard under its lock reads is of the list that its pass has seen.
 use Rattle.std.proofs.Common.{◌≡◌, ℕ, List, Result, Option, Some, Ok, Err, refl}
+use Rattle.std.proofs.lemmas.Bool.{false_from_ne_true}
 use Rattle.sides.proofs.Words.{Answered, AnsweredIn, Entry, from_shard, IsOpenedShardTied, IsShardTied, IsTiedIn, Known, NodeView, Read, ReadForCheck, Refusal, refused, Shard, shard, ShardCall, ShardView, State, TellsRows}
 use Rattle.tuples.specs.declared.object.Userset.{Userset}
 use Rattle.tuples.specs.declared.tupleset.Tupleset.{Tupleset}
@@ -9,7 +10,6 @@ use Rattle.shard.specs.declared.replies.ReadReply.TheVariants.{Rows, Behind}
 use Rattle.calls.specs.Reading.{read_reply}
 use Rattle.calls.specs.ShardAnswers.{ReadAnswers, ReadForCheckAnswers}
 use Rattle.ties.proofs.ShardOpening.{check_reads_are_seen, reads_are_seen}
-use Rattle.sides.proofs.ShardCalls.{is_up}
 
 module _ {D : Type 0} (state : D → State) (honest : D → Type 0) (moment : D → ℕ) (left_since : D → ℕ → List ℕ → Type 0) (store shards s : ℕ) where
   -- Given what the pass has seen, and a place
@@ -17,7 +17,7 @@ module _ {D : Type 0} (state : D → State) (honest : D → Type 0) (moment : D 
     rows_of_shard : (set : Tupleset) (old : ShardView D) (r : Result ReadReply Refusal) → IsOpenedShardTied state honest store shards s old seen low → ReadAnswers state honest old place set r
         → TellsRows shards s seen (Read place set) r
     rows_of_shard set old (Ok (Rows rows)) tied a =
-        let up = tied.up (is_up old.is_down (λ down. cc (a.down.1 down))) in
+        let up = tied.up (false_from_ne_true old.is_down (λ down. cc (a.down.1 down))) in
         reads_are_seen state honest store shards s old place set rows.items seen low up (a.rows rows up.up refl)
     rows_of_shard set old (Ok Behind) tied a = tt
     rows_of_shard set old (Err e) tied a = tt
@@ -25,7 +25,7 @@ module _ {D : Type 0} (state : D → State) (honest : D → Type 0) (moment : D 
     check_rows_of_shard : (x : Userset) (u : User) (old : ShardView D) (r : Result ReadReply Refusal) → IsOpenedShardTied state honest store shards s old seen low → ReadForCheckAnswers state honest old place x u r
         → TellsRows shards s seen (ReadForCheck place x u) r
     check_rows_of_shard x u old (Ok (Rows rows)) tied a =
-        let up = tied.up (is_up old.is_down (λ down. cc (a.down.1 down))) in
+        let up = tied.up (false_from_ne_true old.is_down (λ down. cc (a.down.1 down))) in
         check_reads_are_seen state honest store shards s old place x u rows.items seen low up (a.rows rows up.up refl)
     check_rows_of_shard x u old (Ok Behind) tied a = tt
     check_rows_of_shard x u old (Err e) tied a = tt

@@ -1,31 +1,20 @@
 -- The calls of a node leave it what it is, whatever list its records stand for.
 use Rattle.std.proofs.Common.{◌≡◌, ⊎_elim, ℕ, true, true≢false, List, Result, Option, Some, None, Ok, Err, is_some, refl, sym, ◌∙◌, subst, ap}
 use Rattle.std.proofs.lemmas.Option.{same_Some}
+use Rattle.std.proofs.lemmas.Bool.{false_from_ne_true}
 use Rattle.sides.proofs.Words.{Abort, AbortAnswers, Answered, AnsweredIn, AnsweredThere, Batch, Begin, BeginAnswers, Checkpoint, CheckpointAnswers, Coordinator, coordinator, coordinator_node, CoordinatorAnswers, CoordinatorCall, CoordinatorOpens, CoordinatorReply, CoordinatorView, Decide, DecideAnswers, DecidedValue, devices_of, Flush, FlushAnswers, from_coordinator, from_shard, Heads, Identity, Inquire, IntentValue, IsOfShard, IsSound, IsSoundThere, LogOpenedIn, LogReopens, LogRestartedIn, NodeView, NotDecided, NotRaised, OpenedIn, Outcome, Raise, RaiseAnswers, Refusal, refused, Reply, RestartedIn, SettledValue, Shard, shard, shard_node, ShardAnswers, ShardCall, ShardOpens, ShardReopens, ShardReply, ShardView, State, VerdictValue, VoteValue, WriteValue}
 use Rattle.refusal.specs.declared.refusal.Refusal.TheVariants.{Down}
 use Rattle.decisions.specs.Coordinators.{IsRunning}
 use Rattle.calls.specs.declared.call.ShardCall.TheVariants as shard_calls
 use Rattle.calls.specs.declared.reply.CoordinatorReply.TheVariants as told
 use Rattle.calls.specs.declared.reply.ShardReply.TheVariants as told_by
-use Rattle.calls.specs.Asking.{MayAsk, MayAskCoordinator, MayAskShard}
+use Rattle.calls.specs.Asking.{MayAsk, MayAskShard}
 use Rattle.calls.specs.Opening.{refusal_of}
-use Rattle.sides.specs.CoordinatorSides.{MayAskThere}
 use Rattle.sides.specs.Joining.{RunsThere}
 use Rattle.sides.specs.Sides.{MayAskIn}
 use Rattle.sides.proofs.Revived.{still}
-use Rattle.sides.proofs.ShardCalls.{is_up}
 
 module _ {D : Type 0} (state : D → State) (honest : D → Type 0) (store shards : ℕ) where
-  may_ask_coordinator : (node : NodeView D) (call : CoordinatorCall) → IsSoundThere state honest store shards (Some node) → MayAskCoordinator shards call → MayAsk node (Coordinator call)
-  may_ask_coordinator (coordinator v) call sound may = subst (λ (n : ℕ). MayAskCoordinator n call) (sym (ap (λ (me : Identity). me.shards) sound.me)) may
-  may_ask_coordinator (refused e a b) call sound may = tt
-  may_ask_coordinator (shard v) call sound may = absurd sound
-
-  -- it may be asked what its coordinator may be asked
-  pub may_ask_there : (node : Option (NodeView D)) (call : CoordinatorCall) → IsSoundThere state honest store shards node → MayAskCoordinator shards call → MayAskThere node call
-  may_ask_there (Some node) call sound may = may_ask_coordinator node call sound may
-  may_ask_there None call sound may = absurd sound
-
   pub log_is_there : (node : Option (NodeView D)) → IsSoundThere state honest store shards node → is_some node ≡ true
   log_is_there (Some node) sound = refl
   log_is_there None sound = absurd sound
@@ -43,25 +32,25 @@ module _ {D : Type 0} (state : D → State) (honest : D → Type 0) (store shard
 
     begun : (write : WriteValue) (r : Result IntentValue Refusal) → BeginAnswers state honest old write r new → Is
     begun write (Ok i) a =
-        let begins = a.ok (sound.running (is_up old.is_down (λ down. cc (a.down.1 down)))) in
+        let begins = a.ok (sound.running (false_from_ne_true old.is_down (λ down. cc (a.down.1 down)))) in
         runs begins.1 (ap (λ (v : CoordinatorView D). v.me) begins.0.new_is)
     begun write (Err e) a = unchanged a.err.0
 
     decided : (intent : IntentValue) (votes : List VoteValue) (r : Result DecidedValue NotDecided) → DecideAnswers state honest old intent votes r new → Is
     decided intent votes (Ok d) a =
-        let decides = a.ok (sound.running (is_up old.is_down (λ down. cc (a.was_up down)))) in
+        let decides = a.ok (sound.running (false_from_ne_true old.is_down (λ down. cc (a.was_up down)))) in
         runs decides.1 (ap (λ (v : CoordinatorView D). v.me) decides.0.new_is)
     decided intent votes (Err e) a = unchanged a.same
 
     aborted : (intent : IntentValue) (r : Result VerdictValue Refusal) → AbortAnswers state honest old intent r new → Is
     aborted intent (Ok v) a =
-        let aborts = a.ok (sound.running (is_up old.is_down (λ down. cc (a.down.1 down)))) in
+        let aborts = a.ok (sound.running (false_from_ne_true old.is_down (λ down. cc (a.down.1 down)))) in
         runs aborts.2 (ap (λ (v : CoordinatorView D). v.me) aborts.1.new_is)
     aborted intent (Err e) a = unchanged a.err.0
 
     raised : (place : ℕ) (settled : List SettledValue) (r : Result (Unit {0}) NotRaised) → RaiseAnswers state honest old place settled r new → Is
     raised place settled (Ok done) a =
-        let raises = a.ok (sound.running (is_up old.is_down (λ down. cc (a.was_up down)))) in
+        let raises = a.ok (sound.running (false_from_ne_true old.is_down (λ down. cc (a.was_up down)))) in
         runs raises.2 (⊎_elim (λ one. ap (λ (v : CoordinatorView D). v.me) one.1) (λ none. ap (λ (v : CoordinatorView D). v.me) none.1) raises.0.new_is)
     raised place settled (Err e) a = unchanged a.err.0
 
@@ -75,7 +64,7 @@ module _ {D : Type 0} (state : D → State) (honest : D → Type 0) (store shard
     }
 
     checkpointed : (moment : D → ℕ) (left_since : D → ℕ → List ℕ → Type 0) (r : Result (Unit {0}) Refusal) → CheckpointAnswers state honest moment left_since old r new → Is
-    checkpointed moment left_since (Ok done) a = runs (a.ok (sound.running (is_up old.is_down (λ down. cc (a.down down).0)))).0 a.keeps.me
+    checkpointed moment left_since (Ok done) a = runs (a.ok (sound.running (false_from_ne_true old.is_down (λ down. cc (a.down down).0)))).0 a.keeps.me
     checkpointed moment left_since (Err e) a = ⊎_elim
         (λ failed. record {
           running = λ up. absurd (true≢false (sym failed.1 ∙ up));

@@ -258,7 +258,9 @@ fn restart_node<D: Device, B: Room, G: Gate, R: Wait>(
 ) -> Option<Refusal> {
     match node {
         NodeName::Coordinator => store.restart_coordinator(rt, alloc),
-        NodeName::Shard(shard) if shard < store.shards() => store.restart_shard(rt, alloc, shard),
+        NodeName::Shard(shard) if store.shards().has(shard) => store.restart_shard(
+            rt, alloc, shard,
+        ),
         NodeName::Shard(_) => None,
     }
 }

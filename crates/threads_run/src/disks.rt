@@ -6,6 +6,7 @@ ghost use Rattle.locked.specs.Opening.{IsNew};
 use crate::random::Random;
 use device::{Device, SimDisk, Tear};
 use std::alloc::{AllocError, Global};
+use tuples::Shards;
 
 // Each disk has a row of numbers of its own, beside those of the threads.
 const FIRST_ROW: u64 = 1_000;
@@ -44,13 +45,13 @@ fn new_disk(alloc: Global, failure: Option<Failure>) -> Result<SimDisk, AllocErr
 /// Two disks for each node of a store of so many shards, each set to fail once where there is a seed.
 pub(crate) fn new_disks(
     alloc: Global,
-    shards: u8,
+    shards: Shards,
     seed: Option<u64>,
 ) -> Result<Vec<SimDisk>, AllocError>
     ensures count { IfOk result (λ disks. vec_len disks ≡ 2 * (shards + 1)) }
     ensures new { IfOk result (λ disks. All (IsNew state_of (λ d. Unit {0})) disks.items) }
 {
-    let count = 2 * (shards as usize + 1);
+    let count = 2 * (usize::from(shards.count()) + 1);
     let mut disks = Vec::with_capacity(alloc, count)?;
     for disk in 0..count {
         let failure = failure_of(seed, disk as u64);

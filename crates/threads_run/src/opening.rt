@@ -15,6 +15,7 @@ use std::marker::Brand;
 use std::rt::Runtime;
 use std::sync::Wait;
 use std::thread::Threads;
+use tuples::Shards;
 
 /// The number of the store.
 const STORE: u64 = 1;
@@ -44,7 +45,7 @@ fn run_over_parts<R: Runtime + Threads + Wait + Sync>(
     requires empty { (parts.log.seen ≡ []) × (parts.log.horizon ≡ 0) }
 {
     let meeting = Meeting::of(asked.guests());
-    match new_disks(alloc, SHARDS, asked.failing()) {
+    match new_disks(alloc, Shards::of(SHARDS), asked.failing()) {
         Ok(disks) => run_over::<SimDisk, Brand, R>(
             rt, alloc, parker, &meeting, parts, disks, asked,
         ),
@@ -75,7 +76,7 @@ fn run_over<D: Device + Send + Sync, B: Room + Send + Sync, R: Runtime + Threads
         parts,
         devices,
         STORE,
-        SHARDS,
+        Shards::of(SHARDS),
     ) {
         Ok((store, _first)) => run_asked(rt, alloc, &store, parker, meeting, asked),
         Err(_) => FAILED,

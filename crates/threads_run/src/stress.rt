@@ -15,6 +15,7 @@ use std::rt::Runtime;
 use std::sync::Wait;
 use std::thread::{self, Threads};
 use std::time::Clock;
+use tuples::Shards;
 
 // One of this kind, which has seen all that there is.
 fn new_worker<D: Device, B: Room, G: Gate, R: Wait>(
@@ -105,8 +106,9 @@ fn print_all<B: Room, R: Print>(
     workers: &[Worker<B>],
     ending: &Worker<B>,
     seed: u64,
-    shards: u8,
+    shards: Shards,
 ) -> io::Result<bool> {
+    let shards = shards.count();
     println!(rt; "threads {seed} {shards}")?;
     let mut is_whole = true;
     for worker in workers {

@@ -7,6 +7,7 @@ use names::NodeName;
 use sides::Room;
 use std::sync::Wait;
 use std::thread;
+use tuples::Shards;
 
 // How often a node is opened again at the end, where it does not come up.
 const TRIES: u64 = 10;
@@ -16,10 +17,10 @@ const MOST_TURNS: u64 = 4_000;
 
 impl<B: Room> Worker<B> {
     /// Tells that both disks of each node were set to fail.
-    pub(crate) fn tell_failures(&mut self, course: &Course, shards: u8) {
+    pub(crate) fn tell_failures(&mut self, course: &Course, shards: Shards) {
         for _ in 0..2 {
             self.tell_failing(course, NodeName::Coordinator);
-            for shard in 0..shards {
+            for shard in 0..shards.count() {
                 self.tell_failing(course, NodeName::Shard(shard));
             }
         }
@@ -40,7 +41,7 @@ impl<B: Room> Worker<B> {
         let node = if self.random.happens(25) {
             NodeName::Coordinator
         } else {
-            NodeName::Shard(self.random.below(u64::from(shards)) as u8)
+            NodeName::Shard(self.random.below(u64::from(shards.count())) as u8)
         };
         let _is_up = self.restart(rt, store, course, node);
     }
@@ -53,7 +54,7 @@ impl<B: Room> Worker<B> {
         course: &Course,
     ) {
         self.restart_until_up(rt, store, course, NodeName::Coordinator);
-        for shard in 0..store.shards() {
+        for shard in 0..store.shards().count() {
             self.restart_until_up(rt, store, course, NodeName::Shard(shard));
         }
     }

@@ -1,6 +1,5 @@
 // Two writers at two shards, each of which waits within its write until the other is within its own.
 ghost use Rattle.std.specs.Prelude.{◌≤◌};
-ghost use Rattle.tuples.specs.Limits.{max_shards};
 
 use crate::meeting::Meeting;
 use crate::opening::FAILED;
@@ -12,7 +11,7 @@ use std::alloc::Global;
 use std::rt::Runtime;
 use std::sync::Wait;
 use std::thread::{self, Threads};
-use tuples::{Refusal, Tuple, shard_of};
+use tuples::{Refusal, Shards, Tuple, shard_of};
 
 // One of these objects has each shard of a store of four.
 const TEXTS: [&str; 4] = [
@@ -23,19 +22,13 @@ const TEXTS: [&str; 4] = [
 ];
 
 // Whether the object of the tuple with this text has the shard.
-fn is_at(alloc: Global, text: &str, shards: u8, shard: u8) -> Result<bool, Refusal>
-    requires some { 1 ≤ shards }
-    requires few { shards ≤ max_shards }
-{
+fn is_at(alloc: Global, text: &str, shards: Shards, shard: u8) -> Result<bool, Refusal> {
     let tuple = Tuple::parse(alloc, text.as_bytes())?;
     Ok(shard_of(&tuple.object, shards) == shard)
 }
 
 // The text of a tuple whose object has this shard.
-fn text_at(alloc: Global, shards: u8, shard: u8) -> Result<&'static str, Refusal>
-    requires some { 1 ≤ shards }
-    requires few { shards ≤ max_shards }
-{
+fn text_at(alloc: Global, shards: Shards, shard: u8) -> Result<&'static str, Refusal> {
     for text in TEXTS {
         if is_at(alloc, text, shards, shard)? {
             return Ok(text);

@@ -1,22 +1,11 @@
 -- What records add to what a coordinator knows.
-use Rattle.std.proofs.Common.{◌≡◌, ℕ, ◌≤◌, ◌<◌, List, [], ◌∷◌, ◌++◌, Contains, refl, sym, ◌∙◌, ap, subst, arith, append_assoc}
+use Rattle.std.proofs.Common.{◌≡◌, ℕ, ◌≤◌, ◌<◌, List, [], ◌∷◌, ◌++◌, Contains, refl, sym, ap, subst, arith}
 use Rattle.std.proofs.lemmas.List.{append-nil}
 use Rattle.std.proofs.lemmas.List.Elements.{Contains-append_left, Contains-append_right, Contains-push}
 use Rattle.ties.proofs.Words.{AreStaged, coordinator_from, CoordinatorState, Decision, Dropped, Entry, Epoch, Horizon, Learned, Prepare, Record}
 use Rattle.records.specs.declared.record.Record.TheVariants.{Checkpoint}
-use Rattle.records.specs.Coordinators.{coordinator_state, coordinator_step, empty_coordinator, marked_base}
-use Rattle.records.proofs.CoordinatorStates.{coordinator_from-append}
-
--- the decisions among these records
-abbrev pub decided : List Record → List Entry
-decided [] = []
-decided (Prepare w ∷ rs) = decided rs
-decided (Learned to placed_ids ∷ rs) = decided rs
-decided (Dropped id ∷ rs) = decided rs
-decided (Checkpoint mark ∷ rs) = decided rs
-decided (Epoch epoch store shards node ∷ rs) = decided rs
-decided (Decision place w ∷ rs) = w ∷ decided rs
-decided (Horizon place ∷ rs) = decided rs
+use Rattle.records.specs.Coordinators.{coordinator_step}
+use Rattle.coordinator.specs.Staged.{decided}
 
 pub decided-append : (rs more : List Record) → decided (rs ++ more) ≡ decided rs ++ decided more
 decided-append [] more = refl
@@ -27,18 +16,6 @@ decided-append (Checkpoint mark ∷ rs) more = decided-append rs more
 decided-append (Epoch epoch store shards node ∷ rs) more = decided-append rs more
 decided-append (Decision place w ∷ rs) more = ap (λ (l : List Entry). w ∷ l) (decided-append rs more)
 decided-append (Horizon place ∷ rs) more = decided-append rs more
-
--- they stand behind those that were known
-pub decided_behind : (s : CoordinatorState) (rs : List Record) → (coordinator_from s rs).log ≡ s.log ++ decided rs
-unfolding coordinator_step
-decided_behind s [] = sym (append-nil s.log)
-decided_behind s (Prepare w ∷ rs) = decided_behind s rs
-decided_behind s (Learned to placed_ids ∷ rs) = decided_behind s rs
-decided_behind s (Dropped id ∷ rs) = decided_behind s rs
-decided_behind s (Epoch epoch store shards node ∷ rs) = decided_behind (record s { epoch = epoch }) rs
-decided_behind s (Decision place w ∷ rs) = decided_behind (record s { log = s.log ++ w ∷ [] }) rs ∙ append_assoc s.log (w ∷ []) (decided rs)
-decided_behind s (Horizon place ∷ rs) = decided_behind (record s { horizon = place }) rs
-decided_behind s (Checkpoint mark ∷ rs) = decided_behind (record s { base = marked_base mark s }) rs
 
 -- the base is the same behind the first of what is staged
 pub base_behind : (low high : ℕ) (s : CoordinatorState) (rs more : List Record) → AreStaged low high (rs ++ more) → (coordinator_from s rs).base ≡ s.base
@@ -55,10 +32,6 @@ base_behind low high s (Checkpoint mark ∷ rs) more staged = absurd staged
 -- and behind all of it
 pub base_staged : (low high : ℕ) (s : CoordinatorState) (rs : List Record) → AreStaged low high rs → (coordinator_from s rs).base ≡ s.base
 base_staged low high s rs staged = base_behind low high s rs [] (subst (AreStaged low high) (sym (append-nil rs)) staged)
-
-pub state_of_more : (rs more : List Record) → coordinator_state (rs ++ more) ≡ coordinator_from (coordinator_state rs) more
-unfolding coordinator_state
-state_of_more rs more = coordinator_from-append empty_coordinator rs more
 
 -- What is staged, in two parts: the first raise the horizon to a place that the rest rise from, and the epoch is the same.
 pub staged_in_two : (s : CoordinatorState) (high : ℕ) (rs more : List Record) → AreStaged s.horizon high (rs ++ more)

@@ -1,15 +1,22 @@
 -- A write that is begun, aborted or decided, and what becomes of a decision, leave a coordinator tied.
-use Rattle.std.proofs.Common.{◌≡◌, inl, inr, ⊎_elim, ℕ, ◌+◌, ◌≤◌, ◌<◌, List, [], ◌∷◌, ◌++◌, length, Some, slice_get, Contains, refl, sym, ◌∙◌, ap, subst, arith, append_assoc, length-append}
+use Rattle.std.proofs.Common.{◌≡◌, inl, inr, ⊎_elim, ℕ, ◌+◌, ◌≤◌, ◌<◌, List, [], ◌∷◌, ◌++◌, length, Some, slice_get, Contains, refl, sym, ◌∙◌, ap, subst, arith, append_assoc, length-append, zero, suc}
 use Rattle.std.proofs.lemmas.Bool.{cases_lt}
 use Rattle.std.proofs.lemmas.List.{drop-append-le, length-drop}
 use Rattle.coordinator.proofs.OpenIds.{without_none}
 use Rattle.ties.proofs.Words.{AreListed, AreOf, AreOutside, AreStaged, AreTried, Attempt, coordinator_push, CoordinatorState, CoordinatorView, Decision, Entry, Horizon, IsGivenAt, IsRunning, IsTiedUp, IsWrite, kept_of, memory_of, StandsOrIsPast, State, without_id, WriteId}
 use Rattle.records.specs.Coordinators.{coordinator_state, coordinator_step, end_of}
+use Rattle.records.proofs.CoordinatorStates.{state_of_more}
 use Rattle.decisions.specs.Coordinators.{IsRising, next_id}
 use Rattle.ties.specs.DecidingLaws.{AbortsStayTied, BeginningsStayTied, DecisionsStayTied, KeptAttemptsStand, RaisesStayTied, attempt}
-use Rattle.ties.proofs.Decided.{base_staged, staged_decision, staged_horizon, state_of_more}
-use Rattle.ties.proofs.Lists.{first_or_later, get_back, get_front, last_at, pushed_at}
+use Rattle.ties.proofs.Decided.{base_staged, staged_decision, staged_horizon}
 use Rattle.ties.proofs.Outside.{kept_open, still_given, still_outside}
+use Rattle.tuples.proofs.Lists.{slice_get_push, slice_get_last, slice_get_longer, first_or_later}
+
+-- what stands in a longer list at a place of the list stands in the list
+get_back : {X : Type 0} (xs ys : List X) (x : X) (j : ℕ) → slice_get (xs ++ ys) j ≡ Some x → j < length xs → slice_get xs j ≡ Some x
+get_back [] ys x j is lt = absurd (omega (arith, lt))
+get_back (z ∷ xs) ys x zero is lt = is
+get_back (z ∷ xs) ys x (suc j) is lt = get_back xs ys x j is (omega (arith, lt))
 
 -- Given what a device holds and whether it is honest, and a coordinator that is tied
 module _ {D : Type 0} (state : D → State) (honest : D → Type 0) (old : CoordinatorView D) (seen : List Entry) (low : ℕ) (tried : List Attempt) (tied : IsTiedUp state honest old seen low tried) where
@@ -118,7 +125,7 @@ kept_attempts_stand state honest v d x j seen low tried tied kept at same_epoch 
       index = k;
       place_is = place;
       there = found;
-      once = λ i u is same. tied.listed.new i k u x.write (get_front seen tied.more u i is) (get_front seen tied.more x.write k found) same;
+      once = λ i u is same. tied.listed.new i k u x.write (slice_get_longer seen tied.more i u is) (slice_get_longer seen tied.more k x.write found) same;
     })
     (tied.attempts j x at)
 
@@ -188,21 +195,21 @@ decisions_stay_tied {D} state honest old new w d seen low tried tied decides = (
 
     listed : AreListed (memory_of new).epoch (log ++ w ∷ [])
     listed = record {
-      whole = λ j u is. ⊎_elim (λ was. tied.listed.whole j u was) (λ last. subst (λ (e : Entry). IsWrite e.changes e.conditions) last.1 decides.whole.whole) (pushed_at log w u j is);
+      whole = λ j u is. ⊎_elim (λ was. tied.listed.whole j u was) (λ last. subst (λ (e : Entry). IsWrite e.changes e.conditions) last.1 decides.whole.whole) (slice_get_push log w u j is);
       new = λ i j u v at_i at_j same. ⊎_elim
           (λ i_was. ⊎_elim
           (λ j_was. tied.listed.new i j u v i_was j_was same)
           (λ j_last. absurd (fresh i u i_was (same ∙ ap (λ (e : Entry). e.id) (sym j_last.1))))
-          (pushed_at log w v j at_j))
+          (slice_get_push log w v j at_j))
           (λ i_last. ⊎_elim
           (λ j_was. absurd (fresh j v j_was (sym same ∙ ap (λ (e : Entry). e.id) (sym i_last.1))))
           (λ j_last. i_last.0 ∙ sym j_last.0)
-          (pushed_at log w v j at_j))
-          (pushed_at log w u i at_i);
+          (slice_get_push log w v j at_j))
+          (slice_get_push log w u i at_i);
       given = λ j u is. ⊎_elim
           (λ was. let g = tied.listed.given j u was in omega (arith, g, epoch_is))
           (λ last. omega (arith, epoch_is, decides.own_epoch, ap (λ (e : Entry). e.id.epoch) last.1))
-          (pushed_at log w u j is);
+          (slice_get_push log w u j is);
     }
 
     given_is : new.given ≡ old.given
@@ -225,7 +232,7 @@ decisions_stay_tied {D} state honest old new w d seen low tried tied decides = (
             subst (λ (e : Entry). IsGivenAt new e.id) last.1 (given w.id was_open),
             λ there. without_none w.id old.open_ids (subst (λ (ids : List WriteId). Contains ids w.id) open_is (subst (λ (e : Entry). Contains new.open_ids e.id) (sym last.1) there)),
           ))
-          (pushed_at log w u j is);
+          (slice_get_push log w u j is);
       still_open = λ id there.
           let o = tied.outside.still_open id (kept_open w.id old.open_ids id (subst (λ (ids : List WriteId). Contains ids id) open_is there)) in
           (o.0 ∙ sym epoch_is, omega (arith, o.1, given_is));
@@ -234,11 +241,11 @@ decisions_stay_tied {D} state honest old new w d seen low tried tied decides = (
     still_stands : (x : Attempt) → StandsOrIsPast (memory_of old).epoch log x → StandsOrIsPast (memory_of new).epoch (log ++ w ∷ []) x
     still_stands x s = ⊎_elim
         (λ past. inl (omega (arith, past, epoch_is)))
-        (λ here. inr (here.0 ∙ sym epoch_is, (here.1.0, here.1.1, get_front log (w ∷ []) x.write here.1.0 here.1.2)))
+        (λ here. inr (here.0 ∙ sym epoch_is, (here.1.0, here.1.1, slice_get_longer log (w ∷ []) here.1.0 x.write here.1.2)))
         s
 
     all_tried : AreTried (memory_of new).epoch (log ++ w ∷ []) (tried ++ attempt d w ∷ [])
     all_tried j x at = ⊎_elim
         (λ was. still_stands x (tied.attempts j x was))
-        (λ last. subst (StandsOrIsPast (memory_of new).epoch (log ++ w ∷ [])) last.1 (inr (decides.epoch ∙ sym epoch_is, (length log, place, last_at log w))))
-        (pushed_at tried (attempt d w) x j at)
+        (λ last. subst (StandsOrIsPast (memory_of new).epoch (log ++ w ∷ [])) last.1 (inr (decides.epoch ∙ sym epoch_is, (length log, place, slice_get_last log w))))
+        (slice_get_push tried (attempt d w) x j at)

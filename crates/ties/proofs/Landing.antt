@@ -1,12 +1,14 @@
 -- What is durable joins the list.
 use Rattle.std.proofs.Common.{◌≡◌, ℕ, ◌-◌, ◌≤◌, List, ◌++◌, length, take, drop, Contains, refl, sym, ◌∙◌, ap, subst, arith, append_assoc, length-append}
-use Rattle.std.proofs.lemmas.List.{drop-append-le, drop_all, drop_at, length-drop, take_all, take-append-drop}
+use Rattle.std.proofs.lemmas.List.{drop-append-le, drop_all, drop_at, length-drop, take_all, take-append-drop, append_cancel_left}
 use Rattle.ties.proofs.Words.{AreListed, AreOf, AreOutside, AreStaged, AreTried, Attempt, behind, coordinator_from, CoordinatorState, CoordinatorView, Entry, IsRunning, IsTiedUp, kept_of, memory_of, Record, State, WriteId}
 use Rattle.records.specs.Coordinators.{coordinator_state}
+use Rattle.records.proofs.CoordinatorStates.{state_of_more}
 use Rattle.ties.specs.JoiningLaws.{FlushesStayTied, LandingsStayTied, LandsFirst}
-use Rattle.ties.proofs.Decided.{base_behind, base_staged, decided, decided-append, decided_behind, staged_higher, staged_in_two, staged_within, state_of_more}
-use Rattle.ties.proofs.Lists.{same_rest}
+use Rattle.ties.proofs.Decided.{base_behind, base_staged, decided-append, staged_higher, staged_in_two, staged_within}
 use Rattle.ties.proofs.Outside.{still_outside}
+use Rattle.coordinator.specs.Staged.{decided}
+use Rattle.coordinator.proofs.Staged.{decided_behind}
 
 module _ {D E : Type 0} (state : D → State) (honest : D → Type 0) (state_of : E → State) (honest_of : E → Type 0) (old : CoordinatorView E) (new : CoordinatorView D) (count : ℕ) (seen : List Entry) (low : ℕ) (tried : List Attempt)
     (tied : IsTiedUp state_of honest_of old seen low tried) (lands : LandsFirst count old new) (run : IsRunning state honest new) where
@@ -56,7 +58,7 @@ module _ {D E : Type 0} (state : D → State) (honest : D → Type 0) (state_of 
 
   -- what is staged is what the list has behind what is kept
   more_is : tied.more ≡ decided old.staged
-  more_is = same_rest (drop base seen) tied.more (decided old.staged)
+  more_is = append_cancel_left (drop base seen) tied.more (decided old.staged)
       (sym (drop-append-le base seen tied.more low_base)
       ∙ ap (λ n. drop n (seen ++ tied.more)) (sym whole_base)
       ∙ sym tied.all.decisions

@@ -4,27 +4,24 @@ use Rattle.std.proofs.lemmas.List.{append-nil, drop-append-le, drop_at, length-d
 use Rattle.std.proofs.lemmas.Option.{same_Some}
 use Rattle.ties.proofs.Words.{Anywhere, AreListed, AreOf, AreOutside, AreStaged, Attempt, behind, coordinator_node, coordinator_push, CoordinatorState, CoordinatorView, device_left, Entry, Identity, IsLonger, IsTiedUp, Joins, kept_of, LeavesBoth, memory_of, Record, State, WriteId}
 use Rattle.records.specs.Coordinators.{coordinator_state, coordinator_step}
+use Rattle.records.proofs.CoordinatorStates.{state_of_more}
 use Rattle.journal.specs.Records.{found}
 use Rattle.decisions.specs.Coordinators.{IsOpenedCoordinator, WasLeftOrReopened, coordinator_opening}
 use Rattle.calls.specs.Opening.{CoordinatorComesUp}
-use Rattle.ties.specs.Ties.{IsOpenedTied}
 use Rattle.ties.specs.JoiningLaws.{FailedFlushesStayTied, OpeningsStayTied, RefusedOpeningsStayTied, TiedUpIsTied}
-use Rattle.ties.proofs.Decided.{staged_whole, state_of_more}
-use Rattle.ties.proofs.Lists.{get_front}
+use Rattle.ties.proofs.Decided.{staged_whole}
+use Rattle.tuples.proofs.Lists.{slice_get_longer}
 
 -- of writes that are listed, the first are
 listed_front : (epoch : ℕ) (seen more : List Entry) → AreListed epoch (seen ++ more) → AreListed epoch seen
 listed_front epoch seen more listed = record {
-  whole = λ j w is. listed.whole j w (get_front seen more w j is);
-  new = λ i j v w at_i at_j same. listed.new i j v w (get_front seen more v i at_i) (get_front seen more w j at_j) same;
-  given = λ j w is. listed.given j w (get_front seen more w j is);
+  whole = λ j w is. listed.whole j w (slice_get_longer seen more j w is);
+  new = λ i j v w at_i at_j same. listed.new i j v w (slice_get_longer seen more i v at_i) (slice_get_longer seen more j w at_j) same;
+  given = λ j w is. listed.given j w (slice_get_longer seen more j w is);
 }
 
 -- Given what a device holds and whether it is honest, and a coordinator that is up and tied
 module _ {D : Type 0} (state : D → State) (honest : D → Type 0) (v : CoordinatorView D) (seen : List Entry) (low : ℕ) (tried : List Attempt) (tied : IsTiedUp state honest v seen low tried) where
-  memory_is : memory_of v ≡ coordinator_state (v.durable ++ v.staged)
-  memory_is = refl
-
   parts : ((kept_of v).horizon ≤ (memory_of v).horizon) × ((memory_of v).horizon ≤ length seen) × ((memory_of v).epoch ≡ (kept_of v).epoch)
   parts = subst (λ (s : CoordinatorState). ((kept_of v).horizon ≤ s.horizon) × (s.horizon ≤ length seen) × (s.epoch ≡ (kept_of v).epoch)) (sym (state_of_more v.durable v.staged))
       (staged_whole (kept_of v) (length seen) v.staged (subst (λ n. AreStaged n (length seen) v.staged) tied.horizon tied.staged))
@@ -204,40 +201,3 @@ module _ {D : Type 0} (state : D → State) (honest : D → Type 0) (moment : D 
   pub refused_openings_stay_tied : RefusedOpeningsStayTied state honest moment left_since store shards
   refused_openings_stay_tied a b x y e seen low tried was reads_a reads_b stays =
       left_anywhere a b seen low tried was reads_a reads_b x y (stays.still_honest.0.0 was.honest_a) (stays.still_honest.1.0 was.honest_b) (stays.any_moment was.honest_a was.honest_b)
-
--- Given what a device holds and whether it is honest: attempts of which nobody waits to hear need not be known
-module _ {D : Type 0} (state : D → State) (honest : D → Type 0) where
-  longer_untried : (seen : List Entry) (low : ℕ) (tried : List Attempt) (s : CoordinatorState) → IsLonger seen low tried s → IsLonger seen low [] s
-  longer_untried seen low tried s longer = record {
-    more = longer.more;
-    are = longer.are;
-    listed = longer.listed;
-    raised = longer.raised;
-    within = longer.within;
-    past = λ j x none. absurd cc;
-  }
-
-  pub up_untried : (v : CoordinatorView D) (seen : List Entry) (low : ℕ) (tried : List Attempt) → IsTiedUp state honest v seen low tried → IsTiedUp state honest v seen low []
-  up_untried v seen low tried tied = record {
-    running = tied.running;
-    kept = tied.kept;
-    whole = tied.whole;
-    horizon = tied.horizon;
-    staged = tied.staged;
-    more = tied.more;
-    all = tied.all;
-    listed = tied.listed;
-    outside = tied.outside;
-    attempts = λ j x none. absurd cc;
-  }
-
-  pub untried : (store shards : ℕ) (v : CoordinatorView D) (seen : List Entry) (low : ℕ) (tried : List Attempt) → IsOpenedTied state honest store shards v seen low tried → IsOpenedTied state honest store shards v seen low []
-  untried store shards v seen low tried tied = record {
-    up = λ up. up_untried v seen low tried (tied.up up);
-    anywhere = record {
-      honest_a = tied.anywhere.honest_a;
-      honest_b = tied.anywhere.honest_b;
-      each = λ rs finds. longer_untried seen low tried (coordinator_state rs) (tied.anywhere.each rs finds);
-    };
-    me = tied.me;
-  }

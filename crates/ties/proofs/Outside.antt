@@ -3,8 +3,8 @@ use Rattle.std.proofs.Common.{◌≡◌, Bool, if◌then◌else◌, inl, inr, �
 use Rattle.std.proofs.lemmas.Bool.{cases_Bool}
 use Rattle.std.proofs.lemmas.List.Elements.{Contains-append_left, Contains-append_right, Contains-push}
 use Rattle.tuples.specs.Log.{same_id}
+use Rattle.tuples.proofs.Lists.{first_or_later}
 use Rattle.ties.proofs.Words.{AreOutside, CoordinatorView, Entry, IsGivenAt, memory_of, without_id, WriteId}
-use Rattle.ties.proofs.Lists.{first_or_later}
 
 -- the ids that stay were there
 pub kept_open : (id : WriteId) (ids : List WriteId) (x : WriteId) → Contains (without_id id ids) x → Contains ids x

@@ -1,5 +1,5 @@
 -- The calls of a shard leave it tied.
-use Rattle.std.proofs.Common.{◌≡◌, ◌⊎◌, inl, inr, ⊎_elim, ℕ, true, ◌+◌, ◌-◌, ◌≤◌, ◌<◌, List, [], ◌∷◌, ◌++◌, length, take, drop, Option, Some, None, is_some, slice_get, refl, sym, ◌∙◌, ap, subst, arith, append_assoc}
+use Rattle.std.proofs.Common.{◌≡◌, ◌⊎◌, inl, inr, ⊎_elim, ℕ, ◌+◌, ◌-◌, ◌≤◌, ◌<◌, List, [], ◌∷◌, ◌++◌, length, take, drop, Some, slice_get, refl, sym, ◌∙◌, ap, subst, arith, append_assoc}
 use Rattle.std.proofs.lemmas.Bool.{both_ways, cases_lt}
 use Rattle.std.proofs.lemmas.List.{append-nil, drop-drop, drop-take, length-drop, length-take}
 use Rattle.std.proofs.lemmas.Option.{slice_get_within}
@@ -7,30 +7,16 @@ use Rattle.ties.proofs.Words.{AreAlike, AreRowsOf, AreWhole, Dropped, Entry, Hor
 use Rattle.tuples.specs.declared.version.Version.{Version}
 use Rattle.tuples.specs.Parts.{part}
 use Rattle.tuples.specs.Versions.{versions}
+use Rattle.tuples.proofs.Options.{none_or_some}
+use Rattle.tuples.proofs.Lists.{slice_get_drop, slice_get_take}
 use Rattle.records.specs.Replays.{find_in_doubt, shard_state, shard_step}
-use Rattle.gated.specs.Gated.{max_body}
-use Rattle.journal.specs.Records.{HasNoRoom, batch_size, max_records}
 use Rattle.decisions.specs.Values.{BatchValue}
 use Rattle.shard.specs.Shards.{ArePreparedHere, IsUp, Stages, learning, placed_ids_from, unlearned}
 use Rattle.laws.proofs.CollectStep.{rows_collected}
 use Rattle.laws.proofs.LearnStep.{rows_learned}
 use Rattle.ties.specs.ShardTieLaws.{CollectionsStayTied, DropsStayTied, LearningsStayTied, PreparesStayTied, ShardFlushesStayTied}
 use Rattle.ties.specs.TellingLaws.{IsBatchOf}
-use Rattle.ties.proofs.Lists.{get_dropped, get_taken_at}
-
--- a record for which there is room, or none
-has_room : (staged : List Record) (r : Record) → HasNoRoom staged r ⊎ (HasNoRoom staged r → ⊥)
-has_room staged r = ⊎_elim
-    (λ few. ⊎_elim
-    (λ long. inl (inr long))
-    (λ short. inr (λ full. ⊎_elim (λ many. omega (arith, few, many)) (λ long. omega (arith, short, long)) full))
-    (cases_lt max_body (batch_size (staged ++ r ∷ []))))
-    (λ many. inl (inl many))
-    (cases_lt (length staged) max_records)
-
-found_or_not : {X : Type 0} (o : Option X) → (o ≡ None) ⊎ (is_some o ≡ true)
-found_or_not None = inl refl
-found_or_not (Some x) = inr refl
+use Rattle.journal.proofs.Staged.{room_or_none}
 
 -- Given a shard that is up and tied
 module _ {D : Type 0} (state : D → State) (honest : D → Type 0) (store shards s : ℕ) (old new : ShardView D) (seen : List Entry) (low : ℕ) (tied : IsShardTiedUp state honest store shards s old seen low) where
@@ -109,7 +95,7 @@ module _ {D : Type 0} (state : D → State) (honest : D → Type 0) (store shard
 
     whole_to : AreWhole (take to seen)
     whole_to j w is = ⊎_elim
-        (λ (lt : j < p). tied.now.whole j w (get_taken_at p seen j lt ∙ there))
+        (λ (lt : j < p). tied.now.whole j w (slice_get_take p seen j lt ∙ there))
         (λ (le : p ≤ j). of_list.whole (j - b.from) w (in_writes le))
         (cases_lt j p)
       where
@@ -126,8 +112,8 @@ module _ {D : Type 0} (state : D → State) (honest : D → Type 0) (store shard
         in_writes le =
             let back : b.from + (j - b.from) ≡ j = omega (arith, from, le) in
             ap (λ (l : List Entry). slice_get l (j - b.from)) of_list.of_list
-            ∙ get_taken_at (length b.writes) (drop b.from seen) (j - b.from) (omega (arith, from, le, below))
-            ∙ get_dropped b.from seen (j - b.from) ∙ ap (slice_get seen) back ∙ there
+            ∙ slice_get_take (length b.writes) (drop b.from seen) (j - b.from) (omega (arith, from, le, below))
+            ∙ slice_get_drop b.from seen (j - b.from) ∙ ap (slice_get seen) back ∙ there
 
     pub learns : ArePreparedHere old.me (memory old) (unlearned (memory old) b.from b.writes) → Stages old (learning old.me (memory old) b.from b.writes) new → IsUp state honest new
         → IsShardTiedUp state honest store shards s new seen low × (to ≤ (memory new).learned)
@@ -171,8 +157,8 @@ module _ {D : Type 0} (state : D → State) (honest : D → Type 0) (store shard
       (λ some. ⊎_elim
       (λ full. unchanged state honest store shards s old new seen low tied (drops.full full))
       (λ room. let d = drops.dropped some room in dropped state honest store shards s old new seen low tied id d.0 d.1)
-      (has_room old.staged (Dropped id)))
-      (found_or_not (find_in_doubt id (memory old).in_doubt))
+      (room_or_none old.staged (Dropped id)))
+      (none_or_some (find_in_doubt id (memory old).in_doubt))
 
   pub learnings_stay_tied : LearningsStayTied state honest store shards s
   learnings_stay_tied old new b is_known seen low tied of_list call = ⊎_elim

@@ -18,11 +18,11 @@ use Rattle.laws.proofs.ShardRows.{rows_show_parts}
 use Rattle.ties.specs.ShardTieLaws.{CheckReadsAreSeen, FailedShardFlushesStayTied, LongerListsStayTied, ReadsAreSeen, RefusedShardOpeningsStayTied, ShardOpeningsStayTied, ShardTiedUpIsTied}
 
 -- the first writes of a longer list have the same versions
-same_versions : (seen more : List Entry) (p h : ℕ) → p ≤ length seen → versions (seen ++ more) p h ≡ versions seen p h
+pub same_versions : (seen more : List Entry) (p h : ℕ) → p ≤ length seen → versions (seen ++ more) p h ≡ versions seen p h
 unfolding versions
 same_versions seen more p h le = ap (λ (l : List Entry). collected h (changes_from 1 l)) (take-append-le p seen more le)
 
-rows_longer : (shards s : ℕ) (seen more : List Entry) (low later : ℕ) (st : ShardState) → low ≤ later → AreRowsOf shards s seen low st → AreRowsOf shards s (seen ++ more) later st
+pub rows_longer : (shards s : ℕ) (seen more : List Entry) (low later : ℕ) (st : ShardState) → low ≤ later → AreRowsOf shards s seen low st → AreRowsOf shards s (seen ++ more) later st
 rows_longer shards s seen more low later st le rows = record {
   learned = let l = rows.learned in omega (arith, l, length-append seen more);
   horizon = let h = rows.horizon in omega (arith, h, le);

@@ -10,9 +10,9 @@ use Rattle.tuples.specs.Parts.{shard_of}
 use Rattle.tuples.specs.Texts.{IsTuple}
 use Rattle.tuples.specs.Versions.{collected, last_version, versions}
 use Rattle.tuples.proofs.Examples.{numbered, three, viewed}
+use Rattle.tuples.proofs.Lists.{first_or_later}
 use Rattle.records.specs.Coordinators.{coordinator_state, coordinator_step}
 use Rattle.versions.proofs.Alike.{alike_same, last_alike}
-use Rattle.ties.proofs.Lists.{first_or_later}
 
 abbrev first_write : Entry
 first_write = numbered 1 (Touch (viewed 97) ∷ []) []

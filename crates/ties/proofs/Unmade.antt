@@ -3,28 +3,17 @@ use Rattle.std.proofs.Common.{◌≡◌, ℕ, List, [], Some, refl, sym, ◌∙�
 use Rattle.std.proofs.lemmas.Option.{same_Some}
 use Rattle.ties.proofs.Words.{AreAlike, AreRowsOf, IsLonger, of_shard, Record, State}
 use Rattle.tuples.specs.Versions.{collected, versions}
-use Rattle.device.specs.Device.{Leaves, left}
-use Rattle.device.proofs.Moments.{leaves_nothing_else}
-use Rattle.gated.specs.Gated.{gated}
-use Rattle.records.specs.Checkpoints.{is_complete}
+use Rattle.device.specs.Device.{left}
+use Rattle.device.proofs.States.{unmade_left}
 use Rattle.records.specs.Coordinators.{coordinator_state}
 use Rattle.records.specs.Replays.{shard_state}
-use Rattle.journal.specs.Records.{Finds, current_bank, found}
+use Rattle.journal.specs.Records.{Finds, found}
+use Rattle.journal.proofs.Joined.{found_nothing}
 use Rattle.ties.specs.RestingLaws.{IsUnmade, UnmadeNodesAreTied}
-
-found_nothing : found [] [] ≡ Some []
-unfolding found gated current_bank is_complete
-found_nothing = refl
-
--- a stop leaves nothing of it
-left_nothing : (s : State) (x : List ℕ) → IsUnmade s → left s x → x ≡ []
-left_nothing s x un is =
-    let nothing : Leaves s.durable [] x = subst (λ (w : List (ℕ × ℕ)). Leaves s.durable w x) un.written is in
-    leaves_nothing_else s.durable x nothing ∙ un.durable
 
 finds_nothing : (a b : State) (rs : List Record) → IsUnmade a → IsUnmade b → Finds (left a) (left b) rs → rs ≡ []
 finds_nothing a b rs un_a un_b (x, y, in_x, in_y, is) =
-    let none : Some [] ≡ Some rs = sym (ap (λ (c : List ℕ). found c y) (left_nothing a x un_a in_x) ∙ ap (found []) (left_nothing b y un_b in_y) ∙ found_nothing) ∙ is in
+    let none : Some [] ≡ Some rs = sym (ap (λ (c : List ℕ). found c y) (unmade_left a x un_a.durable un_a.written in_x) ∙ ap (found []) (unmade_left b y un_b.durable un_b.written in_y) ∙ found_nothing) ∙ is in
     sym (same_Some [] rs none)
 
 empty_longer : IsLonger [] 0 [] (coordinator_state [])

@@ -3,6 +3,7 @@ use Rattle.std.proofs.Common.{◌≡◌, ℕ, suc, ◌*◌, ◌^◌, ◌%◌, �
 use Rattle.std.specs.Int.{bit_at, IsBitSet}
 use Rattle.std.specs.List.{list_any}
 use Rattle.std.proofs.Math.Nat.{one-le-pow}
+use Rattle.std.proofs.Math.Bool.{or-true, or-false}
 use Rattle.std.proofs.lemmas.List.Folds.{list_any-append}
 use Rattle.std.proofs.lemmas.Nat.Bits.{bit_at_set_same, bit_at_set_other, bit_at_or, and_pow}
 use Rattle.std.proofs.lemmas.Bool.{cases_eq, ne_eqb, eq-eqb}
@@ -13,25 +14,17 @@ use Rattle.tuples.specs.Bits.{AreBitsOf}
 use Rattle.tuples.specs.Changes.{tuple_of}
 use Rattle.tuples.specs.Parts.{part, shard_of, takes_part}
 
-or_true : (a : Bool) → (a || true) ≡ true
-or_true true = refl
-or_true false = refl
-
-or_false : (a : Bool) → (a || false) ≡ a
-or_false true = refl
-or_false false = refl
-
 -- one number more, one bit more
 pub bits_of_more : (numbers : List ℕ) (bits n : ℕ) → n < 64 → AreBitsOf numbers bits → AreBitsOf (numbers ++ n ∷ []) (bit_or bits (1 * 2 ^ n % 2 ^ 64))
 bits_of_more numbers bits n few h k = elim (cases_eq n k) [
   | inl same ↦
       let here : list_any (λ m. eqb m k) (n ∷ []) ≡ true = let e = eq-eqb n k same in rw e refl in
-      let any : list_any (λ m. eqb m k) (numbers ++ n ∷ []) ≡ true = list_any-append (λ m. eqb m k) numbers (n ∷ []) ∙ rw here (or_true (list_any (λ m. eqb m k) numbers)) in
+      let any : list_any (λ m. eqb m k) (numbers ++ n ∷ []) ≡ true = list_any-append (λ m. eqb m k) numbers (n ∷ []) ∙ rw here (or-true (list_any (λ m. eqb m k) numbers)) in
       let set : bit_at (bit_or bits (1 * 2 ^ n % 2 ^ 64)) n ≡ 1 = bit_at_set_same w64 bits n few in
       rw any (ap (λ (j : ℕ). bit_at (bit_or bits (1 * 2 ^ n % 2 ^ 64)) j) (sym same) ∙ set)
   | inr other ↦
       let here : list_any (λ m. eqb m k) (n ∷ []) ≡ false = let e = ne_eqb n k other in rw e refl in
-      let any : list_any (λ m. eqb m k) (numbers ++ n ∷ []) ≡ list_any (λ m. eqb m k) numbers = list_any-append (λ m. eqb m k) numbers (n ∷ []) ∙ rw here (or_false (list_any (λ m. eqb m k) numbers)) in
+      let any : list_any (λ m. eqb m k) (numbers ++ n ∷ []) ≡ list_any (λ m. eqb m k) numbers = list_any-append (λ m. eqb m k) numbers (n ∷ []) ∙ rw here (or-false (list_any (λ m. eqb m k) numbers)) in
       let kept : bit_at (bit_or bits (1 * 2 ^ n % 2 ^ 64)) k ≡ bit_at bits k = bit_at_set_other w64 bits n few k (λ e. other (sym e)) in
       rw any (kept ∙ h k)
 ]

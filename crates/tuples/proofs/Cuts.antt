@@ -1,12 +1,13 @@
 -- A text is cut at a mark in one way.
-use Rattle.std.proofs.Common.{◌≡◌, ℕ, suc, ◌<◌, ◌≤◌, false, eqb, List, [], ◌∷◌, ◌++◌, length, get_or, take, drop, Some, None, refl, ap, ◌∙◌, arith}
+use Rattle.std.proofs.Common.{◌≡◌, ℕ, suc, ◌<◌, ◌≤◌, false, eqb, List, [], ◌∷◌, ◌++◌, length, get_or, take, drop, Some, None, refl, ap, ◌∙◌, arith, ◌≢◌, All}
 use Rattle.std.specs.List.{position, position_or_len}
 use Rattle.std.proofs.lemmas.List.{get_or-take, length-take-le}
 use Rattle.std.proofs.lemmas.List.Folds.{list_any_none}
 use Rattle.std.proofs.lemmas.List.Quantifiers.{position-Some}
 use Rattle.std.proofs.lemmas.List.Sums.{fails_before_first}
-use Rattle.std.proofs.lemmas.List.Elements.{All-from_get_or}
+use Rattle.std.proofs.lemmas.List.Elements.{All-from_get_or, All-weaker}
 use Rattle.std.proofs.lemmas.Bool.Decides.{nat_tests}
+use Rattle.std.proofs.lemmas.Bool.{ne_eqb}
 use Rattle.std.proofs.Math.Seq.{split_at}
 use Rattle.tuples.specs.Parsing.{Lacks, IsCut}
 
@@ -52,3 +53,7 @@ pub lacks_without_place : (mark : ℕ) (text : List ℕ) → position (λ b. eqb
 lacks_without_place mark text e =
     let all : length text ≤ position_or_len (λ b. eqb b mark) text = grind (arith, nat_tests) in
     list_any_none (λ b. eqb b mark) text (All-from_get_or (λ b. eqb b mark ≡ false) text 0 (λ k h. fails_before_first (λ b. eqb b mark) text k 0 (omega arith)))
+
+-- a text whose bytes are all others lacks a mark
+pub lacks_everywhere : (mark : ℕ) (text : List ℕ) → All (λ b. b ≢ mark) text → Lacks mark text
+lacks_everywhere mark text none = list_any_none (λ b. eqb b mark) text (All-weaker (λ b. b ≢ mark) (λ b. eqb b mark ≡ false) (λ b other. ne_eqb b mark other) text none)

@@ -1,3 +1,6 @@
+pub mod Lists
+pub mod Options
+pub mod OnceEach
 pub mod Same
 pub mod Ordered
 mod Ascending

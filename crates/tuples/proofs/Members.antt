@@ -1,5 +1,6 @@
 -- Small sets of tuples, computed: a chain of usersets, and a ring.
-use Rattle.std.proofs.Common.{◌≡◌, ◌⊎◌, inl, inr, ⊎_elim, ℕ, Bool, true, false, true≢false, ◌||◌, List, [], ◌∷◌, refl, sym, subst, ◌∙◌}
+use Rattle.std.proofs.Common.{◌≡◌, ◌⊎◌, inl, inr, ⊎_elim, ℕ, Bool, true, false, true≢false, List, [], ◌∷◌, refl, sym, subst, ◌∙◌}
+use Rattle.std.proofs.lemmas.Bool.{or_cases}
 use Rattle.std.specs.Ordering.{is_eq}
 use Rattle.tuples.specs.declared.object.Userset.{Userset}
 use Rattle.tuples.specs.declared.tuple.Tuple.{Tuple}
@@ -49,21 +50,17 @@ round_the_ring = record { through = userset 98 ∷ userset 97 ∷ []; chain = (r
 abbrev IsInRing : Userset → Type 0
 IsInRing x = (x ≡ userset 97) ⊎ (x ≡ userset 98)
 
-either : (a b : Bool) → (a || b) ≡ true → (a ≡ true) ⊎ (b ≡ true)
-either true b is = inl refl
-either false b is = inr is
-
 -- what one of the two holds is one of the two
 stays_in_ring : (x y : Userset) → IsInRing x → ring (holding x (Set y)) ≡ true → IsInRing y
 unfolding tuple_eq
 stays_in_ring x y (inl a) is = inr (from_a (subst (λ z. ring (holding z (Set y)) ≡ true) a is))
   where
     from_a : ring (holding (userset 97) (Set y)) ≡ true → y ≡ userset 98
-    from_a h = ⊎_elim (λ e. userset_same y (userset 98) e) (λ e. absurd (true≢false (sym e))) (either (is_eq (userset_cmp y (userset 98))) false h)
+    from_a h = ⊎_elim (λ e. userset_same y (userset 98) e) (λ e. absurd (true≢false (sym e))) (or_cases (is_eq (userset_cmp y (userset 98))) false h)
 stays_in_ring x y (inr b) is = inl (from_b (subst (λ z. ring (holding z (Set y)) ≡ true) b is))
   where
     from_b : ring (holding (userset 98) (Set y)) ≡ true → y ≡ userset 97
-    from_b h = ⊎_elim (λ e. userset_same y (userset 97) e) (λ e. absurd (true≢false (sym e))) (either (is_eq (userset_cmp y (userset 97))) false h)
+    from_b h = ⊎_elim (λ e. userset_same y (userset 97) e) (λ e. absurd (true≢false (sym e))) (or_cases (is_eq (userset_cmp y (userset 97))) false h)
 
 ends_in_ring : (x : Userset) (ys : List Userset) → IsInRing x → IsChain ring x ys → IsInRing (end_of_chain x ys)
 ends_in_ring x [] here there = here

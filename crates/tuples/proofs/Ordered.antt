@@ -1,5 +1,5 @@
 -- The order of tuples is strict and total, and ties only a tuple with itself.
-use Rattle.std.proofs.Common.{◌≡◌, ◌⊎◌, ℕ, Bool, true, false, List, refl, sym, ap, ◌∙◌, inl, inr}
+use Rattle.std.proofs.Common.{◌≡◌, ◌⊎◌, ℕ, true, false, List, refl, sym, ap, ◌∙◌, inl, inr, rules, [], ◌∷◌}
 use Rattle.std.specs.Cmp.{IsTotalOrder}
 use Rattle.std.specs.Ordering.{ordering_reverse, is_eq, is_lt}
 use Rattle.std.specs.declared.cmp.Ordering.{Ordering}
@@ -11,7 +11,10 @@ use Rattle.tuples.specs.declared.user.User.{User}
 use Rattle.tuples.specs.declared.user.User.TheVariants.{Id, Set}
 use Rattle.tuples.specs.declared.tuple.Tuple.{Tuple}
 use Rattle.tuples.specs.Order.{name_cmp, object_cmp, userset_cmp, user_cmp, tuple_cmp, tuple_eq, tuple_lt}
+use Rattle.tuples.specs.contracts.tuple.TupleOrd.TheImpl.{ghosts}
+use Rattle.tuples.specs.Reads.{AreAscending}
 use Rattle.tuples.proofs.Same.{tuple_same}
+use Rattle.tuples.proofs.Options.{same_tests}
 
 pub object_total : IsTotalOrder object_cmp
 object_total = then_total (on_total (λ (o : Object). o.namespace) nat_list_cmp_total) (on_total (λ (o : Object). o.id) nat_list_cmp_total)
@@ -49,6 +52,14 @@ user_total = record { antisymm = user_antisymm; trans = user_trans; congr = user
 pub tuple_total : IsTotalOrder tuple_cmp
 tuple_total = then_total (on_total (λ (t : Tuple). t.object) object_total) (then_total (on_total (λ (t : Tuple). t.relation) nat_list_cmp_total) (on_total (λ (t : Tuple). t.user) user_total))
 
+-- the order that the type derives is that of tuples
+pub same_order : (a b : Tuple) → ghosts.cmp a b ≡ tuple_cmp a b
+same_order a b = search rules
+
+pub same_tie : (a b : Tuple) → is_eq (ghosts.cmp a b) ≡ tuple_eq a b
+unfolding tuple_eq
+same_tie a b = ap is_eq (same_order a b)
+
 -- equality
 
 pub tuple_eq_refl : (a : Tuple) → tuple_eq a a ≡ true
@@ -57,11 +68,6 @@ tuple_eq_refl a = ap is_eq (tied_itself tuple_total a)
 
 pub tuple_eq_from_same : (a b : Tuple) → a ≡ b → tuple_eq a b ≡ true
 tuple_eq_from_same a b e = ap (λ (t : Tuple). tuple_eq a t) (sym e) ∙ tuple_eq_refl a
-
-pub same_tests : (x y : Bool) → (x ≡ true → y ≡ true) → (y ≡ true → x ≡ true) → x ≡ y
-same_tests true y f g = sym (f refl)
-same_tests false true f g = absurd (let h : false ≡ true = g refl in cc)
-same_tests false false f g = refl
 
 pub tuple_eq_symm : (a b : Tuple) → tuple_eq a b ≡ tuple_eq b a
 tuple_eq_symm a b = same_tests (tuple_eq a b) (tuple_eq b a) (λ h. tuple_eq_from_same b a (sym (tuple_same a b h))) (λ h. tuple_eq_from_same a b (sym (tuple_same b a h)))
@@ -115,3 +121,8 @@ by_case a b (inr (inr h)) = inr (inr h)
 -- of two tuples one stands first, or they are one
 pub tuple_lt_total : (a b : Tuple) → (tuple_lt a b ≡ true) ⊎ ((a ≡ b) ⊎ (tuple_lt b a ≡ true))
 tuple_lt_total a b = by_case a b (which_tuple a b)
+
+-- the list without its first tuple ascends too
+pub rest_ascends : (t : Tuple) (ts : List Tuple) → AreAscending (t ∷ ts) → AreAscending ts
+rest_ascends t [] asc = tt
+rest_ascends t (u ∷ ts) asc = asc.1

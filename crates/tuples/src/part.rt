@@ -1,10 +1,9 @@
 // A shard's part of a write, borrowed from the write.
 ghost use Rattle.std.specs.Prelude.{◌≡◌, ◌↔◌, ◌∷◌, [], IfOk, IsTrue, MatchOption};
 ghost use Rattle.std.specs.Iterator.{YieldsFirstRef, item_count};
-ghost use Rattle.tuples.specs.Limits.{IsShardCount};
 ghost use Rattle.tuples.specs.Parts.{is_of, own_changes, own_conditions, part};
 
-use crate::{Change, Changes, Condition, Conditions, Entry, Tuple, WriteId, shard_of};
+use crate::{Change, Changes, Condition, Conditions, Entry, Shards, Tuple, WriteId, shard_of};
 use std::alloc::{AllocError, Global};
 use std::marker::Model;
 
@@ -13,26 +12,22 @@ use std::marker::Model;
 #[derive(Drop)]
 pub struct ShardPart<'a> {
     write: &'a Entry,
-    shards: u8,
+    shards: Shards,
     shard: u8,
 }
 
 impl<'a> Model for ShardPart<'a> {
     ghost use Rattle.tuples.specs.declared.entry.Entry.{Entry};
-    ghost use Rattle.tuples.specs.Limits.{IsShardCount};
     ghost use Rattle.tuples.specs.Parts.{part};
 
     ghost Value = { Entry };
 
     ghost view = { λ p. part p.shards p.shard p.write.now };
-
-    ghost invariant = { λ p. IsShardCount p.shards };
 }
 
 impl Entry {
     /// The part of a shard, in a store of so many shards.
-    pub fn part_at(&self, shards: u8, shard: u8) -> ShardPart<'_>
-        requires { IsShardCount shards }
+    pub fn part_at(&self, shards: Shards, shard: u8) -> ShardPart<'_>
         ensures { result ≡ part shards shard self.now }
     {
         ShardPart {
@@ -189,21 +184,18 @@ fn copied_conditions(alloc: Global, part: PartConditions) -> Result<Vec<Conditio
 #[derive(Drop)]
 pub struct PartChanges<'a> {
     rest: &'a [Change],
-    shards: u8,
+    shards: Shards,
     shard: u8,
 }
 
 impl<'a> Model for PartChanges<'a> {
     ghost use Rattle.std.specs.Prelude.{List};
     ghost use Rattle.tuples.specs.declared.change.Change.{Change};
-    ghost use Rattle.tuples.specs.Limits.{IsShardCount};
     ghost use Rattle.tuples.specs.Parts.{own_changes};
 
     ghost Value = { List Change };
 
     ghost view = { λ p. own_changes p.shards p.shard p.rest.now };
-
-    ghost invariant = { λ p. IsShardCount p.shards };
 }
 
 impl<'a> Iterator for PartChanges<'a> {
@@ -224,21 +216,18 @@ impl<'a> Iterator for PartChanges<'a> {
 #[derive(Drop)]
 pub struct PartConditions<'a> {
     rest: &'a [Condition],
-    shards: u8,
+    shards: Shards,
     shard: u8,
 }
 
 impl<'a> Model for PartConditions<'a> {
     ghost use Rattle.std.specs.Prelude.{List};
     ghost use Rattle.tuples.specs.declared.change.Condition.{Condition};
-    ghost use Rattle.tuples.specs.Limits.{IsShardCount};
     ghost use Rattle.tuples.specs.Parts.{own_conditions};
 
     ghost Value = { List Condition };
 
     ghost view = { λ p. own_conditions p.shards p.shard p.rest.now };
-
-    ghost invariant = { λ p. IsShardCount p.shards };
 }
 
 impl<'a> Iterator for PartConditions<'a> {
@@ -255,16 +244,14 @@ impl<'a> Iterator for PartConditions<'a> {
     }
 }
 
-fn is_own(tuple: &Tuple, shards: u8, shard: u8) -> bool
-    requires { IsShardCount shards }
+fn is_own(tuple: &Tuple, shards: Shards, shard: u8) -> bool
     ensures { result ≡ is_of shards shard tuple.now }
 {
     shard_of(&tuple.object, shards) == shard
 }
 
 // The first change that is the shard's, and what stands behind it.
-fn first_change(changes: &[Change], shards: u8, shard: u8) -> Option<(&Change, &[Change])>
-    requires { IsShardCount shards }
+fn first_change(changes: &[Change], shards: Shards, shard: u8) -> Option<(&Change, &[Change])>
     ensures { MatchOption result (own_changes shards shard changes.now ≡ []) (λ found. own_changes shards shard changes.now ≡ found.0.now ∷ own_changes shards shard found.1.now) }
 {
     for (i, change) in changes.iter().enumerate() {
@@ -278,10 +265,9 @@ fn first_change(changes: &[Change], shards: u8, shard: u8) -> Option<(&Change, &
 // The first condition that is the shard's, and what stands behind it.
 fn first_condition(
     conditions: &[Condition],
-    shards: u8,
+    shards: Shards,
     shard: u8,
 ) -> Option<(&Condition, &[Condition])>
-    requires { IsShardCount shards }
     ensures { MatchOption result (own_conditions shards shard conditions.now ≡ []) (λ found. own_conditions shards shard conditions.now ≡ found.0.now ∷ own_conditions shards shard found.1.now) }
 {
     for (i, condition) in conditions.iter().enumerate() {

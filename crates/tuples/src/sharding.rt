@@ -1,20 +1,21 @@
 // Which shard has an object.
-ghost use Rattle.std.specs.Prelude.{◌≡◌, ◌≤◌, length, sum};
+ghost use Rattle.std.specs.Prelude.{◌≡◌, ◌<◌, ◌≤◌, length, sum};
 ghost use Rattle.tuples.specs.Limits.{max_id, max_shards};
 ghost use Rattle.tuples.specs.Parts.{shard_of as shard_number};
 
-use crate::Object;
+use crate::{Object, Shards};
 
 #[tactic(auto, unfolding(crate::specs::Parts::shard_of))]
-/// The shard of the object, from 0 on, in a store of 1 to 64 shards: the sum of the bytes of its text modulo their number.
-pub fn shard_of(object: &Object, shards: u8) -> u8
-    requires some { 1 ≤ shards }
-    requires few { shards ≤ max_shards }
-    ensures { result ≡ shard_number shards object.now }
+/// The shard of the object, from 0 on: the sum of the bytes of its text modulo their number.
+pub fn shard_of(object: &Object, shards: Shards) -> u8
+    ensures value { result ≡ shard_number shards object.now }
+    ensures below { result < shards }
+    ensures few { result < max_shards }
 {
+    let count = shards.count();
     let namespace = byte_sum(object.namespace.as_bytes());
     let id = byte_sum(object.id.as_bytes());
-    ((namespace + u32::from(b':') + id) % u32::from(shards)) as u8
+    ((namespace + u32::from(b':') + id) % u32::from(count)) as u8
 }
 
 fn byte_sum(bytes: &[u8]) -> u32

@@ -1,5 +1,6 @@
 // Whole writes.
-ghost use Rattle.std.specs.Prelude.{◌≡◌, ◌≢◌, ◌<◌, ◌⊎◌, ◌↔◌, [], All, length, IfOk, IfErr, IsErrOf, IsTrue};
+ghost use Rattle.std.specs.Prelude.{◌≡◌, ◌≢◌, ◌<◌, ◌⊎◌, ◌↔◌, [], All, length, IfOk, IfErr, IsErrOf, IsTrue, ◌∷◌};
+ghost use Rattle.refusal.specs.Refusals.{IsOneOf};
 ghost use Rattle.tuples.specs.Changes.{AreDistinct, IsWrite, are_ascending, changed, conditioned, has_tuple};
 ghost use Rattle.tuples.specs.Limits.{max_changes, max_conditions};
 ghost use Rattle.tuples.specs.Texts.{IsTuple};
@@ -45,7 +46,7 @@ impl Write {
         ensures none { IsErrOf result Refusal.BadRequest ↔ (changes.items ≡ []) }
         ensures large { IsErrOf result Refusal.TooLarge ↔ ((changes.items ≢ []) × ((max_changes < length changes.items) ⊎ (max_conditions < length conditions.items))) }
         ensures repeated { IsErrOf result Refusal.Repeated → (AreDistinct (changed changes.items) × AreDistinct (conditioned conditions.items)) → ⊥ }
-        ensures err { IfErr result (λ e. (e ≡ Refusal.BadRequest) ⊎ ((e ≡ Refusal.TooLarge) ⊎ (e ≡ Refusal.Repeated))) }
+        ensures err { IfErr result (λ e. IsOneOf e (Refusal.BadRequest ∷ Refusal.TooLarge ∷ Refusal.Repeated ∷ [])) }
     {
         if changes.is_empty() {
             return Err(Refusal::BadRequest);

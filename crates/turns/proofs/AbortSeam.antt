@@ -4,8 +4,8 @@ use Rattle.std.proofs.lemmas.Bool.{cases_Bool}
 use Rattle.std.proofs.lemmas.List.Elements.{All-nil}
 use Rattle.turns.proofs.Words.{CoordinatorView, EndsAs, EndsQuietly, Entry, IsHorizonIn, IsQuiet, IsSeen, IsUndecidedFlow, MayRise, Moment, NodeName, Nodes, Record, Running, SameBut, Told, Turns, WriteHolds, coordinator, goes_on, id_of, replaced, told_unless, up, with_closed, with_verdict, without_id}
 use Rattle.decisions.specs.Coordinators.{AbortsAt}
+use Rattle.stores.proofs.Abort.{aborts_stand}
 use Rattle.turns.specs.SeamLaws.{AbortTurns}
-use Rattle.turns.proofs.Abort.{aborts_stand}
 use Rattle.turns.proofs.DecideSeam.{ids_without}
 
 module _ (store shards : ℕ) (left : NodeName → List Record → Type 0) {D : Type 0} (now : Moment) (old new : CoordinatorView D) (r : Running) (h : WriteHolds) (w : Entry)

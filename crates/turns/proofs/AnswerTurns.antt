@@ -1,15 +1,15 @@
 -- Flows that end: their answers agree.
 use Rattle.std.proofs.Common.{◌≡◌, ◌≢◌, inl, ⊎_elim, ◌≤◌, ℕ, false, List, [], ◌∷◌, ◌++◌, All, Contains, Some, None, refl, sym, ◌∙◌, ap, subst, arith}
 use Rattle.std.proofs.lemmas.List.Elements.{All-cons, All-head, All-nil, All-tail}
+use Rattle.stores.proofs.Batches.{watches_agree}
+use Rattle.stores.proofs.CheckWalk.{checks_say_no, checks_say_yes}
+use Rattle.stores.proofs.ReadAnswer.{reads_answer}
+use Rattle.stores.proofs.ShardStages.{durable_in}
 use Rattle.turns.proofs.Words.{Agrees, Answer, Asked, Holds, IsQuietCall, IsResolved, IsRight, IsRightRaise, IsRightResolved, IsRightVerdict, IsRightWrite, IsStaged, Machine, Means, Moment, NodeName, Nodes, Record, Refusal, Resolved, Running, Unsure, aborted, all_kept, at_shards, behind_call, committed, coordinator, coordinator_state, down, ending, is_write, leaves, raising, staged_of, told_by, undecided, up, writing}
 use Rattle.turns.specs.AnswerLaws.{ChecksAnswerNo, ChecksAnswerYes, CollectsAnswer, EndsWith, LearnsAnswer, RaisesAnswer, ReadsAnswer, RefusedWritesEnd, ResolvesAnswer, WatchesAnswer, having_seen}
 use Rattle.turns.specs.Runs.{aborted_ids}
-use Rattle.turns.proofs.Batches.{watches_agree}
-use Rattle.turns.proofs.CheckWalk.{checks_say_no, checks_say_yes}
 use Rattle.turns.proofs.FlushTurn.{flushes_are_quiet}
 use Rattle.turns.proofs.QuietTurns.{quiet_calls_answer, quiet_calls_refuse}
-use Rattle.turns.proofs.ReadAnswer.{reads_answer}
-use Rattle.turns.proofs.ShardStages.{durable_in}
 
 module _ (store shards : ℕ) (left after : NodeName → List Record → Type 0) where
   -- a flow that is no write ends with an answer that agrees

@@ -6,9 +6,9 @@ use Rattle.std.proofs.lemmas.List.{length-map}
 use Rattle.std.proofs.lemmas.List.Elements.{All-nil}
 use Rattle.turns.proofs.Words.{Change, Condition, CoordinatorKnows, CoordinatorView, Entry, IntentValue, IsBegin, IsBelow, IsCause, IsFull, IsFuture, IsHorizonIn, IsQuiet, IsSeen, MayRise, Moment, NodeName, Nodes, Record, Running, SameBut, Stands, TakesMemory, Turns, WriteHolds, WriteId, coordinator, end_of, goes_on, id_of, kept_of, memory_of, replaced, to_write, up, with_intent, with_open, writing}
 use Rattle.decisions.specs.Coordinators.{BeginsAt, FirstIs, HasNoId, NamesCollected, NamesFuture, next_id}
+use Rattle.stores.proofs.ShardStagesStands.{contained_from}
+use Rattle.stores.proofs.WriteBegins.{writes_begin}
 use Rattle.turns.specs.SeamLaws.{BeginHasCause, BeginTurns, IsBeginner}
-use Rattle.turns.proofs.ShardStagesStands.{contained_from}
-use Rattle.turns.proofs.WriteBegins.{writes_begin}
 
 module _ (store shards : ℕ) (left : NodeName → List Record → Type 0) {D : Type 0} (now : Moment) (old new : CoordinatorView D) (changes : List Change) (conditions : List Condition) (i : IntentValue) (r : Running) (h : WriteHolds)
     (st : Stands store shards left now) (seen : IsSeen now.nodes old) (begins : BeginsAt old changes conditions i new) (own : IsBeginner now r h changes conditions) where

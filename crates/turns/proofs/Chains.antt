@@ -1,11 +1,12 @@
 -- A chain of promises is a run; and what a stop within a step or an opening leaves can be opened, with all that was told.
-use Rattle.std.proofs.Common.{◌≡◌, ◌+◌, inl, inr, ⊎_elim, ℕ, List, [], ◌∷◌, ◌++◌, length, slice_index_or, refl, sym, ◌∙◌, ap, subst, arith, append_assoc}
+use Rattle.std.proofs.Common.{◌≡◌, ◌+◌, inl, inr, ⊎_elim, ℕ, List, [], ◌∷◌, ◌++◌, length, slice_index_or, refl, sym, ◌∙◌, ap, subst, arith, append_assoc, map}
 use Rattle.turns.proofs.Words.{Event, State, Store}
-use Rattle.turns.specs.Promises.{RunsAll}
+use Rattle.turns.specs.Promises.{RunsAll, events_of}
 use Rattle.turns.specs.StoreLaws.{ChainsJoin, ChainsRun, StoppedOpeningsRest, StoppedStepsRest}
-use Rattle.turns.specs.Stores.{NamesHorizon, StandsOver}
+use Rattle.stores.specs.Stores.{NamesHorizon, StandsOver}
+use Rattle.turns.specs.Runs.{Told}
 use Rattle.std.proofs.lemmas.Option.{slice_get-get_or}
-use Rattle.turns.proofs.ShardStagesStands.{contained_from}
+use Rattle.stores.proofs.ShardStagesStands.{contained_from}
 use Rattle.turns.proofs.RunLogs.{named_on, opened_log, run_more, told_unlisted}
 use Rattle.turns.proofs.StoppedStores.{stopped_rests}
 
@@ -78,3 +79,11 @@ module _ {D : Type 0} (state : D → State) (honest : D → Type 0) (moment : D 
         (subst (λ (k : ℕ). RunsAll state honest moment left_since store shards mid k more others new) (let e : number + length (step ∷ steps) ≡ number + 1 + length steps = omega arith in e) second),
     ap (λ (l : List Event). l ++ others) is ∙ append_assoc first rest others,
   )
+
+-- what was told, by its events
+pub told_of_events : (n : ℕ) (told : List Told) → map (λ (e : Event). e.told) (events_of n told) ≡ told
+told_of_events n [] = refl
+told_of_events n (t ∷ told) = ap (λ (l : List Told). t ∷ l) (told_of_events n told)
+
+pub same_told : (n : ℕ) (a b : List Told) → events_of n a ≡ events_of n b → b ≡ a
+same_told n a b is = sym (told_of_events n b) ∙ ap (map (λ (e : Event). e.told)) (sym is) ∙ told_of_events n a

@@ -5,13 +5,11 @@ use Rattle.std.proofs.lemmas.List.{length-take-le, take_all}
 use Rattle.std.proofs.lemmas.List.Elements.{All-cons, All-nil}
 use Rattle.turns.proofs.Words.{Entry, IsMeaning, IsOfOpening, IsRightVerdict, Machine, Means, Move, Moves, NodeName, Record, Refusal, Rests, Stands, WasGiven, WriteId, at_shards, coordinator, coordinator_state, cut, cut_to, doubts_apart, down, end_is_length, end_of, find_in_doubt, keep, leaves, less_rests, log_taken, not_found, raise, raised_means, refused, shard, shard_node, shard_state, up}
 use Rattle.turns.specs.ReopenLaws.{ClosedStoresStand, FindsCoordinator, closed_at, closed_nodes}
-use Rattle.turns.proofs.ShardStagesStands.{contained_at}
+use Rattle.stores.proofs.ShardStagesStands.{contained_at}
+use Rattle.tuples.proofs.Lists.{nothing_in}
 
-nothing_is_up : {d g : List Record} → down ≡ up d g → ⊥
+pub nothing_is_up : {d g : List Record} → down ≡ up d g → ⊥
 nothing_is_up is = cc
-
-nothing_has : {X : Type 0} {x : X} → Contains [] x → ⊥
-nothing_has has = omega (arith, has.1)
 
 module _ (store shards : ℕ) (left after : NodeName → List Record → Type 0) (m : Machine) (found : List Record) (rests : Rests store shards m.log m.kept m.horizon (left coordinator) (at_shards left)) (finds : FindsCoordinator left after found) where
   abbrev stops : List Record → Type 0
@@ -106,8 +104,8 @@ module _ (store shards : ℕ) (left after : NodeName → List Record → Type 0)
     ids = record {
       distinct = λ i j v w is_v is_w same. absurd cc;
       few = omega arith;
-      unlisted = λ w has. absurd (nothing_has has);
-      of_now = λ w has. absurd (nothing_has has);
+      unlisted = λ w has. absurd (nothing_in _ has);
+      of_now = λ w has. absurd (nothing_in _ has);
       log_given = λ w has. let at = contained_at (take (end_of (coordinator_state found)) m.log) w has in given w.id (means.decided.given at.0 w at.1);
       prepares_given = λ s rs w lt is has. given w.id (in_doubt_given s rs w lt is has);
     };
@@ -115,9 +113,9 @@ module _ (store shards : ℕ) (left after : NodeName → List Record → Type 0)
       few = omega arith;
       slots = λ i j q r is_q is_r same. absurd cc;
       ids = λ i j q r id is_q is_r same also. absurd cc;
-      held = λ r has. absurd (nothing_has has);
-      seen = λ r has. absurd (nothing_has has);
-      quiet = λ r has. absurd (nothing_has has);
+      held = λ r has. absurd (nothing_in _ has);
+      seen = λ r has. absurd (nothing_in _ has);
+      quiet = λ r has. absurd (nothing_in _ has);
     };
     told = All-nil (IsRightVerdict shards after (closed_at (cut_to m (coordinator_state found))));
   }

@@ -1,26 +1,16 @@
 -- A store that stands rests over its devices once it is closed, and unmade devices rest at the empty log.
 use Rattle.std.proofs.Common.{◌≡◌, ◌≤◌, inl, ℕ, List, [], take, Some, refl, sym, ◌∙◌, ap, subst, arith}
 use Rattle.std.proofs.lemmas.List.{take_all}
-use Rattle.turns.proofs.Words.{AreSound, Entry, IsThere, Leaves, NodeName, Record, Rests, ShardMeans, ShardState, State, at_shards, coordinator, coordinator_state, empty_rests, leaves, leaves_nothing_else, left, less_rests, shard, shard_state, stops}
-use Rattle.gated.specs.Gated.{gated}
-use Rattle.records.specs.Checkpoints.{is_complete}
-use Rattle.journal.specs.Records.{current_bank, found}
+use Rattle.turns.proofs.Words.{AreSound, Entry, IsThere, NodeName, Record, Rests, ShardMeans, ShardState, State, at_shards, coordinator, coordinator_state, empty_rests, leaves, left, less_rests, shard, shard_state, stops}
+use Rattle.journal.specs.Records.{found}
+use Rattle.journal.proofs.Joined.{found_nothing}
 use Rattle.turns.specs.StoreLaws.{ClosedStoresRest, IsUnmade, UnmadeStoresRest}
 use Rattle.turns.proofs.ShardPrepareSeam.{last_sync}
-
-found_nothing : found [] [] ≡ Some []
-unfolding found gated current_bank is_complete
-found_nothing = refl
+use Rattle.device.proofs.States.{unmade_left}
 
 -- what a shard's records mean, seen with the coordinator's horizon, they mean with a lower one
 pub means_lower : (shards s : ℕ) (log : List Entry) (hc h : ℕ) (found : ShardState) → h ≤ hc → ShardMeans shards s log hc h found → ShardMeans shards s log h h found
 means_lower shards s log hc h found le m = record { learned = m.learned; horizon = m.horizon; rows = m.rows; settled = omega (arith, le, m.settled); in_doubt = m.in_doubt }
-
--- a stop leaves nothing of an unmade device
-left_nothing : (s : State) (x : List ℕ) → IsUnmade s → left s x → x ≡ []
-left_nothing s x un is =
-    let nothing : Leaves s.durable [] x = subst (λ (w : List (ℕ × ℕ)). Leaves s.durable w x) un.written is in
-    leaves_nothing_else s.durable x nothing ∙ un.durable
 
 module _ {D : Type 0} (state : D → State) (honest : D → Type 0) (moment : D → ℕ) (left_since : D → ℕ → List ℕ → Type 0) (store shards : ℕ) where
   pub closed_stores_rest : ClosedStoresRest state honest moment left_since store shards
@@ -40,7 +30,7 @@ module _ {D : Type 0} (state : D → State) (honest : D → Type 0) (moment : D 
   module _ (devices : NodeName → D × D) (un : (n : NodeName) → IsThere shards n → IsUnmade (state (devices n).0) × IsUnmade (state (devices n).1)) where
     records_none : (n : NodeName) (a b : List ℕ) → IsThere shards n → left (state (devices n).0) a → left (state (devices n).1) b → found a b ≡ Some []
     records_none n a b there in_a in_b =
-        ap (λ (x : List ℕ). found x b) (left_nothing (state (devices n).0) a (un n there).0 in_a) ∙ ap (found []) (left_nothing (state (devices n).1) b (un n there).1 in_b) ∙ found_nothing
+        ap (λ (x : List ℕ). found x b) (unmade_left (state (devices n).0) a (un n there).0.durable (un n there).0.written in_a) ∙ ap (found []) (unmade_left (state (devices n).1) b (un n there).1.durable (un n there).1.written in_b) ∙ found_nothing
 
     pub stops_none : (n : NodeName) (rs : List Record) → IsThere shards n → stops state honest store shards devices n rs → rs ≡ []
     stops_none n rs there (a, b, in_a, in_b, is) = let both : Some [] ≡ Some rs = sym (records_none n a b there in_a in_b) ∙ is in cc

@@ -4,13 +4,14 @@ use Rattle.std.proofs.lemmas.List.{length-drop, length-take}
 use Rattle.std.proofs.lemmas.List.Elements.{Contains-push}
 use Rattle.turns.proofs.Words.{AreRightHeads, Asked, AsksAbove, AsksBelow, BatchValue, CoordinatorKnows, CoordinatorState, CoordinatorView, Entry, FindsAt, Freshness, Holds, IsBelow, IsFuture, IsGivenBy, IsResolved, IsRightBatch, IsRightVerdict, IsSeen, Means, Moment, NodeName, Nodes, Record, Running, Stands, WantsBelow, WasGiven, WasKept, WriteId, at_least, at_shards, committed, coordinator, coordinator_state, end_of, exact, heads_of, kept_of, latest, leaves, memory_of, staged_of, to_check, to_collect, to_flush, to_learn, to_raise, to_read, to_resolve, to_watch, to_write, up, with_call}
 use Rattle.decisions.specs.Coordinators.{BatchesAt, FindsNone, IsGivenAt}
-use Rattle.turns.specs.Causes.{WantsFuture}
+use Rattle.stores.specs.Causes.{WantsFuture}
 use Rattle.turns.specs.CoordinatorSeamLaws.{BatchAnswers, BatchHasCause, DecisionsAreForgotten, GivesBelow, HeadsAnswer, HeadsHaveCause, InquiriesAnswer, PlacesAreFound}
-use Rattle.turns.proofs.Answers.{batches_are_right, durable_means, heads_are_right, inquiries_abort, inquiries_find, replays}
-use Rattle.turns.proofs.DecisionNodes.{epoch_stays}
-use Rattle.turns.proofs.FlowGoesOn.{sees_more}
-use Rattle.turns.proofs.PrepareTurn.{map_has}
-use Rattle.turns.proofs.ShardStages.{durable_in}
+use Rattle.stores.proofs.Answers.{batches_are_right, durable_means, heads_are_right, inquiries_abort, inquiries_find}
+use Rattle.stores.proofs.DecisionNodes.{epoch_stays}
+use Rattle.stores.proofs.FlowGoesOn.{sees_more}
+use Rattle.stores.proofs.PrepareTurn.{map_has}
+use Rattle.stores.proofs.ShardStages.{durable_in}
+use Rattle.records.proofs.CoordinatorStates.{state_of_more}
 
 -- a node that is up with these records is not so with others
 pub known_alone : (nodes : Nodes) (durable staged : List Record) → nodes.at coordinator ≡ up durable staged → (kept memory : CoordinatorState) → CoordinatorKnows nodes kept memory
@@ -39,7 +40,7 @@ module _ (store shards : ℕ) (left : NodeName → List Record → Type 0) {D : 
 
   -- no staged record is an opening
   pub same_epoch : (memory_of v).epoch ≡ (kept_of v).epoch
-  same_epoch = ap (λ (c : CoordinatorState). c.epoch) (replays v.durable v.staged) ∙ epoch_stays (kept_of v) v.staged (λ a b c d has. st.nodes.no_opening coordinator v.durable v.staged a b c d seen.at has)
+  same_epoch = ap (λ (c : CoordinatorState). c.epoch) (state_of_more v.durable v.staged) ∙ epoch_stays (kept_of v) v.staged (λ a b c d has. st.nodes.no_opening coordinator v.durable v.staged a b c d seen.at has)
 
   -- a flow that has seen the machine once more has seen what lies at or below it
   pub right_heads : (r : Running) (holds : Holds) → Contains now.running r → AreRightHeads (with_call r holds r.met now.machine) now.machine (heads_of v)

@@ -5,15 +5,16 @@ use Rattle.std.proofs.lemmas.List.{length-map, length-take-le, take_all}
 use Rattle.std.proofs.lemmas.List.Elements.{All-cons, All-nil, Contains-append_right}
 use Rattle.turns.proofs.Words.{CoordinatorKnows, CoordinatorState, Epoch, FlowsStand, HeadsStand, IsCoordinatorImage, IsGivenOut, IsHorizonIn, IsOfOpening, IsOfRefusedOpening, IsReopenedCoordinator, IsRight, IsRightVerdict, Machine, MayRise, Means, Moment, Move, Moves, NodeName, Nodes, OpensCoordinator, Record, Refusal, RefusesCoordinator, Restarts, Rests, Running, SameBut, ShardMeans, Stands, WasGiven, WriteId, at_shards, came_up, coordinator, coordinator_last, coordinator_node, coordinator_push, coordinator_state, cut, cut_to, end_of, horizon_rises, id_of, is_write, keep, leaves, less_rests, raise, raised_means, refused, refuses, shard, shard_state, staged_of, up}
 use Rattle.records.specs.Coordinators.{MayOpenAgain, coordinator_step}
-use Rattle.turns.specs.Moments.{reopened}
+use Rattle.stores.specs.Moments.{reopened}
 use Rattle.turns.specs.RestartLaws.{CoordinatorOpeningsStand, RefusedCoordinatorsStand, with_restart}
-use Rattle.turns.proofs.FlowBegins.{alone, among}
+use Rattle.stores.proofs.FlowBegins.{alone}
 use Rattle.laws.proofs.CoordinatorSteps.{restarts_rest}
-use Rattle.turns.proofs.FailedFlush.{CoordinatorStands, nodes_stand, nothing_known}
-use Rattle.turns.proofs.CoordinatorOpeningFlows.{Renews, ids_kept, kept_flow, left_before, locks_kept, verdict_kept}
-use Rattle.turns.proofs.ShardStages.{durable_in}
-use Rattle.turns.proofs.Places.{rests_in_place, still_in_place}
+use Rattle.stores.proofs.FailedFlush.{CoordinatorStands, nodes_stand, nothing_known}
+use Rattle.stores.proofs.CoordinatorOpeningFlows.{Renews, ids_kept, kept_flow, left_before, locks_kept, verdict_kept}
+use Rattle.stores.proofs.ShardStages.{durable_in}
+use Rattle.stores.proofs.Places.{rests_in_place, still_in_place}
 use Rattle.turns.proofs.StopInside.{means_or_opened}
+use Rattle.tuples.proofs.Lists.{first_or_later}
 
 -- the horizon that records stand for is none, or a record names it
 -- a flow that is marked ran before
@@ -28,7 +29,7 @@ marked_there [] q has = absurd (omega (arith, has.1))
 marked_there (r ∷ rs) q has = ⊎_elim
     (λ first. (r, alone r rs, first))
     (λ rest. let was = marked_there rs q rest in (was.0, Contains-append_right (r ∷ []) rs was.0 was.1, was.2))
-    (among (record r { is_reopened = true }) q (reopened rs) has)
+    (first_or_later (record r { is_reopened = true }) q (reopened rs) has)
 
 module _ (store shards : ℕ) (left after : NodeName → List Record → Type 0) (now : Moment) (next : Nodes) (m : Machine) (n : ℕ) (re : Renews store shards left after now next m n) where
   -- flows that are marked hold what is right

@@ -2,16 +2,13 @@
 use Rattle.std.proofs.Common.{◌≡◌, ◌≢◌, ◌⊎◌, inl, inr, ⊎_elim, ◌+◌, ◌≤◌, ◌++◌, ◌↔◌, ℕ, List, [], ◌∷◌, length, Some, refl, sym, ◌∙◌, ap, subst, arith}
 use Rattle.std.proofs.lemmas.List.{length_push}
 use Rattle.std.proofs.lemmas.Option.{same_Some}
-use Rattle.turns.proofs.Words.{AreRevived, ComesUp, CoordinatorView, Finds, HasFailed, IsCoordinatorImage, IsReopenedCoordinator, IsSeen, Leaves, Moment, NodeName, Nodes, OpensCoordinator, Record, Refusal, RefusesCoordinator, Revived, State, behind, coordinator, coordinator_node, coordinator_state, device_left, found, leaves_nothing_else, shard, stops, up}
+use Rattle.turns.proofs.Words.{AreRevived, ComesUp, CoordinatorView, Finds, HasFailed, IsCoordinatorImage, IsReopenedCoordinator, IsSeen, Moment, NodeName, Nodes, OpensCoordinator, Record, Refusal, RefusesCoordinator, State, behind, coordinator, coordinator_node, coordinator_state, device_left, found, shard, stops, up}
 use Rattle.decisions.specs.Coordinators.{IsOpenedCoordinator, WasLeftOrReopened, coordinator_opening}
+use Rattle.stores.specs.FlushLaws.{IsOldOrSame}
 use Rattle.turns.specs.CoordinatorOpeningLaws.{CoordinatorOpeningsStep, FailedOpeningsHaveCause, FailsOverDevices, FlushesOverDevices, FullCoordinatorsWereOpened, IsFresh, IsOverDevices, NoCoordinatorIsDamaged, OpensOverDevices, RefusedOpeningsStep, behind_refusal}
-use Rattle.turns.specs.FlushLaws.{IsOldOrSame}
 use Rattle.turns.proofs.CoordinatorOpening.{coordinator_openings_stand, refused_coordinators_stand}
 use Rattle.turns.proofs.ShardPrepareSeam.{last_sync}
-
--- of a revived device a stop leaves what reads
-revived_alone : (s t : State) → Revived s t → (c : List ℕ) → device_left t c → c ≡ t.seen
-revived_alone s t r c is = leaves_nothing_else t.seen c (subst (λ (w : List (ℕ × ℕ)). Leaves t.seen w c) r.written (subst (λ (d : List ℕ). Leaves d t.written c) r.durable is))
+use Rattle.device.proofs.States.{revived_reads}
 
 no_longer : (rs : List Record) (r : Record) → rs ≡ rs ++ r ∷ [] → ⊥
 no_longer rs r same = let more = ap length same in omega (arith, more, length_push rs r)
@@ -57,7 +54,7 @@ module _ {D : Type 0} (state : D → State) (honest : D → Type 0) (moment : D 
 
     -- contents that could be left before the opening are those that were found
     reads : (x y : List ℕ) → device_left (state a) x × device_left (state b) y → found x y ≡ found (state a).seen (state b).seen
-    reads x y was = ap (λ (c : List ℕ). found c y) (revived_alone _ (state a) revived.first x was.0) ∙ ap (found (state a).seen) (revived_alone _ (state b) revived.second y was.1)
+    reads x y was = ap (λ (c : List ℕ). found c y) (revived_reads _ (state a) revived.first x was.0) ∙ ap (found (state a).seen) (revived_reads _ (state b) revived.second y was.1)
 
     pub was_or_reopened : (x y : List ℕ) (rs : List Record) → found x y ≡ Some rs → WasLeftOrReopened (coordinator_node store shards) (state a) (state b) x y
         → before coordinator rs ⊎ IsReopenedCoordinator store shards before rs

@@ -2,10 +2,10 @@
 use Rattle.std.proofs.Common.{◌≡◌, inl, inr, ⊎_elim, ◌<◌, ℕ, List, [], Option, Some, None, Contains, refl, sym, ◌∙◌, ap, subst}
 use Rattle.std.proofs.lemmas.List.Elements.{All-nil, All-push}
 use Rattle.std.proofs.lemmas.Option.{same_Some}
+use Rattle.stores.specs.Causes.{IsUnsure}
+use Rattle.stores.proofs.Answers.{outcomes_agree}
 use Rattle.turns.proofs.Words.{Agrees, AreHeldHeads, AreRightHeads, Asked, Change, Condition, CoordinatorKnows, CoordinatorState, DecidedValue, HeadsHeld, HeadsValue, Holds, IfHeld, IsRight, IsRightDecision, IsRightResolve, IsRightResolved, IsRightVerdict, IsRightWrite, Machine, Moment, NodeName, Record, Resolved, Running, Stands, Unsure, WriteHolds, WriteId, aborted, checking, collecting, committed, down, ending, flushing, heads_of, id_of, kept_of, learning, memory_of, own_write, raising, reading, refused, resolving, to_check, to_collect, to_flush, to_learn, to_raise, to_read, to_resolve, to_watch, to_write, undecided, up, watching, with_call, writing, wrote}
-use Rattle.turns.specs.Causes.{IsUnsure}
 use Rattle.turns.specs.CoordinatorSeamLaws.{AwayIsForgotten, BatchTurns, HasDecided, HeadsTurn, IsForgotten, KeptAnswers, ResolvingTurns, StillTurns, TurnsTo, UnsureAnswers, VerdictsTurn, verdict_with, with_heads, with_resolved}
-use Rattle.turns.proofs.Answers.{outcomes_agree}
 use Rattle.turns.proofs.CoordinatorCalls.{batch_right, knows, right_heads}
 use Rattle.turns.proofs.QuietTurns.{nothing_changes, quiet_calls_answer, quiet_calls_keep, quiet_calls_refuse, quiet_calls_turn}
 use Rattle.turns.proofs.SeesOn.{sees_on}

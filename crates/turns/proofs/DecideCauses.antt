@@ -2,10 +2,10 @@
 use Rattle.std.proofs.Common.{◌≡◌, ◌⊎◌, inl, inr, ⊎_elim, ◌+◌, ◌-◌, ℕ, List, Contains, Some, slice_get, drop, sym, ◌∙◌, ap, refl, subst, arith}
 use Rattle.turns.proofs.Words.{Asked, CoordinatorView, Decision, Entry, FindsAt, Holds, IsCutOff, IsFull, IsOpen, IsRight, IsRightWrite, IsSeen, IsUndecidedFlow, Moment, NodeName, Record, Running, Stands, WriteHolds, WriteId, coordinator, end_of, id_of, memory_of, shard, slice_get_drop, to_flush, to_write, writing}
 use Rattle.decisions.specs.Coordinators.{IsDecidedAbove}
+use Rattle.stores.proofs.AbortCauses.{refused_intents}
+use Rattle.stores.proofs.PrepareTurn.{map_has}
 use Rattle.turns.specs.CoordinatorSeamLaws.{DecideHasCause, UndecidedAreNotFound}
-use Rattle.turns.proofs.AbortCauses.{refused_intents}
 use Rattle.turns.proofs.CoordinatorCalls.{finds_place, log_is, whole}
-use Rattle.turns.proofs.PrepareTurn.{map_has}
 
 module _ (store shards : ℕ) (left : NodeName → List Record → Type 0) {D : Type 0} (now : Moment) (v : CoordinatorView D) (r : Running) (h : WriteHolds) (w : Entry)
     (st : Stands store shards left now) (seen : IsSeen now.nodes v) (own : IsUndecidedFlow now r h w) where

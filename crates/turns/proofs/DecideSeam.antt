@@ -6,8 +6,8 @@ use Rattle.tuples.specs.Log.{HoldAfter}
 use Rattle.records.specs.Coordinators.{HoldsKnown, IsNotDecided}
 use Rattle.decisions.specs.Coordinators.{DecidesAt, HaveVoted}
 use Rattle.laws.proofs.WriteConditions.{conditions_hold_as_known}
+use Rattle.stores.proofs.DecisionFlows.{votes_prepare}
 use Rattle.turns.specs.SeamLaws.{DecideTurns}
-use Rattle.turns.proofs.DecisionFlows.{votes_prepare}
 use Rattle.turns.proofs.DecisionTurn.{deciders_turn}
 
 pub ids_without : (id : WriteId) (ws : List Entry) → map (λ (w : Entry). w.id) (without id ws) ≡ without_id id (map (λ (w : Entry). w.id) ws)

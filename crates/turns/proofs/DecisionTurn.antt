@@ -3,12 +3,13 @@ use Rattle.std.proofs.Common.{◌≡◌, ◌≢◌, inl, ⊎_elim, ℕ, ◌+◌,
 use Rattle.std.proofs.lemmas.Bool.{cases_Bool}
 use Rattle.std.proofs.lemmas.List.{length_push}
 use Rattle.std.proofs.lemmas.List.Elements.{All-contains}
+use Rattle.stores.specs.DecidingLaws.{with_decided, with_place}
+use Rattle.stores.proofs.FlowBegins.{same_verdict}
+use Rattle.stores.proofs.DecisionFlows.{deciders_stand, decisions_stand}
+use Rattle.stores.proofs.ShardStagesStands.{contained_at}
+use Rattle.stores.proofs.FlowGoesOn.{sees_more, flows_turn}
 use Rattle.turns.proofs.Words.{CoordinatorKnows, DecidedValue, Decides, Decision, Entry, IsDecider, IsDeciding, IsHorizonIn, IsRight, IsRightVerdict, IsRightWrite, MayDecide, Moment, NodeName, Nodes, Record, Running, SameBut, Stands, StandsButFor, Turns, WriteHolds, append, coordinator, coordinator_last, coordinator_node, coordinator_state, goes_on, id_of, is_write, onward, outward, replaced, shard, with_decision, with_write, writing}
-use Rattle.turns.specs.DecidingLaws.{DecidersTurn, with_decided, with_place}
-use Rattle.turns.proofs.FlowBegins.{same_verdict}
-use Rattle.turns.proofs.DecisionFlows.{deciders_stand, decisions_stand}
-use Rattle.turns.proofs.ShardStagesStands.{contained_at}
-use Rattle.turns.proofs.FlowGoesOn.{sees_more, flows_turn}
+use Rattle.turns.specs.DecisionTurns.{DecidersTurn}
 
 module _ (store shards : ℕ) (left : NodeName → List Record → Type 0) (now : Moment) (next : Nodes) (place : ℕ) (w : Entry) (r : Running) (h : WriteHolds) (st : IsDeciding store shards left now next place w) (own : IsDecider store shards left now r h w) where
   knew : CoordinatorKnows now.nodes (coordinator_state st.step.durable) (coordinator_state (st.step.durable ++ st.step.staged))

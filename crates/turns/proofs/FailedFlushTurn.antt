@@ -1,11 +1,11 @@
 -- A flush of the coordinator that fails is a turn of a run, which ends the flow that asked for it with Down.
 use Rattle.std.proofs.Common.{◌≡◌, ◌≢◌, inl, inr, ℕ, false, List, [], ◌∷◌, ◌++◌, None, Some, Contains, refl, sym, ◌∙◌, ap, subst}
 use Rattle.std.proofs.lemmas.List.Elements.{All-nil}
+use Rattle.stores.proofs.FailedFlush.{failed_flushes_stand}
+use Rattle.stores.proofs.FlowEnds.{flows_end}
 use Rattle.turns.proofs.Words.{Asked, Calls, Down, FailsFlush, IsDown, IsHorizonIn, IsQuiet, MayRise, Moment, NodeName, Nodes, Record, Running, SameBut, Stands, Turns, Unsure, coordinator, ended, is_write, refuses, shard, to_flush, with_nodes}
 use Rattle.turns.specs.AnswerLaws.{FailedFlushesAreQuiet}
-use Rattle.turns.specs.FlushLaws.{FailedFlushesAnswer}
-use Rattle.turns.proofs.FailedFlush.{failed_flushes_stand}
-use Rattle.turns.proofs.FlowEnds.{flows_end}
+use Rattle.turns.specs.FlushTurns.{FailedFlushesAnswer}
 
 module _ (store shards : ℕ) (left after : NodeName → List Record → Type 0) (now : Moment) (next : Nodes) (r : Running) (st : Stands store shards left now) (fails : FailsFlush left after now.nodes next)
     (there : Contains now.running r) (asked : r.asked ≡ to_flush coordinator) (goes_on : r.is_cancelled ≡ false) where

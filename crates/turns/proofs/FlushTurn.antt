@@ -2,11 +2,11 @@
 use Rattle.std.proofs.Common.{◌≡◌, ◌≢◌, inl, inr, ⊎_elim, ℕ, ◌≤◌, ◌<◌, max, false, List, [], ◌∷◌, ◌++◌, length, All, refl, sym, ap, subst, arith}
 use Rattle.std.proofs.lemmas.Bool.{cases_lt}
 use Rattle.std.proofs.lemmas.List.Elements.{All-cons, All-nil}
+use Rattle.stores.proofs.CoordinatorFlush.{coordinator_flushes_stand}
+use Rattle.stores.proofs.FlowEnds.{flows_end}
 use Rattle.turns.proofs.Words.{Agrees, Asked, FlushesCoordinator, IsHorizonIn, IsQuiet, IsQuietCall, Machine, MayRise, Means, Moment, Move, Moves, NodeName, Nodes, Record, Running, SameBut, Stands, Turns, all_kept, answered, at_shards, coordinator, coordinator_state, done, ended, keep, leaves, raise, shard, staged_of, to_flush}
 use Rattle.turns.specs.AnswerLaws.{CoordinatorFlushesAreQuiet}
-use Rattle.turns.specs.FlushLaws.{FlushesAnswer, with_flush}
-use Rattle.turns.proofs.CoordinatorFlush.{coordinator_flushes_stand}
-use Rattle.turns.proofs.FlowEnds.{flows_end}
+use Rattle.turns.specs.FlushTurns.{FlushesAnswer, with_flush}
 
 module _ (store shards : ℕ) (left after : NodeName → List Record → Type 0) (now : Moment) (next : Nodes) (st : Stands store shards left now) (flush : FlushesCoordinator left after now.nodes next) where
   abbrev records : List Record

@@ -1,49 +1,20 @@
 mod Words
-pub mod ShardStages
-pub mod ShardStagesFlows
-pub mod ShardStagesStands
-pub mod ShardStagesSteps
-pub mod LessLeftFlows
-pub mod ShardFlush
-pub mod CoordinatorFlush
-pub mod ShardOpening
-pub mod CoordinatorOpeningFlows
-pub mod Places
 pub mod StopInside
-pub mod FailedFlush
 pub mod CoordinatorOpening
 pub mod RefusedOpening
-pub mod FlowGoesOn
 pub mod DecisionTurn
-pub mod Abort
-pub mod Answers
-pub mod ReadAnswer
-pub mod AbortCauses
 pub mod ClosedStore
-pub mod RaiseStep
-pub mod DecisionNodes
-pub mod DecisionFlows
-pub mod DecisionLists
 pub mod SmallRuns
 mod SmallChecks
-pub mod NewStore
 pub mod RunChain
 pub mod RunNames
-pub mod Frames
-pub mod CoordinatorStages
-pub mod SameWrites
-pub mod FlowBegins
-pub mod FlowEnds
 mod WrongRuns
 mod WrongStores
 mod NarrowCauses
-pub mod WriteBegins
 pub mod ClosedStoreRests
 pub mod StoppedStores
 pub mod RunLogs
 pub mod Chains
-pub mod PrepareTurn
-pub mod Batches
 pub mod DecideSeam
 pub mod BeginSeam
 pub mod AbortSeam
@@ -55,7 +26,6 @@ pub mod CoordinatorOpeningSeam
 pub mod FlushTurn
 pub mod FailedFlushTurn
 pub mod ShardFlushTurn
-pub mod CheckWalk
 pub mod AnswerTurns
 pub mod SeesOn
 pub mod QuietTurns
@@ -68,5 +38,4 @@ pub mod ShardCheckSeam
 pub mod ShardFailedSeam
 pub mod ShardLearnAnswer
 mod SmallTurns
-pub mod ShardChanges
 pub mod Rooms

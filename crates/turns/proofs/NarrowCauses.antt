@@ -6,8 +6,8 @@ use Rattle.records.specs.Checkpoints.{generation_of}
 use Rattle.records.specs.Replays.{greatest_number}
 use Rattle.records.specs.declared.mark.Mark.TheVariants.{Begins}
 use Rattle.records.specs.declared.record.Record.TheVariants.{Checkpoint}
-use Rattle.turns.specs.Causes.{Needs, Stages}
-use Rattle.turns.specs.Flows.{nothing_read}
+use Rattle.stores.specs.Causes.{Needs, Stages}
+use Rattle.stores.specs.Flows.{nothing_read}
 use Rattle.turns.proofs.SmallRuns.{two_kept}
 
 abbrev with_nodes : Machine → (NodeName → NodeState) → Moment

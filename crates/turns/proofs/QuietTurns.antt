@@ -2,13 +2,13 @@
 use Rattle.std.proofs.Common.{◌≡◌, ◌≢◌, ◌⊎◌, inl, inr, ⊎_elim, ℕ, true, false, List, [], ◌∷◌, ◌++◌, Option, Some, None, Contains, All, slice_index_or, ◌==◌, refl, sym, ◌∙◌, ap, subst, arith}
 use Rattle.std.proofs.lemmas.Bool.{cases_Bool, eq-eqb, eqb-true}
 use Rattle.std.proofs.lemmas.List.Elements.{All-append, All-cons, All-contains, All-nil, Contains-append_right}
+use Rattle.stores.specs.Held.{HoldsNothing}
+use Rattle.stores.proofs.FlowBegins.{alone, same_right, same_verdict}
+use Rattle.stores.proofs.FlowEnds.{flows_end}
+use Rattle.stores.proofs.FlowGoesOn.{flows_go_on, sees_more}
 use Rattle.turns.proofs.Words.{Agrees, Answer, Asked, Calls, Change, Condition, Down, EndsAs, EndsQuietly, Entry, Epoch, Full, HasItsCause, HeldTicket, HeldVote, Holds, HoldsLess, HoldsOf, IsCause, IsHorizonIn, IsOfRefusedOpening, IsQuiet, IsQuietCall, IsRight, IsRightOwn, IsRightTicket, IsRightVerdict, IsRightVote, IsRightWrite, IsTurned, LetsLearn, Machine, MayRise, Moment, Move, Moves, NoMemory, NodeName, NodeState, NodeTurns, Nodes, Record, Refusal, Running, SameBut, StagesAt, Stands, TakesMemory, Told, Turns, Unsure, WriteHolds, WriteId, answered, behind_call, coordinator, ended, ending, goes_on, going_on, id_of, outward, own_write, refused, refuses, replaced, shard, to_check, to_collect, to_flush, to_learn, to_raise, to_read, to_resolve, to_watch, to_write, told_by, told_unless, up, with_batch, with_call, with_nodes, writing}
-use Rattle.turns.specs.Held.{HoldsNothing}
 use Rattle.turns.specs.QuietTurns.{HasMet, AwayNodesHaveCause, IsQuietStep, QuietCallsAnswer, QuietCallsEnd, QuietCallsKeep, QuietCallsRefuse, QuietCallsTurn, RefusedFlowsEnd, RefusedWritesGoOut, WritesSpend}
 use Rattle.turns.specs.Runs.{KeepsOpen}
-use Rattle.turns.proofs.FlowBegins.{alone, same_right, same_verdict}
-use Rattle.turns.proofs.FlowEnds.{flows_end}
-use Rattle.turns.proofs.FlowGoesOn.{flows_go_on, sees_more}
 use Rattle.turns.proofs.SeesOn.{same_write, sees_on}
 
 -- someone is told that these ids are aborted
@@ -70,7 +70,7 @@ own_less shards left now r holds met m w h k less old = record {
       (subst (λ (tickets : List HeldTicket). HoldsOf (record k { tickets = tickets; votes = h.votes }) s) (sym still.1) (old.gave still.0 none s found p lt is has));
 }
 
-is_same_node : (n k : NodeName) → (n ≡ k) ⊎ (n ≢ k)
+pub is_same_node : (n k : NodeName) → (n ≡ k) ⊎ (n ≢ k)
 is_same_node coordinator coordinator = inl refl
 is_same_node coordinator (shard t) = inr (λ is. cc)
 is_same_node (shard s) coordinator = inr (λ is. cc)

@@ -2,22 +2,20 @@
 use Rattle.std.proofs.Common.{◌≡◌, ◌≢◌, ◌⊎◌, inl, inr, ⊎_elim, ◌≤◌, ◌<◌, ℕ, true, List, [], ◌∷◌, ◌++◌, Contains, refl, sym, ◌∙◌, ap, subst, append_assoc, arith}
 use Rattle.std.proofs.Math.Path.{fun_ext}
 use Rattle.std.proofs.lemmas.Bool.{cases_lt}
-use Rattle.std.proofs.lemmas.List.{append-nil}
 use Rattle.std.proofs.lemmas.List.Elements.{All-nil, Contains-append_right}
 use Rattle.turns.proofs.Words.{Asked, CoordinatorState, CoordinatorView, Decision, Dropped, Epoch, Holds, Horizon, Identity, IsBelow, IsCoordinatorImage, IsFull, IsFuture, IsLearnedInAll, IsQuietCall, IsRight, IsRightRaise, IsRightSettled, IsSeen, Learned, MayRaise, Moment, NodeName, NodeState, Nodes, Prepare, RaiseHolds, Record, Running, SameBut, StagesHorizon, Stands, at_shards, behind, behind_call, coordinator, coordinator_from, coordinator_image_push, coordinator_node, coordinator_push, coordinator_state, id_of, kept_of, leaves, memory_of, raising, shard, to_flush, to_raise, up, with_call}
 use Rattle.records.specs.Coordinators.{BeginsCoordinatorImage, MayComeNext, MayComeNextInside, coordinator_step, marked_base}
 use Rattle.records.specs.declared.record.Record.TheVariants.{Checkpoint}
 use Rattle.records.specs.declared.mark.Inside.{Inside}
-use Rattle.records.proofs.CoordinatorStates.{coordinator_keeps}
+use Rattle.records.proofs.CoordinatorStates.{coordinator_keeps, state_of_more}
 use Rattle.decisions.specs.Coordinators.{HaveSettled, IsRising, RaisesAt, StagesOne}
 use Rattle.turns.specs.CoordinatorSeamLaws.{RaiseHasCause, RaisesTurn}
-use Rattle.turns.proofs.Answers.{replays}
-use Rattle.turns.proofs.Batches.{settled_is_learned}
+use Rattle.stores.proofs.Batches.{settled_is_learned}
 use Rattle.turns.proofs.CoordinatorCalls.{horizon_is, kept_is, knows, same_epoch, whole}
 use Rattle.turns.proofs.CoordinatorTurns.{seen_on}
-use Rattle.turns.proofs.FlowBegins.{among}
 use Rattle.turns.proofs.QuietTurns.{nothing_changes, one_more_staged, quiet_calls_turn}
-use Rattle.turns.proofs.RaiseStep.{raises_stand}
+use Rattle.stores.proofs.RaiseStep.{raises_stand}
+use Rattle.tuples.proofs.Lists.{first_or_later}
 
 -- the horizon that is known is that of before, or one that a record named since
 abbrev IsRisen : CoordinatorState → List Record → Type 0
@@ -74,7 +72,7 @@ split [] r has = absurd (omega (arith, has.1))
 split (y ∷ rs) r has = ⊎_elim
     (λ is. ([], rs, ap (λ (z : Record). z ∷ rs) is))
     (λ rest. let s = split rs r rest in (y ∷ s.0, s.1, ap (λ (l : List Record). y ∷ l) s.2))
-    (among y r rs has)
+    (first_or_later y r rs has)
 
 -- each horizon that a record named lies at or below the one that is known
 named_below : (me : Identity) (rs : List Record) (x : ℕ) → IsCoordinatorImage me rs → Contains rs (Horizon x) → x ≤ (coordinator_state rs).horizon
@@ -126,7 +124,7 @@ module _ (store shards : ℕ) (left : NodeName → List Record → Type 0) {D : 
       where
         on : (memory_of old).horizon ≤ place
         on =
-            let from : (memory_of old).horizon ≡ (coordinator_from (kept_of old) old.staged).horizon = ap (λ (c : CoordinatorState). c.horizon) (replays old.durable old.staged) in
+            let from : (memory_of old).horizon ≡ (coordinator_from (kept_of old) old.staged).horizon = ap (λ (c : CoordinatorState). c.horizon) (state_of_more old.durable old.staged) in
             let low = raises.above in
             ⊎_elim
             (λ same. omega (arith, from, same, low))

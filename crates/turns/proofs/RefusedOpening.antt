@@ -1,10 +1,10 @@
 -- The opening of a shard of a store that stands is refused.
 use Rattle.std.proofs.Common.{◌≡◌, ◌⊎◌, inl, inr, ⊎_elim, ℕ, ◌≤◌, List, [], ◌∷◌, ◌++◌, refl, sym, ◌∙◌, ap, subst, arith}
+use Rattle.stores.proofs.ShardChanges.{ChangesShard, changed_stands}
+use Rattle.stores.proofs.ShardOpening.{opened_epoch, same_learned}
+use Rattle.stores.proofs.ShardStages.{is_shard}
 use Rattle.turns.proofs.Words.{Epoch, IsHorizonIn, IsOfRefusedOpening, IsReopenedShard, Moment, NodeName, Nodes, Record, Refusal, Restarts, Stands, came_up, refused, refuses, shard, shard_state, up, with_nodes}
 use Rattle.turns.specs.RestartLaws.{RefusedShardsStand, RefusesShard, ShardOpeningsRestart}
-use Rattle.turns.proofs.ShardChanges.{ChangesShard, changed_stands}
-use Rattle.turns.proofs.ShardOpening.{opened_epoch, same_learned}
-use Rattle.turns.proofs.ShardStages.{is_shard}
 use Rattle.turns.proofs.StopInside.{left_or_opened}
 
 module _ (store shards : ℕ) (left after : NodeName → List Record → Type 0) (now : Moment) (next : Nodes) (s : ℕ) (e : Refusal) (stands : Stands store shards left now) (why : IsOfRefusedOpening e)

@@ -3,7 +3,7 @@ use Rattle.std.proofs.Common.{inl, inr, ⊎_elim, ℕ, List, slice_index_or}
 use Rattle.turns.proofs.Words.{Decides, DecidesNothing, EndsAs, IsOfOpening, IsQuiet, IsTurned, MayRise, Moment, Move, NodeName, Restarts, Running, Told, Turns, answered, append, began, came_up, coordinator, cut, goes_on, keep, raise, refuses, shard}
 use Rattle.turns.specs.Runs.{OpeningMoves, OpensAs}
 
-of_opening : (a b : ℕ → Type 0) → ((x : ℕ) → a x → b x) → (move : Move) → IsOfOpening a move → IsOfOpening b move
+pub of_opening : (a b : ℕ → Type 0) → ((x : ℕ) → a x → b x) → (move : Move) → IsOfOpening a move → IsOfOpening b move
 of_opening a b more (append w) is = absurd is
 of_opening a b more (keep i) is = is
 of_opening a b more (cut i) is = is

@@ -1,8 +1,8 @@
 -- A flow that has seen one machine more, and holds what it held but for the decisions on their way: all of it stays right.
 use Rattle.std.proofs.Common.{◌≡◌, ℕ, List, [], ◌∷◌, ◌++◌, Option, Some, Contains, slice_get, refl, arith}
 use Rattle.std.proofs.lemmas.List.Elements.{Contains-append_left}
+use Rattle.stores.specs.Moments.{SawFirst}
 use Rattle.turns.proofs.Words.{AreHeldHeads, AreRightHeads, Asked, BatchValue, Change, Condition, Freshness, HeadsHeld, HeadsValue, Holds, IfHeld, IsAsWanted, IsPlaceOf, IsRight, IsRightBatch, IsRightWrite, Machine, Moment, NodeName, Record, Running, WasKept, WriteHolds, at_least, checking, collecting, exact, flushing, id_of, latest, learning, raising, reading, resolving, to_check, to_collect, to_flush, to_learn, to_raise, to_read, to_resolve, to_watch, to_write, watching, with_batch, with_call, writing}
-use Rattle.turns.specs.Moments.{SawFirst}
 
 -- what the flow holds is of the write that it was of
 pub same_write : (b : Option BatchValue) (h : Holds) → id_of (with_batch b h) ≡ id_of h

@@ -1,10 +1,10 @@
 -- What a shard's own contract of a read for a check says makes turns of a run.
 use Rattle.std.proofs.Common.{◌≡◌, inl, ⊎_elim, ℕ, ◌<◌, List, refl, sym, ◌∙◌, ap, subst, arith}
+use Rattle.stores.proofs.Batches.{known_means}
+use Rattle.stores.proofs.CheckWalk.{check_replies_select, checks_go_on}
 use Rattle.turns.proofs.Words.{Asked, CheckHolds, Collected, Freshness, HasItsCause, Holds, IsBelow, IsCheckSelection, IsRight, IsRightCheck, Moment, NoMemory, NodeName, Record, Running, ShardIsSeen, ShardView, Stands, TakesMemory, Tuple, Unsure, User, Userset, checking, coordinator, id_of, is_at, memory, place_of, shard, shard_of, to_check, with_call}
 use Rattle.turns.specs.ShardCheckLaws.{CheckTurns, CheckYesTurns, IsChecker, ReadsForCheckAt, RefusedChecksHaveCause}
 use Rattle.turns.proofs.AnswerTurns.{checks_end_yes}
-use Rattle.turns.proofs.Batches.{known_means}
-use Rattle.turns.proofs.CheckWalk.{check_replies_select, checks_go_on}
 use Rattle.turns.proofs.QuietTurns.{nothing_changes, quiet_calls_turn}
 use Rattle.turns.proofs.SeesOn.{sees_on}
 use Rattle.turns.proofs.ShardReadSeam.{wants_below}

@@ -1,24 +1,21 @@
 -- What a shard's own contracts of an opening that is refused and of a flush that fails say makes steps of a run.
 use Rattle.std.proofs.Common.{◌≡◌, ◌⊎◌, inl, inr, ℕ, ◌≤◌, ◌+◌, ◌++◌, List, [], ◌∷◌, Some, refl, sym, ◌∙◌, ap, subst}
 use Rattle.std.proofs.lemmas.List.Elements.{All-nil}
-use Rattle.turns.proofs.Words.{Finds, FlushesShard, Identity, IsHorizonIn, IsQuiet, IsReopenedShard, IsShardImage, Leaves, MayRise, Record, Revived, State, device_left, down, found, leaves_nothing_else, opening, refused, shard, shard_node, shard_state, stops}
+use Rattle.turns.proofs.Words.{Finds, FlushesShard, Identity, IsHorizonIn, IsQuiet, IsReopenedShard, IsShardImage, MayRise, Record, State, device_left, down, found, opening, refused, shard, shard_node, shard_state, stops}
 use Rattle.shard.specs.Shards.{WasLeftOrOpened}
+use Rattle.stores.specs.FlushLaws.{IsOldOrSame}
 use Rattle.turns.specs.ShardOpeningLaws.{FailedShardFlushesAreQuiet, RefusedOpeningsStep, put_at}
-use Rattle.turns.specs.FlushLaws.{IsOldOrSame}
 use Rattle.std.proofs.lemmas.Option.{same_Some}
-use Rattle.turns.proofs.Places.{stand_for_itself}
+use Rattle.stores.proofs.Places.{stand_for_itself}
+use Rattle.stores.proofs.ShardFlush.{shard_flushes_stand}
 use Rattle.turns.proofs.RefusedOpening.{refused_shards_stand}
-use Rattle.turns.proofs.ShardFlush.{shard_flushes_stand}
 use Rattle.turns.proofs.ShardOpeningSeam.{left_elsewhere, to_shard, was_left}
 use Rattle.turns.proofs.ShardSeam.{put_elsewhere, put_here}
+use Rattle.device.proofs.States.{revived_reads}
 
 -- this moment of a device is one of those since an earlier one
 abbrev CountsNow : {D : Type 0} → (D → State) → (D → Type 0) → (D → ℕ) → (D → ℕ → List ℕ → Type 0) → Type 0
 CountsNow {D} state honest moment left_since = (d : D) (t : ℕ) (c : List ℕ) → honest d → t ≤ moment d → device_left (state d) c → left_since d t c
-
--- a device that was revived is left with what it reads as
-revived_reads : (old new : State) → Revived old new → (c : List ℕ) → device_left new c → c ≡ new.seen
-revived_reads old new r c leaves = leaves_nothing_else new.durable c (subst (λ (w : List (ℕ × ℕ)). Leaves new.durable w c) r.written leaves) ∙ r.durable
 
 module _ {D : Type 0} (state : D → State) (honest : D → Type 0) (moment : D → ℕ) (left_since : D → ℕ → List ℕ → Type 0) (counts_now : CountsNow state honest moment left_since) (store shards : ℕ) where
   pub failed_shard_flushes_are_quiet : FailedShardFlushesAreQuiet state honest moment left_since store shards

@@ -1,11 +1,11 @@
 -- A flush of a shard is a turn of a run, which ends the flow that asked for it.
 use Rattle.std.proofs.Common.{◌≡◌, ◌≢◌, inl, inr, ℕ, ◌<◌, ◌⊎◌, false, List, [], ◌∷◌, ◌++◌, Option, Some, Contains, refl, sym, ap, subst, arith}
 use Rattle.std.proofs.lemmas.List.Elements.{All-nil}
+use Rattle.stores.proofs.FlowEnds.{flows_end}
+use Rattle.stores.proofs.ShardFlush.{shard_flushes_stand}
+use Rattle.stores.proofs.ShardStages.{is_shard}
 use Rattle.turns.proofs.Words.{Agrees, Asked, Calls, Down, FlushesShard, HasItsCause, IsHorizonIn, IsQuiet, IsTurned, MayRise, Moment, NodeName, Nodes, Record, Refusal, Running, Stands, Turns, Unsure, answered, coordinator, done, down, ended, is_write, refuses, shard, to_flush, up, with_nodes}
-use Rattle.turns.specs.FlushLaws.{ShardFlushesAnswer}
-use Rattle.turns.proofs.FlowEnds.{flows_end}
-use Rattle.turns.proofs.ShardFlush.{shard_flushes_stand}
-use Rattle.turns.proofs.ShardStages.{is_shard}
+use Rattle.turns.specs.FlushTurns.{ShardFlushesAnswer}
 
 module _ (store shards : ℕ) (left after : NodeName → List Record → Type 0) (now : Moment) (next : Nodes) (s : ℕ) (r : Running) (st : Stands store shards left now) (in_store : s < shards) (flush : FlushesShard s left after now.nodes next)
     (there : Contains now.running r) (asked : r.asked ≡ to_flush (shard s)) (goes_on : r.is_cancelled ≡ false) where

@@ -1,29 +1,28 @@
 -- What a shard's own contracts of learning, of a drop and of a collection say makes turns of a run.
-use Rattle.std.proofs.Common.{◌≡◌, ◌≢◌, ◌⊎◌, inl, inr, ⊎_elim, ℕ, ◌≤◌, ◌<◌, ◌+◌, ◌-◌, Bool, true, List, [], ◌∷◌, ◌++◌, length, drop, take, Option, Some, None, refl, sym, ◌∙◌, ap, subst, arith, append_assoc}
-use Rattle.std.specs.Option.{is_some}
+use Rattle.std.proofs.Common.{◌≡◌, ◌≢◌, ◌⊎◌, inl, inr, ⊎_elim, ℕ, ◌≤◌, ◌<◌, ◌+◌, ◌-◌, Bool, List, [], ◌++◌, length, drop, take, Option, Some, None, refl, sym, ◌∙◌, ap, subst, arith}
 use Rattle.std.proofs.lemmas.Bool.{cases_lt}
-use Rattle.std.proofs.lemmas.List.{append-nil, drop-drop, drop-take}
-use Rattle.turns.proofs.Words.{AreOfLog, Asked, BatchValue, CallsShard, Decision, Dropped, Entry, Epoch, Full, HasItsCause, HasNoRoom, Holds, Horizon, Identity, IfHeld, IsFull, IsQuietCall, IsRecord, IsRight, IsRightBatch, IsRightResolve, IsRightVerdict, IsRightWrite, IsShardImage, IsToLearn, IsUp, Learned, LetsLearn, Machine, MayCome, Moment, NoMemory, NodeName, Prepare, Record, Refusal, Running, ShardIsSeen, ShardState, ShardView, Stages, Stands, State, Unsure, WriteId, behind_shard, checking, collecting, find_in_doubt, flushing, id_of, learns, memory, placed_ids_from, raising, reading, resolving, shard, shard_node, shard_push, to_check, to_collect, to_flush, to_learn, to_raise, to_read, to_resolve, to_watch, to_write, watching, with_call, with_nodes, writing}
+use Rattle.std.proofs.lemmas.List.{drop-drop, drop-take}
+use Rattle.turns.proofs.Words.{AreOfLog, Asked, BatchValue, CallsShard, Decision, Dropped, Entry, Epoch, Full, HasItsCause, Holds, Horizon, Identity, IfHeld, IsFull, IsQuietCall, IsRecord, IsRight, IsRightBatch, IsRightResolve, IsRightVerdict, IsRightWrite, IsShardImage, IsToLearn, IsUp, Learned, LetsLearn, Machine, MayCome, Moment, NoMemory, NodeName, Prepare, Record, Refusal, Running, ShardIsSeen, ShardState, ShardView, Stages, Stands, State, Unsure, WriteId, behind_shard, checking, collecting, find_in_doubt, flushing, id_of, learns, memory, placed_ids_from, raising, reading, resolving, shard, shard_node, to_check, to_collect, to_flush, to_learn, to_raise, to_read, to_resolve, to_watch, to_write, watching, with_call, with_nodes, writing}
 use Rattle.refusal.specs.declared.refusal.Refusal.TheVariants.{Damaged}
 use Rattle.records.specs.Replays.{greatest_number, shard_state, shard_step}
 use Rattle.records.specs.declared.record.Record.TheVariants.{Checkpoint}
 use Rattle.records.specs.Replays.{MayComeInside}
 use Rattle.records.specs.declared.mark.Inside.{Inside}
 use Rattle.replay.proofs.States.{image_keeps}
-use Rattle.gated.specs.Gated.{max_body}
-use Rattle.journal.specs.Records.{batch_size, max_records}
 use Rattle.shard.specs.Calls.{CollectsAt, DropsAt, LearnRefused, LearnsAt}
 use Rattle.shard.specs.Shards.{AreLearnable, learning, unlearned}
 use Rattle.shard.proofs.Given.{given_image}
 use Rattle.shard.proofs.Parts.{all_prepared, learned_spelled}
-use Rattle.turns.specs.Causes.{HasFullBatch, Stages as MayStage}
+use Rattle.stores.specs.Causes.{HasFullBatch, Stages as MayStage}
 use Rattle.turns.specs.QuietTurns.{batch_of}
 use Rattle.turns.specs.ShardSeamLaws.{CollectTurns, DropTurns, LearnTurns, RefusedCollectsHaveCause, RefusedLearnsHaveCause, ResolvedDropTurns}
 use Rattle.turns.proofs.AnswerTurns.{collects_end}
-use Rattle.turns.proofs.Batches.{batches_meet_prepares}
+use Rattle.stores.proofs.Batches.{batches_meet_prepares}
 use Rattle.turns.proofs.QuietTurns.{lets_take_memory, quiet_calls_keep, quiet_calls_turn, writes_spend}
 use Rattle.turns.proofs.ShardSeam.{knows, seen_after, staged_quietly, staging, unchanged}
-use Rattle.turns.proofs.ShardStagesSteps.{collects_stand, drops_stand, learns_stand}
+use Rattle.stores.proofs.ShardStagesSteps.{collects_stand, drops_stand, learns_stand}
+use Rattle.tuples.proofs.Options.{none_or_some}
+use Rattle.journal.proofs.Staged.{room_or_none}
 
 -- decisions on their way that a flow holds are right
 batch_right : (shards : ℕ) (left : NodeName → List Record → Type 0) (now : Moment) (r : Running) (asked : Asked) (h : Holds) → IsRight shards left now r asked h → IfHeld (batch_of h) (IsRightBatch now.machine)
@@ -70,19 +69,6 @@ is_to_learn shards s m known b right low high = record {
   kept = (let kept = right.kept in let within = right.within in omega (arith, kept, within));
   placed = ap (placed_ids_from shards s ((shard_state known).learned + 1)) (behind_place m.log b.writes b.from (shard_state known).learned right.writes low (omega (arith, high)));
 }
-
-has_room : (staged : List Record) (r : Record) → HasNoRoom staged r ⊎ (HasNoRoom staged r → ⊥)
-has_room staged r = ⊎_elim
-    (λ few. ⊎_elim
-    (λ long. inl (inr long))
-    (λ short. inr (λ full. ⊎_elim (λ many. omega (arith, few, many)) (λ long. omega (arith, short, long)) full))
-    (cases_lt max_body (batch_size (staged ++ r ∷ []))))
-    (λ many. inl (inl many))
-    (cases_lt (length staged) max_records)
-
-found_or_not : {X : Type 0} (o : Option X) → (o ≡ None) ⊎ (is_some o ≡ true)
-found_or_not None = inl refl
-found_or_not (Some x) = inr refl
 
 module _ (store shards : ℕ) (left : NodeName → List Record → Type 0) {D : Type 0} (state : D → State) (honest : D → Type 0) (now : Moment) (old : ShardView D) (s : ℕ) (r : Running)
     (st : Stands store shards left now) (seen : ShardIsSeen store shards s now.nodes old) where
@@ -164,8 +150,8 @@ module _ (store shards : ℕ) (left : NodeName → List Record → Type 0) {D : 
       (λ there. ⊎_elim
       (λ full. unchanged store shards left now old s seen new st (call.full full))
       (λ room. dropped (call.dropped there room))
-      (has_room old.staged (Dropped id)))
-      (found_or_not (find_in_doubt id (memory old).in_doubt))
+      (room_or_none old.staged (Dropped id)))
+      (none_or_some (find_in_doubt id (memory old).in_doubt))
     where
       dropped : Stages old (Dropped id) new × IsUp state honest new → ShardIsSeen store shards s (behind_shard s now.nodes new) new × IsQuietCall store shards left left now (behind_shard s now.nodes new) now.machine
       dropped ok = (

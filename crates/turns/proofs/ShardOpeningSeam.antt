@@ -4,10 +4,10 @@ use Rattle.std.proofs.lemmas.List.{append-nil}
 use Rattle.std.proofs.lemmas.List.Elements.{All-nil}
 use Rattle.turns.proofs.Words.{AreRevived, Epoch, Finds, FlushesShard, HasFailed, Identity, IsHorizonIn, IsQuiet, IsShardImage, IsUp, MayRise, Moment, NodeName, Nodes, OpensShard, Record, ShardView, StandFor, Stands, State, behind_shard, device_left, found, opening, shard, shard_node, shard_state, stops, up}
 use Rattle.shard.specs.Shards.{IsOpenedShard}
+use Rattle.stores.proofs.ShardFlush.{shard_flushes_stand}
+use Rattle.stores.proofs.ShardOpening.{shard_openings_stand}
 use Rattle.turns.specs.ShardOpeningLaws.{FailedShardsHaveCause, FullShardsWereOpened, IsOver, NoShardIsDamaged, ShardFlushesAreQuiet, ShardOpeningsStep}
 use Rattle.turns.proofs.RefusedOpening.{shard_openings_restart}
-use Rattle.turns.proofs.ShardFlush.{shard_flushes_stand}
-use Rattle.turns.proofs.ShardOpening.{shard_openings_stand}
 use Rattle.turns.proofs.ShardPrepareSeam.{last_sync}
 use Rattle.turns.proofs.ShardSeam.{elsewhere, here}
 

@@ -1,34 +1,25 @@
 -- What a shard's own contracts of a prepare and of a vote say makes turns of a run.
-use Rattle.std.proofs.Common.{◌≡◌, ◌⊎◌, inl, inr, ⊎_elim, ℕ, ◌≤◌, ◌<◌, true, List, [], ◌∷◌, ◌++◌, length, Option, Some, None, Contains, All, refl, sym, ◌∙◌, ap, subst, arith}
-use Rattle.std.specs.Option.{is_some}
+use Rattle.std.proofs.Common.{◌≡◌, ◌⊎◌, inl, inr, ⊎_elim, ℕ, ◌<◌, true, List, [], ◌∷◌, ◌++◌, length, Option, Some, None, Contains, All, refl, sym, ◌∙◌, ap, subst, arith}
 use Rattle.std.proofs.lemmas.List.Elements.{All-append, All-cons, All-contains, All-nil, Contains-append_left, Contains-append_right}
 use Rattle.turns.proofs.Words.{AskBelow, Asked, Entry, HasItsCause, HasNoRoom, HeldTicket, HeldVote, Holds, HoldsLess, HoldsOf, Identity, IntentValue, IsCause, IsCutOff, IsPreparing, IsRight, IsRightTicket, IsRightVote, IsRightWrite, IsUp, Moment, NodeName, Nodes, Prepare, Record, Refusal, Running, ShardIsSeen, ShardKnows, ShardState, ShardView, Stages, Stands, StandsAndTurns, State, TakesMemory, WriteHolds, WriteId, behind_shard, device_left, find_in_doubt, find_put_same, going_on, id_of, leaves, memory, onward, outward, own_part, own_write, part, shard, shard_state, takes_part, with_call, with_nodes, writing}
 use Rattle.refusal.specs.declared.refusal.Refusal.TheVariants.{Aborted}
 use Rattle.records.specs.Replays.{shard_step}
-use Rattle.device.specs.Device.{reach}
+use Rattle.device.proofs.History.{reach_least}
 use Rattle.decisions.specs.Values.{IsIntent, TicketValue, VoteValue}
 use Rattle.shard.specs.Calls.{PrepareRefused, PreparesAt, VotesAt}
 use Rattle.shard.specs.Shards.{IsBroken, IsBusy, IsPreparable}
 use Rattle.shard.proofs.Tested.{part_prepared, same_part_id}
 use Rattle.turns.specs.ShardSeamLaws.{IsHolder, IsOfPrepare, PrepareTurns, RefusedPrepareTurns, RefusedVoteTurns, VoteTurns, held_ticket}
-use Rattle.turns.proofs.AbortCauses.{refused_tickets}
-use Rattle.turns.proofs.PrepareTurn.{broken_shards_have_cause, busy_shards_have_cause, collected_shards_have_cause, full_shards_have_cause, prepared_conditions_are_met}
-use Rattle.turns.proofs.FlowBegins.{alone}
+use Rattle.stores.proofs.AbortCauses.{refused_tickets}
+use Rattle.stores.proofs.PrepareTurn.{broken_shards_have_cause, busy_shards_have_cause, collected_shards_have_cause, full_shards_have_cause, prepared_conditions_are_met}
+use Rattle.stores.proofs.FlowBegins.{alone}
 use Rattle.turns.proofs.QuietTurns.{all_of, nothing_changes, of_node, quiet_calls_turn, refused_writes_go_out, staged_and_goes_on}
 use Rattle.turns.proofs.ShardSeam.{known_left, knows, left_or_known, memory_after, own_is, same_epoch, seen_after, staging, step}
-use Rattle.turns.proofs.ShardStagesSteps.{prepares_stand}
-
--- the last sync is among what a stop may leave
-reach_least : (written : List (ℕ × ℕ)) (n : ℕ) → n ≤ reach written n
-reach_least [] n = omega arith
-reach_least (x ∷ written) n = omega (arith, reach_least written n)
+use Rattle.stores.proofs.ShardStagesSteps.{prepares_stand}
+use Rattle.tuples.proofs.Options.{some_value}
 
 pub last_sync : (d : State) → device_left d d.durable
 last_sync d = record { no_shorter = omega arith; no_longer = reach_least d.written (length d.durable); same = λ i lt un. refl }
-
-some_value : {X : Type 0} (o : Option X) → is_some o ≡ true → (x : X) × (o ≡ Some x)
-some_value None is = absurd cc
-some_value (Some x) is = (x, refl)
 
 -- a write flow with other tickets and votes of its write, all of them right, and of each shard of which it held some
 holder_right : (shards : ℕ) (left : NodeName → List Record → Type 0) (at : Moment) (r : Running) (h : WriteHolds) (w : Entry) (holds : Holds) (m : Moment) (tickets : List HeldTicket) (votes : List HeldVote)

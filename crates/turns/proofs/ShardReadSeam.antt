@@ -4,11 +4,11 @@ use Rattle.std.proofs.lemmas.List.Elements.{All-append, All-cons, All-nil, Conta
 use Rattle.turns.proofs.Words.{Asked, Collected, Entry, Freshness, HasItsCause, Holds, Identity, IsAsWanted, IsBelow, IsRight, IsRightRaise, IsRightRead, IsRightSettled, IsSelection, IsSettled, Moment, NoMemory, NodeName, RaiseHolds, ReadHolds, Record, Running, ShardIsSeen, ShardView, Stands, StandsAndTurns, State, TakesMemory, Tuple, Tupleset, Unsure, WantsBelow, WasGiven, WriteId, at_least, coordinator, exact, id_of, latest, memory, place_of, raising, reading, shard, there_of, to_raise, to_read, with_call}
 use Rattle.shard.specs.Calls.{ReadsAt}
 use Rattle.shard.specs.Shards.{ids}
+use Rattle.stores.proofs.Batches.{known_means, shards_settle}
+use Rattle.stores.proofs.FlowBegins.{alone}
+use Rattle.stores.proofs.ReadAnswer.{all_replies_select, reads_finish, reads_go_on_all}
 use Rattle.turns.specs.ShardSeamLaws.{ReadOneTurns, ReadTurns, RefusedReadsHaveCause, SettleTurns, ToldDoubtsAreGiven}
-use Rattle.turns.proofs.Batches.{known_means, shards_settle}
-use Rattle.turns.proofs.FlowBegins.{alone}
 use Rattle.turns.proofs.QuietTurns.{nothing_changes, quiet_calls_turn}
-use Rattle.turns.proofs.ReadAnswer.{all_replies_select, reads_finish, reads_go_on_all}
 use Rattle.laws.proofs.ReadRows.{one_shard_is_enough}
 use Rattle.turns.proofs.SeesOn.{sees_on}
 use Rattle.turns.proofs.ShardSeam.{known_left, knows}

@@ -2,30 +2,16 @@
 use Rattle.std.proofs.Common.{◌≡◌, ◌≢◌, ◌⊎◌, inl, inr, ⊎_elim, ◌==◌, ◌++◌, ℕ, false, List, [], ◌∷◌, Contains, refl, sym, ◌∙◌, ap, subst, append_assoc, if◌then◌else◌}
 use Rattle.std.proofs.Math.Path.{fun_ext}
 use Rattle.std.proofs.lemmas.Bool.{cases_Bool, eq-eqb, eqb-true}
-use Rattle.std.proofs.lemmas.List.Elements.{Contains-append_right}
-use Rattle.turns.proofs.Words.{Decision, Dropped, Entry, Epoch, Horizon, Identity, IsQuietCall, IsShardImage, IsStaging, Learned, Moment, NodeName, NodeState, Nodes, Prepare, Record, ShardIsSeen, ShardKnows, ShardState, ShardView, Stages, StagesAt, Stands, behind_shard, coordinator, empty_shard, leaves, memory, own_part, part, shard, shard_from, shard_from-append, shard_node, shard_push, staged_of, up, with_nodes}
+use Rattle.turns.proofs.Words.{Entry, Epoch, Identity, IsQuietCall, IsShardImage, IsStaging, Moment, NodeName, NodeState, Nodes, Record, ShardIsSeen, ShardKnows, ShardState, ShardView, Stages, StagesAt, Stands, behind_shard, coordinator, empty_shard, leaves, memory, own_part, part, shard, shard_from, shard_from-append, shard_node, shard_push, staged_of, up, with_nodes}
 use Rattle.records.specs.Replays.{shard_state, shard_step}
-use Rattle.records.specs.declared.record.Record.TheVariants.{Checkpoint}
 use Rattle.turns.specs.ShardSeamLaws.{at_shard}
-use Rattle.turns.proofs.FlowBegins.{alone}
 use Rattle.turns.proofs.QuietTurns.{nothing_changes, one_more_staged}
-use Rattle.turns.proofs.ShardStages.{durable_in}
-
--- records without an opening leave the epoch as it was
-epoch_from : (s : ShardState) (rs : List Record) → ((e a b c : ℕ) → Contains rs (Epoch e a b c) → ⊥) → (shard_from s rs).epoch ≡ s.epoch
-unfolding shard_step
-epoch_from s [] none = refl
-epoch_from s (Prepare w ∷ rs) none = epoch_from (shard_step s (Prepare w)) rs (λ e a b c has. none e a b c (Contains-append_right (Prepare w ∷ []) rs (Epoch e a b c) has))
-epoch_from s (Learned to ids ∷ rs) none = epoch_from (shard_step s (Learned to ids)) rs (λ e a b c has. none e a b c (Contains-append_right (Learned to ids ∷ []) rs (Epoch e a b c) has))
-epoch_from s (Dropped id ∷ rs) none = epoch_from (shard_step s (Dropped id)) rs (λ e a b c has. none e a b c (Contains-append_right (Dropped id ∷ []) rs (Epoch e a b c) has))
-epoch_from s (Epoch x y z u ∷ rs) none = absurd (none x y z u (alone (Epoch x y z u) rs))
-epoch_from s (Decision place w ∷ rs) none = epoch_from (shard_step s (Decision place w)) rs (λ e a b c has. none e a b c (Contains-append_right (Decision place w ∷ []) rs (Epoch e a b c) has))
-epoch_from s (Checkpoint mark ∷ rs) none = epoch_from (shard_step s (Checkpoint mark)) rs (λ e a b c has. none e a b c (Contains-append_right (Checkpoint mark ∷ []) rs (Epoch e a b c) has))
-epoch_from s (Horizon place ∷ rs) none = epoch_from (shard_step s (Horizon place)) rs (λ e a b c has. none e a b c (Contains-append_right (Horizon place ∷ []) rs (Epoch e a b c) has))
+use Rattle.stores.proofs.ShardStages.{durable_in}
+use Rattle.stores.proofs.ShardFlush.{epoch_stays}
 
 pub same_epoch : (durable staged : List Record) → ((e a b c : ℕ) → Contains staged (Epoch e a b c) → ⊥) → (shard_state (durable ++ staged)).epoch ≡ (shard_state durable).epoch
 unfolding shard_state
-same_epoch durable staged none = ap (λ (s : ShardState). s.epoch) (shard_from-append empty_shard durable staged) ∙ epoch_from (shard_from empty_shard durable) staged none
+same_epoch durable staged none = ap (λ (s : ShardState). s.epoch) (shard_from-append empty_shard durable staged) ∙ epoch_stays (shard_from empty_shard durable) staged none
 
 -- shard s has the state that was put there, and the other nodes what they had
 module _ (s : ℕ) (state : NodeState) (at : NodeName → NodeState) where

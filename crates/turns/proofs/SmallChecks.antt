@@ -3,7 +3,7 @@ use Rattle.std.proofs.Common.{◌≡◌, inr, ⊎_elim, ℕ, List, [], ◌∷◌
 use Rattle.std.proofs.lemmas.Option.{slice_get_within}
 use Rattle.turns.proofs.Words.{AreOnce, AsksAbove, AsksBelow, CheckHolds, HeadsValue, Set, Tuple, User, Userset, Walks, at_least, exact, holding, latest, to_raise, to_watch}
 use Rattle.turns.specs.CoordinatorSeamLaws.{FindsPlace}
-use Rattle.turns.proofs.FlowBegins.{among}
+use Rattle.tuples.proofs.Lists.{first_or_later}
 
 -- g:x#m, for a byte x
 abbrev userset : ℕ → Userset
@@ -26,7 +26,7 @@ abbrev rows : List Tuple
 rows = holding a (Set b) ∷ []
 
 only : {X : Type 0} (x y : X) → Contains (x ∷ []) y → y ≡ x
-only x y has = ⊎_elim (λ is. sym is) (λ never. absurd (omega (arith, never.1))) (among x y [] has)
+only x y has = ⊎_elim (λ is. sym is) (λ never. absurd (omega (arith, never.1))) (first_or_later x y [] has)
 
 none : {X : Type 0} (y : X) → Contains [] y → ⊥
 none y has = omega (arith, has.1)

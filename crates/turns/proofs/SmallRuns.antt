@@ -6,7 +6,7 @@ use Rattle.turns.proofs.Words.{Agrees, Asked, IsQuiet, IsRun, Machine, Makes, Ma
 use Rattle.tuples.specs.declared.change.Change.TheVariants.{Delete}
 use Rattle.tuples.specs.Watching.{events}
 use Rattle.tuples.proofs.Examples.{doc}
-use Rattle.turns.specs.Replies.{listed}
+use Rattle.stores.specs.Replies.{listed}
 
 -- three writes, of which two are kept
 abbrev pub two_kept : Machine

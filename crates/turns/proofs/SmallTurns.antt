@@ -3,9 +3,9 @@ use Rattle.std.proofs.Common.{◌≡◌, ℕ, ◌<◌, false, [], ◌∷◌, ref
 use Rattle.records.specs.Replays.{shard_state, shard_step}
 use Rattle.turns.proofs.Words.{ShardView, Stands, StandsAndTurns, State, begun, only_opened, opened, opened_nodes, opening_of, raising, shard, shard_node, to_raise, with_call, with_flow}
 use Rattle.decisions.specs.Values.{SettledValue}
-use Rattle.turns.specs.Flows.{nothing_raised}
-use Rattle.turns.proofs.FlowBegins.{alone, flows_begin}
-use Rattle.turns.proofs.NewStore.{stands}
+use Rattle.stores.specs.Flows.{nothing_raised}
+use Rattle.stores.proofs.FlowBegins.{alone, flows_begin}
+use Rattle.stores.proofs.NewStore.{stands}
 use Rattle.turns.proofs.ShardReadSeam.{settle_turns}
 
 module _ {D : Type 0} (state : D → State) (honest : D → Type 0) (device : D) (store shards s : ℕ) (there : s < shards) where

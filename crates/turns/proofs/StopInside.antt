@@ -4,7 +4,7 @@ use Rattle.turns.proofs.Words.{IsReopenedCoordinator, IsReopenedShard, Means, No
 use Rattle.std.specs.Prelude.{ℕ}
 use Rattle.turns.specs.RestartLaws.{StopsWithinSteps}
 use Rattle.laws.proofs.CoordinatorSteps.{opened_means}
-use Rattle.turns.proofs.Places.{IsInPlace, MeansAsBefore, each_in_place, opened_place, still_in_place, still_means}
+use Rattle.stores.proofs.Places.{IsInPlace, MeansAsBefore, each_in_place, opened_place, still_in_place, still_means}
 
 module _ (store shards : ℕ) (left : NodeName → List Record → Type 0) (nodes : Nodes) where
   pub opened_in_place : (s : ℕ) (rs : List Record) → IsReopenedShard store shards s left rs → IsInPlace store shards left nodes s rs

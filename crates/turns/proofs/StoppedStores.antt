@@ -4,11 +4,11 @@ use Rattle.std.proofs.lemmas.List.{length-take-le, take_all}
 use Rattle.turns.proofs.Words.{AreSound, Entry, IsGivenOut, IsThere, IsUnlistedAbove, Machine, Means, NodeName, Record, State, StopsBetween, WriteId, at_shards, coordinator, coordinator_state, found, log_taken, shard, shard_state, slice_get_taken, stops}
 use Rattle.laws.specs.Stops.{MeansOne}
 use Rattle.laws.specs.Worlds.{IsLog}
+use Rattle.stores.specs.Stores.{IsToldOver, RestsOver}
+use Rattle.stores.proofs.ShardStagesStands.{contained_at}
 use Rattle.turns.specs.Promises.{stops_since}
 use Rattle.turns.specs.StoreLaws.{IsStopOf, IsStopped}
-use Rattle.turns.specs.Stores.{IsToldOver, RestsOver}
 use Rattle.turns.proofs.ClosedStoreRests.{means_lower}
-use Rattle.turns.proofs.ShardStagesStands.{contained_at}
 
 module _ {D : Type 0} (state : D → State) (honest : D → Type 0) (moment : D → ℕ) (left_since : D → ℕ → List ℕ → Type 0) (store shards : ℕ)
     (old new stopped : NodeName → D × D) (before after : Machine) (between : StopsBetween state honest moment left_since store shards old new before after)

@@ -5,10 +5,10 @@ use Rattle.turns.proofs.Words.{ComesUp, Entry, Epoch, HasSeenBelow, IsBusy, IsQu
 use Rattle.tuples.specs.Parts.{expected, part, shard_of, takes_part}
 use Rattle.records.specs.Coordinators.{coordinator_state}
 use Rattle.records.specs.Replays.{shard_state, shard_step}
-use Rattle.turns.specs.Flows.{nothing_begun}
+use Rattle.stores.specs.Flows.{nothing_begun}
+use Rattle.stores.specs.Stores.{ShowsFlow}
 use Rattle.turns.specs.Promises.{HasDeviceCause}
 use Rattle.turns.specs.Reopens.{IsOpened}
-use Rattle.turns.specs.Stores.{ShowsFlow}
 use Rattle.std.proofs.lemmas.List.{length_push}
 use Rattle.turns.proofs.SmallRuns.{two_kept}
 

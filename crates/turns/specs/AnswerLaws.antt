@@ -19,15 +19,15 @@ use Rattle.decisions.specs.Standing.{HeadsValue}
 use Rattle.decisions.specs.Values.{BatchValue}
 use Rattle.laws.specs.Machines.{Machine}
 use Rattle.laws.specs.Nodes.{NodeName, Nodes, ShardKnows, coordinator}
-use Rattle.turns.specs.Causes.{Calls, HasItsCause}
-use Rattle.turns.specs.Flows.{CheckHolds, Freshness, RaiseHolds, ReadHolds, Resolved, WriteHolds, outward, raising, to_check, to_collect, to_learn, to_raise, to_read, to_resolve, to_watch, to_write, writing}
-use Rattle.turns.specs.FlushLaws.{FailsFlush, FlushesCoordinator, all_kept}
-use Rattle.turns.specs.Held.{AreRightHeads, IsRightBatch, IsRightCheck, IsRightRead, IsRightResolved}
-use Rattle.turns.specs.Moments.{Moment, Running}
+use Rattle.stores.specs.Causes.{Calls, HasItsCause}
+use Rattle.stores.specs.Flows.{CheckHolds, Freshness, RaiseHolds, ReadHolds, Resolved, WriteHolds, outward, raising, to_check, to_collect, to_learn, to_raise, to_read, to_resolve, to_watch, to_write, writing}
+use Rattle.stores.specs.FlushLaws.{FailsFlush, FlushesCoordinator, all_kept}
+use Rattle.stores.specs.Held.{AreRightHeads, IsRightBatch, IsRightCheck, IsRightRead, IsRightResolved}
+use Rattle.stores.specs.Moments.{Moment, Running}
+use Rattle.stores.specs.Replies.{Answer, checked, done, listed, resolved, selected}
+use Rattle.stores.specs.Stands.{IsHorizonIn, Stands}
 use Rattle.turns.specs.QuietTurns.{IsQuietCall, behind_call, ending, with_call}
-use Rattle.turns.specs.Replies.{Answer, checked, done, listed, resolved, selected}
 use Rattle.turns.specs.Runs.{Turns, answered, refuses, told_by}
-use Rattle.turns.specs.Stands.{IsHorizonIn, Stands}
 
 -- the flow that has seen one machine more
 abbrev pub having_seen : Running → Machine → Running

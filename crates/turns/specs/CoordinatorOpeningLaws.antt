@@ -12,15 +12,15 @@ use Rattle.journal.specs.Records.{LeavesBoth, LeavesEach, found}
 use Rattle.decisions.specs.Coordinators.{CoordinatorView, IsOpenedCoordinator, IsRunning, KeepsOpen, WasLeftOrReopened}
 use Rattle.laws.specs.Nodes.{IsOfRefusedOpening, NodeName, Nodes, StandFor, coordinator, down, epoch_of, refused}
 use Rattle.laws.specs.Worlds.{Rests, coordinator_node}
-use Rattle.turns.specs.FlushLaws.{FailsFlush, FlushesCoordinator, HasOldOrSame}
-use Rattle.turns.specs.Moments.{Moment}
+use Rattle.stores.specs.FlushLaws.{FailsFlush, FlushesCoordinator, HasOldOrSame}
+use Rattle.stores.specs.Moments.{Moment}
+use Rattle.stores.specs.Stands.{IsHorizonIn, Stands, at_shards}
+use Rattle.stores.specs.Stores.{stops}
 use Rattle.turns.specs.Promises.{ComesUp, HasDeviceCause}
 use Rattle.turns.specs.RestartLaws.{cut_to, with_restart}
 use Rattle.turns.specs.Runs.{Restarts, came_up, refuses}
 use Rattle.turns.specs.SeamLaws.{IsSeen, at_coordinator, behind}
 use Rattle.turns.specs.ShardOpeningLaws.{AreRevived}
-use Rattle.turns.specs.Stands.{IsHorizonIn, Stands, at_shards}
-use Rattle.turns.specs.Stores.{stops}
 
 -- a coordinator that was just opened has staged nothing, and has no open write
 pub record IsFresh {D : Type 0} (v : CoordinatorView D) : Type 0 where

@@ -18,16 +18,16 @@ use Rattle.decisions.specs.Coordinators.{BatchesAt, CoordinatorView, FindsAt, Fi
 use Rattle.decisions.specs.Standing.{DecidedValue, HeadsValue}
 use Rattle.decisions.specs.Values.{BatchValue, IntentValue}
 use Rattle.laws.specs.Nodes.{CoordinatorKnows, NodeName, Nodes, coordinator}
-use Rattle.turns.specs.AbortLaws.{IsUndecidedFlow}
-use Rattle.turns.specs.Causes.{IsCause, WantsFuture}
-use Rattle.turns.specs.Flows.{Asked, Freshness, Holds, RaiseHolds, ResolveHolds, Resolved, WriteHolds, aborted, at_least, checking, collecting, committed, exact, flushing, id_of, latest, learning, raising, reading, resolving, to_check, to_raise, to_read, to_resolve, to_watch, to_write, undecided, watching, writing}
-use Rattle.turns.specs.Held.{AreRightHeads, IsRightBatch, IsRightResolved, IsRightVerdict}
-use Rattle.turns.specs.Moments.{Moment, Running}
+use Rattle.stores.specs.AbortLaws.{IsUndecidedFlow}
+use Rattle.stores.specs.Causes.{IsCause, WantsFuture}
+use Rattle.stores.specs.Flows.{Asked, Freshness, Holds, RaiseHolds, ResolveHolds, Resolved, WriteHolds, aborted, at_least, checking, collecting, committed, exact, flushing, id_of, latest, learning, raising, reading, resolving, to_check, to_raise, to_read, to_resolve, to_watch, to_write, undecided, watching, writing}
+use Rattle.stores.specs.Held.{AreRightHeads, IsRightBatch, IsRightResolved, IsRightVerdict}
+use Rattle.stores.specs.Moments.{Moment, Running}
+use Rattle.stores.specs.Replies.{IsPlaceOf, wrote}
+use Rattle.stores.specs.Stands.{IsHorizonIn, Stands}
 use Rattle.turns.specs.QuietTurns.{IsAway, ending, going_on, with_batch, with_call}
-use Rattle.turns.specs.Replies.{IsPlaceOf, wrote}
 use Rattle.turns.specs.Runs.{Turns, answered, refuses}
 use Rattle.turns.specs.SeamLaws.{IsSeen, behind, told_unless}
-use Rattle.turns.specs.Stands.{IsHorizonIn, Stands}
 
 -- what the flow holds, with these heads, if it asks for any
 abbrev pub with_heads : HeadsValue → Holds → Holds

@@ -11,10 +11,10 @@ use Rattle.journal.specs.Records.{Finds, found}
 use Rattle.laws.specs.Machines.{Machine}
 use Rattle.laws.specs.Nodes.{IsThere, NodeName, NodeState, coordinator, down, epoch_of, opening_record, refused, up}
 use Rattle.laws.specs.Stops.{RestsBetween}
-use Rattle.turns.specs.Moments.{Moment}
+use Rattle.stores.specs.Moments.{Moment}
+use Rattle.stores.specs.Stands.{at_shards}
+use Rattle.stores.specs.Stores.{NamesHorizon, StandsOver, Store, stops}
 use Rattle.turns.specs.Runs.{Event, Step, Takes, Told, restart}
-use Rattle.turns.specs.Stands.{at_shards}
-use Rattle.turns.specs.Stores.{NamesHorizon, StandsOver, Store, stops}
 
 -- the events of one step, under its number
 abbrev pub events_of : ℕ → List Told → List Event

@@ -10,14 +10,14 @@ use Rattle.records.specs.declared.record.Record.{Record}
 use Rattle.decisions.specs.Values.{BatchValue, IntentValue}
 use Rattle.laws.specs.Machines.{Machine, Move, Moves}
 use Rattle.laws.specs.Nodes.{NodeName, NodeTurns, Nodes, SameBut, down, refused}
-use Rattle.turns.specs.Causes.{Calls, HasItsCause}
-use Rattle.turns.specs.Flows.{HeldTicket, HeldVote, Holds, WriteHolds, checking, collecting, flushing, id_of, learning, onward, outward, raising, reading, resolving, to_write, watching, writing}
-use Rattle.turns.specs.Held.{IfHeld, IsRight, IsRightBatch, IsRightVerdict}
-use Rattle.turns.specs.Moments.{Moment, Running, ended, is_write, replaced}
-use Rattle.turns.specs.Replies.{Answer, Agrees}
+use Rattle.stores.specs.Causes.{Calls, HasItsCause}
+use Rattle.stores.specs.Flows.{HeldTicket, HeldVote, Holds, WriteHolds, checking, collecting, flushing, id_of, learning, onward, outward, raising, reading, resolving, to_write, watching, writing}
+use Rattle.stores.specs.Held.{IfHeld, IsRight, IsRightBatch, IsRightVerdict}
+use Rattle.stores.specs.Moments.{Moment, Running, ended, is_write, replaced}
+use Rattle.stores.specs.Replies.{Answer, Agrees}
+use Rattle.stores.specs.Stands.{IsHorizonIn, Stands}
 use Rattle.turns.specs.Runs.{IsQuiet, KeepsOpen, MayRise, Turns, answered, refuses, told_by}
 use Rattle.turns.specs.SeamLaws.{told_unless}
-use Rattle.turns.specs.Stands.{IsHorizonIn, Stands}
 
 -- the moment behind a call, with the flows as they were
 abbrev pub behind_call : Moment → Nodes → Machine → Moment

@@ -4,11 +4,11 @@ use Rattle.records.specs.declared.record.Record.{Record}
 use Rattle.records.specs.Coordinators.{coordinator_state}
 use Rattle.laws.specs.Worlds.{Rests}
 use Rattle.laws.specs.Machines.{Machine, Move, Moves}
-use Rattle.turns.specs.Moments.{Moment}
+use Rattle.stores.specs.Moments.{Moment}
 use Rattle.laws.specs.Nodes.{NodeName, Nodes, coordinator, down, shard}
+use Rattle.stores.specs.Stands.{Stands, at_shards}
 use Rattle.turns.specs.RestartLaws.{cut_to}
 use Rattle.turns.specs.Runs.{IsOfOpening}
-use Rattle.turns.specs.Stands.{Stands, at_shards}
 
 -- all nodes are down
 abbrev pub closed_nodes : Nodes

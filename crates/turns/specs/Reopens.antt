@@ -7,10 +7,10 @@ use Rattle.records.specs.Coordinators.{CoordinatorState, coordinator_state}
 use Rattle.device.specs.Device.{State}
 use Rattle.laws.specs.Machines.{Machine, Move, Moves}
 use Rattle.laws.specs.Nodes.{CoordinatorKnows, IsOfRefusedOpening, IsThere, NodeName, coordinator, refused}
-use Rattle.turns.specs.Moments.{Moment}
+use Rattle.stores.specs.Moments.{Moment}
+use Rattle.stores.specs.Stores.{IsToldOver, RestsOver, StandsOver, Store, stops}
 use Rattle.turns.specs.Promises.{ComesUp, OpensWithCause, StopsBetween}
 use Rattle.turns.specs.Runs.{IsOfOpening}
-use Rattle.turns.specs.Stores.{IsToldOver, RestsOver, StandsOver, Store, stops}
 
 -- Given what a device holds and whether it is honest, how often a stop may have come at it, what a stop since then may have left, and a store's id
 -- and number of shards

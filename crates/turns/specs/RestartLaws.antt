@@ -8,12 +8,12 @@ use Rattle.records.specs.Identity.{coordinator_number}
 use Rattle.records.specs.Replays.{IsShardImage}
 use Rattle.laws.specs.Worlds.{coordinator_node, shard_node}
 use Rattle.laws.specs.Machines.{Machine}
-use Rattle.turns.specs.Moments.{Moment, reopened}
+use Rattle.stores.specs.Moments.{Moment, reopened}
 use Rattle.laws.specs.Nodes.{IsOfRefusedOpening, NodeName, Nodes, SameBut, coordinator, leaves, refused, shard, up}
-use Rattle.turns.specs.OpeningLaws.{OpensShard}
+use Rattle.stores.specs.OpeningLaws.{OpensShard}
+use Rattle.stores.specs.StagingLaws.{with_nodes}
+use Rattle.stores.specs.Stands.{IsHorizonIn, Stands}
 use Rattle.turns.specs.Runs.{Restarts, came_up, refuses}
-use Rattle.turns.specs.StagingLaws.{with_nodes}
-use Rattle.turns.specs.Stands.{IsHorizonIn, Stands}
 use Rattle.laws.specs.Stops.{RestsBetween}
 
 -- records that a stop could leave of the coordinator, with the record of an opening behind them

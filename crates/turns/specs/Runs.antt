@@ -10,10 +10,10 @@ use Rattle.records.specs.Coordinators.{CoordinatorState}
 use Rattle.laws.specs.Machines.{Move, append, keep, cut, raise, Moves}
 use Rattle.laws.specs.Nodes.{CoordinatorKnows, NodeName, coordinator, shard, up, refused, IsOfRefusedOpening, IsThere, Nodes, NodeTurns, SameBut}
 use Rattle.records.specs.Replays.{without}
-use Rattle.turns.specs.Flows.{Asked, IsAsked, id_of, to_write, to_raise, Resolved, committed, aborted, undecided}
-use Rattle.turns.specs.Moments.{Moment, Running, begun, flow_at, replaced, ended, reopened, is_write}
-use Rattle.turns.specs.Replies.{Answer, wrote, selected, checked, listed, resolved, done, Agrees}
-use Rattle.turns.specs.Causes.{HasItsCause}
+use Rattle.stores.specs.Flows.{Asked, IsAsked, id_of, named_by, to_write, Resolved, committed, aborted, undecided}
+use Rattle.stores.specs.Moments.{Moment, Running, begun, flow_at, replaced, ended, reopened, is_write}
+use Rattle.stores.specs.Replies.{Answer, wrote, selected, checked, listed, resolved, done, Agrees}
+use Rattle.stores.specs.Causes.{HasItsCause}
 
 -- one step: begin a flow, make the next call of the flow in a slot, cancel it, or throw a node's memory away and open it again
 pub data Step : Type 0 where
@@ -50,11 +50,6 @@ told_by (selected s rows) = []
 told_by (checked s b) = []
 told_by (listed e events) = []
 told_by done = []
-
--- the place to which a flow is asked to raise the horizon
-abbrev pub named_by : Asked → List ℕ
-named_by (to_raise x) = x ∷ []
-named_by asked = []
 
 -- an opening of the coordinator may keep more of the log, cut it, or raise the horizon to one of these places
 abbrev pub IsOfOpening : (ℕ → Type 0) → Move → Type 0

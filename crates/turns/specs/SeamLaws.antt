@@ -10,14 +10,14 @@ use Rattle.decisions.specs.Coordinators.{AbortsAt, BeginsAt, BeginsRefused, Coor
 use Rattle.decisions.specs.Standing.{DecidedValue}
 use Rattle.decisions.specs.Values.{IntentValue}
 use Rattle.laws.specs.Nodes.{NodeName, NodeState, Nodes, coordinator, shard, up}
-use Rattle.turns.specs.DecidingLaws.{IsDecider, with_decided, with_decision}
-use Rattle.turns.specs.AbortLaws.{IsUndecidedFlow, with_closed, with_verdict}
-use Rattle.turns.specs.Causes.{IsCause}
-use Rattle.turns.specs.FlowLaws.{with_intent, with_open}
-use Rattle.turns.specs.Flows.{WriteHolds, to_write, writing}
-use Rattle.turns.specs.Moments.{Moment, Running, replaced}
+use Rattle.stores.specs.DecidingLaws.{IsDecider, with_decided, with_decision}
+use Rattle.stores.specs.AbortLaws.{IsUndecidedFlow, with_closed, with_verdict}
+use Rattle.stores.specs.Causes.{IsCause}
+use Rattle.stores.specs.FlowLaws.{with_intent, with_open}
+use Rattle.stores.specs.Flows.{WriteHolds, to_write, writing}
+use Rattle.stores.specs.Moments.{Moment, Running, replaced}
+use Rattle.stores.specs.Stands.{IsHorizonIn, Stands}
 use Rattle.turns.specs.Runs.{Told, Turns, goes_on}
-use Rattle.turns.specs.Stands.{IsHorizonIn, Stands}
 
 -- the nodes of a moment are as a coordinator that is up is seen: the entries of the open writes are the moment's alone
 pub record IsSeen {D : Type 0} (nodes : Nodes) (v : CoordinatorView D) : Type 0 where

@@ -12,15 +12,15 @@ use Rattle.tuples.specs.Walking.{IsCheckSelection}
 use Rattle.records.specs.declared.record.Record.{Record}
 use Rattle.shard.specs.Shards.{ShardView, memory}
 use Rattle.laws.specs.Nodes.{NodeName, coordinator, shard}
-use Rattle.turns.specs.Causes.{HasItsCause}
-use Rattle.turns.specs.CheckingLaws.{Walks}
-use Rattle.turns.specs.Flows.{CheckHolds, Freshness, checking, to_check}
-use Rattle.turns.specs.Moments.{Moment, Running}
+use Rattle.stores.specs.Causes.{HasItsCause}
+use Rattle.stores.specs.CheckingLaws.{Walks}
+use Rattle.stores.specs.Flows.{CheckHolds, Freshness, checking, to_check}
+use Rattle.stores.specs.Moments.{Moment, Running}
+use Rattle.stores.specs.Replies.{checked}
+use Rattle.stores.specs.Stands.{IsHorizonIn, Stands}
 use Rattle.turns.specs.QuietTurns.{ending, with_call}
-use Rattle.turns.specs.Replies.{checked}
 use Rattle.turns.specs.Runs.{Turns, answered}
 use Rattle.turns.specs.ShardSeamLaws.{ShardIsSeen, StandsAndTurns}
-use Rattle.turns.specs.Stands.{IsHorizonIn, Stands}
 
 -- read_for_check gives rows, at a place that the shard has learned and that is not below its horizon
 pub record ReadsForCheckAt {D : Type 0} (v : ShardView D) (place : ℕ) (y : Userset) (u : User) (rows : List Tuple) : Type 0 where

@@ -9,15 +9,15 @@ use Rattle.journal.specs.Records.{LeavesBoth, LeavesEach, found}
 use Rattle.shard.specs.Shards.{IsOpenedShard, IsUp, ShardView, WasLeftOrOpened}
 use Rattle.laws.specs.Nodes.{IsOfRefusedOpening, NodeName, NodeState, Nodes, StandFor, coordinator, down, epoch_of, refused, shard}
 use Rattle.laws.specs.Worlds.{Rests, shard_node}
-use Rattle.turns.specs.FlushLaws.{HasOldOrSame}
-use Rattle.turns.specs.Moments.{Moment}
+use Rattle.stores.specs.FlushLaws.{HasOldOrSame}
+use Rattle.stores.specs.Moments.{Moment}
+use Rattle.stores.specs.StagingLaws.{with_nodes}
+use Rattle.stores.specs.Stands.{IsHorizonIn, Stands, at_shards}
+use Rattle.stores.specs.Stores.{stops}
 use Rattle.turns.specs.Promises.{ComesUp, HasDeviceCause}
 use Rattle.turns.specs.QuietTurns.{IsQuietCall}
 use Rattle.turns.specs.Runs.{Restarts, came_up, refuses}
 use Rattle.turns.specs.ShardSeamLaws.{ShardIsSeen, at_shard, behind_shard}
-use Rattle.turns.specs.StagingLaws.{with_nodes}
-use Rattle.turns.specs.Stands.{IsHorizonIn, Stands, at_shards}
-use Rattle.turns.specs.Stores.{stops}
 
 -- the nodes with shard s so
 abbrev pub put_at : ℕ → NodeState → Nodes → Nodes

@@ -1,5 +1,6 @@
 -- The seams between the contracts of a shard's calls, over its own records, and turns of a run.
 use Rattle.std.specs.Prelude.{◌≡◌, ◌≢◌, ◌⊎◌, ◌≤◌, ◌<◌, ◌+◌, ◌==◌, ℕ, Bool, true, List, [], ◌∷◌, ◌++◌, length, Option, Some, None, Contains, if◌then◌else◌}
+use Rattle.refusal.specs.Refusals.{IsOneOf}
 use Rattle.tuples.specs.declared.change.Change.{Change}
 use Rattle.tuples.specs.declared.change.Condition.{Condition}
 use Rattle.tuples.specs.declared.entry.Entry.{Entry}
@@ -21,17 +22,17 @@ use Rattle.shard.specs.Calls.{CollectsAt, DoubtsAt, DropsAt, LearnRefused, Learn
 use Rattle.shard.specs.Shards.{IsUp, ShardView, memory}
 use Rattle.laws.specs.Nodes.{NodeName, NodeState, Nodes, coordinator, shard, up}
 use Rattle.laws.specs.Worlds.{shard_node}
-use Rattle.turns.specs.Causes.{CallsShard, HasItsCause, LetsLearn}
-use Rattle.turns.specs.Flows.{Freshness, HeadsHeld, HeldTicket, ReadHolds, RaiseHolds, ResolveHolds, WriteHolds, learning, onward, outward, raising, reading, resolving, to_collect, to_learn, to_raise, to_read, to_resolve, to_write, writing}
-use Rattle.turns.specs.Held.{AreRightHeads, HoldsOf, IfHeld, IsRightBatch, WasGiven}
-use Rattle.turns.specs.Moments.{Moment, Running}
+use Rattle.stores.specs.Causes.{CallsShard, HasItsCause, LetsLearn}
+use Rattle.stores.specs.Flows.{Freshness, HeadsHeld, HeldTicket, ReadHolds, RaiseHolds, ResolveHolds, WriteHolds, learning, onward, outward, raising, reading, resolving, to_collect, to_learn, to_raise, to_read, to_resolve, to_write, writing}
+use Rattle.stores.specs.Held.{AreRightHeads, HoldsOf, IfHeld, IsRightBatch, WasGiven}
+use Rattle.stores.specs.Moments.{Moment, Running}
+use Rattle.stores.specs.ReadingLaws.{IsMerged, IsReading, NeedsOnly}
+use Rattle.stores.specs.Replies.{done}
+use Rattle.stores.specs.StagingLaws.{IsFlowOf}
+use Rattle.stores.specs.Stands.{IsHorizonIn, Stands}
 use Rattle.turns.specs.QuietTurns.{HoldsLess, batch_of, ending, going_on, with_batch, with_call}
-use Rattle.turns.specs.ReadingLaws.{IsMerged, IsReading, NeedsOnly}
-use Rattle.turns.specs.Replies.{done}
 use Rattle.turns.specs.Runs.{Turns, answered}
 use Rattle.turns.specs.SeamLaws.{told_unless}
-use Rattle.turns.specs.StagingLaws.{IsFlowOf}
-use Rattle.turns.specs.Stands.{IsHorizonIn, Stands}
 
 -- the nodes of a moment are as shard s of this store is seen, which is up
 pub record ShardIsSeen {D : Type 0} (store shards s : ℕ) (nodes : Nodes) (v : ShardView D) : Type 0 where
@@ -54,7 +55,7 @@ held_ticket s t = record { shard = s; id = t.id; epoch = t.epoch }
 
 -- with what a shard that is up refuses to prepare
 abbrev pub IsOfPrepare : Refusal → Type 0
-IsOfPrepare e = (e ≡ Collected) ⊎ ((e ≡ Busy) ⊎ ((e ≡ Precondition) ⊎ ((e ≡ Full) ⊎ (e ≡ NoMemory))))
+IsOfPrepare e = IsOneOf e (Collected ∷ Busy ∷ Precondition ∷ Full ∷ NoMemory ∷ [])
 
 -- a running flow of this write that has not decided, and what it holds
 pub record IsHolder (now : Moment) (r : Running) (h : WriteHolds) (w : Entry) : Type 0 where
@@ -114,7 +115,7 @@ module _ (store shards : ℕ) (left : NodeName → List Record → Type 0) {D : 
   RefusedLearnsHaveCause = (now behind : Moment) (old : ShardView D) (s : ℕ) (b : BatchValue) (e : Refusal) (r : Running)
       → Stands store shards left now → ShardIsSeen store shards s now.nodes old → Contains now.running r → batch_of r.holds ≡ Some b
       → IsUp state honest old → length b.writes ≤ max_batch → b.from + length b.writes ≤ greatest_number → CallsShard shards r.asked r.holds s → LetsLearn r.asked
-      → LearnRefused old b e → (e ≡ NoMemory) ⊎ ((e ≡ Full) ⊎ (e ≡ Damaged))
+      → LearnRefused old b e → IsOneOf e (NoMemory ∷ Full ∷ Damaged ∷ [])
       → HasItsCause shards (shard s) now behind r e × (e ≢ Unsure)
 
   -- a learning that holds right heads is done where the shard learns up to their kept place

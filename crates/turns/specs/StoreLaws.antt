@@ -4,12 +4,12 @@ use Rattle.tuples.specs.declared.entry.WriteId.{WriteId}
 use Rattle.device.specs.Device.{State, left}
 use Rattle.laws.specs.Machines.{Machine, Move, Moves}
 use Rattle.laws.specs.Nodes.{IsThere, NodeName}
-use Rattle.turns.specs.Moments.{Moment}
-use Rattle.turns.specs.NewStores.{empty_machine}
+use Rattle.stores.specs.Moments.{Moment}
+use Rattle.stores.specs.NewStores.{empty_machine}
+use Rattle.stores.specs.Stores.{IsToldOver, NamesHorizon, RestsOver, StandsOver, Store}
 use Rattle.turns.specs.Promises.{Ran, RunsAll, StopsBetween}
 use Rattle.turns.specs.Reopens.{Reopened}
 use Rattle.turns.specs.Runs.{Event, IsRun, Step}
-use Rattle.turns.specs.Stores.{IsToldOver, NamesHorizon, RestsOver, StandsOver, Store}
 
 -- the machine after a stop within a step: a beginning of the log from before or from behind, with all that was kept, and with the horizon from before
 pub record IsStopOf (before after m : Machine) : Type 0 where

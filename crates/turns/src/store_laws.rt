@@ -1,7 +1,7 @@
 // Laws of stores over devices, each the clause of a function with an empty body.
 ghost use Rattle.std.specs.Prelude.{ℕ};
 ghost use Rattle.laws.specs.Nodes.{Nodes};
-ghost use Rattle.turns.specs.Stands.{IsHorizonIn};
+ghost use Rattle.stores.specs.Stands.{IsHorizonIn};
 ghost use Rattle.turns.specs.StoreLaws.{ChainsJoin, ChainsRun, ClosedStoresRest, RunsMove, StoppedOpeningsRest, StoppedStepsRest, UnmadeStoresRest};
 
 use device::Device;

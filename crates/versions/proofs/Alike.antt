@@ -62,7 +62,7 @@ after_other t b (Touch u) is = ap (λ o. cond o true b) is
 after_other t b (Delete u) is = ap (λ o. cond o false b) is
 
 -- the changes up to a place
-abbrev until : ℕ → List Version → List Change
+abbrev pub until : ℕ → List Version → List Change
 until place rows = map (λ (v : Version). v.change) (filter (λ (v : Version). nat_le v.place place) rows)
 
 until_own : (place : ℕ) (v : Version) (own : List Version) (o : Bool) → until place (cond o (v ∷ own) own) ≡ cond o (cond (nat_le v.place place) (v.change ∷ until place own) (until place own)) (until place own)
@@ -133,7 +133,7 @@ superseded_own : (h : ℕ) (v : Version) (rows : List Version) → superseded h 
 superseded_own h v [] = refl
 superseded_own h v (u ∷ rows) = superseded_step h v u rows (of_tuple (tuple_of v.change) rows) (tuple_eq (tuple_of v.change) (tuple_of u.change)) refl (superseded_own h v rows)
 
-abbrev is_kept_of : ℕ → List Version → Version → Bool
+abbrev pub is_kept_of : ℕ → List Version → Version → Bool
 is_kept_of h rows v = nat_lt h v.place || (is_touch v.change && not (superseded h v rows))
 
 kept_own : (h : ℕ) (t : Tuple) (rows : List Version) (v : Version) → tuple_eq t (tuple_of v.change) ≡ true → is_kept_of h (of_tuple t rows) v ≡ is_kept_of h rows v
@@ -189,7 +189,7 @@ cut_at t (u ∷ rows) v rest is = ⊎_elim
     })
     (cases_Bool (tuple_eq t (tuple_of u.change)))
 
-of_own : (v : Version) (rows : List Version) → of_tuple (tuple_of v.change) (v ∷ rows) ≡ v ∷ of_tuple (tuple_of v.change) rows
+pub of_own : (v : Version) (rows : List Version) → of_tuple (tuple_of v.change) (v ∷ rows) ≡ v ∷ of_tuple (tuple_of v.change) rows
 of_own v rows = ap (λ (e : Bool). cond e (v ∷ of_tuple (tuple_of v.change) rows) (of_tuple (tuple_of v.change) rows)) (tuple_eq_refl (tuple_of v.change))
 
 pub alike_none : (rows : List Version) → AreAlike [] rows → rows ≡ []

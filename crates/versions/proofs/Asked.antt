@@ -3,8 +3,8 @@ use Rattle.std.proofs.Common.{◌≡◌, ℕ, inl, inr, Bool, true, false, cond,
 use Rattle.std.specs.Ordering.{is_eq, is_lt, ordering_then}
 use Rattle.std.specs.List.{list_any}
 use Rattle.std.specs.declared.cmp.Ordering.{Ordering}
-use Rattle.std.specs.declared.cmp.Ordering.TheVariants.{Less, Equal, Greater}
-use Rattle.std.proofs.lemmas.Bool.{cases_Bool}
+use Rattle.std.specs.declared.cmp.Ordering.TheVariants.{Less, Equal}
+use Rattle.std.proofs.lemmas.Bool.{cases_Bool, and_parts}
 use Rattle.std.proofs.lemmas.Cmp.{nat_list_cmp_total, tied_itself}
 use Rattle.tuples.specs.declared.object.Userset.{Userset}
 use Rattle.tuples.specs.declared.tuple.Tuple.{Tuple}
@@ -15,16 +15,11 @@ use Rattle.tuples.specs.Order.{name_cmp, object_cmp, tuple_eq, tuple_lt, user_cm
 use Rattle.tuples.specs.Reads.{AreAscending, same_name}
 use Rattle.tuples.specs.Walking.{IsCheckSelection, is_set, meets_check}
 use Rattle.tuples.proofs.Ordered.{object_total, tuple_eq_refl}
-use Rattle.tuples.proofs.Same.{object_same, name_same, tuple_same}
+use Rattle.tuples.proofs.Same.{object_same, name_same, tuple_same, is_eq_then}
 use Rattle.versions.specs.Rows.{IsPicked, is_one_of, is_own_or_set, is_set_of}
 use Rattle.versions.proofs.Selected.{picked_any, picked_of}
 
 -- ---- the test of a check
-
-eq_then : (a b : Ordering) → is_eq (ordering_then a b) ≡ (is_eq a && is_eq b)
-eq_then Less b = refl
-eq_then Equal b = refl
-eq_then Greater b = refl
 
 spread : (a b c d : Bool) → (a && (b && (c || d))) ≡ ((a && (b && c)) || (a && (b && d)))
 spread true true c d = refl
@@ -34,8 +29,8 @@ spread false b c d = refl
 is_holding : (x : Userset) (u : User) (t : Tuple) → tuple_eq t (holding x u) ≡ (is_eq (object_cmp t.object x.object) && (same_name t.relation x.relation && is_eq (user_cmp t.user u)))
 unfolding tuple_eq
 is_holding x u t =
-    eq_then (object_cmp t.object x.object) (ordering_then (name_cmp t.relation x.relation) (user_cmp t.user u))
-    ∙ ap (λ (b : Bool). is_eq (object_cmp t.object x.object) && b) (eq_then (name_cmp t.relation x.relation) (user_cmp t.user u))
+    is_eq_then (object_cmp t.object x.object) (ordering_then (name_cmp t.relation x.relation) (user_cmp t.user u))
+    ∙ ap (λ (b : Bool). is_eq (object_cmp t.object x.object) && b) (is_eq_then (name_cmp t.relation x.relation) (user_cmp t.user u))
 
 -- the tuple of the user, or one of a userset
 either : (x : Userset) (u : User) (t : Tuple) → meets_check x u t ≡ (tuple_eq t (holding x u) || is_set_of x t)
@@ -44,11 +39,6 @@ either x u t =
     ∙ ap (λ (b : Bool). b || is_set_of x t) (sym (is_holding x u t))
 
 -- ---- the tuple of a plain user stands before those of usersets
-
-both : (a b : Bool) → (a && b) ≡ true → (a ≡ true) × (b ≡ true)
-both true true h = (refl, refl)
-both true false h = absurd cc
-both false b h = absurd cc
 
 user_before : (i : List ℕ) (u : User) → is_set u ≡ true → user_cmp (Id i) u ≡ Less
 user_before i (Id j) set = absurd cc
@@ -60,8 +50,8 @@ tied_then a b tied = ap (λ (o : Ordering). ordering_then o b) tied
 stands_before : (x : Userset) (i : List ℕ) (t : Tuple) → is_set_of x t ≡ true → tuple_lt (holding x (Id i)) t ≡ true
 unfolding tuple_lt
 stands_before x i t is =
-    let parts = both (is_eq (object_cmp t.object x.object)) (same_name t.relation x.relation && is_set t.user) is in
-    let more = both (same_name t.relation x.relation) (is_set t.user) parts.1 in
+    let parts = and_parts (is_eq (object_cmp t.object x.object)) (same_name t.relation x.relation && is_set t.user) is in
+    let more = and_parts (same_name t.relation x.relation) (is_set t.user) parts.1 in
     let object : object_cmp x.object t.object ≡ Equal = ap (object_cmp x.object) (object_same t.object x.object parts.0) ∙ tied_itself object_total x.object in
     let relation : name_cmp x.relation t.relation ≡ Equal = ap (name_cmp x.relation) (name_same t.relation x.relation more.0) ∙ tied_itself nat_list_cmp_total x.relation in
     ap is_lt (tied_then (object_cmp x.object t.object) (ordering_then (name_cmp x.relation t.relation) (user_cmp (Id i) t.user)) object
@@ -71,7 +61,7 @@ stands_before x i t is =
 first_before : (there : Tuple → Bool) (x : Userset) (i : List ℕ) (rows : List Tuple) → IsPicked there (is_set_of x) rows → AreAscending rows → AreAscending (holding x (Id i) ∷ rows)
 first_before there x i [] picked up = tt
 first_before there x i (t ∷ rows) picked up =
-    let own = both (is_set_of x t) (there t) (sym (picked_any there (is_set_of x) (t ∷ rows) picked t) ∙ ap (λ (b : Bool). b || list_any (tuple_eq t) rows) (tuple_eq_refl t)) in
+    let own = and_parts (is_set_of x t) (there t) (sym (picked_any there (is_set_of x) (t ∷ rows) picked t) ∙ ap (λ (b : Bool). b || list_any (tuple_eq t) rows) (tuple_eq_refl t)) in
     (stands_before x i t own.0, up)
 
 -- ---- with the tuple of a plain user, where it is there

@@ -5,6 +5,7 @@ use Rattle.std.specs.List.{list_all}
 use Rattle.std.specs.declared.cmp.Ordering.{Ordering}
 use Rattle.std.specs.declared.cmp.Ordering.TheVariants.{Less, Equal, Greater}
 use Rattle.std.proofs.lemmas.Bool.Decides.{nat_tests}
+use Rattle.std.proofs.lemmas.Bool.{and_parts, and_from}
 use Rattle.std.proofs.lemmas.Cmp.{nat_list_cmp_total, tied_itself}
 use Rattle.tuples.specs.declared.object.Object.{Object}
 use Rattle.tuples.specs.declared.object.Userset.{Userset}
@@ -59,15 +60,6 @@ squeezed a Less h left right = absurd (let never : true ≡ false = sym left ∙
 squeezed a Equal h left right = refl
 squeezed a Greater h left right = absurd cc
 
-both : (a b : Bool) → (a && b) ≡ true → (a ≡ true) × (b ≡ true)
-both true true h = (refl, refl)
-both true false h = absurd cc
-both false b h = absurd cc
-
-joined : (a b : Bool) → a ≡ true → b ≡ true → (a && b) ≡ true
-joined true b h k = k
-joined false b h k = h
-
 -- ---- the first names
 
 nil_le : (bs : List ℕ) → is_le (name_cmp [] bs) ≡ true
@@ -85,11 +77,11 @@ id_byte b h = grind (arith, nat_tests)
 
 name_le : (r : List ℕ) → IsName r → is_le (name_cmp (48 ∷ []) r) ≡ true
 name_le [] is = absurd (omega (arith, is.some))
-name_le (b ∷ bs) is = le_then (nat_cmp 48 b) (name_cmp [] bs) (le_byte 48 b (name_byte b (both (is_name_byte b) (list_all is_name_byte bs) is.each).0)) (nil_le bs)
+name_le (b ∷ bs) is = le_then (nat_cmp 48 b) (name_cmp [] bs) (le_byte 48 b (name_byte b (and_parts (is_name_byte b) (list_all is_name_byte bs) is.each).0)) (nil_le bs)
 
 id_le : (i : List ℕ) → IsId i → is_le (name_cmp (33 ∷ []) i) ≡ true
 id_le [] is = absurd (omega (arith, is.some))
-id_le (b ∷ bs) is = le_then (nat_cmp 33 b) (name_cmp [] bs) (le_byte 33 b (id_byte b (both (is_id_byte b) (list_all is_id_byte bs) is.each).0)) (nil_le bs)
+id_le (b ∷ bs) is = le_then (nat_cmp 33 b) (name_cmp [] bs) (le_byte 33 b (id_byte b (and_parts (is_id_byte b) (list_all is_id_byte bs) is.each).0)) (nil_le bs)
 
 user_le : (u : User) → IsUser u → is_le (user_cmp (Id (33 ∷ [])) u) ≡ true
 user_le (Id i) is = id_le i is
@@ -119,12 +111,12 @@ same_relation (Some r) t u low high is =
 pub first_is : (o : Object) (r : Option (List ℕ)) → IsFirst (meets (OfObject o r)) (first_tuple o r)
 first_is o r = record {
   before = λ t spelled has.
-      let parts = both (is_eq (object_cmp t.object o)) (has_relation r t) has in
+      let parts = and_parts (is_eq (object_cmp t.object o)) (has_relation r t) has in
       le_then (object_cmp o t.object) (ordering_then (name_cmp (first_relation r) t.relation) (user_cmp (Id (33 ∷ [])) t.user))
       (eq_le (object_cmp o t.object) (eq_back (object_cmp o t.object) (object_cmp t.object o) (object_total.antisymm o t.object) parts.0))
       (le_then (name_cmp (first_relation r) t.relation) (user_cmp (Id (33 ∷ [])) t.user) (relation_le r t spelled.relation parts.1) (user_le t.user spelled.user));
   within = λ t u low less has.
-      let parts = both (is_eq (object_cmp u.object o)) (has_relation r u) has in
+      let parts = and_parts (is_eq (object_cmp u.object o)) (has_relation r u) has in
       let high : is_le (tuple_cmp t u) ≡ true = less_le (tuple_cmp t u) less in
       let object : is_eq (object_cmp t.object o) ≡ true =
       same_object o t u (le_first (object_cmp o t.object) (ordering_then (name_cmp (first_relation r) t.relation) (user_cmp (Id (33 ∷ [])) t.user)) low)
@@ -139,7 +131,7 @@ first_is o r = record {
       (le_first (name_cmp t.relation u.relation) (user_cmp t.user u.user)
       (le_next (object_cmp t.object u.object) (ordering_then (name_cmp t.relation u.relation) (user_cmp t.user u.user)) to high)) parts.1
       in
-      joined (is_eq (object_cmp t.object o)) (has_relation r t) object relation;
+      and_from (is_eq (object_cmp t.object o)) (has_relation r t) object relation;
 }
 
 -- a tuple is the first of those that are it
@@ -172,16 +164,16 @@ user_is_set (Set y) low = refl
 pub set_first_is : (x : Userset) → IsFirst (is_set_of x) (first_set x)
 set_first_is x = record {
   before = λ t spelled has.
-      let parts = both (is_eq (object_cmp t.object x.object)) (same_name t.relation x.relation && is_set t.user) has in
-      let more = both (same_name t.relation x.relation) (is_set t.user) parts.1 in
+      let parts = and_parts (is_eq (object_cmp t.object x.object)) (same_name t.relation x.relation && is_set t.user) has in
+      let more = and_parts (same_name t.relation x.relation) (is_set t.user) parts.1 in
       le_then (object_cmp x.object t.object) (ordering_then (name_cmp x.relation t.relation) (user_cmp (Set lowest_userset) t.user))
       (eq_le (object_cmp x.object t.object) (eq_back (object_cmp x.object t.object) (object_cmp t.object x.object) (object_total.antisymm x.object t.object) parts.0))
       (le_then (name_cmp x.relation t.relation) (user_cmp (Set lowest_userset) t.user)
       (eq_le (name_cmp x.relation t.relation) (eq_back (name_cmp x.relation t.relation) (name_cmp t.relation x.relation) (nat_list_cmp_total.antisymm x.relation t.relation) more.0))
       (user_set_le t.user spelled.user more.1));
   within = λ t u low less has.
-      let parts = both (is_eq (object_cmp u.object x.object)) (same_name u.relation x.relation && is_set u.user) has in
-      let more = both (same_name u.relation x.relation) (is_set u.user) parts.1 in
+      let parts = and_parts (is_eq (object_cmp u.object x.object)) (same_name u.relation x.relation && is_set u.user) has in
+      let more = and_parts (same_name u.relation x.relation) (is_set u.user) parts.1 in
       let high : is_le (tuple_cmp t u) ≡ true = less_le (tuple_cmp t u) less in
       let object : is_eq (object_cmp t.object x.object) ≡ true =
       same_object x.object t u (le_first (object_cmp x.object t.object) (ordering_then (name_cmp x.relation t.relation) (user_cmp (Set lowest_userset) t.user)) low)
@@ -199,8 +191,8 @@ set_first_is x = record {
       (le_next (object_cmp t.object u.object) (ordering_then (name_cmp t.relation u.relation) (user_cmp t.user u.user)) to high)) more.0
       in
       let after : is_eq (name_cmp x.relation t.relation) ≡ true = eq_back (name_cmp x.relation t.relation) (name_cmp t.relation x.relation) (nat_list_cmp_total.antisymm x.relation t.relation) relation in
-      joined (is_eq (object_cmp t.object x.object)) (same_name t.relation x.relation && is_set t.user) object
-      (joined (same_name t.relation x.relation) (is_set t.user) relation
+      and_from (is_eq (object_cmp t.object x.object)) (same_name t.relation x.relation && is_set t.user) object
+      (and_from (same_name t.relation x.relation) (is_set t.user) relation
       (user_is_set t.user (le_next (name_cmp x.relation t.relation) (user_cmp (Set lowest_userset) t.user) after rest)));
 }
 
@@ -218,8 +210,8 @@ user_low (Set x) v plain own = absurd cc
 -- none of them stands before that of the user
 pub check_before : (x : Userset) (u : User) → is_set u ≡ false → (t : Tuple) → meets_check x u t ≡ true → is_le (tuple_cmp (holding x u) t) ≡ true
 check_before x u plain t has =
-    let parts = both (is_eq (object_cmp t.object x.object)) (same_name t.relation x.relation && (is_eq (user_cmp t.user u) || is_set t.user)) has in
-    let more = both (same_name t.relation x.relation) (is_eq (user_cmp t.user u) || is_set t.user) parts.1 in
+    let parts = and_parts (is_eq (object_cmp t.object x.object)) (same_name t.relation x.relation && (is_eq (user_cmp t.user u) || is_set t.user)) has in
+    let more = and_parts (same_name t.relation x.relation) (is_eq (user_cmp t.user u) || is_set t.user) parts.1 in
     le_then (object_cmp x.object t.object) (ordering_then (name_cmp x.relation t.relation) (user_cmp u t.user))
     (eq_le (object_cmp x.object t.object) (eq_back (object_cmp x.object t.object) (object_cmp t.object x.object) (object_total.antisymm x.object t.object) parts.0))
     (le_then (name_cmp x.relation t.relation) (user_cmp u t.user)
@@ -229,8 +221,8 @@ check_before x u plain t has =
 -- what stands between that of the user and one of them is of the userset
 pub check_within : (x : Userset) (u : User) (t v : Tuple) → is_le (tuple_cmp (holding x u) t) ≡ true → tuple_cmp t v ≡ Less → meets_check x u v ≡ true → is_one_of x t ≡ true
 check_within x u t v low less has =
-    let parts = both (is_eq (object_cmp v.object x.object)) (same_name v.relation x.relation && (is_eq (user_cmp v.user u) || is_set v.user)) has in
-    let more = both (same_name v.relation x.relation) (is_eq (user_cmp v.user u) || is_set v.user) parts.1 in
+    let parts = and_parts (is_eq (object_cmp v.object x.object)) (same_name v.relation x.relation && (is_eq (user_cmp v.user u) || is_set v.user)) has in
+    let more = and_parts (same_name v.relation x.relation) (is_eq (user_cmp v.user u) || is_set v.user) parts.1 in
     let high : is_le (tuple_cmp t v) ≡ true = less_le (tuple_cmp t v) less in
     let object : is_eq (object_cmp t.object x.object) ≡ true =
     same_object x.object t v (le_first (object_cmp x.object t.object) (ordering_then (name_cmp x.relation t.relation) (user_cmp u t.user)) low)
@@ -245,7 +237,7 @@ check_within x u t v low less has =
     (le_first (name_cmp t.relation v.relation) (user_cmp t.user v.user)
     (le_next (object_cmp t.object v.object) (ordering_then (name_cmp t.relation v.relation) (user_cmp t.user v.user)) to high)) more.0
     in
-    joined (is_eq (object_cmp t.object x.object)) (same_name t.relation x.relation) object relation
+    and_from (is_eq (object_cmp t.object x.object)) (same_name t.relation x.relation) object relation
 
 -- ---- the first tuple of a namespace that names a user
 
@@ -264,14 +256,14 @@ user_first_is n u =
     let first = first_named n u in
     record {
       before = λ t spelled has.
-          let parts = both (same_name t.object.namespace n) (is_eq (user_cmp t.user u)) has in
+          let parts = and_parts (same_name t.object.namespace n) (is_eq (user_cmp t.user u)) has in
           le_then (name_cmp n t.object.namespace) (rest first t)
           (eq_le (name_cmp n t.object.namespace) (eq_back (name_cmp n t.object.namespace) (name_cmp t.object.namespace n) (nat_list_cmp_total.antisymm n t.object.namespace) parts.0))
           (le_then (user_cmp u t.user) (ends first t)
           (eq_le (user_cmp u t.user) (eq_back (user_cmp u t.user) (user_cmp t.user u) (user_total.antisymm u t.user) parts.1))
           (le_then (name_cmp (33 ∷ []) t.object.id) (name_cmp (48 ∷ []) t.relation) (id_le t.object.id spelled.object.id) (name_le t.relation spelled.relation)));
       within = λ t v low less has.
-          let parts = both (same_name v.object.namespace n) (is_eq (user_cmp v.user u)) has in
+          let parts = and_parts (same_name v.object.namespace n) (is_eq (user_cmp v.user u)) has in
           let high : is_le (by_user_cmp t v) ≡ true = less_le (by_user_cmp t v) less in
           let namespace : is_eq (name_cmp t.object.namespace n) ≡ true =
           squeezed (name_cmp n t.object.namespace) (name_cmp t.object.namespace n) (nat_list_cmp_total.antisymm n t.object.namespace) (le_first (name_cmp n t.object.namespace) (rest first t) low)
@@ -283,5 +275,5 @@ user_first_is n u =
           squeezed (user_cmp u t.user) (user_cmp t.user u) (user_total.antisymm u t.user) (le_first (user_cmp u t.user) (ends first t) (le_next (name_cmp n t.object.namespace) (rest first t) from low))
           (subst (λ (x : User). is_le (user_cmp t.user x) ≡ true) (user_same v.user u parts.1) (le_first (user_cmp t.user v.user) (ends t v) (le_next (name_cmp t.object.namespace v.object.namespace) (rest t v) to high)))
           in
-          joined (same_name t.object.namespace n) (is_eq (user_cmp t.user u)) namespace user;
+          and_from (same_name t.object.namespace n) (is_eq (user_cmp t.user u)) namespace user;
     }

@@ -1,5 +1,5 @@
 -- The versions of one tuple, read row by row.
-use Rattle.std.proofs.Common.{◌≡◌, ⊎_elim, ℕ, Bool, true, false, not, ◌&&◌, ◌||◌, nat_le, nat_lt, max, cond, List, [], ◌∷◌, map, filter, refl, sym, ◌∙◌, ap, arith}
+use Rattle.std.proofs.Common.{◌≡◌, ⊎_elim, ℕ, Bool, true, false, not, ◌&&◌, ◌||◌, nat_le, nat_lt, max, cond, List, [], ◌∷◌, filter, refl, sym, ◌∙◌, ap, arith}
 use Rattle.std.proofs.lemmas.Bool.{cases_Bool}
 use Rattle.std.proofs.lemmas.Bool.Decides.{nat_tests}
 use Rattle.tuples.specs.declared.tuple.Tuple.{Tuple}
@@ -13,6 +13,7 @@ use Rattle.tuples.proofs.Ordered.{tuple_eq_refl}
 use Rattle.versions.specs.Alike.{of_tuple}
 use Rattle.versions.specs.Rows.{change_of, newest_under, rows_left, stays, version_of, versions_of}
 use Rattle.versions.specs.declared.history.Row.{Row}
+use Rattle.versions.proofs.Alike.{until}
 
 -- a row is a version of its tuple
 
@@ -59,9 +60,6 @@ last_is_greatest t (r ∷ rows) =
 abbrev pub touched : ℕ → Bool → List Row → Bool
 touched place there [] = there
 touched place there (r ∷ rows) = touched place (cond (nat_le r.place place) r.is_touch there) rows
-
-abbrev until : ℕ → List Version → List Change
-until place rows = map (λ (v : Version). v.change) (filter (λ (v : Version). nat_le v.place place) rows)
 
 after_own : (t : Tuple) (there b : Bool) (xs : List Change) → there_after t there (change_of t b ∷ xs) ≡ there_after t b xs
 after_own t there true xs = ap (λ (e : Bool). there_after t (cond e true there) xs) (tuple_eq_refl t)

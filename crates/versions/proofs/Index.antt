@@ -6,8 +6,6 @@ use Rattle.std.specs.List.{list_any}
 use Rattle.std.specs.Map.{keys_of}
 use Rattle.std.specs.BTreeMap.{is_at}
 use Rattle.std.specs.Ordering.{eq_by_cmp, is_eq, ordering_then}
-use Rattle.std.specs.declared.cmp.Ordering.{Ordering}
-use Rattle.std.specs.declared.cmp.Ordering.TheVariants.{Less, Equal, Greater}
 use Rattle.std.proofs.lemmas.Bool.{cases_Bool}
 use Rattle.std.proofs.lemmas.Cmp.{tied_itself}
 use Rattle.std.proofs.lemmas.Map.Views.{any-filter_same}
@@ -15,25 +13,21 @@ use Rattle.tuples.specs.declared.tuple.Tuple.{Tuple}
 use Rattle.tuples.specs.declared.user.User.{User}
 use Rattle.tuples.specs.contracts.tuple.TupleOrd.TheImpl.{ghosts}
 use Rattle.tuples.specs.Order.{name_cmp, tuple_eq, user_cmp}
-use Rattle.tuples.proofs.Ordered.{tuple_eq_from_same}
-use Rattle.tuples.proofs.Same.{name_same, tuple_same, user_same}
+use Rattle.tuples.proofs.Ordered.{tuple_eq_from_same, same_tie}
+use Rattle.tuples.proofs.Same.{name_same, tuple_same, user_same, both_tie}
+use Rattle.tuples.proofs.Options.{same_tests}
 use Rattle.versions.specs.Index.{HasSame, IsIndex, by_user_cmp, by_user_total, is_listed}
 use Rattle.versions.specs.Rows.{found}
 use Rattle.versions.specs.declared.history.Row.{Row}
-use Rattle.versions.proofs.Tables.{Entries, same_tie}
+use Rattle.versions.proofs.Tables.{Entries}
 
 -- ---- the order by user ties a tuple with itself alone
 
-pub both : (a b : Ordering) → is_eq (ordering_then a b) ≡ true → (is_eq a ≡ true) × (is_eq b ≡ true)
-both Less b h = absurd cc
-both Equal b h = (refl, h)
-both Greater b h = absurd cc
-
 by_user_same : (a b : Tuple) → eq_by_cmp by_user_cmp a b ≡ true → a ≡ b
 by_user_same a b h =
-    let first = both (name_cmp a.object.namespace b.object.namespace) (ordering_then (user_cmp a.user b.user) (ordering_then (name_cmp a.object.id b.object.id) (name_cmp a.relation b.relation))) h in
-    let second = both (user_cmp a.user b.user) (ordering_then (name_cmp a.object.id b.object.id) (name_cmp a.relation b.relation)) first.1 in
-    let third = both (name_cmp a.object.id b.object.id) (name_cmp a.relation b.relation) second.1 in
+    let first = both_tie (name_cmp a.object.namespace b.object.namespace) (ordering_then (user_cmp a.user b.user) (ordering_then (name_cmp a.object.id b.object.id) (name_cmp a.relation b.relation))) h in
+    let second = both_tie (user_cmp a.user b.user) (ordering_then (name_cmp a.object.id b.object.id) (name_cmp a.relation b.relation)) first.1 in
+    let third = both_tie (name_cmp a.object.id b.object.id) (name_cmp a.relation b.relation) second.1 in
     let tuple : List ℕ → List ℕ → List ℕ → User → Tuple = λ n i r u. record { object = record { namespace = n; id = i }; relation = r; user = u } in
     ap (λ (n : List ℕ). tuple n a.object.id a.relation a.user) (name_same a.object.namespace b.object.namespace first.0)
     ∙ ap (λ (i : List ℕ). tuple b.object.namespace i a.relation a.user) (name_same a.object.id b.object.id third.0)
@@ -42,11 +36,6 @@ by_user_same a b h =
 
 by_user_itself : (a b : Tuple) → a ≡ b → eq_by_cmp by_user_cmp a b ≡ true
 by_user_itself a b same = ap (λ (t : Tuple). eq_by_cmp by_user_cmp a t) (sym same) ∙ ap is_eq (tied_itself by_user_total a)
-
-pub same_tests : (a b : Bool) → (a ≡ true → b ≡ true) → (b ≡ true → a ≡ true) → a ≡ b
-same_tests true b f g = sym (f refl)
-same_tests false true f g = g refl
-same_tests false false f g = refl
 
 pub by_user_tie : (a b : Tuple) → eq_by_cmp by_user_cmp a b ≡ tuple_eq a b
 by_user_tie a b = same_tests (eq_by_cmp by_user_cmp a b) (tuple_eq a b) (λ h. tuple_eq_from_same a b (by_user_same a b h)) (λ h. by_user_itself a b (tuple_same a b h))

@@ -1,7 +1,7 @@
 -- The newest version of a tuple, and its last place in the log.
 use Rattle.std.proofs.Common.{◌≡◌, ℕ, Bool, true, false, not, ◌||◌, ◌&&◌, ◌+◌, ◌<◌, ◌≤◌, nat_lt, max, cond, List, [], ◌∷◌, ◌++◌, take, filter, inl, inr, refl, sym, ◌∙◌, ap, subst, arith}
 use Rattle.std.specs.Prelude.{if◌then◌else◌}
-use Rattle.std.proofs.lemmas.Bool.{cases_Bool, ltb-true}
+use Rattle.std.proofs.lemmas.Bool.{cases_Bool, ltb-true, or_left}
 use Rattle.std.proofs.lemmas.Bool.Decides.{nat_tests}
 use Rattle.tuples.specs.declared.change.Change.{Change}
 use Rattle.tuples.specs.declared.entry.Entry.{Entry}
@@ -42,7 +42,7 @@ last_none : (found : ℕ) (t : Tuple) → found ≡ max found (last_version [] t
 unfolding last_version
 last_none found t = omega arith
 
-last_from_is : (found place : ℕ) (t : Tuple) (log : List Entry) → found < place → last_from found place t log ≡ max found (last_version (changes_from place log) t)
+pub last_from_is : (found place : ℕ) (t : Tuple) (log : List Entry) → found < place → last_from found place t log ≡ max found (last_version (changes_from place log) t)
 last_from_is found place t [] lt = last_none found t
 last_from_is found place t (w ∷ log) lt =
     let named = has_tuple t (changed w.changes) in
@@ -106,10 +106,6 @@ left_is h keep passes t [] = record { within = omega arith; above = λ lt. refl 
 left_is h keep passes t (v ∷ vs) =
     subst (λ n. IsLeft h (last_version (v ∷ vs) t) n) (sym (last_cond (keep v) t v (filter keep vs)))
     (left_step (tuple_eq t (tuple_of v.change)) (keep v) h v.place (last_version vs t) (last_version (filter keep vs) t) (not_kept h v.place (keep v) (passes v)) (left_is h keep passes t vs))
-
-or_left : (a b : Bool) → a ≡ true → (a || b) ≡ true
-or_left true b h = refl
-or_left false b h = absurd cc
 
 collected_left : (h : ℕ) (rows : List Version) (t : Tuple) → IsLeft h (last_version rows t) (last_version (collected h rows) t)
 unfolding collected

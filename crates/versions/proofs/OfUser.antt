@@ -8,7 +8,7 @@ use Rattle.std.specs.Map.{keys_of}
 use Rattle.std.specs.Ordering.{is_eq, is_le, is_lt, ordering_then}
 use Rattle.std.specs.declared.cmp.Ordering.{Ordering}
 use Rattle.std.specs.declared.cmp.Ordering.TheVariants.{Less, Equal, Greater}
-use Rattle.std.proofs.lemmas.Bool.{cases_Bool}
+use Rattle.std.proofs.lemmas.Bool.{cases_Bool, and_parts}
 use Rattle.std.proofs.lemmas.List.Kept.{IsStrictlySortedBy-filter}
 use Rattle.std.proofs.lemmas.Map.Views.{any-filter_same}
 use Rattle.tuples.specs.declared.tuple.Tuple.{Tuple}
@@ -19,7 +19,7 @@ use Rattle.tuples.specs.Order.{name_cmp, tuple_eq, tuple_lt, user_cmp}
 use Rattle.tuples.specs.Reads.{AreAscending, IsSelection, meets}
 use Rattle.tuples.specs.Texts.{IsTuple}
 use Rattle.tuples.specs.Versions.{there_at}
-use Rattle.tuples.proofs.Ordered.{tuple_eq_refl}
+use Rattle.tuples.proofs.Ordered.{tuple_eq_refl, same_tie}
 use Rattle.tuples.proofs.Same.{name_same, tuple_same, user_same}
 use Rattle.versions.specs.Index.{IsFirstOf, IsIndex, by_user_cmp, is_of_user}
 use Rattle.versions.specs.Rows.{IsTable, found, listed, rows_in, versions_of}
@@ -28,7 +28,7 @@ use Rattle.versions.specs.declared.of_user.OfUser.{OfUser as Asked}
 use Rattle.versions.proofs.Alike.{there_at_own}
 use Rattle.versions.proofs.Index.{listed_any}
 use Rattle.versions.proofs.Selected.{all_filtered, all_weaker, never, picked_of, there_in}
-use Rattle.versions.proofs.Tables.{AreSorted, Entries, of_listed, same_tie}
+use Rattle.versions.proofs.Tables.{AreSorted, Entries, of_listed}
 
 -- of the tuples of an index, those that are there and pass a test
 abbrev pub chosen_of : ℕ → (Tuple → Bool) → Entries → List Tuple → List Tuple
@@ -62,11 +62,6 @@ has_chosen place q es us sorted index t =
 
 -- ---- those of one user in a namespace stand in the order of tuples
 
-both : (a b : Bool) → (a && b) ≡ true → (a ≡ true) × (b ≡ true)
-both true true h = (refl, refl)
-both true false h = absurd cc
-both false b h = absurd cc
-
 equal_from : (o : Ordering) → is_eq o ≡ true → o ≡ Equal
 equal_from Less h = absurd cc
 equal_from Equal h = refl
@@ -96,8 +91,8 @@ up n u i r ns us less = rw ns (rw us (up_rest i r (ap (λ (o : Ordering). orderi
 up_of_user : (n : List ℕ) (u : User) (t v : Tuple) → is_of_user n u t ≡ true → is_of_user n u v ≡ true → by_user_cmp t v ≡ Less → tuple_lt t v ≡ true
 unfolding tuple_lt
 up_of_user n u t v of_t of_v less =
-    let first = both (is_eq (name_cmp t.object.namespace n)) (is_eq (user_cmp t.user u)) of_t in
-    let second = both (is_eq (name_cmp v.object.namespace n)) (is_eq (user_cmp v.user u)) of_v in
+    let first = and_parts (is_eq (name_cmp t.object.namespace n)) (is_eq (user_cmp t.user u)) of_t in
+    let second = and_parts (is_eq (name_cmp v.object.namespace n)) (is_eq (user_cmp v.user u)) of_v in
     up (name_cmp t.object.namespace v.object.namespace) (user_cmp t.user v.user) (name_cmp t.object.id v.object.id) (name_cmp t.relation v.relation)
     (same_names n t.object.namespace v.object.namespace first.0 second.0) (same_users u t.user v.user first.1 second.1) less
 
@@ -121,7 +116,7 @@ chosen_selection place n u r es us sorted index in_order =
     let q = meets (OfUser n u r) in
     let p : Tuple → Bool = λ t. q t && there_in place t es in
     let all : AllByRecursion (λ (t : Tuple). is_of_user n u t ≡ true) (filter p us) =
-    all_weaker (λ t. p t ≡ true) (λ t. is_of_user n u t ≡ true) (λ t h. of_user_meets n u r t (both (q t) (there_in place t es) h).0) (filter p us) (all_filtered p us)
+    all_weaker (λ t. p t ≡ true) (λ t. is_of_user n u t ≡ true) (λ t h. of_user_meets n u r t (and_parts (q t) (there_in place t es) h).0) (filter p us) (all_filtered p us)
     in
     let picked = picked_of (there_at (listed es) place) q (filter p us) (ascending n u (filter p us) (IsStrictlySortedBy-filter by_user_cmp p us in_order) all) (has_chosen place q es us sorted index) in
     record { ascending = picked.ascending; exact = picked.exact }
@@ -203,7 +198,7 @@ none_left_by place n u q es first t us is_of is walk misses =
     out false implies = refl
 
 pub low_by : (first t : Tuple) → (is_le (by_user_cmp first t) && true) ≡ true → is_le (by_user_cmp first t) ≡ true
-low_by first t h = (both (is_le (by_user_cmp first t)) true h).0
+low_by first t h = (and_parts (is_le (by_user_cmp first t)) true h).0
 
 pub by_low : (first t : Tuple) → is_le (by_user_cmp first t) ≡ true → (is_le (by_user_cmp first t) && true) ≡ true
 by_low first t h = ap (λ (b : Bool). b && true) h
@@ -231,7 +226,3 @@ pub missed : (a b d : Bool) → d ≡ false → (a && (b && d)) ≡ false
 missed true true d h = h
 missed true false d h = refl
 missed false b d h = refl
-
-pub and_gone : (a b : Bool) → b ≡ false → (a && b) ≡ false
-and_gone true b h = h
-and_gone false b h = refl

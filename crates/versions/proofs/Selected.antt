@@ -4,12 +4,12 @@ use Rattle.std.specs.Global.{Vec}
 use Rattle.std.specs.List.{AllByRecursion, list_any}
 use Rattle.std.specs.List.Sorted.{IsStrictlySortedBy}
 use Rattle.std.specs.Map.{keys_of}
-use Rattle.std.specs.Cmp.{IsEquivalence}
 use Rattle.std.specs.declared.cmp.Ordering.TheVariants.{Less}
 use Rattle.std.specs.Ordering.{is_le}
 use Rattle.std.proofs.lemmas.Bool.{cases_Bool}
 use Rattle.std.proofs.lemmas.List.Kept.{IsStrictlySortedBy-filter}
 use Rattle.std.proofs.lemmas.Map.Views.{Contains-from_any, list_any-from_Contains}
+use Rattle.std.proofs.Math.Bool.{and-true, and-false}
 use Rattle.tuples.specs.declared.tuple.Tuple.{Tuple}
 use Rattle.tuples.specs.declared.version.Version.{Version}
 use Rattle.versions.specs.Alike.{of_tuple}
@@ -18,12 +18,14 @@ use Rattle.tuples.specs.Texts.{IsTuple}
 use Rattle.tuples.specs.Order.{tuple_cmp, tuple_eq}
 use Rattle.tuples.specs.Reads.{AreAscending}
 use Rattle.tuples.specs.Versions.{there_at}
-use Rattle.tuples.proofs.Ordered.{tuple_eq_refl, tuple_eq_symm, tuple_lt_apart}
+use Rattle.tuples.proofs.Ordered.{tuple_lt_apart, same_order, same_tie}
 use Rattle.tuples.proofs.Same.{tuple_same}
+use Rattle.tuples.proofs.Options.{same_tests}
+use Rattle.tuples.proofs.Named.{tuple_equivalence}
 use Rattle.versions.specs.Rows.{IsFirst, IsPicked, found, listed, rows_in, versions_of}
 use Rattle.versions.specs.declared.history.Row.{Row}
 use Rattle.versions.proofs.Alike.{there_at_own}
-use Rattle.versions.proofs.Tables.{AreSorted, Entries, before, of_listed, same_order, same_tie}
+use Rattle.versions.proofs.Tables.{AreSorted, Entries, before, of_listed}
 
 -- the tuples of the entries that are there and pass a test
 abbrev pub kept_of : ℕ → (Tuple → Bool) → Entries → List Tuple
@@ -58,10 +60,6 @@ pub never : (place : ℕ) (t : Tuple) → there_at (versions_of t []) place t �
 unfolding there_at
 never place t = refl
 
-and_false : (b : Bool) → (b && false) ≡ false
-and_false true = refl
-and_false false = refl
-
 skipped : (m : Bool) (t u : Tuple) (rest : List Tuple) → tuple_eq t u ≡ false → list_any (tuple_eq t) (cond m (u ∷ rest) rest) ≡ list_any (tuple_eq t) rest
 skipped true t u rest apart = ap (λ (b : Bool). b || list_any (tuple_eq t) rest) apart
 skipped false t u rest apart = refl
@@ -72,12 +70,12 @@ first false t u rest is none = none
 
 has_kept : (place : ℕ) (q : Tuple → Bool) (es : Entries) (t : Tuple) → AreSorted es → list_any (tuple_eq t) (kept_of place q es) ≡ (q t && there_in place t es)
 unfolding IsStrictlySortedBy there_in
-has_kept place q [] t sorted = sym (ap (λ (b : Bool). q t && b) (never place t) ∙ and_false (q t))
+has_kept place q [] t sorted = sym (ap (λ (b : Bool). q t && b) (never place t) ∙ and-false (q t))
 has_kept place q ((u, h) ∷ es) t sorted = elim (cases_Bool (tuple_eq t u)) [
   | inl is ↦
       let same : t ≡ u = tuple_same t u is in
       let gone : there_at (versions_of t (rows_in (found t es))) place t ≡ false = ap (λ o. there_at (versions_of t (rows_in o)) place t) (ap (λ (x : Tuple). found x es) same ∙ found_above u es sorted.0) ∙ never place t in
-      let none : list_any (tuple_eq t) (kept_of place q es) ≡ false = has_kept place q es t sorted.1 ∙ ap (λ (b : Bool). q t && b) gone ∙ and_false (q t) in
+      let none : list_any (tuple_eq t) (kept_of place q es) ≡ false = has_kept place q es t sorted.1 ∙ ap (λ (b : Bool). q t && b) gone ∙ and-false (q t) in
       let here : found t ((u, h) ∷ es) ≡ Some h = ap (λ (b : Bool). cond b (Some h) (found t es)) (same_tie t u ∙ is) in
       first (q u && there_at (versions_of u h.items) place u) t u (kept_of place q es) is none
       ∙ ap (λ (x : Tuple). q x && there_at (versions_of x h.items) place x) (sym same)
@@ -88,9 +86,6 @@ has_kept place q ((u, h) ∷ es) t sorted = elim (cases_Bool (tuple_eq t u)) [
       ∙ has_kept place q es t sorted.1
       ∙ ap (λ o. q t && there_at (versions_of t (rows_in o)) place t) (sym past)
 ]
-
-tuple_equivalence : IsEquivalence tuple_eq
-tuple_equivalence = record { refl = tuple_eq_refl; symm = tuple_eq_symm; congr = λ x y z h. ap (λ (t : Tuple). tuple_eq t z) (tuple_same x y h) }
 
 both : (a b : Bool) → (a && b) ≡ true → (b ≡ true) × (a ≡ true)
 both true true h = (refl, refl)
@@ -109,11 +104,6 @@ picked_of there q ts up has = record {
     λ h. Contains-from_any tuple_same t ts (has t ∙ joined (q t) (there t) h.0 h.1),
   );
 }
-
-same_tests : (a b : Bool) → (a ≡ true → b ≡ true) → (b ≡ true → a ≡ true) → a ≡ b
-same_tests true b f g = sym (f refl)
-same_tests false true f g = g refl
-same_tests false false f g = refl
 
 -- and back
 pub picked_any : (there : Tuple → Bool) (q : Tuple → Bool) (ts : List Tuple) → IsPicked there q ts → (t : Tuple) → list_any (tuple_eq t) ts ≡ (q t && there t)
@@ -202,15 +192,11 @@ walk_from first p low es sorted = record {
 
 -- what a range from the first one on holds
 
-and_true : (b : Bool) → (b && true) ≡ b
-and_true true = refl
-and_true false = refl
-
 pub low_from : (first t : Tuple) → (is_le (ghosts.cmp first t) && true) ≡ true → is_le (tuple_cmp first t) ≡ true
-low_from first t h = ap is_le (sym (same_order first t)) ∙ sym (and_true (is_le (ghosts.cmp first t))) ∙ h
+low_from first t h = ap is_le (sym (same_order first t)) ∙ sym (and-true (is_le (ghosts.cmp first t))) ∙ h
 
 pub from_low : (first t : Tuple) → is_le (tuple_cmp first t) ≡ true → (is_le (ghosts.cmp first t) && true) ≡ true
-from_low first t h = and_true (is_le (ghosts.cmp first t)) ∙ ap is_le (same_order first t) ∙ h
+from_low first t h = and-true (is_le (ghosts.cmp first t)) ∙ ap is_le (same_order first t) ∙ h
 
 -- an entry that is kept, and one that is not
 
@@ -218,7 +204,7 @@ pub keeps_first : (place : ℕ) (q : Tuple → Bool) (t : Tuple) (h : Vec Row) (
 keeps_first place q t h es has there = rw has (rw there refl)
 
 pub skips_first : (place : ℕ) (q : Tuple → Bool) (t : Tuple) (h : Vec Row) (es : Entries) → there_at (versions_of t h.items) place t ≡ false → kept_of place q ((t, h) ∷ es) ≡ kept_of place q es
-skips_first place q t h es gone = ap (λ (b : Bool). cond (q t && b) (t ∷ kept_of place q es) (kept_of place q es)) gone ∙ ap (λ (b : Bool). cond b (t ∷ kept_of place q es) (kept_of place q es)) (and_false (q t))
+skips_first place q t h es gone = ap (λ (b : Bool). cond (q t && b) (t ∷ kept_of place q es) (kept_of place q es)) gone ∙ ap (λ (b : Bool). cond b (t ∷ kept_of place q es) (kept_of place q es)) (and-false (q t))
 
 -- a walk that goes past those that miss the test, as long as another one is passed
 

@@ -1,13 +1,12 @@
 -- A table of tuples, read tuple by tuple.
-use Rattle.std.proofs.Common.{◌≡◌, ◌≤◌, ⊎_elim, ℕ, zero, suc, ◌+◌, ◌-◌, Bool, true, false, cond, List, [], ◌∷◌, ◌++◌, length, take, Option, None, Some, inl, inr, Result, Ok, Err, refl, sym, ◌∙◌, ap, subst, append-nil, rules, arith}
+use Rattle.std.proofs.Common.{◌≡◌, ◌≤◌, ⊎_elim, ℕ, zero, suc, ◌+◌, ◌-◌, Bool, true, false, cond, List, [], ◌∷◌, ◌++◌, length, take, Option, None, Some, inl, inr, refl, sym, ◌∙◌, ap, subst, append-nil, arith}
 use Rattle.std.specs.Global.{Vec}
-use Rattle.std.specs.Prelude.{OnErr}
 use Rattle.std.specs.List.{AllByRecursion, flat_map}
 use Rattle.std.specs.List.Sorted.{IsStrictlySortedBy}
 use Rattle.std.specs.Map.{keys_of, lookup, remove_entry, set_value}
 use Rattle.std.specs.Map.Calls.{RetainsPairs}
 use Rattle.std.specs.BTreeMap.{insert_entry, is_at}
-use Rattle.std.specs.Ordering.{is_eq, is_lt, match_ordering}
+use Rattle.std.specs.Ordering.{is_lt, match_ordering}
 use Rattle.std.specs.declared.cmp.Ordering.{Ordering}
 use Rattle.std.specs.declared.cmp.Ordering.TheVariants.{Less, Equal, Greater}
 use Rattle.std.proofs.lemmas.Bool.{cases_Bool}
@@ -17,26 +16,18 @@ use Rattle.tuples.specs.declared.tuple.Tuple.{Tuple}
 use Rattle.tuples.specs.declared.version.Version.{Version}
 use Rattle.tuples.specs.contracts.tuple.TupleOrd.TheImpl.{ghosts}
 use Rattle.tuples.specs.Changes.{tuple_of}
-use Rattle.tuples.specs.Order.{tuple_cmp, tuple_eq, tuple_lt}
+use Rattle.tuples.specs.Order.{tuple_eq, tuple_lt}
 use Rattle.tuples.specs.Versions.{collected}
-use Rattle.tuples.proofs.Ordered.{tuple_eq_refl, tuple_eq_symm, tuple_lt_apart, tuple_lt_asymm, tuple_lt_irrefl, tuple_lt_total, tuple_lt_trans}
+use Rattle.tuples.proofs.Ordered.{tuple_eq_symm, tuple_lt_apart, tuple_lt_asymm, tuple_lt_irrefl, tuple_lt_total, tuple_lt_trans, same_order, same_tie}
 use Rattle.tuples.proofs.Same.{tuple_same}
 use Rattle.versions.specs.Alike.{AreAlike, of_tuple}
 use Rattle.versions.specs.Rows.{IsTable, change_of, found, listed, rows_in, rows_left, version_of, versions_of}
 use Rattle.versions.specs.declared.history.Row.{Row}
-use Rattle.versions.proofs.Alike.{alike_less, alike_none, alike_sym, collected_own}
+use Rattle.versions.proofs.Alike.{alike_less, alike_none, alike_sym, collected_own, of_own}
 use Rattle.versions.proofs.Histories.{collected_rows, of_other_rows, of_own_rows, tuple_of_change}
 
 abbrev pub Entries : Type 0
 Entries = List (Tuple × Vec Row)
-
--- the order that the type derives is that of tuples
-pub same_order : (a b : Tuple) → ghosts.cmp a b ≡ tuple_cmp a b
-same_order a b = search rules
-
-pub same_tie : (a b : Tuple) → is_eq (ghosts.cmp a b) ≡ tuple_eq a b
-unfolding tuple_eq
-same_tie a b = ap is_eq (same_order a b)
 
 pub before : (a b : Tuple) → ghosts.cmp a b ≡ Less → tuple_lt a b ≡ true
 unfolding tuple_lt
@@ -253,14 +244,11 @@ all_behind : (t u : Tuple) (vs : List Version) → tuple_lt t u ≡ true → All
 all_behind t u [] less none = tt
 all_behind t u (w ∷ vs) less none = (not_before t u (tuple_of w.change) less none.0, all_behind t u vs less none.1)
 
-own_first : (v : Version) (vs : List Version) → of_tuple (tuple_of v.change) (v ∷ vs) ≡ v ∷ of_tuple (tuple_of v.change) vs
-own_first v vs = ap (λ (e : Bool). cond e (v ∷ of_tuple (tuple_of v.change) vs) (of_tuple (tuple_of v.change) vs)) (tuple_eq_refl (tuple_of v.change))
-
 first_apart : (v w : Version) (a b : List Version) → IsGrouped (w ∷ b) → AreAlike (v ∷ a) (w ∷ b) → tuple_lt (tuple_of v.change) (tuple_of w.change) ≡ true → ⊥
 unfolding IsGrouped
 first_apart v w a b grouped alike less =
     let none : of_tuple (tuple_of v.change) (w ∷ b) ≡ [] = none_behind (tuple_of v.change) (w ∷ b) (less, all_behind (tuple_of v.change) (tuple_of w.change) b less grouped.0) in
-    let some : v ∷ of_tuple (tuple_of v.change) a ≡ [] = sym (own_first v a) ∙ alike.each (tuple_of v.change) ∙ none in
+    let some : v ∷ of_tuple (tuple_of v.change) a ≡ [] = sym (of_own v a) ∙ alike.each (tuple_of v.change) ∙ none in
     absurd cc
 
 grouped_same : (a b : List Version) → IsGrouped a → IsGrouped b → AreAlike a b → a ≡ b
@@ -272,7 +260,7 @@ grouped_same (v ∷ a) (w ∷ b) left right alike = elim (tuple_lt_total (tuple_
   | inr (inr more) ↦ absurd (first_apart w v b a left (alike_sym alike) more)
   | inr (inl same) ↦
       let firsts : v ∷ of_tuple (tuple_of v.change) a ≡ w ∷ of_tuple (tuple_of v.change) b =
-      sym (own_first v a) ∙ alike.each (tuple_of v.change) ∙ ap (λ (t : Tuple). of_tuple t (w ∷ b)) same ∙ own_first w b ∙ ap (λ (t : Tuple). w ∷ of_tuple t b) (sym same)
+      sym (of_own v a) ∙ alike.each (tuple_of v.change) ∙ ap (λ (t : Tuple). of_tuple t (w ∷ b)) same ∙ of_own w b ∙ ap (λ (t : Tuple). w ∷ of_tuple t b) (sym same)
       in
       let one : v ≡ w = cc in
       let rest : AreAlike a b = alike_less v a [] b (subst (λ (x : Version). AreAlike (v ∷ a) (x ∷ b)) (sym one) alike) refl in
@@ -310,22 +298,11 @@ grouped_listed ((t, h) ∷ es) sorted = grouped_rows t h.items (listed es) (grou
 pub listed_same : (es fs : Entries) → IsTable es → IsTable fs → AreAlike (listed es) (listed fs) → listed es ≡ listed fs
 listed_same es fs left right alike = grouped_same (listed es) (listed fs) (grouped_listed es left.in_order) (grouped_listed fs right.in_order) alike
 
-pub on_err : {A E P : Type 0} (r : Result A E) → P → OnErr r P
-on_err (Ok a) p = tt
-on_err (Err e) p = p
-
 pub take_none : {X : Type 0} (n : ℕ) → take {A = X} n [] ≡ []
 take_none zero = refl
 take_none (suc n) = refl
 
 -- ---- what stays of the grammar
-
-pub all_set : (P : Tuple → Type 0) (test : Tuple → Bool) (es : Entries) (w : Vec Row) → AllByRecursion P (keys_of es) → AllByRecursion P (keys_of (set_value test es w))
-all_set P test [] w all = tt
-all_set P test ((t, h) ∷ es) w all = elim (cases_Bool (test t)) [
-  | inl is ↦ rw is all
-  | inr apart ↦ rw apart (all.0, all_set P test es w all.1)
-]
 
 pub all_removed : (P : Tuple → Type 0) (test : Tuple → Bool) (es : Entries) → AllByRecursion P (keys_of es) → AllByRecursion P (keys_of (remove_entry test es))
 all_removed P test [] all = tt

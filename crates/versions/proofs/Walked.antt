@@ -14,13 +14,13 @@ use Rattle.tuples.specs.declared.version.Version.{Version}
 use Rattle.tuples.specs.contracts.tuple.TupleOrd.TheImpl.{ghosts}
 use Rattle.tuples.specs.Changes.{tuple_of}
 use Rattle.tuples.specs.Order.{tuple_cmp}
-use Rattle.tuples.proofs.Ordered.{tuple_total}
+use Rattle.tuples.proofs.Ordered.{tuple_total, same_order}
 use Rattle.versions.specs.Alike.{of_tuple}
 use Rattle.versions.specs.Rows.{IsTable, listed, version_cmp, version_of, versions_of}
 use Rattle.versions.specs.Walks.{IsInOrder, Rise}
 use Rattle.versions.specs.declared.history.Row.{Row}
 use Rattle.versions.proofs.Histories.{of_own_rows, tuple_of_change}
-use Rattle.versions.proofs.Tables.{AreSorted, Entries, same_order}
+use Rattle.versions.proofs.Tables.{AreSorted, Entries}
 
 -- no version stands before the one that it follows
 abbrev Follow : List Version → Type 0

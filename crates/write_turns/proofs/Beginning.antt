@@ -9,8 +9,8 @@ use Rattle.calls.specs.declared.call.CoordinatorCall.TheVariants as coordinator_
 use Rattle.calls.specs.declared.reply.CoordinatorReply.TheVariants as told
 use Rattle.commit_flow.specs.Answering.{BeginGives}
 use Rattle.commit_flow.specs.WriteHolds as waits
-use Rattle.turns.specs.FlowLaws.{with_intent, with_open}
-use Rattle.turns.specs.Flows.{nothing_begun}
+use Rattle.stores.specs.FlowLaws.{with_intent, with_open}
+use Rattle.stores.specs.Flows.{nothing_begun}
 use Rattle.turns.specs.SeamLaws.{IsBeginner}
 use Rattle.turns.proofs.BeginSeam.{begin_has_cause, begin_turns}
 use Rattle.write_turns.proofs.Catching.{may_ask_coordinator}

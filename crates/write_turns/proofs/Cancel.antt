@@ -3,11 +3,11 @@ use Rattle.std.proofs.Common.{◌≡◌, inl, inr, ℕ, Bool, true, true≢false
 use Rattle.std.proofs.Math.Path.{fun_ext}
 use Rattle.write_turns.proofs.Words.{Asked, Change, Condition, DecidedValue, FlowView, IsHorizonIn, IsRight, IsRightWrite, Moment, NamesHorizon, NodeName, Ran, Record, Refusal, Running, ShowsFlow, SlotTurns, Stands, StandsOver, State, Store, WriteHolds, WriteValue, WriteView, asked_of, at_rest, ended, flow_at, flows_end, id_of, inside_by, left, onward, outward, replaced, shown, shown_until, still_given, still_within, stops, view_ended, writing}
 use Rattle.commit_flow.specs.declared.end.WriteEnd.TheVariants.{Cancelled}
-use Rattle.turns.specs.Flows.{Way}
-use Rattle.turns.specs.Moments.{is_write}
+use Rattle.stores.specs.Flows.{Way}
+use Rattle.stores.specs.Moments.{is_write}
+use Rattle.stores.specs.Stores.{AreSound, ShowsSlot}
+use Rattle.stores.proofs.FlowGoesOn.{flows_go_on}
 use Rattle.turns.specs.Runs.{IfRunning, IsCancelled, cancel, restart}
-use Rattle.turns.specs.Stores.{AreSound, ShowsSlot}
-use Rattle.turns.proofs.FlowGoesOn.{flows_go_on}
 use Rattle.call_turns.proofs.Turned.{shows_ended, shows_going}
 use Rattle.write_turns.specs.Cancelling.{CancelsRun, IsCancelledThere}
 use Rattle.call_turns.specs.Steps.{IsUncalled}

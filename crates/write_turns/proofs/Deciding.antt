@@ -4,13 +4,13 @@ use Rattle.std.specs.Prelude.{MatchOption}
 use Rattle.std.specs.Global.{Vec}
 use Rattle.std.proofs.lemmas.Bool.{cases_Bool, cases_lt}
 use Rattle.std.proofs.lemmas.List.{append_assoc}
-use Rattle.std.proofs.lemmas.List.Elements.{All-head, All-tail}
-use Rattle.write_turns.proofs.Words.{Absent, Answered, Condition, CoordinatorView, DecidedValue, Down, Entry, Exists, FailsQuietly, Full, GivesTo, GoesOut, HasItsCause, HoldsLess, IntentValue, IsCalled, IsHorizonIn, IsIntent, IsMade, IsOnItsWay, IsQuietlyMade, IsReplyTo, IsSeen, IsUndecidedFlow, Machine, Moment, NamesHorizon, NoMemory, NodeName, NodeView, Nodes, NotAfter, Record, Reply, Running, Stands, StandsOver, State, Store, TakesMemory, Turns, TurnsBy, VoteValue, Want, WriteHolds, WriteView, answered_belongs, at_rest, coordinator, down_coordinator_fails, end_of, from_coordinator, goes_on, going_on, greatest_number, is_seen, left, of_coordinator, onward, outward, refused_fails, runs_now, shard, still_made, still_of, stops, told_unless, without_id, writing}
+use Rattle.write_turns.proofs.Words.{Answered, CoordinatorView, DecidedValue, Down, Entry, FailsQuietly, Full, GivesTo, GoesOut, HasItsCause, HoldsLess, IntentValue, IsCalled, IsHorizonIn, IsIntent, IsMade, IsOnItsWay, IsQuietlyMade, IsReplyTo, IsSeen, IsUndecidedFlow, Machine, Moment, NamesHorizon, NoMemory, NodeName, NodeView, Nodes, Record, Reply, Running, Stands, StandsOver, State, Store, TakesMemory, Turns, TurnsBy, VoteValue, WriteHolds, WriteView, answered_belongs, at_rest, coordinator, down_coordinator_fails, end_of, from_coordinator, goes_on, going_on, greatest_number, is_seen, left, of_coordinator, onward, outward, refused_fails, runs_now, shard, still_made, still_of, stops, told_unless, without_id, writing}
 use Rattle.refusal.specs.declared.refusal.Refusal.TheVariants.{Aborted}
+use Rattle.refusal.proofs.Cases.{is_full}
 use Rattle.records.specs.declared.record.Record.TheVariants.{Decision}
 use Rattle.records.specs.Coordinators.{CoordinatorState, coordinator_state, coordinator_step}
-use Rattle.records.specs.Format.{ConditionsFit, IsRecord, WantFits}
-use Rattle.records.specs.Replays.{AskOfLog, AsksOfLog, without}
+use Rattle.records.specs.Format.{IsRecord}
+use Rattle.records.specs.Replays.{without}
 use Rattle.records.proofs.CoordinatorStates.{coordinator_push}
 use Rattle.decisions.specs.Coordinators.{DecidesAt, HasNoPlace, HaveVoted, IsDecidedAbove, memory_of}
 use Rattle.coordinator.specs.declared.decided.NotDecided.{NotDecided}
@@ -20,25 +20,16 @@ use Rattle.calls.specs.declared.reply.CoordinatorReply.TheVariants as told
 use Rattle.commit_flow.specs.Answering.{DecideGives, NotDecidedGives}
 use Rattle.commit_flow.specs.WriteHolds as waits
 use Rattle.laws.specs.Nodes.{CoordinatorKnows, staged_of}
-use Rattle.turns.specs.Causes.{IsFull}
-use Rattle.turns.specs.DecidingLaws.{IsDecider, with_decided, with_write}
+use Rattle.stores.specs.Causes.{IsFull}
+use Rattle.stores.specs.DecidingLaws.{IsDecider, with_decided, with_write}
 use Rattle.turns.specs.SeamLaws.{behind}
 use Rattle.turns.proofs.DecideCauses.{decide_has_cause}
 use Rattle.turns.proofs.DecideSeam.{decide_turns}
 use Rattle.turns.proofs.ShardPrepareSeam.{last_sync}
 use Rattle.write_turns.proofs.Catching.{may_ask_coordinator}
 use Rattle.write_turns.proofs.Going.{IsFlow, Promises, asks_own, calls_coordinator, flow_there, goes_out, going, holds_is, moved, none_decided, right, stays_so}
-use Rattle.write_turns.proofs.Learning.{is_full}
 use Rattle.write_turns.proofs.Memory.{devices, made}
-
-want_fits : (want : Want) → AsksOfLog want → WantFits want
-want_fits (NotAfter place) asks = omega (arith, asks)
-want_fits Exists asks = tt
-want_fits Absent asks = tt
-
-fit : (cs : List Condition) → AskOfLog cs → ConditionsFit cs
-fit [] asks = tt
-fit (c ∷ cs) asks = (want_fits c.want (All-head (λ (d : Condition). AsksOfLog d.want) c cs asks), fit cs (All-tail (λ (d : Condition). AsksOfLog d.want) c cs asks))
+use Rattle.shard.proofs.Tested.{fit}
 
 -- the decision of an intent at a place can be spelled
 decision_record : (w : Entry) (place : ℕ) → IsIntent w → place ≤ greatest_number → IsRecord (Decision place w)

@@ -3,14 +3,14 @@ use Rattle.std.proofs.Common.{◌≡◌, ◌≢◌, inr, ◌<◌, ℕ, Bool, tru
 use Rattle.write_turns.proofs.Words.{Asked, BatchValue, Calls, Change, Condition, Entry, FailsQuietly, FlowView, HasItsCause, HoldsLess, IfHeld, IntentValue, IsMade, IsQuietlyMade, IsRight, IsRightBatch, IsRightWrite, Machine, Moment, NamesHorizon, NodeName, Nodes, Ran, Record, Refusal, Refused, Running, ShowsFlow, SlotTurns, Stands, StandsOver, State, Store, Told, Turns, Unsure, WriteHolds, WriteId, WriteView, at_rest, coordinator, ending, flow_at, going_on, id_of, outward, own_write, refuses, shard, shown, shown_until, stops, takes_part, to_write, told_end, told_of, told_unless, view_ended, with_call, writing}
 use Rattle.commit_flow.specs.Answering.{end_of}
 use Rattle.commit_flow.specs.declared.end.WriteEnd.{WriteEnd}
-use Rattle.turns.specs.Causes.{CallsShard}
-use Rattle.turns.specs.Flows.{Holds, to_check, to_collect, to_flush, to_learn, to_raise, to_read, to_resolve, to_watch}
+use Rattle.stores.specs.Causes.{CallsShard}
+use Rattle.stores.specs.Flows.{Holds, to_check, to_collect, to_flush, to_learn, to_raise, to_read, to_resolve, to_watch}
+use Rattle.stores.specs.StagingLaws.{IsFlowOf}
+use Rattle.stores.proofs.PrepareTurn.{part_has, part_named}
 use Rattle.turns.specs.Promises.{events_of}
 use Rattle.turns.specs.QuietTurns.{behind_call, with_batch}
 use Rattle.turns.specs.Runs.{turn}
-use Rattle.turns.specs.StagingLaws.{IsFlowOf}
 use Rattle.turns.proofs.AnswerTurns.{refused_writes_end}
-use Rattle.turns.proofs.PrepareTurn.{part_has, part_named}
 use Rattle.turns.proofs.QuietTurns.{quiet_calls_end, quiet_calls_keep, quiet_calls_refuse, refused_writes_go_out, writes_spend}
 use Rattle.call_turns.proofs.Turned.{ran_ending, ran_going, runs, the_flow}
 
@@ -108,7 +108,7 @@ module _ {D : Type 0} (state : D → State) (honest : D → Type 0) (moment : D 
     flow_of i has id none = record { there = is_flow.running; asked = asks_own i has id; id = ap (λ (x : Holds). turns_id x) holds_is ∙ id; undecided = none_decided none }
       where
         turns_id : Holds → Option WriteId
-        turns_id = Rattle.turns.specs.Flows.id_of
+        turns_id = Rattle.stores.specs.Flows.id_of
 
     -- it goes on in its slot, and holds this
     pub going : (next : Nodes) (m : Machine) (k : WriteHolds) (caught : Option ℕ) (flushed : Bool) (id : WriteId) (q : Running) → IsMade state honest moment left_since store shards old new now next m → k.id ≡ Some id
@@ -123,7 +123,7 @@ module _ {D : Type 0} (state : D → State) (honest : D → Type 0) (moment : D 
         shows : ShowsFlow q (shown (record (at_rest k) { caught = caught; flushed = flushed }) is_cancelled)
         shows = record {
           asked = λ a is. absurd cc;
-          still_asked = λ none. let both : Some id ≡ None = sym has_id ∙ ap Rattle.turns.specs.Flows.id_of (sym holds) ∙ none in absurd cc;
+          still_asked = λ none. let both : Some id ≡ None = sym has_id ∙ ap Rattle.stores.specs.Flows.id_of (sym holds) ∙ none in absurd cc;
           holds = sym holds;
           cancelled = sym cancelled_is ∙ sym same_cancelled;
         }

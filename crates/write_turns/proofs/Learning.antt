@@ -1,5 +1,5 @@
 -- Decisions that a write fetches for a shard, and lets it learn.
-use Rattle.std.proofs.Common.{◌≡◌, ◌≢◌, ◌⊎◌, inl, inr, ⊎_elim, ◌≤◌, ◌<◌, ◌+◌, ℕ, Bool, true, false, List, length, Result, Ok, Err, Some, None, refl, sym, ◌∙◌, ap, subst, arith}
+use Rattle.std.proofs.Common.{◌≡◌, ◌≢◌, ◌⊎◌, inl, inr, ⊎_elim, ◌≤◌, ◌<◌, ◌+◌, ℕ, Bool, true, false, List, length, Result, Ok, Err, Some, None, sym, ◌∙◌, ap, subst, arith}
 use Rattle.std.specs.Prelude.{MatchOption}
 use Rattle.write_turns.proofs.Words.{Answered, BatchValue, CatchUpGives, CatchUpValue, Collected, CoordinatorView, Full, Future, GivesTo, GoesOn, HasItsCause, HasShard, IfHeld, IsCalled, IsOnItsWay, IsQuietlyMade, IsReplyTo, IsRightBatch, IsSeen, Machine, Moment, NoMemory, NodeView, Nodes, ProgressGives, Refusal, Reply, Running, StandsOver, State, Store, TakesMemory, TurnsBy, WriteView, answered_belongs, behind_shard, coordinator, end_of, from_coordinator, from_shard, greatest_number, left, of_coordinator, of_shard, shard, still_of, stops}
 use Rattle.decisions.specs.Coordinators.{kept_of}
@@ -10,22 +10,14 @@ use Rattle.calls.specs.declared.reply.ShardReply.TheVariants as told_by
 use Rattle.catch_up.specs.Held.{decisions, learning}
 use Rattle.commit_flow.specs.WriteHolds as waits
 use Rattle.commit_flow.specs.Writing.{IsCaughtUpTo}
-use Rattle.turns.specs.Causes.{LetsLearn}
+use Rattle.stores.specs.Causes.{LetsLearn}
 use Rattle.turns.specs.QuietTurns.{batch_of}
 use Rattle.turns.proofs.CoordinatorCalls.{batch_answers, batch_has_cause}
 use Rattle.turns.proofs.ShardLearnSeam.{learns_quietly, refused_learns_have_cause}
 use Rattle.call_turns.proofs.Asked.{LearnComes, batch_told, learn_told}
 use Rattle.write_turns.proofs.Catching.{calls_this, fails_at, goes_next, may_ask_coordinator, may_ask_shard, no_batch, refused_at}
 use Rattle.write_turns.proofs.Going.{IsFlow, Promises, asked_is, calls_coordinator, flow_there, holds_is, right}
-
--- a refusal is this one, or another
-is_collected : (e : Refusal) → (e ≡ Collected) ⊎ (e ≢ Collected)
-is_collected Collected = inl refl
-is_collected e = inr (λ is. cc)
-
-pub is_full : (e : Refusal) → (e ≡ Full) ⊎ (e ≢ Full)
-is_full Full = inl refl
-is_full e = inr (λ is. cc)
+use Rattle.refusal.proofs.Cases.{is_full, is_collected}
 
 module _ {D : Type 0} (state : D → State) (honest : D → Type 0) (moment : D → ℕ) (left_since : D → ℕ → List ℕ → Type 0)
     (counts_now : (d : D) (t : ℕ) (c : List ℕ) → honest d → t ≤ moment d → left (state d) c → left_since d t c) (only_now : (d : D) (c : List ℕ) → honest d → left_since d (moment d) c → left (state d) c)

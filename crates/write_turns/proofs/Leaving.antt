@@ -18,7 +18,7 @@ use Rattle.commit_flow.specs.Answering.{AbortGives, GoesToDrop, InquireGives, en
 use Rattle.commit_flow.specs.Views.{as_tickets, as_votes}
 use Rattle.commit_flow.specs.WriteHolds as waits
 use Rattle.commit_flow.specs.Writing.{IsOnItsWayOut}
-use Rattle.turns.specs.AbortLaws.{with_closed, with_verdict}
+use Rattle.stores.specs.AbortLaws.{with_closed, with_verdict}
 use Rattle.turns.specs.Runs.{EndsAs, EndsQuietly, IsQuiet, MayRise}
 use Rattle.turns.proofs.AbortSeam.{abort_turns}
 use Rattle.turns.proofs.CoordinatorCalls.{inquiries_answer}

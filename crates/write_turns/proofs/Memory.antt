@@ -3,7 +3,7 @@ use Rattle.std.proofs.Common.{◌≡◌, ◌≢◌, ◌⊎◌, ◌==◌, ℕ, Bo
 use Rattle.std.proofs.lemmas.Bool.{eq-eqb}
 use Rattle.write_turns.proofs.Words.{CoordinatorView, IsCalled, IsHorizonIn, IsMade, IsSeen, Machine, Moment, NamesHorizon, NodeName, Nodes, Record, Running, StandsOver, State, Store, WriteId, coordinator, devices_of, down, ended, fails_by, inside_by, is_seen, left, replaced, same_devices, shard, shows_nodes, still_given, still_named, still_sound, still_within, stops, up}
 use Rattle.calls.specs.Views as views
-use Rattle.turns.specs.Stores.{ShowsNodes}
+use Rattle.stores.specs.Stores.{ShowsNodes}
 
 module _ {D : Type 0} (state : D → State) (honest : D → Type 0) (moment : D → ℕ) (left_since : D → ℕ → List ℕ → Type 0)
     (only_now : (d : D) (c : List ℕ) → honest d → left_since d (moment d) c → left (state d) c)

@@ -11,8 +11,8 @@ use Rattle.calls.specs.declared.reply.CoordinatorReply.TheVariants as told
 use Rattle.commit_flow.specs.Answering.{OutcomeGives}
 use Rattle.commit_flow.specs.WriteHolds as waits
 use Rattle.commit_flow.specs.declared.end.WriteEnd.TheVariants.{Wrote}
+use Rattle.stores.specs.Replies.{wrote}
 use Rattle.turns.specs.CoordinatorSeamLaws.{HasDecided, IsForgotten}
-use Rattle.turns.specs.Replies.{wrote}
 use Rattle.turns.specs.Runs.{answered}
 use Rattle.turns.proofs.CoordinatorCalls.{decisions_are_forgotten}
 use Rattle.turns.proofs.CoordinatorTurns.{away_is_forgotten, kept_answers, unsure_answers}

@@ -4,6 +4,7 @@ use Rattle.std.specs.Prelude.{MatchOption}
 use Rattle.std.proofs.lemmas.Bool.{cases_Bool}
 use Rattle.write_turns.proofs.Words.{Absent, Answered, Calls, Collected, Down, Entry, Exists, FailsQuietly, Full, GivesTo, HasItsCause, HoldsLess, IntentValue, IsCalled, IsHolder, IsIntent, IsMade, IsOnItsWay, IsQuietlyMade, IsReplyTo, Moment, NoMemory, NodeName, NodeView, Nodes, NotAfter, Record, Refusal, Reply, Running, ShardView, StandsOver, State, Store, TakesMemory, TicketValue, TurnsBy, Want, WriteHolds, WriteView, answered_belongs, at_rest, behind_shard, devices_of, down, down_shard_fails, fails_by, from_shard, held_ticket, inside_by, knows, left, memory, of_shard, onward, outward, part, refused_fails, same_devices, shard, shard_is_seen, shard_is_up, shows_nodes, still_given, still_made, still_named, still_of, still_sound, still_within, stops, takes_part, ticket_value, up, with_call, writing}
 use Rattle.refusal.specs.declared.refusal.Refusal.TheVariants.{Busy, Precondition}
+use Rattle.refusal.proofs.Cases.{is_full}
 use Rattle.records.specs.declared.record.Record.TheVariants.{Prepare}
 use Rattle.journal.specs.Records.{HasNoRoom}
 use Rattle.shard.specs.Calls.{PrepareRefused, PreparesAt}
@@ -17,17 +18,16 @@ use Rattle.commit_flow.specs.Answering.{PrepareGives}
 use Rattle.commit_flow.specs.WriteHolds as waits
 use Rattle.commit_flow.specs.Writing.{GaveBelow}
 use Rattle.laws.specs.Shards.{ShardMeans}
-use Rattle.turns.specs.Causes.{IsBelow as IsBelowCause}
-use Rattle.turns.specs.Flows.{HeldVote}
-use Rattle.turns.specs.Held.{HoldsOf}
-use Rattle.turns.specs.PrepareLaws.{IsPreparing}
+use Rattle.stores.specs.Causes.{IsBelow as IsBelowCause}
+use Rattle.stores.specs.Flows.{HeldVote}
+use Rattle.stores.specs.Held.{HoldsOf}
+use Rattle.stores.specs.PrepareLaws.{IsPreparing}
+use Rattle.stores.proofs.PrepareTurn.{broken_shards_have_cause, busy_shards_have_cause, full_shards_have_cause, part_condition}
 use Rattle.turns.specs.ShardSeamLaws.{ShardIsSeen}
-use Rattle.turns.proofs.PrepareTurn.{broken_shards_have_cause, busy_shards_have_cause, full_shards_have_cause, part_condition}
 use Rattle.turns.proofs.ShardPrepareSeam.{not_prepared, prepare_turns_of}
 use Rattle.turns.proofs.ShardSeam.{elsewhere, here, known_left, own_is}
 use Rattle.write_turns.proofs.Catching.{may_ask_shard}
 use Rattle.write_turns.proofs.Going.{IsFlow, Promises, asks_own, calls_shard, flow_of, flow_there, goes_out, going, holds_is, moved, stays_so}
-use Rattle.write_turns.proofs.Learning.{is_full}
 
 module _ {D : Type 0} (state : D → State) (honest : D → Type 0) (moment : D → ℕ) (left_since : D → ℕ → List ℕ → Type 0)
     (counts_now : (d : D) (t : ℕ) (c : List ℕ) → honest d → t ≤ moment d → left (state d) c → left_since d t c) (only_now : (d : D) (c : List ℕ) → honest d → left_since d (moment d) c → left (state d) c)

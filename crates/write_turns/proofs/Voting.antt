@@ -12,9 +12,9 @@ use Rattle.calls.specs.declared.call.ShardCall.TheVariants as shard_calls
 use Rattle.calls.specs.declared.reply.ShardReply.TheVariants as told_by
 use Rattle.commit_flow.specs.Answering.{VoteGives}
 use Rattle.commit_flow.specs.WriteHolds as waits
-use Rattle.turns.specs.Causes.{IsCutOff}
-use Rattle.turns.proofs.AbortCauses.{refused_tickets}
-use Rattle.turns.proofs.FlowBegins.{alone}
+use Rattle.stores.specs.Causes.{IsCutOff}
+use Rattle.stores.proofs.AbortCauses.{refused_tickets}
+use Rattle.stores.proofs.FlowBegins.{alone}
 use Rattle.turns.proofs.ShardPrepareSeam.{vote_turns_of}
 use Rattle.write_turns.proofs.Catching.{may_ask_shard}
 use Rattle.write_turns.proofs.Going.{IsFlow, Promises, asked_is, calls_shard, changes, conditions, fails_out, flow_of, flow_there, goes_out, going, holds_is, moved, right, stays_so}

@@ -28,6 +28,14 @@ pub use Rattle.records.specs.declared.record.Record.{Record}
 pub use Rattle.refusal.specs.declared.refusal.Refusal.{Refusal}
 pub use Rattle.refusal.specs.declared.refusal.Refusal.TheVariants.{Collected, Down, Full, Future, NoMemory, Unsure}
 pub use Rattle.shard.specs.Shards.{ShardView, memory}
+pub use Rattle.stores.proofs.FlowEnds.{flows_end}
+pub use Rattle.stores.specs.AbortLaws.{IsUndecidedFlow}
+pub use Rattle.stores.specs.Causes.{Calls, HasItsCause, TakesMemory}
+pub use Rattle.stores.specs.Flows.{Asked, HeldTicket, WriteHolds, id_of, onward, outward, to_write, writing}
+pub use Rattle.stores.specs.Held.{IfHeld, IsRight, IsRightBatch, IsRightTicket, IsRightWrite, own_write}
+pub use Rattle.stores.specs.Moments.{Moment, Running, ended, flow_at, replaced}
+pub use Rattle.stores.specs.Stands.{IsHorizonIn, Stands}
+pub use Rattle.stores.specs.Stores.{FlowView, NamesHorizon, ShowsFlow, StandsOver, Store, stops}
 pub use Rattle.tuples.specs.Parts.{part, takes_part}
 pub use Rattle.tuples.specs.Writes.{WriteValue}
 pub use Rattle.tuples.specs.declared.change.Change.{Change}
@@ -36,19 +44,11 @@ pub use Rattle.tuples.specs.declared.change.Want.{Want}
 pub use Rattle.tuples.specs.declared.change.Want.TheVariants.{Absent, Exists, NotAfter}
 pub use Rattle.tuples.specs.declared.entry.Entry.{Entry}
 pub use Rattle.tuples.specs.declared.entry.WriteId.{WriteId}
-pub use Rattle.turns.proofs.FlowEnds.{flows_end}
 pub use Rattle.turns.proofs.ShardSeam.{knows}
-pub use Rattle.turns.specs.AbortLaws.{IsUndecidedFlow}
-pub use Rattle.turns.specs.Causes.{Calls, HasItsCause, TakesMemory}
-pub use Rattle.turns.specs.Flows.{Asked, HeldTicket, WriteHolds, id_of, onward, outward, to_write, writing}
-pub use Rattle.turns.specs.Held.{IfHeld, IsRight, IsRightBatch, IsRightTicket, IsRightWrite, own_write}
-pub use Rattle.turns.specs.Moments.{Moment, Running, ended, flow_at, replaced}
 pub use Rattle.turns.specs.Promises.{Ran}
 pub use Rattle.turns.specs.QuietTurns.{HoldsLess, ending, going_on, with_call}
 pub use Rattle.turns.specs.Runs.{Told, Turns, goes_on, refuses}
 pub use Rattle.turns.specs.SeamLaws.{IsSeen, told_unless}
 pub use Rattle.turns.specs.ShardSeamLaws.{IsHolder, behind_shard, held_ticket}
-pub use Rattle.turns.specs.Stands.{IsHorizonIn, Stands}
-pub use Rattle.turns.specs.Stores.{FlowView, NamesHorizon, ShowsFlow, StandsOver, Store, stops}
 pub use Rattle.write_turns.specs.Seen.{asked_of, shown, shown_until, told_end, told_of}
 pub use Rattle.write_turns.specs.Turning.{TurnsBy}

@@ -3,9 +3,9 @@ use Rattle.std.specs.Prelude.{◌≡◌, ℕ, Bool, true, List, [], None}
 use Rattle.device.specs.Device.{State}
 use Rattle.commit_flow.specs.Cancelling.{Cancels}
 use Rattle.commit_flow.specs.Views.{WriteView}
+use Rattle.stores.specs.Stores.{Store}
 use Rattle.turns.specs.Promises.{RunsOne}
 use Rattle.turns.specs.Runs.{cancel}
-use Rattle.turns.specs.Stores.{Store}
 use Rattle.call_turns.specs.Steps.{IsUncalled}
 use Rattle.call_turns.specs.StoreTurns.{SlotTurns}
 use Rattle.write_turns.specs.Seen.{shown, shown_until}

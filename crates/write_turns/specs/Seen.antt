@@ -4,11 +4,11 @@ use Rattle.tuples.specs.Writes.{WriteValue}
 use Rattle.commit_flow.specs.Views.{WriteView}
 use Rattle.commit_flow.specs.declared.end.WriteEnd.{WriteEnd}
 use Rattle.commit_flow.specs.declared.end.WriteEnd.TheVariants.{Wrote, Refused, Cancelled}
-use Rattle.turns.specs.Flows.{Asked, to_write, writing}
-use Rattle.turns.specs.Replies.{wrote}
+use Rattle.stores.specs.Flows.{Asked, to_write, writing}
+use Rattle.stores.specs.Replies.{wrote}
+use Rattle.stores.specs.Stores.{FlowView}
 use Rattle.turns.specs.Runs.{Told, answered, refuses}
 use Rattle.turns.specs.SeamLaws.{told_unless}
-use Rattle.turns.specs.Stores.{FlowView}
 
 -- what it is asked: its write, until a call takes it
 abbrev pub asked_of : Option WriteValue → Option Asked

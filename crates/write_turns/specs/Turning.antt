@@ -9,7 +9,7 @@ use Rattle.calls.specs.declared.reply.Reply.{Reply}
 use Rattle.commit_flow.specs.Answering.{GivesTo}
 use Rattle.commit_flow.specs.Views.{WriteView}
 use Rattle.commit_flow.specs.Writing.{Asks}
-use Rattle.turns.specs.Stores.{Store}
+use Rattle.stores.specs.Stores.{Store}
 use Rattle.call_turns.specs.StoreCalls.{FitsItsTypes, IsCalled, called}
 use Rattle.call_turns.specs.StoreTurns.{SlotTurns, TurnRuns}
 use Rattle.write_turns.specs.Seen.{shown, shown_until, told_of}

@@ -1,24 +1,21 @@
 // A row: a node of a store, and the bytes of its two devices.
-ghost use Rattle.std.specs.Prelude.{◌≤◌, ◌<◌};
+ghost use Rattle.std.specs.Prelude.{◌<◌};
 ghost use Rattle.std.specs.Option.{ForSome};
-ghost use Rattle.tuples.specs.Limits.{max_shards};
 
 use crate::images::opening::{open_coordinator, open_shard};
 use device::SimDisk;
 use records::Identity;
 use std::alloc::Global;
-use tuples::{MAX_SHARDS, Refusal};
+use tuples::{Refusal, Shards};
 
 #[derive(Clone, Copy)]
 pub(crate) struct Row<'a> {
     // none for the coordinator
     shard: Option<u8>,
     store: u64,
-    shards: u8,
+    shards: Shards,
     a: &'a str,
     b: &'a str,
-    ghost some: { 1 ≤ shards },
-    ghost few: { shards ≤ max_shards },
     ghost there: { ForSome shard (λ s. s < shards) },
 }
 
@@ -30,10 +27,7 @@ impl<'a> Row<'a> {
         let (shards, rest) = rest.split_once(' ')?;
         let (a, b) = rest.split_once(' ')?;
         let store = store.parse::<u64>().ok()?;
-        let shards = shards.parse::<u8>().ok()?;
-        if shards < 1 || shards > MAX_SHARDS {
-            return None;
-        }
+        let shards = Shards::checked(shards.parse::<u8>().ok()?)?;
         if node == "c" {
             return Some(Row {
                 shard: None,
@@ -44,7 +38,7 @@ impl<'a> Row<'a> {
             });
         }
         let shard = node.parse::<u8>().ok()?;
-        if shard >= shards {
+        if !shards.has(shard) {
             return None;
         }
         Some(Row {

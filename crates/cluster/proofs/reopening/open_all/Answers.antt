@@ -21,31 +21,19 @@ loop-shard-preserved g c = record {
 }
 
 pub returns-clause-opened : goal.returns-clause-opened
-returns-clause-opened g c = opened g.D.Device.state g.D.Device.honest g.D.Device.moment g.D.Device.left_since c.args.store c.args.shards c.args.devices.items c.loop-shard.devices.items c.loop-shard.nodes.items (vec_len c.loop-shard.devices) c.loop-shard.shard c.loop-shard.invariant.so_far (sym c.loop-shard.devices.ok.0) c.loop-shard.invariant.left c.loop-shard-test.false
+returns-clause-opened g c = opened g.D.Device.state g.D.Device.honest g.D.Device.moment g.D.Device.left_since c.args.store c.args.shards c.args.devices.items c.loop-shard.devices.items c.loop-shard.nodes.items (vec_len c.loop-shard.devices) c.loop-shard.shard c.loop-shard.invariant.so_far (sym c.loop-shard.devices.ok.0) c.loop-shard.invariant.left (omega (arith, c.loop-shard-test.false, c.count-count.ensures.value))
 
 pub returns-clause-count : goal.returns-clause-count
-returns-clause-count g c = count_all (length c.loop-shard.nodes.items) (vec_len c.loop-shard.nodes) c.loop-shard.shard c.args.shards c.loop-shard.nodes.ok.0 c.loop-shard.invariant.opened c.loop-shard-test.false c.loop-shard.auto.shard-end
-
-pub open_next-requires-clause-some : goal.open_next-requires-clause-some
-open_next-requires-clause-some g c = c.requires.some
-
-pub open_next-requires-clause-few : goal.open_next-requires-clause-few
-open_next-requires-clause-few g c = c.requires.few
+returns-clause-count g c = count_all (length c.loop-shard.nodes.items) (vec_len c.loop-shard.nodes) c.loop-shard.shard c.args.shards c.loop-shard.nodes.ok.0 c.loop-shard.invariant.opened (omega (arith, c.loop-shard-test.false, c.count-count.ensures.value)) (omega (arith, c.loop-shard.auto.shard-end, c.count-count.ensures.value))
 
 pub open_next-requires-clause-left : goal.open_next-requires-clause-left
-open_next-requires-clause-left g c = omega (arith, c.requires.count, c.requires.some)
-
-pub open_next-requires-in-loop-shard-clause-some : goal.open_next-requires-in-loop-shard-clause-some
-open_next-requires-in-loop-shard-clause-some g c = c.requires.some
-
-pub open_next-requires-in-loop-shard-clause-few : goal.open_next-requires-in-loop-shard-clause-few
-open_next-requires-in-loop-shard-clause-few g c = c.requires.few
+open_next-requires-clause-left g c = omega (arith, c.requires.count, c.count-count.ensures.whole.some)
 
 pub open_next-requires-in-loop-shard-clause-there : goal.open_next-requires-in-loop-shard-clause-there
-open_next-requires-in-loop-shard-clause-there g c = c.loop-shard-test.true
+open_next-requires-in-loop-shard-clause-there g c = omega (arith, c.loop-shard-test.true, c.count-count.ensures.value)
 
 pub open_next-requires-in-loop-shard-clause-left : goal.open_next-requires-in-loop-shard-clause-left
-open_next-requires-in-loop-shard-clause-left g c = omega (arith, c.loop-shard.invariant.left, c.loop-shard-test.true)
+open_next-requires-in-loop-shard-clause-left g c = omega (arith, c.loop-shard.invariant.left, c.loop-shard-test.true, c.count-count.ensures.value)
 
 pub open_next-requires-in-loop-shard-clause-room : goal.open_next-requires-in-loop-shard-clause-room
-open_next-requires-in-loop-shard-clause-room g c = omega (arith, c.loop-shard.invariant.opened, c.loop-shard.invariant.room, c.loop-shard-test.true)
+open_next-requires-in-loop-shard-clause-room g c = omega (arith, c.loop-shard.invariant.opened, c.loop-shard.invariant.room, c.loop-shard-test.true, c.count-count.ensures.value)

@@ -4,4 +4,4 @@ use Rattle.tuples.specs.Parts.{takes_part}
 use Rattle.commit_flow.proofs.participants.next_shard.Given as goal
 
 abbrev pub invariant-loop-shard : goal.invariant-loop-shard
-invariant-loop-shard l = (t : ℕ) → l.from ≤ t → t < l.shard → takes_part l.shards t l.intent.write ≡ true → ⊥
+invariant-loop-shard l = (t : ℕ) → l.from ≤ t → t < l.shard → takes_part l.fn.shards t l.intent.write ≡ true → ⊥

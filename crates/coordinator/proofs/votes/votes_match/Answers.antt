@@ -7,7 +7,7 @@ use Rattle.holds.proofs.Doubts.{same_id_refl, same_id_true}
 use Rattle.decisions.specs.Values.{VoteValue}
 use Rattle.decisions.specs.Coordinators.{IsVoteFor}
 use Rattle.coordinator.proofs.CountedVotes.{AreCounted, all_counted, next_is_own, next_was_missing, none_missing, one_counted}
-use Rattle.coordinator.proofs.votes.votes_match.Goals.{then-ne-via-then-ne, then-ne-via-else-ne+then-shard-shards, then-ne-via-else-ne+else-shard-shards+then-not-is_set}
+use Rattle.coordinator.proofs.votes.votes_match.Goals.{then-ne-via-then-ne, then-ne-via-else-ne+then-shard-count, then-ne-via-else-ne+else-shard-count+then-not-is_set}
 use Rattle.coordinator.proofs.votes.votes_match.Goals as goal
 
 pub returns-then-ne : goal.returns-then-ne
@@ -26,10 +26,10 @@ returns-then-ne c = (
             let same : c.id.result ≡ c.id-id.result = c.id.ensures ∙ own.id ∙ sym c.id-id.ensures in
             let yes : same_id c.id.result c.id-id.result ≡ true = ap (same_id c.id.result) (sym same) ∙ same_id_refl c.id.result in
             absurd (let e : true ≡ not true = sym u.if-ne.true ∙ c.ne.ensures ∙ ap not yes in cc)
-        | then-ne-via-else-ne+then-shard-shards u ↦
+        | then-ne-via-else-ne+then-shard-count u ↦
             let below = own.shard in
-            absurd (omega (arith, u.if-shard-shards.true, below, c.shard-shard.ensures))
-        | then-ne-via-else-ne+else-shard-shards+then-not-is_set u ↦
+            absurd (omega (arith, u.if-shard-count.true, below, c.shard-shard.ensures, c.count-count.ensures.value))
+        | then-ne-via-else-ne+else-shard-count+then-not-is_set u ↦
             let here : IsBitSet c.loop-vote.missing c.shard-shard.result = subst (IsBitSet c.loop-vote.missing) (sym c.shard-shard.ensures) set in
             let told : IsTrue u.is_set.result = u.is_set.ensures.1 here in
             absurd (let e : false ≡ true = sym u.if-not-is_set.true ∙ told in cc)
@@ -52,10 +52,10 @@ loop-vote-preserved c =
     let missing = c.loop-vote.missing in
     let counts : AreCounted c.args.shards w (take i votes) missing = c.loop-vote.invariant in
     let set : IsBitSet missing v.shard = subst (IsBitSet missing) c.shard-shard.ensures (c.is_set.ensures.0 c.if-not-is_set.false) in
-    let below : v.shard < c.args.shards = omega (arith, c.if-shard-shards.false, c.shard-shard.ensures) in
+    let below : v.shard < c.args.shards = omega (arith, c.if-shard-count.false, c.shard-shard.ensures, c.count-count.ensures.value) in
     let id = sym c.id.ensures ∙ same_ids c.id.result c.id-id.result c.ne.result c.if-ne.false c.ne.ensures ∙ c.id-id.ensures in
     let own : IsVoteFor c.args.shards w v = record { id = id; shard = below; participant = (counts.left v.shard below set).0 } in
-    let more : AreCounted c.args.shards w (take i votes ++ v ∷ []) c.without-missing.result = one_counted c.args.shards missing c.without-missing.result 64 w (take i votes) v c.requires.few counts own set c.without-missing.ensures.few
+    let more : AreCounted c.args.shards w (take i votes ++ v ∷ []) c.without-missing.result = one_counted c.args.shards missing c.without-missing.result 64 w (take i votes) v c.count-count.ensures.whole.few counts own set c.without-missing.ensures.few
     (subst (λ (n : ℕ). (s : ℕ) → s < 64 → IsBitSet c.without-missing.result s ↔ (IsBitSet missing s × (s ≢ n))) c.shard-shard.ensures c.without-missing.ensures.others) in
     let front : take (i + 1) votes ≡ take i votes ++ v ∷ [] = take_more votes i v lt ∙ ap (λ (x : VoteValue). take i votes ++ x ∷ []) (sym c.vote-item.is) in
     subst (λ (l : List VoteValue). AreCounted c.args.shards w l c.without-missing.result) (sym front) more

@@ -3,4 +3,4 @@ use Rattle.coordinator.proofs.CountedVotes.{AreCounted}
 use Rattle.coordinator.proofs.votes.votes_match.Given as goal
 
 abbrev pub invariant-loop-vote : goal.invariant-loop-vote
-invariant-loop-vote l = AreCounted l.shards l.intent.write (take l.vote-index l.votes) l.missing
+invariant-loop-vote l = AreCounted l.fn.shards l.intent.write (take l.vote-index l.votes) l.missing

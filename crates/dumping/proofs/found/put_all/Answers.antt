@@ -1,12 +1,12 @@
 use Rattle.std.proofs.Common.{◌≡◌, ◌+◌, ◌++◌, ◌∷◌, [], List, Contains, take, ⊎_elim, ap, sym, ◌∙◌, subst, rules}
 use Rattle.std.proofs.lemmas.List.{take_more}
 use Rattle.std.proofs.lemmas.List.Elements.{Contains-push_cases}
+use Rattle.std.proofs.lemmas.Bool.{or_left, or_right}
 use Rattle.holds.specs.Holds.{is_in}
 use Rattle.tuples.specs.declared.version.Version.{Version}
 use Rattle.tuples.specs.Changes.{tuple_of}
 use Rattle.tuples.specs.Order.{tuple_eq}
 use Rattle.tuples.proofs.Ordered.{tuple_eq_from_same}
-use Rattle.dumping.proofs.Bools.{or_left, or_right}
 use Rattle.dumping.proofs.found.put_all.Goals as goal
 
 pub loop-version-preserved : goal.loop-version-preserved

@@ -1,7 +1,11 @@
-use Rattle.std.proofs.Common.{◌≡◌, ◌+◌, ◌*◌, length, rules, sym, subst}
+use Rattle.std.proofs.Common.{◌≡◌, ◌+◌, ◌*◌, length, rules, sym, subst, IfErr, Result, Ok, Err}
+use Rattle.std.proofs.lemmas.Result.{on_ok_weaker}
 use Rattle.dumping.specs.Dumped.{IsTextOver, Leaves, dump_text}
-use Rattle.dumping.proofs.Bools.{err_then, ok_then}
 use Rattle.dumping.proofs.over_devices.dump_over.Goals as goal
+
+err_then : {T E : Type 0} {P Q : E → Type 0} (r : Result T E) → ((e : E) → P e → Q e) → IfErr r P → IfErr r Q
+err_then (Ok x) f p = tt
+err_then (Err e) f p = f e p
 
 pub returns-in-Ok-clause-ok : goal.returns-in-Ok-clause-ok
 returns-in-Ok-clause-ok g c =
@@ -18,9 +22,9 @@ returns-in-Ok-clause-ok g c =
       new = it.1;
       dumps = it.6;
       text_is = text_is;
-      snapshot = λ any m ids rests told. law c.args.store c.args.shards any c.args.devices.items c.args.at it.0 it.2 it.3 it.1 m ids c.requires.some c.requires.few count rests told it.4 it.6;
+      snapshot = λ any m ids rests told. law c.args.store c.args.shards any c.args.devices.items c.args.at it.0 it.2 it.3 it.1 m ids c.count-count.ensures.whole.some c.count-count.ensures.whole.few count rests told it.4 it.6;
     } in
-    ok_then c.write.result (λ appends. (c.deref.result.now, text, appends)) c.write.ensures.ok
+    on_ok_weaker c.write.result (λ appends. (c.deref.result.now, text, appends)) c.write.ensures.ok
 
 pub returns-in-Ok-clause-err : goal.returns-in-Ok-clause-err
 returns-in-Ok-clause-err g c =
@@ -37,7 +41,7 @@ returns-in-Ok-clause-err g c =
       new = it.1;
       dumps = it.6;
       text_is = text_is;
-      snapshot = λ any m ids rests told. law c.args.store c.args.shards any c.args.devices.items c.args.at it.0 it.2 it.3 it.1 m ids c.requires.some c.requires.few count rests told it.4 it.6;
+      snapshot = λ any m ids rests told. law c.args.store c.args.shards any c.args.devices.items c.args.at it.0 it.2 it.3 it.1 m ids c.count-count.ensures.whole.some c.count-count.ensures.whole.few count rests told it.4 it.6;
     } in
     err_then c.write.result
     (λ fault h. subst (Leaves g.D.Device.state g.D.Device.honest g.D.Device.moment g.D.Device.left_since c.args.store c.args.shards c.args.devices.items c.args.at (g.W.Write.contents c.args.output.now) (g.W.Write.contents c.write.new.output))

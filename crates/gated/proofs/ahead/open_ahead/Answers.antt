@@ -1,14 +1,11 @@
-use Rattle.std.proofs.Common.{◌≡◌, ◌≤◌, Bool, true, false, List, ℕ, [], ◌∷◌, ◌++◌, length, inl, ⊎_elim, arith}
-use Rattle.std.proofs.lemmas.Bool.{cases_Bool, false≢true}
+use Rattle.std.proofs.Common.{◌≤◌, List, ℕ, [], ◌∷◌, ◌++◌, length, inl, arith}
+use Rattle.std.proofs.lemmas.Bool.{false≢true, false_from_ne_true}
 use Rattle.std.proofs.lemmas.Result.{on_ok_weaker}
 use Rattle.device.specs.Device.{Leaves}
 use Rattle.device.proofs.Moments.{leaves_map, leaves_then}
 use Rattle.gated.specs.Gated.{HasList, IsOldOrLonger, IsReady}
 use Rattle.gated.proofs.WrittenAhead.{at_within, gate_leaves, has_longer, list_stays, ready_behind, room_for_gate, some_ahead}
 use Rattle.gated.proofs.ahead.open_ahead.Goals as goal
-
-is_up : (b : Bool) → (b ≡ true → ⊥) → b ≡ false
-is_up b never = ⊎_elim (λ down. absurd (never down)) (λ up. up) (cases_Bool b)
 
 pub put-requires : goal.put-requires
 put-requires g c = λ hon up.
@@ -27,7 +24,7 @@ put-requires-2 g c = λ hon_mid up_mid.
     let s = g.D.Device.state c.args.device.now in
     let mid = g.D.Device.state c.put.new.device in
     let hon = c.put.ensures.honest.1 hon_mid in
-    let has = c.requires.ready hon (is_up s.stopped (λ is. false≢true (c.in_ok-put.ensures.stopped is).0)) in
+    let has = c.requires.ready hon (false_from_ne_true s.stopped (λ is. false≢true (c.in_ok-put.ensures.stopped is).0)) in
     some_ahead (λ l. c.args.end ≤ length mid.seen) s c.args.end c.args.at has.ahead c.requires.some has.is (λ b bs is. room_for_gate s c.args.end c.args.at b bs is mid (c.in_ok-put.ensures.ok hon))
 
 pub returns-clause-any_moment : goal.returns-clause-any_moment
@@ -57,7 +54,7 @@ pub returns-clause-ready : goal.returns-clause-ready
 returns-clause-ready g c = λ hon.
     let s = g.D.Device.state c.args.device.now in
     let new = g.D.Device.state c.put-2.new.device in
-    let has = c.requires.ready hon (is_up s.stopped (λ is. false≢true (c.in_ok-put.ensures.stopped is).0)) in
+    let has = c.requires.ready hon (false_from_ne_true s.stopped (λ is. false≢true (c.in_ok-put.ensures.stopped is).0)) in
     on_ok_weaker c.put-2.result
     (λ opened. some_ahead (λ l. IsReady new c.args.at) s c.args.end c.args.at has.ahead c.requires.some has.is
     (λ b bs one. ready_behind s c.args.end c.args.at b bs one (g.D.Device.state c.put.new.device) (c.in_ok-put.ensures.ok hon) new opened))

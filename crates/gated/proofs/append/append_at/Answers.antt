@@ -1,13 +1,10 @@
-use Rattle.std.proofs.Common.{◌≡◌, Bool, true, false, ◌∷◌, [], length, ap, inl, ⊎_elim, Result, Ok, Err, arith, length-append}
-use Rattle.std.proofs.lemmas.Bool.{cases_Bool, false≢true}
-use Rattle.std.specs.Result.{OnOk}
+use Rattle.std.proofs.Common.{◌∷◌, [], length, ap, inl, ⊎_elim, arith, length-append}
+use Rattle.std.proofs.lemmas.Bool.{cases_Bool, false≢true, false_from_ne_true}
+use Rattle.std.proofs.lemmas.Result.{on_ok_weaker}
 use Rattle.gated.specs.Gated.{body_of, IsOldOrNew}
 use Rattle.gated.proofs.Calls.{put, still_moments}
 use Rattle.gated.proofs.Appends.{length-body, body_fits, room_first, room, ready, has_new, at_record, at_first_sync, at_gate_write, at_last_sync}
 use Rattle.gated.proofs.append.append_at.Goals as goal
-
-is_up : (b : Bool) → (b ≡ true → ⊥) → b ≡ false
-is_up b never = ⊎_elim (λ down. absurd (never down)) (λ up. up) (cases_Bool b)
 
 pub write_at-requires : goal.write_at-requires
 write_at-requires g c = λ hon up. room_first (g.D.Device.state c.args.device.now) c.args.end (c.requires.ready hon up)
@@ -30,7 +27,7 @@ returns-in_err-sync-clause-any_moment g c = λ bodies hon has.
     let buf = c.args.buf.now in
     let hon_one = c.write_at.ensures.honest.0 hon in
     let wrote = c.in_ok-write_at.ensures.ok hon in
-    let r = c.requires.ready hon (is_up (g.D.Device.state old).stopped (λ is. false≢true (c.in_ok-write_at.ensures.down is).0)) in
+    let r = c.requires.ready hon (false_from_ne_true (g.D.Device.state old).stopped (λ is. false≢true (c.in_ok-write_at.ensures.down is).0)) in
     at_first_sync g.D.Device.moment g.D.Device.left_since g.D.Device.state old (λ x is. g.met.D.Device.only_now old x hon is) c.args.end r bodies has (body_of buf) c.frame.new.buf (body_fits buf c.requires.some c.requires.fits) c.frame.ensures
     one c.sync.new.self c.sync.result (λ x is. g.met.D.Device.only_now one x hon_one is) (c.write_at.ensures.time hon) wrote (g.met.D.Device.reads_left one hon_one wrote.stopped) (c.sync.ensures.time hon_one) (c.sync.ensures.ok hon_one) (c.sync.ensures.keeps hon_one)
 
@@ -40,7 +37,7 @@ write_at-requires-2 g c = λ hon_two up_two.
     let buf = c.args.buf.now in
     let hon_one = c.sync.ensures.honest.1 hon_two in
     let hon = c.write_at.ensures.honest.1 hon_one in
-    let r = c.requires.ready hon (is_up s.stopped (λ is. false≢true (c.in_ok-write_at.ensures.down is).0)) in
+    let r = c.requires.ready hon (false_from_ne_true s.stopped (λ is. false≢true (c.in_ok-write_at.ensures.down is).0)) in
     let one = g.D.Device.state c.write_at.new.self in
     let two = g.D.Device.state c.sync.new.self in
     room s c.args.end r two (body_of buf) c.frame.new.buf (body_fits buf c.requires.some c.requires.fits) c.frame.ensures (put s _ _ one two (c.in_ok-write_at.ensures.ok hon) (c.in_ok-sync.ensures.ok hon_one))
@@ -54,7 +51,7 @@ returns-in_err-write_at-2-clause-any_moment g c = λ bodies hon has.
     let hon_one = c.write_at.ensures.honest.0 hon in
     let hon_two = c.sync.ensures.honest.0 hon_one in
     let wrote = c.in_ok-write_at.ensures.ok hon in
-    let r = c.requires.ready hon (is_up (g.D.Device.state old).stopped (λ is. false≢true (c.in_ok-write_at.ensures.down is).0)) in
+    let r = c.requires.ready hon (false_from_ne_true (g.D.Device.state old).stopped (λ is. false≢true (c.in_ok-write_at.ensures.down is).0)) in
     let record_put = put (g.D.Device.state old) _ _ (g.D.Device.state one) (g.D.Device.state two) wrote (c.in_ok-sync.ensures.ok hon_one) in
     let before = at_first_sync g.D.Device.moment g.D.Device.left_since g.D.Device.state old (λ x is. g.met.D.Device.only_now old x hon is) c.args.end r bodies has (body_of buf) c.frame.new.buf (body_fits buf c.requires.some c.requires.fits) c.frame.ensures
     one two c.sync.result (λ x is. g.met.D.Device.only_now one x hon_one is) (c.write_at.ensures.time hon) wrote (g.met.D.Device.reads_left one hon_one wrote.stopped) (c.sync.ensures.time hon_one) (c.sync.ensures.ok hon_one) (c.sync.ensures.keeps hon_one) in
@@ -73,17 +70,13 @@ returns-clause-any_moment g c = λ bodies hon has.
     let hon_three = c.write_at-2.ensures.honest.0 hon_two in
     let wrote = c.in_ok-write_at.ensures.ok hon in
     let opened = c.in_ok-write_at-2.ensures.ok hon_two in
-    let r = c.requires.ready hon (is_up (g.D.Device.state old).stopped (λ is. false≢true (c.in_ok-write_at.ensures.down is).0)) in
+    let r = c.requires.ready hon (false_from_ne_true (g.D.Device.state old).stopped (λ is. false≢true (c.in_ok-write_at.ensures.down is).0)) in
     let record_put = put (g.D.Device.state old) _ _ (g.D.Device.state one) (g.D.Device.state two) wrote (c.in_ok-sync.ensures.ok hon_one) in
     let before = at_first_sync g.D.Device.moment g.D.Device.left_since g.D.Device.state old (λ x is. g.met.D.Device.only_now old x hon is) c.args.end r bodies has (body_of buf) c.frame.new.buf (body_fits buf c.requires.some c.requires.fits) c.frame.ensures
     one two c.sync.result (λ x is. g.met.D.Device.only_now one x hon_one is) (c.write_at.ensures.time hon) wrote (g.met.D.Device.reads_left one hon_one wrote.stopped) (c.sync.ensures.time hon_one) (c.sync.ensures.ok hon_one) (c.sync.ensures.keeps hon_one) in
     at_last_sync g.D.Device.moment g.D.Device.left_since g.D.Device.state old (λ x is. g.met.D.Device.only_now old x hon is) c.args.end r bodies has (body_of buf) c.frame.new.buf (body_fits buf c.requires.some c.requires.fits) c.frame.ensures
     two (λ x is. g.met.D.Device.only_now two x hon_two is) before record_put three c.sync-2.new.self c.sync-2.result (λ x is. g.met.D.Device.only_now three x hon_three is)
     (c.write_at-2.ensures.time hon_two) opened (g.met.D.Device.reads_left three hon_three opened.stopped) (c.sync-2.ensures.time hon_three) (c.sync-2.ensures.ok hon_three) (c.sync-2.ensures.keeps hon_three)
-
-on_ok : {T E P Q : Type 0} (x : Result T E) → (P → Q) → OnOk x P → OnOk x Q
-on_ok (Ok x) f p = f p
-on_ok (Err e) f p = tt
 
 pub returns-clause-ready : goal.returns-clause-ready
 returns-clause-ready g c = λ hon.
@@ -94,9 +87,9 @@ returns-clause-ready g c = λ hon.
     let buf = c.args.buf.now in
     let hon_one = c.write_at.ensures.honest.0 hon in
     let hon_two = c.sync.ensures.honest.0 hon_one in
-    let r = c.requires.ready hon (is_up s.stopped (λ is. false≢true (c.in_ok-write_at.ensures.down is).0)) in
+    let r = c.requires.ready hon (false_from_ne_true s.stopped (λ is. false≢true (c.in_ok-write_at.ensures.down is).0)) in
     let record_put = put s _ _ (g.D.Device.state c.write_at.new.self) two (c.in_ok-write_at.ensures.ok hon) (c.in_ok-sync.ensures.ok hon_one) in
-    on_ok c.sync-2.result
+    on_ok_weaker c.sync-2.result
     (λ synced.
     ready s c.args.end r two (body_of buf) c.frame.new.buf (body_fits buf c.requires.some c.requires.fits) c.frame.ensures record_put four (put two _ _ three four (c.in_ok-write_at-2.ensures.ok hon_two) synced)
     (length buf) (omega (arith, ap length c.frame.ensures, length-body buf c.requires.some, c.requires.some, length-append (body_of buf) (0 ∷ []))))
@@ -111,9 +104,9 @@ returns-clause-ok g c = λ bodies hon has.
     let buf = c.args.buf.now in
     let hon_one = c.write_at.ensures.honest.0 hon in
     let hon_two = c.sync.ensures.honest.0 hon_one in
-    let r = c.requires.ready hon (is_up s.stopped (λ is. false≢true (c.in_ok-write_at.ensures.down is).0)) in
+    let r = c.requires.ready hon (false_from_ne_true s.stopped (λ is. false≢true (c.in_ok-write_at.ensures.down is).0)) in
     let record_put = put s _ _ (g.D.Device.state c.write_at.new.self) two (c.in_ok-write_at.ensures.ok hon) (c.in_ok-sync.ensures.ok hon_one) in
-    on_ok c.sync-2.result
+    on_ok_weaker c.sync-2.result
     (λ synced.
     has_new s c.args.end r two (body_of buf) c.frame.new.buf (body_fits buf c.requires.some c.requires.fits) c.frame.ensures record_put four (put two _ _ three four (c.in_ok-write_at-2.ensures.ok hon_two) synced) bodies has)
     (c.sync-2.ensures.ok (c.write_at-2.ensures.honest.0 hon_two))

@@ -1,5 +1,5 @@
-use Rattle.std.proofs.Common.{◌≡◌, ◌≤◌, ◌∷◌, [], List, ℕ, length, Result, Ok, Err, arith}
-use Rattle.std.specs.Result.{OnOk}
+use Rattle.std.proofs.Common.{◌≡◌, ◌≤◌, ◌∷◌, [], List, ℕ, length, arith}
+use Rattle.std.proofs.lemmas.Result.{on_ok_weaker}
 use Rattle.device.specs.Device.{left, reach}
 use Rattle.device.proofs.Moments.{leaves_then}
 use Rattle.gated.specs.Gated.{closed_gate, gated}
@@ -35,17 +35,13 @@ returns-clause-any_moment g c = λ hon.
     (sync_moments g.D.Device.moment g.D.Device.left_since g.D.Device.state one c.sync.new.self P (λ x is. g.met.D.Device.only_now one x hon_one is) (c.sync.ensures.time hon_one) c.sync.result
     (g.met.D.Device.reads_left one hon_one wrote.stopped) (c.sync.ensures.ok hon_one) (c.sync.ensures.keeps hon_one) short)
 
-on_ok : {T E P Q : Type 0} (x : Result T E) → (P → Q) → OnOk x P → OnOk x Q
-on_ok (Ok x) f p = f p
-on_ok (Err e) f p = tt
-
 pub returns-clause-ready : goal.returns-clause-ready
 returns-clause-ready g c = λ hon.
     let asked = c.requires hon in
     let s = g.D.Device.state c.args.device.now in
     let one = g.D.Device.state c.write_at.new.self in
     let two = g.D.Device.state c.sync.new.self in
-    on_ok c.sync.result (λ synced. made_ready s asked.1 two (put s _ _ one two (c.in_ok-write_at.ensures.ok hon) synced)) (c.sync.ensures.ok (c.write_at.ensures.honest.0 hon))
+    on_ok_weaker c.sync.result (λ synced. made_ready s asked.1 two (put s _ _ one two (c.in_ok-write_at.ensures.ok hon) synced)) (c.sync.ensures.ok (c.write_at.ensures.honest.0 hon))
 
 pub returns-clause-ok : goal.returns-clause-ok
 returns-clause-ok g c = λ hon.
@@ -53,4 +49,4 @@ returns-clause-ok g c = λ hon.
     let s = g.D.Device.state c.args.device.now in
     let one = g.D.Device.state c.write_at.new.self in
     let two = g.D.Device.state c.sync.new.self in
-    on_ok c.sync.result (λ synced. made_list s asked.1 two (put s _ _ one two (c.in_ok-write_at.ensures.ok hon) synced) synced.stopped) (c.sync.ensures.ok (c.write_at.ensures.honest.0 hon))
+    on_ok_weaker c.sync.result (λ synced. made_list s asked.1 two (put s _ _ one two (c.in_ok-write_at.ensures.ok hon) synced) synced.stopped) (c.sync.ensures.ok (c.write_at.ensures.honest.0 hon))

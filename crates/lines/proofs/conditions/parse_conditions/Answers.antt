@@ -8,8 +8,9 @@ use Rattle.tuples.specs.Texts.{IsTuple}
 use Rattle.tuples.proofs.Kept.{valid_pushed}
 use Rattle.lines.specs.Texts.{IsWanted, condition_text}
 use Rattle.lines.specs.Words.{AreWanted}
-use Rattle.lines.proofs.Parts.{conditions_refused, map_more}
+use Rattle.lines.proofs.Parts.{conditions_refused}
 use Rattle.lines.proofs.conditions.parse_conditions.Goals as goal
+use Rattle.requests.proofs.Values.{map_more}
 
 pub returns-in_err-parse_condition : goal.returns-in_err-parse_condition
 returns-in_err-parse_condition c =

@@ -1,7 +1,8 @@
 use Rattle.std.proofs.Common.{rules}
 use Rattle.std.proofs.lemmas.List.{take_rest}
-use Rattle.lines.proofs.Asking.{cut_at_last, lacks_everywhere}
+use Rattle.lines.proofs.Asking.{cut_at_last}
 use Rattle.lines.proofs.conditions.split_last.Goals as goal
+use Rattle.tuples.proofs.Cuts.{lacks_everywhere}
 
 pub returns-in-None : goal.returns-in-None
 returns-in-None c = lacks_everywhere c.args.mark c.args.text.now (search rules)

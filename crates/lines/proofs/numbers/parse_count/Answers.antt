@@ -1,6 +1,6 @@
 use Rattle.std.proofs.Common.{◌≡◌, List, ℕ, ap, arith, get_or}
+use Rattle.std.proofs.lemmas.Bool.{both_ways}
 use Rattle.std.specs.Fmt.{decimal}
-use Rattle.lines.proofs.Lists.{not_both}
 use Rattle.lines.proofs.Counts.{first_of_count, count_text, count_some, count_same}
 use Rattle.lines.proofs.numbers.parse_count.Goals as goal
 
@@ -8,7 +8,7 @@ pub returns-then-not-begins_a_count : goal.returns-then-not-begins_a_count
 returns-then-not-begins_a_count c n h e =
     let first = first_of_count n h in
     let same : get_or c.args.text.now 0 0 ≡ get_or (decimal n) 0 0 = ap (λ (x : List ℕ). get_or x 0 0) e in
-    not_both c.begins_a_count.result (c.begins_a_count.ensures.1 (omega arith, omega arith)) c.if-not-begins_a_count.true
+    both_ways c.begins_a_count.result c.if-not-begins_a_count.true (c.begins_a_count.ensures.1 (omega arith, omega arith))
 
 pub returns-then-number-gt-MAX_NUMBER : goal.returns-then-number-gt-MAX_NUMBER
 returns-then-number-gt-MAX_NUMBER c n h e =

@@ -4,8 +4,9 @@ use Rattle.std.proofs.lemmas.Result.{err_from_is_err_and}
 use Rattle.refusal.specs.declared.refusal.Refusal.{Refusal}
 use Rattle.lines.specs.Texts.{change_text, condition_text}
 use Rattle.lines.specs.Words.{texts}
-use Rattle.lines.proofs.Causing.{changes_misspelled, conditions_misspelled, in_limits, write_refused}
+use Rattle.lines.proofs.Causing.{changes_misspelled, conditions_misspelled, write_refused}
 use Rattle.lines.proofs.request.write_of.Goals as goal
+use Rattle.requests.proofs.Causing.{in_limits}
 
 pub returns-in_err-changes-clause-err : goal.returns-in_err-changes-clause-err
 returns-in_err-changes-clause-err c =

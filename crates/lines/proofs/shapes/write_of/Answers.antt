@@ -1,7 +1,7 @@
 use Rattle.std.proofs.Common.{sym, ◌∙◌}
+use Rattle.std.proofs.lemmas.Bool.{both_ways}
 use Rattle.lines.specs.Words.{texts}
 use Rattle.lines.proofs.Causing.{no_changes, no_conditions, no_parts, parts_words, shaped}
-use Rattle.lines.proofs.Lists.{not_both}
 use Rattle.lines.proofs.shapes.write_of.Goals.{then-is_empty-via-then-is_empty, then-is_empty-via-else-is_empty+then-not-are_asked}
 use Rattle.lines.proofs.shapes.write_of.Goals as goal
 
@@ -16,7 +16,7 @@ returns-then-is_empty c =
     no_parts (texts c.args.words.now) (texts c.split_changes.result.0.now) (texts c.split_changes.result.1.now) (texts c.in-Some.conditions.now) cut.whole cut.marked cut.behind c.in-Some.ensures (
     elim c.then-is_empty.branch [
       | then-is_empty-via-then-is_empty w ↦ no_changes c.split_changes.result.0.now (texts c.in-Some.conditions.now) (sym c.is_empty.ensures ∙ w.if-is_empty.true)
-      | then-is_empty-via-else-is_empty+then-not-are_asked w ↦ λ parts. not_both w.are_asked.result (w.are_asked.ensures.1 parts.asked) w.if-not-are_asked.true
+      | then-is_empty-via-else-is_empty+then-not-are_asked w ↦ λ parts. both_ways w.are_asked.result w.if-not-are_asked.true (w.are_asked.ensures.1 parts.asked)
     ]
     )
 

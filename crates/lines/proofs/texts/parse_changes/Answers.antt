@@ -6,8 +6,9 @@ use Rattle.tuples.specs.Changes.{changed, tuple_of}
 use Rattle.tuples.specs.Texts.{IsTuple}
 use Rattle.tuples.proofs.Kept.{valid_pushed}
 use Rattle.lines.specs.Texts.{change_text}
-use Rattle.lines.proofs.Parts.{changes_refused, map_more}
+use Rattle.lines.proofs.Parts.{changes_refused}
 use Rattle.lines.proofs.texts.parse_changes.Goals as goal
+use Rattle.requests.proofs.Values.{map_more}
 
 pub returns-in_err-parse_change : goal.returns-in_err-parse_change
 returns-in_err-parse_change c =

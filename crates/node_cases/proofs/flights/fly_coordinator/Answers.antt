@@ -1,7 +1,8 @@
-use Rattle.std.proofs.Common.{◌≡◌, ◌++◌, ◌∙◌, ap, sym, subst}
+use Rattle.std.proofs.Common.{◌++◌, ◌∙◌, ap, sym, subst}
 use Rattle.journal.specs.Records.{View}
-use Rattle.node_cases.proofs.Flown.{all_durable, went_well}
+use Rattle.node_cases.proofs.Flown.{all_durable}
 use Rattle.node_cases.proofs.flights.fly_coordinator.Goals as goal
+use Rattle.tuples.proofs.Options.{went_well}
 
 pub land-back-requires-clause-flown : goal.land-back-requires-clause-flown
 land-back-requires-clause-flown g c = λ up flew ha hb.

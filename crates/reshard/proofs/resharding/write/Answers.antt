@@ -13,7 +13,7 @@ pub returns-in_err-begin_all-clause-so_far : goal.returns-in_err-begin_all-claus
 returns-in_err-begin_all-clause-so_far g c = head_tried g.D.Device.state g.D.Device.honest g.D.Device.moment g.D.Device.left_since c.args.old.now c.args.shards c.args.known.now.reach (merged c.args.known.now.rows) c.args.devices.now.items c.begin_all.new.devices.items c.begin_all.new.begun.items c.begin_all.ensures.head
 
 pub returns-clause-count : goal.returns-clause-count
-returns-clause-count g c = on_ok_always (c.begin_all.new.begun.len ≡ c.args.shards + 1) c.fill.result c.in_ok-begin_all.ensures.ok
+returns-clause-count g c = on_ok_always (c.begin_all.new.begun.len ≡ c.args.shards + 1) c.fill.result (omega (arith, c.in_ok-begin_all.ensures.ok, c.count.ensures.value))
 
 pub returns-clause-honest : goal.returns-clause-honest
 returns-clause-honest g c = λ all.

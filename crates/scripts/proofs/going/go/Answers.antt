@@ -1,7 +1,7 @@
 use Rattle.std.proofs.Common.{◌∙◌, ◌∷◌, refl, arith, inl}
-use Rattle.scripts.proofs.Results.{on_err}
 use Rattle.scripts.proofs.Rooms.{some_each}
 use Rattle.scripts.proofs.going.go.Goals as goal
+use Rattle.tuples.proofs.Options.{on_err}
 
 pub loop-preserved : goal.loop-preserved
 loop-preserved g c =

@@ -1,11 +1,11 @@
-use Rattle.std.proofs.Common.{◌≡◌, ◌<◌, ◌+◌, ap, arith, length, take}
+use Rattle.std.proofs.Common.{ap, arith, length, take}
 use Rattle.std.specs.List.{flat_map}
 use Rattle.std.proofs.lemmas.List.{length-append}
 use Rattle.care_flow.specs.declared.end.Resolved.TheVariants.{Committed}
 use Rattle.scripts.specs.Telling.{resolved_text}
-use Rattle.scripts.proofs.Results.{on_err}
 use Rattle.scripts.proofs.Rooms.{part_fits}
 use Rattle.scripts.proofs.printing.print_each.Goals as goal
+use Rattle.tuples.proofs.Options.{on_err}
 
 pub returns-in_err-print_resolved-clause-memory : goal.returns-in_err-print_resolved-clause-memory
 returns-in_err-print_resolved-clause-memory c =

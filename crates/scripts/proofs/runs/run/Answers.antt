@@ -1,7 +1,7 @@
 use Rattle.std.proofs.Common.{[]}
-use Rattle.scripts.proofs.Results.{on_err}
 use Rattle.scripts.proofs.RunLemmas.{broke_first}
 use Rattle.scripts.proofs.runs.run.Goals as goal
+use Rattle.tuples.proofs.Options.{on_err}
 
 pub returns-in_err-room-clause-err : goal.returns-in_err-room-clause-err
 returns-in_err-room-clause-err g c =

@@ -1,10 +1,11 @@
 use Rattle.std.proofs.Common.{subst}
+use Rattle.std.proofs.lemmas.Result.{on_ok_weaker, on_err_weaker}
 use Rattle.line_io.specs.Blocks.{HasTaken, unread}
 use Rattle.line_io.specs.declared.input.Ending.{Ending}
 use Rattle.line_io.specs.declared.input.Ending.TheVariants.{Feed, Input}
-use Rattle.scripts.proofs.Results.{err_then, ok_then, on_err}
 use Rattle.scripts.proofs.RunLemmas.{broke_ending, broke_here, broke_reading, broke_telling, ran, run_more}
 use Rattle.scripts.proofs.runs.run_in.Goals as goal
+use Rattle.tuples.proofs.Options.{on_err}
 
 pub returns-in_err-take_line-clause-err : goal.returns-in_err-take_line-clause-err
 returns-in_err-take_line-clause-err g c =
@@ -22,7 +23,7 @@ returns-in-Input-clause-ok g c =
     let new = unread c.take_line.new.block in
     let line = c.take_line.new.line in
     let t : HasTaken Input in1 in2 bytes new line = subst (λ (e : Ending). HasTaken e in1 in2 bytes new line) c.in-Input.is c.in_ok-take_line.ensures.ok in
-    ok_then c.finish.result
+    on_ok_weaker c.finish.result
     (λ h. ran g.S.Store.takes g.S.Store.nexts g.S.Store.shows g.S.Store.sets g.S.Store.reshards g.S.Store.shards_of (g.R.Read.remaining c.args.input.now) in1 in2 (g.W.Write.contents c.args.output.now) (g.W.Write.contents c.loop.output)
     (g.W.Write.contents c.finish.new.output) c.args.script.now c.loop.script c.finish.new.script bytes new line c.loop.invariant t (h t.bytes t.held))
     c.finish.ensures.ok
@@ -35,7 +36,7 @@ returns-in-Input-clause-err g c =
     let new = unread c.take_line.new.block in
     let line = c.take_line.new.line in
     let t : HasTaken Input in1 in2 bytes new line = subst (λ (e : Ending). HasTaken e in1 in2 bytes new line) c.in-Input.is c.in_ok-take_line.ensures.ok in
-    err_then c.finish.result
+    on_err_weaker c.finish.result
     (λ h. broke_ending g.S.Store.takes g.S.Store.nexts g.S.Store.shows g.S.Store.sets g.S.Store.reshards g.S.Store.shards_of (g.R.Read.remaining c.args.input.now) in1 in2 (g.W.Write.contents c.args.output.now) (g.W.Write.contents c.loop.output)
     (g.W.Write.contents c.finish.new.output) c.args.script.now c.loop.script c.finish.new.script bytes new line c.loop.invariant t (h t.bytes t.held))
     c.finish.ensures.err

@@ -3,9 +3,10 @@ use Rattle.line_io.specs.Blocks.{HasTaken, unread}
 use Rattle.line_io.specs.Outputs.{HasBegun}
 use Rattle.line_io.specs.declared.input.Ending.{Ending}
 use Rattle.line_io.specs.declared.input.Ending.TheVariants.{Feed, Input}
-use Rattle.sessions.proofs.Errors.{on_err}
-use Rattle.sessions.proofs.Going.{begun_none, broke, broke_at_end, broke_by_memory, broke_first, broke_here, served, serving_more, serving_sent, serving_start}
+use Rattle.line_io.proofs.Writing.{begun_none}
+use Rattle.sessions.proofs.Going.{broke, broke_at_end, broke_by_memory, broke_first, broke_here, served, serving_more, serving_sent, serving_start}
 use Rattle.sessions.proofs.serve.serve_stream.Goals as goal
+use Rattle.tuples.proofs.Options.{on_err}
 
 pub returns-in_err-block-clause-err : goal.returns-in_err-block-clause-err
 returns-in_err-block-clause-err g c =

@@ -1,4 +1,4 @@
-use Rattle.turns.specs.Stands.{IsHorizonIn}
+use Rattle.stores.specs.Stands.{IsHorizonIn}
 use Rattle.turns.proofs.RunChain.{runs_move}
 use Rattle.turns.proofs.store_laws.runs_move.Goals as goal
 

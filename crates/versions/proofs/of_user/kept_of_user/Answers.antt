@@ -1,4 +1,5 @@
 use Rattle.std.proofs.Common.{◌≡◌, ◌≤◌, ℕ, ◌+◌, ◌++◌, ◌∷◌, [], ◌&&◌, true, false, Bool, List, filter, length, sym, ap, subst, ◌∙◌, append-nil, append_assoc, arith, rules}
+use Rattle.std.proofs.lemmas.Bool.{and_right}
 use Rattle.std.specs.Ordering.{is_eq, is_le}
 use Rattle.tuples.specs.declared.tuple.Tuple.{Tuple}
 use Rattle.tuples.specs.Order.{user_cmp}
@@ -8,7 +9,7 @@ use Rattle.versions.specs.Alike.{of_tuple}
 use Rattle.versions.specs.Index.{IsFirstOf, by_user_cmp, is_of_user}
 use Rattle.versions.specs.Rows.{found, listed, rows_in, versions_of}
 use Rattle.versions.proofs.Counted.{rows_count, seen, sum_fewer, sum_most, sum_of, unseen}
-use Rattle.versions.proofs.OfUser.{IsWalkBy, and_gone, asked_of, by_low, chosen_from_first, chosen_of, chosen_selection, index_spelled, keeps_tuple, low_by, met, missed, none_left_by, of_user_meets, skips_tuple, there_by_own, walk_by_from, walk_by_rest}
+use Rattle.versions.proofs.OfUser.{IsWalkBy, asked_of, by_low, chosen_from_first, chosen_of, chosen_selection, index_spelled, keeps_tuple, low_by, met, missed, none_left_by, of_user_meets, skips_tuple, there_by_own, walk_by_from, walk_by_rest}
 use Rattle.versions.proofs.Selected.{there_in}
 use Rattle.versions.proofs.Tables.{Entries}
 use Rattle.versions.proofs.of_user.kept_of_user.Goals as goal
@@ -155,7 +156,7 @@ loop-named-preserved g c =
           w.steps-is ∙ w.is_there_at.ensures.steps ∙ ap (λ (m : ℕ). c.loop-named.steps + m) (rows_count t w.rows_of.result.now (listed es) own)
           in (
             (c.loop-named.invariant.0.0, c.loop-named.invariant.0.1, walk),
-            left (and_gone (q t) (there_in place t es) gone),
+            left (and_right (q t) (there_in place t es) gone),
             seen q t (listed es) rest c.loop-named.named-iterator c.else-has_given.steps c.loop-named.steps most has more cut c.loop-named.invariant.2,
           )
       | else-has_given-via-else-has_given w ↦

@@ -2,8 +2,9 @@ use Rattle.std.proofs.Common.{◌≡◌, ◌++◌, Some, ap, ◌∙◌, rules}
 use Rattle.std.specs.Prelude.{IsSome}
 use Rattle.versions.specs.Rows.{found, listed, rows_in}
 use Rattle.versions.proofs.Index.{index_same, same_keys}
-use Rattle.versions.proofs.Tables.{Entries, more_alike, on_err, same_set}
+use Rattle.versions.proofs.Tables.{Entries, more_alike, same_set}
 use Rattle.versions.proofs.table.add.Goals as goal
+use Rattle.tuples.proofs.Options.{on_err}
 
 pub returns-in_err-extend_from_slice-clause-err : goal.returns-in_err-extend_from_slice-clause-err
 returns-in_err-extend_from_slice-clause-err c =

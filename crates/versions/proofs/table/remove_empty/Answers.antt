@@ -1,4 +1,4 @@
-use Rattle.std.proofs.Common.{subst, ◌≡◌, [], Some, sym, ap, ◌∙◌, rules}
+use Rattle.std.proofs.Common.{subst, ◌≡◌, [], sym, ap, ◌∙◌, rules}
 use Rattle.std.proofs.lemmas.List.{nil_from_length}
 use Rattle.std.specs.List.{AllByRecursion}
 use Rattle.std.specs.Map.{keys_of}
@@ -9,9 +9,10 @@ use Rattle.std.specs.declared.cmp.Ordering.TheVariants.{Equal}
 use Rattle.std.specs.Prelude.{None}
 use Rattle.tuples.specs.contracts.tuple.TupleOrd.TheImpl.{ghosts}
 use Rattle.tuples.proofs.Same.{tuple_same}
+use Rattle.tuples.proofs.Ordered.{same_tie}
 use Rattle.versions.specs.Rows.{found, listed, rows_in}
 use Rattle.versions.proofs.Index.{index_changed}
-use Rattle.versions.proofs.Tables.{Entries, all_removed, same_removed, same_tie}
+use Rattle.versions.proofs.Tables.{Entries, all_removed, same_removed}
 use Rattle.versions.proofs.table.remove_empty.Goals as goal
 
 pub returns-in-Some-clause-table : goal.returns-in-Some-clause-table

@@ -4,7 +4,7 @@ use Rattle.cluster.proofs.Stepping.{cancelled}
 use Rattle.cluster.proofs.world.World.cancel.Goals as goal
 
 pub invariant_of-self : goal.invariant_of-self
-invariant_of-self g c = record { some = c.self.invariant.some; few = c.self.invariant.few; count = c.self.invariant.count; flows = c.cancel.ensures.kept c.self.inside.shards c.self.invariant.flows }
+invariant_of-self g c = record { count = c.self.invariant.count; flows = c.cancel.ensures.kept c.self.inside.shards c.self.invariant.flows }
 
 pub returns : goal.returns
 returns g c =

@@ -15,4 +15,4 @@ returns-clause-err g c =
     unchanged g.D.Device.state g.D.Device.honest g.D.Device.moment g.D.Device.left_since view c.args.self.now c.care_for.result c.care_for.new.flows.slots c.self.view_is c.care_for.ensures.err
 
 pub invariant_of-self : goal.invariant_of-self
-invariant_of-self g c = record { some = c.self.invariant.some; few = c.self.invariant.few; count = c.self.invariant.count; flows = kept_so c.self.inside.shards c.self.inside.flows.slots c.care_for.new.flows.slots c.care_for.result c.care_for.ensures.kept c.care_for.ensures.err c.self.invariant.flows }
+invariant_of-self g c = record { count = c.self.invariant.count; flows = kept_so c.self.inside.shards c.self.inside.flows.slots c.care_for.new.flows.slots c.care_for.result c.care_for.ensures.kept c.care_for.ensures.err c.self.invariant.flows }

@@ -13,7 +13,7 @@ invariant_of-self g c =
     let new = c.set_script.new.nodes in
     let Sets : List (NodeView g.row.D.Denot) → Type 0 = λ ns. MatchOption (node_at ns c.args.node) (new ≡ ns) (λ was. IsSetIn g.D.Device.set_to_fail g.D.Device.state g.D.Device.honest g.D.Device.moment g.D.Device.left_since c.args.bank c.args.n c.args.tear ns c.args.node was new) in
     let many = script_set g.D.Device.set_to_fail g.D.Device.state g.D.Device.honest g.D.Device.moment g.D.Device.left_since c.args.bank c.args.n c.args.tear had c.args.node new (subst Sets c.deref_mut.ensures.value c.set_script.ensures) in
-    record { some = c.self.invariant.some; few = c.self.invariant.few; count = ap length (whole c.self.inside.nodes.len new had c.self.inside.nodes.ok.0 many) ∙ many ∙ c.self.invariant.count; flows = c.self.invariant.flows }
+    record { count = ap length (whole c.self.inside.nodes.len new had c.self.inside.nodes.ok.0 many) ∙ many ∙ c.self.invariant.count; flows = c.self.invariant.flows }
 
 pub returns-clause-nodes : goal.returns-clause-nodes
 returns-clause-nodes g c =

@@ -10,7 +10,7 @@ returns g c =
     restarted g.D.Device.state g.D.Device.honest g.D.Device.moment g.D.Device.left_since view c.args.self.now c.args.name c.restart.result c.restart.new.nodes.items c.self.view_is c.restart.ensures.restarts
 
 pub invariant_of-self : goal.invariant_of-self
-invariant_of-self g c = record { some = c.self.invariant.some; few = c.self.invariant.few; count = sym c.restart.new.nodes.ok.0 ∙ c.restart.ensures.count; flows = c.self.invariant.flows }
+invariant_of-self g c = record { count = sym c.restart.new.nodes.ok.0 ∙ c.restart.ensures.count; flows = c.self.invariant.flows }
 
 pub restart-requires : goal.restart-requires
-restart-requires g c = record { some = c.self.invariant.some; few = c.self.invariant.few; count = c.self.inside.nodes.ok.0 ∙ c.self.invariant.count }
+restart-requires g c = record { count = c.self.inside.nodes.ok.0 ∙ c.self.invariant.count }

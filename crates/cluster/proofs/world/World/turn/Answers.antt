@@ -12,7 +12,7 @@ pub invariant_of-self : goal.invariant_of-self
 invariant_of-self g c =
     let had = c.self.inside.nodes.items in
     let many = slot_turned g.D.Device.state g.D.Device.honest g.D.Device.moment g.D.Device.left_since c.self.inside.shards had c.self.inside.flows.slots c.args.slot c.turn.result c.turn.new.nodes c.turn.new.flows.slots (subst (λ (ns : List (NodeView g.row.D.Denot)). MatchOption (flow_at c.self.inside.flows.slots c.args.slot) ((c.turn.result ≡ None) × (c.turn.new.nodes ≡ ns) × (c.turn.new.flows.slots ≡ c.self.inside.flows.slots)) (λ flow. SlotTurns g.D.Device.state g.D.Device.honest g.D.Device.moment g.D.Device.left_since c.self.inside.shards ns c.self.inside.flows.slots c.args.slot flow c.turn.result c.turn.new.nodes c.turn.new.flows.slots)) c.deref_mut.ensures.value c.turn.ensures.turns) in
-    record { some = c.self.invariant.some; few = c.self.invariant.few; count = ap length (whole c.self.inside.nodes.len c.turn.new.nodes had c.self.inside.nodes.ok.0 many) ∙ many ∙ c.self.invariant.count; flows = c.turn.ensures.kept }
+    record { count = ap length (whole c.self.inside.nodes.len c.turn.new.nodes had c.self.inside.nodes.ok.0 many) ∙ many ∙ c.self.invariant.count; flows = c.turn.ensures.kept }
 
 pub returns : goal.returns
 returns g c =

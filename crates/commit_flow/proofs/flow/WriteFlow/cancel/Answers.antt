@@ -2,4 +2,4 @@
 use Rattle.commit_flow.proofs.flow.WriteFlow.cancel.Goals as goal
 
 pub invariant_of-self : goal.invariant_of-self
-invariant_of-self c = (c.self.invariant.0, c.self.invariant.1, rw c.put.ensures (c.cancel.ensures.kept c.self.inside.shards (rw (← c.take.ensures.value, c.in-Some.is) at c.self.invariant.2)))
+invariant_of-self c = rw c.put.ensures (c.cancel.ensures.kept c.self.inside.shards (rw (← c.take.ensures.value, c.in-Some.is) at c.self.invariant))

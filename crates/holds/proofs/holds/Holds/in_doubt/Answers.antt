@@ -1,4 +1,4 @@
-use Rattle.std.proofs.Common.{◌≡◌, ◌∙◌, ap, sym, subst}
+use Rattle.std.proofs.Common.{◌∙◌, ap, sym, subst}
 use Rattle.std.proofs.lemmas.Result.{IfOk-weaker}
 use Rattle.holds.specs.Holds.{AreAscendingIds, ids}
 use Rattle.holds.proofs.holds.Holds.in_doubt.Goals as goal

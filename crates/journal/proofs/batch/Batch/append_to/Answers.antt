@@ -1,7 +1,5 @@
-use Rattle.std.proofs.Common.{◌≡◌, ◌+◌, ◌⊎◌, inl, inr, ◌++◌, ◌∷◌, [], List, ℕ, Result, Ok, Err, Some, false, length, ap, subst, ◌∙◌, arith}
-use Rattle.std.specs.Result.{IfErr, OnErr, OnOk, IsErrOf}
-use Rattle.refusal.specs.declared.refusal.Refusal.{Refusal}
-use Rattle.refusal.specs.declared.refusal.Refusal.TheVariants.{Down, Full}
+use Rattle.std.proofs.Common.{◌≡◌, ◌+◌, ◌++◌, ◌∷◌, [], List, ℕ, Some, false, length, ap, subst, ◌∙◌, arith}
+use Rattle.std.specs.Result.{OnOk}
 use Rattle.records.specs.declared.record.Record.{Record}
 use Rattle.records.specs.Format.{batch_bytes}
 use Rattle.records.specs.Reading.{batch}
@@ -10,11 +8,7 @@ use Rattle.gated.specs.Gated.{HasList, IsOldOrNew, body_of}
 use Rattle.journal.specs.Records.{batch_size}
 use Rattle.journal.proofs.Staged.{none_staged, read_back, length_is}
 use Rattle.journal.proofs.batch.Batch.append_to.Goals as goal
-
-by_error : {T P Q : Type 0} (r : Result T Refusal) → IfErr r (λ e. (e ≡ Down) ⊎ (e ≡ Full)) → (IsErrOf r Down → P) → (IsErrOf r Full → Q) → OnErr r (P ⊎ Q)
-by_error (Ok x) err down full = tt
-by_error (Err e) (inl is) down full = inl (down (cc))
-by_error (Err e) (inr is) down full = inr (full (cc))
+use Rattle.journal.proofs.Failures.{by_error}
 
 pub returns-clause-empty : goal.returns-clause-empty
 returns-clause-empty g c = none_staged _

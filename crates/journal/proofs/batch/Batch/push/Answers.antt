@@ -1,14 +1,10 @@
-use Rattle.std.proofs.Common.{◌++◌, ◌∷◌, [], List, Result, Ok, Err, ap, subst, ◌∙◌}
-use Rattle.std.specs.Result.{OnErr}
+use Rattle.std.proofs.Common.{◌++◌, ◌∷◌, [], List, ap, subst, ◌∙◌}
 use Rattle.records.specs.declared.record.Record.{Record}
 use Rattle.journal.specs.Records.{HasNoRoom}
 use Rattle.journal.specs.Sources.{record_of}
 use Rattle.journal.proofs.Staged.{no_room_few, no_room_long, pushed, pushed_view, has_room}
 use Rattle.journal.proofs.batch.Batch.push.Goals as goal
-
-on_err : {T E P : Type 0} (r : Result T E) → P → OnErr r P
-on_err (Ok x) p = tt
-on_err (Err e) p = p
+use Rattle.tuples.proofs.Options.{on_err}
 
 pub returns-then-self-eq-MAX_RECORDS-clause-full : goal.returns-then-self-eq-MAX_RECORDS-clause-full
 returns-then-self-eq-MAX_RECORDS-clause-full c =

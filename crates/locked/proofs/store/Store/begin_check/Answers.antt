@@ -6,12 +6,12 @@ use Rattle.locked.proofs.store.Store.begin_check.Goals as goal
 
 pub returns-in-Some-clause-runs : goal.returns-in-Some-clause-runs
 returns-in-Some-clause-runs g c =
-    made_at g.B.Room.rests g.B.Room.shards c.shards-count.result c.known_place.new.caller.seen c.args.freshness (length c.args.caller.now.seen) c.in-Some.place c.args.userset.now c.args.user c.at.result c.shards-count.ensures.of c.at.ensures.asked
+    made_at g.B.Room.rests g.B.Room.shards c.shards-count.result c.known_place.new.caller.seen c.args.freshness (length c.args.caller.now.seen) c.in-Some.place c.args.userset.now c.args.user c.at.result c.shards-count.ensures c.at.ensures.asked
     c.at.ensures.begins c.in-Some.ensures.there c.in-Some.ensures.fresh
 
 pub returns-in-None-clause-runs : goal.returns-in-None-clause-runs
 returns-in-None-clause-runs g c =
-    made_beyond g.B.Room.rests g.B.Room.shards c.shards-count.result c.known_place.new.caller.seen c.args.freshness (length c.args.caller.now.seen) c.args.userset.now c.args.user (Some names.Heads) c.new.result c.shards-count.ensures.of c.new.ensures
+    made_beyond g.B.Room.rests g.B.Room.shards c.shards-count.result c.known_place.new.caller.seen c.args.freshness (length c.args.caller.now.seen) c.args.userset.now c.args.user (Some names.Heads) c.new.result c.shards-count.ensures c.new.ensures
     (prefix_length c.args.caller.now.seen c.known_place.new.caller.seen c.known_place.ensures.caller.seen) c.in-None.ensures.beyond
 
 pub returns-in-Some-clause-reason : goal.returns-in-Some-clause-reason

@@ -1,12 +1,12 @@
 use Rattle.std.proofs.Common.{◌≡◌, ◌<◌, ◌∙◌, ◌++◌, ℕ, List, OnErr, OnOk, Some, None, ap, arith, inr, length, refl, subst, sym}
 use Rattle.std.proofs.lemmas.Option.{get_or_from_slice_get, slice_get_read}
+use Rattle.std.proofs.lemmas.Result.{on_err_weaker}
 use Rattle.lines.specs.declared.flow.Handling.{Handling}
 use Rattle.lines.specs.declared.flow.Handling.TheVariants as handling
 use Rattle.cluster.specs.declared.step.Step.TheVariants.{Turn}
 use Rattle.scripts.specs.Going.{Goes}
 use Rattle.scripts.specs.Refusing.{HandlesNot}
 use Rattle.scripts.specs.Scripts.{Cancels, Handles, RunningView}
-use Rattle.scripts.proofs.Results.{err_then}
 use Rattle.scripts.proofs.Within.{map_ok}
 use Rattle.scripts.proofs.running.Running.handle.Goals as goal
 
@@ -40,7 +40,7 @@ returns-in_ok-told-in-Turn-clause-refused g c =
     let Done : ℕ → g.row.S.Denot → Type 0 = λ slot s. takes c.self.inside.store (Turn slot) c.in_ok-told-in-Turn.told s in
     let done = subst (λ (slot : ℕ). Done slot new.store) (sym is) (subst (λ (s : g.row.S.Denot). Done c.index-slot.result.now s) (sym c.tell.ensures.same) c.in_ok-told-in-Turn.ensures.ok) in
     subst (λ (h : Handling). Not c.args.self.now h) (sym c.in-Turn.is) (subst (λ (old : RunningView g.row.S.Denot). Not old handling.Turn) c.self.view_is
-    (err_then c.tell.result (λ t. inr (t.0, (c.in_ok-told-in-Turn.told, done, t.1), t.2)) c.tell.ensures.refused))
+    (on_err_weaker c.tell.result (λ t. inr (t.0, (c.in_ok-told-in-Turn.told, done, t.1), t.2)) c.tell.ensures.refused))
 
 pub returns-in_ok-told-in-Until-clause-refused : goal.returns-in_ok-told-in-Until-clause-refused
 returns-in_ok-told-in-Until-clause-refused g c =
@@ -55,7 +55,7 @@ returns-in_ok-told-in-Until-clause-refused g c =
     let Done : ℕ → g.row.S.Denot → Type 0 = λ slot s. Goes takes nexts slot (Some c.in-Until.call) c.self.inside.store c.in_ok-told-in-Until.told s in
     let done = subst (λ (slot : ℕ). Done slot new.store) (sym is) (subst (λ (s : g.row.S.Denot). Done c.index-slot.result.now s) (sym c.tell-in-Until.ensures.same) c.in_ok-told-in-Until.ensures.goes) in
     subst (λ (h : Handling). Not c.args.self.now h) (sym c.in-Until.is) (subst (λ (old : RunningView g.row.S.Denot). Not old (handling.Until c.in-Until.call)) c.self.view_is
-    (err_then c.tell-in-Until.result (λ t. inr (t.0, (c.in_ok-told-in-Until.told, done, t.1), t.2)) c.tell-in-Until.ensures.refused))
+    (on_err_weaker c.tell-in-Until.result (λ t. inr (t.0, (c.in_ok-told-in-Until.told, done, t.1), t.2)) c.tell-in-Until.ensures.refused))
 
 pub returns-in_ok-told-in-Run-clause-refused : goal.returns-in_ok-told-in-Run-clause-refused
 returns-in_ok-told-in-Run-clause-refused g c =
@@ -70,7 +70,7 @@ returns-in_ok-told-in-Run-clause-refused g c =
     let Done : ℕ → g.row.S.Denot → Type 0 = λ slot s. Goes takes nexts slot None c.self.inside.store c.in_ok-told-in-Run.told s in
     let done = subst (λ (slot : ℕ). Done slot new.store) (sym is) (subst (λ (s : g.row.S.Denot). Done c.index-slot.result.now s) (sym c.tell-in-Run.ensures.same) c.in_ok-told-in-Run.ensures.goes) in
     subst (λ (h : Handling). Not c.args.self.now h) (sym c.in-Run.is) (subst (λ (old : RunningView g.row.S.Denot). Not old handling.Run) c.self.view_is
-    (err_then c.tell-in-Run.result (λ t. inr (t.0, (c.in_ok-told-in-Run.told, done, t.1), t.2)) c.tell-in-Run.ensures.refused))
+    (on_err_weaker c.tell-in-Run.result (λ t. inr (t.0, (c.in_ok-told-in-Run.told, done, t.1), t.2)) c.tell-in-Run.ensures.refused))
 
 pub returns-in_ok-cancel-in-Cancel-clause-refused : goal.returns-in_ok-cancel-in-Cancel-clause-refused
 returns-in_ok-cancel-in-Cancel-clause-refused g c =
@@ -85,4 +85,4 @@ returns-in_ok-cancel-in-Cancel-clause-refused g c =
     let Done : ℕ → g.row.S.Denot → Type 0 = λ slot s. Cancels takes nexts slot c.self.inside.store s in
     let done = subst (λ (slot : ℕ). Done slot new.store) (sym is) (subst (λ (s : g.row.S.Denot). Done c.index-slot.result.now s) (sym c.tell_cancelled.ensures.same) c.in_ok-cancel-in-Cancel.ensures.cancels) in
     subst (λ (h : Handling). Not c.args.self.now h) (sym c.in-Cancel.is) (subst (λ (old : RunningView g.row.S.Denot). Not old handling.Cancel) c.self.view_is
-    (err_then c.tell_cancelled.result (λ t. inr (t.0, (done, t.1), t.2)) c.tell_cancelled.ensures.refused))
+    (on_err_weaker c.tell_cancelled.result (λ t. inr (t.0, (done, t.1), t.2)) c.tell_cancelled.ensures.refused))

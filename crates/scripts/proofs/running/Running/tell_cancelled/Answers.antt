@@ -1,8 +1,8 @@
 use Rattle.std.proofs.Common.{◌≡◌, ◌<◌, ◌+◌, List, ℕ, Some, ap, arith, codes, length, refl, slice_get, subst, vec_capacity, vec_len}
 use Rattle.std.proofs.lemmas.Option.{slice_get_read}
+use Rattle.std.proofs.lemmas.Result.{on_err_weaker}
 use Rattle.printed.specs.Texts.{named_line}
 use Rattle.scripts.specs.Scripts.{RunningView, TellsCancel}
-use Rattle.scripts.proofs.Results.{err_then}
 use Rattle.scripts.proofs.running.Running.tell_cancelled.Goals as goal
 
 pub returns-clause-refused : goal.returns-clause-refused
@@ -20,4 +20,4 @@ returns-clause-refused g c =
       ap (λ (r : RunningView g.row.S.Denot). r.names) c.forget.ensures,
       ap (λ (r : RunningView g.row.S.Denot). r.slots) c.forget.ensures,
     ) in
-    err_then {P = Full} c.write_to-printed.result (λ full. (text, tells, omega (arith, full, c.requires.room))) c.write_to-printed.ensures.memory
+    on_err_weaker {P = Full} c.write_to-printed.result (λ full. (text, tells, omega (arith, full, c.requires.room))) c.write_to-printed.ensures.memory

@@ -1,5 +1,5 @@
 -- What a line without a fault gives `sim`, read as numbers.
-use Rattle.std.proofs.Common.{rules, ◌≤◌, ℕ, sym, map, subst, string_bytes}
+use Rattle.std.proofs.Common.{rules, ◌≤◌, ◌∙◌, ℕ, sym, map, subst, string_bytes}
 use Rattle.std.specs.Str.Parse.{ExplainsUnsignedError, HasUnsignedDigitsIfOk, ParsesUnsigned}
 use Rattle.tuples.specs.Limits.{max_shards}
 use Rattle.settings.specs.declared.limits.TheConstants.{MAX_STORE}
@@ -25,14 +25,19 @@ pub invariant_of-result : goal.invariant_of-result
 invariant_of-result c =
     let below = gives_below _ (map string_bytes c.args.words.now) c.in_ok-matches.matches c.subcommand.result c.unwrap.result c.in_ok-command.ensures.ok c.in_ok-matches.ensures.kinds c.in_ok-matches.ensures.matches c.subcommand.ensures.rows c.unwrap.ensures in
     let store = store_got _ (λ bs r. ParsesUnsigned 64 10 bs r × ExplainsUnsignedError 10 bs r × HasUnsignedDigitsIfOk bs r) _ _ c.get_one.result below c.get_one.ensures.value (λ u x g. g.0) in
+    record { fits = subst (λ (n : ℕ). n ≤ MAX_STORE) (some_same c.get_one.result _ c.unwrap-store.result store.0 c.unwrap-store.ensures) store.1 }
+
+pub of-requires-clause-some : goal.of-requires-clause-some
+of-requires-clause-some c =
+    let below = gives_below _ (map string_bytes c.args.words.now) c.in_ok-matches.matches c.subcommand.result c.unwrap.result c.in_ok-command.ensures.ok c.in_ok-matches.ensures.kinds c.in_ok-matches.ensures.matches c.subcommand.ensures.rows c.unwrap.ensures in
     let shards = shards_got _ (λ bs r. ParsesUnsigned 8 10 bs r × ExplainsUnsignedError 10 bs r × HasUnsignedDigitsIfOk bs r) _ _ c.get_one-2.result below c.get_one-2.ensures.value (λ u x g. g.0) in
-    let store_is = some_same c.get_one.result _ c.unwrap-store.result store.0 c.unwrap-store.ensures in
-    let shards_is = some_same c.get_one-2.result _ c.unwrap-shards.result shards.0 c.unwrap-shards.ensures in
-    record {
-      fits = subst (λ (n : ℕ). n ≤ MAX_STORE) store_is store.1;
-      some = subst (λ (n : ℕ). 1 ≤ n) shards_is shards.1;
-      few = subst (λ (n : ℕ). n ≤ max_shards) shards_is shards.2;
-    }
+    subst (λ (n : ℕ). 1 ≤ n) (some_same c.get_one-2.result _ c.unwrap-shards.result shards.0 c.unwrap-shards.ensures) shards.1
+
+pub of-requires-clause-few : goal.of-requires-clause-few
+of-requires-clause-few c =
+    let below = gives_below _ (map string_bytes c.args.words.now) c.in_ok-matches.matches c.subcommand.result c.unwrap.result c.in_ok-command.ensures.ok c.in_ok-matches.ensures.kinds c.in_ok-matches.ensures.matches c.subcommand.ensures.rows c.unwrap.ensures in
+    let shards = shards_got _ (λ bs r. ParsesUnsigned 8 10 bs r × ExplainsUnsignedError 10 bs r × HasUnsignedDigitsIfOk bs r) _ _ c.get_one-2.result below c.get_one-2.ensures.value (λ u x g. g.0) in
+    subst (λ (n : ℕ). n ≤ max_shards) (some_same c.get_one-2.result _ c.unwrap-shards.result shards.0 c.unwrap-shards.ensures) shards.2
 
 pub returns-clause-kinds : goal.returns-clause-kinds
 returns-clause-kinds c =
@@ -44,9 +49,9 @@ returns-clause-asked c =
     let below = gives_below _ (map string_bytes c.args.words.now) c.in_ok-matches.matches c.subcommand.result c.unwrap.result c.in_ok-command.ensures.ok c.in_ok-matches.ensures.kinds c.in_ok-matches.ensures.matches c.subcommand.ensures.rows c.unwrap.ensures in
     let store = store_got _ (λ bs r. ParsesUnsigned 64 10 bs r × ExplainsUnsignedError 10 bs r × HasUnsignedDigitsIfOk bs r) _ _ c.get_one.result below c.get_one.ensures.value (λ u x g. g.0) in
     let shards = shards_got _ (λ bs r. ParsesUnsigned 8 10 bs r × ExplainsUnsignedError 10 bs r × HasUnsignedDigitsIfOk bs r) _ _ c.get_one-2.result below c.get_one-2.ensures.value (λ u x g. g.0) in
-    asks_for (map string_bytes c.args.words.now) _ below c.unwrap-store.result c.unwrap-shards.result
+    asks_for (map string_bytes c.args.words.now) _ below c.unwrap-store.result c.of.result
     (sym (some_same c.get_one.result _ c.unwrap-store.result store.0 c.unwrap-store.ensures))
-    (sym (some_same c.get_one-2.result _ c.unwrap-shards.result shards.0 c.unwrap-shards.ensures))
+    (c.of.ensures ∙ sym (some_same c.get_one-2.result _ c.unwrap-shards.result shards.0 c.unwrap-shards.ensures))
 
 pub returns-in_err-matches-clause-taken : goal.returns-in_err-matches-clause-taken
 returns-in_err-matches-clause-taken c =

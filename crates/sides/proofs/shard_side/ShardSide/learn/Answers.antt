@@ -1,8 +1,9 @@
 use Rattle.std.proofs.Common.{ℕ, sym, subst}
 use Rattle.sides.proofs.Words.{AnsweredIn, KnowsBoth, Learn, Side}
-use Rattle.sides.proofs.ShardCalls.{batch_longer, learn_stays}
+use Rattle.sides.proofs.ShardCalls.{learn_stays}
 use Rattle.sides.proofs.Sound.{shard_stays_there}
 use Rattle.sides.proofs.shard_side.ShardSide.learn.Goals as goal
+use Rattle.ties.proofs.Telling.{batch_longer}
 
 pub invariant_of-self : goal.invariant_of-self
 invariant_of-self g c =

@@ -1,0 +1,5 @@
+use Rattle.stores.proofs.Answers.{batches_are_right}
+use Rattle.stores.proofs.heads_laws.batches_are_right.Goals as goal
+
+pub returns : goal.returns
+returns g c = λ store shards. batches_are_right store shards g.W.Leavings.left

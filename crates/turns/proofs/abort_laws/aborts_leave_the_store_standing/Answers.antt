@@ -1,5 +1,0 @@
-use Rattle.turns.proofs.Abort.{aborts_stand}
-use Rattle.turns.proofs.abort_laws.aborts_leave_the_store_standing.Goals as goal
-
-pub returns : goal.returns
-returns g c = λ store shards. aborts_stand store shards g.W.Leavings.left

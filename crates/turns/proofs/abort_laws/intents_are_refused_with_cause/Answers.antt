@@ -1,5 +1,0 @@
-use Rattle.turns.proofs.AbortCauses.{refused_intents}
-use Rattle.turns.proofs.abort_laws.intents_are_refused_with_cause.Goals as goal
-
-pub returns : goal.returns
-returns g c = λ store shards. refused_intents store shards g.W.Leavings.left

@@ -1,5 +1,0 @@
-use Rattle.turns.proofs.Answers.{outcomes_agree}
-use Rattle.turns.proofs.abort_laws.outcomes_agree.Goals as goal
-
-pub returns : goal.returns
-returns g c = λ store shards. outcomes_agree store shards g.W.Leavings.left

@@ -1,5 +1,0 @@
-use Rattle.turns.proofs.CheckWalk.{check_replies_select}
-use Rattle.turns.proofs.checking_laws.check_replies_select.Goals as goal
-
-pub returns : goal.returns
-returns g c = λ store shards. check_replies_select store shards g.W.Leavings.left

@@ -1,5 +1,0 @@
-use Rattle.turns.proofs.DecisionTurn.{deciders_turn}
-use Rattle.turns.proofs.deciding_laws.deciders_take_their_turn.Goals as goal
-
-pub returns : goal.returns
-returns g c = λ store shards. deciders_turn store shards g.W.Leavings.left

@@ -1,5 +1,0 @@
-use Rattle.turns.proofs.FlowEnds.{flows_end}
-use Rattle.turns.proofs.flow_laws.flows_that_end_leave_the_store_standing.Goals as goal
-
-pub returns : goal.returns
-returns g c = λ store shards. flows_end store shards g.W.Leavings.left

@@ -1,5 +1,0 @@
-use Rattle.turns.proofs.ShardFlush.{shard_flushes_stand}
-use Rattle.turns.proofs.flush_laws.flushes_of_shards_leave_the_store_standing.Goals as goal
-
-pub returns : goal.returns
-returns g c = λ store shards. shard_flushes_stand store shards g.W.Leavings.left g.W.Leavings.left_after

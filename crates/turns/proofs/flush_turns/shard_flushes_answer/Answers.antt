@@ -1,0 +1,5 @@
+use Rattle.turns.proofs.ShardFlushTurn.{shard_flushes_answer}
+use Rattle.turns.proofs.flush_turns.shard_flushes_answer.Goals as goal
+
+pub returns : goal.returns
+returns g c = λ store shards. shard_flushes_answer store shards g.W.Leavings.left g.W.Leavings.left_after

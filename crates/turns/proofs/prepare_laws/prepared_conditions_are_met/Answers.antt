@@ -1,5 +1,0 @@
-use Rattle.turns.proofs.PrepareTurn.{prepared_conditions_are_met}
-use Rattle.turns.proofs.prepare_laws.prepared_conditions_are_met.Goals as goal
-
-pub returns : goal.returns
-returns g c = λ store shards. prepared_conditions_are_met store shards g.W.Leavings.left

@@ -1,5 +1,0 @@
-use Rattle.turns.proofs.ReadAnswer.{reads_begin}
-use Rattle.turns.proofs.reading_laws.reads_begin.Goals as goal
-
-pub returns : goal.returns
-returns g c = λ store shards. reads_begin store shards g.W.Leavings.left

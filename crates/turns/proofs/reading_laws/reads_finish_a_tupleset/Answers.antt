@@ -1,5 +1,0 @@
-use Rattle.turns.proofs.ReadAnswer.{reads_finish}
-use Rattle.turns.proofs.reading_laws.reads_finish_a_tupleset.Goals as goal
-
-pub returns : goal.returns
-returns g c = λ store shards. reads_finish store shards g.W.Leavings.left

@@ -1,5 +1,0 @@
-use Rattle.turns.proofs.ReadAnswer.{all_replies_select}
-use Rattle.turns.proofs.reading_laws.replies_select.Goals as goal
-
-pub returns : goal.returns
-returns g c = λ store shards. all_replies_select store shards g.W.Leavings.left

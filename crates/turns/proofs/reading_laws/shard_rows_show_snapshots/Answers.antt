@@ -1,5 +1,0 @@
-use Rattle.turns.proofs.ReadAnswer.{shard_rows_show_snapshots}
-use Rattle.turns.proofs.reading_laws.shard_rows_show_snapshots.Goals as goal
-
-pub returns : goal.returns
-returns c = shard_rows_show_snapshots
