@@ -1,4 +1,4 @@
-// Notes what a program writes to the files of a folder, and which syncs ended, for `soak --power` alone; no part of the program.
+// Notes what a program writes to the files of a folder, and which syncs ended, for the losses of power of `soak` alone; no part of the program.
 // NOTES_FOLDER names the folder, by its real path, and NOTES_FILE the file of the notes. A note of a write stands before the write is made, with what the
 // range held; that it was made, and that a sync was, stand behind. So whatever is killed, a range that may have been written is noted, and no sync is that
 // did not end. NOTES_FORGET spoils them: `all` forgets each sync, `first` and `second` those of a file with an odd or an even number, and another word
@@ -49,10 +49,11 @@ __attribute__((constructor)) static void find(void) {
   notes = syscall(SYS_openat, AT_FDCWD, file, O_WRONLY | O_CREAT | O_APPEND | O_CLOEXEC, 0600);
 }
 
-// The name of an open file of the folder, "." for the folder itself, or nothing.
+// The name of an open file of the folder, "." for the folder itself, or nothing. A file whose name is gone is nothing too: no life behind this one has it.
 static const char *name_of(int file, char *path) {
   char link[64];
-  if (notes < 0) return NULL;
+  struct stat now;
+  if (notes < 0 || fstat(file, &now) || !now.st_nlink) return NULL;
   snprintf(link, sizeof link, "/proc/self/fd/%d", file);
   ssize_t length = readlink(link, path, PATH_MAX - 1);
   if (length < 0) return NULL;

@@ -1,6 +1,5 @@
-// Refuses one allocation of a program: the one whose number, from 1 on, the environment names in REFUSE_ALLOCATION.
-// Where it names a file in REFUSE_SHARED, three numbers of 8 bytes there say it while the program runs: which is to be refused, and none where it is 0, how
-// many there were since, and how many were refused.
+// Refuses one allocation of a program. In the file that the environment names in REFUSE_SHARED three numbers of 8 bytes say it while the program runs: which
+// is to be refused, from 1 on, and none where it is 0, how many there were since, and how many were refused.
 // Loaded before the C library, for the checks `refused_memory`, `refused_session`, `refused_serving` and `refused_dump` alone; no part of the program.
 #define _GNU_SOURCE
 #include <dlfcn.h>
@@ -13,9 +12,6 @@
 
 struct shared { atomic_long wanted, asked, refused; };
 static struct shared *shared = NULL;
-static long wanted = 0;
-static long asked = 0;
-static int refused = 0;
 
 static void *(*real_malloc)(size_t);
 static void *(*real_calloc)(size_t, size_t);
@@ -29,35 +25,15 @@ __attribute__((constructor)) static void find(void) {
   real_realloc = dlsym(RTLD_NEXT, "realloc");
   real_posix_memalign = dlsym(RTLD_NEXT, "posix_memalign");
   real_aligned_alloc = dlsym(RTLD_NEXT, "aligned_alloc");
-  const char *number = getenv("REFUSE_ALLOCATION");
-  wanted = number ? atol(number) : 0;
   const char *name = getenv("REFUSE_SHARED");
   int file = name ? open(name, O_RDWR | O_CLOEXEC) : -1;
   void *found = file < 0 ? MAP_FAILED : mmap(NULL, sizeof *shared, PROT_READ | PROT_WRITE, MAP_SHARED, file, 0);
   if (found != MAP_FAILED) shared = found;
 }
 
-// Tells whether the allocation came at all: at once where it did, since a program with threads may end without its last words.
-static void tell_refused(void) {
-  ssize_t ignored = write(9, "refused\n", 8);
-  (void)ignored;
-}
-
-__attribute__((destructor)) static void tell(void) {
-  if (shared || refused) return;
-  ssize_t ignored = write(9, "reached the end\n", 16);
-  (void)ignored;
-}
-
 static int is_refused(void) {
-  if (shared && shared->wanted) {
-    if (atomic_fetch_add(&shared->asked, 1) + 1 != shared->wanted) return 0;
-    shared->refused++;
-    return 1;
-  }
-  if (!wanted || ++asked != wanted) return 0;
-  refused = 1;
-  tell_refused();
+  if (!shared || !shared->wanted || atomic_fetch_add(&shared->asked, 1) + 1 != shared->wanted) return 0;
+  shared->refused++;
   return 1;
 }
 

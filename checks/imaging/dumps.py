@@ -1,17 +1,16 @@
 """What `zanstore dump` prints of a store whose files are the images of its nodes, one of them changed, and what it has to print."""
-import os
-import subprocess
+import re
 import tempfile
 from collections import Counter
 from random import Random
 
 from imaging.changing import changed
 from imaging.format import GREATEST, Damaged, Rules
-from imaging.making import TOP, has_no_checkpoint, with_checkpoints
+from imaging.making import has_no_checkpoint, with_checkpoints
 from imaging.replaying import COORDINATOR, found, named_of, shard_of, tuple_text
 from judge.lines import token
+from programs import run, zanstore
 
-LIMIT = 60
 DAMAGED, FULL = "16 Damaged", "15 Full"
 
 
@@ -22,10 +21,6 @@ class Refused(Exception):
 def must(is_so, refusal=DAMAGED):
     if not is_so:
         raise Refused(refusal)
-
-
-def program():
-    return os.environ.get("ZANSTORE", os.path.join(TOP, "crates", "zanstore", "out", "zanstore"))
 
 
 def opened(image):
@@ -84,9 +79,12 @@ def dumped(images):
             for bank in "ab":
                 with open(f"{folder}/{node}.{bank}", "wb") as it:
                     it.write(getattr(image, bank))
-        words = [program(), "dump", "--dir", folder, "--store", str(images[0].store), "--shards", str(images[0].shards)]
-        ran = subprocess.run(words, capture_output=True, text=True, timeout=LIMIT)
-    return ran.returncode, ran.stdout, ran.stderr
+        status, out, err = run([zanstore(), "dump", "--dir", folder, "--store", images[0].store, "--shards", images[0].shards])
+    # A second line tells which node is meant, or which store the files are of.
+    first, *about = err.splitlines(keepends=True) or [""]
+    if about and not re.fullmatch(r"zanstore: (the files of .*|.* is of store [0-9]+ with [0-9]+ shards)\n", "".join(about)):
+        first = err
+    return status, out, first
 
 
 def with_change(random, store, images):

@@ -1,15 +1,13 @@
 """Images that are right: those that real runs leave, the same in the first version of the format where that can spell them, and with checkpoints."""
-import os
-import subprocess
 import tempfile
 from collections import namedtuple
 
-import harness
 from imaging.format import CLOSED, NOT_AFTER, STRETCH, Begins, Ends, Epoch, Horizon, Learned, Row, Rules, batches_of, device_bytes
 from imaging.replaying import COORDINATOR, found, node_of
 from judge.making import Maker
+from programs import harness, lines_of
+from programs import run as ran
 
-TOP = os.path.dirname(os.path.dirname(os.path.dirname(os.path.abspath(__file__))))
 # How many lives a store has: each begins with an opening, and goes on with a part of its script. Long images would only take longer.
 LIVES = 3
 MOST_LINES = 60
@@ -24,11 +22,8 @@ def few_shards(count):
 
 
 def run(folder, maker, lines):
-    words = harness.command("files", folder, maker.store, maker.shards)
-    given = "".join(line + "\n" for line in lines).encode()
-    ran = subprocess.run(words, input=given, stdout=subprocess.PIPE, stderr=subprocess.DEVNULL, timeout=60)
-    if ran.returncode:
-        raise SystemExit(f"harness ended with status {ran.returncode}")
+    status, _, _ = ran(harness("files", folder, maker.store, maker.shards), lines_of(lines))
+    assert not status, f"harness ended with status {status}"
 
 
 def real_images(seed):

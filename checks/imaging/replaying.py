@@ -1,26 +1,6 @@
 """What a node finds on its device, as docs/FORMAT.md says, and what the part `images` of `harness` has to print of it."""
-from imaging.format import (
-    ABSENT,
-    CLOSED,
-    EXISTS,
-    GREATEST,
-    MARKS,
-    NOT_AFTER,
-    Begins,
-    Damaged,
-    Decision,
-    Dropped,
-    Ends,
-    Epoch,
-    Horizon,
-    Learned,
-    Prepare,
-    Row,
-    Rules,
-    appended,
-    batch_bytes,
-    batches_of,
-)
+from imaging.format import ABSENT, CLOSED, EXISTS, GREATEST, MARKS, NOT_AFTER
+from imaging.format import Begins, Damaged, Decision, Dropped, Ends, Epoch, Horizon, Learned, Prepare, Row, Rules, appended, batch_bytes, batches_of
 
 COORDINATOR = 0xFF
 # How far a checkpoint is: what stands last in it.

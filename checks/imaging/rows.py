@@ -1,21 +1,6 @@
 """Images whose answers were worked out by hand, each with a name: the first bank of a shard with one change, both banks beside each other, and version 1."""
 
-from imaging.format import (
-    CLOSED,
-    NOT_AFTER,
-    OPEN,
-    Begins,
-    Decision,
-    Ends,
-    Epoch,
-    Horizon,
-    Learned,
-    Prepare,
-    Row,
-    batch_bytes,
-    device_bytes,
-    number,
-)
+from imaging.format import CLOSED, NOT_AFTER, OPEN, Begins, Decision, Ends, Epoch, Horizon, Learned, Prepare, Row, batch_bytes, device_bytes, number
 from imaging.making import Image
 from imaging.replaying import COORDINATOR
 

@@ -12,9 +12,9 @@ ROW = re.compile(r"\d+ [a-z0-9_]")
 class Failed(Exception):
     """The first line of a script whose answer is wrong."""
 
-    def __init__(self, number, line, printed, why):
-        super().__init__(f"line {number}: {line}\n  printed: {printed}\n  {why}")
-        self.number = number
+    def __str__(self):
+        number, line, printed, why = self.args
+        return f"line {number}: {line}\n  printed: {printed}\n  {why}"
 
 
 class Printed:

@@ -1,11 +1,11 @@
 """Tests the judge: spoils what a script printed in one place, and asks that it is noticed."""
 import random
 import re
-from functools import partial
 
 from judge.lines import MAX_SHARDS, REFUSALS, token
 from judge.making import Maker
 from judge.reading import Failed, Reading, judged
+from verdicts import is_refused
 
 SPOILS = 24
 RESHARDS = [f"reshard {count}" for count in range(1, MAX_SHARDS + 1)]
@@ -84,33 +84,16 @@ def answers(maker, script, printed):
             yield begin, answer, is_moved
 
 
-def spoil_seed(printed_by, is_plain, seed):
-    """How many answers were spoiled, and which of them were not noticed."""
+def spoiled(printed_by, is_plain, seed):
+    """What was spoiled of the script of a seed, and whether it was noticed."""
     maker = Maker(seed, is_plain)
     script = maker.script()
     printed = printed_by(script, maker.store, maker.shards)
     judged(script, printed, maker.store, maker.shards)
     told = answers(maker, script, printed)
-    found = [(begin, answer, what, spoiled) for begin, answer, is_moved in told for what, spoiled in spoils(answer, maker.store, is_moved)]
-    chosen = random.Random(seed).sample(found, min(SPOILS, len(found)))
-    passed = []
-    for begin, answer, what, spoiled in chosen:
-        try:
-            judged(script, printed[:begin] + spoiled + printed[begin + len(answer) :], maker.store, maker.shards)
-            passed.append(f"seed {seed}: {what}: {spoiled} for {answer}")
-        except Failed:
-            pass
-    return len(chosen), passed
-
-
-def spoiled_scripts(pool, seeds, printed_by):
-    """Where nothing fails and no flow has a name, each spoiled answer has to be noticed; else more than one may be right."""
-    status = 0
-    for is_plain, name, most in ((True, "of plain scripts", 0), (False, "of others", 0.05)):
-        found = list(pool.map(partial(spoil_seed, printed_by, is_plain), seeds))
-        count, passed = sum(count for count, _ in found), [text for _, texts in found for text in texts]
-        print(f"spoiled answers {name}: {count}, {len(passed)} not noticed")
-        if len(passed) > most * count or count == 0:
-            print("\n".join(passed[:5]))
-            status = 1
-    return status
+    found = [(begin, answer, *spoil) for begin, answer, is_moved in told for spoil in spoils(answer, maker.store, is_moved)]
+    made = []
+    for begin, answer, what, other in random.Random(seed).sample(found, min(SPOILS, len(found))):
+        lines = printed[:begin] + other + printed[begin + len(answer) :]
+        made.append((what, is_refused(lambda: judged(script, lines, maker.store, maker.shards), Failed), f"seed {seed}: {other} for {answer}"))
+    return made

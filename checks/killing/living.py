@@ -1,5 +1,4 @@
 """Lives of a store: the program over a folder, killed at a moment, and what it printed until then."""
-import os
 import subprocess
 import tempfile
 import threading
@@ -7,10 +6,10 @@ import time
 from collections import namedtuple
 from random import Random
 
-import harness
 from judge.worlds import Wrong
 from killing.asking import MOST_WRITES, SHARDS, STORE, Life, script, some_writes
 from killing.judging import Judge, tuples_of
+from programs import harness, lines_of
 
 # Far more seconds than a life takes where much else runs.
 LIMIT = 60
@@ -26,9 +25,9 @@ class Running:
 
     def __init__(self, folder, lines):
         with tempfile.TemporaryFile() as given:
-            given.write("".join(line + "\n" for line in lines).encode())
+            given.write(lines_of(lines).encode())
             given.seek(0)
-            words = harness.command("files", folder, STORE, SHARDS)
+            words = harness("files", folder, STORE, SHARDS)
             self.child = subprocess.Popen(words, stdin=given, stdout=subprocess.PIPE, stderr=subprocess.DEVNULL)
         self.told = []
         self.is_late = False

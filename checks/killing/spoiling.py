@@ -1,11 +1,11 @@
 """Tests the judge: spoils what the lives of a folder printed as a wrong store would print it, and asks that it is noticed."""
-from collections import Counter
 from copy import deepcopy
 
 from judge.lines import token
 from judge.worlds import Wrong
 from killing.asking import STORE
 from killing.judging import Judge, end_of_look, rows_of
+from verdicts import is_refused
 
 STRANGER = ("+doc:stranger#viewer@u",)
 
@@ -74,7 +74,7 @@ def spoiled_answers(life, end):
         yield "an end before its time", told[:-1]
 
 
-def spoiled(life, judge):
+def spoiled_life(life, judge):
     """What this life may not print, where the judge has seen the lives before it."""
     yield "an opening is refused", ["refused 16 Damaged"]
     end = end_of_look(life.told)
@@ -85,23 +85,11 @@ def spoiled(life, judge):
         yield from spoiled_answers(life, end)
 
 
-def is_noticed(judge, lives):
-    """Whether the judge, who has seen the lives before these, finds that they can't be."""
-    try:
-        for life in lives:
-            judge.life(life)
-    except Wrong:
-        return True
-    return False
-
-
-def spoil(lives):
-    """How often each kind of spoiling was tried, and what was not noticed."""
-    tried, passed, judge = Counter(), [], Judge()
+def spoiled(lives):
+    """What was spoiled of these lives, and whether the judge, who has seen those before it, finds that it can't be."""
+    judge = Judge()
     for at, life in enumerate(lives):
-        for what, told in spoiled(life, judge):
-            tried[what] += 1
-            if not is_noticed(deepcopy(judge), [life._replace(told=told), *lives[at + 1 :]]):
-                passed.append(f"life {at + 1}: {what} is not noticed: {told}")
+        for what, told in spoiled_life(life, judge):
+            other = deepcopy(judge)
+            yield what, is_refused(lambda: [other.life(it) for it in [life._replace(told=told), *lives[at + 1 :]]], Wrong), at + 1, told
         judge.life(life)
-    return tried, passed

@@ -2,13 +2,12 @@
 
 import collections
 import os
+import shutil
 
 HERE = os.path.dirname(os.path.realpath(__file__))
-# The record that is kept with the sources, and what the last run here took.
+# The record that is kept with the sources, and what the last run here took: a crate, a kind, its processor seconds, and the most memory of one command in MB.
 KEPT, LAST = f"{HERE}/seconds.tsv", "out/gate/seconds.tsv"
 KINDS = ("proof", "tests", "edits", "building")
-# The same of memory: the most that one command had, in MB.
-KEPT_MEMORY, LAST_MEMORY = f"{HERE}/memory.tsv", "out/gate/memory.tsv"
 # What a check may take beyond the record, as a part of it.
 SPARE = 0.1
 
@@ -24,7 +23,7 @@ class Seconds:
     """Processor seconds of each crate's proof, tests and edits, by the record."""
 
     def __init__(self):
-        self.known = {(name, kind): float(took) for name, kind, took in rows_of(KEPT)}
+        self.known = {(name, kind): float(took) for name, kind, took, _ in rows_of(KEPT)}
 
     def of(self, name, kind, otherwise):
         return self.known.get((name, kind), otherwise)
@@ -35,10 +34,9 @@ class Seconds:
         for name, kind, _, processors, memory in commands:
             sums[name, kind] += processors
             most[name, kind] = max(most[name, kind], memory)
-        for file, found in ((LAST, sums), (LAST_MEMORY, most)):
-            with open(file, "w", encoding="utf-8") as it:
-                for (name, kind), spent in sorted(found.items()):
-                    it.write(f"{name}\t{kind}\t{spent:.0f}\n")
+        with open(LAST, "w", encoding="utf-8") as it:
+            for (name, kind), spent in sorted(sums.items()):
+                it.write(f"{name}\t{kind}\t{spent:.0f}\t{most[name, kind]:.0f}\n")
         print(self.summary(sums))
 
     def summary(self, sums):
@@ -50,7 +48,7 @@ class Memory:
     """The most memory that a command of each crate's proof, tests and edits had, by the record."""
 
     def __init__(self):
-        self.known = {(name, kind): 1e6 * float(most) for name, kind, most in rows_of(KEPT_MEMORY)}
+        self.known = {(name, kind): 1e6 * float(most) for name, kind, _, most in rows_of(KEPT)}
 
     def of(self, name, kind, reckoned):
         """What a task is likely to have, in bytes: by the record, where `rt` reckons more, as it does of what has many lines below it."""
@@ -91,7 +89,7 @@ def row_of(name, sums):
 
 def table():
     """Prints what the last run here took, as a table of Markdown."""
-    sums = {(name, kind): float(took) for name, kind, took in rows_of(LAST)}
+    sums = {(name, kind): float(took) for name, kind, took, _ in rows_of(LAST)}
     with open("crates.txt", encoding="utf-8") as it:
         names = [line.split()[0].rstrip(":") for line in it if line.strip() and not line.startswith("#")]
     print("| Crate | Code and contracts | Definitions | Proofs | Tests | Edits | Minutes of proofs | of tests | of edits | of compilers | together |")
@@ -107,9 +105,7 @@ def table():
 
 def record():
     """Keeps what the last run here took."""
-    for last, kept in ((LAST, KEPT), (LAST_MEMORY, KEPT_MEMORY)):
-        if not os.path.isfile(last):
-            raise SystemExit("no run of the gate has left its seconds here")
-        with open(last, encoding="utf-8") as source, open(kept, "w", encoding="utf-8") as to:
-            to.write(source.read())
+    if not os.path.isfile(LAST):
+        raise SystemExit("no run of the gate has left its seconds here")
+    shutil.copy(LAST, KEPT)
     return 0

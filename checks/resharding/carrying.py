@@ -6,7 +6,8 @@ import subprocess
 import time
 from collections import Counter
 
-from resharding.asking import DONE, LIMIT, at, dumped, fault, must, resharded, resharding, script
+from folders import DONE, at, contents, dumped, fault, resharded, resharding, script
+from programs import LIMIT, without_progress
 
 FEW, MANY = 2, 5
 # How many tuples a write touches, and how many of before each but the first deletes.
@@ -39,17 +40,8 @@ class Store:
         """The folder shows it at three places, the latest among them."""
         last = len(self.lines)
         for place in (last // 3, 2 * last // 3):
-            must(dumped(folder, shards, f"--at {place}"), self.has(place), f"the dump at {place} of {shards} shards")
-        must(dumped(folder, shards), self.has(last), f"the latest dump of {shards} shards")
-
-
-def contents(folder):
-    """Each file with its bytes."""
-    found = {}
-    for name in sorted(os.listdir(folder)):
-        with open(os.path.join(folder, name), "rb") as file:
-            found[name] = file.read()
-    return found
+            assert dumped(folder, shards, f"--at {place}") == self.has(place), f"the dump at {place} of {shards} shards"
+        assert dumped(folder, shards) == self.has(last), f"the latest dump of {shards} shards"
 
 
 def emptied(folder):
@@ -62,7 +54,7 @@ def killed(call, moment):
     with subprocess.Popen(call, stdin=subprocess.DEVNULL, stdout=subprocess.PIPE, stderr=subprocess.PIPE, text=True) as child:
         try:
             out, err = child.communicate(timeout=moment)
-            must((child.returncode, out, err), DONE, "a resharding that was not killed")
+            assert (child.returncode, out, without_progress(err)) == DONE, "a resharding that was not killed"
         except subprocess.TimeoutExpired:
             child.kill()
             child.communicate(timeout=LIMIT)
@@ -94,14 +86,14 @@ class Carrying:
         self.seconds = 0
 
     def left(self, folder, shards):
-        """What a kill has left: no file, a store without a write, what no opening takes, or the whole store. It is never anything else."""
+        """What a kill has left: no file, files in which nothing is kept, what no opening takes, or the whole store. It is never anything else."""
         if not os.listdir(folder):
             return "no file"
-        told = dumped(folder, shards)
-        if told in (fault("16 Damaged"), fault("13 Down")):
-            return "half"
-        if told == at(0):
+        status, out, err = dumped(folder, shards)
+        if (status, out, err) == fault("13 Down", f"{folder}: has no store"):
             return "nothing yet"
+        if (status, out) == (1, "") and err.startswith(("zanstore: 16 Damaged\n", "zanstore: 13 Down\n")):
+            return "half"
         self.store.is_in(folder, shards)
         return "whole"
 
@@ -110,16 +102,19 @@ class Carrying:
         before = contents(new)
         if not before:
             return
-        must(resharded(folder, shards, new, new_shards), fault("16 Damaged"), "a second try into what a kill left")
+        told = fault("16 Damaged", f"{new}: has a file of a store already")
+        assert resharded(folder, shards, new, new_shards) == told, "a second try into what a kill left"
         self.spoil("refused", new)
-        must(contents(new), before, "what a kill left, behind a refused try")
+        assert contents(new) == before, "what a kill left, behind a refused try"
 
     def carried(self, folder, shards, new, new_shards):
         """The command runs to its end, in a folder without a file."""
         emptied(new)
+        before = contents(folder)
         begin = time.monotonic()
-        must(resharded(folder, shards, new, new_shards), DONE, f"a resharding of {shards} to {new_shards}")
+        assert resharded(folder, shards, new, new_shards) == DONE, f"a resharding of {shards} to {new_shards}"
         self.seconds = time.monotonic() - begin
+        assert contents(folder) == before, "the old files are as they were"
         self.spoil("done", new)
         self.store.is_in(new, new_shards)
 
@@ -155,8 +150,8 @@ def made(folder, lines):
     """A new store of these writes."""
     emptied(folder)
     told = script(folder, FEW, *lines, limit=100 * LIMIT)
-    must(len(told), len(lines), "the lines of the writes")
-    must([line for line in told if not line.startswith("ok ")], [], "the writes")
+    assert len(told) == len(lines), "the lines of the writes"
+    assert [line for line in told if not line.startswith("ok ")] == [], "the writes"
 
 
 def there_and_back(folder, count, kills, seed, spoil=None):
@@ -169,5 +164,5 @@ def there_and_back(folder, count, kills, seed, spoil=None):
     back.goes(wide, MANY, narrow, FEW, kills)
     store.is_in(folder, FEW)
     seen = there.seen + back.seen
-    must(seen["half"] > 0, True, f"{UNEVEN}: {dict(seen)}")
+    assert seen["half"] > 0, f"{UNEVEN}: {dict(seen)}"
     return seen, there.seconds, back.seconds

@@ -2,7 +2,7 @@
 import os
 import shutil
 
-from resharding.asking import DONE, must, resharded
+from folders import DONE, empty, resharded
 from resharding.carrying import FEW, MANY, UNEVEN, Store, emptied, made, there_and_back
 
 # Tried where the kills of one are not spread as they have to be.
@@ -24,7 +24,7 @@ class Spoilings:
         self.short, self.wide = os.path.join(top, "short"), os.path.join(top, "short-wide")
         made(self.short, Store(count).lines[:-1])
         emptied(self.wide)
-        must(resharded(self.short, FEW, self.wide, MANY), DONE, "a resharding of the shorter store")
+        assert resharded(self.short, FEW, self.wide, MANY) == DONE, "a resharding of the shorter store"
 
     def lacking(self, folder):
         put(self.wide if folder.endswith("-wide") else self.short, folder)
@@ -35,9 +35,7 @@ class Spoilings:
             file.write(b"\0")
 
     def without(self, folder):
-        for name in ("c.a", "c.b"):
-            with open(os.path.join(folder, name), "wb"):
-                pass
+        empty(folder, "c.a", "c.b")
 
     def all_of(self):
         """What is spoiled, at which moment, and how."""
@@ -61,15 +59,9 @@ def is_seen(top, count, seed, spoil=None):
     raise AssertionError(f"{UNEVEN}, by {SEEDS} seeds")
 
 
-def unnoticed(top, count, seed):
-    """The spoilings that nobody noticed, and a right program where it is taken for a wrong one."""
-    if is_seen(top, count, seed):
-        print("REFUSED: what is not spoiled")
-        yield "what is not spoiled"
+def spoiled(top, count, seed):
+    """Each spoiling, and whether somebody noticed it; a right program is not taken for a wrong one."""
+    assert not is_seen(top, count, seed), "what is not spoiled is refused"
     spoilings = Spoilings(top, count)
     for what, when, how in spoilings.all_of():
-        if is_seen(top, count, seed, lambda moment, folder: how(folder) if moment == when else None):
-            print(f"noticed: {what}")
-            continue
-        print(f"NOT NOTICED: {what}")
-        yield what
+        yield what, is_seen(top, count, seed, lambda moment, folder: how(folder) if moment == when else None)

@@ -1,8 +1,8 @@
 """Hostile lines through a server: sent ahead over a connection for each process here, and judged."""
-import multiprocessing
 import queue
 import threading
 from collections import Counter
+from concurrent.futures import ProcessPoolExecutor
 
 from judge.lines import Refused
 from judge.worlds import Wrong, must
@@ -63,14 +63,11 @@ class Caller:
             self.read()
 
 
-def called(port, seed, number, count, found):
-    """What a process here does: it puts its fault or none, and its counts."""
-    caller, fault = Caller(port), None
-    try:
-        caller.asks(lines(f"{seed} {number}", f"sure{number}", count, caller.tried))
-    except Wrong as wrong:
-        fault = str(wrong)
-    found.put((fault, caller.judge.counts, caller.tried))
+def called(port, seed, number, count):
+    """What a process here does: what it counted."""
+    caller = Caller(port)
+    caller.asks(lines(f"{seed} {number}", f"sure{number}", count, caller.tried))
+    return caller.judge.counts, caller.tried
 
 
 def kibibytes(server, name):
@@ -79,21 +76,12 @@ def kibibytes(server, name):
 
 
 def part(server, seed, count, total, tried):
-    """Sends so many lines over connections side by side; a fault, or none."""
-    found = multiprocessing.SimpleQueue()
-    callers = [multiprocessing.Process(target=called, args=(server.port, seed, number, count // CALLERS, found)) for number in range(CALLERS)]
-    for caller in callers:
-        caller.start()
-    fault = None
-    for _ in callers:
-        one, counts, some = found.get()
-        fault = fault or one
-        total.update(counts)
-        tried.update(some)
-    for caller in callers:
-        caller.join()
-    must(server.goes_on(), f"the server has ended: {server.ended() if not server.goes_on() else None}")
-    must(not fault, fault)
+    """Sends so many lines over connections side by side."""
+    with ProcessPoolExecutor(CALLERS) as pool:
+        for counts, some in pool.map(called, *zip(*((server.port, seed, number, count // CALLERS) for number in range(CALLERS)))):
+            total.update(counts)
+            tried.update(some)
+    must(server.goes_on(), "the server has ended")
 
 
 def sent(folder, seed, count):

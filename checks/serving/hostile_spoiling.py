@@ -5,15 +5,13 @@ from random import Random
 
 from judge.lines import REFUSALS, Refused
 from judge.worlds import Wrong
+from request_rows import is_refused_before, rows
 from serving.hostile_judge import Judge, wanted_of
 from serving.hostile_lines import lines
 from serving.hostile_reader import kind_of
-from serving.rows import is_refused_before, rows
 from serving.wire import refusal, token
-
-
-def spelled(answer):
-    return json.dumps(answer, sort_keys=True, separators=(",", ":")).encode()
+from serving.wire import told as told_of
+from verdicts import is_refused
 
 
 def sample(seed, count):
@@ -24,10 +22,10 @@ def sample(seed, count):
             kind, wanted = asked.wanted
             place += kind == "zookie"
             answer = wanted if kind == "error" else {kind: wanted, "zookie": token(place)}
-            found.append((asked, spelled({"zookie": token(place)} if kind == "zookie" else answer)))
+            found.append((asked, told_of({"zookie": token(place)} if kind == "zookie" else answer)))
         else:
             cause = wanted_of(asked.line)[0] or 7
-            found.append((asked, spelled(refusal(cause, REFUSALS[cause - 1]))))
+            found.append((asked, told_of(refusal(cause, REFUSALS[cause - 1]))))
     return found
 
 
@@ -35,11 +33,7 @@ def is_noticed(greatest, asked, answer):
     """Whether the judge notices the answer of a session that was told this place before."""
     judge = Judge()
     judge.greatest = greatest
-    try:
-        judge.judged(asked, answer)
-    except (Wrong, Refused, ValueError):
-        return True
-    return False
+    return is_refused(lambda: judge.judged(asked, answer), Wrong, Refused, ValueError)
 
 
 def greatest_before(pairs):
@@ -61,31 +55,31 @@ def others(asked, answer):
     yield "twice in a line", answer * 2
     yield "another key", answer.replace(b'{"', b'{"x', 1)
     if "error" in told:
-        yield "another name", spelled({**told, "name": "Unsure"})
-        yield "no such refusal", spelled({**told, "error": 17})
+        yield "another name", told_of({**told, "name": "Unsure"})
+        yield "no such refusal", told_of({**told, "error": 17})
     if asked.wanted and "error" in told:
-        yield "another refusal", spelled(refusal(2, "BadTuple"))
+        yield "another refusal", told_of(refusal(2, "BadTuple"))
     if "zookie" in told:
-        yield "an earlier place", spelled({**told, "zookie": token(0)})
-        yield "another store", spelled({**told, "zookie": token(1, 99)})
-        yield "a cut token", spelled({**told, "zookie": told["zookie"][:-1]})
-        yield "refused", spelled(refusal(1, "BadRequest"))
+        yield "an earlier place", told_of({**told, "zookie": token(0)})
+        yield "another store", told_of({**told, "zookie": token(1, 99)})
+        yield "a cut token", told_of({**told, "zookie": told["zookie"][:-1]})
+        yield "refused", told_of(refusal(1, "BadRequest"))
     if "member" in told:
-        yield "the other member", spelled({**told, "member": not told["member"]})
+        yield "the other member", told_of({**told, "member": not told["member"]})
         yield "keys in another order", b'{"zookie":"%s","member":%s}' % (told["zookie"].encode(), b"true" if told["member"] else b"false")
     if "sets" in told:
-        yield "a row less", spelled({**told, "sets": [[]]})
-        yield "a row that is none", spelled({**told, "sets": [["doc:sure#viewer"]]})
-        yield "rows twice", spelled({**told, "sets": [told["sets"][0] * 2]})
+        yield "a row less", told_of({**told, "sets": [[]]})
+        yield "a row that is none", told_of({**told, "sets": [["doc:sure#viewer"]]})
+        yield "rows twice", told_of({**told, "sets": [told["sets"][0] * 2]})
     if not asked.wanted and told["error"] < 7:
         number = told["error"] % 6 + 1
-        yield f"another refusal than {told['error']}", spelled(refusal(number, REFUSALS[number - 1]))
-        yield "an answer to what is none", spelled({"member": True, "zookie": token(10**6)})
-        yield "a refusal of its store", spelled(refusal(9, "Precondition"))
+        yield f"another refusal than {told['error']}", told_of(refusal(number, REFUSALS[number - 1]))
+        yield "an answer to what is none", told_of({"member": True, "zookie": token(10**6)})
+        yield "a refusal of its store", told_of(refusal(9, "Precondition"))
     if not asked.wanted and told["error"] == 7:
-        yield "a cause that it has not", spelled(refusal(2, "BadTuple"))
+        yield "a cause that it has not", told_of(refusal(2, "BadTuple"))
         kind = wanted_of(asked.line)[1]
-        yield "an answer of another kind", spelled({"zookie": token(10**6)} if kind != "zookie" else {"member": True, "zookie": token(10**6)})
+        yield "an answer of another kind", told_of({"zookie": token(10**6)} if kind != "zookie" else {"member": True, "zookie": token(10**6)})
 
 
 def misread():
@@ -104,22 +98,16 @@ def misread():
     return wrong, count
 
 
-def spoil(seed, count):
-    """How often what was tried, and which of it was not noticed."""
-    pairs, random, tried, missed = sample(seed, count), Random(seed), Counter(), []
+def spoiled(seed, count):
+    """What was spoiled, and whether it was noticed."""
+    pairs, random = sample(seed, count), Random(seed)
     before = greatest_before(pairs)
     for at in range(1, len(pairs)):
         asked, answer = pairs[at]
-        if not asked.wanted and random.random() < 0.7:
-            continue
-        for name, other in others(asked, answer):
-            tried[name] += 1
-            if not is_noticed(before[at], asked, other):
-                missed.append(f"{name} for {answer[:200]} to {asked.line[:200]}")
+        if asked.wanted or random.random() >= 0.7:
+            for name, other in others(asked, answer):
+                yield name, is_noticed(before[at], asked, other), answer[:200], asked.line[:200]
     for at in (3, len(pairs) // 2):
         # Each line behind a lost answer gets that of the next one.
-        tried["an answer less"] += 1
         later = zip(before[at:], pairs[at:], pairs[at + 1 :])
-        if not any(is_noticed(place, asked, answer) for place, (asked, _), (_, answer) in later):
-            missed.append(f"an answer less, of the line {at}")
-    return tried, missed
+        yield "an answer less", any(is_noticed(place, asked, answer) for place, (asked, _), (_, answer) in later), at

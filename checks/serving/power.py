@@ -5,7 +5,7 @@ import struct
 from collections import Counter, defaultdict, namedtuple
 
 from judge.worlds import must
-from serving.libraries import built_library
+from libraries import built_library
 
 HEAD = struct.Struct("=9Q")
 MAGIC = 0x65746F6E2E6E617A
@@ -101,7 +101,7 @@ class Power:
 
     def __init__(self, folder, random, forgets=None):
         self.folder, self.random, self.library = os.path.realpath(folder), random, built_library("note_writes")
-        self.notes = os.path.join(os.path.dirname(self.library), "notes")
+        self.notes = f"{self.folder}.notes"
         self.forgets, self.counts = {"NOTES_FORGET": forgets} if forgets else {}, Counter()
 
     def environment(self):

@@ -1,4 +1,5 @@
 """The server as a process: started over a folder, asked to be ready, killed, and waited for."""
+import datetime
 import os
 import random
 import re
@@ -8,9 +9,11 @@ import socket
 import subprocess
 import threading
 
+import programs
 from judge.worlds import Wrong, must
+from programs import without_progress
+from programs import zanstore as program
 
-TOP = os.path.dirname(os.path.dirname(os.path.dirname(os.path.abspath(__file__))))
 HOST = "127.0.0.1"
 STORE = 7
 SHARDS = 3
@@ -19,10 +22,6 @@ LIMIT = 60
 # Below the ports that a system chooses by itself: a client that tries one of those while nobody listens may be connected to itself.
 PORTS = range(20000, 32000)
 PORT_TRIES = 5
-
-
-def program():
-    return os.environ.get("ZANSTORE", os.path.join(TOP, "crates", "zanstore", "out", "zanstore"))
 
 
 def built():
@@ -45,50 +44,67 @@ def words_of(options):
 
 
 def run(*words):
-    """The status, standard output and standard error of a command line that is to end by itself."""
-    try:
-        done = subprocess.run([program(), *words], stdin=subprocess.DEVNULL, capture_output=True, timeout=LIMIT, text=True, errors="replace")
-    except subprocess.TimeoutExpired as late:
-        raise Wrong(f"no end in {LIMIT} seconds of: {' '.join(words)}") from late
-    return done.returncode, done.stdout, done.stderr
+    return programs.run([program(), *words])
 
 
-def without_progress(text):
-    """What a server prints on standard error without the lines that tell how long its opening has taken so far, as they come on a slow machine."""
-    return re.sub(r"zanstore: \S+: being opened, for [0-9]+ s so far\n", "", text)
+TIMED = re.compile(r"zanstore: ([0-9]{4}-[0-9]{2}-[0-9]{2}T[0-9]{2}:[0-9]{2}:[0-9]{2}Z) ")
+
+
+def untimed(line):
+    """A line of standard error without its time, which has to be that of now."""
+    found = TIMED.match(line)
+    must(found, f"a line has no time: {line!r}")
+    told = datetime.datetime.fromisoformat(found[1])
+    late = (datetime.datetime.now(datetime.timezone.utc) - told).total_seconds()
+    must(-1 <= late <= 2 * LIMIT, f"a line is told {late:.0f} seconds late: {line!r}")
+    return "zanstore: " + line[found.end() :]
 
 
 def is_start(text, folder, shards, horizon, latest):
     """Whether the text is just the line that a server of a new store, or of one with these places, prints on standard error as it begins."""
     text = without_progress(text)
-    wanted = re.escape(f"zanstore: {folder}: {shards} shards, places {horizon} to {latest}, opened in ")
-    return re.fullmatch(wanted + rf"[0-9]+\.[0-9]{{3}} s from [0-9]+ bytes of {2 * (shards + 1)} files\n", text) is not None
+    places = f"places {horizon} to {latest}" if latest else "a new store"
+    wanted = re.escape(f"zanstore: {folder}: {shards} shards, {places}, opened in ")
+    return re.fullmatch(wanted + rf"[0-9]+\.[0-9]{{3}} s from [0-9]+ bytes of {2 * (shards + 1)} files\n", untimed(text)) is not None
 
 
-def limit_files(longest):
-    """A write past this many bytes fails, and no signal ends the process."""
-    signal.signal(signal.SIGXFSZ, signal.SIG_IGN)
-    resource.setrlimit(resource.RLIMIT_FSIZE, (longest, longest))
+def is_listening(line, port):
+    """Whether the line is the one that tells this port."""
+    return untimed(line) == f"zanstore: listening at {HOST}:{port}\n"
+
+
+def is_beginning(text, folder, shards, port):
+    """Whether a server of a new store has told just how it was opened, and its port."""
+    start, listening = ["", *without_progress(text).splitlines(keepends=True)][-2:]
+    return without_progress(text) == start + listening and is_start(start, folder, shards, 0, 0) and is_listening(listening, port)
+
+
+def limit(longest, descriptors):
+    """No file gets longer, and a call that would write past that ends the process by a signal; and no more descriptors are there. As many as there are where
+    none is given."""
+    if longest:
+        resource.setrlimit(resource.RLIMIT_FSIZE, (longest, longest))
+    if descriptors:
+        resource.setrlimit(resource.RLIMIT_NOFILE, (descriptors, descriptors))
 
 
 class Server:
     """A server over a folder. It is ready once this is made, unless `ready` is asked for later; no file of it gets longer than `longest` bytes."""
 
-    def __init__(self, folder, waits=True, environment=None, longest=None, port=None, **options):
+    def __init__(self, folder, waits=True, environment=None, longest=None, descriptors=None, flags=(), port=None, **options):
         for left in reversed(range(PORT_TRIES)):
             self.port = port or free_port()
             given = {"dir": folder, "store": STORE, "shards": SHARDS, "listen": f"{HOST}:{self.port}", "workers": 4, **options}
-            self.begin([program(), "serve", *words_of(given)], environment, longest)
+            self.begin([program(), "serve", *words_of(given), *flags], environment, lambda: limit(longest, descriptors))
             if not waits or self.is_ready():
                 return
             ended = self.ended()
             # Another server may have taken the port that was free.
-            if port or not left or not ended[2].endswith("zanstore: listen\n"):
+            if port or not left or "zanstore: listen\n" not in ended[2]:
                 raise Wrong(f"a server is not ready: {ended}")
 
-    def begin(self, words, environment, longest):
+    def begin(self, words, environment, limited):
         pipes = {"stdin": subprocess.DEVNULL, "stdout": subprocess.PIPE, "stderr": subprocess.PIPE}
-        limited = (lambda: limit_files(longest)) if longest else None
         self.child = subprocess.Popen(words, **pipes, env={**os.environ, **(environment or {})}, preexec_fn=limited)
 
     def __enter__(self):
@@ -104,6 +120,18 @@ class Server:
         line = output.readline()
         guard.cancel()
         return line
+
+    def told(self):
+        """The next line of its errors, but for those of a long opening."""
+        while True:
+            line = self.next_line(self.child.stderr).decode()
+            if not line or without_progress(line):
+                return line
+
+    def begins(self, folder):
+        """That a server of a new store tells how it was opened, and its port."""
+        lines = self.told() + self.told()
+        must(is_beginning(lines, folder, SHARDS, self.port), f"standard error says {lines!r}")
 
     def is_ready(self):
         """Whether it printed the line `ready`, and did not end before."""

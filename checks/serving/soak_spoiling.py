@@ -1,5 +1,4 @@
 """Tests the judge: spoils a run as a wrong server would have it recorded, and asks that each is noticed."""
-from collections import Counter
 from random import Random
 
 from serving.recorded import writes_of
@@ -28,30 +27,12 @@ class Ground:
     def with_log(self, log):
         return self.run._replace(log=whole(log), again=whole(log))
 
-    def with_ask(self, fits, change):
-        """Another answer, or other marks, of one ask that fits."""
-        at = self.choose(at for at, ask in enumerate(self.run.asks) if fits(ask))
-        asks = [*self.run.asks]
-        asks[at] = change(asks[at])
-        return self.run._replace(asks=asks)
-
-    def with_read(self, fits, change):
-        at = self.choose(at for at, read in enumerate(self.run.reads) if fits(read))
-        reads = [*self.run.reads]
-        reads[at] = change(reads[at])
-        return self.run._replace(reads=reads)
-
-    def with_watch(self, fits, change):
-        at = self.choose(at for at, watch in enumerate(self.run.watches) if fits(watch))
-        watches = [*self.run.watches]
-        watches[at] = change(watches[at])
-        return self.run._replace(watches=watches)
-
-    def with_dump(self, change):
-        at = self.choose(at for at, dump in enumerate(self.run.dumps) if dump.rows)
-        dumps = [*self.run.dumps]
-        dumps[at] = change(dumps[at])
-        return self.run._replace(dumps=dumps)
+    def with_one(self, name, fits, change):
+        """Another ask, read, watch or dump in the place of one that fits."""
+        some = [*getattr(self.run, name)]
+        at = self.choose(at for at, one in enumerate(some) if fits(one))
+        some[at] = change(some[at])
+        return self.run._replace(**{name: some})
 
     def place(self):
         """A place of a told write."""
@@ -138,7 +119,7 @@ def open_too_early(ground):
     def fits(ask):
         return ask.changes in stands and ask.answer in UNKNOWN and once(ground, ask)
 
-    return ground.with_ask(fits, lambda ask: ask._replace(before=stands[ask.changes]))
+    return ground.with_one("asks", fits, lambda ask: ask._replace(before=stands[ask.changes]))
 
 
 def once(ground, ask):
@@ -222,6 +203,13 @@ WATCHES = {
     "a watch that stops too early": (lambda watch: watch.limit == 256, lambda watch: watch._replace(before=watch.place + 1)),
     "a watch above the list": (lambda watch: watch.limit == 256, lambda watch: watch._replace(place=10**6)),
 }
+DUMPS = {
+    "a dump lacks a tuple": lambda dump: dump._replace(rows=dump.rows[1:]),
+    "a dump has a tuple that nobody wrote": lambda dump: dump._replace(rows=[*dump.rows, STRANGER[0][1:]]),
+    "a dump in another order": lambda dump: dump._replace(rows=dump.rows[::-1]),
+    "a dump of an older place": lambda dump: dump._replace(place=dump.place - 1),
+    "a dump above the list": lambda dump: dump._replace(place=10**6),
+}
 KINDS = {
     "a told write is lost": lost,
     "a told write is lost, and its place is empty": lost_with_its_place,
@@ -243,33 +231,23 @@ KINDS = {
     "a list that is not read to its end": unended_list,
     "a list out of order": unordered_list,
     "a gap in the list": gap_in_the_list,
-    **{what: lambda ground, one=one: ground.with_ask(one[0](ground), one[1]) for what, one in ASKS.items()},
-    **{what: lambda ground, one=one: ground.with_read(*one) for what, one in READS.items()},
-    **{what: lambda ground, one=one: ground.with_watch(*one) for what, one in WATCHES.items()},
+    **{what: lambda ground, one=one: ground.with_one("asks", one[0](ground), one[1]) for what, one in ASKS.items()},
+    **{what: lambda ground, one=one: ground.with_one("reads", *one) for what, one in READS.items()},
+    **{what: lambda ground, one=one: ground.with_one("watches", *one) for what, one in WATCHES.items()},
+    **{what: lambda ground, change=change: ground.with_one("dumps", lambda dump: dump.rows, change) for what, change in DUMPS.items()},
 }
-DUMPS = {
-    "a dump lacks a tuple": lambda dump: dump._replace(rows=dump.rows[1:]),
-    "a dump has a tuple that nobody wrote": lambda dump: dump._replace(rows=[*dump.rows, STRANGER[0][1:]]),
-    "a dump in another order": lambda dump: dump._replace(rows=dump.rows[::-1]),
-    "a dump of an older place": lambda dump: dump._replace(place=dump.place - 1),
-    "a dump above the list": lambda dump: dump._replace(place=10**6),
-}
-KINDS.update({what: lambda ground, change=change: ground.with_dump(change) for what, change in DUMPS.items()})
 TRIES = 3
 
 
-def spoil(run, seed):
-    """How often each kind was tried on this run, how often each rule noticed something, and what was not noticed."""
-    tried, rules, passed = Counter(), Counter(), []
+def spoiled(run, seed, rules):
+    """What was spoiled, and whether it was noticed; how often each rule noticed something is counted."""
+    assert not judged(run), f"a good run of seed {seed} has {judged(run)[0]}"
     for what, kind in KINDS.items():
         for number in range(TRIES):
             try:
-                spoiled = kind(Ground(run, Random(f"{seed} {what} {number}")))
+                other = kind(Ground(run, Random(f"{seed} {what} {number}")))
             except Nothing:
                 break
-            tried[what] += 1
-            found = {rule for rule, _ in judged(spoiled)}
+            found = {rule for rule, _ in judged(other)}
             rules.update(found)
-            if not found:
-                passed.append(f"seed {seed}: {what} is not noticed")
-    return tried, rules, passed
+            yield what, found, seed

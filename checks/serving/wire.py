@@ -1,9 +1,9 @@
 """A session with a server: a line in, a line out; and requests as values."""
-import base64
 import json
 import socket
 
 from judge.lines import read_token
+from judge.lines import token as token_of
 from judge.worlds import Wrong, must
 from serving.server import HOST, STORE
 
@@ -45,8 +45,13 @@ def spelled(request):
     return json.dumps(request, separators=(",", ":")).encode() + b"\n"
 
 
+def told(answer):
+    """An answer as it is spelled."""
+    return json.dumps(answer, sort_keys=True, separators=(",", ":")).encode()
+
+
 def token(place, store=STORE):
-    return base64.b64encode(bytes([1, 0]) + store.to_bytes(8, "big") + place.to_bytes(8, "big")).decode()
+    return token_of(store, place)
 
 
 def place_of(answer):
@@ -122,3 +127,10 @@ class Session:
 
 def refusal(number, name):
     return {"error": number, "name": name}
+
+
+def is_told(session, request, wanted):
+    """The answer, to the byte."""
+    session.send(spelled(request))
+    answer, text = session.line(), told(wanted)
+    must(answer == text, f"answers {answer[:300]} to {str(request)[:200]}, and not {text[:300]}")

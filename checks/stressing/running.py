@@ -1,8 +1,8 @@
 """The program that runs a store among threads, and what it prints."""
 import subprocess
 
-import harness
 from judge.worlds import Wrong
+from programs import harness
 
 # Far more seconds than a run takes behind those that it was asked for, where much else runs.
 LIMIT = 120
@@ -20,7 +20,7 @@ def lines_in(text):
 def printed(seconds, seed):
     """The lines of a run of the program, or raises `Wrong` where it doesn't end as it has to."""
     try:
-        done = subprocess.run(harness.command("threads", seconds, seed), stdin=subprocess.DEVNULL, capture_output=True, timeout=seconds + LIMIT)
+        done = subprocess.run(harness("threads", seconds, seed), stdin=subprocess.DEVNULL, capture_output=True, timeout=seconds + LIMIT)
     except subprocess.TimeoutExpired as late:
         raise Wrong(f"no end {LIMIT} seconds behind the {seconds} that it was to run") from late
     if done.returncode != 0:

@@ -1,5 +1,4 @@
 """Tests the judge: spoils a good run as a wrong store, or a wrong program, would print it, and asks that it is noticed."""
-from collections import Counter
 from concurrent.futures import ProcessPoolExecutor
 from functools import partial
 from random import Random
@@ -47,16 +46,13 @@ def tried(tries, what):
     return found
 
 
-def spoil(runs):
-    """How often each kind was tried on these runs, each lines and a seed; what was not noticed; and how often each rule noticed something, and alone."""
-    count, passed, rules, alone = Counter(), [], Counter(), Counter()
+def spoiled(runs, rules, alone):
+    """What was spoiled of these runs, each lines and a seed, and whether it was noticed; counts how often each rule noticed something, and alone."""
     for lines, seed in runs:
         tries = TRIES if len(lines) <= LINES else 1
         with ProcessPoolExecutor(initializer=begin, initargs=(lines, seed)) as pool:
-            every = list(pool.map(partial(tried, tries), KINDS))
-        for what, found in zip(KINDS, every):
-            count[what] += len(found)
-            passed += [f"{what} is not noticed" for some in found if not some]
-            rules.update(rule for some in found for rule in some)
-            alone.update(rule for some in found for rule in some if len(some) == 1)
-    return count, passed, rules, alone
+            for what, found in zip(KINDS, pool.map(partial(tried, tries), KINDS)):
+                for some in found:
+                    rules.update(some)
+                    alone.update(some if len(some) == 1 else ())
+                    yield what, some, seed

@@ -1,7 +1,4 @@
 """Plain stores with a mistake each, which the judge has to find in what their callers were told."""
-from concurrent.futures import ProcessPoolExecutor
-from functools import partial
-
 from judge import definitions
 from stressing.calls import lines_of
 from stressing.judging import judged
@@ -186,10 +183,3 @@ def found(wrong, seed):
         if faults:
             return at, faults[0]
     return None
-
-
-def not_found(seed):
-    """The mistakes that were not found."""
-    with ProcessPoolExecutor() as pool:
-        runs = list(pool.map(partial(found, seed=seed), WRONG))
-    return [f"a mistake is not found: {wrong.__doc__}" for wrong, run in zip(WRONG, runs) if not run]

@@ -1,6 +1,5 @@
 """The program, given lines, with what each of them printed."""
 import contextlib
-import os
 import resource
 import signal
 import subprocess
@@ -9,9 +8,9 @@ from collections import namedtuple
 
 from judge.reading import Reading
 from judge.worlds import Wrong
+from programs import zanstore as program
 from sweeping.scripts import SHARDS, STORE
 
-TOP = os.path.dirname(os.path.dirname(os.path.dirname(os.path.abspath(__file__))))
 # Far more processor seconds than a script takes: a flow that goes on for ever is told.
 PROCESSOR_SECONDS = 5
 # Far more seconds than a script takes where much else runs: a program that waits for ever is told.
@@ -19,10 +18,6 @@ LIMIT = 300
 
 # A line, the command that it was read as (none where it is refused by its shape), and what it printed.
 Told = namedtuple("Told", "line command printed")
-
-
-def program():
-    return os.environ.get("ZANSTORE", os.path.join(TOP, "crates", "zanstore", "out", "zanstore"))
 
 
 class Live:

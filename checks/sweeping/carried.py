@@ -2,8 +2,9 @@
 import subprocess
 from collections import namedtuple
 
-import harness
 from judge.lines import token
+from programs import harness, lines_of
+from programs import run as given
 from sweeping.asking import LIMIT
 from sweeping.scripts import STORE
 
@@ -55,11 +56,10 @@ def lines():
 
 
 def printed_by(disk, call, byte):
-    words = harness.command("failing", disk, call, byte)
-    ran = subprocess.run(words, input="".join(line + "\n" for line in lines()), capture_output=True, text=True, timeout=LIMIT)
-    if ran.returncode != 0:
-        raise ValueError(f"the program ended with status {ran.returncode}")
-    return ran.stdout.splitlines()
+    status, out, _ = given(harness("failing", disk, call, byte), lines_of(lines()), LIMIT)
+    if status != 0:
+        raise ValueError(f"the program ended with status {status}")
+    return out.splitlines()
 
 
 # What was printed: whether the store was carried over, whether its node was found down behind it, whether the nodes' next opening found it, and what is wrong.
@@ -108,9 +108,7 @@ def is_down_at_first(disk, call, byte):
     """Whether a node of the new store was not opened: it refuses the first line that asks it."""
     node = NODES[disk // 2]
     asked = [line for line, _ in BEFORE] + [f"reshard {SHARDS}", f"flush {node}"]
-    words = harness.command("failing", disk, call, byte)
-    ran = subprocess.run(words, input="".join(line + "\n" for line in asked), capture_output=True, text=True, timeout=LIMIT)
-    return ran.stdout.splitlines()[-1:] == [DOWN]
+    return given(harness("failing", disk, call, byte), lines_of(asked), LIMIT)[1].splitlines()[-1:] == [DOWN]
 
 
 def sweep(job):
@@ -155,17 +153,15 @@ def spoilings(printed):
                 yield f"line {at} is {other}", [*printed[:at], other, *printed[at + 1 :]]
 
 
-def unnoticed():
-    """What of spoiled lines is taken for right, and of right ones for wrong."""
-    faults, count = [], 0
+def refused_right():
+    """Right lines that are refused."""
+    return [found.fault for node in NODES for lines in all_right(node) for found in (judged(lines, node),) if found.fault]
+
+
+def spoiled():
+    """Spoiled lines, but for those that are right ones of another run, and whether they are noticed."""
     for node in NODES:
         for lines in all_right(node):
-            if judged(lines, node).fault:
-                faults.append(f"right lines are refused: {judged(lines, node).fault}")
             for what, printed in spoilings(lines):
-                # Spoiled lines may be right ones of another run.
                 if printed not in all_right(node):
-                    count += 1
-                    faults += [] if judged(printed, node).fault else [f"not noticed: {what}"]
-    print(f"sweep of a resharding: {count} spoiled runs, {len(faults)} not noticed")
-    return faults
+                    yield "a line is another one", judged(printed, node).fault, what

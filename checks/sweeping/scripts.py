@@ -77,7 +77,7 @@ SCRIPTS = {
     ],
     # What a stopped checkpoint left stands behind a closed gate, and must not be met again once a write was told since.
     "stopped-checkpoint": [
-        *("write +doc:a#viewer@u1", "fail 1b 6 old", "checkpoint 1", "restart 1", "write +doc:a#viewer@u2", FROM_HERE),
+        *("write +doc:a#viewer@u1", "fail 1b 5 old", "checkpoint 1", "restart 1", "write +doc:a#viewer@u2", FROM_HERE),
         *("checkpoint 1", "restart 1", "write -doc:a#viewer@u1"),
     ],
 }

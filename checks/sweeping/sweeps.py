@@ -78,6 +78,6 @@ def look_at(job):
 def second(pool, swept, seed, count, is_full):
     """The runs of the second sweep, and how many nodes waited for their failing call until they were opened again: all, or so many by a seed."""
     found = list(jobs(swept, is_full))
-    if seed is not None and count < len(found):
+    if not is_full and count < len(found):
         found = random.Random(seed).sample(found, count)
     return list(pool.map(look_at, found, chunksize=16))

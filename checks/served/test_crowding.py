@@ -1,0 +1,381 @@
+"""More connections than workers, and clients that do not care."""
+import contextlib
+import resource
+import select
+import selectors
+import socket
+import time
+
+import pytest
+
+from judge.worlds import Wrong, must
+from serving.server import HOST, SHARDS, Server, is_beginning
+from serving.wire import LIMIT, Gone, Session, check, read, spelled, token, write
+
+GROUP = "servers"
+CROWD = 1100
+PLACES = 1024
+# The crowd takes a descriptor for each connection at both of its ends.
+resource.setrlimit(resource.RLIMIT_NOFILE, (max(4096, resource.getrlimit(resource.RLIMIT_NOFILE)[0]), resource.getrlimit(resource.RLIMIT_NOFILE)[1]))
+ASKED = check("doc:a#viewer@ann")
+NO = {"member": False, "zookie": token(0)}
+# For so many seconds a client may take nothing of its answers, and a line that has begun, or answers of which little is taken, may keep others waiting. Far more
+# is a fault.
+SLOWEST, LATEST = 30, 300
+
+
+def is_answered(session):
+    answer = session.ask(ASKED)
+    must(answer == NO, f"answers {answer}")
+
+
+def crowd_of(port):
+    """So many connections, each with one line sent, or none where it was ended before."""
+    crowd = []
+    for _ in range(CROWD):
+        one = socket.create_connection((HOST, port), timeout=LIMIT)
+        crowd.append(one)
+        try:
+            one.sendall(spelled(ASKED))
+        except OSError:
+            pass
+        one.setblocking(False)
+    return crowd
+
+
+def took(one):
+    """What came over it, or nothing where it was ended."""
+    try:
+        return one.recv(1024)
+    except OSError:
+        return b""
+
+
+def ends(crowd, enough):
+    """How many of the crowd were answered, and how many ended, as soon as it is enough; who has an answer goes."""
+    chosen, answered, closed = selectors.DefaultSelector(), 0, 0
+    for one in crowd:
+        if one.fileno() >= 0:
+            chosen.register(one, selectors.EVENT_READ)
+    late = time.monotonic() + LIMIT
+    while not enough(answered, closed) and time.monotonic() < late:
+        for key, _ in chosen.select(0.2):
+            found = took(key.fileobj)
+            must(found in (b"", spelled(NO)), f"answers {found}")
+            answered, closed = answered + bool(found), closed + (not found)
+            chosen.unregister(key.fileobj)
+            key.fileobj.close()
+    return answered, closed
+
+
+def test_crowded(folder):
+    """1,100 connections at once: 1,024 wait and are served in the end, the others are closed"""
+    with Server(folder, workers=2, idle=LIMIT) as server:
+        holders = [Session(server.port) for _ in range(2)]
+        for holder in holders:
+            is_answered(holder)
+        crowd = crowd_of(server.port)
+        try:
+            answered, closed = ends(crowd, lambda _, closed: closed >= CROWD - PLACES)
+            must((answered, closed) == (0, CROWD - PLACES), f"while all workers were held {answered} were answered, and {closed} closed")
+            for holder in holders:
+                is_answered(holder)
+                holder.close()
+            answered, closed = ends(crowd, lambda answered, closed: answered + closed == PLACES)
+            must((answered, closed) == (PLACES, 0), f"of those that waited {answered} were answered, and {closed} closed")
+        finally:
+            for one in crowd:
+                one.close()
+        with Session(server.port) as session:
+            is_answered(session)
+
+
+def fill(session):
+    """Makes a list whose read is some 60,000 bytes."""
+    for number in range(8):
+        rows = [f"+doc:list#viewer@{number}.{row}.{'x' * 90}" for row in range(64)]
+        must("zookie" in session.ask(write(*rows)), "a write of 64 changes is refused")
+
+
+def filled(port, room=None):
+    """A connection over which reads were sent until no more are taken, and no answer is read; of so much room for answers, where that is told."""
+    one = socket.socket()
+    if room:
+        one.setsockopt(socket.SOL_SOCKET, socket.SO_RCVBUF, room)
+    one.settimeout(3)
+    one.connect((HOST, port))
+    lines = spelled(read("doc:list")) * 1000
+    try:
+        for _ in range(10000):
+            one.sendall(lines)
+    except TimeoutError:
+        return one
+    raise Wrong("takes lines for ever, and nobody reads its answers")
+
+
+def test_never_reads(folder):
+    """a client that never reads, and others go on"""
+    with Server(folder, workers=2) as server:
+        with Session(server.port) as session:
+            fill(session)
+        with filled(server.port), Session(server.port) as session:
+            for number in range(20):
+                answer = session.ask(write(f"+doc:a{number}#viewer@ann"))
+                must("zookie" in answer, f"answers {answer}")
+        with Session(server.port) as first, Session(server.port) as second:
+            for session in (first, second):
+                answer = session.ask(check("doc:a19#viewer@ann"))
+                must(answer.get("member") is True, f"answers {answer} once that client has gone")
+
+
+@contextlib.contextmanager
+def only_worker_taken(folder, **options):
+    """A server of one worker, and a client that has it and reads no answer, of little room for answers."""
+    with Server(folder, workers=1, **options) as server:
+        with Session(server.port) as session:
+            fill(session)
+        with filled(server.port, 4096) as taking:
+            yield server, taking
+
+
+def is_next(other):
+    answer = other.answer()
+    must(answer == {"member": False, "zookie": token(8)}, f"answers {answer} to the one that waited")
+
+
+def is_cut(one):
+    """Whether the server has ended a connection: behind what was sent there comes nothing more."""
+    try:
+        while one.recv(1 << 20):
+            pass
+    except TimeoutError:
+        return False
+    except OSError:
+        pass
+    return True
+
+
+@pytest.mark.long
+def test_unread_answers(folder):
+    """a client that never reads has the only worker for half a minute at least, loses it in the end, and who waits is answered"""
+    with Server(folder, workers=1) as server:
+        with Session(server.port) as session:
+            fill(session)
+        begin = time.monotonic()
+        with filled(server.port) as unread, Session(server.port, LATEST) as other:
+            other.send(spelled(ASKED))
+            is_next(other)
+            waited = time.monotonic() - begin
+            must(waited >= SLOWEST, f"a client that reads nothing gave its worker up after {waited:.1f} s")
+            must(is_cut(unread), "the client that reads nothing has a connection still, and there is one worker")
+
+
+def sips(one, seconds, is_over, most=100):
+    """For how long bytes of answers were taken, up to so many twice a second, until it is over."""
+    begin = time.monotonic()
+    while time.monotonic() < begin + seconds and not is_over():
+        try:
+            one.recv(most)
+        except OSError:
+            pass
+    return time.monotonic() - begin
+
+
+def comes(session):
+    """Whether something of an answer comes within half a second."""
+    return bool(select.select([session.socket], [], [], 0.5)[0])
+
+
+def half_a_second():
+    time.sleep(0.5)
+    return False
+
+
+@pytest.mark.long
+def test_sipped_answers(folder):
+    """a client that takes a little of its answers now and then loses the only worker too, where another waits, behind half a minute"""
+    with only_worker_taken(folder) as (server, sipping), Session(server.port, LATEST) as other:
+        other.send(spelled(ASKED))
+        waited = sips(sipping, LATEST, lambda: comes(other))
+        # It has kept the worker since before, while it was filled.
+        must(SLOWEST - 10 <= waited < SLOWEST + 15, f"a client that takes 200 bytes a second kept its worker for {waited:.1f} s")
+        is_next(other)
+
+
+@pytest.mark.long
+def test_sipped_last(folder):
+    """nor does it keep a server that is about to end"""
+    with only_worker_taken(folder, connections=2) as (server, sipping):
+        waited = sips(sipping, LATEST, lambda: half_a_second() or not server.goes_on())
+        must(SLOWEST - 10 <= waited < SLOWEST + 15, f"a client that takes 200 bytes a second kept a server for {waited:.1f} s")
+        status, out, _ = server.ended()
+        must((status, out) == (0, ""), f"the server ends with (status, output) {(status, out)}")
+
+
+@pytest.mark.long
+def test_taken_answers(folder):
+    """one that takes them at some kilobytes a second keeps the only worker, though another waits"""
+    with only_worker_taken(folder) as (server, taking), Session(server.port) as other:
+        other.send(spelled(ASKED))
+        waited = sips(taking, 2 * SLOWEST, lambda: comes(other), most=1 << 14)
+        must(waited >= 2 * SLOWEST, f"a client that takes up to 32 KiB a second lost its worker behind {waited:.1f} s")
+        taking.close()
+        is_next(other)
+
+
+@pytest.mark.long
+def test_sipped_alone(folder):
+    """a client that takes a little of its answers now and then has the only worker for as long as it likes while nobody waits"""
+    with only_worker_taken(folder) as (_, sipping):
+        sips(sipping, SLOWEST + 15, half_a_second)
+        taken, late = 0, time.monotonic() + LIMIT
+        while taken < 1 << 20 and time.monotonic() < late:
+            some = sipping.recv(1 << 16)
+            must(some, f"its connection was ended behind {taken} bytes more")
+            taken += len(some)
+        must(taken >= 1 << 20, f"it got no more than {taken} bytes of its answers")
+
+
+def drips(session, line, pause):
+    """Whether a session is ended while it is sent a line byte by byte."""
+    for at in range(len(line)):
+        try:
+            session.send(line[at : at + 1])
+        except Gone:
+            return True
+        if select.select([session.socket], [], [], pause)[0]:
+            return session.is_ended()
+    return False
+
+
+def gives_up(server, slow, end):
+    """That a session gives the only worker up to another one, behind half a minute; `end` tells whether it was ended."""
+    with Session(server.port, LATEST) as other:
+        other.send(spelled(ASKED))
+        begin = time.monotonic()
+        must(end(), "a client whose line does not end has its worker still")
+        waited = time.monotonic() - begin
+        must(SLOWEST - 3 <= waited < SLOWEST + 15, f"a client whose line does not end gave its worker up after {waited:.1f} s")
+        must(other.answer() == NO, "the one that waited is answered otherwise, or the line was made")
+        is_answered(other)
+
+
+@pytest.mark.long
+def test_dripped_line(folder):
+    """a client that sends a byte of a line now and then loses the only worker where another waits, behind half a minute, and its line is not made"""
+    with Server(folder, workers=1, idle=10) as server, Session(server.port) as slow:
+        is_answered(slow)
+        slow.send(spelled(write("+doc:a#viewer@ann"))[:-1])
+        gives_up(server, slow, lambda: drips(slow, b" " * 100, 0.7))
+
+
+@pytest.mark.long
+def test_silent_line(folder):
+    """so does one that sends half a line and is silent, though it may be idle for longer"""
+    with Server(folder, workers=1, idle=3600) as server, Session(server.port) as slow:
+        is_answered(slow)
+        # With a whole line in the same bytes, behind which the half one begins.
+        slow.send(spelled(ASKED) + spelled(write("+doc:a#viewer@ann"))[:-1])
+        must(slow.answer() == NO, "a line with half of the next one behind it is answered otherwise")
+        gives_up(server, slow, slow.is_ended)
+
+
+@pytest.mark.long
+def test_unhurried_line(folder):
+    """a client that sends a byte of a line now and then has the only worker for as long as it likes while nobody waits"""
+    line = spelled(ASKED)
+    with Server(folder, workers=1, idle=10) as server, Session(server.port) as slow:
+        must(not drips(slow, line[:-1], 1), "a client that sends a byte now and then is cut, and nobody waits")
+        slow.send(line[-1:])
+        must(slow.answer() == NO, "a line that took its time is answered otherwise")
+
+
+def test_resets(folder):
+    """clients that end in the midst of their answers"""
+    with Server(folder, workers=2) as server:
+        for _ in range(20):
+            one = socket.create_connection((HOST, server.port), timeout=LIMIT)
+            one.sendall(spelled(ASKED) * 1000)
+            one.setsockopt(socket.SOL_SOCKET, socket.SO_LINGER, b"\1\0\0\0\0\0\0\0")
+            one.close()
+        with Session(server.port) as session:
+            is_answered(session)
+        must(server.goes_on(), "the server has ended")
+
+
+def test_idle_sessions(folder):
+    """an idle session has its worker while nobody waits, and gives it up where someone does"""
+    with Server(folder, workers=1, idle=1) as server, Session(server.port) as idle:
+        is_answered(idle)
+        time.sleep(3)
+        is_answered(idle)
+        begin = time.monotonic()
+        with Session(server.port) as other:
+            is_answered(other)
+            must(idle.is_ended(), "the idle session goes on, and there is one worker")
+        waited = time.monotonic() - begin
+        must(waited >= 0.5, f"a session that was asked something gave its worker up after {waited:.1f} s")
+
+
+def test_paused_lines(folder):
+    """a client that sent half a line and pauses has its worker while nobody waits, and gives it up where someone does; its half is not made"""
+    asked, half = spelled(ASKED), spelled(write("+doc:a#viewer@ann"))[:-1]
+    with Server(folder, workers=1, idle=1) as server, Session(server.port) as paused:
+        paused.send(asked[:20])
+        time.sleep(3)
+        paused.send(asked[20:])
+        must(paused.answer() == NO, "a line that came in two pieces is answered otherwise")
+        paused.send(half)
+        begin = time.monotonic()
+        with Session(server.port) as other:
+            is_answered(other)
+            waited = time.monotonic() - begin
+            # Less than where `--idle` is not given.
+            must(0.5 <= waited < 8, f"a client gave its worker up {waited:.1f} s behind half a line")
+            must(paused.lines.read() == b"", "half a line is answered")
+            is_answered(other)
+
+
+def test_busy_sessions(folder):
+    """a session that asks and asks has its worker, though another waits, and so has one whose line comes byte by byte"""
+    line = spelled(ASKED)
+    with Server(folder, workers=1, idle=3) as server, Session(server.port) as busy:
+        is_answered(busy)
+        with Session(server.port) as other:
+            other.send(line)
+            # Together more than it may be idle, each far less.
+            for _ in range(8):
+                time.sleep(0.7)
+                is_answered(busy)
+            for at in range(8):
+                time.sleep(0.7)
+                busy.send(line[at : at + 1])
+            busy.send(line[8:])
+            must(busy.answer() == NO, "a line that came byte by byte is answered otherwise")
+            busy.close()
+            must(other.answer() == NO, "the one that waited is answered otherwise")
+
+
+def test_counted(folder):
+    """`--connections 3`: three are served, by two workers or by one, and it ends with status 0"""
+    with Server(folder, workers=2, connections=3) as server:
+        sessions = [Session(server.port) for _ in range(3)]
+        for session in sessions[:2]:
+            is_answered(session)
+        sessions[0].close()
+        is_answered(sessions[2])
+        must(server.goes_on(), "it ends before all three are served")
+        is_answered(sessions[1])
+        for session in sessions[1:]:
+            session.close()
+        status, out, err = server.ended()
+        must((status, out) == (0, "") and is_beginning(err, folder, SHARDS, server.port), f"ends with (status, output, error) {(status, out, err)}")
+    with Server(folder, workers=1, connections=3) as server:
+        # All are there at once, and each has the worker once the one before it has left.
+        sessions = [Session(server.port) for _ in range(3)]
+        for session in sessions:
+            is_answered(session)
+            session.close()
+        must(server.ended()[:2] == (0, ""), "with one worker it ends otherwise")
+    with Server(folder) as server, Session(server.port) as session:
+        is_answered(session)

@@ -1,0 +1,215 @@
+"""What a server finds again that was killed."""
+import os
+import random
+import threading
+import time
+
+from imaging.format import STRETCH
+from judge.worlds import must
+from serving.server import LIMIT, SHARDS, Server, is_start, untimed
+from serving.wire import Gone, Session, check, is_told, place_of, read, refusal, token, watch, write
+
+GROUP = "servers"
+COUNT = 100
+# A limit on the size of files that no file is stretched to but for it: two stretches, and a part of a third.
+LONGEST = 2 * STRETCH + 18001
+# Where each shard has some of the changes, the coordinator's file is the first that is full, since it has every one.
+DOWN_LINE = "zanstore: the coordinator is down, and no write is taken until the server is started again\n"
+# Where one shard has all of them, its own is: it has each as the coordinator does, and what it learned besides.
+SHARD_LINE = "zanstore: shard 0 is down until the server is started again\n"
+
+
+def test_killed(folder):
+    """kill -9, and a start at once on the same port that reads what was written"""
+    with Server(folder) as first, Session(first.port) as session:
+        for number in range(1, COUNT + 1):
+            is_told(session, write(f"+doc:d{number}#viewer@ann", f"+pad:d{number}#viewer@ann"), {"zookie": token(number)})
+        port = first.port
+        first.kill()
+        must(session.is_ended(), "a session of a killed server goes on")
+    with Server(folder, port=port) as second, Session(port) as session:
+        line = second.child.stderr.readline().decode()
+        must(is_start(line, folder, SHARDS, 0, COUNT), f"tells of its start: {line}")
+        rows = [sorted(f"{space}:d{number}#viewer@ann" for number in range(1, COUNT + 1)) for space in ("doc", "pad")]
+        is_told(session, read("doc@ann", "pad@ann"), {"sets": rows, "zookie": token(COUNT)})
+        is_told(session, check("doc:d7#viewer@ann", exact=token(7)), {"member": True, "zookie": token(7)})
+        is_told(session, check("doc:d7#viewer@ann", exact=token(6)), {"member": False, "zookie": token(6)})
+        is_told(session, write("+doc:more#viewer@ann"), {"zookie": token(COUNT + 1)})
+        second.kill()
+
+
+def writes_on(port, told, faults):
+    """Writes until the server is gone; `told` gets the numbers that were answered, and `faults` why it ended otherwise."""
+    try:
+        with Session(port) as session:
+            for number in range(1, 1000000):
+                answer = session.ask(write(f"+doc:d{number}#viewer@ann"))
+                must(answer == {"zookie": token(number)}, f"answers {answer} to write {number}")
+                told.append(number)
+    except Gone:
+        pass
+    except Exception as fault:
+        faults.append(fault)
+
+
+def test_killed_writing(folder):
+    """kill -9 in the midst of writes: each that was answered is there, and at most one more"""
+    told, faults = [], []
+    with Server(folder) as first:
+        writer = threading.Thread(target=writes_on, args=(first.port, told, faults))
+        writer.start()
+        late = time.monotonic() + 10
+        while len(told) < 50 and time.monotonic() < late:
+            time.sleep(0.01)
+        time.sleep(random.uniform(0, 0.01))
+        first.kill()
+        writer.join()
+    must(not faults, f"the writer ended before the server: {faults}")
+    must(told, "no write was answered")
+    with Server(folder) as second, Session(second.port) as session:
+        answer = session.ask(read("doc@ann"))
+        last = place_of(answer)
+        must(last - len(told) in (0, 1), f"{len(told)} were answered, and the last place is {last}")
+        must(sorted(answer["sets"][0]) == sorted(f"doc:d{number}#viewer@ann" for number in range(1, last + 1)), "reads other tuples than were written")
+
+
+def test_followed(folder):
+    """a watch that is followed over a restart"""
+    seen, at = [], token(0)
+    for life in range(3):
+        with Server(folder) as server, Session(server.port) as writer, Session(server.port) as watcher:
+            for number in range(1, 11):
+                tuple = f"doc:{life}.{number}#viewer@ann"
+                is_told(writer, write("+" + tuple), {"zookie": token(10 * life + number)})
+                if number % 4 == 0:
+                    answer = watcher.ask(watch(at, "doc", limit=3))
+                    seen, at = seen + answer["events"], answer["heartbeat"]
+    with Server(folder) as server, Session(server.port) as watcher:
+        while at != token(30):
+            answer = watcher.ask(watch(at, "doc", limit=256))
+            must(answer["heartbeat"] != at, "a watch stands still before the end")
+            seen, at = seen + answer["events"], answer["heartbeat"]
+        is_told(watcher, watch(at, "doc"), {"events": [], "heartbeat": at})
+    wanted = [(10 * life + number, f"doc:{life}.{number}#viewer@ann") for life in range(3) for number in range(1, 11)]
+    must([(event["place"], event["tuple"]) for event in seen] == wanted, f"has seen {seen}")
+
+
+def test_full_disk(folder):
+    """a file that gets no longer, as on a full disk: writes are refused with `13 Down` or `12 Unsure`, standard error tells once of each node that is down,
+    and a start with room finds what was told"""
+    told, refused = [], []
+    with Server(folder, longest=4000) as server, Session(server.port) as session:
+        for number in range(1, COUNT + 1):
+            answer = session.ask(write(f"+doc:d{number}#viewer@ann"))
+            if "zookie" in answer:
+                told.append(number)
+                must(place_of(answer) == len(told), f"write {number} is told {answer}, and {len(told) - 1} were told before")
+            else:
+                refused.append((number, answer["error"]))
+        must(10 <= len(told) < COUNT and told == [*range(1, len(told) + 1)], f"{len(told)} were told, and refused {refused[:5]}")
+        errors = [error for _, error in refused]
+        must(errors[0] in (12, 13) and {*errors[1:]} == {13}, f"refused {refused[:5]} and at last {refused[-1]}")
+        with Session(server.port) as other:
+            answer = other.ask(write("+doc:more#viewer@ann"))
+            must(answer == refusal(13, "Down"), f"answers {answer} to another session")
+        must(server.goes_on(), "the server has ended")
+        server.begins(folder)
+        must(untimed(server.told()) == DOWN_LINE, "standard error does not tell that the coordinator is down")
+    with Server(folder) as server, Session(server.port) as session:
+        found = session.ask(read("doc@ann"))["sets"][0]
+        wanted, unsure = {f"doc:d{number}#viewer@ann" for number in told}, {f"doc:d{number}#viewer@ann" for number, error in refused if error == 12}
+        must(wanted <= {*found} <= wanted | unsure, f"finds {len(found)} tuples, and {len(wanted)} were told")
+        is_told(session, write("+doc:more#viewer@ann"), {"zookie": token(len(found) + 1)})
+
+
+def fills_shard(session):
+    """Writes to shard 0 until its file is full; the tuples that were told."""
+    told = []
+    for number in range(1, COUNT + 1):
+        tuple = f"doc:a#viewer@u{number:03}"
+        answer = session.ask(write("+" + tuple))
+        if answer != {"zookie": token(number)}:
+            must(answer == refusal(13, "Down"), f"answers {answer} to write {number}")
+            break
+        told.append(tuple)
+    must(10 <= len(told) < COUNT, f"{len(told)} writes were told before one was refused")
+    return told
+
+
+def needs_shard(session):
+    """What needs shard 0, be it with another shard, is refused."""
+    both = write("+doc:b#viewer@both", "+doc:a#viewer@both")
+    for asked in (read("doc:a"), read("doc@u001"), check("doc:a#viewer@u001", exact=token(1)), write("-doc:a#viewer@u001"), both):
+        is_told(session, asked, refusal(13, "Down"))
+
+
+def goes_on_beside(session, place):
+    """Another shard takes writes behind this place, and answers of them, and a watch tells them; its tuples."""
+    told = [f"doc:b#viewer@u{number:03}" for number in range(1, 11)]
+    for number, tuple in enumerate(told, 1):
+        is_told(session, write("+" + tuple), {"zookie": token(place + number)})
+        is_told(session, check(tuple), {"member": True, "zookie": token(place + number)})
+    is_told(session, read("doc:b"), {"sets": [told], "zookie": token(place + 10)})
+    events = [{"change": "touch", "place": place + number, "tuple": tuple} for number, tuple in enumerate(told, 1)]
+    is_told(session, watch(token(place), "doc"), {"events": events, "heartbeat": token(place + 10)})
+    return told
+
+
+def test_full_shard(folder):
+    """a shard's file that gets no longer: that shard alone is refused with `13 Down` and told of, once, and a start with room finds what was told"""
+    with Server(folder, longest=4000) as server, Session(server.port) as session, Session(server.port) as other:
+        told = fills_shard(session)
+        needs_shard(session)
+        more = goes_on_beside(other, len(told))
+        needs_shard(other)
+        server.begins(folder)
+        must(untimed(server.told()) == SHARD_LINE, "standard error does not tell that shard 0 is down")
+        must(server.goes_on(), "the server has ended")
+        server.child.kill()
+        rest = server.child.stderr.read().decode()
+        must(not rest, f"standard error goes on: {rest}")
+    with Server(folder) as server, Session(server.port) as session:
+        place = len(told) + len(more)
+        is_told(session, read("doc:a", "doc:b"), {"sets": [told, more], "zookie": token(place)})
+        is_told(session, write("+doc:a#viewer@more", "+doc:b#viewer@more"), {"zookie": token(place + 1)})
+
+
+def test_limited_files(folder):
+    """a limit on the size of files, whose signal is not ignored: no file gets past it, the write that would is refused with `13 Down`, the server goes on and
+    answers, and a start without the limit finds what was told"""
+    told = []
+    with Server(folder, longest=LONGEST) as server, Session(server.port) as session:
+        answer = {}
+        while "error" not in answer:
+            tuple = f"doc:a#viewer@{'u' * 100}{len(told):04}"
+            answer = session.ask(write("+" + tuple))
+            if "error" not in answer:
+                told.append(tuple)
+                must(answer == {"zookie": token(len(told))}, f"answers {answer} to write {len(told)}")
+        must(answer == refusal(13, "Down"), f"answers {answer} to write {len(told) + 1}")
+        longest = max(os.path.getsize(os.path.join(folder, name)) for name in os.listdir(folder))
+        must(longest == LONGEST, f"a file of {longest} bytes is full")
+        more = goes_on_beside(session, len(told))
+        is_told(session, read("doc:a"), refusal(13, "Down"))
+        must(server.goes_on(), "the server has ended")
+    with Server(folder) as server, Session(server.port) as session:
+        place = len(told) + len(more)
+        is_told(session, read("doc:a", "doc:b"), {"sets": [told, more], "zookie": token(place)})
+        is_told(session, write("+doc:a#viewer@more"), {"zookie": token(place + 1)})
+
+
+def test_narrow_window(folder):
+    """`--window 0`: what is latest is told; an older exact place may be refused with `8 Collected`, and is behind a start"""
+    with Server(folder, window=0) as server, Session(server.port) as session:
+        for number in range(1, COUNT + 1):
+            is_told(session, write(f"+doc:d{number % 5}#viewer@u{number}"), {"zookie": token(number)})
+            answer = session.ask(check("doc:d1#viewer@u1", exact=token(1)))
+            must(answer in (refusal(8, "Collected"), {"member": True, "zookie": token(1)}), f"answers {answer} of place 1")
+        is_told(session, check("doc:d1#viewer@u1", at_least=token(1)), {"member": True, "zookie": token(COUNT)})
+    with Server(folder, window=0) as server, Session(server.port) as session:
+        # The horizon follows once the first round of cares is made.
+        late = time.monotonic() + LIMIT
+        while session.ask(check("doc:d1#viewer@u1", exact=token(1))) != refusal(8, "Collected"):
+            must(time.monotonic() < late, "place 1 is answered for ever")
+            time.sleep(0.05)
+        is_told(session, check("doc:d1#viewer@u1"), {"member": True, "zookie": token(COUNT)})

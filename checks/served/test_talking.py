@@ -1,0 +1,279 @@
+"""What a server answers over its connections."""
+import os
+import select
+import time
+
+from judge.worlds import Wrong, must
+from request_rows import is_refused_before, rows
+from libraries import built_library
+from serving.server import LIMIT, Server, is_beginning, run
+from serving.wire import Session, check, delete, is_told, place_of, read, refusal, spelled, token, touch, watch, write
+
+GROUP = "servers"
+MAX_LINE = 262144
+TOO_LARGE = refusal(3, "TooLarge")
+# Lines, each with its answer, worked out by hand: those over the first connection to a new store with id 1, and the one over the second.
+BAD_REQUEST = b'{"error":1,"name":"BadRequest"}'
+FIRST = [
+    (b'{"op":"read","sets":["doc:a","doc:b"]}', b'{"sets":[[],[]],"zookie":"AQAAAAAAAAAAAQAAAAAAAAAA"}'),
+    (b'{"op":"write","changes":[{"op":"touch","tuple":"doc:a#viewer@u1"}]}', b'{"zookie":"AQAAAAAAAAAAAQAAAAAAAAAB"}'),
+    (b'{"op":"check","tuple":"doc:a#viewer@u1"}', b'{"member":true,"zookie":"AQAAAAAAAAAAAQAAAAAAAAAB"}'),
+    (b'{"op":"read","sets":["doc:a","doc:b"]}', b'{"sets":[["doc:a#viewer@u1"],[]],"zookie":"AQAAAAAAAAAAAQAAAAAAAAAB"}'),
+    (
+        b'{"op":"watch","from":"AQAAAAAAAAAAAQAAAAAAAAAA","limit":1,"namespaces":["doc"]}',
+        b'{"events":[{"change":"touch","place":1,"tuple":"doc:a#viewer@u1"}],"heartbeat":"AQAAAAAAAAAAAQAAAAAAAAAB"}',
+    ),
+    (b'{"op":"read","sets":[]}', BAD_REQUEST),
+]
+HALF = b'{"op":"read"'
+SECOND = (b'{"op":"read","sets":["doc:a"],"at_least":"AQAAAAAAAAAAAQAAAAAAAAAB"}', b'{"sets":[["doc:a#viewer@u1"]],"zookie":"AQAAAAAAAAAAAQAAAAAAAAAB"}')
+DUMPED = "at AQAAAAAAAAAAAQAAAAAAAAAB\ndoc:a#viewer@u1\n"
+
+
+def is_line(session, line, wanted):
+    session.send(line + b"\n")
+    answer = session.line()
+    must(answer == wanted, f"answers {answer} to {line}, and not {wanted}")
+
+
+def ends_with(session, half, wanted):
+    """Where a client sends these bytes and ends, just this is answered before the server ends as well."""
+    session.send(half)
+    session.end()
+    rest = session.lines.read()
+    must(rest == wanted, f"answers {rest} to a client that ends behind {half}, and not {wanted}")
+
+
+def test_loopback(folder):
+    """two sessions whose answers were worked out by hand, to the byte; behind them the server ends with status 0, and a dump prints the one tuple"""
+    with Server(folder, store=1, shards=2, workers=2, connections=2) as server:
+        with Session(server.port) as session:
+            for line, wanted in FIRST:
+                is_line(session, line, wanted)
+            ends_with(session, HALF, BAD_REQUEST + b"\n")
+        with Session(server.port) as session:
+            is_line(session, *SECOND)
+            ends_with(session, b"", b"")
+        status, out, err = server.ended()
+        must((status, out) == (0, "") and is_beginning(err, folder, 2, server.port), f"ends with (status, output, error) {(status, out, err)}")
+    found = run("dump", "--dir", folder, "--store", "1", "--shards", "2")
+    must(found == (0, DUMPED, ""), f"a dump has (status, output, error) {found}, and not {(0, DUMPED, '')}")
+
+
+def test_each_request(folder):
+    """the four requests, each answered as its page says"""
+    with Server(folder) as server, Session(server.port) as session:
+        is_told(session, write("+doc:readme#viewer@ann"), {"zookie": token(1)})
+        is_told(session, write("+group:staff#member@bob", "+doc:readme#viewer@group:staff#member", "-doc:readme#viewer@ann"), {"zookie": token(2)})
+        is_told(session, check("doc:readme#viewer@bob"), {"member": True, "zookie": token(2)})
+        is_told(session, check("doc:readme#viewer@ann"), {"member": False, "zookie": token(2)})
+        is_told(session, check("doc:readme#viewer@ann", exact=token(1)), {"member": True, "zookie": token(1)})
+        sets = [["doc:readme#viewer@group:staff#member"], ["group:staff#member@bob"]]
+        is_told(session, read("doc:readme", "group@bob"), {"sets": sets, "zookie": token(2)})
+        conditions = [{"tuple": "doc:readme#viewer@ann", "since": token(1)}]
+        is_told(session, write("+doc:readme#viewer@ann", conditions=conditions), refusal(9, "Precondition"))
+        conditions = [{"tuple": "doc:readme#viewer@ann", "want": "absent"}, {"tuple": "group:staff#member@bob", "want": "exists"}]
+        is_told(session, write("+doc:readme#owner@ann", conditions=conditions), {"zookie": token(3)})
+        is_told(session, check("doc:readme#viewer@ann", exact=token(4)), refusal(7, "Future"))
+        is_told(session, read("doc:readme", exact=token(1, 99)), refusal(6, "WrongStore"))
+        events = [(2, touch("group:staff#member@bob")), (3, touch("doc:readme#owner@ann"))]
+        events.insert(1, (2, touch("doc:readme#viewer@group:staff#member")))
+        events.insert(2, (2, delete("doc:readme#viewer@ann")))
+        told = [{"change": change["op"], "place": place, "tuple": change["tuple"]} for place, change in events]
+        is_told(session, watch(token(1), "doc", "group"), {"events": told, "heartbeat": token(3)})
+        is_told(session, watch(token(1), "group", limit=1), {"events": told[:1], "heartbeat": token(2)})
+
+
+def test_refused_lines(folder):
+    """each refused line of checks/request_lines.tsv"""
+    refused = [row for row in rows() if is_refused_before(row[0])]
+    must(len(refused) > 250, f"there are {len(refused)} rows")
+    with Server(folder, store=1) as server:
+        for _, given, wanted in refused:
+            with Session(server.port) as session:
+                session.send(given)
+                session.end()
+                told = [session.line() for _ in given.removesuffix(b"\n").split(b"\n")]
+                must(told[-1] == wanted, f"answers {told[-1]} to {given[-200:]}, and not {wanted}")
+                must(session.is_ended(), "does not end")
+
+
+def test_fresh_reads(folder):
+    """a touch over one connection, and a read and a check over another, at least as new as its token"""
+    with Server(folder) as server, Session(server.port) as first, Session(server.port) as second:
+        for number in range(1, 101):
+            tuple = f"doc:d{number}#viewer@ann"
+            told = first.ask(write("+" + tuple))
+            must(told == {"zookie": token(number)}, f"answers {told} to touch {number}")
+            asked = read(f"doc:d{number}", at_least=told["zookie"]) if number % 2 else check(tuple, at_least=told["zookie"])
+            answer = second.ask(asked)
+            must(answer.get("sets") == [[tuple]] or answer.get("member") is True, f"answers {answer} to {asked}")
+            must(place_of(answer) >= number, f"answers at place {place_of(answer)}, and the touch is at {number}")
+
+
+def test_two_sessions(folder):
+    """two sessions at once, with two workers"""
+    with Server(folder, workers=2) as server, Session(server.port) as first, Session(server.port) as second:
+        for number in range(1, 51):
+            session = first if number % 2 else second
+            is_told(session, write(f"+doc:d{number}#viewer@ann"), {"zookie": token(number)})
+        is_told(first, check("doc:d50#viewer@ann"), {"member": True, "zookie": token(50)})
+        is_told(second, check("doc:d49#viewer@ann"), {"member": True, "zookie": token(50)})
+
+
+def met(folder, workers):
+    """`both`, where two writes of different shards are within their first syncs at the same time, or `late`; and their answers."""
+    os.mkdir(folder)
+    note = folder + ".held"
+    held = {"LD_PRELOAD": built_library("hold_syncs"), "HOLD_FOLDER": os.path.realpath(folder), "HOLD_FILE": note}
+    with Server(folder, environment=held, shards=2, workers=workers) as server, Session(server.port) as first:
+        open(note, "w").close()
+        first.send(spelled(write("+doc:b#viewer@ann")))
+        with Session(server.port) as second:
+            second.send(spelled(write("+doc:a#viewer@ann")))
+            answers = [first.answer()]
+            first.close()
+            answers.append(second.answer())
+    with open(note) as file:
+        return file.read(), answers
+
+
+def test_two_inside(folder):
+    """two writes of different shards are inside at once: neither's first sync ends before the other's is reached; with one worker it is late"""
+    for workers, wanted in ((2, "both\n"), (1, "late\n")):
+        found, answers = met(os.path.join(folder, str(workers)), workers)
+        must(sorted(map(place_of, answers)) == [1, 2], f"answers {answers}")
+        must(found == wanted, f"with {workers} workers the syncs are reached {found!r}, and not {wanted!r}")
+
+
+def is_answered(session):
+    """Whether a session's next answer, or the beginning of it, is there."""
+    return session.socket in select.select([session.socket], [], [], 0)[0]
+
+
+def meets(path, text):
+    """Waits until the file says so."""
+    late = time.monotonic() + LIMIT
+    while time.monotonic() < late:
+        with open(path) as file:
+            if file.read() == text:
+                return
+        time.sleep(0.01)
+    raise Wrong(f"there is no {text!r} in {LIMIT} seconds")
+
+
+def answered_beside(held, other, release):
+    """While one write's flush is held, another session reads that shard, writes to the other one, and reads and checks what it wrote."""
+    before, after = [["doc:b#viewer@bob"]], [["doc:b#viewer@ann", "doc:b#viewer@bob"]]
+    is_told(other, read("doc:b"), {"sets": before, "zookie": token(1)})
+    is_told(other, write("+doc:a#viewer@ann"), {"zookie": token(2)})
+    is_told(other, check("doc:a#viewer@ann"), {"member": True, "zookie": token(2)})
+    is_told(other, read("doc:b", at_least=token(2)), {"sets": before, "zookie": token(2)})
+    must(not is_answered(held), "the write is answered, whose flush is held")
+    release()
+    must(held.answer() == {"zookie": token(3)}, "the write whose flush was held is answered otherwise")
+    is_told(other, read("doc:b"), {"sets": after, "zookie": token(3)})
+
+
+def waits_behind(held, other, release):
+    """Where one worker serves both, the other session is answered behind the held write."""
+    other.send(spelled(read("doc:b")))
+    time.sleep(1)
+    must(not is_answered(other), "a second session is answered, though the only worker is held")
+    release()
+    must(held.answer() == {"zookie": token(2)}, "the write whose flush was held is answered otherwise")
+    held.close()
+    must(place_of(other.answer()) == 2, "a read behind the write is not of its place")
+
+
+def test_beside_a_flush(folder):
+    """while a shard's flush is held, a read of that shard, a write of the other one and a check are answered; with one worker none is"""
+    for workers, meanwhile in ((2, answered_beside), (1, waits_behind)):
+        within = os.path.join(folder, str(workers))
+        os.mkdir(within)
+        note, go = within + ".held", within + ".go"
+        held = {"LD_PRELOAD": built_library("hold_syncs"), "HOLD_FOLDER": os.path.realpath(within), "HOLD_FILE": note, "HOLD_UNTIL": go}
+        with Server(within, environment=held, shards=2, workers=workers) as server, Session(server.port) as first:
+            is_told(first, write("+doc:b#viewer@bob"), {"zookie": token(1)})
+            open(note, "w").close()
+            first.send(spelled(write("+doc:b#viewer@ann")))
+            meets(note, "held\n")
+            with Session(server.port) as second:
+                meanwhile(first, second, lambda: open(go, "w").close())
+
+
+def test_lines_ahead(folder):
+    """requests that are sent ahead, answered in their order"""
+    count = 500
+    with Server(folder) as server, Session(server.port) as session:
+        for number in range(count):
+            user = "ann" if number % 3 else "bob"
+            session.send(spelled(write(f"+doc:d{number}#viewer@ann")) + spelled(check(f"doc:d{number}#viewer@{user}")))
+        session.send(b"{}\n")
+        session.end()
+        for number in range(count):
+            at = token(number + 1)
+            for wanted in ({"zookie": at}, {"member": number % 3 != 0, "zookie": at}):
+                answer = session.answer()
+                must(answer == wanted, f"answers {answer}, and not {wanted}")
+        must(session.answer() == refusal(1, "BadRequest"), "answers something else to the last line")
+        must(session.is_ended(), "does not end where its client has ended")
+
+
+def seconds_of(session, count, ahead):
+    """How long so many checks take, of which so many are sent before an answer is read."""
+    line, begin = spelled(check("doc:a#viewer@ann")), time.monotonic()
+    for _ in range(count // ahead):
+        session.send(line * ahead)
+        for _ in range(ahead):
+            session.line()
+    return time.monotonic() - begin
+
+
+def test_ahead_is_faster(folder):
+    """requests that are sent ahead take less time than one at a time"""
+    with Server(folder) as server, Session(server.port) as session:
+        tries = [(seconds_of(session, 1000, 1), seconds_of(session, 1000, 100)) for _ in range(3)]
+        alone, ahead = (min(times) for times in zip(*tries))
+        must(ahead < alone, f"1,000 checks take {ahead:.3f} s where they are sent ahead, and {alone:.3f} s one at a time")
+
+
+def test_half_lines(folder):
+    """a client that sends half a line and goes"""
+    half = spelled(write("+doc:half#viewer@ann"))[:-20]
+    with Server(folder, workers=2) as server:
+        for _ in range(10):
+            with Session(server.port) as session:
+                session.send(half)
+        with Session(server.port) as session:
+            session.send(half)
+            session.end()
+            must(session.answer() == refusal(1, "BadRequest"), "does not refuse bytes behind the last line feed")
+            must(session.is_ended(), "does not end")
+        with Session(server.port) as session:
+            is_told(session, read("doc:half"), {"sets": [[]], "zookie": token(0)})
+
+
+def test_slow_lines(folder):
+    """a line that comes in pieces"""
+    line = spelled(write("+doc:a#viewer@ann"))
+    with Server(folder) as server, Session(server.port) as session:
+        for at in range(len(line)):
+            session.send(line[at : at + 1])
+        must(session.answer() == {"zookie": token(1)}, "answers something else")
+
+
+def test_long_lines(folder):
+    """a line of 262,144 bytes is answered, bare spaces too, one of a byte more is refused, and the session goes on"""
+    line = spelled(check("doc:a#viewer@ann"))[:-1]
+    whole = {"member": False, "zookie": token(0)}
+    with Server(folder) as server, Session(server.port) as session:
+        for length, wanted in ((MAX_LINE, whole), (MAX_LINE + 1, TOO_LARGE), (MAX_LINE, whole), (3 * MAX_LINE, TOO_LARGE)):
+            session.send(line + b" " * (length - len(line)) + b"\n")
+            answer = session.answer()
+            must(answer == wanted, f"answers {answer} to a line of {length} bytes, and not {wanted}")
+        for length, wanted in ((MAX_LINE, refusal(1, "BadRequest")), (MAX_LINE + 1, TOO_LARGE)):
+            session.send(b" " * length + b"\n")
+            answer = session.answer()
+            must(answer == wanted, f"answers {answer} to {length} spaces, and not {wanted}")
+        is_told(session, check("doc:a#viewer@ann"), whole)

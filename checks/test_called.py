@@ -1,0 +1,361 @@
+"""A client as a process, beside a server and beside one that is made up: what `zanstore call` prints, what it sends and its status are what docs/API.md says."""
+import json
+import os
+import re
+import socket
+import socketserver
+import subprocess
+import threading
+import time
+
+import programs
+from judge.worlds import must
+from serving.server import HOST, LIMIT, Server, free_port, program, run
+from serving.wire import Session, check, delete, read, refusal, token, touch, watch, write
+from serving.wire import told as told_of
+
+GROUP = "servers"
+PAGE = os.path.join(programs.TOP, "docs", "API.md")
+ANN, BOB, LOCK = "doc:readme#viewer@ann", "group:staff#member@bob", "doc:readme#lock@lock"
+AGAIN = (10, 11, 14, 15)
+USAGE = {
+    "write": "write +TUPLE | -TUPLE .. [if ?TUPLE | !TUPLE | TUPLE=TOKEN ..]",
+    "read": "read [latest | at-least TOKEN | exact TOKEN] TUPLESET..",
+    "check": "check [latest | at-least TOKEN | exact TOKEN] TUPLE",
+    "watch": "watch TOKEN LIMIT NAMESPACE.., with a limit from 1 to 256",
+    "": "expected write, read, check, watch or a JSON object",
+}
+UNKNOWN = "it is unknown whether the write was made: read before you send it again"
+
+
+def advised():
+    """Each refusal by its number, with its name and what is said of it, as the page has it; that of a check that is full by 0."""
+    found = {}
+    with open(PAGE, encoding="utf-8") as page:
+        for line in page:
+            row = re.match(r"\| (\d+) `(\w+)`( of a check)? \| ([^|]*) \|$", line)
+            if row:
+                found[0 if row[3] else int(row[1])] = (row[2], f"{row[1]} {row[2]}: {row[4]}\n")
+    must(sorted(found) == [*range(17)], f"the page has the refusals {[*found]}")
+    return found
+
+
+def text_of(answer):
+    return told_of(answer).decode() + "\n"
+
+
+def called(port, *words, lines=()):
+    """The status, standard output and standard error of a call, with these lines on its standard input."""
+    return programs.run([program(), "call", f"{HOST}:{port}", *words], programs.lines_of(lines))
+
+
+def is_called(wanted, found, what):
+    must(found == wanted, f"{what}: is (status, output, error) {found}, and not {wanted}")
+
+
+class MadeUp(socketserver.ThreadingTCPServer):
+    """A server that gives these answers, each for one line and after so many seconds, and keeps what it was sent. An answer that is `None` ends the connection."""
+
+    daemon_threads = allow_reuse_address = True
+
+    def __init__(self, answers, seconds=0):
+        super().__init__((HOST, free_port()), MadeUpSession)
+        self.answers, self.sent, self.port, self.seconds = [*answers], [], self.server_address[1], seconds
+        threading.Thread(target=self.serve_forever, args=(0.02,), daemon=True).start()
+
+    def __exit__(self, *_):
+        self.shutdown()
+        self.server_close()
+
+
+class MadeUpSession(socketserver.StreamRequestHandler):
+    def handle(self):
+        for line in self.rfile:
+            self.server.sent.append(line)
+            answer = self.server.answers.pop(0) if self.server.answers else None
+            if answer is None:
+                return
+            time.sleep(self.server.seconds)
+            self.wfile.write(text_of(answer).encode())
+            self.wfile.flush()
+
+
+def answer_to(line):
+    """What a made-up server answers to a short form; what is none is refused."""
+    made = {
+        "write": {"zookie": token(1)},
+        "read": {"sets": [[]], "zookie": token(1)},
+        "check": {"member": True, "zookie": token(1)},
+        "watch": {"events": [], "heartbeat": token(1)},
+    }
+    return made.get(line.split()[0], refusal(1, "BadRequest"))
+
+
+def told(place, change):
+    return {"change": change["op"], "place": place, "tuple": change["tuple"]}
+
+
+def test_each_request(folder):
+    """each short form, and JSON, on standard input, over a server"""
+    made = [told(1, touch(ANN)), told(2, touch(BOB)), told(2, delete(ANN))]
+    rows = [
+        (f"write +{ANN}", {"zookie": token(1)}),
+        ("; a note, and an empty line", None),
+        ("", None),
+        (f"write +{BOB} -{ANN} if ?{ANN} !{BOB}", {"zookie": token(2)}),
+        (f"check {ANN}", {"member": False, "zookie": token(2)}),
+        (f"check latest {BOB}", {"member": True, "zookie": token(2)}),
+        (f"check exact {token(1)} {ANN}", {"member": True, "zookie": token(1)}),
+        (f"check at-least {token(1)} {ANN}", {"member": False, "zookie": token(2)}),
+        ("read doc:readme group@bob", {"sets": [[], [BOB]], "zookie": token(2)}),
+        (f"read exact {token(1)} doc:readme", {"sets": [[ANN]], "zookie": token(1)}),
+        (f"watch {token(0)} 256 doc group", {"events": made, "heartbeat": token(2)}),
+        (f"watch {token(0)} 1 doc", {"events": made[:1], "heartbeat": token(1)}),
+        (f"write +{LOCK} if {LOCK}={token(2)}", {"zookie": token(3)}),
+        (json.dumps(check(LOCK)), {"member": True, "zookie": token(3)}),
+    ]
+    wanted = "".join(text_of(answer) for _, answer in rows if answer)
+    with Server(folder) as server:
+        is_called((0, wanted, ""), called(server.port, lines=[line for line, _ in rows]), "lines")
+        words = ["write", "-doc:b#viewer@ann", f"+{ANN}"]
+        is_called((0, text_of({"zookie": token(4)}), ""), called(server.port, *words), "words")
+        is_called((0, text_of({"member": True, "zookie": token(4)}), ""), called(server.port, json.dumps(check(ANN))), "a word of JSON")
+
+
+def test_sent_lines(folder):
+    """what each short form is sent as"""
+    tuples = ['doc:a#viewer@"\\', "doc:a#lock@a=b", "no tuple at all".replace(" ", ".")]
+    rows = [
+        (f"write +{tuples[0]}", write(f"+{tuples[0]}")),
+        (f"write -{ANN} +{BOB}", write(f"-{ANN}", f"+{BOB}")),
+        (f"write +{ANN} if {tuples[1]}={token(9)}", write(f"+{ANN}", conditions=[{"tuple": tuples[1], "since": token(9)}])),
+        (f"write +{ANN} if ?{ANN} !{BOB}", write(f"+{ANN}", conditions=[{"tuple": ANN, "want": "exists"}, {"tuple": BOB, "want": "absent"}])),
+        (f"check {tuples[2]}", check(tuples[2])),
+        ("check latest exact", check("exact")),
+        ("check at-least Z T", check("T", at_least="Z")),
+        ("check exact Z T", check("T", exact="Z")),
+        ("read a", read("a")),
+        ("read latest at-least b", read("at-least", "b")),
+        ("read at-least Z a b", read("a", "b", at_least="Z")),
+        ("read exact Z a b", read("a", "b", exact="Z")),
+        ("watch Z 1 a", watch("Z", "a", limit=1)),
+        ("watch Z 256 a b", watch("Z", "a", "b")),
+        ('{ "any": [1] }', {"any": [1]}),
+    ]
+    answers = [answer_to(line) for line, _ in rows]
+    with MadeUp(answers) as server:
+        found = called(server.port, lines=[line for line, _ in rows])
+        is_called((1, "".join(map(text_of, answers)), f"zanstore: call: line {len(rows)}: {advised()[1][1]}"), found, "lines")
+        for (line, wanted), sent in zip(rows, server.sent, strict=True):
+            must(json.loads(sent) == wanted, f"{line} is sent as {sent}, and not as {wanted}")
+        must(server.sent[-1] == b'{ "any": [1] }\n', f"JSON is sent as {server.sent[-1]}")
+
+
+def test_refused_requests(folder):
+    """what a server refuses, with what to do about it"""
+    say = advised()
+    rows = [
+        (f"write +{ANN} if ?{BOB}", 9),
+        (f"check exact {token(7)} {ANN}", 7),
+        (f"check exact {token(1, 99)} {ANN}", 6),
+        ("check exact Z doc:a#viewer@ann", 5),
+        ('{"op":"other"}', 1),
+    ]
+    wanted = "".join(text_of(refusal(number, say[number][0])) for _, number in rows)
+    why = "".join(f"zanstore: call: line {at}: {say[number][1]}" for at, (_, number) in enumerate(rows, 1))
+    with Server(folder) as server:
+        is_called((1, wanted, why), called(server.port, lines=[line for line, _ in rows]), "refused lines")
+        is_called((1, text_of(refusal(9, say[9][0])), f"zanstore: call: {say[9][1]}"), called(server.port, *rows[0][0].split()), "words")
+
+
+def test_named_causes(folder):
+    """what of a request was refused is named"""
+    name, of_id = "a name has a-z, 0-9 and _", "an id has printable ASCII but no space, #, @, : or +"
+    split = "send several requests; a write that is split is no longer one write"
+    rows = [
+        ("check doc:a#viewer@user:bob", 2, 'the user "user:bob" has a ":" and no "#": a userset is namespace:id#relation'),
+        (f"write +{ANN} +doc:a#viewer@Ann@x.org", 2, f"""the user "Ann@x.org" has '@': {of_id}"""),
+        (f"write +{ANN} if !Doc:a#viewer@ann", 2, f"""the namespace "Doc" has 'D': {name}"""),
+        ("check doc:a#viewer", 2, 'the tuple "doc:a#viewer" has no "@": a tuple is namespace:id#relation@user'),
+        ("check doc:a@ann", 2, 'the userset "doc:a" has no "#": a userset is namespace:id#relation'),
+        ("check doc#viewer@ann", 2, 'the object "doc" has no ":": an object is namespace:id'),
+        ("check doc:a#@ann", 2, "the relation is empty"),
+        (json.dumps(check("doc:a b#viewer@ann")), 2, f"""the id "a b" has ' ': {of_id}"""),
+        ("read doc:a doc", 2, 'the object "doc" has no ":": an object is namespace:id'),
+        ("read doc@ann doc#View@ann", 2, f"""the relation "View" has 'V': {name}"""),
+        (f"read {'a' * 65}@ann", 2, f'the namespace "{"a" * 65}" has more than 64 bytes'),
+        (f"watch {token(0)} 1 doc Doc", 2, f"""the namespace "Doc" has 'D': {name}"""),
+        ("read " + " ".join(["doc:a"] * 17), 3, "17 sets, and 16 are the most: send several requests"),
+        ("write " + " ".join(f"+doc:a{at}#viewer@ann" for at in range(65)), 3, f"65 changes, and 64 are the most: {split}"),
+        (f"write +{ANN} -{ANN}", 4, f'two changes name "{ANN}": leave one of them out'),
+        (f"write +{ANN} if !{BOB} ?{BOB}", 4, f'two conditions name "{BOB}": leave one of them out'),
+    ]
+    say = advised()
+    wanted = "".join(text_of(refusal(number, say[number][0])) for _, number, _ in rows)
+    why = "".join(f"zanstore: call: line {at}: {number} {say[number][0]}: {text}\n" for at, (_, number, text) in enumerate(rows, 1))
+    with Server(folder) as server:
+        is_called((1, wanted, why), called(server.port, lines=[line for line, _, _ in rows]), "lines with a cause")
+
+
+def test_each_refusal(folder):
+    """each of the sixteen, as the page has it"""
+    say = advised()
+    answers = [refusal(number, say[number][0]) for number in range(1, 17)]
+    texts = [say[0 if number == 15 else number][1] for number in range(1, 17)]
+    why = "".join(f"zanstore: call: line {at}: {text}" for at, text in enumerate(texts, 1))
+    with MadeUp([*answers, {"member": True, "zookie": token(1)}]) as server:
+        lines = [f"check {ANN}"] * 17
+        found = called(server.port, lines=lines)
+        is_called((1, "".join(map(text_of, [*answers, {"member": True, "zookie": token(1)}])), why), found, "refusals")
+        must(len(server.sent) == 17, f"{len(server.sent)} lines are sent")
+
+
+def test_repeats(folder):
+    """what may be sent again is, so often, and nothing else"""
+    say, done = advised(), {"zookie": token(1)}
+    for number in range(1, 17):
+        name, text = say[number]
+        refused = refusal(number, name)
+        with MadeUp([refused, refused, done]) as server:
+            found, again = called(server.port, "--retry", "2", "write", f"+{ANN}"), number in AGAIN
+            is_called((0, text_of(done), "") if again else (1, text_of(refused), f"zanstore: call: {text}"), found, f"two times {name}")
+            must(len(server.sent) == (3 if again else 1) and len(set(server.sent)) == 1, f"behind {name} is sent {server.sent}")
+    refused = refusal(10, "Busy")
+    with MadeUp([refused] * 4) as server:
+        is_called((1, text_of(refused), f"zanstore: call: {say[10][1]}"), called(server.port, "--retry", "2", "write", f"+{ANN}"), "always busy")
+        must(len(server.sent) == 3, f"{len(server.sent)} lines are sent, and not 3")
+    full = refusal(15, "Full")
+    with MadeUp([full, full]) as server:
+        is_called((1, text_of(full), f"zanstore: call: {say[0][1]}"), called(server.port, "--retry", "2", "check", ANN), "a full check")
+        must(len(server.sent) == 1, f"a check that is full is sent {len(server.sent)} times")
+
+
+def test_follows(folder):
+    """a watch goes on from heartbeat to heartbeat, until the server is gone"""
+    with Server(folder) as server, Session(server.port) as session:
+        words = [program(), "call", f"{HOST}:{server.port}", "--follow", "watch", token(0), "1", "doc"]
+        session.ask(write(f"+{ANN}"))
+        session.ask(write(f"-{ANN}"))
+        with subprocess.Popen(words, stdout=subprocess.PIPE, stderr=subprocess.PIPE, text=True) as child:
+            guard = threading.Timer(LIMIT, child.kill)
+            guard.start()
+            for place, change in ((1, touch(ANN)), (2, delete(ANN))):
+                is_line(child, {"events": [told(place, change)], "heartbeat": token(place)})
+            session.ask(write(f"+{LOCK}"))
+            is_line(child, {"events": [told(3, touch(LOCK))], "heartbeat": token(3)})
+            session.ask(write(f"+{BOB}"))
+            is_line(child, {"events": [], "heartbeat": token(4)})
+            server.kill()
+            out, err = child.communicate(timeout=LIMIT)
+            guard.cancel()
+            must(child.returncode == 1 and out == "", f"behind the server it prints {out}, and has status {child.returncode}")
+            must(err.startswith("zanstore: call: the connection ended before an answer: ") and "write" not in err, f"says {err}")
+
+
+def is_line(child, wanted):
+    line = child.stdout.readline()
+    must(line == text_of(wanted), f"prints {line}, and not {wanted}")
+
+
+def test_no_server(folder):
+    """an address at which nobody listens, and a connection that ends"""
+    port = free_port()
+    status, out, err = called(port, "check", ANN)
+    must((status, out) == (1, "") and err.startswith(f"zanstore: call: {HOST}:{port}: no connection: Connection refused"), f"is {(status, out, err)}")
+    ended = "zanstore: call: line 2: the connection ended before an answer: "
+    for line, says in ((f"write +{ANN}", f"; {UNKNOWN}\n"), (f"check {ANN}", "\n")):
+        answer = answer_to(line)
+        with MadeUp([answer, None]) as server:
+            status, out, err = called(server.port, "--retry", "3", lines=[line] * 3)
+            must((status, out) == (1, text_of(answer)), f"is {(status, out, err)}")
+            must(err.startswith(ended) and err.endswith(says) and ("unknown" in err) == ("unknown" in says), f"says {err}")
+            must(len(server.sent) == 2, f"{len(server.sent)} lines are sent, and not 2")
+
+
+def test_strangers(folder):
+    """an answer that is none to such a request"""
+    rows = [("write +a", {"zookie": 1}), ("write +a", {"error": 17, "name": "Other"}), ("check a", {"zookie": token(1)}), ("check a", {"member": 1, "zookie": token(1)})]
+    rows += [("read a", {"member": True, "zookie": token(1)}), ("watch Z 1 a", {"events": []}), ('{"op":"other"}', {"zookie": token(1)})]
+    for line, answer in rows:
+        with MadeUp([answer]) as server:
+            says = f"; {UNKNOWN}" if line.startswith("write") else ""
+            why = f"zanstore: call: line 1: an answer can't be read: it is none to such a request{says}\n"
+            is_called((1, "", why), called(server.port, lines=[line]), f"{answer} to {line}")
+
+
+def test_waits(folder):
+    """a server that is slow to answer, or takes no connection"""
+    with MadeUp([answer_to("check")], seconds=3.6) as server:
+        told = f"zanstore: call: {HOST}:{server.port}: no answer after 3 s, still waiting: all workers of the server may be taken\n"
+        is_called((0, text_of(answer_to("check")), told), called(server.port, "check", ANN), "a slow answer")
+    with MadeUp([answer_to("check")] * 2, seconds=3) as server:
+        late = "zanstore: call: no answer within the --timeout"
+        is_called((1, "", f"{late}\n"), called(server.port, "--timeout", "1", "check", ANN), "a late answer")
+        is_called((1, "", f"{late}; {UNKNOWN}\n"), called(server.port, "--timeout", "1", "write", f"+{ANN}"), "a late write")
+    with socket.socket() as busy:
+        busy.bind((HOST, 0))
+        busy.listen(0)
+        port, waiting = busy.getsockname()[1], [socket.socket() for _ in range(4)]
+        for one in waiting:
+            one.setblocking(False)
+            one.connect_ex((HOST, port))
+        found = called(port, "--timeout", "1", "check", ANN)
+        is_called((1, "", f"zanstore: call: {HOST}:{port}: no connection within the --timeout\n"), found, "no connection in time")
+        status, out, err = called(port, "--timeout", "4", "check", ANN)
+        must(status == 1 and err.startswith(f"zanstore: call: {HOST}:{port}: no connection after 3 s, still waiting\n"), f"is {(status, out, err)}")
+        for one in waiting:
+            one.close()
+
+
+def usage(line, kind):
+    """What is said of a line that is no request of this kind."""
+    first = line.split(" ")[0]
+    return USAGE[kind] if kind else f'unknown request "{first}": {USAGE[kind]}'
+
+
+def test_bad_lines(folder):
+    """lines that are no request are not sent, and told what they may be"""
+    rows = [("write", "write"), (f"write {ANN}", "write"), (f"write +{ANN} if", "write"), (f"write +{ANN} ?{ANN}", "write"), (f"write +{ANN} if {ANN}", "write")]
+    rows += [("read", "read"), ("read latest", "read"), ("read exact Z", "read"), ("check", "check"), ("check a b", "check"), ("check latest", "check")]
+    rows += [("watch Z", "watch"), ("watch Z 256", "watch"), ("watch Z 0 doc", "watch"), ("watch Z 257 doc", "watch"), ("watch Z doc 256", "watch")]
+    rows += [("delete a", ""), (" check a", ""), ("writes +a", ""), ("[1]", "")]
+    with MadeUp([{"member": True, "zookie": token(1)}]) as server:
+        why = "".join(f"zanstore: call: line {at}: {usage(line, kind)}\n" for at, (line, kind) in enumerate(rows, 1))
+        found = called(server.port, lines=[*(line for line, _ in rows), "check a"])
+        is_called((1, text_of({"member": True, "zookie": token(1)}), why), found, "bad lines")
+        must(len(server.sent) == 1, f"{len(server.sent)} lines are sent, and not the last alone")
+        found = called(server.port, "check a\ncheck b")
+        is_called((1, "", "zanstore: call: a request is one line\n"), found, "two lines in a word")
+
+
+def test_command_lines(folder):
+    """status 2 for a bad command line, and help"""
+    for words in ([], ["--retry", "2"], ["a", "--retry"], ["a", "--retry", "x"], ["a", "--retry", "1001"], ["a", "--follow=1"]):
+        status, out, err = run("call", *words)
+        must(status == 2 and not out and err, f"is {(status, out, err)}: {words}")
+    for words, says in (
+        (["a", "--slow", "check", ANN], "'--slow' is no word of a request, and options stand before its first word"),
+        (["a", "check", ANN, "--timeout", "3"], "'--timeout' is no word of a request"),
+        (["a", "--follow", "check", ANN], "--follow stands before a watch, and this is none"),
+        (["a", "--follow", json.dumps(check(ANN))], "--follow stands before a watch, and this is none"),
+        (["a", "--timeout", "0", "check", ANN], "--timeout takes a number from 1 to 4294967295"),
+    ):
+        status, out, err = run("call", *words)
+        must(status == 2 and not out and says in err, f"is {(status, out, err)}: {words}")
+    status, out, err = run("call", "--help")
+    must((status, err) == (0, ""), f"help has status {status}, and says {err}")
+    for command in ("call", "dump", "reshard", "serve", "sim"):
+        asked, named = run(command, "--help"), run("help", command)
+        must(named == asked, f"is {named}, and `zanstore {command} --help` {asked}")
+    for word in ("ADDR", "--retry", "--timeout", "--follow", "write", "read", "check", "watch", "at-least", "exact"):
+        must(word in out, f"help does not tell {word}")
+    told = run("--help")[1]
+    listed = re.findall(r"^  (\w+)  ", told.split("Commands:")[1].split("Options:")[0], re.MULTILINE)
+    must(listed == ["serve", "call", "dump", "reshard", "sim", "help"], f"the program's help lists the commands {listed}")
+    must("zanstore COMMAND --help" in told, "the program's help does not say where the options are told")
+    for words, says in ((["sevre"], "'serve'"), ([], "serve, call, dump, reshard, sim"), (["help", "sevre"], "sevre")):
+        status, out, err = run(*words)
+        must((status, out) == (2, "") and says in err, f"is {(status, out, err)}: {words}")
+    for words in (["dump", "--dir", "d", "--shards", "1", "--store", "-1"], ["sim", "--store", "x"], ["serve", "--store=4294967296"]):
+        status, out, err = run(*words)
+        must((status, out) == (2, "") and "--store takes a number from 0 to 4294967295." in err, f"is {(status, out, err)}: {words}")

@@ -1,0 +1,175 @@
+"""What `zanstore dump` prints of a store in files.
+
+Each row has a script make a store in a new folder (`harness files`), and holds what the program prints of it, its status and its standard error against lines
+that were worked out by hand.
+"""
+import os
+import re
+import shutil
+import subprocess
+import tempfile
+
+import pytest
+
+from folders import THREE, A, B, apart, at, contents, dumped, empty, fault, script, token, while_held
+from libraries import built_library
+from programs import LIMIT, run, zanstore
+
+GROUP = "servers"
+IN_ORDER = ["0:a#v@u1", "_:a#v@u1", "do:z#z@z", "doc:a#v@u1", "doc:a#v@u10", "doc:a#v@z", "doc:a#v@a:a#a", "doc:a#v@g:b#a", "doc:a#v1@a", "doc:a!#a@a", "doc:a~#z@z"]
+BACKWARDS = "write " + " ".join("+" + text for text in reversed(IN_ORDER))
+MANY = [f"doc:{number:02}#viewer@u1" for number in range(60)]
+
+
+# A name, what it shows, the number of shards, the script, and what further words print.
+ROWS = [
+    ("empty", "a store without a write", 2, [], [("", at(0)), ("--at 0", at(0)), ("--at 1", fault("7 Future"))]),
+    ("deleted", "what was deleted is not there, and is there at the places before", 2, [f"write +{A} +{B}", f"write -{A}"],
+     [("", at(2, B)), ("--at 2", at(2, B)), ("--at 1", at(1, A, B)), ("--at 0", at(0)), ("--at 3", fault("7 Future"))]),
+    ("touched-again", "a tuple that was touched twice stands once", 2, [f"write +{A}", f"write +{A}", *THREE], [("", at(5, A)), ("--at 4", at(4))]),
+    ("order", "namespace, object, relation, user; a plain user before a userset", 1, [BACKWARDS], [("", at(1, *IN_ORDER))]),
+    ("shards", "one order over all shards", 64, ["write " + " ".join("+" + text for text in reversed(MANY))], [("", at(1, *MANY))]),
+    ("collected", "below the horizon nothing is told", 2, [*THREE, "raise 2", "collect 0", "collect 1"],
+     [("--at 1", fault("8 Collected")), ("--at 2", at(2)), ("--at 3", at(3, A)), ("", at(3, A))]),
+    ("in-doubt", "a write that was not decided is not there", 2, [f"write +{A}", f"start w write +{B} -{A}", "until w decide"], [("", at(1, A))]),
+    ("decided", "a write that was kept is there, whether or not its shards had learned it", 2, [f"start w write +{A} +{B}", "until w outcome", "flush c"], [("", at(1, A, B))]),
+    ("staged", "a decision that was not kept is gone", 2, [f"start w write +{A} +{B}", "until w outcome"], [("", at(0))]),
+]
+
+
+def stamped(folder):
+    """What each file of the folder has, and when it was written."""
+    return contents(folder), {entry.name: entry.stat().st_mtime_ns for entry in os.scandir(folder)}
+
+
+@pytest.mark.parametrize("name, what, shards, lines, wanted", ROWS, ids=[row[0] for row in ROWS])
+def test_row(name, what, shards, lines, wanted, folder):
+    script(folder, shards, *lines)
+    for words, answer in wanted:
+        assert dumped(folder, shards, words) == answer, f"{what}: dump {words}"
+
+
+def test_unchanged(folder):
+    """a store goes on behind two dumps as if there had been none, and none of its files has another byte"""
+    script(folder, 2, f"write +{A} +{B}", f"write -{B}")
+    before = stamped(folder)
+    assert dumped(folder, 2) == dumped(folder, 2) == at(2, A)
+    assert stamped(folder) == before
+    more = script(folder, 2, "read latest doc:a doc:b", f"watch {token(0)} 256 doc", f"write +{B}", f"check latest {B}")
+    events = [f"1 +{A}", f"1 +{B}", f"2 -{B}", f"heartbeat {token(2)}"]
+    assert more == [f"at {token(2)}", f"1 {A}", *events, f"ok {token(3)}", f"yes {token(3)}"]
+
+
+def test_held(folder):
+    """a folder that another process has open is left alone"""
+
+    def asked():
+        assert dumped(folder, 2) == fault("13 Down", f"{folder}/c.a: is in use by another process")
+
+    while_held(folder, asked)
+    assert dumped(folder, 2) == at(1, A)
+
+
+def test_missing(folder):
+    """a folder that is not there, and one without a store, in which nothing is made"""
+    none = os.path.join(folder, "none")
+    assert dumped(none, 2) == fault("13 Down", f"{none}: No such file or directory")
+    assert dumped(folder, 2) == fault("13 Down", f"{folder}: has no store")
+    assert not os.listdir(folder)
+
+
+def test_another(folder):
+    """files of another store, or of another number of shards"""
+    script(folder, 2, f"write +{A}")
+    told = fault("16 Damaged", f"{folder} is of store 1 with 2 shards")
+    assert dumped(folder, 2, store=2) == dumped(folder, 1) == dumped(folder, 3) == told
+    assert dumped(folder, 2) == at(1, A)
+
+
+def test_mixed(folder):
+    """a folder without the coordinator's file has shards that know more than was kept"""
+    script(folder, 2, f"write +{A} +{B}", "learn 0", "learn 1", "flush 0", "flush 1")
+    empty(folder, "c.a", "c.b")
+    assert dumped(folder, 2) == fault("16 Damaged", apart(0))
+    os.remove(os.path.join(folder, "c.a"))
+    assert dumped(folder, 2) == fault("16 Damaged", f"{folder}/c.a: is missing")
+
+
+def test_ahead(folder):
+    """a folder without the coordinator's file has a shard that has learned a place without a version of it"""
+    script(folder, 2, f"write +{A}", "learn 0", "flush 0")
+    empty(folder, "c.a", "c.b")
+    assert dumped(folder, 2) == fault("16 Damaged", apart(0))
+
+
+def test_behind(folder):
+    """a folder without a shard's files, which would have to learn what the coordinator has forgotten"""
+    script(folder, 2, f"write +{A} +{B}", "raise 1")
+    empty(folder, "1.a", "1.b")
+    assert dumped(folder, 2) == fault("16 Damaged", apart(1))
+    os.remove(os.path.join(folder, "1.b"))
+    assert dumped(folder, 2) == fault("16 Damaged", f"{folder}/1.b: is missing")
+    assert not os.path.exists(os.path.join(folder, "1.b"))
+
+
+def test_changed(folder):
+    """a file with another byte, whose node is told"""
+    script(folder, 2, f"write +{A} +{B}")
+    for node, name in (("c", "the coordinator"), ("1", "shard 1")):
+        with open(os.path.join(folder, f"{node}.a"), "r+b") as file:
+            whole = file.read()
+            for byte, told in ((b"\x77", fault("16 Damaged", f"the files of {name} are damaged")), (whole[5:6], at(1, A, B))):
+                file.seek(5)
+                file.write(byte)
+                file.flush()
+                assert dumped(folder, 2) == told
+
+
+def dumped_by_other(folder, top):
+    """By a user who is not root, who may not reach the program where it lies."""
+    return dumped(folder, 2, program=shutil.copy(zanstore(), top), user=65534 if os.geteuid() == 0 else None)
+
+
+def test_read_only(folder):
+    """files that can only be read, by a user who may write nothing there; and one that can't be read"""
+    script(folder, 2, f"write +{A} +{B}", f"write -{B}")
+    before = stamped(folder)
+    for name in os.listdir(folder):
+        os.chmod(os.path.join(folder, name), 0o444)
+    os.chmod(folder, 0o555)
+    with tempfile.TemporaryDirectory(prefix="dumped-") as top:
+        os.chmod(top, 0o755)
+        try:
+            assert dumped_by_other(folder, top) == at(2, A)
+            assert stamped(folder) == before
+            os.chmod(os.path.join(folder, "1.a"), 0)
+            assert dumped_by_other(folder, top) == fault("13 Down", f"{folder}/1.a: Permission denied")
+        finally:
+            os.chmod(folder, 0o755)
+
+
+def test_full(folder):
+    """an output that takes nothing"""
+    script(folder, 2, f"write +{A}")
+    with open("/dev/full", "w") as output:
+        assert dumped(folder, 2, stdout=output) == fault("output")
+
+
+def test_long(folder):
+    """a line on standard error while a dump takes long"""
+    script(folder, 1, f"write +{A}")
+    # The first sync of a file of the only shard waits two seconds for that of another shard's.
+    note = folder + ".held"
+    open(note, "w").close()
+    held = {"LD_PRELOAD": built_library("hold_syncs"), "HOLD_FOLDER": os.path.realpath(folder), "HOLD_FILE": note, "HOLD_SECONDS": "2"}
+    words = [zanstore(), "dump", "--dir", folder, "--store", "1", "--shards", "1"]
+    ran = subprocess.run(words, env={**os.environ, **held}, capture_output=True, text=True, timeout=LIMIT)
+    assert (ran.returncode, ran.stdout) == at(1, A)[:2]
+    assert re.fullmatch(rf"zanstore: \S+Z {re.escape(folder)}: being dumped, for [1-9] s so far\n", ran.stderr), ran.stderr
+
+
+def test_usage(folder):
+    """a command line that can't be read, or that asks for help"""
+    for words, status in (("dump", 2), (f"dump --dir {folder} --store 1 --shards 65", 2), (f"dump --dir {folder} --store 1 --shards 2 --at x", 2), ("dump --help", 0)):
+        assert run([zanstore(), *words.split()])[0] == status, words
+    assert not os.listdir(folder)

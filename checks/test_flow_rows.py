@@ -1,0 +1,65 @@
+"""Runs the rows of flow_rows.rows, and compares what their flows do."""
+import re
+from pathlib import Path
+
+from judge.lines import token
+from programs import harness, lines_of, run
+from verdicts import none
+
+ROWS = Path(__file__).with_name("flow_rows.rows")
+
+
+def wide_tuple(write, change):
+    """A tuple of the greatest length. The sum of its object's bytes is even, so it is shard 0's."""
+    write, low, high = write % 50, change % 8, change // 8 % 8
+    name = "".join(chr(ord("A") + it) for it in (write, low, high)) + chr(ord("a") + (write + low + high) % 2)
+    return f"+doc:{name}{124 * 'a'}#{64 * 'r'}@{128 * 'u'}"
+
+
+def wide(write):
+    return "write " + " ".join(wide_tuple(write, change) for change in range(64))
+
+
+def crowd(count, turns):
+    return [line for write in range(count) for line in ("start " + wide(write), f"quiet {turns}")]
+
+
+def full():
+    """49 wide writes leave 15,898 bytes of a batch; this one takes all of these but 4: 19 bytes, 48 changes of 329, and one of 83."""
+    last = " ".join([*(wide_tuple(49, change) for change in range(48)), f"+doc:bbbbbbbb#rr@{64 * 'u'}"])
+    return [*crowd(49, 3), "start write " + last, "quiet 3"]
+
+
+def groups():
+    for write in range(65):
+        yield "write " + " ".join(f"+group:g#member@group:{write * 63 + group:04}#member" for group in range(63))
+
+
+def spelled(line):
+    word, *numbers = line.split()
+    if word == "CROWD":
+        return crowd(*map(int, numbers))
+    if word == "FILL":
+        return full()
+    if word == "GROUPS":
+        return [*groups()]
+    line = re.sub(r"PLACE_(\d)", lambda it: token(1, int(it[1])), line)
+    return [re.sub(r"WIDE_(\d+)", lambda it: wide(int(it[1])), line).replace("start write write", "start write")]
+
+
+def rows(text):
+    for row in text.split("\n\n"):
+        lines = [line for line in row.split("\n") if line and not line.startswith(";")]
+        steps = [line for line in lines if not line.startswith("=")]
+        if steps:
+            yield steps, [line[2:] for line in lines if line.startswith("=")]
+
+
+def test_rows():
+    wanted = [*rows(ROWS.read_text())]
+    status, told, _ = run(harness("flows"), "\n".join(lines_of(it for step in steps for it in spelled(step)) for steps, _ in wanted), 300)
+    told = told.splitlines()
+    assert status == 0 and len(told) == len(wanted) >= 150
+    wrong = [f"{steps}: {line}" for (steps, ends), line in zip(wanted, told) if line.strip().rstrip(";") != "; ".join(ends).rstrip(",")]
+    print(f"flow rows: {len(wanted)} rows, {len(wrong)} wrong")
+    none(wrong)

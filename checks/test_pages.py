@@ -1,0 +1,394 @@
+"""Runs the examples of the pages at the top and in docs/ and compares what they print; looks after their links and names.
+
+A block ```script, with words of the command line behind it if there are any, is a script, and the next block, ```prints, is what it prints; where the
+text before it names a script of examples/ by `Script [NAME](..)`, it is that script. A block ```requests is a session over a plain list of touches,
+and ```answers its answers. In a block ```console each line `$ ./zanstore ..`, with its lines up to END, is run, and prints what follows; one that ends with & is a
+server, which goes on to the end of the block, in a folder of its own and at a port that is free. A relative link
+leads to a file that is there, and to a heading of it; a link whose text is a name in code leads to a source that has it. In a table of limits that
+constant has the last number of the row's second cell, in a table of crates each name in code of the second cell stands in that crate, and in one of
+refusals each number and name is one. On the page of the laws each law of its crates has a row. Each picture is what its text or its table gives, as
+`docs/pictures/draw --check` and `bench/chart --check` tell it, and stands on one page, with words for whoever can't see it.
+"""
+import functools
+import os
+import re
+import shlex
+import shutil
+import signal
+import socket
+import subprocess
+import tempfile
+import threading
+from importlib.machinery import SourceFileLoader
+from importlib.util import module_from_spec, spec_from_loader
+from pathlib import Path
+
+import programs
+from programs import harness, lines_of, run
+from verdicts import all_noticed, none
+
+TOP, PROGRAM = Path(programs.TOP), programs.zanstore()
+# What has to follow a block of this kind.
+FOLLOWS = {"script": "prints", "requests": "answers"}
+LINK = re.compile(r"\[([^\]]+)\]\(([^)\s]+)\)")
+PICTURE = re.compile(r"!\[([^\]]*)\]\(([^)\s]+\.svg)\)")
+CODE = re.compile(r"`([^`]+)`")
+NUMBER = re.compile(r"2\^(\d+)( - 1)?|\d[\d,]*")
+# The address of the server that the pages show.
+HOST = "127.0.0.1"
+SHOWN = HOST + ":7700"
+
+
+class Block:
+    def __init__(self, line, words, before):
+        self.line, self.words, self.before, self.text = line, words, before, []
+
+    kind = property(lambda self: self.words[0] if self.words else "")
+
+
+def blocks_of(page):
+    """The fenced blocks, each with the text that stands before it, and the lines that stand in none."""
+    blocks, plain, before, block = [], [], [], None
+    for number, line in enumerate(page.split("\n"), 1):
+        fence = line.startswith("```")
+        if fence and block is None:
+            block = Block(number, line[3:].split(), "\n".join(before))
+        elif fence:
+            blocks.append(block)
+            block, before = None, []
+        elif block is not None:
+            block.text.append(line)
+        else:
+            before.append(line)
+            plain.append((number, line))
+    return blocks if block is None else [*blocks, block], plain
+
+
+@functools.lru_cache(None)
+def printed(words, given):
+    status, out, _ = run(words, given, cwd=TOP)
+    return out.splitlines() if status == 0 else [f"status {status}"]
+
+
+def difference(wanted, told):
+    for number in range(max(len(wanted), len(told))):
+        pair = [it[number] if number < len(it) else "nothing" for it in (wanted, told)]
+        if pair[0] != pair[1]:
+            return f"line {number + 1} of what is printed is `{pair[1]}`, and not `{pair[0]}`"
+    return None
+
+
+def named_script(block):
+    """Where the text before it names a script of examples/, why this is another one."""
+    found = re.findall(r"[Ss]cript \[[^\]]*\]\([^)]*examples/([^)]*)\.script\)", block.before)
+    if not found:
+        return None
+    path = TOP / "examples" / (found[-1] + ".script")
+    if not path.exists():
+        return None
+    lines = [line for line in path.read_text().splitlines() if not line.startswith(";")]
+    return None if lines == block.text else f"is not examples/{found[-1]}.script"
+
+
+def run_pair(block, answer):
+    if block.kind == "requests":
+        return difference(answer.text, printed((*harness("session"),), lines_of(block.text)))
+    words = (PROGRAM, "sim", *block.words[1:])
+    return named_script(block) or difference(answer.text, printed(words, lines_of(block.text)))
+
+
+def commands_of(text):
+    """Each command of a console, with what it prints."""
+    commands, end = [], None
+    for line in text:
+        if end is not None:
+            commands[-1][0].append(line)
+            end = None if line == end else end
+        elif line.startswith("$ "):
+            commands.append(([line[2:]], []))
+            here = re.search(r"<<'?(\w+)'?", line)
+            end = here[1] if here else None
+        elif commands:
+            commands[-1][1].append(line)
+    return commands
+
+
+def spelled(command):
+    """A command of a console, as a shell is told it."""
+    return lines_of([command[0].replace("./zanstore ", shlex.quote(PROGRAM) + " "), *command[1:]])
+
+
+@functools.lru_cache(None)
+def printed_by_server(serving, *asking):
+    """The first line of a server, and what each command prints that is given beside it."""
+    with socket.create_server((HOST, 0)) as free:
+        here = f"{HOST}:{free.getsockname()[1]}"
+    with tempfile.TemporaryDirectory() as folder:
+        words = ("bash", "-c", serving.replace(SHOWN, here))
+        server = subprocess.Popen(words, stdout=subprocess.PIPE, stderr=subprocess.DEVNULL, text=True, cwd=folder, start_new_session=True)
+        late = threading.Timer(60, os.killpg, (server.pid, signal.SIGKILL))
+        late.start()
+        try:
+            first = server.stdout.readline().splitlines()
+            return [first, *(printed(("bash", "-c", each.replace(SHOWN, here)), "") for each in asking)]
+        finally:
+            late.cancel()
+            os.killpg(server.pid, signal.SIGKILL)
+            server.wait()
+
+
+def run_console(block):
+    commands = commands_of(block.text)
+    if not commands:
+        return "has no command"
+    for command, _ in commands:
+        if "./zanstore " not in command[0]:
+            return f"runs what is not the program: {command[0]}"
+    scripts = [spelled(command) for command, _ in commands]
+    if scripts[0].endswith(" &\n"):
+        told = printed_by_server(scripts[0][:-3], *scripts[1:])
+    else:
+        told = [printed(("bash", "-c", script), "") for script in scripts]
+    return next(filter(None, (difference(wanted, each) for (_, wanted), each in zip(commands, told))), None)
+
+
+def faults_of_blocks(blocks):
+    answers = set(FOLLOWS.values())
+    for at, block in enumerate(blocks):
+        after = blocks[at + 1] if at + 1 < len(blocks) else None
+        found = None
+        if block.kind in FOLLOWS:
+            wanted = FOLLOWS[block.kind]
+            found = run_pair(block, after) if after and after.kind == wanted else f"has no block {wanted} behind it"
+        elif block.kind in answers and (at == 0 or FOLLOWS.get(blocks[at - 1].kind) != block.kind):
+            found = "stands behind no example"
+        elif block.kind == "console":
+            found = run_console(block)
+        if found:
+            yield block.line, f"the block {block.kind} {found}"
+
+
+def anchors_of(page):
+    _, plain = blocks_of(page)
+    titles = [line.lstrip("#").strip() for _, line in plain if re.match(r"#+ ", line)]
+    return {re.sub(r"[^\w\- ]", "", title.lower()).replace(" ", "-") for title in titles}
+
+
+def fault_of_link(at, page, text, target):
+    path, _, anchor = target.partition("#")
+    file = (at.parent / path).resolve() if path else at
+    if not file.exists():
+        return f"the link to {target} leads nowhere"
+    if anchor and anchor not in anchors_of(file.read_text() if path else page):
+        return f"the link to {target} leads to no heading"
+    name = CODE.fullmatch(text)
+    if name and path.endswith(".rt") and not re.search(rf"\b{re.escape(name[1])}\b", file.read_text()):
+        return f"{path} has no {name[1]}"
+    return None
+
+
+def value_of(source, name):
+    """The value of a constant, or none where it is not spelled by numbers alone."""
+    found = re.search(rf"const {name}: \w+ = ([\d_<()\- ]+);", source)
+    if not found:
+        return None
+    return eval(found[1], {"__builtins__": {}})
+
+
+def number_of(cell):
+    found = [*NUMBER.finditer(cell)]
+    if not found:
+        return None
+    last = found[-1]
+    if last[1]:
+        return 2 ** int(last[1]) - (1 if last[2] else 0)
+    return int(last[0].replace(",", ""))
+
+
+def faults_of_limit(folder, cells):
+    for text, target in LINK.findall(cells[-1]):
+        name, file = CODE.fullmatch(text), (folder / target).resolve()
+        if name and file.exists() and value_of(file.read_text(), name[1]) != number_of(cells[1]):
+            yield f"{name[1]} of {target} is {value_of(file.read_text(), name[1])}, and not {cells[1]}"
+
+
+def faults_of_refusal(cells):
+    named = re.fullmatch(r"(\d+) `(\w+)`(?: of a \w+)?", cells[0])
+    source = (TOP / "crates" / "refusal" / "src" / "refusal.rt").read_text()
+    if not named or f"Refusal::{named[2]} => {named[1]}," not in source:
+        yield f"there is no refusal {cells[0]}"
+
+
+@functools.lru_cache(None)
+def words_of_crate(crate):
+    top = TOP / "crates" / crate
+    files = [*(top / "src").rglob("*.rt"), *(top / "specs").rglob("*.antt")]
+    return {word for file in files for word in re.findall(r"\w+", file.read_text())}
+
+
+def faults_of_names(cells):
+    crates = CODE.findall(cells[0])
+    known = {word for crate in crates for word in words_of_crate(crate)}
+    for name in CODE.findall(cells[1]):
+        missing = [word for word in re.findall(r"\w+", name) if word not in known]
+        if missing:
+            yield f"{' '.join(crates)} has no {missing[0]}"
+
+
+def faults_of_rows(folder, plain):
+    header = []
+    for number, line in plain:
+        cells = [cell.strip() for cell in line.strip().strip("|").split(" | ")] if line.startswith("|") else []
+        if not cells:
+            header = []
+        elif not header:
+            header = cells
+        elif set(line) <= set("|- "):
+            continue
+        elif header[:2] == ["Crate", "Function"]:
+            yield from ((number, found) for found in faults_of_names(cells))
+        elif header[0] == "Number and name":
+            yield from ((number, found) for found in faults_of_refusal(cells))
+        elif header[-1] == "Constant":
+            yield from ((number, found) for found in faults_of_limit(folder, cells))
+
+
+def faults_of_laws(plain):
+    """The laws of the page's crates that have no row there."""
+    rows = [[CODE.findall(cell) for cell in line.split(" | ")[:2]] for _, line in plain if line.startswith("| `")]
+    told = {(crate, name) for crates, names in rows for crate in crates for name in names}
+    for crate in {crate for crates, _ in rows for crate in crates}:
+        source = "".join(file.read_text() for file in (TOP / "crates" / crate / "src").glob("*.rt"))
+        for name in re.findall(r"^pub fn (\w+)", source, re.MULTILINE):
+            if (crate, name) not in told:
+                yield 1, f"the law {name} of {crate} has no row"
+
+
+def faults_of(path, page):
+    """What is wrong in a page, as it would stand at this path: its line and why."""
+    blocks, plain = blocks_of(page)
+    yield from faults_of_blocks(blocks)
+    for number, line in plain:
+        for text, target in LINK.findall(re.sub(r"``[^`]*``", "", line)):
+            found = None if re.match(r"\w+:", target) else fault_of_link(path, page, text, target)
+            if found:
+                yield number, found
+    yield from faults_of_rows(path.parent, plain)
+    if path.name == "LAWS.md":
+        yield from faults_of_laws(plain)
+
+
+def drawer(path):
+    """A script as a module, whose `faults_of` is its `--check`."""
+    loader = SourceFileLoader(path.name, str(path))
+    module = module_from_spec(spec_from_loader(path.name, loader))
+    loader.exec_module(module)
+    return module
+
+
+DRAWERS = ((drawer(TOP / "docs" / "pictures" / "draw"), "pictures"), (drawer(TOP / "bench" / "chart"), "BENCH.md"))
+
+
+def showing(docs):
+    """The pages that a picture may stand on: those of the folder, and those beside it."""
+    return [*sorted(docs.parent.glob("*.md")), *sorted(docs.glob("*.md"))]
+
+
+def faults_of_pictures(docs):
+    """Each picture is what its text or its table gives, and stands on one page, once, with words."""
+    for script, what in DRAWERS:
+        try:
+            yield from script.faults_of(docs / what, True)
+        except script.UNREAD as wrong:
+            yield f"{what}: {wrong}"
+    there = sorted(path.resolve() for folder in ("pictures", "charts") for path in (docs / folder).glob("*.svg"))
+    shown = [(words, (page.parent / target).resolve()) for page in showing(docs) for words, target in PICTURE.findall(page.read_text())]
+    for words, picture in shown:
+        if len(words.split()) < 5:
+            yield f"{picture.name} is shown without words"
+    for picture in there:
+        if [each for _, each in shown].count(picture) != 1:
+            yield f"{picture.name} does not stand on one page"
+
+
+def pages():
+    return {path: path.read_text() for path in [*sorted(TOP.glob("*.md")), *sorted((TOP / "docs").glob("*.md"))]}
+
+
+def told(path, number, why):
+    return f"{path.relative_to(TOP)}:{number}: {why}"
+
+
+def spoiled(page):
+    """Copies of the page with one thing wrong, each with what was done."""
+    for kind in ("console", *FOLLOWS, *FOLLOWS.values()):
+        for found in re.finditer(rf"^```{kind}.*\n(?:\$.*\n)?", page, re.MULTILINE):
+            yield f"a line more in {kind}", page[: found.end()] + "x\n" + page[found.end() :]
+            if kind != "console":
+                yield f"no {kind}", page[: found.start()] + "```text" + page[found.start() + 3 + len(kind) :]
+    for found in re.finditer(r"\]\((?!\w+:)([^)\s]+)\)", page):
+        yield f"a link to {found[1]}", page[: found.end() - 1] + "x" + page[found.end() - 1 :]
+    for found in re.finditer(r"^\| [^|]+ \| [^|`]*\d(?= \| .*`\]\([^)]*\.rt\))", page, re.MULTILINE):
+        yield f"another number in {found[0]}", page[: found.end()] + "7" + page[found.end() :]
+    for found in re.finditer(r"^\| \d+ `\w+", page, re.MULTILINE):
+        yield f"another name in {found[0]}", page[: found.end()] + "x" + page[found.end() :]
+    for found in re.finditer(r"^\| `\w+` \| `\w+", page, re.MULTILINE):
+        yield f"another name in {found[0]}", page[: found.end()] + "_x" + page[found.end() :]
+
+
+def spoiled_pictures(docs):
+    """Each one a file of the folder and what is to stand in it, nothing where it is to be gone, with what was done."""
+    for picture in [*sorted(docs.glob("pictures/*.svg")), *sorted(docs.glob("charts/*.svg"))]:
+        yield picture, None, f"no {picture.name}"
+        yield picture, picture.read_text().replace("</svg>", " </svg>"), f"another {picture.name}"
+    for text in sorted(docs.glob("pictures/*.txt")):
+        lines = text.read_text().splitlines()
+        for at, line in enumerate(lines):
+            if not line.startswith("#"):
+                yield text, lines_of([*lines[:at], line + "x", *lines[at + 1 :]]), f"another {line} in {text.name}"
+    page = (docs / "BENCH.md").read_text()
+    for table in re.finditer(r"(?:^\|.*\n)+", page, re.MULTILINE):
+        for found in re.finditer(r"(?<= )\d\.\d\d(?= \|)", table[0]) if "Proved by plain" in table[0] else ():
+            at = table.start() + found.start()
+            yield docs / "BENCH.md", page[:at] + "9" + page[at:], f"another {found[0]} in BENCH.md"
+    for path in showing(docs):
+        page = path.read_text()
+        for found in PICTURE.finditer(page):
+            yield path, page.replace(found[0], ""), f"no {found[2]} on {path.name}"
+            yield path, page.replace(found[0], found[0] * 2), f"{found[2]} twice on {path.name}"
+            yield path, page.replace(found[1], ""), f"no words for {found[2]}"
+
+
+def spoiled_docs(docs):
+    """What was spoiled of the pictures in this copy of the pages, and whether it was noticed."""
+    for path, text, what in [*spoiled_pictures(docs)]:
+        before = path.read_text()
+        path.unlink() if text is None else path.write_text(text)
+        yield "a picture", [*faults_of_pictures(docs)], what
+        path.write_text(before)
+
+
+def spoiled_pages():
+    for path, page in pages().items():
+        before = len([*faults_of(path, page)])
+        for what, copy in spoiled(page):
+            yield "a page", len([*faults_of(path, copy)]) > before, f"{path.relative_to(TOP)}: {what}"
+
+
+def test_pages():
+    runs = sum(block.kind in (*FOLLOWS, "console") for page in pages().values() for block in blocks_of(page)[0])
+    print(f"pages: {len(pages())} pages, {runs} examples")
+    none([told(path, *fault) for path, page in pages().items() for fault in faults_of(path, page)] + [*faults_of_pictures(TOP / "docs")])
+    assert runs > 0
+
+
+def test_self_pictures(folder):
+    """Spoiled pictures are noticed."""
+    for page in TOP.glob("*.md"):
+        shutil.copy(page, folder)
+    all_noticed(spoiled_docs(Path(shutil.copytree(TOP / "docs", Path(folder) / "docs"))))
+
+
+def test_self():
+    """Spoiled copies of pages are noticed."""
+    all_noticed(spoiled_pages())

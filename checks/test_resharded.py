@@ -1,0 +1,185 @@
+"""What `zanstore reshard` makes of a store in files.
+
+Each row has a script make a store in a new folder (`harness files`), has the program carry it over to another folder, and holds what a script and dumps of that
+folder print against lines that were worked out by hand. Then a store of some thousand tuples is carried over there and back by processes that are killed, each
+at some moment of a whole run, and the command is given again: behind each kill dumps of the old store are what they were, what the kill left is no store, or a
+whole one, and a second try comes out right. `--count` and `--kills` say how many tuples and kills there are, each way.
+"""
+import os
+
+import pytest
+
+from folders import DONE, THREE, A, B, C, apart, at, beside, contents, dumped, empty, fault, resharded, script, token, while_held
+from programs import run, zanstore
+from resharding.carrying import there_and_back
+from resharding.spoiling import spoiled
+from verdicts import all_noticed
+
+GROUP = "servers"
+# As many tuples, and kills each way, as take some ten seconds.
+TUPLES, KILLS = 12000, 5
+
+
+@pytest.fixture
+def folder(folder):
+    """One that others may stand beside."""
+    path = os.path.join(folder, "old")
+    os.mkdir(path)
+    return path
+
+
+def test_over(folder):
+    """versions, places and the log of before are there, the next write has the next place, and no old file has another byte"""
+    script(folder, 2, *THREE)
+    new, before = beside(folder, "new"), contents(folder)
+    assert resharded(folder, 2, new, 3) == DONE, "the resharding"
+    assert contents(folder) == before, "the old files are as they were"
+    told = script(new, 3, f"read ={token(1)} doc:a", f"watch {token(0)} 3 doc", "rows 0", "rows 1", "write +doc:b#viewer@u1")
+    assert told == [f"at {token(1)}", f"1 {A}", f"1 +{A}", f"2 -{A}", f"3 +{A}", f"heartbeat {token(3)}", f"1 +{A}", f"2 -{A}", f"3 +{A}", f"ok {token(4)}"], "the script behind it"
+
+
+def test_back(folder):
+    """there and back, a dump at each of three places is the same"""
+    script(folder, 2, f"write +{A} +{B}", f"write -{A}", f"write +{C}")
+    wide, narrow = beside(folder, "wide"), beside(folder, "narrow")
+    assert resharded(folder, 2, wide, 64) == DONE, "there"
+    assert resharded(wide, 64, narrow, 2) == DONE, "and back"
+    for words, answer in (("--at 1", at(1, A, B)), ("--at 2", at(2, B)), ("", at(3, B, C)), ("--at 4", fault("7 Future"))):
+        for where, shards in ((folder, 2), (wide, 64), (narrow, 2)):
+            assert dumped(where, shards, words) == answer, f"dump {words} of {shards}"
+
+
+def test_one(folder):
+    """one shard has all, and the same number of shards is taken too"""
+    script(folder, 3, f"write +{A} +{B} +{C}")
+    single, same = beside(folder, "single"), beside(folder, "same")
+    assert resharded(folder, 3, single, 1) == DONE, "to one"
+    assert script(single, 1, "rows 0") == [f"1 +{A}", f"1 +{B}", f"1 +{C}"], "its rows"
+    assert resharded(single, 1, same, 1) == DONE, "to one again"
+    assert dumped(same, 1) == at(1, A, B, C), "the dump"
+
+
+def test_collected(folder):
+    """the horizon is kept, and what lies below it is forgotten"""
+    script(folder, 2, *THREE, "raise 2", "collect 0", "collect 1")
+    new = beside(folder, "new")
+    assert resharded(folder, 2, new, 3) == DONE, "the resharding"
+    told = script(new, 3, "rows 0", f"read ={token(1)} doc:a", f"read ={token(2)} doc:a", f"read ={token(3)} doc:a")
+    assert told == [f"3 +{A}", "refused 8 Collected", f"at {token(2)}", f"at {token(3)}", f"1 {A}"], "the script behind it"
+
+
+def test_doubted(folder):
+    """a write without a decision is left behind, and its tuples are free"""
+    script(folder, 2, f"write +{A}", f"start w write +{B} -{A}", "until w decide")
+    new = beside(folder, "new")
+    assert resharded(folder, 2, new, 3) == DONE, "the resharding"
+    assert script(new, 3, "resolve 0", "resolve 1", f"write +{B} -{A}") == ["done", "done", f"ok {token(2)}"], "the script behind it"
+
+
+def test_decided(folder):
+    """a write that was kept and that no shard had learned is carried over"""
+    script(folder, 2, f"start w write +{A} +{B}", "until w outcome", "flush c")
+    new = beside(folder, "new")
+    assert resharded(folder, 2, new, 3) == DONE, "the resharding"
+    assert dumped(new, 3) == at(1, A, B), "the dump"
+
+
+def test_staged(folder):
+    """ids go on behind those of before: none is given out again"""
+    script(folder, 2, f"start w write +{A} +{B}", "until w decide")
+    new = beside(folder, "new")
+    assert resharded(folder, 2, new, 2) == DONE, "the resharding"
+    # The old coordinator was opened twice, so this one for the third time; the prepares of its first write are in doubt, under their id.
+    assert script(new, 2, f"start v write +{A}", "until v decide") == ["started v", "next decide"], "a write"
+    assert script(new, 2, "resolve 1") == ["abort 3.1", "done"], "what became of it"
+
+
+def test_taken(folder):
+    """a folder with any file of a store is left alone"""
+    script(folder, 2, *THREE)
+    for name in ("c.b", "63.a"):
+        new = beside(folder, f"new-{name}")
+        empty(new, name)
+        assert resharded(folder, 2, new, 3) == fault("16 Damaged", f"{new}: has a file of a store already"), f"a folder with {name}"
+        assert os.listdir(new) == [name], "its files"
+    assert resharded(folder, 2, folder, 3) == fault("16 Damaged", f"{folder}: has a file of a store already"), "the same folder"
+    assert dumped(folder, 2) == at(3, A), "the store"
+
+
+def test_held(folder):
+    """a folder that another process has open is left alone"""
+    new = beside(folder, "new")
+
+    def asked():
+        assert resharded(folder, 2, new, 3) == fault("13 Down", f"{folder}/c.a: is in use by another process"), "a resharding beside it"
+
+    while_held(folder, asked)
+    assert os.listdir(new) == [], "the new folder"
+    assert resharded(folder, 2, new, 3) == DONE, "a resharding behind it"
+
+
+def test_missing(folder):
+    """folders that are not there"""
+    script(folder, 2, *THREE)
+    none, new = os.path.join(folder, "none"), beside(folder, "new")
+    told = fault("13 Down", f"{none}: No such file or directory")
+    assert resharded(none, 2, folder, 3) == told, "from a folder"
+    assert resharded(folder, 2, none, 3) == told, "to a folder"
+    assert resharded(new, 2, beside(folder, "newer"), 3) == fault("13 Down", f"{new}: has no store"), "from a folder without a store"
+    assert os.listdir(new) == [], "the folder without a store"
+
+
+def test_another(folder):
+    """files of another number of shards, or not all of one moment"""
+    script(folder, 2, f"write +{A} +{B}", "learn 0", "learn 1", "flush 0", "flush 1")
+    new, newer = beside(folder, "new"), beside(folder, "newer")
+    assert resharded(folder, 1, new, 3) == fault("16 Damaged", f"{folder} is of store 1 with 2 shards"), "another number of shards"
+    empty(folder, "c.a")
+    assert resharded(folder, 2, newer, 3) == fault("16 Damaged", apart(0)), "with an empty file of the coordinator"
+    os.remove(os.path.join(folder, "c.a"))
+    newest = beside(folder, "newest")
+    assert resharded(folder, 2, newest, 3) == fault("16 Damaged", f"{folder}/c.a: is missing"), "without the coordinator's file"
+    assert os.listdir(newest) == [], "the new folder"
+
+
+def test_stopped(folder):
+    """a new folder without the last of its files, or with an old one, is no store"""
+    script(folder, 2, f"write +{A} +{B}", f"write +{C}", "raise 1")
+    new = beside(folder, "new")
+    assert resharded(folder, 2, new, 3) == DONE, "the resharding"
+    path, whole = os.path.join(new, "c.a"), contents(new)["c.a"]
+    # The first batch alone: a gate, four bytes of a length, the body, and the gate behind it, which is closed.
+    first = 5 + int.from_bytes(whole[1:5], "big")
+    with open(path, "wb") as file:
+        file.write(whole[:first] + b"\0")
+    assert dumped(new, 3) == fault("16 Damaged", "the files of the coordinator are damaged"), "half of a coordinator"
+
+
+def test_full(folder):
+    """an output that takes nothing"""
+    script(folder, 2, *THREE)
+    with open("/dev/full", "w") as output:
+        assert resharded(folder, 2, beside(folder, "new"), 3, stdout=output) == fault("output"), "the resharding"
+
+
+def test_usage(folder):
+    """a command line that can't be read, or that asks for help"""
+    given = f"reshard --dir {folder} --to {folder} --store 1 --shards 2"
+    for words, status in (("reshard", 2), (given, 2), (f"{given} --new-shards 65", 2), (f"{given} --new-shards 0", 2), ("reshard --help", 0)):
+        assert run([zanstore(), *words.split()])[0] == status, words
+    assert os.listdir(folder) == [], "the folder"
+
+
+@pytest.mark.long
+def test_killed(folder, asked):
+    """A store is carried over there and back by killed processes, and is what it was."""
+    tuples, kills, seed = asked.count or TUPLES, asked.kills or KILLS, asked.seed or 1
+    seen, there, back = there_and_back(folder, tuples, kills, seed)
+    left = ", ".join(f"{count} {what}" for what, count in sorted(seen.items()))
+    print(f"killed: seed {seed}, {tuples} tuples there in {there:.1f} s and back in {back:.1f} s, {2 * kills} kills left: {left}")
+
+
+@pytest.mark.long
+def test_self(folder, asked):
+    """Folders that a wrong program would have left are noticed."""
+    all_noticed(spoiled(os.path.dirname(folder), TUPLES // 4, asked.seed or 1), 6)
