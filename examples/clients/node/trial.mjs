@@ -1,0 +1,43 @@
+// Has the client do what standard input says, and prints what came of it (../trials.py): trial.mjs HOST PORT MILLISECONDS
+import { readFileSync } from "node:fs";
+import { setTimeout as pause } from "node:timers/promises";
+import { NoAnswer, Refused, Store, Userset, newest, place, tuple } from "./client.mjs";
+
+const ROUNDS = 100;
+const [host, port, limit] = process.argv.slice(2);
+const store = new Store(host, Number(port), 8, Number(limit));
+
+// How many answers are wrong where many ask the store at a time, each with a tuple of its own: that of every other one is there.
+async function shared(tuples) {
+  let wrong = 0;
+  const ask = async (text, number) => {
+    for (let round = 0; round < ROUNDS; round++) wrong += (await store.check(text)).member !== (number % 2 === 0);
+  };
+  await Promise.all(tuples.map(ask));
+  return wrong;
+}
+
+const commands = {
+  write: async (text) => (await store.write({ touch: [text] })) && "wrote",
+  check: async (text) => (await store.check(text)).member,
+  shared: (...tuples) => shared(tuples),
+  "give-up": (text) => Promise.race([store.check(text), pause(200, "given up")]),
+  close: async () => (await store.close()) ?? "closed",
+  // Nothing else runs meanwhile, as where the thread has work to do.
+  pause: (time) => Atomics.wait(new Int32Array(new SharedArrayBuffer(4)), 0, 0, Number(time)) && "paused",
+  tuple,
+  userset: (object, relation, ...who) => tuple(object, relation, new Userset(...who)),
+  place,
+  newest,
+};
+
+for (const line of readFileSync(0, "utf8").split("\x1e")) {
+  const [command, ...words] = line.split("\x1f");
+  try {
+    console.log(String(await commands[command](...words)));
+  } catch (fault) {
+    const told = [[Refused, `refused ${fault.message}`], [NoAnswer, "no answer"], [TypeError, "not a text"], [Error, "gone"]];
+    console.log(told.find(([kind]) => fault instanceof kind)[1]);
+  }
+}
+await store.close();
