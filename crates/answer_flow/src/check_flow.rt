@@ -133,15 +133,25 @@ impl CheckFlow {
         }
     }
 
+    /// How it ended, where it has, and the user that it was asked about.
+    pub fn into_parts(self) -> (Option<CheckEnd>, User)
+        ensures end { option_map ending_of result.0 ≡ self.seen.ended }
+        ensures user { result.1 ≡ self.user }
+    {
+        let CheckFlow { asked, phase } = self;
+        let user = asked.user;
+        match phase {
+            Some(phase) => (phase.into_end(), user),
+            None => unreachable!(),
+        }
+    }
+
     /// How it ended, where it has.
     pub fn finish(self) -> Option<CheckEnd>
         ensures { option_map ending_of result ≡ self.seen.ended }
     {
-        let CheckFlow { asked, phase } = self;
-        drop(asked);
-        match phase {
-            Some(phase) => phase.into_end(),
-            None => unreachable!(),
-        }
+        let (end, user) = self.into_parts();
+        drop(user);
+        end
     }
 }

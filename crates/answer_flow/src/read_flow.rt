@@ -126,15 +126,25 @@ impl ReadFlow {
         }
     }
 
+    /// How it ended, where it has, and the tuplesets that it was asked for.
+    pub fn into_parts(self) -> (Option<ReadEnd>, Vec<Tupleset>)
+        ensures end { option_map ending_of result.0 ≡ self.seen.ended }
+        ensures sets { result.1.items ≡ self.sets }
+    {
+        let ReadFlow { asked, phase } = self;
+        let sets = asked.sets;
+        match phase {
+            Some(phase) => (phase.into_end(), sets),
+            None => unreachable!(),
+        }
+    }
+
     /// How it ended, where it has.
     pub fn finish(self) -> Option<ReadEnd>
         ensures { option_map ending_of result ≡ self.seen.ended }
     {
-        let ReadFlow { asked, phase } = self;
-        drop(asked);
-        match phase {
-            Some(phase) => phase.into_end(),
-            None => unreachable!(),
-        }
+        let (end, sets) = self.into_parts();
+        drop(sets);
+        end
     }
 }

@@ -12,7 +12,7 @@ use Rattle.records.specs.Coordinators.{CoordinatorState, coordinator_state}
 use Rattle.ties.specs.ShardTies.{RowsAnywhere}
 use Rattle.ties.specs.Ties.{Anywhere, IsLonger}
 use Rattle.tuples.specs.declared.entry.Entry.{Entry}
-use Rattle.at_rest.specs.AtRest.{IsAtRest, RestsWith, found_coordinator}
+use Rattle.locked.specs.AtRest.{IsAtRest, RestsWith, found_coordinator}
 
 -- a stop leaves what was found, and nothing else
 pub leaves_seen : (s : State) → IsFresh s.seen s → left s s.seen

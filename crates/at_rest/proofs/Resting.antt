@@ -17,7 +17,7 @@ use Rattle.ties.specs.Ties.{AreListed, AreOf, IsLonger}
 use Rattle.tuples.specs.declared.entry.Entry.{Entry}
 use Rattle.stores.specs.Stands.{at_shards}
 use Rattle.stores.specs.Stores.{RestsOver, stops}
-use Rattle.at_rest.specs.AtRest.{IsAtRest, found_coordinator}
+use Rattle.locked.specs.AtRest.{IsAtRest, found_coordinator}
 use Rattle.at_rest.specs.RestingLaws.{IsJustOpened, WhatRestsIsAtRest}
 use Rattle.at_rest.proofs.Found.{at_rest_with, found_is, leaves_seen}
 

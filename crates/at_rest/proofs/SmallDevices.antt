@@ -18,7 +18,7 @@ use Rattle.ties.specs.Ties.{IsLonger}
 use Rattle.ties.proofs.SmallTies.{learned, three_listed, two_are_learned}
 use Rattle.tuples.specs.declared.entry.Entry.{Entry}
 use Rattle.tuples.proofs.Examples.{three}
-use Rattle.at_rest.specs.AtRest.{IsAtRest, RestsWith, found_coordinator}
+use Rattle.locked.specs.AtRest.{IsAtRest, RestsWith, found_coordinator}
 use Rattle.at_rest.proofs.Found.{at_rest_with, found_again}
 
 -- a device that was just opened over this content

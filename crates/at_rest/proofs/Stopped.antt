@@ -16,7 +16,7 @@ use Rattle.ties.specs.ShardTies.{RowsAnywhere}
 use Rattle.ties.specs.Ties.{AreListed, AreOf, IsLonger}
 use Rattle.ties.proofs.ShardOpening.{longer_lists_stay_tied}
 use Rattle.tuples.specs.declared.entry.Entry.{Entry}
-use Rattle.at_rest.specs.AtRest.{IsAtRest, found_coordinator}
+use Rattle.locked.specs.AtRest.{IsAtRest, found_coordinator}
 use Rattle.at_rest.specs.RestingLaws.{AreReadable, IsJustOpened, WhatIsFoundIsAtRest}
 use Rattle.at_rest.specs.Stopped.{AreFoundOfStopped, FindsLeft, IsFoundOfLog, IsFoundOfShard, WhatAStopLeavesIsAtRest}
 use Rattle.at_rest.proofs.Found.{at_rest_with, found_is, leaves_only, leaves_seen}

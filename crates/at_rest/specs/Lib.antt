@@ -1,3 +1,2 @@
-pub mod AtRest
 pub mod RestingLaws
 pub mod Stopped

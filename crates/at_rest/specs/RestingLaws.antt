@@ -10,7 +10,7 @@ use Rattle.locked.specs.Opening.{RestAt}
 use Rattle.records.specs.declared.record.Record.{Record}
 use Rattle.tuples.specs.declared.entry.Entry.{Entry}
 use Rattle.stores.specs.Stores.{RestsOver}
-use Rattle.at_rest.specs.AtRest.{IsAtRest, found_coordinator}
+use Rattle.locked.specs.AtRest.{IsAtRest, found_coordinator}
 
 module _ {D : Type 0} (state : D → State) (honest : D → Type 0) where
   -- it was just opened: what it reads is durable, and nothing was written since

@@ -11,7 +11,7 @@ use Rattle.shard.specs.Shards.{ShardView, WasLeftOrOpened}
 use Rattle.ties.specs.ShardTies.{IsShardTiedUp, RowsAnywhere}
 use Rattle.ties.specs.Ties.{Anywhere, Attempt, IsTiedUp}
 use Rattle.tuples.specs.declared.entry.Entry.{Entry}
-use Rattle.at_rest.specs.AtRest.{IsAtRest, found_coordinator}
+use Rattle.locked.specs.AtRest.{IsAtRest, found_coordinator}
 use Rattle.at_rest.specs.RestingLaws.{AreReadable, IsJustOpened}
 
 module _ {D : Type 0} (state : D → State) (honest : D → Type 0) (moment : D → ℕ) (left_since : D → ℕ → List ℕ → Type 0) (store shards : ℕ) where

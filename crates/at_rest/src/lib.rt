@@ -3,7 +3,7 @@
 //! Keeps: nothing at run time; each law is the contract of a function with an empty body.
 //! Callers rely on: what closed stores leave, and what a stop leaves of a store that is served, is at rest once it is opened again, behind checkpoints too.
 //!
-//! Start at `specs/AtRest.antt`.
+//! Start at `specs/RestingLaws.antt`, and at `AtRest.antt` of `locked`, the premise.
 #![tactic(auto)]
 
 mod resting_laws;

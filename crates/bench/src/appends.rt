@@ -1,6 +1,6 @@
 // How many bodies a log over a file appends, each durable when the call returns.
 use device::Device;
-use files::open;
+use files::{Access, open};
 use gated::GatedLog;
 use measures::timing::{now, print, since};
 use std::alloc::Global;
@@ -31,7 +31,7 @@ pub(crate) fn count_of(words: &[String]) -> Option<u32> {
 /// Appends so many bodies to a log over a file of the current folder, and prints how long they took. What it answers is the bytes of the file.
 pub(crate) fn measure(rt: &HostRuntime, alloc: Global, count: u32) -> Result<(), Refusal> {
     let _ = fs::remove_file(rt, NAME);
-    let device = open(rt, alloc, ".", NAME)?;
+    let device = open(rt, alloc, ".", NAME, Access::Make)?;
     let elapsed = append_to(rt, alloc, device, count)?;
     let Ok(file) = fs::metadata(rt, NAME) else {
         return Err(Refusal::Down);

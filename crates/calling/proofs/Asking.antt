@@ -13,27 +13,28 @@ use Rattle.line_io.specs.Lines.{HasNoFeed}
 use Rattle.calling.specs.Answers.{IsAnswer}
 use Rattle.calling.specs.Sent.{IsAskedAgain, IsPassing, answer_bytes, answers_bytes, times}
 use Rattle.calling.specs.declared.answer.Answered.{Answered}
+use Rattle.calling.specs.declared.kind.Kind.{Kind}
 
 -- The line was sent so many times, and each answer to it was read and was one behind which it may be sent again.
-pub record HasAsked (count : ℕ) (line : List ℕ) (in_before in_now out_before out_now : Option (List ℕ)) : Type 0 where
+pub record HasAsked (count : ℕ) (kind : Kind) (line : List ℕ) (in_before in_now out_before out_now : Option (List ℕ)) : Type 0 where
   pub earlier : List Answered
   pub counted : length earlier ≡ count
-  pub each : All IsPassing earlier
+  pub each : All (IsPassing kind) earlier
   pub read : Consumes in_before in_now (answers_bytes earlier)
   pub sent : Appends out_before out_now (times (length earlier) line)
 
 length_more : (xs : List Answered) (a : Answered) → length (xs ++ a ∷ []) ≡ suc (length xs)
 length_more xs a = omega (arith, length-append xs (a ∷ []))
 
-pub asked_more : (count : ℕ) (line : List ℕ) (i j k o p q : Option (List ℕ)) (a : Answered) → HasAsked count line i j o p → IsAnswer a → IsAskedAgain a.refusal
-    → Consumes j k (answer_bytes a) → Appends p q (line ++ 10 ∷ []) → HasAsked (count + 1) line i k o q
-asked_more count line i j k o p q a h answer again read sent =
+pub asked_more : (count : ℕ) (kind : Kind) (line : List ℕ) (i j k o p q : Option (List ℕ)) (a : Answered) → HasAsked count kind line i j o p → IsAnswer kind a → IsAskedAgain kind a.refusal
+    → Consumes j k (answer_bytes a) → Appends p q (line ++ 10 ∷ []) → HasAsked (count + 1) kind line i k o q
+asked_more count kind line i j k o p q a h answer again read sent =
     let xs = h.earlier in
     let more = length_more xs a in
     let counted = h.counted in record {
       earlier = xs ++ a ∷ [];
       counted = omega arith;
-      each = All-append IsPassing xs (a ∷ []) h.each (All-cons IsPassing a [] (record { answer = answer; again = again }) (All-nil IsPassing));
+      each = All-append (IsPassing kind) xs (a ∷ []) h.each (All-cons (IsPassing kind) a [] (record { answer = answer; again = again }) (All-nil (IsPassing kind)));
       read = subst (Consumes i k) (flat_map_more answer_bytes [] xs a) (Consumes-trans i j k (answers_bytes xs) (answer_bytes a) h.read read);
       sent = subst (λ (n : ℕ). Appends o q (times n line)) (sym more) (Appends-trans o p q (times (length xs) line) (line ++ 10 ∷ []) h.sent sent);
     }

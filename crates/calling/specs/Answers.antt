@@ -1,12 +1,14 @@
 -- What answers say, and how a watch goes on.
-use Rattle.std.specs.Prelude.{◌≡◌, ◌≤◌, ℕ, List, Option, Some, None, codes, option_and_then, option_map, string_bytes}
+use Rattle.std.specs.Prelude.{◌≡◌, ◌≤◌, ℕ, List, Option, Some, None, codes, true, option_and_then, option_map, string_bytes}
 use Rattle.serde_json.specs.Data.{Data, depth, object, put, string}
 use Rattle.serde_json.specs.Find.{as_number, as_str, as_u64, get}
 use Rattle.serde_json.specs.Read.{max_depth, read}
 use Rattle.refusal.specs.declared.refusal.Refusal.{Refusal}
 use Rattle.refusal.specs.Refusals.{number_of}
 use Rattle.line_io.specs.Lines.{HasNoFeed}
+use Rattle.calling.specs.Kinds.{has_answer}
 use Rattle.calling.specs.declared.answer.Answered.{Answered}
+use Rattle.calling.specs.declared.kind.Kind.{Kind}
 
 -- the number that a refusal is told by
 abbrev pub told_number : Data → Option ℕ
@@ -17,17 +19,19 @@ abbrev pub IsRefusal : Option ℕ → Option Refusal → Type 0
 IsRefusal told (Some r) = told ≡ Some (number_of r)
 IsRefusal told None = (r : Refusal) → told ≡ Some (number_of r) → ⊥
 
--- what it says of how to go on
-pub record Says (d : Data) (a : Answered) : Type 0 where
+-- whether it answers such a request, and what it says of how to go on
+pub record Says (kind : Kind) (d : Data) (a : Answered) : Type 0 where
+  pub answers : a.is_answer ≡ has_answer kind d
   pub refusal : IsRefusal (told_number d) a.refusal
   pub heartbeat : option_map string_bytes a.heartbeat ≡ option_and_then as_str (get (codes "heartbeat") d)
 
--- it is one line, and what that says
-pub record IsAnswer (a : Answered) : Type 0 where
+-- it is one line, a refusal or an answer to such a request, and what that says
+pub record IsAnswer (kind : Kind) (a : Answered) : Type 0 where
   pub no_feed : HasNoFeed (string_bytes a.line)
   pub json : Data
   pub reads : read (string_bytes a.line) ≡ Some json
-  pub says : Says json a
+  pub says : Says kind json a
+  pub fits : a.refusal ≡ None → has_answer kind json ≡ true
 
 -- the members of an object, with the heartbeat as their cursor
 abbrev pub onward : List ℕ → Data → Data

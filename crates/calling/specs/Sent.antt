@@ -6,6 +6,8 @@ use Rattle.line_io.specs.Outputs.{HasBegun}
 use Rattle.refusal.specs.declared.refusal.Refusal.{Refusal}
 use Rattle.refusal.specs.declared.refusal.Refusal.TheVariants.{Aborted, Busy, Full, NoMemory}
 use Rattle.calling.specs.declared.answer.Answered.{Answered}
+use Rattle.calling.specs.declared.kind.Kind.{Kind}
+use Rattle.calling.specs.declared.kind.Kind.TheVariants.{Check}
 use Rattle.calling.specs.Answers.{IsAnswer}
 
 -- the line and its line feed, so many times
@@ -13,13 +15,13 @@ abbrev pub times : ℕ → List ℕ → List ℕ
 times zero line = []
 times (suc n) line = times n line ++ (line ++ 10 ∷ [])
 
--- behind it nothing was done, and what was in the way passes by itself
-abbrev pub IsSentAgain : Refusal → Type 0
-IsSentAgain r = IsOneOf r (Busy ∷ Aborted ∷ NoMemory ∷ Full ∷ [])
+-- Behind it nothing was done, and what was in the way passes by itself. The usersets of a check are as many again.
+abbrev pub IsSentAgain : Kind → Refusal → Type 0
+IsSentAgain kind r = IsOneOf r (Busy ∷ Aborted ∷ NoMemory ∷ []) ⊎ ((r ≡ Full) × (kind ≡ Check → ⊥))
 
 -- a request that is answered so may be sent again
-abbrev pub IsAskedAgain : Option Refusal → Type 0
-IsAskedAgain refusal = MatchOption refusal ⊥ IsSentAgain
+abbrev pub IsAskedAgain : Kind → Option Refusal → Type 0
+IsAskedAgain kind refusal = MatchOption refusal ⊥ (IsSentAgain kind)
 
 -- the bytes of an answer, and of some, one behind the other
 abbrev pub answer_bytes : Answered → List ℕ
@@ -29,26 +31,26 @@ abbrev pub answers_bytes : List Answered → List ℕ
 answers_bytes = flat_map answer_bytes
 
 -- an answer behind which the request may be sent again
-pub record IsPassing (a : Answered) : Type 0 where
-  pub answer : IsAnswer a
-  pub again : IsAskedAgain a.refusal
+pub record IsPassing (kind : Kind) (a : Answered) : Type 0 where
+  pub answer : IsAnswer kind a
+  pub again : IsAskedAgain kind a.refusal
 
 -- The line was sent once, and once more behind each earlier answer, of which there are at most so many: each was one behind which it may be sent again. These
 -- answers were read, and then this last one: there were as many as there may be, or it is none behind which it may be sent again. Nothing else was read or sent.
-pub record SendsAgain (most : ℕ) (line : List ℕ) (in_before in_after out_before out_after : Option (List ℕ)) (last : Answered) : Type 0 where
+pub record SendsAgain (most : ℕ) (kind : Kind) (line : List ℕ) (in_before in_after out_before out_after : Option (List ℕ)) (last : Answered) : Type 0 where
   pub earlier : List Answered
   pub few : length earlier ≤ most
-  pub each : All IsPassing earlier
-  pub answer : IsAnswer last
-  pub ends : (length earlier ≡ most) ⊎ (IsAskedAgain last.refusal → ⊥)
+  pub each : All (IsPassing kind) earlier
+  pub answer : IsAnswer kind last
+  pub ends : (length earlier ≡ most) ⊎ (IsAskedAgain kind last.refusal → ⊥)
   pub read : Consumes in_before in_after (answers_bytes earlier ++ answer_bytes last)
   pub sent : Appends out_before out_after (times (suc (length earlier)) line)
 
 -- The line was sent once behind each earlier answer, as it may be, and then a beginning of it once more at most; no answer to that was read.
-pub record StopsAsking (most : ℕ) (line : List ℕ) (in_before out_before out_after : Option (List ℕ)) : Type 0 where
+pub record StopsAsking (most : ℕ) (kind : Kind) (line : List ℕ) (in_before out_before out_after : Option (List ℕ)) : Type 0 where
   pub earlier : List Answered
   pub few : length earlier ≤ most
-  pub each : All IsPassing earlier
+  pub each : All (IsPassing kind) earlier
   pub in_now : Option (List ℕ)
   pub read : Consumes in_before in_now (answers_bytes earlier)
   pub out_now : Option (List ℕ)

@@ -4,6 +4,7 @@ ghost use Rattle.calling.specs.Sent.{IsSentAgain};
 ghost use Rattle.refusal.specs.Refusals.{number_of};
 ghost use Rattle.refusal.specs.declared.refusal.Refusal.{Refusal as AnyRefusal};
 
+use crate::kind::Kind;
 use refusal::Refusal;
 
 /// The refusal with this number.
@@ -31,62 +32,61 @@ pub fn refusal_of(number: u64) -> Option<Refusal>
     }
 }
 
-/// Whether the same request may be sent again, and may then be answered: nothing was done, and what was in the way passes by itself.
-pub fn is_sent_again(refusal: Refusal) -> bool
-    ensures { IsTrue result ↔ IsSentAgain refusal }
+/// Whether the same request may be sent again, and may then be answered: nothing was done, and what was in the way passes by itself. A check that is `15 Full`
+/// goes through too many usersets, and does so again.
+pub fn is_sent_again(kind: Kind, refusal: Refusal) -> bool
+    ensures { IsTrue result ↔ IsSentAgain kind refusal }
 {
-    matches!(
-        refusal,
-        Refusal::Busy | Refusal::Aborted | Refusal::NoMemory | Refusal::Full
-    )
+    match refusal {
+        Refusal::Busy | Refusal::Aborted | Refusal::NoMemory => true,
+        Refusal::Full => !matches!(kind, Kind::Check),
+        _ => false,
+    }
 }
 
-/// The cause, and what a client does about it, as docs/API.md has them.
-pub fn advice(refusal: Refusal) -> &'static str {
+/// What is wrong, and what whoever sits at a terminal does about it, as docs/API.md has it.
+pub fn advice(kind: Kind, refusal: Refusal) -> &'static str {
     match refusal {
-        Refusal::BadRequest => {
-            "the line or request is not in its grammar, or a write has no change; a client mends the request"
-        }
-        Refusal::BadTuple => "a text is no tuple, tupleset or name; a client mends the text",
+        Refusal::BadRequest => "invalid request, or a write without a change: fix the request",
+        Refusal::BadTuple => "invalid tuple, tupleset or name: fix the text",
         Refusal::TooLarge => {
-            "more changes, conditions, tuplesets, namespaces or bytes than a limit allows; a client makes several requests of it; a write that is cut is no longer one write"
+            "too many changes, conditions, tuplesets, namespaces or bytes: send several requests; a write that is split is no longer one write"
         }
         Refusal::Repeated => {
-            "two changes, or two conditions, of one write name one tuple; a client leaves one of them out"
+            "two changes, or two conditions, of the write name one tuple: leave one of them out"
         }
-        Refusal::BadZookie => {
-            "the text is no zookie; a client takes the token from an answer, as it was"
-        }
-        Refusal::WrongStore => {
-            "the zookie is that of another store; a client asks the store that gave it"
-        }
+        Refusal::BadZookie => "invalid token: take it from an answer, unchanged",
+        Refusal::WrongStore => "the token is another store's: ask the store that gave it",
         Refusal::Future => {
-            "a place above the end of the log; a client takes a token that this store gave: each of those lies in the log"
+            "the token's place is above the end of the log: use a token that this store gave"
         }
         Refusal::Collected => {
-            "a place below the horizon; a client asks for a later place; a watcher reads all anew and goes on from there"
+            "the place is below the horizon: use a later token; a watch goes on from the token of a dump"
         }
         Refusal::Precondition => {
-            "a condition of the write is not met; a client reads again, and decides anew whether to write"
+            "a condition is not met: read again, and decide anew whether to write"
         }
-        Refusal::Busy => {
-            "a write in doubt holds one of the tuples; a client writes again after a moment"
-        }
+        Refusal::Busy => "a write in doubt holds one of the tuples: retry after a moment",
         Refusal::Aborted => {
-            "the coordinator or a participant was opened again since the write began; a client writes again"
+            "the coordinator or a shard was opened again since the write began: retry"
         }
         Refusal::Unsure => {
-            "the coordinator failed or was opened again behind the decision; a client reads what became of the write: it stands whole, or not at all"
+            "it is unknown whether the write was made: read before you send it again"
         }
-        Refusal::Down => {
-            "a device of the node failed or had no room for a batch more, and the node was not opened again since; a client has the node opened again, then asks again"
-        }
-        Refusal::NoMemory => "memory was refused; a client asks again once there is memory",
-        Refusal::Full => {
-            "a limit is met: open writes, flows, the bytes or records of a batch, usersets of a check, numbers; a client asks again once others are done, or asks for less"
-        }
+        Refusal::Down => "restart the server, then retry",
+        Refusal::NoMemory => "memory was refused: retry once there is memory",
+        Refusal::Full => full_advice(kind),
         Refusal::Damaged => {
-            "what lies on the devices was not left there by this node of this store; a client gives the node its own devices, or a copy of them: no call mends this"
+            "stop the server and restore a whole copy: no request can repair this"
         }
+    }
+}
+
+fn full_advice(kind: Kind) -> &'static str {
+    match kind {
+        Kind::Check => {
+            "the check goes through more than 4096 usersets, and would do so again: ask for less"
+        }
+        _ => "a limit is met: retry once others are done, or ask for less",
     }
 }

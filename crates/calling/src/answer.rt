@@ -6,8 +6,10 @@ ghost use Rattle.serde_json.specs.Find.{as_str, get};
 ghost use Rattle.serde_json.specs.Read.{read};
 ghost use Rattle.serde_json.specs.View.{members_view, view};
 ghost use Rattle.calling.specs.Answers.{GoesOn, IsRefusal, Says, told_number};
+ghost use Rattle.calling.specs.Kinds.{has_answer, has_bool, has_list, has_text};
 
 use crate::advising::refusal_of;
+use crate::kind::Kind;
 use refusal::Refusal;
 use serde_json::{Error, Map, Value};
 use std::alloc::{AllocError, Global};
@@ -20,21 +22,55 @@ pub struct Answered {
     pub refusal: Option<Refusal>,
     /// Where a watch goes on.
     pub heartbeat: Option<String>,
+    /// Whether it has what an answer to the request has.
+    pub is_answer: bool,
 }
 
-/// What the line says. An `Err` is for want of memory, or the line is no JSON.
-pub fn read_answer(alloc: Global, line: String) -> Result<Answered, Error>
-    ensures ok { IfOk result (λ a. (d : Data) × (a.line ≡ line) × (read (string_bytes line) ≡ Some d) × Says d a) }
+/// What the line says to a request of this kind. An `Err` is for want of memory, or the line is no JSON.
+pub fn read_answer(alloc: Global, kind: Kind, line: String) -> Result<Answered, Error>
+    ensures ok { IfOk result (λ a. (d : Data) × (a.line ≡ line) × (read (string_bytes line) ≡ Some d) × Says kind d a) }
     ensures err { IfErr result (λ e. (IsMemory e → ⊥) → read (string_bytes line) ≡ None) }
 {
     let value = Value::from_str(alloc, line.as_str())?;
     let refusal = refusal_in(&value);
     let heartbeat = heartbeat_in(alloc, &value)?;
+    let is_answer = is_answer_to(kind, &value);
     Ok(Answered {
         line,
         refusal,
         heartbeat,
+        is_answer,
     })
+}
+
+fn is_answer_to(kind: Kind, value: &Value) -> bool
+    ensures { result ≡ has_answer kind (view value.now) }
+{
+    match kind {
+        Kind::Write => is_text(value, "zookie"),
+        Kind::Read => is_list(value, "sets") && is_text(value, "zookie"),
+        Kind::Check => is_bool(value, "member") && is_text(value, "zookie"),
+        Kind::Watch => is_list(value, "events") && is_text(value, "heartbeat"),
+        Kind::Other => false,
+    }
+}
+
+fn is_text(value: &Value, key: &str) -> bool
+    ensures { result ≡ has_text key.now (view value.now) }
+{
+    value.get(key).and_then(Value::as_str).is_some()
+}
+
+fn is_list(value: &Value, key: &str) -> bool
+    ensures { result ≡ has_list key.now (view value.now) }
+{
+    value.get(key).and_then(Value::as_array).is_some()
+}
+
+fn is_bool(value: &Value, key: &str) -> bool
+    ensures { result ≡ has_bool key.now (view value.now) }
+{
+    value.get(key).and_then(Value::as_bool).is_some()
 }
 
 fn refusal_in(value: &Value) -> Option<Refusal>

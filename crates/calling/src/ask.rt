@@ -9,6 +9,7 @@ ghost use Rattle.line_io.specs.Outputs.{HasBegun};
 use crate::advising::is_sent_again;
 use crate::answer::{Answered, read_answer};
 use crate::fault::Fault;
+use crate::kind::{Kind, RequestLine};
 use line_io::write_all;
 use refusal::Refusal;
 use std::alloc::{AllocError, Global};
@@ -28,15 +29,15 @@ pub fn ask_again<C: Clock, I: BufRead, O: Write>(
     alloc: Global,
     input: &mut I,
     output: &mut O,
-    request: &str,
+    request: &RequestLine,
     retry: u64,
 ) -> Result<Answered, Fault>
-    ensures ok { IfOk result (SendsAgain retry request.now (I.remaining input.old) (I.remaining input.new) (O.contents output.old) (O.contents output.new)) }
-    ensures err { OnErr result (StopsAsking retry request.now (I.remaining input.old) (O.contents output.old) (O.contents output.new)) }
+    ensures ok { IfOk result (SendsAgain retry request.now.kind (string_bytes request.now.line) (I.remaining input.old) (I.remaining input.new) (O.contents output.old) (O.contents output.new)) }
+    ensures err { OnErr result (StopsAsking retry request.now.kind (string_bytes request.now.line) (I.remaining input.old) (O.contents output.old) (O.contents output.new)) }
 {
     for number in 0..retry {
         let answered = ask(alloc, input, output, request)?;
-        if !is_asked_again(answered.refusal) {
+        if !is_asked_again(request.kind, answered.refusal) {
             return Ok(answered);
         }
         pause(clock, number);
@@ -44,11 +45,11 @@ pub fn ask_again<C: Clock, I: BufRead, O: Write>(
     ask(alloc, input, output, request)
 }
 
-fn is_asked_again(refusal: Option<Refusal>) -> bool
-    ensures { IsTrue result ↔ IsAskedAgain refusal }
+fn is_asked_again(kind: Kind, refusal: Option<Refusal>) -> bool
+    ensures { IsTrue result ↔ IsAskedAgain kind refusal }
 {
     match refusal {
-        Some(refusal) => is_sent_again(refusal),
+        Some(refusal) => is_sent_again(kind, refusal),
         None => false,
     }
 }
@@ -65,16 +66,21 @@ fn ask<I: BufRead, O: Write>(
     alloc: Global,
     input: &mut I,
     output: &mut O,
-    request: &str,
+    request: &RequestLine,
 ) -> Result<Answered, Fault>
-    ensures sent { OnOk result (Appends (O.contents output.old) (O.contents output.new) (request.now ++ 10 ∷ [])) }
+    ensures sent { OnOk result (Appends (O.contents output.old) (O.contents output.new) (string_bytes request.now.line ++ 10 ∷ [])) }
     ensures read { IfOk result (λ a. Consumes (I.remaining input.old) (I.remaining input.new) (answer_bytes a)) }
-    ensures answer { IfOk result IsAnswer }
-    ensures err { OnErr result (HasBegun (O.contents output.old) (O.contents output.new) (request.now ++ 10 ∷ [])) }
+    ensures answer { IfOk result (IsAnswer request.now.kind) }
+    ensures err { OnErr result (HasBegun (O.contents output.old) (O.contents output.new) (string_bytes request.now.line ++ 10 ∷ [])) }
 {
-    send(alloc, output, request)?;
+    send(alloc, output, request.line.as_str())?;
     let line = receive(alloc, input)?;
-    Ok(read_answer(alloc, line)?)
+    let answered = read_answer(alloc, request.kind, line)?;
+    if answered.refusal.is_none() && !answered.is_answer {
+        drop(answered);
+        return Err(Fault::Stranger);
+    }
+    Ok(answered)
 }
 
 fn send<O: Write>(alloc: Global, output: &mut O, request: &str) -> Result<(), Fault>
@@ -84,7 +90,7 @@ fn send<O: Write>(alloc: Global, output: &mut O, request: &str) -> Result<(), Fa
     let bytes = with_feed(alloc, request)?;
     match write_all(output, &bytes) {
         Ok(()) => Ok(()),
-        Err(error) => Err(Fault::Gone(error)),
+        Err(error) => Err(Fault::of_connection(error)),
     }
 }
 
@@ -111,6 +117,6 @@ fn receive<I: BufRead>(alloc: Global, input: &mut I) -> Result<String, Fault>
                 Err(Fault::Gone(ErrorKind::UnexpectedEof.into()))
             }
         }
-        Err(error) => Err(Fault::Gone(error)),
+        Err(error) => Err(Fault::of_connection(error)),
     }
 }

@@ -1,6 +1,7 @@
 // Why a call ends before its last request.
 use serde_json::Error;
 use std::alloc::AllocError;
+use std::io::ErrorKind;
 use std::{fmt, io};
 
 /// Why a call ends before its last request.
@@ -8,10 +9,18 @@ use std::{fmt, io};
 pub enum Fault {
     /// The connection could not be made.
     Connect(io::Error),
+    /// The connection was not made in the time that was given.
+    Unreached,
     /// The connection failed or ended before an answer.
     Gone(io::Error),
-    /// The answer can't be read.
+    /// No answer came in the time that was given.
+    Late,
+    /// The answer is no JSON.
     Answer(Error),
+    /// The answer is none to such a request, and no refusal.
+    Stranger,
+    /// `--follow` stands before a request that is no watch.
+    Follow,
     /// Standard input could not be read.
     Input(io::Error),
     /// Standard output could not be written.
@@ -19,15 +28,41 @@ pub enum Fault {
     NoMemory,
 }
 
+impl Fault {
+    /// What the error of a connection means: where a read or a write would have waited longer than it may, it is late.
+    pub(crate) fn of_connection(error: io::Error) -> Fault {
+        if error.kind() == ErrorKind::WouldBlock {
+            Fault::Late
+        } else {
+            Fault::Gone(error)
+        }
+    }
+
+    /// What the error of a connection that was not made means, where it was waited for so many seconds at most.
+    pub(crate) fn of_connecting(error: io::Error, timeout: Option<u64>) -> Fault {
+        if timeout.is_some() && error.kind() == ErrorKind::TimedOut {
+            Fault::Unreached
+        } else {
+            Fault::Connect(error)
+        }
+    }
+
+    /// Whether it is that the connection was not made.
+    pub(crate) fn is_of_connecting(&self) -> bool {
+        matches!(self, Fault::Connect(_) | Fault::Unreached)
+    }
+}
+
 impl fmt::Display for Fault {
     fn fmt<W: fmt::Write>(&self, f: &mut fmt::Formatter<W>) -> fmt::Result {
         match self {
             Fault::Connect(error) => write!(f, "no connection: {error}"),
-            Fault::Gone(error) => write!(
-                f,
-                "the connection ended before an answer, and nobody knows whether a write stands: {error}"
-            ),
+            Fault::Unreached => write!(f, "no connection within the --timeout"),
+            Fault::Gone(error) => write!(f, "the connection ended before an answer: {error}"),
+            Fault::Late => write!(f, "no answer within the --timeout"),
             Fault::Answer(error) => write!(f, "an answer can't be read: {error}"),
+            Fault::Stranger => write!(f, "an answer can't be read: it is none to such a request"),
+            Fault::Follow => write!(f, "--follow stands before a watch, and this is none"),
             Fault::Input(error) => write!(f, "the input can't be read: {error}"),
             Fault::Output(error) => write!(f, "the output can't be written: {error}"),
             Fault::NoMemory => write!(f, "no memory"),

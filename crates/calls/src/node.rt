@@ -178,6 +178,24 @@ impl<D: Device> Node<D> {
         }
     }
 
+    /// How many bytes a checkpoint of what it knows has; none where its opening was refused, or there is no memory to tell.
+    pub fn checkpoint_len(&self) -> Option<u64> {
+        match &self.opened {
+            Opened::Coordinator(coordinator) => coordinator.checkpoint_len(self.alloc).ok(),
+            Opened::Shard(shard) => shard.checkpoint_len(self.alloc).ok(),
+            Opened::Refused(_) => None,
+        }
+    }
+
+    /// Whether its disk has the room for a checkpoint of so many bytes, as far as that can be told.
+    pub fn has_point_room(&self, len: u64) -> bool {
+        match &self.opened {
+            Opened::Coordinator(coordinator) => coordinator.has_point_room(len),
+            Opened::Shard(shard) => shard.has_point_room(len),
+            Opened::Refused(_) => true,
+        }
+    }
+
     /// Its devices.
     pub fn devices(&self) -> (&D, &D)
         ensures { (result.0.now, result.1.now) ≡ devices_of self.now }

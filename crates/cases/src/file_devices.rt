@@ -2,7 +2,7 @@
 use crate::disks::disk_of;
 use crate::log_bytes::opened;
 use device::{Device, Stopped};
-use files::{Broken, FileDevice, RawFile, open};
+use files::{Access, Broken, FileDevice, RawFile, Unopened, open};
 use refusal::Refusal;
 use std::alloc::Global;
 use std::os::unix::fs::symlink;
@@ -62,6 +62,10 @@ impl RawFile for Struck {
 
     fn sync(&mut self) -> Result<(), Broken> {
         self.call()
+    }
+
+    fn has_room(&self, _len: usize) -> bool {
+        true
     }
 }
 
@@ -190,7 +194,7 @@ fn has_life<A: Device, B: Device>(alloc: Global, file: &mut A, disk: &mut B, see
 
 // A life of the file: whether it finds what the disk has.
 fn lives_as<D: Device>(rt: &HostRuntime, folder: &str, disk: &mut D, seed: u64) -> bool {
-    match open(rt, rt.alloc(), folder, NAME) {
+    match open(rt, rt.alloc(), folder, NAME, Access::Make) {
         Ok(mut device) => has_life(rt.alloc(), &mut device, disk, seed),
         Err(_) => false,
     }
@@ -237,7 +241,7 @@ fn found_by<D: Device>(alloc: Global, device: D) -> Result<usize, Refusal> {
 
 // The same of the file.
 fn found_in(rt: &HostRuntime, folder: &str) -> Result<usize, Refusal> {
-    let device = open(rt, rt.alloc(), folder, NAME)?;
+    let device = open(rt, rt.alloc(), folder, NAME, Access::Make)?;
     found_by(rt.alloc(), device)
 }
 
@@ -253,7 +257,13 @@ fn a_log_is_found_by_the_next_life_of_its_file(rt: HostRuntime) {
 
 // Whether the file is refused to another life.
 fn is_taken(rt: &HostRuntime, folder: &str) -> bool {
-    matches!(open(rt, rt.alloc(), folder, NAME), Err(Refusal::Down))
+    matches!(
+        open(rt, rt.alloc(), folder, NAME, Access::Make),
+        Err(Unopened {
+            refusal: Refusal::Down,
+            ..
+        })
+    )
 }
 
 // Whether its file is refused to another life while this one goes on.
@@ -270,14 +280,14 @@ fn keeps_others_out<D: Device>(
 }
 
 fn is_kept(rt: &HostRuntime, folder: &str) -> bool {
-    match open(rt, rt.alloc(), folder, NAME) {
+    match open(rt, rt.alloc(), folder, NAME, Access::Make) {
         Ok(mut device) => keeps_others_out(rt, folder, &mut device) == Ok(true),
         Err(_) => false,
     }
 }
 
 fn is_found(rt: &HostRuntime, folder: &str) -> bool {
-    match open(rt, rt.alloc(), folder, NAME) {
+    match open(rt, rt.alloc(), folder, NAME, Access::Make) {
         Ok(mut device) => begins_with(&mut device, b"ABCDefgh"),
         Err(_) => false,
     }
@@ -308,7 +318,7 @@ fn make_files(rt: &HostRuntime) -> bool {
 }
 
 fn opens(rt: &HostRuntime, folder: &str, name: &str) -> bool {
-    open(rt, rt.alloc(), folder, name).is_ok()
+    open(rt, rt.alloc(), folder, name, Access::Make).is_ok()
 }
 
 const OPENED: &[(&str, &str, bool)] = &[

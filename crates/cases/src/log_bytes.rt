@@ -91,12 +91,17 @@ fn an_opening_finds_the_bodies_or_damage(rt: HostRuntime) {
     }
 }
 
+/// The prepare between four bytes and one.
+fn buffer() -> [u8; 45] {
+    let mut buf = [7; 45];
+    buf[4..44].copy_from_slice(&PREPARE);
+    buf
+}
+
 /// Whether an append of the prepare fails where its n-th call is struck, which is one of four.
 fn append_struck<D: Device>(log: &mut GatedLog<D>, n: u64, tear: Tear) -> bool {
     log.fail(n, tear);
-    let mut buf = [7; 45];
-    buf[4..44].copy_from_slice(&PREPARE);
-    log.append(&mut buf).is_ok() == (n > 4)
+    log.append(&mut buffer()).is_ok() == (n > 4)
 }
 
 /// Whether these bytes are left by an append behind what the device has, whose n-th call failed, or by a whole one.
@@ -150,5 +155,69 @@ const APPENDED: &[(u64, Tear, Option<u8>)] = &[
 fn an_append_writes_the_record_and_then_its_gate(rt: HostRuntime) {
     for &(n, tear, gate) in APPENDED {
         assert!(rt; leaves_gate(rt.alloc(), n, tear, gate), "{n} {tear:?}");
+    }
+}
+
+/// How many calls of its disk a log has made behind each step: its opening, a list that is emptied, an empty one, two bodies ahead, and their publishing.
+fn calls_of_steps(alloc: Global) -> Result<[u64; 6], Refusal> {
+    let (mut log, _) = opened(alloc, disk_of(alloc, BATCH)?)?;
+    let mut calls = [log.device().calls(); 6];
+    log.clear()?;
+    calls[1] = log.device().calls();
+    log.clear()?;
+    calls[2] = log.device().calls();
+    log.write_ahead(&mut buffer())?;
+    calls[3] = log.device().calls();
+    log.write_ahead(&mut buffer())?;
+    calls[4] = log.device().calls();
+    log.publish()?;
+    calls[5] = log.device().calls();
+    Ok(calls)
+}
+
+/// Writes two bodies ahead, and publishes them.
+fn publish_two<D: Device>(log: &mut GatedLog<D>) -> Result<(), Refusal> {
+    log.write_ahead(&mut buffer())?;
+    log.write_ahead(&mut buffer())?;
+    log.publish()
+}
+
+/// How many bodies the next opening finds, where the n-th call of that was struck behind the batch.
+fn found_behind(alloc: Global, n: u64, tear: Tear) -> Result<usize, Refusal> {
+    let (mut log, _) = opened(alloc, disk_of(alloc, BATCH)?)?;
+    log.fail(n, tear);
+    let _ = publish_two(&mut log);
+    let mut disk = log.into_device();
+    if disk.revive().is_err() {
+        return Err(Refusal::Down);
+    }
+    Ok(opened(alloc, disk)?.1)
+}
+
+/// Which of the six calls is struck and how, and how many bodies are found then.
+const PUBLISHED: &[(u64, Tear, usize)] = &[
+    (1, Tear::New, 1),
+    (2, Tear::Fill(0xa5), 1),
+    // The last gate, and the sync that makes all before it durable.
+    (3, Tear::Fill(0xa5), 1),
+    (4, Tear::Old, 1),
+    (4, Tear::New, 1),
+    (4, Tear::Fill(0xa5), 1),
+    // The first gate, and its sync.
+    (5, Tear::Old, 1),
+    (5, Tear::Fill(7), 1),
+    (5, Tear::Fill(0xa5), 3),
+    (6, Tear::Old, 1),
+    (6, Tear::New, 3),
+    // None: the next opening makes three calls more.
+    (10, Tear::Old, 3),
+];
+
+#[test]
+fn bodies_ahead_wait_for_one_sync(rt: HostRuntime) {
+    let alloc = rt.alloc();
+    assert!(rt; calls_of_steps(alloc) == Ok([3, 5, 5, 6, 7, 11]));
+    for &(n, tear, count) in PUBLISHED {
+        assert!(rt; found_behind(alloc, n, tear) == Ok(count), "{n} {tear:?}");
     }
 }

@@ -14,10 +14,10 @@ use crate::Coordinator;
 use crate::coordinator::rise;
 use crate::known::Known;
 use device::Device;
-use journal::Journal;
+use journal::{Journal, len_of};
 use ledger::Ledger;
 use records::{Identity, Record};
-use std::alloc::Global;
+use std::alloc::{AllocError, Global};
 use tuples::Refusal;
 
 // The horizon once what is staged is durable.
@@ -75,6 +75,19 @@ fn write<D: Device>(
 }
 
 impl<D: Device> Coordinator<D> {
+    /// How many bytes a checkpoint of what the coordinator knows has, but for the few around its records. It takes the memory of one batch.
+    pub fn checkpoint_len(&self, alloc: Global) -> Result<u64, AllocError> {
+        let horizon = risen(self.horizon, self.rising);
+        let heads = heads(self.me, self.epoch, horizon);
+        let mut known = Known::new(&heads, &self.ledger, horizon);
+        len_of(alloc, &mut known)
+    }
+
+    /// Whether the disk has the room for a checkpoint of so many bytes, as far as that can be told (`Device::has_room`).
+    pub fn has_point_room(&self, len: u64) -> bool {
+        self.journal.has_point_room(len)
+    }
+
     /// Makes durable what is staged, and then a checkpoint of what the coordinator knows in place of all its records: the decisions at or below
     /// the horizon, a staged one too, are in it no more. It takes the memory of one batch, before any call of a device.
     ///

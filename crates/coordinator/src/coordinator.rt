@@ -71,6 +71,7 @@ impl<D: Device> Coordinator<D> {
         ensures ok { IsRunning D.state D.honest self.old → OnOk result (IsRunning D.state D.honest self.new × FlushesAll self.old self.new) }
         ensures keeps { KeepsOpen self.old self.new }
         ensures end { OnOk result ((self.old.staged ≡ []) ⊎ (self.new.end ≡ after_batch (coordinator_journal self.old))) }
+        ensures unmoved { OnErr result (self.new.end ≡ self.old.end) }
         ensures counts { ((D.state self.old.a).failures ≤ (D.state self.new.a).failures) × ((D.state self.old.b).failures ≤ (D.state self.new.b).failures) }
         ensures up { OnOk result ((self.old.is_down ≡ false) × (self.new.is_down ≡ false) × (self.new.staged ≡ [])) }
 

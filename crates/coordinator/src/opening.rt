@@ -1,5 +1,5 @@
 // Opening a coordinator: what an opening has to know of it, and the coordinator of what was opened.
-ghost use Rattle.std.specs.Prelude.{◌≡◌, ◌⊎◌, ◌↔◌, List, Some, [], true, false, IfOk, IfErr, IsErr, MatchResult, ◌∷◌};
+ghost use Rattle.std.specs.Prelude.{◌≡◌, ◌⊎◌, ◌↔◌, ◌≤◌, List, Some, [], true, false, IfOk, IfErr, IsErr, MatchResult, ◌∷◌};
 ghost use Rattle.refusal.specs.Refusals.{IsOneOf};
 ghost use Rattle.device.specs.Device.{HasFailed};
 ghost use Rattle.journal.specs.Records.{LeavesBoth, found};
@@ -69,6 +69,10 @@ impl<D: Device> Coordinator<D> {
         ensures down { IfErr result (λ e. e.refusal ≡ Refusal.Down → HasFailed (D.state a) (D.state e.a) ⊎ (HasFailed (D.state b) (D.state e.b) ⊎ HasNoRoomToOpen D.state D.honest a b me)) }
         ensures err { IfErr result (λ e. IsOneOf e.refusal (Refusal.Down ∷ Refusal.NoMemory ∷ Refusal.Full ∷ Refusal.Damaged ∷ [])) }
         ensures stopped { ((D.state a).stopped ≡ true) ⊎ ((D.state b).stopped ≡ true) → IsErr result }
+        ensures counts_a { MatchResult result (λ s. (D.state a).failures ≤ (D.state s.a).failures) (λ e. (D.state a).failures ≤ (D.state e.a).failures) }
+        ensures counts_b { MatchResult result (λ s. (D.state b).failures ≤ (D.state s.b).failures) (λ e. (D.state b).failures ≤ (D.state e.b).failures) }
+        ensures none { MatchResult result (λ s. ((D.state s.a).failures ≡ (D.state a).failures) × ((D.state s.b).failures ≡ (D.state b).failures))
+            (λ e. (e.refusal ≡ Refusal.Down) ⊎ (((D.state e.a).failures ≡ (D.state a).failures) × ((D.state e.b).failures ≡ (D.state b).failures))) }
 
         // At every moment of the call a stop leaves what it could leave before, or the records found, with this opening's or without.
         ensures any_moment { D.honest a → D.honest b → MatchResult result

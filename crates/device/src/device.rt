@@ -90,6 +90,10 @@ pub trait Device: Drop {
     fn failures(&self) -> u64
         ensures { result ≡ (state self.now).failures };
 
+    /// Whether it can be made so many bytes long, as far as that can be told. Where it answers so it may have taken the room, and others who write to the same
+    /// disk take none of it. It is advice: nothing that is stored changes, no failure is counted, and no clause holds the device to its answer.
+    fn has_room(&self, len: usize) -> bool;
+
     /// Sets a script in place of the one that there was, and changes nothing else.
     fn fail(&mut self, n: u64, tear: Tear)
         ensures set { set_to_fail self.new n tear }

@@ -156,6 +156,11 @@ impl Device for SimDisk {
         self.faults.failures
     }
 
+    // Its bytes are in memory, of which each write tells for itself.
+    fn has_room(&self, _len: usize) -> bool {
+        true
+    }
+
     fn fail(&mut self, n: u64, tear: Tear)
         ensures set { is_set_to_fail self.new n tear }
         ensures same { state_of self.new ≡ state_of self.old }

@@ -1,9 +1,12 @@
 // A dump of a store that a folder keeps.
-ghost use Rattle.std.specs.Prelude.{◌≡◌, ◌≤◌, ◌⊎◌, OnOk};
+ghost use Rattle.std.specs.Prelude.{◌≡◌, ◌≤◌, ◌⊎◌, ◌+◌, ◌*◌, All, OnOk, vec_len};
 ghost use Rattle.dumping.specs.Folders.{DumpsFiles};
+ghost use Rattle.node_files.specs.Devices.{IsFound};
 
 use crate::over_devices::{Fault, dump_over};
-use node_files::open_all;
+use files::{FileDevice, HostFile};
+use node_files::{Mode, Trouble, open_all};
+use reshard::blamed;
 use std::io;
 use tuples::Shards;
 
@@ -11,11 +14,10 @@ use tuples::Shards;
 const FAILED: u8 = 1;
 
 /// Writes all tuples of the store that the folder keeps to standard output, at the place, or at the latest, and says on standard error why it did not:
-/// `zanstore: 13 Down` where a file can't be opened, or another process has it, and else the refusal of a node or of the place, or `zanstore: output`. The
-/// status is 0 or 1.
+/// `zanstore: 13 Down` where a file can't be opened, or another process has it, and else the refusal of a node or of the place, with a second line on what
+/// that is about if it is known; or `zanstore: output`. The status is 0 or 1.
 ///
-/// Files that are missing are made, and each node's opening adds a record of that to its file, as each start of a server does. A shard that has to learn what
-/// was kept may write what it learns.
+/// Nothing is written to the files, and none is made.
 pub fn dump_folder(
     rt: &HostRuntime,
     folder: &str,
@@ -28,36 +30,64 @@ pub fn dump_folder(
 {
     match write_folder(rt, folder, store, shards, at) {
         Ok(()) => 0,
-        Err(fault) => tell(rt, fault),
+        Err(failure) => tell(rt, &failure),
     }
 }
 
-// That the devices are over files of this folder, and the writer the standard output, no clause can say.
+// Why a folder was not dumped, or not to the end.
+#[derive(Drop)]
+enum Failure {
+    Refused(Trouble),
+    Unwritten,
+}
+
+// That the devices are over files of this folder no clause can say.
 fn write_folder(
     rt: &HostRuntime,
     folder: &str,
     store: u64,
     shards: Shards,
     at: Option<u64>,
-) -> Result<(), Fault>
+) -> Result<(), Failure>
     ensures { OnOk result (DumpsFiles store shards at) }
 {
-    match open_all(rt, folder, shards) {
-        Ok(devices) => {
-            let mut writer = io::writer(rt);
-            dump_over(rt.alloc(), store, shards, at, devices, &mut writer)
-        }
-        Err(refusal) => Err(Fault::Refused(refusal)),
+    match open_all(rt, folder, store, shards, Mode::Look) {
+        Ok(opened) => write_devices(rt, folder, store, shards, at, opened.devices),
+        Err(unopened) => Err(Failure::Refused(Trouble::from(unopened))),
     }
 }
 
-fn tell(rt: &HostRuntime, fault: Fault) -> u8
+// That the writer is the standard output no clause can say.
+fn write_devices(
+    rt: &HostRuntime,
+    folder: &str,
+    store: u64,
+    shards: Shards,
+    at: Option<u64>,
+    devices: Vec<FileDevice<HostFile>>,
+) -> Result<(), Failure>
+    requires count { vec_len devices ≡ 2 * (shards + 1) }
+    requires found { All (λ d. IsFound d.history.events d.is_stopped d.failures) devices.items }
+    ensures { OnOk result (DumpsFiles store shards at) }
+{
+    let mut writer = io::writer(rt);
+    match dump_over(rt.alloc(), store, shards, at, devices, &mut writer) {
+        Ok(()) => Ok(()),
+        Err(Fault::Unwritten) => Err(Failure::Unwritten),
+        Err(Fault::Refused(refusal)) => {
+            let trouble = blamed(rt, folder, store, shards, refusal);
+            Err(Failure::Refused(trouble))
+        }
+    }
+}
+
+fn tell(rt: &HostRuntime, failure: &Failure) -> u8
     ensures { result ≡ 1 }
 {
     // A text that can't be printed changes nothing of the status.
-    let _ = match fault {
-        Fault::Refused(refusal) => eprintln!(rt; "zanstore: {refusal}"),
-        Fault::Unwritten => eprintln!(rt; "zanstore: output"),
+    let _ = match failure {
+        Failure::Refused(trouble) => eprintln!(rt; "{trouble}"),
+        Failure::Unwritten => eprintln!(rt; "zanstore: output"),
     };
     FAILED
 }

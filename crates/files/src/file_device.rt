@@ -64,15 +64,21 @@ impl<F: RawFile> FileDevice<F> {
         })
     }
 
-    /// How many bytes were found, as long as nothing was written; behind the first write 0.
-    pub fn found_len(&self) -> usize
-        ensures found { IfSome self.now.found (λ v. result ≡ vec_len v) }
-        ensures none { self.now.found ≡ None → result ≡ 0 }
+    /// What was found, as long as nothing was written; behind the first write nothing.
+    pub fn found(&self) -> &[u8]
+        ensures found { IfSome self.now.found (λ v. result.now ≡ v.items) }
+        ensures none { self.now.found ≡ None → result.now ≡ [] }
     {
         match &self.found {
-            Some(found) => found.len(),
-            None => 0,
+            Some(found) => found,
+            None => &[],
         }
+    }
+
+    pub(crate) fn file(&self) -> &F
+        ensures { result.now ≡ self.now.file }
+    {
+        &self.file
     }
 
     // Counts a failure: from now on each call fails.
@@ -228,6 +234,10 @@ impl<F: RawFile> Device for FileDevice<F> {
 
     fn failures(&self) -> u64 {
         self.failures
+    }
+
+    fn has_room(&self, len: usize) -> bool {
+        self.file.has_room(len)
     }
 
     fn fail(&mut self, _n: u64, _tear: Tear) {}

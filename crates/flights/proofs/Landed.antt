@@ -1,5 +1,5 @@
 -- What comes back, and what the shard is then.
-use Rattle.std.proofs.Common.{◌≡◌, ◌++◌, ◌≤◌, ⊎_elim, inl, inr, ℕ, zero, suc, false, true≢false, List, [], ◌∷◌, length, take, Option, Some, None, slice_get, refl, sym, ◌∙◌, ap, subst, arith}
+use Rattle.std.proofs.Common.{◌≡◌, ◌++◌, ◌≤◌, ⊎_elim, inl, inr, ℕ, zero, suc, Bool, true, false, true≢false, Result, Ok, Err, OnOk, IfErr, List, [], ◌∷◌, length, take, Option, Some, None, slice_get, refl, sym, ◌∙◌, ap, subst, arith}
 use Rattle.std.proofs.lemmas.List.{append-nil}
 use Rattle.std.proofs.lemmas.Option.{same_Some}
 use Rattle.std.proofs.lemmas.Bool.{or_parts}
@@ -34,6 +34,11 @@ still_there [] ys n x p is = absurd (let bad : None ≡ Some x = is in cc)
 still_there (a ∷ xs) [] n x p is = absurd (cc (p.1))
 still_there (a ∷ xs) (b ∷ ys) zero x p is = ap Some (let e : b ≡ a = cc (p.1) in e) ∙ is
 still_there (a ∷ xs) (b ∷ ys) (suc n) x p is = still_there xs ys n x (p.0, cc (p.1)) is
+
+-- what holds behind a call that went well holds where the node is up, since one that did not puts it down
+pub on_up : {U E P : Type 0} (Q : E → Type 0) {down : Bool} (r : Result U E) → OnOk r P → IfErr r (λ e. Q e × (down ≡ true)) → down ≡ false → P
+on_up Q (Ok u) ok err up = ok
+on_up Q (Err e) ok err up = absurd (true≢false (sym err.1 ∙ up))
 
 module _ {D : Type 0} (state : D → State) (honest : D → Type 0) where
   -- Given a journal that was ready, and what its flush made of it

@@ -56,6 +56,24 @@ impl<D: Device, B: Room> CoordinatorPlace<D, B> {
         }
     }
 
+    /// How many bytes a checkpoint of its node has, wherever its devices are; none where its opening was refused, or there is no memory to tell.
+    pub fn checkpoint_len(&self) -> Option<u64> {
+        match &self.berth {
+            Some(Berth::Here(side, _)) => side.checkpoint_len(),
+            Some(Berth::Out(side, _)) => side.checkpoint_len(),
+            None => unreachable!(),
+        }
+    }
+
+    /// Whether the disk of its node has the room for a checkpoint of so many bytes, as far as that can be told.
+    pub fn has_point_room(&self, len: u64) -> bool {
+        match &self.berth {
+            Some(Berth::Here(side, _)) => side.has_point_room(len),
+            Some(Berth::Out(_, _)) => true,
+            None => unreachable!(),
+        }
+    }
+
     /// Replaces the records of the coordinator by a checkpoint of what it knows, behind which all that was staged has joined the list. None where its devices
     /// are out: then all stays as it is.
     pub fn checkpoint(

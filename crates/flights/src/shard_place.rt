@@ -100,6 +100,24 @@ impl<D: Device, B: Room> ShardPlace<D, B> {
         }
     }
 
+    /// How many bytes a checkpoint of its node has, wherever its devices are; none where its opening was refused, or there is no memory to tell.
+    pub fn checkpoint_len(&self) -> Option<u64> {
+        match &self.berth {
+            Some(Berth::Here(side, _)) => side.checkpoint_len(),
+            Some(Berth::Out(side, _)) => side.checkpoint_len(),
+            None => unreachable!(),
+        }
+    }
+
+    /// Whether the disk of its node has the room for a checkpoint of so many bytes, as far as that can be told.
+    pub fn has_point_room(&self, len: u64) -> bool {
+        match &self.berth {
+            Some(Berth::Here(side, _)) => side.has_point_room(len),
+            Some(Berth::Out(_, _)) => true,
+            None => unreachable!(),
+        }
+    }
+
     /// Makes a call that is no flush and no read, wherever its devices are. What it tells of the list is of what the caller's pass has seen then.
     pub fn ask<R: Wait>(
         &mut self,

@@ -1,15 +1,15 @@
 -- The states of an append.
-use Rattle.std.proofs.Common.{◌≡◌, inl, ℕ, ◌+◌, ◌≤◌, ◌-◌, List, Result, [], ◌∷◌, ◌++◌, length, take, drop, set, get_or, Some, sym, ◌∙◌, ap, subst, arith, append_assoc, length-append}
+use Rattle.std.proofs.Common.{◌≡◌, inl, ℕ, ◌+◌, ◌<◌, ◌≤◌, ◌-◌, List, Result, [], ◌∷◌, ◌++◌, length, take, drop, set, get_or, Some, sym, ◌∙◌, ap, subst, arith, append_assoc, length-append}
 use Rattle.std.specs.Int.{w32, to_be_bytes}
 use Rattle.device.specs.Device.{State, Leaves, Wrote, Tore, Synced, Keeps, Elapses, LeavesOnly, patched, left}
 use Rattle.std.proofs.lemmas.List.{length-take-le, length-drop, drop_more, drop_all, take-append-drop, set_at}
 use Rattle.std.proofs.lemmas.Option.{same_Some}
-use Rattle.gated.specs.Gated.{body_of, gated, max_body, open_gate, record_head, spelled, Fits, IsOldOrNew, IsReady, HasList, WasPut}
+use Rattle.gated.specs.Gated.{body_of, gated, max_body, open_gate, record_head, spelled, Fits, AreBehind, IsOldOrNew, IsReady, HasList, WasPut}
 use Rattle.std.specs.Result.{OnOk, OnErr}
 use Rattle.gated.proofs.Spelled.{gated_spelled, spelled-split, spelled-push, fit-push}
-use Rattle.gated.proofs.Crash.{behind_gate, written_behind, at_gate, written_gate, gated_opened}
-use Rattle.device.proofs.Moments.{leaves_itself, leaves_nothing_else, leaves_then}
-use Rattle.gated.proofs.Calls.{after_write, tore_of, write_moments, sync_moments}
+use Rattle.gated.proofs.Crash.{at_gate, behind_gate, behind_push, durable_left, gated_opened, written_behind, written_gate}
+use Rattle.device.proofs.Moments.{leaves_nothing_else, leaves_then}
+use Rattle.gated.proofs.Calls.{after_write, only_range, tore_of, write_moments, sync_moments}
 
 pub length-body : (buf : List ℕ) → record_head + 1 ≤ length buf → length (body_of buf) ≡ length buf - record_head
 length-body buf some = length-take-le (length buf - record_head) (drop 4 buf) (omega (arith, length-drop 4 buf))
@@ -29,9 +29,6 @@ framed gate buf size four some =
     ∙ set_at (size ++ body_of buf) (get_or (drop 4 buf) n 0) [] gate (4 + n) (omega (arith, four, length-body buf some, length-append size (body_of buf)))
 
 module _ (s : State) (end : ℕ) (r : IsReady s end) where
-  durable_is : s.durable ≡ spelled r.bodies (r.gate ∷ r.rest)
-  durable_is = r.durable ∙ r.seen
-
   pub room_first : end + 1 ≤ length s.seen
   room_first =
       let all = spelled-split r.bodies (r.gate ∷ r.rest) in
@@ -40,13 +37,17 @@ module _ (s : State) (end : ℕ) (r : IsReady s end) where
   -- the list is the one that each content has
   pub same_list : (bodies : List (List ℕ)) → HasList s bodies → r.bodies ≡ bodies
   same_list bodies has =
-      let here = has s.durable (subst (λ (w : List (ℕ × ℕ)). Leaves s.durable w s.durable) (sym r.written) (leaves_itself s.durable)) in
-      same_Some r.bodies bodies (sym (gated_spelled r.bodies r.gate r.rest r.fit r.closed) ∙ ap gated (sym durable_is) ∙ here)
+      let here = has s.durable (durable_left s.durable s.written) in
+      same_Some r.bodies bodies (sym (gated_spelled r.bodies r.gate r.kept r.fit r.closed) ∙ ap gated (sym r.durable) ∙ here)
 
-  pub first_leaves : (bodies : List (List ℕ)) → HasList s bodies → (body : List ℕ) (n : ℕ) (c : List ℕ) → Leaves s.durable ((end + 1, n) ∷ []) c → IsOldOrNew bodies body c
-  first_leaves bodies has body n c leaves =
-      let leaves' = subst (λ (d : List ℕ). Leaves d ((end + 1, n) ∷ []) c) durable_is leaves in
-      inl (behind_gate r.bodies r.gate r.rest r.fit r.closed end r.end_is n c leaves' ∙ ap (λ (l : List (List ℕ)). Some l) (same_list bodies has))
+  -- writes behind the gate leave it
+  pub list_stays : (bodies : List (List ℕ)) → HasList s bodies → (w : List (ℕ × ℕ)) → AreBehind end w → (c : List ℕ) → Leaves s.durable w c → gated c ≡ Some bodies
+  list_stays bodies has w behind c leaves =
+      behind_gate r.bodies r.gate r.kept r.fit r.closed end r.end_is w c behind (subst (λ (d : List ℕ). Leaves d w c) r.durable leaves) ∙ ap (λ (l : List (List ℕ)). Some l) (same_list bodies has)
+
+  -- one more does
+  pub one_behind : (bodies : List (List ℕ)) → HasList s bodies → (at n : ℕ) → end < at → (c : List ℕ) → Leaves s.durable (s.written ++ (at, n) ∷ []) c → gated c ≡ Some bodies
+  one_behind bodies has at n lt c leaves = list_stays bodies has (s.written ++ (at, n) ∷ []) (behind_push end s.written at n r.written lt) c leaves
 
   module _ (mid : State) (body frame : List ℕ) (fits : Fits body) (frame_is : frame ≡ to_be_bytes w32 (length body) ++ body ++ 0 ∷ []) (put : WasPut s (end + 1) frame mid) where
     abbrev after : List ℕ
@@ -77,6 +78,7 @@ module _ (s : State) (end : ℕ) (r : IsReady s end) where
         bodies = r.bodies ++ body ∷ [];
         gate = 0;
         rest = after;
+        kept = after;
         fit = fit-push r.bodies body r.fit fits;
         closed = λ is. omega (arith, is);
         seen = new_is;
@@ -93,8 +95,8 @@ module _ (s : State) (end : ℕ) (r : IsReady s end) where
               length-append body [],
               length-append body (0 ∷ []),
             );
-        durable = opened.durable;
-        written = opened.written;
+        durable = opened.durable ∙ new_is;
+        written = subst (AreBehind (end + n)) (sym opened.written) tt;
       }
 
       pub has_new : (bodies : List (List ℕ)) → HasList s bodies → HasList new (bodies ++ body ∷ [])
@@ -113,29 +115,29 @@ module _ {D : Type 0} (moment : D → ℕ) (left_since : D → ℕ → List ℕ 
   abbrev Later : D → D → Type 0
   Later one two = Elapses (moment one) (moment two) (left_since one) (left_since two) (left (state two))
 
-  first : (c : List ℕ) → Leaves (state old).durable ((end + 1, length frame) ∷ []) c → Either c
-  first = first_leaves (state old) end r bodies has body (length frame)
+  first : (c : List ℕ) → Leaves (state old).durable ((state old).written ++ (end + 1, length frame) ∷ []) c → Either c
+  first c leaves = inl (one_behind (state old) end r bodies has (end + 1) (length frame) (omega arith) c leaves)
 
   pub at_record : (one : D) → Later old one → Tore (state old) (end + 1) (length frame) (state one) → LeavesOnly moment left_since old one Either
-  at_record one time tore = write_moments moment left_since state old one Either only time (end + 1) (length frame) r.written tore first
+  at_record one time tore = write_moments moment left_since state old one Either only time (end + 1) (length frame) tore first
 
   pub at_first_sync : {T E : Type 0} (one two : D) (x : Result T E) → ((c : List ℕ) → left_since one (moment one) c → left (state one) c) → Later old one → Wrote (state old) (end + 1) frame (state one) → left (state one) (state one).seen
       → Later one two → OnOk x (Synced (state one) (state two)) → OnErr x (Keeps (state one) (state two)) → LeavesOnly moment left_since old two Either
   at_first_sync one two x only_one time wrote here next ok err =
       let tore = tore_of (state old) (end + 1) frame (state one) wrote in
       leaves_then moment left_since old one two Either (at_record one time tore)
-      (sync_moments moment left_since state one two Either only_one next x here ok err (λ c l. first c (after_write (state old) (end + 1) (length frame) (state one) r.written tore c l)))
+      (sync_moments moment left_since state one two Either only_one next x here ok err (λ c l. first c (after_write (state old) (end + 1) (length frame) (state one) tore c l)))
 
   module _ (two : D) (only_two : (c : List ℕ) → left_since two (moment two) c → left (state two) c) (before : LeavesOnly moment left_since old two Either) (put : WasPut (state old) (end + 1) frame (state two)) where
-    second : (c : List ℕ) → Leaves (state two).durable ((end, 1) ∷ []) c → Either c
-    second = second_leaves (state old) end r (state two) body frame fits frame_is put bodies has
+    second : (c : List ℕ) → Leaves (state two).durable ((state two).written ++ (end, 1) ∷ []) c → Either c
+    second c leaves = second_leaves (state old) end r (state two) body frame fits frame_is put bodies has c (only_range (state two) end 1 put.written c leaves)
 
     pub at_gate_write : (three : D) → Later two three → Tore (state two) end 1 (state three) → LeavesOnly moment left_since old three Either
-    at_gate_write three time tore = leaves_then moment left_since old two three Either before (write_moments moment left_since state two three Either only_two time end 1 put.written tore second)
+    at_gate_write three time tore = leaves_then moment left_since old two three Either before (write_moments moment left_since state two three Either only_two time end 1 tore second)
 
     pub at_last_sync : {T E : Type 0} (three four : D) (x : Result T E) → ((c : List ℕ) → left_since three (moment three) c → left (state three) c) → Later two three → Wrote (state two) end (open_gate ∷ []) (state three) → left (state three) (state three).seen
         → Later three four → OnOk x (Synced (state three) (state four)) → OnErr x (Keeps (state three) (state four)) → LeavesOnly moment left_since old four Either
     at_last_sync three four x only_three time wrote here next ok err =
         let tore = tore_of (state two) end (open_gate ∷ []) (state three) wrote in
         leaves_then moment left_since old three four Either (at_gate_write three time tore)
-        (sync_moments moment left_since state three four Either only_three next x here ok err (λ c l. second c (after_write (state two) end 1 (state three) put.written tore c l)))
+        (sync_moments moment left_since state three four Either only_three next x here ok err (λ c l. second c (after_write (state two) end 1 (state three) tore c l)))

@@ -1,10 +1,10 @@
 -- What a write and a sync leave, one call at a time.
-use Rattle.std.proofs.Common.{◌≡◌, inl, inr, ⊎_elim, ℕ, ◌+◌, ◌≤◌, List, [], ◌∷◌, ◌++◌, length, Result, Ok, Err, sym, ◌∙◌, ap, subst, arith}
+use Rattle.std.proofs.Common.{◌≡◌, inl, inr, ⊎_elim, ℕ, ◌+◌, ◌≤◌, List, [], ◌∷◌, ◌++◌, length, Result, Ok, Err, sym, ◌∙◌, subst, arith}
 use Rattle.std.specs.Result.{OnOk, OnErr}
 use Rattle.device.specs.Device.{State, Leaves, Wrote, Tore, Synced, Keeps, Elapses, LeavesOnly, reach, left}
 use Rattle.device.proofs.Moments.{leaves_nothing_else}
-use Rattle.gated.specs.Gated.{WasPut}
-use Rattle.device.proofs.History.{reach_push_most}
+use Rattle.gated.specs.Gated.{IsAllDurable, WasPut}
+use Rattle.device.proofs.History.{reach_push, reach_push_most, untouched_push}
 
 -- A call leaves what has P, where what could be left before it has P, and what may be left now has it.
 module _ {D : Type 0} (moment : D → ℕ) (left_since : D → ℕ → List ℕ → Type 0) (state : D → State) where
@@ -33,22 +33,26 @@ pub synced_or_not : {T E : Type 0} (s m : State) (r : Result T E) → left s s.s
 synced_or_not s m (Ok x) here ok err c leaves = after_sync s m ok here c leaves
 synced_or_not s m (Err e) here ok err c leaves = still s m err.durable err.written c leaves
 
+-- the range of a write over a device that had all durable is the only one
+pub only_range : (s : State) (at n : ℕ) → s.written ≡ [] → (c : List ℕ) → Leaves s.durable (s.written ++ (at, n) ∷ []) c → Leaves s.durable ((at, n) ∷ []) c
+only_range s at n none c leaves = subst (λ (w : List (ℕ × ℕ)). Leaves s.durable (w ++ (at, n) ∷ []) c) none leaves
+
 module _ (s : State) (at : ℕ) where
-  -- the one range that is written since
-  abbrev one : ℕ → List ℕ → Type 0
-  one n c = Leaves s.durable ((at, n) ∷ []) c
+  -- with one range more
+  abbrev more : ℕ → List ℕ → Type 0
+  more n c = Leaves s.durable (s.written ++ (at, n) ∷ []) c
 
-  before_write : (n : ℕ) → s.written ≡ [] → (c : List ℕ) → left s c → one n c
-  before_write n none c leaves =
-      let l : Leaves s.durable [] c = subst (λ (w : List (ℕ × ℕ)). Leaves s.durable w c) none leaves in
-      record { no_shorter = l.no_shorter; no_longer = omega (arith, l.no_longer); same = λ i lt un. l.same i lt tt }
+  before_write : (n : ℕ) (c : List ℕ) → left s c → more n c
+  before_write n c leaves =
+      let reaches = reach_push s.written at n (length s.durable) in
+      record { no_shorter = leaves.no_shorter; no_longer = omega (arith, leaves.no_longer, reaches.0); same = λ i lt un. leaves.same i lt (untouched_push s.written at n i un).0 }
 
-  pub after_write : (n : ℕ) (m : State) → s.written ≡ [] → Tore s at n m → (c : List ℕ) → left m c → one n c
-  after_write n m none tore c leaves =
+  pub after_write : (n : ℕ) (m : State) → Tore s at n m → (c : List ℕ) → left m c → more n c
+  after_write n m tore c leaves =
       let l : Leaves s.durable m.written c = subst (λ (d : List ℕ). Leaves d m.written c) tore.durable leaves in
       ⊎_elim
-      (λ same. before_write n none c (subst (λ (w : List (ℕ × ℕ)). Leaves s.durable w c) same l))
-      (λ more. subst (λ (w : List (ℕ × ℕ)). Leaves s.durable w c) (more ∙ ap (λ (w : List (ℕ × ℕ)). w ++ (at, n) ∷ []) none) l)
+      (λ same. before_write n c (subst (λ (w : List (ℕ × ℕ)). Leaves s.durable w c) same l))
+      (λ is. subst (λ (w : List (ℕ × ℕ)). Leaves s.durable w c) is l)
       tore.written
 
   -- a write, done or failed, makes nothing longer than where it ends
@@ -66,16 +70,24 @@ module _ (s : State) (at : ℕ) where
 pub tore_of : (s : State) (at : ℕ) (bytes : List ℕ) (m : State) → Wrote s at bytes m → Tore s at (length bytes) m
 tore_of s at bytes m wrote = record { durable = wrote.durable; written = inr wrote.written }
 
+-- whatever came of it
+pub written_or_not : {T E : Type 0} (s : State) (at : ℕ) (bytes : List ℕ) (m : State) (r : Result T E) → OnOk r (Wrote s at bytes m) → OnErr r (Tore s at (length bytes) m) → Tore s at (length bytes) m
+written_or_not s at bytes m (Ok x) ok err = tore_of s at bytes m ok
+written_or_not s at bytes m (Err e) ok err = err
+
+-- all is durable behind a sync
+pub put_durable : (s : State) (at : ℕ) (bytes : List ℕ) (new : State) → WasPut s at bytes new → IsAllDurable new
+put_durable s at bytes new put = record { durable = put.durable; written = put.written }
+
 -- a write, and a sync
 pub put : (s : State) (at : ℕ) (bytes : List ℕ) (mid new : State) → Wrote s at bytes mid → Synced mid new → WasPut s at bytes new
 put s at bytes mid new wrote synced = record { seen = synced.seen ∙ wrote.seen; durable = synced.durable ∙ sym synced.seen; written = synced.written; stopped = synced.stopped }
 
 module _ {D : Type 0} (moment : D → ℕ) (left_since : D → ℕ → List ℕ → Type 0) (state : D → State) (old new : D) (P : List ℕ → Type 0)
     (only : (c : List ℕ) → left_since old (moment old) c → left (state old) c) (time : Elapses (moment old) (moment new) (left_since old) (left_since new) (left (state new))) where
-  -- a write over a device that had all durable
-  pub write_moments : (at n : ℕ) → (state old).written ≡ [] → Tore (state old) at n (state new) → ((c : List ℕ) → Leaves (state old).durable ((at, n) ∷ []) c → P c) → LeavesOnly moment left_since old new P
-  write_moments at n none tore has =
-      one_call moment left_since state old new P only time (λ c l. has c (before_write (state old) at n none c l)) (λ c l. has c (after_write (state old) at n (state new) none tore c l))
+  pub write_moments : (at n : ℕ) → Tore (state old) at n (state new) → ((c : List ℕ) → Leaves (state old).durable ((state old).written ++ (at, n) ∷ []) c → P c) → LeavesOnly moment left_since old new P
+  write_moments at n tore has =
+      one_call moment left_since state old new P only time (λ c l. has c (before_write (state old) at n c l)) (λ c l. has c (after_write (state old) at n (state new) tore c l))
 
   pub sync_moments : {T E : Type 0} (r : Result T E) → left (state old) (state old).seen → OnOk r (Synced (state old) (state new)) → OnErr r (Keeps (state old) (state new)) → ((c : List ℕ) → left (state old) c → P c)
       → LeavesOnly moment left_since old new P

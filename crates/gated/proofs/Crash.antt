@@ -1,26 +1,44 @@
 -- What the two writes of an append leave, whole or in part.
-use Rattle.std.proofs.Common.{◌≡◌, ◌≢◌, ◌⊎◌, inl, inr, ⊎_elim, ℕ, ◌-◌, ◌+◌, ◌<◌, ◌≤◌, List, [], ◌∷◌, ◌++◌, length, take, drop, get_or, Some, refl, sym, ◌∙◌, ap, arith, append_assoc, length-append}
+use Rattle.std.proofs.Common.{◌≡◌, ◌≢◌, ◌⊎◌, inl, inr, ⊎_elim, ℕ, ◌+◌, ◌<◌, ◌≤◌, List, [], ◌∷◌, ◌++◌, length, take, drop, get_or, Some, refl, sym, ◌∙◌, ap, arith, append_assoc, length-append}
 use Rattle.std.proofs.lemmas.Bool.{cases_eq}
 use Rattle.std.proofs.lemmas.List.{take_at, drop_at, take-append-drop, get_or-take, get_or-drop, length-take-le, length-drop, drop-drop, ext_get_or, drop_more}
 use Rattle.std.specs.Int.{w32, to_be_bytes}
-use Rattle.device.specs.Device.{Leaves, patched}
-use Rattle.gated.specs.Gated.{gated, spelled, Fits, AllFit, IsOldOrNew}
+use Rattle.device.specs.Device.{Leaves, Untouched, patched}
+use Rattle.device.proofs.History.{reach_least}
+use Rattle.gated.specs.Gated.{gated, spelled, AreBehind, Fits, AllFit, IsOldOrNew}
 use Rattle.gated.proofs.Spelled.{gated_spelled, spelled-split, spelled-push, fit-push}
 
-front_same : (d : List ℕ) (at n k : ℕ) (c : List ℕ) → Leaves d ((at, n) ∷ []) c → k ≤ at → k ≤ length d → take k c ≡ take k d
-front_same d at n k c leaves below within =
-    let len_c : length (take k c) ≡ k = length-take-le k c (omega (arith, leaves.no_shorter)) in
-    let len_d : length (take k d) ≡ k = length-take-le k d within in
+front_same : (d : List ℕ) (k : ℕ) (c : List ℕ) → ((i : ℕ) → i < k → get_or c i 0 ≡ get_or d i 0) → k ≤ length c → k ≤ length d → take k c ≡ take k d
+front_same d k c same long_c long_d =
+    let len_c : length (take k c) ≡ k = length-take-le k c long_c in
+    let len_d : length (take k d) ≡ k = length-take-le k d long_d in
     ext_get_or 0 (take k c) (take k d) (len_c ∙ sym len_d) (λ i lt.
     let small : i < k = omega (arith, len_c) in
-    get_or-take k c i 0 small ∙ leaves.same i (omega arith) (inl (omega arith), tt) ∙ sym (get_or-take k d i 0 small))
+    get_or-take k c i 0 small ∙ same i small ∙ sym (get_or-take k d i 0 small))
 
-pub back_same : (d : List ℕ) (at n : ℕ) (c : List ℕ) → Leaves d ((at, n) ∷ []) c → length c ≡ length d → drop (at + n) c ≡ drop (at + n) d
+back_same : (d : List ℕ) (at n : ℕ) (c : List ℕ) → Leaves d ((at, n) ∷ []) c → length c ≡ length d → drop (at + n) c ≡ drop (at + n) d
 back_same d at n c leaves len =
     let len_c = length-drop (at + n) c in
     let len_d = length-drop (at + n) d in
     ext_get_or 0 (drop (at + n) c) (drop (at + n) d) (omega (arith, len_c, len_d, len)) (λ i lt.
     get_or-drop (at + n) c i 0 ∙ leaves.same (at + n + i) (omega (arith, len_c, len)) (inr (omega arith), tt) ∙ sym (get_or-drop (at + n) d i 0))
+
+-- what lies behind a place leaves all up to it
+pub untouched_front : (end : ℕ) (w : List (ℕ × ℕ)) → AreBehind end w → (i : ℕ) → i ≤ end → Untouched w i
+untouched_front end [] behind i le = tt
+untouched_front end (range ∷ w) behind i le = (inl (omega (arith, behind.0, le)), untouched_front end w behind.1 i le)
+
+pub behind_push : (end : ℕ) (w : List (ℕ × ℕ)) (at n : ℕ) → AreBehind end w → end < at → AreBehind end (w ++ (at, n) ∷ [])
+behind_push end [] at n behind lt = (lt, tt)
+behind_push end (range ∷ w) at n behind lt = (behind.0, behind_push end w at n behind.1 lt)
+
+pub untouched_more : (w : List (ℕ × ℕ)) (at n i : ℕ) → Untouched w i → (i < at) ⊎ (at + n ≤ i) → Untouched (w ++ (at, n) ∷ []) i
+untouched_more [] at n i un out = (out, tt)
+untouched_more (range ∷ w) at n i un out = (un.0, untouched_more w at n i un.1 out)
+
+-- what is durable may be left
+pub durable_left : (d : List ℕ) (w : List (ℕ × ℕ)) → Leaves d w d
+durable_left d w = record { no_shorter = omega arith; no_longer = reach_least w (length d); same = λ i lt un. refl }
 
 pub spelled-more : (bodies more : List (List ℕ)) (rest : List ℕ) → spelled (bodies ++ more) rest ≡ spelled bodies (spelled more rest)
 spelled-more [] more rest = refl
@@ -50,16 +68,24 @@ module _ (bodies : List (List ℕ)) (gate : ℕ) (rest : List ℕ) (fit : AllFit
   records_front : (more : List ℕ) → take end (spelled bodies more) ≡ records
   records_front more = ap (take end) (split more) ∙ take_at records more end (sym end_is)
 
-  length-whole : (g : ℕ) (more : List ℕ) → length (spelled bodies (g ∷ more)) ≡ end + 1 + length more
+  pub length-whole : (g : ℕ) (more : List ℕ) → length (spelled bodies (g ∷ more)) ≡ end + 1 + length more
   length-whole g more = ap length (split (g ∷ more)) ∙ omega (arith, end_is, length-append records (g ∷ more))
 
-  -- a write behind the closed gate leaves the list
-  pub behind_gate : (n : ℕ) (c : List ℕ) → Leaves (spelled bodies (gate ∷ rest)) ((end + 1, n) ∷ []) c → gated c ≡ Some bodies
-  behind_gate n c leaves =
-      let same = front_same _ (end + 1) n (end + 1) c leaves (omega arith) (omega (arith, length-whole gate rest)) ∙ front gate rest in
+  -- what begins with the records and the closed gate has the list
+  pub same_front : (c : List ℕ) → length (spelled bodies (gate ∷ rest)) ≤ length c → ((i : ℕ) → i ≤ end → get_or c i 0 ≡ get_or (spelled bodies (gate ∷ rest)) i 0) → gated c ≡ Some bodies
+  same_front c long same =
+      let len = length-whole gate rest in
+      let begins : take (end + 1) c ≡ records ++ gate ∷ []
+      = front_same (spelled bodies (gate ∷ rest)) (end + 1) c (λ i lt. same i (omega (arith, lt))) (omega (arith, long, len)) (omega (arith, len)) ∙ front gate rest in
       let whole : c ≡ spelled bodies (gate ∷ drop (end + 1) c) =
-      sym (take-append-drop (end + 1) c) ∙ ap (λ (l : List ℕ). l ++ drop (end + 1) c) same ∙ append_assoc records (gate ∷ []) (drop (end + 1) c) ∙ sym (split (gate ∷ drop (end + 1) c)) in
+      sym (take-append-drop (end + 1) c) ∙ ap (λ (l : List ℕ). l ++ drop (end + 1) c) begins ∙ append_assoc records (gate ∷ []) (drop (end + 1) c) ∙ sym (split (gate ∷ drop (end + 1) c)) in
       ap gated whole ∙ gated_spelled bodies gate (drop (end + 1) c) fit closed
+
+  -- writes behind the closed gate leave the list
+  pub behind_gate : (w : List (ℕ × ℕ)) (c : List ℕ) → AreBehind end w → Leaves (spelled bodies (gate ∷ rest)) w c → gated c ≡ Some bodies
+  behind_gate w c behind leaves =
+      let len = length-whole gate rest in
+      same_front c leaves.no_shorter (λ i le. leaves.same i (omega (arith, le, len)) (untouched_front end w behind i le))
 
   pub written_behind : (frame : List ℕ) → patched (spelled bodies (gate ∷ rest)) (end + 1) frame ≡ spelled bodies (gate ∷ frame ++ drop (length frame) rest)
   written_behind frame =
@@ -68,14 +94,6 @@ module _ (bodies : List (List ℕ)) (gate : ℕ) (rest : List ℕ) (fit : AllFit
       ∙ ap (λ (l : List ℕ). (records ++ gate ∷ []) ++ frame ++ l) tail
       ∙ simp append_assoc (sym (split (gate ∷ frame ++ drop (length frame) rest)))
 
-  -- and so does one anywhere behind it
-  pub behind_any : (at n : ℕ) (c : List ℕ) → end < at → Leaves (spelled bodies (gate ∷ rest)) ((at, n) ∷ []) c → gated c ≡ Some bodies
-  behind_any at n c lt leaves = behind_gate (at + n - (end + 1)) c (record {
-    no_shorter = leaves.no_shorter;
-    no_longer = omega (arith, leaves.no_longer, lt);
-    same = λ i within un. leaves.same i within (⊎_elim (λ low. inl (omega (arith, low, lt))) (λ high. inr (omega (arith, high, lt))) un.0, tt);
-  })
-
   -- a write of the gate leaves the list, or whatever longer one stands behind it
   pub at_any_gate : (more : List ℕ) (longer : List (List ℕ)) → gated (spelled bodies (165 ∷ more)) ≡ Some longer → (c : List ℕ) → Leaves (spelled bodies (gate ∷ more)) ((end, 1) ∷ []) c
       → (gated c ≡ Some bodies) ⊎ (gated c ≡ Some longer)
@@ -83,7 +101,7 @@ module _ (bodies : List (List ℕ)) (gate : ℕ) (rest : List ℕ) (fit : AllFit
       let whole_is = spelled bodies (gate ∷ more) in
       let long = length-whole gate more in
       let len : length c ≡ length whole_is = omega (arith, leaves.no_shorter, leaves.no_longer, long) in
-      let start = front_same whole_is end 1 end c leaves (omega arith) (omega (arith, long)) ∙ records_front (gate ∷ more) in
+      let start = front_same whole_is end c (λ i lt. leaves.same i (omega (arith, lt, long)) (inl lt, tt)) (omega (arith, len, long)) (omega (arith, long)) ∙ records_front (gate ∷ more) in
       let tail = back_same whole_is end 1 c leaves len ∙ back gate more in
       let x = get_or c end 0 in
       let rest_is : drop end c ≡ x ∷ more = drop_more c end 0 (omega (arith, len, long)) ∙ ap (λ (l : List ℕ). x ∷ l) tail in

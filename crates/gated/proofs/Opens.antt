@@ -3,7 +3,7 @@ use Rattle.std.proofs.Common.{◌≡◌, ◌⊎◌, inl, inr, ℕ, ◌≤◌, Li
 use Rattle.std.proofs.lemmas.List.{drop_all}
 use Rattle.device.specs.Device.{State, Leaves, Synced, Keeps, Elapses, LeavesOnly, left}
 use Rattle.device.proofs.Moments.{leaves_map, leaves_then, leaves_nothing_else}
-use Rattle.gated.specs.Gated.{closed_gate, gated, HasList, IsReady, IsSpelled, IsFoundList, WasPut}
+use Rattle.gated.specs.Gated.{closed_gate, gated, AreBehind, HasList, IsAllDurable, IsReady, IsSpelled, IsFoundList, WasPut}
 use Rattle.gated.proofs.Calls.{one_call, still}
 use Rattle.gated.proofs.Splitting.{short_list, spelled_list}
 
@@ -23,7 +23,18 @@ module _ (s : State) (short : length s.seen ≤ 1) where
     made_is = put.seen ∙ ap (λ (l : List ℕ). 0 ∷ l) (drop_all 1 s.seen short)
 
     pub made_ready : IsReady new 0
-    made_ready = record { bodies = []; gate = 0; rest = []; fit = tt; closed = λ is. omega (arith, is); seen = made_is; end_is = refl; durable = put.durable; written = put.written }
+    made_ready = record {
+      bodies = [];
+      gate = 0;
+      rest = [];
+      kept = [];
+      fit = tt;
+      closed = λ is. omega (arith, is);
+      seen = made_is;
+      durable = put.durable ∙ made_is;
+      end_is = refl;
+      written = subst (AreBehind 0) (sym put.written) tt;
+    }
 
     pub made_list : new.stopped ≡ false → IsFoundList s [] new
     made_list up = record {
@@ -64,12 +75,32 @@ module _ (s mid new : State) (synced : Synced s mid) (keeps : Keeps mid new) (co
   durable_is : new.durable ≡ new.seen
   durable_is = keeps.durable ∙ synced.durable ∙ sym synced.seen ∙ sym keeps.seen
 
+  written_is : new.written ≡ []
+  written_is = keeps.written ∙ synced.written
+
+  pub found_durable : IsAllDurable new
+  found_durable = record { durable = durable_is; written = written_is }
+
+  pub found_ready : IsReady new end
+  found_ready = record {
+    bodies = bodies;
+    gate = spelled.gate;
+    rest = spelled.rest;
+    kept = spelled.rest;
+    fit = spelled.fit;
+    closed = spelled.closed;
+    seen = seen_is ∙ spelled.content_is;
+    durable = durable_is ∙ seen_is ∙ spelled.content_is;
+    end_is = spelled.end_is;
+    written = subst (AreBehind end) (sym written_is) tt;
+  }
+
   pub found_list : new.stopped ≡ false → IsFoundList s bodies new
   found_list up =
       let list = spelled_list content bodies end spelled in
       record {
         was = ap gated (sym (content_is ∙ synced.seen)) ∙ list;
-        has = has_list new bodies durable_is (keeps.written ∙ synced.written) (ap gated seen_is ∙ list);
+        has = has_list new bodies durable_is written_is (ap gated seen_is ∙ list);
         up = up;
         reads = inl (keeps.seen ∙ synced.seen);
       }

@@ -17,14 +17,35 @@ one_ahead = record {
   bodies = [];
   gate = 0;
   rest = 9 ∷ [];
+  kept = 0 ∷ 0 ∷ 0 ∷ 1 ∷ 7 ∷ 165 ∷ 9 ∷ [];
   fit = tt;
   fit_ahead = ((omega arith, omega arith), tt);
   closed = λ is. omega (arith, is);
   seen = refl;
+  durable = refl;
   end_is = refl;
   at_is = refl;
+  written = tt;
+}
+
+-- the same, where the gate alone was synced
+abbrev gate_synced : State
+gate_synced = record { seen = 0 ∷ 0 ∷ 0 ∷ 0 ∷ 1 ∷ 7 ∷ 165 ∷ []; durable = 0 ∷ []; written = (1, 6) ∷ []; stopped = false; failures = 0 }
+
+not_synced : IsAhead gate_synced 0 6 (seven ∷ [])
+not_synced = record {
+  bodies = [];
+  gate = 0;
+  rest = [];
+  kept = [];
+  fit = tt;
+  fit_ahead = ((omega arith, omega arith), tt);
+  closed = λ is. omega (arith, is);
+  seen = refl;
   durable = refl;
-  written = refl;
+  end_is = refl;
+  at_is = refl;
+  written = (omega arith, tt);
 }
 
 -- it does not count
@@ -52,9 +73,14 @@ gate_open is = is.closed (sym (ap (λ (l : List ℕ). get_or l 0 0) (seen_is _ i
 last_closed : IsAhead (holding (0 ∷ 0 ∷ 0 ∷ 0 ∷ 1 ∷ 7 ∷ 0 ∷ 9 ∷ [])) 0 6 (seven ∷ []) → ⊥
 last_closed is = let byte = ap (λ (l : List ℕ). get_or l 6 0) (seen_is _ is) in omega (arith, byte)
 
--- nor where a stop may lose it
-not_durable : IsAhead (record (holding (0 ∷ 0 ∷ 0 ∷ 0 ∷ 1 ∷ 7 ∷ 165 ∷ 9 ∷ [])) { written = (1, 6) ∷ [] }) 0 6 (seven ∷ []) → ⊥
-not_durable is = let n = ap (λ (l : List (ℕ × ℕ)). length l) is.written in omega (arith, n)
+-- nor where the list's gate is closed since the last sync alone
+gate_not_durable : IsAhead (record gate_synced { durable = 165 ∷ 0 ∷ 0 ∷ 0 ∷ 1 ∷ 7 ∷ 0 ∷ [] }) 0 6 (seven ∷ []) → ⊥
+gate_not_durable is =
+    is.closed (sym (ap (λ (l : List ℕ). get_or l 0 0) (is.durable ∙ ap (λ (l : List (List ℕ)). spelled l (is.gate ∷ is.kept)) (no_bodies is.bodies is.end_is))))
+
+-- nor where a stop may open it
+gate_written : IsAhead (record gate_synced { written = (0, 7) ∷ [] }) 0 6 (seven ∷ []) → ⊥
+gate_written is = omega (arith, is.written.0)
 
 -- nor another body
 another : IsAhead (holding (0 ∷ 0 ∷ 0 ∷ 0 ∷ 1 ∷ 8 ∷ 165 ∷ 9 ∷ [])) 0 6 (seven ∷ []) → ⊥

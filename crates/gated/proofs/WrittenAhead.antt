@@ -2,11 +2,12 @@
 use Rattle.std.proofs.Common.{◌≡◌, ℕ, ◌+◌, ◌<◌, ◌≤◌, List, [], ◌∷◌, ◌++◌, length, drop, Some, refl, sym, ◌∙◌, ap, subst, arith, append_assoc, length-append}
 use Rattle.std.proofs.lemmas.List.{take_at, drop_at, drop-drop}
 use Rattle.std.specs.Int.{w32, to_be_bytes}
-use Rattle.device.specs.Device.{Leaves, State, patched}
-use Rattle.gated.specs.Gated.{Fits, HasList, IsAhead, IsOldOrLonger, IsReady, WasPut, gated, open_gate, spelled}
+use Rattle.device.specs.Device.{Leaves, State, Wrote, patched}
+use Rattle.gated.specs.Gated.{AreBehind, Fits, HasList, IsAhead, IsOldOrLonger, IsReady, WasPut, gated, open_gate, spelled}
 use Rattle.gated.proofs.Spelled.{fit-push, gated_spelled, spelled-push, spelled-split}
-use Rattle.gated.proofs.Crash.{ahead_is, at_any_gate, behind_any, fit-more, opened_at, spelled-more}
-use Rattle.gated.proofs.Appends.{same_list}
+use Rattle.gated.proofs.Crash.{ahead_is, at_any_gate, behind_push, fit-more, opened_at, spelled-more}
+use Rattle.gated.proofs.Calls.{only_range}
+use Rattle.gated.proofs.Appends.{one_behind, same_list}
 use Rattle.device.proofs.Moments.{leaves_nothing_else}
 
 -- whatever is ahead, the log is ready for an append, which writes over it
@@ -15,11 +16,12 @@ ready_of s end at ahead is = record {
   bodies = is.bodies;
   gate = is.gate;
   rest = drop 1 (spelled ahead (open_gate ∷ is.rest));
+  kept = is.kept;
   fit = is.fit;
   closed = is.closed;
   seen = is.seen;
-  end_is = is.end_is;
   durable = is.durable;
+  end_is = is.end_is;
   written = is.written;
 }
 
@@ -29,13 +31,14 @@ none_ahead s end r = record {
   bodies = r.bodies;
   gate = r.gate;
   rest = r.rest;
+  kept = r.kept;
   fit = r.fit;
   fit_ahead = tt;
   closed = r.closed;
   seen = r.seen;
+  durable = r.durable;
   end_is = r.end_is;
   at_is = omega arith;
-  durable = r.durable;
   written = r.written;
 }
 
@@ -90,30 +93,28 @@ module _ (s : State) (end at : ℕ) (ahead : List (List ℕ)) (is : IsAhead s en
   at_within = omega (arith, ap length seen_is, front_len, length-append front is.rest)
 
   -- a write behind the list's gate leaves the list
-  pub list_stays : (bodies : List (List ℕ)) → HasList s bodies → (from n : ℕ) → end < from → (c : List ℕ) → Leaves s.durable ((from, n) ∷ []) c → gated c ≡ Some bodies
-  unfolding ready_of
-  list_stays bodies has from n lt c leaves =
-      behind_any is.bodies is.gate (drop 1 (spelled ahead (open_gate ∷ is.rest))) is.fit is.closed end is.end_is from n c lt (subst (λ (d : List ℕ). Leaves d ((from, n) ∷ []) c) (is.durable ∙ is.seen) leaves)
-      ∙ ap (λ (l : List (List ℕ)). Some l) (same_list s end (ready_of s end at ahead is) bodies has)
+  pub list_stays : (bodies : List (List ℕ)) → HasList s bodies → (from n : ℕ) → end < from → (c : List ℕ) → Leaves s.durable (s.written ++ (from, n) ∷ []) c → gated c ≡ Some bodies
+  list_stays bodies has from n lt c leaves = one_behind s end (ready_of s end at ahead is) bodies has from n lt c leaves
 
   -- and puts a body more there
-  pub ahead_more : (body frame : List ℕ) (new : State) → Fits body → frame ≡ to_be_bytes w32 (length body) ++ body ++ open_gate ∷ [] → WasPut s (at + 1) frame new → (n : ℕ) → n ≡ length frame → IsAhead new end (at + n) (ahead ++ body ∷ [])
+  pub ahead_more : (body frame : List ℕ) (new : State) → Fits body → frame ≡ to_be_bytes w32 (length body) ++ body ++ open_gate ∷ [] → Wrote s (at + 1) frame new → (n : ℕ) → n ≡ length frame → IsAhead new end (at + n) (ahead ++ body ∷ [])
   unfolding front
-  ahead_more body frame new fits frame_is put n len = record {
+  ahead_more body frame new fits frame_is wrote n len = record {
     bodies = is.bodies;
     gate = is.gate;
     rest = drop (length frame) is.rest;
+    kept = is.kept;
     fit = is.fit;
     fit_ahead = fit-push ahead body is.fit_ahead fits;
     closed = is.closed;
-    seen = put.seen ∙ ap (λ (l : List ℕ). patched l (at + 1) frame) seen_is ∙ patched_behind front is.rest frame (at + 1) front_len ∙ append_assoc front frame (drop (length frame) is.rest) ∙ spelled_body_more is.bodies is.gate ahead body frame (drop (length frame) is.rest) frame_is;
+    seen = wrote.seen ∙ ap (λ (l : List ℕ). patched l (at + 1) frame) seen_is ∙ patched_behind front is.rest frame (at + 1) front_len ∙ append_assoc front frame (drop (length frame) is.rest) ∙ spelled_body_more is.bodies is.gate ahead body frame (drop (length frame) is.rest) frame_is;
+    durable = wrote.durable ∙ is.durable;
     end_is = is.end_is;
     at_is =
         let pushed = spelled-push ahead body [] in
         let all = spelled-split ahead (open_gate ∷ to_be_bytes w32 (length body) ++ body ++ []) in
         omega (arith, len, is.at_is, ap length frame_is, ap length (pushed ∙ all), length-append (spelled ahead []) (open_gate ∷ to_be_bytes w32 (length body) ++ body ++ []), length-append body [], length-append body (open_gate ∷ []));
-    durable = put.durable;
-    written = put.written;
+    written = subst (AreBehind end) (sym wrote.written) (behind_push end s.written (at + 1) (length frame) is.written (omega (arith, is.at_is)));
   }
 
 -- the last gate of some bodies, and what stands before it
@@ -163,29 +164,33 @@ module _ (s : State) (end at : ℕ) (b : List ℕ) (bs : List (List ℕ)) (is : 
     unfolding ready_of
     same = same_list s end (ready_of s end at (b ∷ bs) is) bodies has
 
-    pub gate_leaves : (c : List ℕ) → Leaves mid.durable ((end, 1) ∷ []) c → IsOldOrLonger bodies (b ∷ bs) c
+    pub gate_leaves : (c : List ℕ) → Leaves mid.durable (mid.written ++ (end, 1) ∷ []) c → IsOldOrLonger bodies (b ∷ bs) c
     gate_leaves c leaves =
         subst (λ (l : List (List ℕ)). IsOldOrLonger l (b ∷ bs) c) same
         (at_any_gate is.bodies is.gate is.rest is.fit is.closed end is.end_is more (is.bodies ++ b ∷ bs) longer_is c
-        (subst (λ (d : List ℕ). Leaves d ((end, 1) ∷ []) c) (put.durable ∙ mid_is) leaves))
+        (subst (λ (d : List ℕ). Leaves d ((end, 1) ∷ []) c) (put.durable ∙ mid_is) (only_range mid end 1 put.written c leaves)))
 
   module _ (new : State) (opened : WasPut mid end (open_gate ∷ []) new) where
     new_is : new.seen ≡ spelled is.bodies (open_gate ∷ more)
     new_is = opened.seen ∙ ap (λ (l : List ℕ). patched l end (open_gate ∷ [])) mid_is ∙ opened_at is.bodies is.gate is.rest is.fit is.closed end is.end_is more
+
+    now_is : new.seen ≡ spelled (is.bodies ++ b ∷ bs) (0 ∷ is.rest)
+    now_is = new_is ∙ ahead_is is.bodies is.gate is.rest is.fit is.closed end is.end_is b bs is.rest
 
     pub ready_behind : IsReady new at
     ready_behind = record {
       bodies = is.bodies ++ b ∷ bs;
       gate = 0;
       rest = is.rest;
+      kept = is.rest;
       fit = fit-more is.bodies (b ∷ bs) is.fit is.fit_ahead;
       closed = λ is. omega (arith, is);
-      seen = new_is ∙ ahead_is is.bodies is.gate is.rest is.fit is.closed end is.end_is b bs is.rest;
+      seen = now_is;
+      durable = opened.durable ∙ now_is;
       end_is =
           let all = spelled-more is.bodies (b ∷ bs) [] in
           omega (arith, is.end_is, is.at_is, ap length (all ∙ spelled-split is.bodies (spelled (b ∷ bs) [])), length-append (spelled is.bodies []) (spelled (b ∷ bs) []));
-      durable = opened.durable;
-      written = opened.written;
+      written = subst (AreBehind at) (sym opened.written) tt;
     }
 
     pub has_longer : (bodies : List (List ℕ)) → HasList s bodies → HasList new (bodies ++ b ∷ bs)

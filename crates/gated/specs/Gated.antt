@@ -1,5 +1,5 @@
 -- The list of records that a content has.
-use Rattle.std.specs.Prelude.{◌≡◌, ◌⊎◌, ◌≤◌, ◌+◌, ◌-◌, ◌^◌, ◌≢◌, ℕ, zero, suc, Bool, false, not, ◌&&◌, ◌==◌, nat_le, nat_lt, List, [], ◌∷◌, ◌++◌, length, take, drop, get_or, Option, Some, None, if◌then◌else◌}
+use Rattle.std.specs.Prelude.{◌≡◌, ◌⊎◌, ◌≤◌, ◌+◌, ◌-◌, ◌<◌, ◌^◌, ◌≢◌, ℕ, zero, suc, Bool, false, not, ◌&&◌, ◌==◌, nat_le, nat_lt, List, [], ◌∷◌, ◌++◌, length, take, drop, get_or, Option, Some, None, if◌then◌else◌}
 use Rattle.std.specs.Int.{w32, to_be_bytes, from_be_bytes}
 use Rattle.device.specs.Device.{State, left, patched}
 
@@ -80,17 +80,29 @@ abbrev pub AllFit : List (List ℕ) → Type 0
 AllFit [] = Unit {0}
 AllFit (b ∷ bs) = Fits b × AllFit bs
 
--- all of it is durable, and a closed gate stands at the end of the records
+-- what reads is durable, and nothing was written since
+pub record IsAllDurable (s : State) : Type 0 where
+  pub durable : s.durable ≡ s.seen
+  pub written : s.written ≡ []
+
+-- each of the ranges begins behind this place
+abbrev pub AreBehind : ℕ → List (ℕ × ℕ) → Type 0
+AreBehind end [] = Unit {0}
+AreBehind end (range ∷ ranges) = (end < range.0) × AreBehind end ranges
+
+-- A closed gate stands at the end of the records, and is durable with them. What was written since the last sync lies behind it, where nothing counts.
 pub record IsReady (s : State) (end : ℕ) : Type 0 where
   pub bodies : List (List ℕ)
   pub gate : ℕ
   pub rest : List ℕ
+  -- what is durable behind the gate
+  pub kept : List ℕ
   pub fit : AllFit bodies
   pub closed : gate ≢ open_gate
   pub seen : s.seen ≡ spelled bodies (gate ∷ rest)
+  pub durable : s.durable ≡ spelled bodies (gate ∷ kept)
   pub end_is : end ≡ length (spelled bodies [])
-  pub durable : s.durable ≡ s.seen
-  pub written : s.written ≡ []
+  pub written : AreBehind end s.written
 
 -- records of these bodies stand in front of a closed gate
 pub record IsSpelled (content : List ℕ) (bodies : List (List ℕ)) (end : ℕ) : Type 0 where
@@ -112,20 +124,23 @@ pub record IsFoundList (old : State) (bodies : List (List ℕ)) (new : State) : 
   pub up : new.stopped ≡ false
   pub reads : (new.seen ≡ old.seen) ⊎ (length new.seen ≤ 1)
 
--- These bodies stand ahead of the list: behind its closed gate at `end`, where nothing of them counts. Behind the last of them, at `at`, stands an open
--- gate; where there are none, `at` is the place of the closed one. All of it is durable.
+-- These bodies read ahead of the list: behind its closed gate at `end`, where nothing of them counts. Behind the last of them, at `at`, stands an open
+-- gate; where there are none, `at` is the place of the closed one. The list and its gate are durable. What is behind the gate need not be: a stop may leave
+-- any bytes there.
 pub record IsAhead (s : State) (end at : ℕ) (ahead : List (List ℕ)) : Type 0 where
   pub bodies : List (List ℕ)
   pub gate : ℕ
   pub rest : List ℕ
+  -- what is durable behind the list's gate
+  pub kept : List ℕ
   pub fit : AllFit bodies
   pub fit_ahead : AllFit ahead
   pub closed : gate ≢ open_gate
   pub seen : s.seen ≡ spelled bodies (gate ∷ drop 1 (spelled ahead (open_gate ∷ rest)))
+  pub durable : s.durable ≡ spelled bodies (gate ∷ kept)
   pub end_is : end ≡ length (spelled bodies [])
   pub at_is : at ≡ end + length (spelled ahead [])
-  pub durable : s.durable ≡ s.seen
-  pub written : s.written ≡ []
+  pub written : AreBehind end s.written
 
 -- some bodies stand ahead of the list, or none
 pub record HasAhead (s : State) (end at : ℕ) : Type 0 where

@@ -1,19 +1,19 @@
-// Bodies that are written ahead of a list: behind its closed gate, where nothing of them counts until it is opened.
+// Bodies that are written ahead of a list: behind its closed gate, where nothing of them counts, and none has to be durable, until it is opened.
 ghost use Rattle.std.specs.Prelude.{◌≡◌, ◌≤◌, ◌<◌, ◌+◌, ◌↔◌, Some, [], ◌∷◌, ◌++◌, true, false, length, OnOk, OnErr, IsErr, List, ℕ};
-ghost use Rattle.gated.specs.Gated.{body_of, gated, max_body, max_device, record_head, HasAhead, HasList, IsAhead, IsOldOrLonger, IsOldOrNone, IsReady, WasPut};
+ghost use Rattle.gated.specs.Gated.{body_of, gated, max_body, max_device, record_head, HasAhead, HasList, IsAhead, IsAllDurable, IsOldOrLonger, IsOldOrNone, IsReady, WasPut};
 ghost use Rattle.device.specs.Device.{Failed, Keeps, Leaves, LeavesOnly, left};
 
 use crate::append::frame;
 use crate::format::{CLOSED, OPEN};
 use device::{Device, Stopped};
 
-/// Writes bytes, and makes them durable before anything else is written.
+/// Writes bytes, and makes them durable with all that was written before them.
 fn put<D: Device>(device: &mut D, at: usize, bytes: &[u8]) -> Result<(), Stopped>
     requires { D.honest device.old → (D.state device.old).stopped ≡ false → at ≤ length (D.state device.old).seen }
     ensures honest { D.honest device.old ↔ D.honest device.new }
     ensures ok { D.honest device.old → OnOk result (WasPut (D.state device.old) at bytes.now (D.state device.new)) }
-    ensures any_moment { D.honest device.old → (D.state device.old).written ≡ []
-        → LeavesOnly D.moment D.left_since device.old device.new (Leaves (D.state device.old).durable ((at, length bytes.now) ∷ [])) }
+    ensures any_moment { D.honest device.old
+        → LeavesOnly D.moment D.left_since device.old device.new (Leaves (D.state device.old).durable ((D.state device.old).written ++ (at, length bytes.now) ∷ [])) }
     ensures stopped { (D.state device.old).stopped ≡ true → IsErr result × (D.honest device.old → Keeps (D.state device.old) (D.state device.new)) }
     ensures still { (D.state device.old).stopped ≡ true → D.honest device.old → LeavesOnly D.moment D.left_since device.old device.new (left (D.state device.old)) }
     ensures counts { (D.state device.old).failures ≤ (D.state device.new).failures }
@@ -24,7 +24,7 @@ fn put<D: Device>(device: &mut D, at: usize, bytes: &[u8]) -> Result<(), Stopped
     device.sync()
 }
 
-/// Writes the body that the buffer has behind those that are ahead, which end at `at`.
+/// Writes the body that the buffer has behind those that are ahead, which end at `at`. It is not synced.
 pub(crate) fn put_ahead<D: Device>(
     device: &mut D,
     end: usize,
@@ -49,8 +49,8 @@ pub(crate) fn put_ahead<D: Device>(
 {
     // The gate behind it is open already: only the last one is closed, once no body comes any more.
     frame(buf, OPEN);
-    // Behind the list's closed gate nothing counts, whatever a stop leaves of it.
-    put(device, at + 1, buf)
+    // Behind the list's closed gate nothing counts, whatever a stop leaves of it. So no sync is needed before that gate is opened.
+    device.write_at(at + 1, buf)
 }
 
 /// Makes all that is ahead the end of the list, whose closed gate stands at `end`.
@@ -59,6 +59,7 @@ pub(crate) fn open_ahead<D: Device>(device: &mut D, end: usize, at: usize) -> Re
     requires ready { D.honest device.old → (D.state device.old).stopped ≡ false → HasAhead (D.state device.old) end at }
     ensures honest { D.honest device.old ↔ D.honest device.new }
     ensures ready { D.honest device.old → OnOk result (IsReady (D.state device.new) at) }
+    ensures durable { D.honest device.old → OnOk result (IsAllDurable (D.state device.new)) }
     ensures ok { (ahead bodies : List (List ℕ)) → D.honest device.old → IsAhead (D.state device.old) end at ahead → HasList (D.state device.old) bodies
         → OnOk result (HasList (D.state device.new) (bodies ++ ahead)) }
     ensures any_moment { (ahead bodies : List (List ℕ)) → D.honest device.old → IsAhead (D.state device.old) end at ahead → HasList (D.state device.old) bodies
@@ -70,6 +71,7 @@ pub(crate) fn open_ahead<D: Device>(device: &mut D, end: usize, at: usize) -> Re
     ensures stopped { (D.state device.old).stopped ≡ true → IsErr result × (D.honest device.old → Keeps (D.state device.old) (D.state device.new)) }
 {
     // The gate behind the last of them ends the list from then on. Behind the closed gate of today it counts for nothing yet.
+    // Its sync makes all that is ahead durable too, which has to be so before the gate is opened that says that it is there.
     put(device, at, &[CLOSED])?;
     // One byte: a stop leaves it open, and with it all that is ahead, or closed and the old list.
     put(device, end, &[OPEN])
@@ -81,6 +83,7 @@ pub(crate) fn close_first<D: Device>(device: &mut D, end: usize) -> Result<(), S
     requires ready { D.honest device.old → (D.state device.old).stopped ≡ false → IsReady (D.state device.old) end }
     ensures honest { D.honest device.old ↔ D.honest device.new }
     ensures ready { D.honest device.old → OnOk result (IsReady (D.state device.new) 0) }
+    ensures durable { D.honest device.old → OnOk result (IsAllDurable (D.state device.new)) }
     ensures ok { D.honest device.old → OnOk result (HasList (D.state device.new) []) }
     ensures any_moment { (bodies : List (List ℕ)) → D.honest device.old → HasList (D.state device.old) bodies
         → LeavesOnly D.moment D.left_since device.old device.new (IsOldOrNone bodies) }

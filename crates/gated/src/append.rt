@@ -1,7 +1,7 @@
 // The four device calls that append a record, and what a stop leaves at each.
 ghost use Rattle.std.specs.Prelude.{◌≡◌, ◌≤◌, ◌<◌, ◌+◌, ◌↔◌, [], ◌∷◌, ◌++◌, true, false, length, OnOk, OnErr, IsErr, List, ℕ};
 ghost use Rattle.std.specs.Int.{w32, to_be_bytes};
-ghost use Rattle.gated.specs.Gated.{body_of, max_body, max_device, record_head, IsReady, HasList, IsOldOrNew};
+ghost use Rattle.gated.specs.Gated.{body_of, max_body, max_device, record_head, IsAllDurable, IsReady, HasList, IsOldOrNew};
 ghost use Rattle.device.specs.Device.{LeavesOnly, Failed, Keeps};
 
 use crate::format::{CLOSED, HEAD, OPEN, SIZE};
@@ -31,6 +31,7 @@ pub(crate) fn append_at<D: Device>(
     requires ready { D.honest device.old → (D.state device.old).stopped ≡ false → IsReady (D.state device.old) end }
     ensures honest { D.honest device.old ↔ D.honest device.new }
     ensures ready { D.honest device.old → OnOk result (IsReady (D.state device.new) (end + length buf.old)) }
+    ensures durable { D.honest device.old → OnOk result (IsAllDurable (D.state device.new)) }
     ensures ok { (bodies : List (List ℕ)) → D.honest device.old → HasList (D.state device.old) bodies → OnOk result (HasList (D.state device.new) (bodies ++ body_of buf.old ∷ [])) }
     ensures up { D.honest device.old → OnOk result ((D.state device.new).stopped ≡ false) }
     ensures counts { (D.state device.old).failures ≤ (D.state device.new).failures }

@@ -1,7 +1,7 @@
 // A log of bodies behind gates: a body counts once its gate is open.
-ghost use Rattle.std.specs.Prelude.{◌≡◌, ◌≤◌, ◌<◌, ◌+◌, ◌^◌, ◌↔◌, ◌⊎◌, ◌∷◌, [], ◌++◌, None, false, true, length, map, List, ℕ, OnOk, IsErr, IfOk, IfErr, MatchResult, IsErrOf};
+ghost use Rattle.std.specs.Prelude.{◌≡◌, ◌≤◌, ◌<◌, ◌+◌, ◌^◌, ◌↔◌, ◌⊎◌, ◌∷◌, [], ◌++◌, None, false, true, length, map, List, ℕ, OnErr, OnOk, IsErr, IfOk, IfErr, MatchResult, IsErrOf};
 ghost use Rattle.device.specs.Device.{LeavesOnly, Failed, HasFailed, Keeps, Elapses, left};
-ghost use Rattle.gated.specs.Gated.{HasList, IsAhead, IsOldOrLonger, IsOldOrNew, IsOldOrNone, body_of, gated, max_body, max_device, record_head, IsFoundList};
+ghost use Rattle.gated.specs.Gated.{HasList, IsAhead, IsAllDurable, IsOldOrLonger, IsOldOrNew, IsOldOrNone, body_of, gated, max_body, max_device, record_head, IsFoundList};
 
 use crate::ahead::{close_first, open_ahead, put_ahead};
 use crate::append::append_at;
@@ -54,9 +54,10 @@ impl<D: Device> GatedLog<D> {
             (λ e. (e.0 ≡ Refusal.Down) ⊎ ((D.state e.1).failures ≡ (D.state device).failures)) }
         ensures end { D.honest device → IfOk result (λ r. r.0.end < length (D.state r.0.device).seen) }
 
-        // Nothing is ahead of it.
+        // Nothing is ahead of it, and all that reads is durable.
         ensures at { IfOk result (λ r. r.0.at ≡ r.0.end) }
         ensures ahead { D.honest device → IfOk result (λ r. IsAhead (D.state r.0.device) r.0.end r.0.at []) }
+        ensures durable { D.honest device → IfOk result (λ r. IsAllDurable (D.state r.0.device)) }
 
         // At every moment of the call a stop leaves what it could leave before, or a content with the list that the device had.
         ensures any_moment { D.honest device → MatchResult result
@@ -92,7 +93,7 @@ impl<D: Device> GatedLog<D> {
         // At every moment of the call a stop leaves the old list or the new one.
         ensures any_moment { (bodies : List (List ℕ)) → D.honest self.old.device → HasList (D.state self.old.device) bodies → LeavesOnly D.moment D.left_since self.old.device self.new.device (IsOldOrNew bodies (body_of buf.old)) }
 
-        // From then on each stop leaves the new one.
+        // From then on each stop leaves the new one, and all that reads is durable.
         ensures ok { (bodies : List (List ℕ)) → D.honest self.old.device → HasList (D.state self.old.device) bodies → OnOk result (HasList (D.state self.new.device) (bodies ++ body_of buf.old ∷ [])) }
         ensures up { D.honest self.old.device → OnOk result ((D.state self.new.device).stopped ≡ false) }
         ensures failed { IsErrOf result Refusal.Down → Failed (D.state self.old.device) (D.state self.new.device) }
@@ -102,7 +103,9 @@ impl<D: Device> GatedLog<D> {
         ensures counts { (D.state self.old.device).failures ≤ (D.state self.new.device).failures }
         ensures none { OnOk result ((D.state self.new.device).failures ≡ (D.state self.old.device).failures) }
         ensures end { OnOk result ((self.new.end ≡ self.old.end + length buf.old) × (self.new.end < max_device)) }
+        ensures unmoved { OnErr result (self.new.end ≡ self.old.end) }
         ensures ahead { D.honest self.old.device → OnOk result (IsAhead (D.state self.new.device) self.new.end self.new.at []) }
+        ensures durable { D.honest self.old.device → OnOk result (IsAllDurable (D.state self.new.device)) }
         ensures at { OnOk result (self.new.at ≡ self.new.end) }
         ensures stopped { (D.state self.old.device).stopped ≡ true → IsErr result × (D.honest self.old.device → Keeps (D.state self.old.device) (D.state self.new.device)) }
     {
@@ -120,7 +123,7 @@ impl<D: Device> GatedLog<D> {
     }
 
     /// Writes the body that stands in the buffer, as `append` takes it, ahead of the list: behind those that are ahead already. Until
-    /// `publish` none of them counts. Two device calls.
+    /// `publish` none of them counts, and none has to be durable. One device call, and no sync.
     ///
     /// `Full` where it would end past 2^40 bytes: nothing has changed. `Down`: the list is as it was, and the log has to be opened
     /// again, after the device was revived; nothing is ahead then.
@@ -159,7 +162,8 @@ impl<D: Device> GatedLog<D> {
         }
     }
 
-    /// Makes all bodies that are ahead the end of the list, by one byte; exactly four device calls.
+    /// Makes all bodies that are ahead the end of the list, by one byte; exactly four device calls. However many bodies there are, its
+    /// first sync makes all of them durable, before that byte is written.
     ///
     /// `Down`: the list is the old one or has all of them, and the log has to be opened again, after the device was revived.
     pub fn publish(&mut self) -> Result<(), Refusal>
@@ -170,10 +174,11 @@ impl<D: Device> GatedLog<D> {
         ensures any_moment { (ahead bodies : List (List ℕ)) → D.honest self.old.device → IsAhead (D.state self.old.device) self.old.end self.old.at ahead → HasList (D.state self.old.device) bodies
             → LeavesOnly D.moment D.left_since self.old.device self.new.device (IsOldOrLonger bodies ahead) }
 
-        // From then on each stop leaves the longer one, and nothing is ahead of it.
+        // From then on each stop leaves the longer one, and nothing is ahead of it. All that reads is durable.
         ensures ok { (ahead bodies : List (List ℕ)) → D.honest self.old.device → IsAhead (D.state self.old.device) self.old.end self.old.at ahead → HasList (D.state self.old.device) bodies
             → OnOk result (HasList (D.state self.new.device) (bodies ++ ahead)) }
         ensures ahead { D.honest self.old.device → OnOk result (IsAhead (D.state self.new.device) self.new.end self.new.at []) }
+        ensures durable { D.honest self.old.device → OnOk result (IsAllDurable (D.state self.new.device)) }
         ensures up { D.honest self.old.device → OnOk result ((D.state self.new.device).stopped ≡ false) }
         ensures failed { IsErrOf result Refusal.Down → Failed (D.state self.old.device) (D.state self.new.device) }
         ensures err { IfErr result (λ e. e ≡ Refusal.Down) }
@@ -192,7 +197,7 @@ impl<D: Device> GatedLog<D> {
     }
 
     /// Makes the list the empty one, by one byte, and forgets what is ahead. Two device calls; none where the list is empty, since
-    /// a write over a gate that is closed might be left as one that is open.
+    /// a write over a gate that is closed might be left as one that is open. What was ahead of an empty list may then wait for a sync still.
     ///
     /// `Down`: the list is the old one or the empty one, and the log has to be opened again, after the device was revived.
     pub fn clear(&mut self) -> Result<(), Refusal>
@@ -201,9 +206,10 @@ impl<D: Device> GatedLog<D> {
         // At every moment of the call a stop leaves the old list, or the empty one.
         ensures any_moment { (bodies : List (List ℕ)) → D.honest self.old.device → HasList (D.state self.old.device) bodies → LeavesOnly D.moment D.left_since self.old.device self.new.device (IsOldOrNone bodies) }
 
-        // From then on each stop leaves the empty one, and nothing is ahead of it.
+        // From then on each stop leaves the empty one, and nothing is ahead of it. Where there was a list, all that reads is durable.
         ensures ok { D.honest self.old.device → (D.state self.old.device).stopped ≡ false → OnOk result (HasList (D.state self.new.device) []) }
         ensures ahead { D.honest self.old.device → (D.state self.old.device).stopped ≡ false → OnOk result (IsAhead (D.state self.new.device) 0 0 []) }
+        ensures durable { D.honest self.old.device → 0 < self.old.end → OnOk result (IsAllDurable (D.state self.new.device)) }
         ensures up { D.honest self.old.device → (D.state self.old.device).stopped ≡ false → OnOk result ((D.state self.new.device).stopped ≡ false) }
         ensures failed { IsErrOf result Refusal.Down → Failed (D.state self.old.device) (D.state self.new.device) }
         ensures err { IfErr result (λ e. e ≡ Refusal.Down) }

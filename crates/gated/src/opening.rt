@@ -1,7 +1,7 @@
 // The list of a device, found at its opening.
 ghost use Rattle.std.specs.Prelude.{◌≡◌, ◌≤◌, ◌⊎◌, ◌↔◌, [], None, true, false, length, map, OnOk, OnErr, IsErr, IsErrOf, IfOk, IfErr, vec_len, ◌∷◌};
 ghost use Rattle.refusal.specs.Refusals.{IsOneOf};
-ghost use Rattle.gated.specs.Gated.{gated, IsReady, IsFoundList};
+ghost use Rattle.gated.specs.Gated.{gated, IsAllDurable, IsReady, IsFoundList};
 ghost use Rattle.device.specs.Device.{Keeps, LeavesOnly, Failed, HasFailed, left};
 
 use crate::format::CLOSED;
@@ -15,6 +15,7 @@ fn make<D: Device>(device: &mut D) -> Result<(), Stopped>
     requires { D.honest device.old → ((D.state device.old).stopped ≡ false) × (length (D.state device.old).seen ≤ 1) }
     ensures honest { D.honest device.old ↔ D.honest device.new }
     ensures ready { D.honest device.old → OnOk result (IsReady (D.state device.new) 0) }
+    ensures durable { D.honest device.old → OnOk result (IsAllDurable (D.state device.new)) }
     ensures ok { D.honest device.old → OnOk result (IsFoundList (D.state device.old) [] (D.state device.new)) }
     ensures err { OnErr result (Failed (D.state device.old) (D.state device.new)) }
     ensures counts { (D.state device.old).failures ≤ (D.state device.new).failures }
@@ -57,6 +58,7 @@ pub(crate) fn find_list<D: Device>(
 ) -> Result<(Vec<Vec<u8>>, usize), Refusal>
     ensures honest { D.honest device.old ↔ D.honest device.new }
     ensures ready { D.honest device.old → IfOk result (λ r. IsReady (D.state device.new) r.1) }
+    ensures durable { D.honest device.old → OnOk result (IsAllDurable (D.state device.new)) }
     ensures ok { D.honest device.old → IfOk result (λ r. IsFoundList (D.state device.old) (map (λ b. b.items) r.0.items) (D.state device.new)) }
     ensures damaged { D.honest device.old → IfErr result (λ e. e ≡ Refusal.Damaged → gated (D.state device.old).seen ≡ None) }
     ensures down { IfErr result (λ e. e ≡ Refusal.Down → HasFailed (D.state device.old) (D.state device.new)) }

@@ -13,8 +13,7 @@ mod failing;
 pub(crate) use asked::Asked;
 use asked::{InFiles, OneFails};
 use failing::Failing;
-use node_files::open_all;
-use refusal::Refusal;
+use node_files::{Mode, open_all};
 use scripts::{InMemory, NoDevices, devices, run_over};
 use std::alloc::Global;
 use std::io::{Read, Write};
@@ -49,9 +48,22 @@ fn run_in_files<R: Read, W: Write>(
     writer: &mut W,
 ) -> u8 {
     let (alloc, store, shards) = (rt.alloc(), asked.store, Shards::of(asked.shards));
-    match open_all(rt, asked.folder, shards) {
-        Ok(files) => run_over(alloc, store, shards, files, NoDevices, reader, writer),
-        Err(refusal) => tell_refusal(rt, refusal),
+    match open_all(rt, asked.folder, store, shards, Mode::Serve) {
+        Ok(opened) => run_over(
+            alloc,
+            store,
+            shards,
+            opened.devices,
+            NoDevices,
+            reader,
+            writer,
+        ),
+        Err(unopened) => {
+            let refusal = unopened.refusal;
+            // A text that can't be printed changes nothing of the status.
+            let _ = eprintln!(rt; "harness: a file can't be opened: {refusal}: {unopened}");
+            FAILED
+        }
     }
 }
 
@@ -75,10 +87,4 @@ fn run_failing<R: Read, W: Write>(
         ),
         Err(_) => FAILED,
     }
-}
-
-fn tell_refusal(rt: &HostRuntime, refusal: Refusal) -> u8 {
-    // A text that can't be printed changes nothing of the status.
-    let _ = eprintln!(rt; "harness: a file can't be opened: {refusal}");
-    FAILED
 }

@@ -7,6 +7,7 @@ mod Found
 pub mod Failures
 mod Fitting
 mod Summaries
+mod Measured
 pub mod Checkpoints
 pub mod Replaced
 pub mod Short

@@ -3,6 +3,7 @@ pub mod Staging
 pub mod Rest
 pub mod Unread
 pub mod Lending
+pub mod Measures
 pub mod Summaries
 pub mod Ahead
 pub mod Sources

@@ -149,6 +149,7 @@ impl Batch {
         ensures none { OnOk result ((D.state log.new.device).failures ≡ (D.state log.old.device).failures) }
         ensures ahead { D.honest log.old.device → OnOk result (IsAhead (D.state log.new.device) log.new.end log.new.at []) }
         ensures end { OnOk result (log.new.end ≡ log.old.end + batch_size self.old + record_head) }
+        ensures unmoved { OnErr result (log.new.end ≡ log.old.end) }
         ensures cause { OnErr result (HasFailed (D.state log.old.device) (D.state log.new.device) ⊎ LacksRoom D.state D.honest log.old.device log.old.end self.old) }
     {
         complete(&mut self.bytes, self.count);

@@ -317,6 +317,9 @@ impl<D: Device> Journal<D> {
     /// records of the source, and one that ends it. It stands on the other bank, which is the current one from then on. It takes the memory of
     /// one batch, before any call of a device.
     ///
+    /// On the other bank each batch, of at most 1 MiB, takes one write and no sync. Two syncs follow: of all that was written, and of the byte that
+    /// makes it count. Where the bank had a list, it is emptied first, by one write and one sync.
+    ///
     /// `Full` behind the last generation, and `NoMemory`: nothing is changed. `Down`, as of a flush: the next opening finds the old records, with
     /// what was staged or without, or the checkpoint.
     pub fn checkpoint<'a, S: Source<'a>>(

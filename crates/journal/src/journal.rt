@@ -59,6 +59,7 @@ pub(crate) fn append_batch<D: Device>(
     ensures counts { (D.state log.old.device).failures ≤ (D.state log.new.device).failures }
     ensures none { OnOk result ((D.state log.new.device).failures ≡ (D.state log.old.device).failures) }
     ensures end { OnOk result (log.new.end ≡ log.old.end + batch_size staged.old + record_head) }
+    ensures unmoved { OnErr result (log.new.end ≡ log.old.end) }
     ensures cause { OnErr result (HasFailed (D.state log.old.device) (D.state log.new.device) ⊎ LacksRoom D.state D.honest log.old.device log.old.end staged.old) }
 {
     staged.append_to(log)?;
@@ -89,6 +90,7 @@ fn append_current<D: Device>(
     ensures counts { ((D.state a.old.device).failures ≤ (D.state a.new.device).failures) × ((D.state b.old.device).failures ≤ (D.state b.new.device).failures) }
     ensures none { OnOk result (((D.state a.new.device).failures ≡ (D.state a.old.device).failures) × ((D.state b.new.device).failures ≡ (D.state b.old.device).failures)) }
     ensures end { OnOk result (bank_of is_b a.new.end b.new.end ≡ bank_of is_b a.old.end b.old.end + batch_size staged.old + record_head) }
+    ensures unmoved { OnErr result (bank_of is_b a.new.end b.new.end ≡ bank_of is_b a.old.end b.old.end) }
     ensures cause { OnErr result (HasFailed (D.state a.old.device) (D.state a.new.device) ⊎ (HasFailed (D.state b.old.device) (D.state b.new.device)
         ⊎ BankLacksRoom D.state D.honest a.old.device b.old.device (bank_of is_b a.old.end b.old.end) staged.old)) }
 {
@@ -179,6 +181,7 @@ impl<D: Device> Journal<D> {
         ensures counts { ((D.state self.old.a).failures ≤ (D.state self.new.a).failures) × ((D.state self.old.b).failures ≤ (D.state self.new.b).failures) }
         ensures none { OnOk result (((D.state self.new.a).failures ≡ (D.state self.old.a).failures) × ((D.state self.new.b).failures ≡ (D.state self.old.b).failures)) }
         ensures end { OnOk result ((self.old.staged ≡ []) ⊎ (self.new.end ≡ after_batch self.old)) }
+        ensures unmoved { OnErr result (self.new.end ≡ self.old.end) }
 
         // Where a device failed before, or nothing is staged, no call is made.
         ensures quiet { ((self.old.is_down ≡ true) ⊎ (self.old.staged ≡ [])) → self.new ≡ self.old }

@@ -1,15 +1,18 @@
 -- A check of a shared store goes on to hold what is of the list, turn by turn.
-use Rattle.std.proofs.Common.{◌≡◌, inl, inr, ⊎_elim, ◌≤◌, ℕ, List, length, Bool, Option, Some, None, Result, Ok, Err, IfOk, MatchOption, refl, sym, ◌∙◌, ap, subst}
+use Rattle.std.proofs.Common.{◌≡◌, ◌⊎◌, inl, inr, ⊎_elim, ◌≤◌, ℕ, List, length, Bool, Option, Some, None, Result, Ok, Err, IfOk, MatchOption, refl, sym, ◌∙◌, ap, subst}
 use Rattle.locked.proofs.Words.{at_rest, begins_at, CallName, catch_up, CheckFlowValue, CheckHasReason, checks_at_rest_have_reason, CheckView, Entry, exact, Freshness, heads, IsAsAsked, IsBeyond, IsCheckOf, IsFresh, Known, LiesBeyond, Narrows, Reply, Turns, User, Userset}
 use Rattle.calls.specs.declared.call.ShardCall.TheVariants as shard_calls
 use Rattle.answer_flow.specs.Checking.{Asks, GivesTo}
-use Rattle.answer_flow.specs.CheckViews.{CheckAwaited, CheckEnding, CheckStep}
+use Rattle.answer_flow.specs.CheckViews.{CheckAwaited, CheckEnding, CheckStep, checked, refused}
 use Rattle.answer_flow.specs.Running.{AsksCheck, GivesCheck}
 use Rattle.flow_ties.specs.Checks.{CheckTurns, IsMembershipAt, IsTooFar}
 use Rattle.flow_ties.proofs.SeenChecks.{checks_answer_what_is_seen, checks_begin, checks_begin_at_places, checks_stay_seen}
 use Rattle.flow_ties.proofs.ToldChecks.{checks_refuse_for_a_reason}
-use Rattle.locked.specs.Answering.{CheckEnds, CheckRefuses, CheckRuns}
-use Rattle.locked.proofs.FreshPlaces.{beyond_is_fresh, fresh_is_as_asked, place_is_reached, reason_asked}
+use Rattle.calls.specs.Refusing.{HasTold}
+use Rattle.refusal.specs.declared.refusal.Refusal.{Refusal}
+use Rattle.refusal.specs.declared.refusal.Refusal.TheVariants.{Collected, Full, NoMemory}
+use Rattle.locked.specs.Answering.{CheckEnds, CheckRefuses, CheckRuns, IsNotThere, IsPassed}
+use Rattle.locked.proofs.FreshPlaces.{beyond_is_fresh, fresh_is_as_asked, fresh_of_less, passed_is_not_there, place_is_reached, reason_asked, reason_of_less}
 
 -- what the reply makes of it, in its own words
 gives_to : (v out : CheckFlowValue) (awaited : CheckAwaited) (reply : Reply) (after : CheckView) → out ≡ record v { seen = out.seen; next_name = None } → out.seen.awaited ≡ Some awaited
@@ -122,3 +125,26 @@ check_refuses rests shards seen longer asked before low marks x u flow after end
     (λ why. inl (reason_asked asked before (length seen) longer low e le marks flow.fresh runs.narrows runs.beyond why))
     (λ (full, far). inr (full, too_far_as_asked flow.fresh asked before longer x runs.narrows far))
     (reason e (sym ended ∙ ap (λ (e : CheckEnding). Some e) is))
+
+-- what a check ends with is as good where less had been seen before it
+pub check_ends_of_less : (seen : List Entry) (asked : Freshness) (less more : ℕ) (x : Userset) (u : User) (end : CheckEnding) → less ≤ more → CheckEnds seen asked more x u end → CheckEnds seen asked less x u end
+check_ends_of_less seen asked less more x u end le ends place answer is =
+    let it = ends place answer is in
+    (fresh_of_less asked less more place le it.0, it.1)
+
+pub check_refuses_of_less : (marks : List Bool) (seen : List Entry) (low : ℕ) (asked : Freshness) (less more : ℕ) (x : Userset) (end : CheckEnding) → less ≤ more → CheckRefuses marks seen low asked more x end
+    → CheckRefuses marks seen low asked less x end
+check_refuses_of_less marks seen low asked less more x end le refuses e is = ⊎_elim
+    (λ why. inl (reason_of_less asked less more seen low marks e le why))
+    (λ far. inr (far.0, record { place = far.1.place; there = far.1.there; wanted = fresh_of_less asked less more far.1.place le far.1.wanted; reaches = far.1.reaches }))
+    (refuses e is)
+
+refusal_in : CheckEnding → Refusal
+refusal_in (refused e) = e
+refusal_in (checked place answer) = NoMemory
+
+-- just one place that the horizon has passed is refused for that reason
+pub passed_refuses_check : (marks : List Bool) (seen : List Entry) (low : ℕ) (asked : Freshness) (before : ℕ) (x : Userset) → IsPassed asked low → CheckRefuses marks seen low asked before x (refused Collected)
+unfolding refusal_in
+passed_refuses_check marks seen low asked before x passed e is =
+    subst (λ (e : Refusal). (HasTold marks e ⊎ ((e ≡ NoMemory) ⊎ IsNotThere asked before seen low e)) ⊎ ((e ≡ Full) × IsTooFar seen (IsFresh asked before) x)) (ap refusal_in is) (inl (inr (inr (passed_is_not_there asked before low seen passed))))

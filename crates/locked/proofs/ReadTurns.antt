@@ -1,16 +1,19 @@
 -- A read of a shared store goes on to hold what is of the list, turn by turn.
-use Rattle.std.proofs.Common.{◌≡◌, inl, inr, ◌≤◌, ℕ, List, Bool, length, Option, Some, None, MatchOption, refl, sym, ◌∙◌, ap, subst}
+use Rattle.std.proofs.Common.{◌≡◌, ◌⊎◌, inl, inr, ◌≤◌, ℕ, List, Bool, length, Option, Some, None, MatchOption, refl, sym, ◌∙◌, ap, subst}
 use Rattle.locked.proofs.Words.{Entry, exact, Freshness, HasReason, IsAsAsked, IsBeyond, IsFresh, IsReadOf, Known, LiesBeyond, ReadFlowValue, ReadHasReason, reads_at_rest_have_reason, ReadView, Reply, Tupleset, Turns}
 use Rattle.decisions.specs.Flows.{nothing_read}
 use Rattle.calls.specs.declared.call.ShardCall.TheVariants as shard_calls
 use Rattle.answer_flow.specs.Reading.{Asks, Continues, GivesTo}
-use Rattle.answer_flow.specs.ReadViews.{ReadAwaited, ReadEnding, at_rest, heads}
+use Rattle.answer_flow.specs.ReadViews.{ReadAwaited, ReadEnding, at_rest, heads, refused, selected}
 use Rattle.answer_flow.specs.Running.{AsksRead, GivesRead}
 use Rattle.flow_ties.specs.Reads.{AreRowsAt, ReadTurns}
 use Rattle.flow_ties.proofs.ToldReads.{reads_begin_for_a_reason, reads_refuse_for_a_reason}
 use Rattle.flow_ties.proofs.SeenReads.{reads_answer_what_is_seen, reads_begin, reads_begin_at_places}
-use Rattle.locked.specs.Answering.{ReadEnds, ReadRefuses, ReadRuns}
-use Rattle.locked.proofs.FreshPlaces.{beyond_is_fresh, fresh_is_as_asked, place_is_reached, reason_asked}
+use Rattle.calls.specs.Refusing.{HasTold}
+use Rattle.refusal.specs.declared.refusal.Refusal.{Refusal}
+use Rattle.refusal.specs.declared.refusal.Refusal.TheVariants.{Collected, NoMemory}
+use Rattle.locked.specs.Answering.{IsNotThere, IsPassed, ReadEnds, ReadRefuses, ReadRuns}
+use Rattle.locked.proofs.FreshPlaces.{beyond_is_fresh, fresh_is_as_asked, fresh_of_less, passed_is_not_there, place_is_reached, reason_asked, reason_of_less}
 
 -- what the reply makes of it, in its own words
 gives_to : (shards : ℕ) (v out : ReadFlowValue) (awaited : ReadAwaited) (reply : Reply) (after : ReadView) → v.shards ≡ shards → out ≡ record v { seen = out.seen; next_name = None } → out.seen.awaited ≡ Some awaited
@@ -104,3 +107,21 @@ pub read_refuses : (rests : Type 0) (shards : ℕ) (seen longer : List Entry) (a
 read_refuses rests shards seen longer asked before low marks sets flow after end runs le fresh reason ended e is =
     let why = reason e (sym ended ∙ ap (λ (e : ReadEnding). Some e) is) in
     reason_asked asked before (length seen) longer low e le marks flow.fresh runs.narrows runs.beyond (subst (λ (f : Freshness). HasReason marks f longer low e) fresh why)
+
+-- what a read ends with is as good where less had been seen before it
+pub read_ends_of_less : (seen : List Entry) (asked : Freshness) (less more : ℕ) (sets : List Tupleset) (end : ReadEnding) → less ≤ more → ReadEnds seen asked more sets end → ReadEnds seen asked less sets end
+read_ends_of_less seen asked less more sets end le ends place done is =
+    let it = ends place done is in
+    (fresh_of_less asked less more place le it.0, it.1)
+
+pub read_refuses_of_less : (marks : List Bool) (seen : List Entry) (low : ℕ) (asked : Freshness) (less more : ℕ) (end : ReadEnding) → less ≤ more → ReadRefuses marks seen low asked more end → ReadRefuses marks seen low asked less end
+read_refuses_of_less marks seen low asked less more end le refuses e is = reason_of_less asked less more seen low marks e le (refuses e is)
+
+refusal_in : ReadEnding → Refusal
+refusal_in (refused e) = e
+refusal_in (selected place done) = NoMemory
+
+-- just one place that the horizon has passed is refused for that reason
+pub passed_refuses_read : (marks : List Bool) (seen : List Entry) (low : ℕ) (asked : Freshness) (before : ℕ) → IsPassed asked low → ReadRefuses marks seen low asked before (refused Collected)
+unfolding refusal_in
+passed_refuses_read marks seen low asked before passed e is = subst (λ (e : Refusal). HasTold marks e ⊎ ((e ≡ NoMemory) ⊎ IsNotThere asked before seen low e)) (ap refusal_in is) (inr (inr (passed_is_not_there asked before low seen passed)))

@@ -133,7 +133,7 @@ store_sync D B G g h d e b c y =
     let fy = launch_sync in
     let ts = attempt_send in
     let ty = attempt_sync in
-    let all : AllSync (declared.fields (Store.the_type D B G g h)) = (y, (search (lease_send, lease_sync, shared.the_send, shared.the_sync, sendable, crosses) depth 400 fits 50000, (search (lease_send, lease_sync, shared.the_send, shared.the_sync, sendable, crosses) depth 400 fits 50000, (search (lease_send, lease_sync, shared.the_send, shared.the_sync, sendable, crosses) depth 400 fits 50000, (search (lease_send, lease_sync, shared.the_send, shared.the_sync, sendable, crosses) depth 400 fits 50000, (search (lease_send, lease_sync, shared.the_send, shared.the_sync, sendable, crosses) depth 400 fits 50000, (search (lease_send, lease_sync, shared.the_send, shared.the_sync, sendable, crosses) depth 400 fits 50000, (search (lease_send, lease_sync, shared.the_send, shared.the_sync, sendable, crosses) depth 400 fits 50000, (search (lease_send, lease_sync, shared.the_send, shared.the_sync, sendable, crosses) depth 400 fits 50000, (search (lease_send, lease_sync, shared.the_send, shared.the_sync, sendable, crosses) depth 400 fits 50000, tt)))))))))) in
+    let all : AllSync (declared.fields (Store.the_type D B G g h)) = (y, (search (lease_send, lease_sync, shared.the_send, shared.the_sync, sendable, crosses) depth 400 fits 50000, (search (lease_send, lease_sync, shared.the_send, shared.the_sync, sendable, crosses) depth 400 fits 50000, (search (lease_send, lease_sync, shared.the_send, shared.the_sync, sendable, crosses) depth 400 fits 50000, (search (lease_send, lease_sync, shared.the_send, shared.the_sync, sendable, crosses) depth 400 fits 50000, (search (lease_send, lease_sync, shared.the_send, shared.the_sync, sendable, crosses) depth 400 fits 50000, (search (lease_send, lease_sync, shared.the_send, shared.the_sync, sendable, crosses) depth 400 fits 50000, (search (lease_send, lease_sync, shared.the_send, shared.the_sync, sendable, crosses) depth 400 fits 50000, (search (lease_send, lease_sync, shared.the_send, shared.the_sync, sendable, crosses) depth 400 fits 50000, (search (lease_send, lease_sync, shared.the_send, shared.the_sync, sendable, crosses) depth 400 fits 50000, (search (lease_send, lease_sync, shared.the_send, shared.the_sync, sendable, crosses) depth 400 fits 50000, tt))))))))))) in
     recorded_sync _ _ _ (Store.the_type D B G g h).to_one (struct_sync (declared.shape (Store.the_type D B G g h)) all)
 
 pub caller_send : (B : RattleType) (h : Room.Ghosts B.Denot) → IsSend B → IsSend (Caller.the_row B h)

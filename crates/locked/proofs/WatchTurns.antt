@@ -1,5 +1,5 @@
 -- A watch of a shared store goes on to hold what is of the list, turn by turn.
-use Rattle.std.proofs.Common.{◌≡◌, ◌≤◌, ℕ, List, Bool, true, false, length, Option, Some, None, Ok, is_some, refl, MatchOption, sym, ◌∙◌, ap, subst, arith}
+use Rattle.std.proofs.Common.{◌≡◌, ◌⊎◌, inl, inr, ⊎_elim, ◌≤◌, ℕ, List, Bool, true, false, length, Option, Some, None, Ok, is_some, refl, MatchOption, sym, ◌∙◌, ap, subst, arith}
 use Rattle.locked.proofs.Words.{Coordinator, Entry, exact, from_coordinator, HasReason, IsWatchOf, Known, max_watched, NodeCall, Reply, Turns, WatchFlowValue, WatchHasReason}
 use Rattle.calls.specs.declared.call.CoordinatorCall.TheVariants.{Batch, Heads}
 use Rattle.calls.specs.declared.call.ShardCall.TheVariants as shard_calls
@@ -78,3 +78,9 @@ pub watch_refuses : (cursor : ℕ) (seen : List Entry) (low : ℕ) (marks : List
     → WatchRefuses marks seen low cursor end
 watch_refuses cursor seen low marks flow after end of_cursor reason ended e is =
     subst (λ (n : ℕ). HasReason marks (exact n) seen low e) of_cursor (reason e (sym ended ∙ ap (λ (e : WatchEnding). Some e) is))
+
+-- what a watch lists is as good where less had been seen before it
+pub watch_ends_of_less : (cursor limit : ℕ) (names : List (List ℕ)) (less more : ℕ) (seen : List Entry) (end : WatchEnding) → less ≤ more → WatchEnds cursor limit names more seen end → WatchEnds cursor limit names less seen end
+watch_ends_of_less cursor limit names less more seen end le ends place changes is =
+    let it = ends place changes is in
+    record { there = it.there; behind = it.behind; within = it.within; far = ⊎_elim (λ whole. inl whole) (λ reaches. inr (omega (arith, le, reaches))) it.far; all = it.all }

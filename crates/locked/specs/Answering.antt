@@ -43,6 +43,18 @@ LiesBeyond narrow asked so_far = (n : ℕ) → so_far ≤ n → IsBeyond narrow 
 abbrev pub IsNotThere : Freshness → ℕ → List Entry → ℕ → Refusal → Type 0
 IsNotThere asked before seen low e = ((e ≡ Future) × IsBeyond asked (length seen)) ⊎ ((e ≡ Collected) × ((place : ℕ) × IsFresh asked before place × (place < low)))
 
+-- just one place will do
+abbrev pub IsJustOne : Freshness → Type 0
+IsJustOne latest = ⊥
+IsJustOne (at_least z) = ⊥
+IsJustOne (exact z) = Unit {0}
+
+-- just one place will do, and it lies below a horizon
+abbrev pub IsPassed : Freshness → ℕ → Type 0
+IsPassed latest low = ⊥
+IsPassed (at_least z) low = ⊥
+IsPassed (exact z) low = z < low
+
 -- so much of the list had been seen before it, and what it holds is so where the store rested when it was opened
 module _ (rests : Type 0) (shards : ℕ) (seen : List Entry) (asked : Freshness) (before : ℕ) where
   -- a read of these tuplesets on its way, of the list, at a place as fresh as asked

@@ -4,3 +4,4 @@ pub mod Answering
 pub mod Writing
 pub mod Opening
 pub mod Looking
+pub mod AtRest

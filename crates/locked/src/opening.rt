@@ -279,6 +279,7 @@ impl<D: Device, B: Room, G: Gate> Store<D, B, G> {
                     gate,
                     bell,
                     closed: AtomicBool::new(false),
+                    is_called: AtomicBool::new(true),
                     words,
                     attempts,
                     coordinator,

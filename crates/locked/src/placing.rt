@@ -1,12 +1,22 @@
 // The place of an answer that needs no call of the coordinator.
-ghost use Rattle.std.specs.Prelude.{◌≤◌, ◌<◌, length, IfSome, IfNone};
+ghost use Rattle.std.specs.Prelude.{◌≡◌, ◌≤◌, ◌<◌, length, true, false, IfSome, IfNone};
 ghost use Rattle.sides.specs.Sides.{IsLater};
-ghost use Rattle.locked.specs.Answering.{IsBeyond, IsFresh};
+ghost use Rattle.locked.specs.Answering.{IsBeyond, IsFresh, IsJustOne, IsPassed};
 
 use crate::{Caller, Gate, Store};
 use device::Device;
 use sides::Room;
 use tuples::Freshness;
+
+// Whether just one place will do.
+pub(crate) fn is_exact(freshness: Freshness) -> bool
+    ensures { result ≡ true → IsJustOne freshness }
+{
+    match freshness {
+        Freshness::Exact(_) => true,
+        Freshness::Latest | Freshness::AtLeast(_) => false,
+    }
+}
 
 impl<D: Device, B: Room, G: Gate> Store<D, B, G> {
     /// The place of an answer that is as fresh as asked, by the published word. None where what is asked for lies above that.
@@ -22,6 +32,17 @@ impl<D: Device, B: Room, G: Gate> Store<D, B, G> {
             Freshness::AtLeast(place) if place <= latest => Some(latest),
             Freshness::Exact(place) if place <= latest => Some(place),
             Freshness::AtLeast(_) | Freshness::Exact(_) => None,
+        }
+    }
+    /// Whether just one place will do, and the horizon has passed it, by one load where it is just one.
+    pub(crate) fn has_passed(&self, caller: &mut Caller<B>, freshness: Freshness) -> bool
+        ensures caller { IsLater caller.old caller.new }
+        ensures passed { result ≡ true → IsPassed freshness caller.new.horizon }
+        ensures ahead { result ≡ false → IsPassed freshness caller.old.horizon → ⊥ }
+    {
+        match freshness {
+            Freshness::Exact(place) => place < self.horizon(caller),
+            Freshness::Latest | Freshness::AtLeast(_) => false,
         }
     }
 }

@@ -1,11 +1,12 @@
 // Reads of a shared store.
-ghost use Rattle.std.specs.Prelude.{◌≡◌, Bool, List, length, None, Some};
+ghost use Rattle.std.specs.Prelude.{◌≡◌, Bool, List, length, None, Some, false};
 ghost use Rattle.answer_flow.specs.ReadViews.{ending_of};
 ghost use Rattle.answer_flow.specs.Reading.{HastensRead};
 ghost use Rattle.flow_ties.specs.Reads.{IsReadOf, ReadHasReason};
 ghost use Rattle.sides.specs.Sides.{IsLater};
-ghost use Rattle.locked.specs.Answering.{ReadEnds, ReadRefuses, ReadRuns};
+ghost use Rattle.locked.specs.Answering.{IsJustOne, IsPassed, ReadEnds, ReadRefuses, ReadRuns};
 
+use crate::placing::is_exact;
 use crate::{Caller, Gate, Store};
 use answer_flow::{ReadEnd, ReadFlow};
 use calls::Told;
@@ -13,18 +14,33 @@ use device::Device;
 use sides::Room;
 use std::alloc::Global;
 use std::sync::Wait;
-use tuples::{Freshness, Tupleset};
+use tuples::{Freshness, Refusal, Tupleset};
 
-// What it ended with; it has ended.
-fn ended(flow: ReadFlow) -> ReadEnd
+// What it ended with, and the tuplesets that it was asked for; it has ended.
+fn ended(flow: ReadFlow) -> (ReadEnd, Vec<Tupleset>)
     requires named { flow.next_name ≡ None }
     requires rests { flow.seen.awaited ≡ None }
-    ensures { Some (ending_of result) ≡ flow.seen.ended }
+    ensures end { Some (ending_of result.0) ≡ flow.seen.ended }
+    ensures sets { result.1.items ≡ flow.sets }
 {
     let _name = flow.next_name();
-    match flow.finish() {
-        Some(end) => end,
+    let (end, sets) = flow.into_parts();
+    match end {
+        Some(end) => (end, sets),
         None => unreachable!(),
+    }
+}
+
+// Whether it ended since the horizon had passed its place meanwhile, though a later one would do.
+fn begins_again(freshness: Freshness, end: &ReadEnd) -> bool
+    ensures { result ≡ false → end.now ≡ ReadEnd.Refused Refusal.Collected → IsJustOne freshness }
+{
+    if is_exact(freshness) {
+        return false;
+    }
+    match end {
+        ReadEnd::Refused(refusal) => *refusal == Refusal::Collected,
+        ReadEnd::Answered(..) => false,
     }
 }
 
@@ -89,10 +105,31 @@ impl<D: Device, B: Room, G: Gate> Store<D, B, G> {
         unreachable!()
     }
 
+    // The read as `read` makes it, once: where the horizon passes its place meanwhile, it ends with `Collected`. It gives the tuplesets back.
+    fn try_read<R: Wait>(
+        &self,
+        rt: &R,
+        alloc: Global,
+        caller: &mut Caller<B>,
+        told: &mut Told,
+        freshness: Freshness,
+        sets: Vec<Tupleset>,
+    ) -> (ReadEnd, Vec<Tupleset>)
+        ensures caller { IsLater caller.old caller.new }
+        ensures answer { B.rests → ReadEnds caller.new.seen freshness (length caller.old.seen) sets.items (ending_of result.0) }
+        ensures refused { B.rests → ReadRefuses told.new caller.new.seen caller.new.horizon freshness (length caller.old.seen) (ending_of result.0) }
+        ensures sets { result.1.items ≡ sets.items }
+    {
+        let flow = self.begin_read(alloc, caller, freshness, sets);
+        let flow = self.run_read(rt, caller, told, flow);
+        ended(flow)
+    }
+
     /// The tuples of each tupleset at one place, which it tells: just the one that was asked for, or else one no older than all that the caller had seen. It
     /// is known from the published word where that is far enough, so that no shard waits for the coordinator. Where memory is refused it ends with
-    /// `NoMemory`; where the place that was asked for lies above the list, with `Future`; where that of the answer lies below the horizon, with `Collected`;
-    /// where a node refuses, with that refusal, which has then been told: hand in a `Told` that is empty.
+    /// `NoMemory`; where the place that was asked for lies above the list, with `Future`; where just one was asked for and it lies below the horizon, with
+    /// `Collected`, and where any later one would do, it begins again at a later one; where a node refuses, with that refusal, which has then been told: hand in
+    /// a `Told` that is empty.
     pub fn read<R: Wait>(
         &self,
         rt: &R,
@@ -105,9 +142,21 @@ impl<D: Device, B: Room, G: Gate> Store<D, B, G> {
         ensures caller { IsLater caller.old caller.new }
         ensures answer { B.rests → ReadEnds caller.new.seen freshness (length caller.old.seen) sets.items (ending_of result) }
         ensures refused { B.rests → ReadRefuses told.new caller.new.seen caller.new.horizon freshness (length caller.old.seen) (ending_of result) }
+        ensures passed { IsPassed freshness caller.old.horizon → result ≡ ReadEnd.Refused Refusal.Collected }
+        ensures collected { result ≡ ReadEnd.Refused Refusal.Collected → IsJustOne freshness }
     {
-        let flow = self.begin_read(alloc, caller, freshness, sets);
-        let flow = self.run_read(rt, caller, told, flow);
-        ended(flow)
+        if self.has_passed(caller, freshness) {
+            return ReadEnd::Refused(Refusal::Collected);
+        }
+        let mut sets = sets;
+        for _ in rt.forever() {
+            let (end, asked) = self.try_read(rt, alloc, caller, told, freshness, sets);
+            if !begins_again(freshness, &end) {
+                drop(asked);
+                return end;
+            }
+            sets = asked;
+        }
+        unreachable!()
     }
 }

@@ -4,7 +4,7 @@ ghost use Rattle.care_flow.specs.Cares.{IsThere, begun};
 ghost use Rattle.names.specs.declared.care.Care.TheVariants.{Checkpoint as checkpoint_of};
 ghost use Rattle.sides.specs.Sides.{IsLater};
 
-use crate::{Caller, Gate, Store};
+use crate::{Caller, Gate, Notice, Store};
 use calls::Told;
 use care_flow::CareEnd;
 use device::Device;
@@ -60,73 +60,124 @@ impl<D: Device, B: Room, G: Gate> Store<D, B, G> {
         }
     }
 
-    // Those of a store that was just opened. Where the horizon was never raised nothing can be forgotten yet: a checkpoint would leave about as much as was
-    // found, and keep callers waiting for it right behind the start.
-    pub(crate) fn first_limits<R: Wait>(&self, rt: &R, caller: &mut Caller<B>) -> Limits
-        ensures caller { IsLater caller.old caller.new }
+    // How many bytes a checkpoint of the node has; none where its opening was refused, or there is no memory to tell.
+    fn checkpoint_len<R: Wait>(&self, rt: &R, node: NodeName) -> Option<u64>
+        requires there { IsThere B.shards (begun B.shards (checkpoint_of node)) }
     {
-        let mut limits = Limits::new();
-        if self.horizon(caller) > 0 {
-            return limits;
+        match node {
+            NodeName::Coordinator => self.coordinator.lock(rt).checkpoint_len(),
+            NodeName::Shard(shard) => self.side_to_read(rt, shard).checkpoint_len(),
         }
-        limits.coordinator = limit_behind(self.bank_len(rt, NodeName::Coordinator));
+    }
+
+    // Whether the disk of the node has the room for a checkpoint of so many bytes, as far as that can be told.
+    fn has_point_room<R: Wait>(&self, rt: &R, node: NodeName, len: u64) -> bool
+        requires there { IsThere B.shards (begun B.shards (checkpoint_of node)) }
+    {
+        match node {
+            NodeName::Coordinator => self.coordinator.lock(rt).has_point_room(len),
+            NodeName::Shard(shard) => self.side_to_read(rt, shard).has_point_room(len),
+        }
+    }
+
+    // Up to how many bytes the bank of a node may grow that was just opened: its last checkpoint left about what the next one would have now.
+    fn first_limit<R: Wait>(&self, rt: &R, node: NodeName) -> u64
+        requires there { IsThere B.shards (begun B.shards (checkpoint_of node)) }
+    {
+        match self.checkpoint_len(rt, node) {
+            Some(len) => limit_behind(len),
+            None => LEAST_LIMIT,
+        }
+    }
+
+    // Those of a store that was just opened.
+    pub(crate) fn first_limits<R: Wait>(&self, rt: &R) -> Limits {
+        let mut limits = Limits::new();
+        limits.coordinator = self.first_limit(rt, NodeName::Coordinator);
         for shard in 0..self.count.count() {
-            limits.shards[shard as usize] = limit_behind(self.bank_len(rt, NodeName::Shard(shard)));
+            limits.shards[shard as usize] = self.first_limit(rt, NodeName::Shard(shard));
         }
         limits
     }
 
-    // The node makes a checkpoint where its bank is longer than its limit. The limit from then on.
-    fn shorten<R: Wait>(
+    // Whether nothing is known that keeps the node from a checkpoint. It is told if the disk lacks the room.
+    fn may_shorten<R: Wait, N: Notice>(&self, rt: &R, node: NodeName, notice: &mut N) -> bool
+        requires there { IsThere B.shards (begun B.shards (checkpoint_of node)) }
+    {
+        let Some(len) = self.checkpoint_len(rt, node) else {
+            return true;
+        };
+        if self.has_point_room(rt, node, len) {
+            return true;
+        }
+        notice.put_off(node, len);
+        false
+    }
+
+    // The node makes a checkpoint if its bank is longer than its limit and its disk has the room. The limit from then on.
+    fn shorten<R: Wait, N: Notice>(
         &self,
         rt: &R,
         alloc: Global,
         caller: &mut Caller<B>,
         node: NodeName,
         limit: u64,
+        notice: &mut N,
     ) -> u64
         requires there { IsThere B.shards (begun B.shards (checkpoint_of node)) }
         ensures caller { IsLater caller.old caller.new }
     {
-        if self.bank_len(rt, node) <= limit {
+        let len = self.bank_len(rt, node);
+        if len <= limit {
             return limit;
+        }
+        // One that is put off or refused is tried again once so much more was written: a node that is down does not grow, and asking for room fills a disk that
+        // has none to its last byte.
+        let later = len.saturating_add(LEAST_LIMIT);
+        if !self.may_shorten(rt, node, notice) {
+            return later;
         }
         let care = Care::Checkpoint(node);
         match self.care(rt, alloc, caller, &mut Told::new(), care) {
-            CareEnd::Done => limit_behind(self.bank_len(rt, node)),
-            // One that was refused is tried again behind the next round.
-            _ => limit,
+            CareEnd::Done => {
+                notice.shortened(node);
+                limit_behind(self.bank_len(rt, node))
+            }
+            _ => later,
         }
     }
 
     // The same at each shard, each with a limit of its own.
-    fn shorten_shards<R: Wait>(
+    fn shorten_shards<R: Wait, N: Notice>(
         &self,
         rt: &R,
         alloc: Global,
         caller: &mut Caller<B>,
         limits: &mut [u64; MAX_SHARDS as usize],
+        notice: &mut N,
     )
         ensures caller { IsLater caller.old caller.new }
     {
         for shard in 0..self.count.count() {
             let at = shard as usize;
-            limits[at] = self.shorten(rt, alloc, caller, NodeName::Shard(shard), limits[at]);
+            let node = NodeName::Shard(shard);
+            limits[at] = self.shorten(rt, alloc, caller, node, limits[at], notice);
         }
     }
 
     // Each node makes one where its bank is longer than its own limit.
-    pub(crate) fn shorten_all<R: Wait>(
+    pub(crate) fn shorten_all<R: Wait, N: Notice>(
         &self,
         rt: &R,
         alloc: Global,
         caller: &mut Caller<B>,
         limits: &mut Limits,
+        notice: &mut N,
     )
         ensures caller { IsLater caller.old caller.new }
     {
         let node = NodeName::Coordinator;
-        limits.coordinator = self.shorten(rt, alloc, caller, node, limits.coordinator);
-        self.shorten_shards(rt, alloc, caller, &mut limits.shards);
+        limits.coordinator = self.shorten(rt, alloc, caller, node, limits.coordinator, notice);
+        self.shorten_shards(rt, alloc, caller, &mut limits.shards, notice);
     }
 }

@@ -23,6 +23,8 @@ pub struct Store<D: Device, B: Room, G: Gate> {
     // wakes whoever tends it
     pub(crate) bell: Unparker,
     pub(crate) closed: AtomicBool,
+    // whether who tends it is to make a round
+    pub(crate) is_called: AtomicBool,
     pub(crate) words: Published<Entry>,
     // all decisions that were ever staged
     pub(crate) attempts: Published<Attempt>,

@@ -4,6 +4,7 @@ ghost use Rattle.care_flow.specs.Cares.{IsThere, begun};
 ghost use Rattle.names.specs.declared.care.Care.TheVariants.{Flush as flush_of};
 ghost use Rattle.sides.specs.Sides.{IsLater};
 
+use crate::shortening::Limits;
 use crate::{Caller, Gate, Notice, Store};
 use calls::Told;
 use care_flow::CareEnd;
@@ -14,7 +15,11 @@ use sides::Room;
 use std::alloc::{AllocError, Global};
 use std::sync::Wait;
 use std::sync::atomic::Ordering;
+use std::time::{Clock, Duration};
 use tuples::Refusal;
+
+// Whoever tends a store looks so often whether a round was called for: a write that was refused may have left tuples held, and wakes nobody.
+const SECONDS_A_LOOK: u64 = 1;
 
 /// What wakes whoever tends a store, and what sleeps there: the bell is for `Store::open`, and the parker for `Store::keep`.
 pub(crate) fn new_bell(alloc: Global) -> Result<(Parker, Unparker), AllocError> {
@@ -133,12 +138,36 @@ impl<D: Device, B: Room, G: Gate> Store<D, B, G> {
         self.flush_all(rt, alloc, caller, notice);
     }
 
+    // A round, if one was called for or the store is closed. Whether it is closed.
+    fn make_round<R: Wait, N: Notice>(
+        &self,
+        rt: &R,
+        alloc: Global,
+        caller: &mut Caller<B>,
+        window: u64,
+        notice: &mut N,
+        limits: &mut Limits,
+    ) -> bool
+        ensures caller { IsLater caller.old caller.new }
+    {
+        // Before the round, so that what was done before the close is tended once more.
+        let is_closed = self.closed.load(Ordering::SeqCst);
+        if !self.is_called.swap(false, Ordering::SeqCst) && !is_closed {
+            return false;
+        }
+        self.tend(rt, alloc, caller, window, notice);
+        if !is_closed {
+            self.shorten_all(rt, alloc, caller, limits, notice);
+        }
+        is_closed
+    }
+
     /// Tends the store until it is closed: a round whenever the bell rings, and a last one once it is closed. It rings where a write left something behind,
-    /// where a node was opened again, and at every 1,024th place. Behind each round a node whose bank has grown to four times what its last checkpoint left
-    /// it with, and to more than 2 MiB, makes one; from 64 MiB on it makes one at twice as much. It answers nobody meanwhile. What the last one left before the
-    /// store was opened nobody knows: then a node makes one past 2 MiB, but where the horizon was never raised, what it was opened with counts as left. One
-    /// that was refused is tried again behind the next round.
-    pub fn keep<R: Wait, N: Notice>(
+    /// where a node was opened again, and at every 1,024th place; within a second of a write that was refused a round is made too. After each round a node
+    /// whose bank has grown to four times what its last checkpoint left it with, and to more than 2 MiB, makes one; from 64 MiB on it makes one at twice as
+    /// much. It answers nobody meanwhile. When the store is opened, what a checkpoint would have then counts as left. If the disk has no room for one it is put
+    /// off, and the notice is told. One that was put off or refused is tried again once 2 MiB more were written.
+    pub fn keep<R: Wait + Clock, N: Notice>(
         &self,
         rt: &R,
         alloc: Global,
@@ -149,16 +178,12 @@ impl<D: Device, B: Room, G: Gate> Store<D, B, G> {
     )
         ensures caller { IsLater caller.old caller.new }
     {
-        let mut limits = self.first_limits(rt, caller);
+        let mut limits = self.first_limits(rt);
         for _ in rt.forever() {
-            // Before the round, so that what was done before the close is tended once more.
-            let is_closed = self.closed.load(Ordering::SeqCst);
-            self.tend(rt, alloc, caller, window, notice);
-            if is_closed {
+            if self.make_round(rt, alloc, caller, window, notice, &mut limits) {
                 return;
             }
-            self.shorten_all(rt, alloc, caller, &mut limits);
-            parker.park(rt);
+            parker.park_timeout(rt, Duration::from_secs(SECONDS_A_LOOK));
         }
         unreachable!()
     }
@@ -169,8 +194,14 @@ impl<D: Device, B: Room, G: Gate> Store<D, B, G> {
         self.bell.unpark();
     }
 
-    // Wakes whoever tends the store.
+    // A round is made, within a second.
+    pub(crate) fn call(&self) {
+        self.is_called.store(true, Ordering::SeqCst);
+    }
+
+    // Wakes whoever tends the store, for a round.
     pub(crate) fn ring(&self) {
+        self.call();
         self.bell.unpark();
     }
 }

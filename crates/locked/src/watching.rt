@@ -1,5 +1,5 @@
 // Watches of a shared store.
-ghost use Rattle.std.specs.Prelude.{◌≡◌, ◌≤◌, length, None, Some};
+ghost use Rattle.std.specs.Prelude.{◌≡◌, ◌≤◌, ◌<◌, length, None, Some};
 ghost use Rattle.answer_flow.specs.WatchViews.{ending_of, next_name_of};
 ghost use Rattle.flow_ties.specs.Watches.{IsWatchOf, WatchHasReason};
 ghost use Rattle.sides.specs.Sides.{IsLater};
@@ -13,7 +13,7 @@ use device::Device;
 use sides::Room;
 use std::alloc::Global;
 use std::sync::Wait;
-use tuples::Namespace;
+use tuples::{Namespace, Refusal};
 
 // What it ended with; it has ended.
 fn ended(flow: WatchFlow) -> WatchEnd
@@ -72,7 +72,11 @@ impl<D: Device, B: Room, G: Gate> Store<D, B, G> {
         ensures caller { IsLater caller.old caller.new }
         ensures lists { B.rests → WatchEnds cursor limit namespaces.items (length caller.old.seen) caller.new.seen (ending_of result) }
         ensures refused { B.rests → WatchRefuses told.new caller.new.seen caller.new.horizon cursor (ending_of result) }
+        ensures passed { cursor < caller.old.horizon → result ≡ WatchEnd.Refused Refusal.Collected }
     {
+        if cursor < self.horizon(caller) {
+            return WatchEnd::Refused(Refusal::Collected);
+        }
         let flow = WatchFlow::new(alloc, cursor, limit, namespaces);
         let flow = self.run_watch(rt, caller, told, flow);
         ended(flow)

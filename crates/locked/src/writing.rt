@@ -21,18 +21,17 @@ use tuples::{Entry, Refusal, Write};
 const PLACES_A_ROUND: u64 = 1_024;
 
 impl<D: Device, B: Room, G: Gate> Store<D, B, G> {
-    // Whoever tends the store is woken where a write may have left something behind at a node, and at every so many places.
+    // Whoever tends the store is woken where a write may have left something behind at a node, and at every so many places. Where a shard had no room to note that a
+    // refused write is dropped, its tuples are held until a round.
     fn ring_behind(&self, end: &WriteEnd) {
-        let is_left = match end {
-            WriteEnd::Wrote(place) => *place % PLACES_A_ROUND == 0,
-            WriteEnd::Refused(refusal) => match refusal {
-                Refusal::Down | Refusal::Unsure => true,
-                _ => false,
-            },
-            WriteEnd::Cancelled => true,
-        };
-        if is_left {
-            self.ring();
+        match end {
+            WriteEnd::Wrote(place) => {
+                if *place % PLACES_A_ROUND == 0 {
+                    self.ring();
+                }
+            }
+            WriteEnd::Refused(Refusal::Down | Refusal::Unsure) | WriteEnd::Cancelled => self.ring(),
+            WriteEnd::Refused(_) => self.call(),
         }
     }
 

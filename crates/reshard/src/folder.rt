@@ -1,18 +1,16 @@
 // A store that a folder keeps is carried over to another folder.
-ghost use Rattle.std.specs.Prelude.{◌≤◌, ◌≡◌, ◌⊎◌, ◌+◌, ◌*◌, All, IfErr, IfOk, List, OnOk, vec_len};
+ghost use Rattle.std.specs.Prelude.{◌≤◌, ◌≡◌, ◌⊎◌, ◌+◌, ◌*◌, IfErr, IfOk, List, OnOk, vec_len};
 ghost use Rattle.cluster.specs.Worlds.{flow_count};
-ghost use Rattle.node_files.specs.Devices.{HostDevice, IsFound, is_honest, left_since_of, moment_of, state_of};
+ghost use Rattle.node_files.specs.Devices.{HostDevice, is_honest, left_since_of, moment_of, state_of};
 ghost use Rattle.reshard.specs.Folders.{CarriesDevices, CarriesDevicesNot, CarriesFiles, CarriesWorld, CarriesWorldNot};
 
-use crate::carry_over;
+use crate::{blamed, carry_over};
 use cluster::{World, reopen};
 use device::Device;
 use files::{FileDevice, HostFile};
-use node_files::open_all;
+use node_files::{Mode, Trouble, open_all};
 use std::alloc::Global;
-use std::fs;
-use std::io::ErrorKind;
-use tuples::{MAX_SHARDS, Refusal, Shards};
+use tuples::{Refusal, Shards};
 
 // The status of a resharding that was not done.
 const FAILED: u8 = 1;
@@ -28,10 +26,9 @@ pub struct Folders<'a> {
 
 /// Carries the store that one folder keeps over to the other one, with so many shards, and prints `done`. On standard error it says why it did not:
 /// `zanstore: 13 Down` where a file of the store can't be opened, or another process has it, `zanstore: 16 Damaged` where the other folder has a file of a
-/// store, and else the refusal. The status is 0 or 1.
+/// store, and else the refusal; and on a second line what that is about, if it is known. The status is 0 or 1.
 ///
-/// The old folder keeps the store as it was, but for what each opening adds to its files and what its shards have learned. Where the status is not 0 the
-/// files of the new one are to be deleted.
+/// Nothing is written to the files of the old folder. Where the status is not 0 the files of the new one are to be deleted.
 pub fn reshard_folder(
     rt: &HostRuntime,
     folders: Folders<'_>,
@@ -44,7 +41,7 @@ pub fn reshard_folder(
 {
     match carry_folder(rt, folders, store, shards, new_shards) {
         Ok(()) => tell_done(rt),
-        Err(refusal) => tell(rt, refusal),
+        Err(trouble) => tell(rt, &trouble),
     }
 }
 
@@ -55,13 +52,15 @@ fn carry_folder(
     store: u64,
     shards: Shards,
     new_shards: Shards,
-) -> Result<(), Refusal>
+) -> Result<(), Trouble>
     ensures { OnOk result ((made : List HostDevice) × CarriesFiles store shards new_shards made) }
 {
-    let devices = open_all(rt, folders.dir, shards)?;
-    match open_new(rt, folders.to, new_shards) {
-        Ok(new_devices) => carry_files(rt.alloc(), devices, store, shards, new_devices, new_shards),
-        Err(refusal) => Err(refusal),
+    let (dir, to) = (folders.dir, folders.to);
+    let devices = open_all(rt, dir, store, shards, Mode::Look)?.devices;
+    let new_devices = open_all(rt, to, store, new_shards, Mode::New)?.devices;
+    match carry_files(rt.alloc(), devices, store, shards, new_devices, new_shards) {
+        Ok(()) => Ok(()),
+        Err(refusal) => Err(blamed(rt, dir, store, shards, refusal)),
     }
 }
 
@@ -121,63 +120,11 @@ fn carry_world<D: Device>(
     }
 }
 
-// Whether the folder has this file of a node.
-fn has_file(rt: &HostRuntime, folder: &str, node: &str, bank: char) -> Result<bool, Refusal> {
-    let path = format!(in rt.alloc(); "{folder}/{node}.{bank}")?;
-    match fs::symlink_metadata(rt, path.as_str()) {
-        Ok(_) => Ok(true),
-        Err(error) => {
-            if error.kind() == ErrorKind::NotFound {
-                Ok(false)
-            } else {
-                Err(Refusal::Down)
-            }
-        }
-    }
-}
-
-fn has_node(rt: &HostRuntime, folder: &str, node: &str) -> Result<bool, Refusal> {
-    Ok(has_file(rt, folder, node, 'a')? || has_file(rt, folder, node, 'b')?)
-}
-
-fn has_shard(rt: &HostRuntime, folder: &str, shard: u8) -> Result<bool, Refusal> {
-    let node = format!(in rt.alloc(); "{shard}")?;
-    has_node(rt, folder, node.as_str())
-}
-
-// Whether the folder has a file of a store of any number of shards.
-fn has_store(rt: &HostRuntime, folder: &str) -> Result<bool, Refusal> {
-    if has_node(rt, folder, "c")? {
-        return Ok(true);
-    }
-    for shard in 0..MAX_SHARDS {
-        if has_shard(rt, folder, shard)? {
-            return Ok(true);
-        }
-    }
-    Ok(false)
-}
-
-// Makes the files of the new store, in a folder that has none of any store.
-fn open_new(
-    rt: &HostRuntime,
-    folder: &str,
-    shards: Shards,
-) -> Result<Vec<FileDevice<HostFile>>, Refusal>
-    ensures count { IfOk result (λ devices. vec_len devices ≡ 2 * (shards + 1)) }
-    ensures found { IfOk result (λ devices. All (λ d. IsFound d.history.events d.is_stopped d.failures) devices.items) }
-{
-    if has_store(rt, folder)? {
-        return Err(Refusal::Damaged);
-    }
-    open_all(rt, folder, shards)
-}
-
-fn tell(rt: &HostRuntime, refusal: Refusal) -> u8
+fn tell(rt: &HostRuntime, trouble: &Trouble) -> u8
     ensures { result ≡ 1 }
 {
     // A text that can't be printed changes nothing of the status.
-    let _ = eprintln!(rt; "zanstore: {refusal}");
+    let _ = eprintln!(rt; "{trouble}");
     FAILED
 }
 

@@ -11,6 +11,7 @@
 //! Start at `specs/Made.antt`, what the new devices have, and `resharding.rt`.
 #![tactic(auto)]
 
+mod blaming;
 mod filling;
 mod folder;
 mod founding;
@@ -19,6 +20,7 @@ mod playing;
 mod resharding;
 mod settling;
 
+pub use blaming::blamed;
 pub use folder::{Folders, reshard_folder};
 pub use resharding::{carry_over, reshard};
 pub use settling::are_up;

@@ -1,16 +1,16 @@
 // Why a server does not start, or ends.
 ghost use Rattle.std.specs.Prelude.{◌≡◌};
 
-use refusal::Refusal;
+use node_files::Trouble;
 use std::{fmt, io};
 
 /// Why a server does not start, or ends before its last connection.
 #[derive(Debug, Drop)]
 pub(crate) enum Fault {
     /// A file or a node is refused, or there is no memory.
-    Refused(Refusal),
+    Refused(Trouble),
     /// The address can't be bound.
-    Listen,
+    Listen(io::Error),
     /// It could not go on to accept connections.
     Ended(io::Error),
 }
@@ -18,8 +18,8 @@ pub(crate) enum Fault {
 impl fmt::Display for Fault {
     fn fmt<W: fmt::Write>(&self, f: &mut fmt::Formatter<W>) -> fmt::Result {
         match self {
-            Fault::Refused(refusal) => write!(f, "zanstore: {refusal}"),
-            Fault::Listen => write!(f, "zanstore: listen"),
+            Fault::Refused(trouble) => write!(f, "{trouble}"),
+            Fault::Listen(_) => write!(f, "zanstore: listen"),
             Fault::Ended(error) => write!(f, "zanstore: {error}"),
         }
     }

@@ -1,6 +1,6 @@
 //! A server: a store over the files of a folder, and sessions over TCP.
 //!
-//! Keeps: nobody is served before each node was opened and looked over and the address was bound; `ready` is printed once all its threads run behind that,
+//! Keeps: nobody is served before each node was opened and looked over, each shard has learned what is kept, and the address was bound; `ready` is printed once all its threads run behind that,
 //! and not before.
 //! Never: answers from what an earlier request has found: each worker answers by a session over the one store, which goes on knowing what was seen.
 //! Callers rely on: the status, 0 where as many connections as were asked for came and were served, and 1 behind a fault, once standard error is told of it.
@@ -11,19 +11,28 @@
 //! its base (`IsAtRest`, whose laws say that what a stop leaves meets it, behind checkpoints too). Why a request is refused the calls of `Store` say, and not
 //! these: the refusals that nodes told are let go with each request.
 //!
-//! Only tested: which fault is told, what is told of a start and while it lasts, that `ready` is printed and when, and that the server ends.
+//! Only tested: which fault is told, what is told of a start, of nodes that are down and of connections that wait, that `ready` is printed and when, and that the
+//! server ends.
 //!
 //! Start at `serve`, and for what is answered at `specs/Answered.antt`.
 #![tactic(auto)]
 
 mod down;
 mod fault;
+mod found;
+mod hanging;
+mod learning;
+mod named;
 mod opening;
 mod progress;
 mod readiness;
+mod reporter;
 mod running;
 mod session;
+mod stamp;
 mod start;
 
+pub use found::Found;
 pub use opening::{serve, serve_over};
+pub use progress::Progress;
 pub use session::StoreSession;

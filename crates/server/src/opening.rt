@@ -1,16 +1,17 @@
 // A store is opened over the files of a folder, and served.
 ghost use Rattle.std.specs.Prelude.{◌≡◌, ◌⊎◌, ◌↔◌, ◌*◌, ◌+◌, List, [], All, vec_len};
-ghost use Rattle.at_rest.specs.AtRest.{IsAtRest, found_coordinator};
+ghost use Rattle.locked.specs.AtRest.{IsAtRest, found_coordinator};
 ghost use Rattle.tuples.specs.declared.entry.Entry.{Entry as AnyEntry};
 
 use crate::fault::{Fault, tell};
+use crate::found::Found;
 use crate::progress::Progress;
 use crate::running::serve_store;
 use crossbeam_utils::sync::Parker;
 use device::Device;
-use files::{FileDevice, HostFile};
+use files::{FileDevice, HostFile, Pulse};
 use locked::{Gate, Open, Parts, Store};
-use node_files::open_all;
+use node_files::{Mode, Trouble, open_all};
 use refusal::Refusal;
 use settings::ServeSettings;
 use sides::Room;
@@ -18,7 +19,7 @@ use std::alloc::Global;
 use std::marker::Brand;
 use std::net::{Net, TcpListener, TcpStream};
 use std::rt::Runtime;
-use std::sync::Wait;
+use std::sync::{Arc, Wait};
 use std::thread::{self, Threads};
 use std::time::Instant;
 
@@ -27,12 +28,12 @@ use std::time::Instant;
 ///
 /// | Line | Fault |
 /// |---|---|
-/// | `zanstore: 13 Down` | the folder or a file of it can't be opened, or another process has it |
+/// | `zanstore: 13 Down` | the folder or a file of it can't be opened, another process has it, or there is no store where one has to be |
 /// | `zanstore: 16 Damaged` | what is in the files was not left there by this store |
 /// | `zanstore: 14 NoMemory` | there is no memory for the store |
 /// | `zanstore: listen` | the address can't be bound |
 ///
-/// They are looked for in the order files, nodes (the coordinator, and then the shards by rising number), address; `ready` is printed behind them.
+/// Behind a number a second line tells which file, folder or node it is about, if that is known. They are looked for in the order files, nodes (the coordinator, and then the shards by rising number), address; `ready` is printed behind them.
 ///
 /// What sessions answer is said of any list at which the files rest: no code has it, so this holds whichever it is.
 pub fn serve<R>(rt: &R, files: &HostRuntime, settings: &ServeSettings) -> u8
@@ -43,7 +44,7 @@ where
 {
     match Parts::new(files.alloc()) {
         Ok((parker, parts)) => serve_files(rt, files, settings, parker, parts),
-        Err(_) => tell(rt, &Fault::Refused(Refusal::NoMemory)),
+        Err(_) => tell(rt, &Fault::Refused(Trouble::from(Refusal::NoMemory))),
     }
 }
 
@@ -61,38 +62,38 @@ where
     requires empty { (parts.log.seen ≡ []) × (parts.log.horizon ≡ 0) }
     ensures { (result ≡ 0) ⊎ (result ≡ 1) }
 {
-    match open_all(files, settings.dir.as_str(), settings.shards) {
-        Ok(devices) => serve_over::<FileDevice<HostFile>, Brand, Open, R>(
+    let mode = if settings.existing {
+        Mode::Existing
+    } else {
+        Mode::Serve
+    };
+    let (dir, store, shards) = (settings.dir.as_str(), settings.store, settings.shards);
+    match open_all(files, dir, store, shards, mode) {
+        Ok(opened) => serve_over::<FileDevice<HostFile>, Brand, Open, R>(
             rt,
             files.alloc(),
             settings,
-            found_in(&devices),
+            Found::of(&opened),
+            opened.pulses,
             Open,
             parker,
             parts,
-            devices,
+            opened.devices,
         ),
-        Err(refusal) => tell(rt, &Fault::Refused(refusal)),
+        Err(unopened) => tell(rt, &Fault::Refused(Trouble::from(unopened))),
     }
 }
 
-// How many bytes were found in the files.
-fn found_in(devices: &[FileDevice<HostFile>]) -> u64 {
-    let mut found = 0u64;
-    for device in devices {
-        found = found.saturating_add(device.found_len() as u64);
-    }
-    found
-}
-
-/// Opens the store over its devices, in which so many bytes were found, and serves it as `serve` does. Where the devices rest at the room's first list, all that sessions answer is said of that
+/// Opens the store over its devices, in which this was found, and serves it as `serve` does. The pulses, two for each
+/// node, tell whether a disk hangs. Where the devices rest at the room's first list, all that sessions answer is said of that
 /// list and of what joins it; no other premise is taken. Of a list at which they rest the coordinator's devices have what is behind its base, which is the
 /// whole of it before its first checkpoint.
 pub fn serve_over<D: Device + Send + Sync, B: Room + Send + Sync, G: Gate + Sync, R>(
     rt: &R,
     alloc: Global,
     settings: &ServeSettings,
-    found: u64,
+    found: Found,
+    pulses: Vec<Arc<Pulse, Global>>,
     gate: G,
     parker: Parker,
     parts: Parts,
@@ -109,8 +110,8 @@ where
     requires rests { B.rests ↔ IsAtRest D.state D.honest B.shards B.first devices.items }
     ensures { (result ≡ 0) ⊎ (result ≡ 1) }
 {
-    let progress = Progress::new(found);
-    let progress = &progress;
+    let progress = Progress::new();
+    let (progress, found) = (&progress, &found);
     thread::scope(
         thread::scope_env(),
         rt,
@@ -125,9 +126,9 @@ where
             ensures { (result ≡ 0) ⊎ (result ≡ 1) }
         {
             // Where there is no thread for it, nobody is told how long the opening takes.
-            let _ = scope.spawn(move || progress.tell(rt, settings.dir.as_str()));
+            let _ = scope.spawn(move || progress.tell(rt, settings.dir.as_str(), "being opened"));
             let status = open_and_serve::<D, B, G, R>(
-                rt, alloc, settings, progress, gate, parker, parts, devices,
+                rt, alloc, settings, progress, found, pulses, gate, parker, parts, devices,
             );
             progress.end();
             status
@@ -141,6 +142,8 @@ fn open_and_serve<D: Device + Send + Sync, B: Room + Send + Sync, G: Gate + Sync
     alloc: Global,
     settings: &ServeSettings,
     progress: &Progress,
+    found: &Found,
+    pulses: Vec<Arc<Pulse, Global>>,
     gate: G,
     parker: Parker,
     parts: Parts,
@@ -168,8 +171,11 @@ where
         settings.shards,
     ) {
         Ok((store, mut first)) => serve_store(
-            rt, alloc, &store, &mut first, parker, settings, progress, began,
+            rt, alloc, &store, &mut first, parker, settings, progress, found, pulses, began,
         ),
-        Err(refusal) => tell(rt, &Fault::Refused(refusal)),
+        Err(refusal) => {
+            let dir = settings.dir.as_str();
+            tell(rt, &Fault::Refused(found.trouble(alloc, dir, refusal)))
+        }
     }
 }

@@ -1,4 +1,5 @@
-// Lines on standard error while a long opening goes on.
+// Lines on standard error while something takes long.
+use crate::stamp::Stamp;
 use std::io::Eprint;
 use std::sync::Wait;
 use std::sync::atomic::{AtomicU64, Ordering};
@@ -10,32 +11,30 @@ const FIRST: u64 = 1;
 
 const LAST: u64 = 60;
 
-/// Whether a store is being opened still, for whoever tells of it, and how many bytes were found in its files.
+/// Whether something goes on still, for whoever tells how long it takes.
 #[derive(Drop)]
-pub(crate) struct Progress {
+pub struct Progress {
     parker: Parker,
     ended: AtomicU64,
-    pub found: u64,
 }
 
 impl Progress {
-    /// It is.
-    pub(crate) fn new(found: u64) -> Progress {
+    /// It does.
+    pub fn new() -> Progress {
         Progress {
             parker: Parker::new(),
             ended: AtomicU64::new(0),
-            found,
         }
     }
 
-    /// Its opening has ended, well or not.
-    pub(crate) fn end(&self) {
+    /// It has ended, well or not.
+    pub fn end(&self) {
         self.ended.store(1, Ordering::SeqCst);
         self.parker.unpark();
     }
 
-    /// Tells now and then that the folder's store is being opened, until that ends.
-    pub(crate) fn tell<R: Eprint + Clock + Wait>(&self, rt: &R, dir: &str) {
+    /// Tells on standard error now and then what goes on with the folder, as `being opened`, until that ends.
+    pub fn tell<R: Eprint + Clock + Wait>(&self, rt: &R, dir: &str, what: &str) {
         let began = Instant::now(rt).ok();
         let mut pause = FIRST;
         for _ in rt.forever() {
@@ -43,16 +42,17 @@ impl Progress {
             if self.ended.load(Ordering::SeqCst) != 0 {
                 return;
             }
-            tell_opening(rt, dir, began);
+            tell_so_far(rt, dir, what, began);
             pause = pause.saturating_mul(2).min(LAST);
         }
     }
 }
 
-// Nothing depends on the line, so that it can't be printed keeps nobody from being served.
-fn tell_opening(rt: &(impl Eprint + Clock), dir: &str, began: Option<Instant>) {
+// Nothing depends on the line, so that it can't be printed changes nothing.
+fn tell_so_far(rt: &(impl Eprint + Clock), dir: &str, what: &str, began: Option<Instant>) {
     if let Some(Ok(took)) = began.map(|began| began.elapsed(rt)) {
         let seconds = took.as_secs();
-        let _ = eprintln!(rt; "zanstore: {dir}: being opened, for {seconds} s so far");
+        let stamp = Stamp::now(rt);
+        let _ = eprintln!(rt; "zanstore: {stamp}{dir}: {what}, for {seconds} s so far");
     }
 }

@@ -3,15 +3,19 @@ ghost use Rattle.locked.specs.Looking.{AreOfOneStore};
 ghost use Rattle.locked.specs.Opening.{HasFound};
 ghost use Rattle.std.specs.Prelude.{◌≡◌, ◌⊎◌, ◌≤◌, None, Some, All, IfErr, IfOk, length, vec_len};
 
-use crate::down::DownLines;
+use crate::down::{DownNodes, NodeLines};
 use crate::fault::{Fault, tell};
+use crate::found::Found;
+use crate::learning::{apart, blamed, learn_all};
 use crate::progress::Progress;
 use crate::readiness::Readiness;
+use crate::reporter::Reporter;
 use crate::session::StoreSession;
 use crate::start::{Start, tell_start};
 use calls::Told;
 use crossbeam_utils::sync::Parker;
 use device::Device;
+use files::Pulse;
 use locked::{Caller, Gate, LookedOver, Store};
 use serving::{Begun, Serving, serve_on};
 use settings::ServeSettings;
@@ -20,10 +24,9 @@ use std::alloc::{AllocError, Global};
 use std::io;
 use std::net::{Net, TcpListener, TcpStream};
 use std::rt::Runtime;
-use std::sync::Wait;
+use std::sync::{Arc, Wait};
 use std::thread::{self, Threads};
 use std::time::{Clock, Instant};
-use tuples::Refusal;
 
 /// Looks the store over that was begun to be opened then, binds the address, and serves. Its first caller knows what was found in its devices. The status.
 pub(crate) fn serve_store<D: Device + Send + Sync, B: Room + Send + Sync, G: Gate + Sync, R>(
@@ -34,6 +37,8 @@ pub(crate) fn serve_store<D: Device + Send + Sync, B: Room + Send + Sync, G: Gat
     parker: Parker,
     settings: &ServeSettings,
     progress: &Progress,
+    found: &Found,
+    pulses: Vec<Arc<Pulse, Global>>,
     began: Option<Instant>,
 ) -> u8
 where
@@ -44,17 +49,29 @@ where
     match start(rt, alloc, store, first, settings) {
         Ok(start) => {
             progress.end();
-            tell_start(rt, settings, &start, progress.found, began);
+            tell_start(rt, settings, &start, *found, began);
             ended(
                 rt,
-                serve_at(rt, alloc, store, first, parker, settings, &start),
+                serve_at(rt, alloc, store, first, parker, settings, &start, pulses),
             )
         }
-        Err(fault) => tell(rt, &fault),
+        Err(fault) => told(rt, settings, &fault),
     }
 }
 
-// Looks the store over, and binds the address.
+// The fault on standard error, and behind an address that can't be bound what it is and why. The status.
+fn told(rt: &impl Eprint, settings: &ServeSettings, fault: &Fault) -> u8
+    ensures { result ≡ 1 }
+{
+    let status = tell(rt, fault);
+    if let Fault::Listen(error) = fault {
+        let address = settings.listen.as_str();
+        let _ = eprintln!(rt; "zanstore: listen {address}: {error}");
+    }
+    status
+}
+
+// Looks the store over, has each shard learn what is kept, and binds the address.
 fn start<D: Device, B: Room, G: Gate, R>(
     rt: &R,
     alloc: Global,
@@ -71,9 +88,10 @@ where
     ensures each_shard { IfOk result (λ start. vec_len start.found.learned ≡ B.shards) }
 {
     let found = looked_over(rt, alloc, store, first)?;
+    learn_all(rt, alloc, store, first)?;
     match TcpListener::bind(rt, settings.listen.as_str()) {
         Ok(listener) => Ok(Start { listener, found }),
-        Err(_) => Err(Fault::Listen),
+        Err(error) => Err(Fault::Listen(error)),
     }
 }
 
@@ -92,10 +110,10 @@ fn looked_over<D: Device, B: Room, G: Gate, R: Wait>(
 {
     let found = match store.look_over(rt, alloc, first, &mut Told::new()) {
         Ok(found) => found,
-        Err(refusal) => return Err(Fault::Refused(refusal)),
+        Err(refusal) => return Err(blamed(rt, alloc, store, first, refusal)),
     };
     if !found.is_of_one_store() {
-        return Err(Fault::Refused(Refusal::Damaged));
+        return Err(apart(&found));
     }
     Ok(found)
 }
@@ -174,6 +192,7 @@ fn serve_at<D: Device + Send + Sync, B: Room + Send + Sync, G: Gate + Sync, R>(
     parker: Parker,
     settings: &ServeSettings,
     start: &Start,
+    pulses: Vec<Arc<Pulse, Global>>,
 ) -> io::Result<()>
 where
     R: Runtime + Threads + Wait + Clock + Sync,
@@ -185,8 +204,16 @@ where
     let serving = serving_of(settings);
     let window = settings.window;
     let mut keeper = store.session(rt);
-    let mut notice = DownLines::new(rt);
-    let readiness = Readiness::new(rt, u64::from(settings.workers) + 1);
+    let down = DownNodes::new();
+    let down = &down;
+    let mut notice = NodeLines {
+        rt,
+        nodes: down,
+        short: DownNodes::new(),
+    };
+    let mut reporter = Reporter::new(rt, down, settings.end_when_down, &pulses);
+    let address = listener.local_addr().ok();
+    let readiness = Readiness::new(rt, u64::from(settings.workers) + 1, address);
     let readiness = &readiness;
     thread::scope(thread::scope_env(), rt, move |scope| -> io::Result<()> {
         let kept = scope.spawn(move || {
@@ -196,7 +223,15 @@ where
         if kept.is_err() {
             return Err(io::Error::other("could not start a thread"));
         }
-        let served = serve_on(rt, alloc, listener, &serving, sessions, readiness);
+        let served = serve_on(
+            rt,
+            alloc,
+            listener,
+            &serving,
+            sessions,
+            readiness,
+            &mut reporter,
+        );
         store.close();
         served
     })

@@ -1,6 +1,9 @@
 // What a server that may begin has, and what it tells of it.
+use crate::found::Found;
+use crate::stamp::Stamp;
 use locked::LookedOver;
 use settings::ServeSettings;
+use std::fmt;
 use std::io::Eprint;
 use std::net::TcpListener;
 use std::time::{Clock, Duration, Instant};
@@ -12,34 +15,58 @@ pub(crate) struct Start {
     pub found: LookedOver,
 }
 
+// Which places can be read of a store that was found, or that it was made.
+#[derive(Clone, Copy)]
+struct Places {
+    is_new: bool,
+    horizon: u64,
+    latest: u64,
+}
+
+impl fmt::Display for Places {
+    fn fmt<W: fmt::Write>(&self, f: &mut fmt::Formatter<W>) -> fmt::Result {
+        let (horizon, latest) = (self.horizon, self.latest);
+        if self.is_new {
+            return write!(f, "a new store");
+        }
+        write!(f, "places {horizon} to {latest}")
+    }
+}
+
 // Where the clock can't be read, it is not known.
 fn since(rt: &impl Clock, began: Option<Instant>) -> Option<Duration> {
     began?.elapsed(rt).ok()
 }
 
-/// A line on standard error for who keeps the server running: the folder, the shards, the places that can be read, how long the openings took, and how many
-/// bytes they read from how many files. Nothing depends on it, so that it can't be printed keeps nobody from being served.
+/// A line on standard error for who keeps the server running: the folder, the shards, the places that can be read or that the store is new, how long the
+/// openings took, and how many bytes they read from how many files. Nothing depends on it, so that it can't be printed keeps nobody from being served.
 pub(crate) fn tell_start(
     rt: &(impl Eprint + Clock),
     settings: &ServeSettings,
     start: &Start,
-    found: u64,
+    found: Found,
     began: Option<Instant>,
 ) {
     let (dir, shards) = (settings.dir.as_str(), settings.shards.count());
     // Two for each shard and two for the coordinator.
     let files = 2 * (u16::from(shards) + 1);
-    let (horizon, latest) = (start.found.horizon, start.found.latest);
+    let bytes = found.bytes;
+    let places = Places {
+        is_new: found.is_new,
+        horizon: start.found.horizon,
+        latest: start.found.latest,
+    };
+    let stamp = Stamp::now(rt);
     let _ = match since(rt, began) {
         Some(took) => {
             let (seconds, milliseconds) = (took.as_secs(), took.subsec_millis());
             eprintln!(rt;
-                "zanstore: {dir}: {shards} shards, places {horizon} to {latest}, opened in {seconds}.{milliseconds:03} s from {found} bytes of {files} files"
+                "zanstore: {stamp}{dir}: {shards} shards, {places}, opened in {seconds}.{milliseconds:03} s from {bytes} bytes of {files} files"
             )
         }
         None => {
             eprintln!(rt;
-                "zanstore: {dir}: {shards} shards, places {horizon} to {latest}, opened from {found} bytes of {files} files"
+                "zanstore: {stamp}{dir}: {shards} shards, {places}, opened from {bytes} bytes of {files} files"
             )
         }
     };

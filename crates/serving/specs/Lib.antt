@@ -1,2 +1,3 @@
+pub mod Protocols
 pub mod Slowness
 pub mod Working

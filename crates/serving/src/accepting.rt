@@ -1,22 +1,24 @@
 // The acceptor puts each connection where the workers find it.
 ghost use Rattle.std.specs.Prelude.{◌≡◌, ◌≤◌, ◌+◌, ◌^◌, OnOk, IfNone, IfSome};
 
+use crate::crowd::Crowd;
 use crate::hall::Hall;
+use crate::report::Report;
 use connections::AcceptorPass;
 use crossbeam_utils::sync::Unparker;
+use libc::{EBADF, EINVAL, ENOTSOCK};
+use std::io::{self, ErrorKind};
 use std::net::{TcpListener, TcpStream};
+use std::os::fd::OwnedFd;
 use std::sync::Wait;
+use std::thread;
 use std::time::{Clock, Duration};
-use std::{io, thread};
 
-// A read that waits longer is a tick, and a write that does is made again.
+// A read or an accept that waits longer is a tick, and a write that does is made again.
 const TICK_SECONDS: u64 = 1;
 
-// How long it waits behind an accept that failed, as where too many files are open.
-const PAUSE_MILLISECONDS: u64 = 10;
-
-// As many accepts that fail in a row end the server.
-const TRIES: u32 = 1024;
+// How long it waits after an accept that failed, as where too many files are open.
+const PAUSE_MILLISECONDS: u64 = 100;
 
 // No server accepts so many.
 const CONNECTIONS: u64 = 1 << 62;
@@ -27,15 +29,17 @@ pub(crate) struct Acceptor<'a> {
     pub(crate) listener: &'a TcpListener,
     pub(crate) pass: AcceptorPass<TcpStream>,
     pub(crate) bells: Vec<Unparker>,
+    pub(crate) crowd: Crowd,
     ghost queue: { pass.queue ≡ hall.now.queue },
 }
 
 impl Acceptor<'_> {
-    /// Accepts until so many connections were put, or for ever. 1,024 accepts that fail in a row end it.
-    pub(crate) fn accept_all<R: Wait + Clock>(
+    /// Accepts until so many connections were put, or for ever. It ends with an error where the listener is broken or the report gives one.
+    pub(crate) fn accept_all<R: Wait + Clock, N: Report>(
         &mut self,
         rt: &R,
         connections: Option<u64>,
+        report: &mut N,
     ) -> io::Result<()>
         requires { self.old.pass.put ≡ 0 }
         ensures so_many { OnOk result (IfSome connections (λ n. self.new.pass.put ≡ n)) }
@@ -46,22 +50,23 @@ impl Acceptor<'_> {
             if self.pass.count() >= most {
                 return Ok(());
             }
-            let stream = self.accept_next(rt)?;
-            self.admit(rt, stream);
+            self.look_around(rt, report)?;
+            if let Some(stream) = accept_next(rt, self.listener, report)? {
+                self.admit(rt, stream);
+            }
         }
         unreachable!()
     }
 
-    // The next connection. It tries again behind an accept that failed, and ends with the error of the last try.
-    fn accept_next<R: Clock>(&self, rt: &R) -> io::Result<TcpStream> {
-        for _ in 1..TRIES {
-            if let Ok((stream, _)) = self.listener.accept() {
-                return Ok(stream);
-            }
-            thread::sleep(rt, Duration::from_millis(PAUSE_MILLISECONDS));
+    // Tells where connections wait, and that time passes.
+    fn look_around<C: Clock, N: Report>(&mut self, clock: &C, report: &mut N) -> io::Result<()>
+        ensures { self.new.pass ≡ self.old.pass }
+    {
+        let waiting = self.hall.signs.waiting();
+        if self.crowd.has_lasted(clock, self.pass.count(), waiting) {
+            report.crowded(self.bells.len(), waiting);
         }
-        let (stream, _) = self.listener.accept()?;
-        Ok(stream)
+        report.tick()
     }
 
     // One whose socket cannot be set up is closed.
@@ -85,6 +90,48 @@ impl Acceptor<'_> {
     pub(crate) fn close(&self) {
         self.hall.signs.close();
         self.ring();
+    }
+
+    /// The workers end behind the requests that they answer.
+    pub(crate) fn end(&self) {
+        self.hall.signs.end();
+        self.ring();
+    }
+}
+
+/// From now on an accept fails with `WouldBlock` where nobody has connected for a second.
+pub(crate) fn let_tick(listener: &TcpListener) -> io::Result<()> {
+    // The option is one of any socket, and a listener has no call for it.
+    let socket = TcpStream::from(OwnedFd::from(listener.try_clone()?));
+    socket.set_read_timeout(Some(Duration::from_secs(TICK_SECONDS)))
+}
+
+// The next connection. None where there is none in time, or none can be taken for now: short of descriptors or memory the server goes on.
+fn accept_next<C: Clock, N: Report>(
+    clock: &C,
+    listener: &TcpListener,
+    report: &mut N,
+) -> io::Result<Option<TcpStream>> {
+    match listener.accept() {
+        Ok((stream, _)) => Ok(Some(stream)),
+        Err(error) => {
+            if is_of_listener(&error) {
+                return Err(error);
+            }
+            if error.kind() != ErrorKind::WouldBlock {
+                report.refused(&error);
+                thread::sleep(clock, Duration::from_millis(PAUSE_MILLISECONDS));
+            }
+            Ok(None)
+        }
+    }
+}
+
+// Whether the listener is broken, so that it never accepts again.
+fn is_of_listener(error: &io::Error) -> bool {
+    match error.raw_os_error() {
+        Some(code) => code == EBADF || code == EINVAL || code == ENOTSOCK,
+        None => false,
     }
 }
 

@@ -1,11 +1,13 @@
 //! Serving: sessions over TCP, one connection a session, by as many threads as there are workers.
 //!
 //! Keeps: what a connection is written is the session of what was read from it, or a beginning of it where the session broke off.
-//! Never: cuts a session that was neither idle for the ticks that it may be, nor slow over a line or its answers for half a minute; one that may be idle for
-//! ever is cut only for answers that are not taken, or while the server closes.
+//! Never: takes a line of a connection that begins as HTTP or TLS, nor writes to it. Never, but while it ends for a fault: cuts a session that was neither idle
+//! for the ticks that it may be, nor slow over a line or its answers for half a minute; one that may be idle for ever is cut only for answers that are not taken,
+//! or while the server closes.
 //! Callers rely on: a worker serves one connection at a time, from its first line to its last.
 //!
-//! Only tested, over the program: that each connection is served once, that sessions of several workers go on beside one another, and that the server ends.
+//! Only tested, over the program: that each connection is served once, that sessions of several workers go on beside one another, what is reported, that it goes
+//! on short of descriptors, and that the server ends.
 //! No contract says that a call returns: threads wait for connections, and each for its caller.
 //!
 //! Start at `serve_one`, a session over any reader and writer, and then `serve_on`.
@@ -13,10 +15,15 @@
 
 mod accepting;
 mod begun;
+mod crowd;
+mod guarded;
+mod guarding;
 mod hall;
 mod patience;
 mod patient;
 mod pressing;
+mod protocols;
+mod report;
 mod serving;
 mod session;
 mod signs;
@@ -24,9 +31,11 @@ mod slowness;
 mod working;
 
 pub use begun::Begun;
+pub use guarded::Guarded;
 pub use patience::Patience;
 pub use patient::Patient;
 pub use pressing::Pressing;
+pub use report::Report;
 pub use serving::{Serving, serve_on};
 pub use session::serve_one;
 pub use signs::Signs;

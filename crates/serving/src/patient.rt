@@ -10,7 +10,7 @@ use std::io::{self, ErrorKind, Read};
 use std::time::{Clock, Instant};
 
 /// Reads as its input does. But each read that found nothing in time is a tick, and it reads again, until its patience ends: then the read
-/// fails as that one did. Where a line has not ended for too long and others wait, no more of it is read.
+/// fails as that one did. Where a line has not ended for too long and others wait, no more of it is read, and nothing is where the server ends.
 #[derive(Drop)]
 pub struct Patient<'a, R, C> {
     pub input: R,
@@ -70,7 +70,7 @@ impl<R: Read, C: Clock> Read for Patient<'_, R, C> {
         ensures line { IfOk result (λ count. GoesOn (take count buf.new) self.old.line_since self.new.line_since) }
         ensures idle { self.new.patience.idle ≡ self.old.patience.idle }
     {
-        if self.is_late() {
+        if self.is_late() || self.patience.signs.is_ending() {
             return Err(ErrorKind::TimedOut.into());
         }
         for _ in 0..u64::MAX {

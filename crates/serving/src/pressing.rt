@@ -10,7 +10,7 @@ use std::io::{self, ErrorKind, Write};
 use std::time::{Clock, Instant};
 
 /// Writes as its output does, and again where that took nothing in time, until nothing was taken for too long. Where a client has not taken all for too long,
-/// nor much of it, and others wait, no more is written either.
+/// nor much of it, and others wait, no more is written either; and where the server ends, what is not taken at once is not written.
 #[derive(Drop)]
 pub struct Pressing<'a, W, C> {
     pub output: W,
@@ -77,9 +77,10 @@ impl<W: Write, C: Clock> Write for Pressing<'_, W, C> {
                     return Ok(count);
                 }
                 Err(error) => match error.kind() {
+                    ErrorKind::Interrupted => {}
                     ErrorKind::WouldBlock | ErrorKind::TimedOut => {
                         waited = begun(waited, self.clock);
-                        if is_over(waited, self.clock) {
+                        if self.signs.is_ending() || is_over(waited, self.clock) {
                             return Err(error);
                         }
                     }

@@ -1,9 +1,11 @@
 // A server over a listener.
 ghost use Rattle.std.specs.Prelude.{◌≡◌, ◌+◌, All, IfOk, IsErr, vec_len};
 
-use crate::accepting::Acceptor;
+use crate::accepting::{Acceptor, let_tick};
 use crate::begun::Begun;
+use crate::crowd::Crowd;
 use crate::hall::Hall;
+use crate::report::Report;
 use crate::signs::Signs;
 use crate::working::Worker;
 use connections::{Connections, WorkerPass};
@@ -29,16 +31,24 @@ pub struct Serving {
 
 /// Serves connections of the listener, by a thread for each worker, until so many have come and are served. Each thread tells that it runs before it looks
 /// for a connection; where one cannot be made, the server ends with an error, and not all have told so. Without workers it ends with an error at once.
-pub fn serve_on<R: Threads + Wait + Clock + Sync, A: Answers + Send + Drop, T: Begun + Sync>(
+/// An error of the listener, or one that the report gives, ends it with that error once each session has answered the request that it is at.
+pub fn serve_on<R, A, T, N>(
     rt: &R,
     alloc: Global,
     listener: &TcpListener,
     serving: &Serving,
     workers: Vec<A>,
     begun: &T,
+    report: &mut N,
 ) -> io::Result<()>
+where
+    R: Threads + Wait + Clock + Sync,
+    A: Answers + Send + Drop,
+    T: Begun + Sync,
+    N: Report,
     ensures { vec_len workers ≡ 0 → IsErr result }
 {
+    let_tick(listener)?;
     let (queue, pass, passes) = Connections::new(alloc, workers.len())?;
     let hall = Hall {
         queue,
@@ -51,8 +61,9 @@ pub fn serve_on<R: Threads + Wait + Clock + Sync, A: Answers + Send + Drop, T: B
         listener,
         pass,
         bells,
+        crowd: Crowd::new(),
     };
-    run(rt, alloc, serving, &mut acceptor, workers, begun)
+    run(rt, alloc, serving, &mut acceptor, workers, begun, report)
 }
 
 // The workers with their passes, and what wakes each of them.
@@ -89,14 +100,20 @@ fn equipped<'a, A: Answers + Drop>(
 }
 
 // Runs the workers beside the acceptor. Where a thread cannot be made, the server closes at once.
-fn run<R: Threads + Wait + Clock + Sync, A: Answers + Send + Drop, T: Begun + Sync>(
+fn run<R, A, T, N>(
     rt: &R,
     alloc: Global,
     serving: &Serving,
     acceptor: &mut Acceptor<'_>,
     workers: Vec<Worker<'_, A>>,
     begun: &T,
+    report: &mut N,
 ) -> io::Result<()>
+where
+    R: Threads + Wait + Clock + Sync,
+    A: Answers + Send + Drop,
+    T: Begun + Sync,
+    N: Report,
     requires { acceptor.old.pass.put ≡ 0 }
     ensures { vec_len workers.entry ≡ 0 → IsErr result }
 {
@@ -120,8 +137,11 @@ fn run<R: Threads + Wait + Clock + Sync, A: Answers + Send + Drop, T: Begun + Sy
                     return Err(io::Error::other("could not start a thread"));
                 }
             }
-            let accepted = acceptor.accept_all(rt, serving.connections);
-            acceptor.close();
+            let accepted = acceptor.accept_all(rt, serving.connections, report);
+            match &accepted {
+                Ok(()) => acceptor.close(),
+                Err(_) => acceptor.end(),
+            }
             accepted
         },
     )

@@ -3,6 +3,7 @@ ghost use Rattle.std.specs.Prelude.{◌≡◌, List, OnErr, OnOk, Option, ℕ};
 ghost use Rattle.sessions.specs.Sessions.{Broke, Served};
 ghost use Rattle.serving.specs.Working.{HasServed};
 
+use crate::guarded::Guarded;
 use crate::hall::Hall;
 use crate::patience::Patience;
 use crate::patient::Patient;
@@ -77,7 +78,7 @@ fn serve<S: Read + Write + Copy, C: Clock, A: Answers>(
     ensures err { OnErr result ((left : Option (List ℕ)) × Broke serving.now.store A.gives (S.remaining stream.old) left (S.contents stream.old) (S.contents stream.new) answers.old answers.new) }
     ensures asked { HasServed serving.now.store A.gives answers.old answers.new }
 {
-    let mut input = Patient {
+    let patient = Patient {
         input: *stream,
         clock,
         patience: Patience {
@@ -87,6 +88,7 @@ fn serve<S: Read + Write + Copy, C: Clock, A: Answers>(
         },
         line_since: None,
     };
+    let mut input = Guarded::new(alloc, patient);
     let mut output = Pressing {
         output: *stream,
         clock,

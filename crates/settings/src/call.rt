@@ -1,10 +1,12 @@
 // What a call is asked for, and the words that say so.
 ghost use Rattle.std.specs.Prelude.{◌≡◌, ◌≤◌, ◌⊎◌, ◌↔◌, IfErr, IfSome, IsTrue, codes};
 ghost use Rattle.std.specs.Prelude.{option_map, slice_get, string_bytes};
+ghost use Rattle.std.specs.Option.{ForSome};
 ghost use Rattle.settings.specs.CommandLine.{IsFor};
-ghost use Rattle.settings.specs.declared.limits.TheConstants.{MAX_RETRY};
+ghost use Rattle.settings.specs.declared.limits.TheConstants.{MAX_AMOUNT, MAX_RETRY};
 
-use crate::limits::{MAX_RETRY, USAGE};
+use crate::given::number_in;
+use crate::limits::{MAX_AMOUNT, MAX_RETRY, USAGE};
 use crate::parameter::{Manual, Otherwise, Parameter, Takes, program};
 use crate::reading::{Asked, are_for, read};
 use clap::{ArgMatches, Command, Error};
@@ -16,15 +18,16 @@ const EXAMPLE: &str = "Examples:
   zanstore call 127.0.0.1:7700 check doc:readme#viewer@ann
   zanstore call 127.0.0.1:7700 --follow watch AQAAAAAAAAAAAQAAAAAAAAAA 256 doc
 
-Options stand before the request. Requests, which may also be lines of JSON:
+Options stand before the first word of the request. Requests, which may also be lines of JSON:
   write +TUPLE -TUPLE .. if ?TUPLE !TUPLE TUPLE=TOKEN ..
   read [latest | at-least TOKEN | exact TOKEN] TUPLESET ..
   check [latest | at-least TOKEN | exact TOKEN] TUPLE
   watch TOKEN LIMIT NAMESPACE ..
 Of standard input, an empty line and one that begins with ; are passed over.
 
-Status: 0 where each request was answered and none refused; 1 where one was refused or is none, the
-connection failed or ended, or the input or output failed; 2 for a command line that can't be read.";
+Exit status: 0 if each request was answered and none refused; 1 if one was refused or is none, the
+connection failed, ended or gave no answer in time, or the input or output failed; 2 for a command
+line that can't be read.";
 
 const CALL: &str =
     "Sends requests to a server, one after another, and prints each answer line as it is.
@@ -53,9 +56,16 @@ const PARAMETERS: &[Parameter] = &[
         otherwise: Otherwise::Missing,
     },
     Parameter {
+        name: "timeout",
+        value_name: "SECONDS",
+        help: "Waits so many seconds at most for the connection and for each answer; without it, for ever",
+        takes: Takes::Number(1, MAX_AMOUNT),
+        otherwise: Otherwise::Missing,
+    },
+    Parameter {
         name: "follow",
         value_name: "",
-        help: "Goes on behind a watch from each heartbeat, until it is ended",
+        help: "Repeats a watch from each heartbeat, until you stop it",
         takes: Takes::Nothing,
         otherwise: Otherwise::Missing,
     },
@@ -75,11 +85,15 @@ pub struct CallSettings {
     pub address: String,
     /// How often a request that may be sent again is, from 0 to 1,000.
     pub retry: u64,
+    /// For how many seconds at most the connection, and each answer, is waited for. None: without a limit.
+    pub timeout: Option<u64>,
     /// Whether a watch goes on from each heartbeat.
     pub follow: bool,
     /// The words of one request with a space between, where there are any.
     pub request: Option<String>,
     ghost few: { retry ≤ MAX_RETRY },
+    ghost waits: { ForSome timeout (λ seconds. 1 ≤ seconds) },
+    ghost ends: { ForSome timeout (λ seconds. seconds ≤ MAX_AMOUNT) },
 }
 
 impl CallSettings {
@@ -97,13 +111,33 @@ impl CallSettings {
     ) -> Result<CallSettings, u8>
         ensures { IfErr result (λ status. (status ≡ 0) ⊎ (status ≡ USAGE)) }
     {
-        read(rt, words)
+        let asked = read::<CallSettings, R>(rt, words)?;
+        let Some(word) = asked.misplaced() else {
+            return Ok(asked);
+        };
+        // A text that can't be printed changes nothing of the status.
+        let _ = eprintln!(rt;
+            "error: '{word}' is no word of a request, and options stand before its first word\n\nFor more information, try 'zanstore call --help'."
+        );
+        Err(USAGE)
+    }
+
+    // The first word of the request that looks like an option. Lines of JSON have any words.
+    fn misplaced(&self) -> Option<&str> {
+        match &self.request {
+            Some(request) => option_among(request.as_str()),
+            None => None,
+        }
     }
 }
 
 impl Asked for CallSettings {
     fn program<'a>(alloc: Global) -> Result<Command<'a>, Error> {
         program(alloc, MANUAL, PARAMETERS)
+    }
+
+    fn parameters() -> &'static [Parameter<'static>] {
+        PARAMETERS
     }
 
     fn given(alloc: Global, call: &ArgMatches) -> Result<Option<CallSettings>, AllocError> {
@@ -118,10 +152,22 @@ impl Asked for CallSettings {
         Ok(Some(CallSettings {
             address,
             retry,
+            timeout: number_in(call, "timeout", 1, MAX_AMOUNT),
             follow: call.get_flag("follow"),
             request,
         }))
     }
+}
+
+// A first word that begins with a hyphen, or a later one that begins with two: no request has such words, since a namespace begins otherwise.
+fn option_among(request: &str) -> Option<&str> {
+    if request.starts_with('{') {
+        return None;
+    }
+    if request.starts_with('-') {
+        return request.split(' ').next();
+    }
+    request.split(' ').find(|word| word.starts_with("--"))
 }
 
 // How often a request is sent again; never, where nothing is said.

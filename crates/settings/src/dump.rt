@@ -2,7 +2,8 @@
 ghost use Rattle.std.specs.Prelude.{◌≡◌, ◌≤◌, ◌⊎◌, ◌↔◌, IfErr, IsTrue, codes};
 ghost use Rattle.std.specs.Prelude.{option_map, slice_get, string_bytes};
 ghost use Rattle.settings.specs.CommandLine.{IsFor};
-ghost use Rattle.settings.specs.declared.limits.TheConstants.{MAX_STORE};
+ghost use Rattle.settings.specs.declared.limits.TheConstants.{MAX_PLACE, MAX_STORE};
+ghost use Rattle.std.specs.Option.{ForSome};
 
 use crate::given::{number_in, store_in};
 use crate::limits::{MAX_PLACE, USAGE};
@@ -20,14 +21,13 @@ It prints the token of the latest place, and each tuple that is there, in their 
   at AQAAAAAAAAAAAQAAAAAAAAAB
   doc:readme#viewer@ann
 
-Status: 0 once all is written; 1 where a file can't be opened, a node can't be read, the place is
+Exit status: 0 once all is written; 1 if a file can't be opened, a node can't be read, the place is
 above what is kept or below the horizon, or the output failed; 2 for a command line that can't be
 read.";
 
 const DUMP: &str =
     "Prints all tuples of a store in files at one place, one a line. No server may have the folder open:
-a file that another process has is refused with 13 Down. Opening the files adds a record to each
-node's, as each start of a server does.";
+a file that another process has is refused with 13 Down. Nothing is written to the files.";
 
 const MANUAL: Manual = Manual {
     name: "dump",
@@ -43,7 +43,7 @@ const PARAMETERS: &[Parameter] = &[
     Parameter {
         name: "at",
         value_name: "PLACE",
-        help: "The place, a number; the latest where none is given",
+        help: "The place, from 0 to 4294967295; without it, the latest",
         takes: Takes::Number(0, MAX_PLACE),
         otherwise: Otherwise::Missing,
     },
@@ -61,6 +61,7 @@ pub struct DumpSettings {
     /// The place, from 0 to 4,294,967,295, where one is given.
     pub at: Option<u64>,
     ghost fits: { store ≤ MAX_STORE },
+    ghost placed: { ForSome at (λ place. place ≤ MAX_PLACE) },
 }
 
 impl DumpSettings {
@@ -85,6 +86,10 @@ impl DumpSettings {
 impl Asked for DumpSettings {
     fn program<'a>(alloc: Global) -> Result<Command<'a>, Error> {
         program(alloc, MANUAL, PARAMETERS)
+    }
+
+    fn parameters() -> &'static [Parameter<'static>] {
+        PARAMETERS
     }
 
     fn given(alloc: Global, dump: &ArgMatches) -> Result<Option<DumpSettings>, AllocError> {

@@ -3,6 +3,8 @@ ghost use Rattle.std.specs.Prelude.{◌≡◌, ◌⊎◌, ◌↔◌, IfErr, IsTr
 ghost use Rattle.settings.specs.CommandLine.{IsFor};
 
 use crate::limits::USAGE;
+use crate::parameter::Parameter;
+use crate::range::tell_range;
 use crate::telling::tell;
 use clap::{ArgMatches, Command, Error};
 use std::alloc::{AllocError, Global};
@@ -12,6 +14,9 @@ use std::io::{Eprint, Print};
 pub(crate) trait Asked: Sized {
     /// The program, with this one command.
     fn program<'a>(alloc: Global) -> Result<Command<'a>, Error>;
+
+    /// What it may be given.
+    fn parameters() -> &'static [Parameter<'static>];
 
     /// What the command was given; none where a part of it is missing, which the program refuses already.
     fn given(alloc: Global, matches: &ArgMatches) -> Result<Option<Self>, AllocError>;
@@ -45,7 +50,13 @@ pub(crate) fn read<S: Asked, R: Print + Eprint + AllocGlobal>(
         Ok(Some(asked)) => Ok(asked),
         // The program refuses such words already.
         Ok(None) => Err(USAGE),
-        Err(error) => Err(tell(rt, &error)),
+        Err(error) => {
+            let status = tell(rt, &error);
+            if status == USAGE {
+                tell_range(rt, words, S::parameters());
+            }
+            Err(status)
+        }
     }
 }
 

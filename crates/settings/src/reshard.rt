@@ -17,17 +17,18 @@ const EXAMPLE: &str = "Example:
   mkdir wider && zanstore reshard --dir data --to wider --store 1 --shards 2 --new-shards 8
   zanstore serve --dir wider --store 1 --shards 8 --listen 127.0.0.1:7700 --workers 4
 
-It prints done. The folder of before is the way back until the new one has taken a write, and from
-then on only a copy.
+It prints done. The old folder is the way back until the new one has taken a write, and from then on
+only a copy.
 
-Status: 0 once the new folder has all; 1 where a file can't be opened, the new folder has a file of
-a store, or a node refused; 2 for a command line that can't be read. Where it was 1, and the new
-folder had been empty, delete what is in it: the one of before is as good as it was.";
+Exit status: 0 once the new folder has all; 1 if a file can't be opened, the new folder has a file of
+a store, or a node refused; 2 for a command line that can't be read. If it was 1, and the new folder
+had been empty, delete what is in it: the old folder is as good as it was.";
 
 const RESHARD: &str =
     "Carries a store in files over to another folder, with another number of shards. No server may have the
 folder open: a file that another process has is refused with 13 Down. The new folder must be there, or
-it is 13 Down too, and have no file of a store, or it is 16 Damaged.";
+it is 13 Down too, and have no file of a store, or it is 16 Damaged. Nothing is written to the files of
+the old one.";
 
 const MANUAL: Manual = Manual {
     name: "reshard",
@@ -94,6 +95,10 @@ impl ReshardSettings {
 impl Asked for ReshardSettings {
     fn program<'a>(alloc: Global) -> Result<Command<'a>, Error> {
         program(alloc, MANUAL, PARAMETERS)
+    }
+
+    fn parameters() -> &'static [Parameter<'static>] {
+        PARAMETERS
     }
 
     fn given(alloc: Global, reshard: &ArgMatches) -> Result<Option<ReshardSettings>, AllocError> {

@@ -2,7 +2,7 @@
 ghost use Rattle.std.specs.Prelude.{◌≡◌, ◌≤◌, ◌⊎◌, ◌↔◌, IfErr, IsTrue, codes};
 ghost use Rattle.std.specs.Prelude.{option_map, slice_get, string_bytes};
 ghost use Rattle.settings.specs.CommandLine.{IsFor};
-ghost use Rattle.settings.specs.declared.limits.TheConstants.{MAX_STORE, MAX_WORKERS};
+ghost use Rattle.settings.specs.declared.limits.TheConstants.{MAX_AMOUNT, MAX_STORE, MAX_WORKERS};
 
 use crate::given::{StoreGiven, number_in, store_in};
 use crate::limits::{MAX_AMOUNT, MAX_WORKERS, USAGE};
@@ -20,9 +20,9 @@ const EXAMPLE: &str = "Example:
 It prints ready once it listens. A client sends one request a line, as JSON, and gets one line of
 JSON for each.
 
-It serves until it is ended. Status: 0 behind as many connections as were asked for; 1 where it can't
-begin, or can take none any more, with a line on standard error that says why; 2 for a command line
-that can't be read.";
+It runs until you stop it. Exit status: 0 after the requested number of connections; 1 if it can't
+begin or can take no connection any more, or if a node goes down and --end-when-down is given, with a
+line on standard error that says why; 2 for a command line that can't be read.";
 
 const SERVE: &str =
     "Serves a store in files to those who connect, one JSON request a line, and prints ready once it
@@ -50,7 +50,7 @@ const PARAMETERS: &[Parameter] = &[
     Parameter {
         name: "workers",
         value_name: "N",
-        help: "The number of threads that answer, from 1 to 64",
+        help: "The number of threads, from 1 to 64; each serves one connection at a time",
         takes: Takes::Number(1, MAX_WORKERS),
         otherwise: Otherwise::Refused,
     },
@@ -71,9 +71,23 @@ const PARAMETERS: &[Parameter] = &[
     Parameter {
         name: "idle",
         value_name: "N",
-        help: "Seconds that an idle session keeps its worker while others wait; 0 for ever",
+        help: "Seconds for which an idle session keeps its worker while others wait; 0 for ever",
         takes: Takes::Number(0, MAX_AMOUNT),
         otherwise: Otherwise::Default("10"),
+    },
+    Parameter {
+        name: "existing",
+        value_name: "",
+        help: "Serves only a store that is there, and makes none",
+        takes: Takes::Nothing,
+        otherwise: Otherwise::Missing,
+    },
+    Parameter {
+        name: "end-when-down",
+        value_name: "",
+        help: "Ends with status 1 if a node goes down",
+        takes: Takes::Nothing,
+        otherwise: Otherwise::Missing,
     },
 ];
 
@@ -96,9 +110,16 @@ pub struct ServeSettings {
     pub connections: u64,
     /// The seconds that an idle session keeps its worker while others wait; 0 for ever.
     pub idle: u64,
+    /// Whether only a store that is there is served, and none is made.
+    pub existing: bool,
+    /// Whether the server ends with status 1 if a node goes down.
+    pub end_when_down: bool,
     ghost fits: { store ≤ MAX_STORE },
     ghost staffed: { 1 ≤ workers },
     ghost affordable: { workers ≤ MAX_WORKERS },
+    ghost kept: { window ≤ MAX_AMOUNT },
+    ghost counted: { connections ≤ MAX_AMOUNT },
+    ghost waited: { idle ≤ MAX_AMOUNT },
 }
 
 impl ServeSettings {
@@ -125,6 +146,10 @@ impl Asked for ServeSettings {
         program(alloc, MANUAL, PARAMETERS)
     }
 
+    fn parameters() -> &'static [Parameter<'static>] {
+        PARAMETERS
+    }
+
     fn given(alloc: Global, serve: &ArgMatches) -> Result<Option<ServeSettings>, AllocError> {
         let (Some(dir), Some(listen), Some(numbers)) = (
             serve.get_str("dir"),
@@ -133,7 +158,7 @@ impl Asked for ServeSettings {
         ) else {
             return Ok(None);
         };
-        let settings = settings_at(alloc, dir, listen, numbers)?;
+        let settings = settings_at(alloc, dir, listen, numbers, wishes_of(serve))?;
         Ok(Some(settings))
     }
 }
@@ -148,6 +173,9 @@ struct Numbers {
     idle: u64,
     ghost staffed: { 1 ≤ workers },
     ghost affordable: { workers ≤ MAX_WORKERS },
+    ghost kept: { window ≤ MAX_AMOUNT },
+    ghost counted: { connections ≤ MAX_AMOUNT },
+    ghost waited: { idle ≤ MAX_AMOUNT },
 }
 
 fn numbers_of(serve: &ArgMatches) -> Option<Numbers> {
@@ -165,12 +193,27 @@ fn numbers_of(serve: &ArgMatches) -> Option<Numbers> {
     })
 }
 
+// What is asked of a server without a value.
+#[derive(Clone, Copy)]
+struct Wishes {
+    existing: bool,
+    end_when_down: bool,
+}
+
+fn wishes_of(serve: &ArgMatches) -> Wishes {
+    Wishes {
+        existing: serve.get_flag("existing"),
+        end_when_down: serve.get_flag("end-when-down"),
+    }
+}
+
 // The settings with this folder and address.
 fn settings_at(
     alloc: Global,
     dir: &str,
     listen: &str,
     numbers: Numbers,
+    wishes: Wishes,
 ) -> Result<ServeSettings, AllocError> {
     let StoreGiven { store, shards } = numbers.given;
     let dir = String::from_str(alloc, dir)?;
@@ -184,6 +227,8 @@ fn settings_at(
             window: numbers.window,
             connections: numbers.connections,
             idle: numbers.idle,
+            existing: wishes.existing,
+            end_when_down: wishes.end_when_down,
         }),
         Err(error) => Err(error),
     }

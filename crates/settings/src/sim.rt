@@ -1,12 +1,15 @@
 // What a script is run over, and the words that say so.
-ghost use Rattle.std.specs.Prelude.{◌≡◌, ◌≤◌, ◌⊎◌, IfErr, IfOk, ℕ, false, map, string_bytes};
+ghost use Rattle.std.specs.Prelude.{◌≡◌, ◌≤◌, ◌⊎◌, ◌↔◌, IfErr, IfOk, IsTrue, ℕ, codes, false, map, option_map, slice_get, string_bytes};
 ghost use Rattle.clap.specs.Words.{FailsBy, app_of, fault_of, kind_of, rule_of};
 ghost use Rattle.clap.specs.declared.builder.command.Command.TheViews.{out-Command as fields_of};
 ghost use Rattle.clap.specs.declared.error.kind.ErrorKind.TheVariants.{OutOfMemory};
-ghost use Rattle.settings.specs.CommandLine.{AsksFor, AsksWhatThereIs, program, shards_option, sim, store_option};
+ghost use Rattle.settings.specs.CommandLine.{AsksFor, AsksWhatThereIs, IsFor, program, shards_option, sim, store_option};
 ghost use Rattle.settings.specs.declared.limits.TheConstants.{MAX_STORE};
 
 use crate::limits::{MAX_STORE, USAGE};
+use crate::parameter::{Parameter, SHARDS, STORE};
+use crate::range::tell_range;
+use crate::reading::are_for;
 use crate::telling::tell;
 use clap::builder::ValueParser;
 use clap::{Arg, ArgAction, Command, Error};
@@ -15,13 +18,11 @@ use std::env::{self, Env};
 use std::io::{Eprint, Print};
 use tuples::Shards;
 
-const EXAMPLE: &str = "Commands that have a help of their own:
-  serve    A store in files, served over TCP
-  call     Requests to such a server
-  dump     All tuples of such a store, once it is stopped
-  reshard  Such a store with another number of shards
+const SIM: &str =
+    "Runs a script from standard input over a new store on disks in memory, and prints what each line
+answers before it looks at the next one. Nothing outlives the process.";
 
-Example:
+const LINES: &str = "Example:
   zanstore sim <<'END'
   write +doc:readme#viewer@group:staff#member +group:staff#member@ann
   check latest doc:readme#viewer@ann
@@ -31,16 +32,10 @@ It prints the token of the write's place, and yes with that of the place that an
   ok AQAAAAAAAAAAAQAAAAAAAAAB
   yes AQAAAAAAAAAAAQAAAAAAAAAB
 
-The options of a command, and the lines of a script: zanstore COMMAND --help";
-
-const SIM: &str =
-    "Runs a script from standard input over a new store on disks in memory, and prints what each line
-answers before it looks at the next one. Nothing outlives the process.";
-
-const LINES: &str = "Requests:
+Requests:
   write +doc:a#viewer@u1 -doc:b#viewer@u1 if ?doc:a#owner@u1 !doc:c#viewer@u1 doc:a#lock@lock=3
-                                touches and deletes, made where each condition is met: the tuple
-                                is there, is not, or was not changed behind the place
+                                touches and deletes, applied only if every condition holds: the
+                                tuple is there, is not, or was not changed after the place
   read latest doc:a doc@u1      tuples of an object or of a user, each with its tupleset's number
   check latest doc:a#viewer@u1  whether the user is in the userset, by way of others too
   watch TOKEN 256 doc group     the changes at the next 256 places in these namespaces
@@ -62,7 +57,7 @@ The store goes on with another number of shards, where no flow runs:
 An empty line and one that begins with ; print nothing. A line that can't be carried out prints
 refused, a number and a name. Each of them is told in docs/SCRIPTS.md and docs/API.md.
 
-Status: 0 at the end of the input; 1 where the input or the output failed, or there was no memory
+Exit status: 0 at the end of the input; 1 if the input or the output failed, or there was no memory
 for the disks; 2 for a command line that can't be read.";
 
 /// What `zanstore sim` was asked for.
@@ -75,7 +70,17 @@ pub struct Settings {
     ghost fits: { store ≤ MAX_STORE },
 }
 
+// The options of a script that take numbers.
+const NUMBERS: &[Parameter] = &[STORE, SHARDS];
+
 impl Settings {
+    /// Whether the words of the command line, the program's name first, are for this command: the second one is `sim`, or `help`, and `sim` stands behind that.
+    pub fn are_for(words: &[String]) -> bool
+        ensures { IsTrue result ↔ IsFor (option_map string_bytes (slice_get words.now 1)) (option_map string_bytes (slice_get words.now 2)) (codes "sim") }
+    {
+        are_for(words, "sim")
+    }
+
     /// Reads the words of the command line. An `Err` is the status to end with: the user asked what there is, or is told what is wrong.
     pub fn read<R: Env + Print + Eprint + AllocGlobal>(rt: &R) -> Result<Settings, u8>
         ensures { IfErr result (λ status. (status ≡ 0) ⊎ (status ≡ USAGE)) }
@@ -86,7 +91,11 @@ impl Settings {
         let Ok(words) = args.collect::<Vec<String>>(rt.alloc()) else {
             return Err(USAGE);
         };
-        answer(rt, &words)
+        let asked = answer(rt, &words);
+        if asked.is_err() {
+            tell_range(rt, &words, NUMBERS);
+        }
+        asked
     }
 
     /// What the words ask for, the name of the program first. A line that asks for settings is refused for memory alone.
@@ -171,8 +180,6 @@ fn command<'a>(alloc: Global) -> Result<Command<'a>, Error>
     let script = sim_command(alloc)?;
     Ok(
         Command::new(alloc, "zanstore")
-            .about("A store of relation tuples: served over TCP, or run by scripts")
-            .after_help(EXAMPLE)
             .subcommand_required(true)
             .subcommand(script)?,
     )

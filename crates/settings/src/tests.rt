@@ -14,8 +14,9 @@ enum Reader {
 // Lines, and behind each the settings that it asks for, or the status to end with: 2 for one without an option that has to be there, with a number out of its range, or with
 // what there is not; 0 for help. They are texts, since a list of as many rows takes long to be proved wherever it is read.
 const SERVE: &str =
-    r#"zanstore serve --dir data --store=7 --shards 2 --listen 127.0.0.1:7700 --workers=4 => Ok(ServeSettings { dir: "data", store: 7, shards: Shards { count: 2 }, listen: "127.0.0.1:7700", workers: 4, window: 1000000, connections: 0, idle: 10 })
-zanstore serve --idle 4294967295 --connections=4294967295 --window 0 --workers 64 --listen a --shards 64 --store 4294967295 --dir b => Ok(ServeSettings { dir: "b", store: 4294967295, shards: Shards { count: 64 }, listen: "a", workers: 64, window: 0, connections: 4294967295, idle: 4294967295 })
+    r#"zanstore serve --dir data --store=7 --shards 2 --listen 127.0.0.1:7700 --workers=4 => Ok(ServeSettings { dir: "data", store: 7, shards: Shards { count: 2 }, listen: "127.0.0.1:7700", workers: 4, window: 1000000, connections: 0, idle: 10, existing: false, end_when_down: false })
+zanstore serve --idle 4294967295 --connections=4294967295 --window 0 --workers 64 --listen a --shards 64 --store 4294967295 --dir b => Ok(ServeSettings { dir: "b", store: 4294967295, shards: Shards { count: 64 }, listen: "a", workers: 64, window: 0, connections: 4294967295, idle: 4294967295, existing: false, end_when_down: false })
+zanstore serve --existing --dir d --store 1 --shards 2 --listen a --workers 4 --end-when-down => Ok(ServeSettings { dir: "d", store: 1, shards: Shards { count: 2 }, listen: "a", workers: 4, window: 1000000, connections: 0, idle: 10, existing: true, end_when_down: true })
 zanstore => Err(2)
 zanstore serve --store 1 --shards 2 --listen a --workers 4 => Err(2)
 zanstore serve --dir d --shards 2 --listen a --workers 4 => Err(2)
@@ -32,6 +33,7 @@ zanstore serve --dir d --store 1 --shards 2 --listen a --workers 4 --connections
 zanstore serve --dir d --store 1 --shards 2 --listen a --workers 4 --idle 4294967296 => Err(2)
 zanstore serve --dir d --store 1 --shards two --listen a --workers 4 => Err(2)
 zanstore serve --dir d --store 1 --shards 2 --listen a --workers 4 --port 1 => Err(2)
+zanstore serve --dir d --store 1 --shards 2 --listen a --workers 4 --existing=1 => Err(2)
 zanstore serve --help => Err(0)
 zanstore serve -h => Err(0)
 zanstore help serve => Err(0)"#;
@@ -71,8 +73,14 @@ zanstore reshard --dir d --to e --store 1 --shards 2 --new-shards 3 --at 1 => Er
 zanstore reshard --dir d --to e --store 1 --shards 2 --new-shards 3 f => Err(2)"#;
 
 const CALL: &str =
-    r#"zanstore call 127.0.0.1:7700 => Ok(CallSettings { address: "127.0.0.1:7700", retry: 0, follow: false, request: None })
-zanstore call h:1 --retry 1000 --follow write -doc:a#viewer@ann --retry if => Ok(CallSettings { address: "h:1", retry: 1000, follow: true, request: Some("write -doc:a#viewer@ann --retry if") })
+    r#"zanstore call 127.0.0.1:7700 => Ok(CallSettings { address: "127.0.0.1:7700", retry: 0, timeout: None, follow: false, request: None })
+zanstore call h:1 --retry 1000 --timeout=4294967295 --follow write -doc:a#viewer@ann -retry if => Ok(CallSettings { address: "h:1", retry: 1000, timeout: Some(4294967295), follow: true, request: Some("write -doc:a#viewer@ann -retry if") })
+zanstore call h:1 {"op": --x} --retry 1 => Ok(CallSettings { address: "h:1", retry: 0, timeout: None, follow: false, request: Some("{\"op\": --x} --retry 1") })
+zanstore call h:1 check doc:a#viewer@ann --retry 1 => Err(2)
+zanstore call h:1 --verbose check doc:a#viewer@ann => Err(2)
+zanstore call h:1 -v => Err(2)
+zanstore call a --timeout 0 => Err(2)
+zanstore call a --timeout 4294967296 => Err(2)
 zanstore => Err(2)
 zanstore call => Err(2)
 zanstore call --retry 3 => Err(2)

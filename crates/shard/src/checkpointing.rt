@@ -13,10 +13,10 @@ ghost use Rattle.shard.specs.Shards.{IsUp, journal_of};
 use crate::Shard;
 use crate::known::Known;
 use device::Device;
-use journal::Journal;
+use journal::{Journal, len_of};
 use records::{Identity, PlacedIds, Record};
 use replay::Memory;
-use std::alloc::Global;
+use std::alloc::{AllocError, Global};
 use tuples::Refusal;
 
 // The records before the versions, which take no memory.
@@ -66,6 +66,18 @@ fn write<D: Device>(
 }
 
 impl<D: Device> Shard<D> {
+    /// How many bytes a checkpoint of what the shard knows has, but for the few around its records. It takes the memory of one batch.
+    pub fn checkpoint_len(&self, alloc: Global) -> Result<u64, AllocError> {
+        let heads = heads(alloc, self.me, &self.memory);
+        let mut known = Known::new(&heads, &self.memory);
+        len_of(alloc, &mut known)
+    }
+
+    /// Whether the disk has the room for a checkpoint of so many bytes, as far as that can be told (`Device::has_room`).
+    pub fn has_point_room(&self, len: u64) -> bool {
+        self.journal.has_point_room(len)
+    }
+
     /// Makes durable what is staged, and then a checkpoint of what the shard knows in place of all its records. It takes the memory of one
     /// batch, before any call of a device.
     ///

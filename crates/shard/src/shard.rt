@@ -90,6 +90,7 @@ impl<D: Device> Shard<D> {
         ensures counts { ((D.state self.old.a).failures ≤ (D.state self.new.a).failures) × ((D.state self.old.b).failures ≤ (D.state self.new.b).failures) }
         ensures none { OnOk result (((D.state self.new.a).failures ≡ (D.state self.old.a).failures) × ((D.state self.new.b).failures ≡ (D.state self.old.b).failures)) }
         ensures end { OnOk result ((self.old.staged ≡ []) ⊎ (self.new.end ≡ after_batch (journal_of self.old))) }
+        ensures unmoved { OnErr result (self.new.end ≡ self.old.end) }
     {
         match self.journal.flush() {
             Ok(()) => {

@@ -8,7 +8,7 @@ use thiserror::Error;
 /// Why a line is no request, and what it may be.
 #[derive(Clone, Copy, Debug, PartialEq, Eq, Error)]
 pub enum Mistake {
-    #[error("a line begins with write, read, check, watch or {{")]
+    #[error("expected write, read, check, watch or a JSON object")]
     Verb,
     #[error("write +TUPLE | -TUPLE .. [if ?TUPLE | !TUPLE | TUPLE=TOKEN ..]")]
     Write,

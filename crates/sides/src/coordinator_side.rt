@@ -76,6 +76,22 @@ impl<D: Device, B: Room> CoordinatorSide<D, B> {
         }
     }
 
+    /// How many bytes a checkpoint of its node has; none where its opening was refused, or there is no memory to tell.
+    pub fn checkpoint_len(&self) -> Option<u64> {
+        match &self.node {
+            Some(node) => node.checkpoint_len(),
+            None => None,
+        }
+    }
+
+    /// Whether the disk of its node has the room for a checkpoint of so many bytes, as far as that can be told.
+    pub fn has_point_room(&self, len: u64) -> bool {
+        match &self.node {
+            Some(node) => node.has_point_room(len),
+            None => true,
+        }
+    }
+
     /// A new pass for a caller, which knows all that there is.
     pub fn session(&mut self, words: &Published<Entry>) -> SessionPass<Entry>
         requires own { words.now ≡ B.log }

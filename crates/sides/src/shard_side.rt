@@ -99,6 +99,22 @@ impl<D: Device, B: Room> ShardSide<D, B> {
         }
     }
 
+    /// How many bytes a checkpoint of its node has; none where its opening was refused, or there is no memory to tell.
+    pub fn checkpoint_len(&self) -> Option<u64> {
+        match &self.node {
+            Some(node) => node.checkpoint_len(),
+            None => None,
+        }
+    }
+
+    /// Whether the disk of its node has the room for a checkpoint of so many bytes, as far as that can be told.
+    pub fn has_point_room(&self, len: u64) -> bool {
+        match &self.node {
+            Some(node) => node.has_point_room(len),
+            None => true,
+        }
+    }
+
     /// What it keeps whatever is called: it is a shard of the room's store, beside a pass of the room's words, and tied to what that knows where its devices rested.
     pub fn keeps(&self)
         ensures own { self.now.pass.table ≡ B.log }

@@ -1,7 +1,7 @@
 //! The program: a store over files that is served to those who connect, dumped, or carried over to another number of shards, a client of such a server, and a
 //! store over disks in memory which runs scripts.
 //!
-//! Keeps: the first word says what is done: `serve`, `dump`, `reshard`, `call` or `sim`. Status 0 means that all was done and that what was asked for was written.
+//! Keeps: the first word says what is done: `serve`, `dump`, `reshard`, `call` or `sim`; words that name none of them are told what there is. Status 0 means that all was done and that what was asked for was written.
 //! Never: looks at a request or a line, and owns no store: `server` serves one over files, `dumping` writes all tuples of one, `reshard` carries one over, `calling` asks a server, and
 //! `scripts` has a script carried out over a store of its own, and promises that this is one life of it.
 //! Callers rely on: the status, 0 at the end of the script, of the requests or of the last connection, 1 where files, nodes, the address, a request, a read
@@ -16,7 +16,9 @@ use dumping::dump_folder;
 use reshard::{Folders, reshard_folder};
 use scripts::sim;
 use server::serve;
-use settings::{CallSettings, DumpSettings, ReshardSettings, ServeSettings, Settings};
+use settings::{
+    CallSettings, DumpSettings, ReshardSettings, ServeSettings, Settings, tell_of_program,
+};
 use std::net::{Net, TcpListener, TcpStream};
 use std::process::ExitCode;
 use std::rt::Runtime;
@@ -24,10 +26,22 @@ use std::sync::Wait;
 use std::thread::Threads;
 use std::{env, io};
 
+mod standard;
+mod timed;
+
+use timed::timed;
+
 // The status where the words of the command line can't be had.
 const USAGE: u8 = 2;
 
+// The status where the process can't be made safe.
+const FAILED: u8 = 1;
+
 fn main(rt: HostRuntime) -> ExitCode {
+    if let Err(error) = standard::hold(&rt) {
+        let _ = eprintln!(rt; "zanstore: /: {error}");
+        return ExitCode::from(FAILED);
+    }
     let Ok(args) = env::args(&rt) else {
         return ExitCode::from(USAGE);
     };
@@ -38,15 +52,18 @@ fn main(rt: HostRuntime) -> ExitCode {
         return ExitCode::from(run_server(&rt, &rt, &words));
     }
     if DumpSettings::are_for(&words) {
-        return ExitCode::from(run_dump(&rt, &words));
+        return ExitCode::from(run_dump(&rt, &rt, &words));
     }
     if ReshardSettings::are_for(&words) {
-        return ExitCode::from(run_reshard(&rt, &words));
+        return ExitCode::from(run_reshard(&rt, &rt, &words));
     }
     if CallSettings::are_for(&words) {
         return ExitCode::from(run_call(&rt, &rt, &words));
     }
-    ExitCode::from(run_script(&rt))
+    if Settings::are_for(&words) {
+        return ExitCode::from(run_script(&rt));
+    }
+    ExitCode::from(tell_of_program(&rt, &words))
 }
 
 // Serves what the words ask for.
@@ -61,23 +78,30 @@ where
 }
 
 // Writes all tuples of the store that the words ask for.
-fn run_dump(rt: &HostRuntime, words: &[String]) -> u8 {
-    match DumpSettings::read(rt, words) {
-        Ok(settings) => dump_folder(
-            rt,
-            settings.dir.as_str(),
-            settings.store,
-            settings.shards,
-            settings.at,
-        ),
+fn run_dump<R>(rt: &R, files: &HostRuntime, words: &[String]) -> u8
+where
+    R: Runtime + Threads + Wait + Sync,
+{
+    match DumpSettings::read(files, words) {
+        Ok(settings) => {
+            let dir = settings.dir.as_str();
+            timed(rt, dir, "being dumped", || {
+                dump_folder(files, dir, settings.store, settings.shards, settings.at)
+            })
+        }
         Err(status) => status,
     }
 }
 
 // Carries the store over that the words ask for.
-fn run_reshard(rt: &HostRuntime, words: &[String]) -> u8 {
-    match ReshardSettings::read(rt, words) {
-        Ok(settings) => reshard_to(rt, &settings),
+fn run_reshard<R>(rt: &R, files: &HostRuntime, words: &[String]) -> u8
+where
+    R: Runtime + Threads + Wait + Sync,
+{
+    match ReshardSettings::read(files, words) {
+        Ok(settings) => timed(rt, settings.dir.as_str(), "being carried over", || {
+            reshard_to(files, &settings)
+        }),
         Err(status) => status,
     }
 }

@@ -2,7 +2,7 @@ use Rattle.std.proofs.Common.{◌∷◌, [], length, ap, inl, ⊎_elim, arith, l
 use Rattle.std.proofs.lemmas.Bool.{cases_Bool, false≢true, false_from_ne_true}
 use Rattle.std.proofs.lemmas.Result.{on_ok_weaker}
 use Rattle.gated.specs.Gated.{body_of, IsOldOrNew}
-use Rattle.gated.proofs.Calls.{put, still_moments}
+use Rattle.gated.proofs.Calls.{put, put_durable, still_moments}
 use Rattle.gated.proofs.Appends.{length-body, body_fits, room_first, room, ready, has_new, at_record, at_first_sync, at_gate_write, at_last_sync}
 use Rattle.gated.proofs.append.append_at.Goals as goal
 
@@ -110,3 +110,11 @@ returns-clause-ok g c = λ bodies hon has.
     (λ synced.
     has_new s c.args.end r two (body_of buf) c.frame.new.buf (body_fits buf c.requires.some c.requires.fits) c.frame.ensures record_put four (put two _ _ three four (c.in_ok-write_at-2.ensures.ok hon_two) synced) bodies has)
     (c.sync-2.ensures.ok (c.write_at-2.ensures.honest.0 hon_two))
+
+pub returns-clause-durable : goal.returns-clause-durable
+returns-clause-durable g c = λ hon.
+    let two = g.D.Device.state c.sync.new.self in
+    let three = g.D.Device.state c.write_at-2.new.self in
+    let four = g.D.Device.state c.sync-2.new.self in
+    let hon_two = c.sync.ensures.honest.0 (c.write_at.ensures.honest.0 hon) in
+    on_ok_weaker c.sync-2.result (λ synced. put_durable two _ _ four (put two _ _ three four (c.in_ok-write_at-2.ensures.ok hon_two) synced)) (c.sync-2.ensures.ok (c.write_at-2.ensures.honest.0 hon_two))

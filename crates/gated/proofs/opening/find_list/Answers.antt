@@ -1,6 +1,6 @@
-use Rattle.std.proofs.Common.{map, ◌∙◌, rules}
+use Rattle.std.proofs.Common.{map, ◌∙◌}
 use Rattle.std.proofs.lemmas.Result.{IfOk-weaker}
-use Rattle.gated.proofs.Opens.{read_moments, synced_since, found_list}
+use Rattle.gated.proofs.Opens.{found_list, found_ready, read_moments, synced_since}
 use Rattle.gated.proofs.opening.find_list.Goals as goal
 
 pub returns-clause-ok : goal.returns-clause-ok
@@ -26,4 +26,12 @@ returns-clause-any_moment g c = λ hon.
     (c.len.ensures.time hon) (c.sync.ensures.time hon_one) (c.read_whole.ensures.any_moment hon_mid)
 
 pub returns-clause-ready : goal.returns-clause-ready
-returns-clause-ready g c = search rules
+returns-clause-ready g c = λ hon.
+    let hon_one = c.len.ensures.honest.0 hon in
+    let hon_mid = c.sync.ensures.honest.0 hon_one in
+    let synced = synced_since (g.D.Device.state c.args.device.now) (g.D.Device.state c.len.new.self) (g.D.Device.state c.sync.new.self) (c.len.ensures.keeps hon) (c.in-Ok-sync.ensures.ok hon_one) in
+    let content_is = c.deref.ensures.value ∙ c.in_ok-content.ensures.ok hon_mid synced.stopped in
+    IfOk-weaker c.split.result _ _
+    (λ r spelled. found_ready (g.D.Device.state c.args.device.now) (g.D.Device.state c.sync.new.self) (g.D.Device.state c.read_whole.new.device) synced
+    (c.in_ok-content.ensures.keeps hon_mid) c.deref.result.now content_is (map (λ b. b.items) r.0.items) r.1 spelled)
+    c.split.ensures.ok

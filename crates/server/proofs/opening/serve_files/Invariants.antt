@@ -3,7 +3,7 @@ use Rattle.device.specs.Device.{State}
 use Rattle.records.specs.Coordinators.{CoordinatorState}
 use Rattle.files.specs.Life.{life_state}
 use Rattle.tuples.specs.declared.entry.Entry.{Entry}
-use Rattle.at_rest.specs.AtRest.{IsAtRest, found_coordinator}
+use Rattle.locked.specs.AtRest.{IsAtRest, found_coordinator}
 use Rattle.server.proofs.opening.serve_files.Given as goal
 
 -- (the devices first, which say what they are)

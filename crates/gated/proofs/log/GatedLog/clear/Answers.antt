@@ -1,7 +1,7 @@
-use Rattle.std.proofs.Common.{◌≡◌, ℕ, [], false, subst, rules}
+use Rattle.std.proofs.Common.{◌≡◌, ℕ, [], false, arith, subst, rules}
 use Rattle.gated.specs.Gated.{HasList, IsReady, LogView}
 use Rattle.gated.proofs.Cleared.{none_listed}
-use Rattle.gated.proofs.WrittenAhead.{ready_of}
+use Rattle.gated.proofs.WrittenAhead.{none_ahead, ready_of}
 use Rattle.gated.proofs.log.GatedLog.clear.Goals as goal
 
 pub returns-then-self-eq0-clause-ok : goal.returns-then-self-eq0-clause-ok
@@ -14,6 +14,9 @@ returns-then-self-eq0-clause-ok g c =
 
 pub invariant_of-self : goal.invariant_of-self
 invariant_of-self g c = search rules
+
+pub invariant_of-self-in-Ok : goal.invariant_of-self-in-Ok
+invariant_of-self-in-Ok g c = (omega arith, λ hon up. record { ahead = []; is = none_ahead (g.D.Device.state c.close_first.new.device) 0 (c.in-Ok.ensures.ready (c.close_first.ensures.honest.1 hon)) })
 
 pub returns-then-self-eq0-clause-any_moment : goal.returns-then-self-eq0-clause-any_moment
 returns-then-self-eq0-clause-any_moment g c = search rules

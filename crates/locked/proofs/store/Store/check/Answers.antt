@@ -1,17 +1,27 @@
-use Rattle.std.proofs.Common.{length}
-use Rattle.locked.proofs.Words.{prefix_length}
+use Rattle.std.proofs.Common.{length, subst}
+use Rattle.tuples.specs.declared.user.User.{User}
 use Rattle.answer_flow.specs.CheckViews.{ending_of}
-use Rattle.locked.proofs.CheckTurns.{check_ends, check_refuses}
+use Rattle.locked.specs.Answering.{CheckEnds}
+use Rattle.locked.proofs.Words.{prefix_length}
+use Rattle.locked.proofs.Passes.{later_on}
+use Rattle.locked.proofs.CheckTurns.{check_ends_of_less, check_refuses_of_less, passed_refuses_check}
 use Rattle.locked.proofs.store.Store.check.Goals as goal
 
-pub returns-in-Ok-clause-answer : goal.returns-in-Ok-clause-answer
-returns-in-Ok-clause-answer g c rests =
-    let run = c.run_check-flow.ensures in
-    check_ends g.B.Room.rests g.B.Room.shards c.begin_check.new.caller.seen c.run_check-flow.new.caller.seen c.args.freshness (length c.args.caller.now.seen) c.args.userset.now c.args.user c.in-Ok.flow c.run_check-flow.result.seen
-    (ending_of c.ended.result) c.in-Ok.ensures.runs (run.held rests) c.ended.ensures
+pub returns-then-has_passed-clause-refused : goal.returns-then-has_passed-clause-refused
+returns-then-has_passed-clause-refused g c rests =
+    passed_refuses_check c.args.told.now c.has_passed.new.caller.seen c.has_passed.new.caller.horizon c.args.freshness (length c.args.caller.now.seen) c.args.userset.now (c.has_passed.ensures.passed c.if-has_passed.true)
 
-pub returns-in-Ok-clause-refused : goal.returns-in-Ok-clause-refused
-returns-in-Ok-clause-refused g c rests =
-    let run = c.run_check-flow.ensures in
-    check_refuses g.B.Room.rests g.B.Room.shards c.begin_check.new.caller.seen c.run_check-flow.new.caller.seen c.args.freshness (length c.args.caller.now.seen) c.run_check-flow.new.caller.horizon c.run_check-flow.new.told c.args.userset.now c.args.user
-    c.in-Ok.flow c.run_check-flow.result.seen (ending_of c.ended.result) c.in-Ok.ensures.runs (prefix_length c.begin_check.new.caller.seen c.run_check-flow.new.caller.seen run.caller.seen) (run.reason rests) c.ended.ensures
+pub returns-then-not-begins_again-clause-answer : goal.returns-then-not-begins_again-clause-answer
+returns-then-not-begins_again-clause-answer g c rests =
+    let later = later_on c.args.caller.now c.has_passed.new.caller c.loop.caller c.has_passed.ensures.caller c.loop.invariant.later in
+    let seen = c.try_check.new.caller.seen in
+    let more = length c.loop.caller.seen in
+    let end = ending_of c.in-Ok.end in
+    check_ends_of_less seen c.args.freshness (length c.args.caller.now.seen) more c.args.userset.now c.args.user end (prefix_length c.args.caller.now.seen c.loop.caller.seen later.seen)
+    (subst (λ (u : User). CheckEnds seen c.args.freshness more c.args.userset.now u end) c.loop.invariant.user (c.in-Ok.ensures.answer rests))
+
+pub returns-then-not-begins_again-clause-refused : goal.returns-then-not-begins_again-clause-refused
+returns-then-not-begins_again-clause-refused g c rests =
+    let later = later_on c.args.caller.now c.has_passed.new.caller c.loop.caller c.has_passed.ensures.caller c.loop.invariant.later in
+    check_refuses_of_less c.try_check.new.told c.try_check.new.caller.seen c.try_check.new.caller.horizon c.args.freshness (length c.args.caller.now.seen) (length c.loop.caller.seen) c.args.userset.now
+    (ending_of c.in-Ok.end) (prefix_length c.args.caller.now.seen c.loop.caller.seen later.seen) (c.in-Ok.ensures.refused rests)

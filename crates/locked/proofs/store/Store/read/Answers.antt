@@ -1,17 +1,27 @@
-use Rattle.std.proofs.Common.{length}
-use Rattle.locked.proofs.Words.{prefix_length}
+use Rattle.std.proofs.Common.{List, length, subst}
+use Rattle.tuples.specs.declared.tupleset.Tupleset.{Tupleset}
 use Rattle.answer_flow.specs.ReadViews.{ending_of}
-use Rattle.locked.proofs.ReadTurns.{read_ends, read_refuses}
+use Rattle.locked.specs.Answering.{ReadEnds}
+use Rattle.locked.proofs.Words.{prefix_length}
+use Rattle.locked.proofs.Passes.{later_on}
+use Rattle.locked.proofs.ReadTurns.{passed_refuses_read, read_ends_of_less, read_refuses_of_less}
 use Rattle.locked.proofs.store.Store.read.Goals as goal
 
-pub returns-clause-answer : goal.returns-clause-answer
-returns-clause-answer g c rests =
-    let run = c.run_read-flow.ensures in
-    read_ends g.B.Room.rests g.B.Room.shards c.begin_read-flow.new.caller.seen c.run_read-flow.new.caller.seen c.args.freshness (length c.args.caller.now.seen) c.args.sets.items c.begin_read-flow.result c.run_read-flow.result (ending_of c.ended.result)
-    c.begin_read-flow.ensures.runs run.same.0 run.same.1 (run.held rests) c.ended.ensures
+pub returns-then-has_passed-clause-refused : goal.returns-then-has_passed-clause-refused
+returns-then-has_passed-clause-refused g c rests =
+    passed_refuses_read c.args.told.now c.has_passed.new.caller.seen c.has_passed.new.caller.horizon c.args.freshness (length c.args.caller.now.seen) (c.has_passed.ensures.passed c.if-has_passed.true)
 
-pub returns-clause-refused : goal.returns-clause-refused
-returns-clause-refused g c rests =
-    let run = c.run_read-flow.ensures in
-    read_refuses g.B.Room.rests g.B.Room.shards c.begin_read-flow.new.caller.seen c.run_read-flow.new.caller.seen c.args.freshness (length c.args.caller.now.seen) c.run_read-flow.new.caller.horizon c.run_read-flow.new.told c.args.sets.items c.begin_read-flow.result
-    c.run_read-flow.result (ending_of c.ended.result) c.begin_read-flow.ensures.runs (prefix_length c.begin_read-flow.new.caller.seen c.run_read-flow.new.caller.seen run.caller.seen) run.same.0 (run.reason rests) c.ended.ensures
+pub returns-then-not-begins_again-clause-answer : goal.returns-then-not-begins_again-clause-answer
+returns-then-not-begins_again-clause-answer g c rests =
+    let later = later_on c.args.caller.now c.has_passed.new.caller c.loop.caller c.has_passed.ensures.caller c.loop.invariant.later in
+    let seen = c.try_read-end.new.caller.seen in
+    let more = length c.loop.caller.seen in
+    let end = ending_of c.try_read-end.result.0 in
+    read_ends_of_less seen c.args.freshness (length c.args.caller.now.seen) more c.args.sets.items end (prefix_length c.args.caller.now.seen c.loop.caller.seen later.seen)
+    (subst (λ (sets : List Tupleset). ReadEnds seen c.args.freshness more sets end) c.loop.invariant.sets (c.try_read-end.ensures.answer rests))
+
+pub returns-then-not-begins_again-clause-refused : goal.returns-then-not-begins_again-clause-refused
+returns-then-not-begins_again-clause-refused g c rests =
+    let later = later_on c.args.caller.now c.has_passed.new.caller c.loop.caller c.has_passed.ensures.caller c.loop.invariant.later in
+    read_refuses_of_less c.try_read-end.new.told c.try_read-end.new.caller.seen c.try_read-end.new.caller.horizon c.args.freshness (length c.args.caller.now.seen) (length c.loop.caller.seen)
+    (ending_of c.try_read-end.result.0) (prefix_length c.args.caller.now.seen c.loop.caller.seen later.seen) (c.try_read-end.ensures.refused rests)

@@ -1,14 +1,18 @@
 use Rattle.std.proofs.Common.{ap, length}
-use Rattle.locked.proofs.Words.{WatchFlowValue}
+use Rattle.locked.proofs.Words.{prefix_length, WatchFlowValue}
 use Rattle.answer_flow.specs.WatchViews.{ending_of}
-use Rattle.locked.proofs.WatchTurns.{watch_ends, watch_refuses}
+use Rattle.locked.proofs.WatchTurns.{watch_ends, watch_ends_of_less, watch_refuses}
 use Rattle.locked.proofs.store.Store.watch.Goals as goal
 
 pub returns-clause-lists : goal.returns-clause-lists
 returns-clause-lists g c rests =
     let flow = c.new-flow.ensures in
-    watch_ends c.args.cursor c.args.limit c.args.namespaces.items (length c.args.caller.now.seen) c.run_watch-flow.new.caller.seen c.new-flow.result c.run_watch-flow.result.seen (ending_of c.ended.result)
-    (ap (λ (f : WatchFlowValue). f.cursor) flow) (ap (λ (f : WatchFlowValue). f.limit) flow) (ap (λ (f : WatchFlowValue). f.namespaces) flow) (c.run_watch-flow.ensures.held rests) c.ended.ensures
+    let end = ending_of c.ended.result in
+    let more = length c.horizon.new.caller.seen in
+    watch_ends_of_less c.args.cursor c.args.limit c.args.namespaces.items (length c.args.caller.now.seen) more c.run_watch-flow.new.caller.seen end
+    (prefix_length c.args.caller.now.seen c.horizon.new.caller.seen c.horizon.ensures.caller.seen)
+    (watch_ends c.args.cursor c.args.limit c.args.namespaces.items more c.run_watch-flow.new.caller.seen c.new-flow.result c.run_watch-flow.result.seen end
+    (ap (λ (f : WatchFlowValue). f.cursor) flow) (ap (λ (f : WatchFlowValue). f.limit) flow) (ap (λ (f : WatchFlowValue). f.namespaces) flow) (c.run_watch-flow.ensures.held rests) c.ended.ensures)
 
 pub returns-clause-refused : goal.returns-clause-refused
 returns-clause-refused g c rests =
