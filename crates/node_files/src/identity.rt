@@ -4,8 +4,8 @@ use records::{Record, decode_batch};
 use std::alloc::Global;
 use tuples::Shards;
 
-// An open gate.
-const OPEN: u8 = 0xa5;
+/// An open gate.
+pub(crate) const OPEN: u8 = 0xa5;
 
 // The first body of a list, and what stands behind it.
 fn next_body(list: &[u8]) -> Option<(&[u8], &[u8])> {

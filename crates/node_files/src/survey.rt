@@ -1,8 +1,10 @@
 // What a folder has of a store before any file of it is opened.
+use crate::identity::OPEN;
 use files::{Cause, Unopened};
 use refusal::Refusal;
-use std::fs;
-use std::io::ErrorKind;
+use std::fs::{self, File};
+use std::io::{self, ErrorKind};
+use std::os::unix::fs::FileExt;
 use tuples::MAX_SHARDS;
 
 /// What a folder has of a store.
@@ -10,7 +12,7 @@ use tuples::MAX_SHARDS;
 pub(crate) enum Findings {
     /// No file of a store.
     Nothing,
-    /// Files in which nothing is kept, as a start leaves them that was cut off while it made them: all of them are made before any has two bytes.
+    /// Files in which nothing is kept, as a start or a resharding leaves them that was cut off: no first gate is open, whatever stands behind it.
     Begun,
     /// A store.
     Store,
@@ -47,9 +49,18 @@ pub(crate) fn unopened(rt: &HostRuntime, refusal: Refusal, path: &str, cause: Ca
     }
 }
 
+// Whether a file of two bytes or more begins with an open gate.
+fn is_kept_in(rt: &HostRuntime, path: &str) -> io::Result<bool> {
+    let mut gate = [0];
+    File::open(rt, path)?.read_exact_at(&mut gate, 0)?;
+    Ok(gate == [OPEN])
+}
+
 fn survey_path(rt: &HostRuntime, path: &str) -> Result<Findings, Unopened> {
     match fs::symlink_metadata(rt, path) {
-        Ok(found) if found.is_file() && found.len() >= 2 => Ok(Findings::Store),
+        // Of a file that can't be read its opening tells why.
+        Ok(found) if found.is_file() && found.len() >= 2 && is_kept_in(rt, path).unwrap_or(true) =>
+            { Ok(Findings::Store) }
         Ok(_) => Ok(Findings::Begun),
         Err(error) if error.kind() == ErrorKind::NotFound => Ok(Findings::Nothing),
         Err(error) => Err(unopened(rt, Refusal::Down, path, Cause::System(error))),
