@@ -78,6 +78,16 @@ def test_missing(folder):
     assert not os.listdir(folder)
 
 
+def test_closed(folder):
+    """files of which none begins with an open gate keep nothing, however long they are: the folder has no store"""
+    script(folder, 2, f"write +{A}")
+    for name, whole in contents(folder).items():
+        with open(os.path.join(folder, name), "r+b") as file:
+            assert file.write(b"\0" if whole else b"") == bool(whole)
+    assert os.path.getsize(os.path.join(folder, "c.a")) > 1
+    assert dumped(folder, 2) == fault("13 Down", f"{folder}: has no store")
+
+
 def test_another(folder):
     """files of another store, or of another number of shards"""
     script(folder, 2, f"write +{A}")

@@ -259,9 +259,11 @@ def test_existing_store(folder):
     status, out, err = run("serve", *words_of(options(folder)), "--existing")
     must((status, out, err) == (1, "", f"{DOWN}zanstore: {folder}: has no store\n"), f"is (status, output, error) {(status, out, err)}")
     must(not os.listdir(folder), f"makes {os.listdir(folder)}")
-    # What a start leaves that was cut off while it made its files.
-    open(os.path.join(folder, "c.a"), "w").close()
-    must(run("serve", *words_of(options(folder)), "--existing")[0] == 1, "takes an empty file for a store")
+    # What a start leaves that was cut off while it made its files, or a resharding before any of them had an open gate.
+    for left in (b"", b"\0" * 65536):
+        with open(os.path.join(folder, "c.a"), "wb") as file:
+            file.write(left)
+        must(run("serve", *words_of(options(folder)), "--existing")[0] == 1, f"takes a file of {len(left)} bytes, which keeps nothing, for a store")
     with Server(folder) as server:
         line = server.next_line(server.child.stderr).decode()
         must(is_start(line, folder, SHARDS, 0, 0), f"tells of a new store: {line}")

@@ -13,6 +13,7 @@ from ..broken import BROKEN
 from ..kit import rt, rtlib
 from ..lanes import Lanes, Meter, Task
 from ..seconds import Seconds
+from .store import Store
 
 ONE_JOB = ["--jobs", "1"]
 # The processor seconds that a batch of edits may take, by the record.
@@ -26,22 +27,42 @@ ROOM = 20 << 30
 class Crate(rt.Crate):
     """A crate whose library is proved once, into a folder that this run begins empty."""
 
-    def kept(self):
+    store = None
+
+    def made(self):
+        """The folder of the work that this run keeps."""
         return f"{self.folder}/out/incremental"
+
+    def kept(self):
+        """The same, or that of the run whose proof was taken."""
+        path = None if os.path.isdir(self.made()) else self.store.found(self.store.name(self, False))
+        return f"{path}/incremental" if path else self.made()
 
     def begin(self):
         """Makes sure that nothing is there that another run has kept. What a check that was killed has left is removed."""
-        if os.path.lexists(self.kept()):
+        if os.path.lexists(self.made()):
             if not getattr(self, "is_begun", False):
                 rtlib.stop(f"{self.name}: out/incremental stands before this run has proved anything")
-            shutil.rmtree(self.kept())
+            shutil.rmtree(self.made())
         self.is_begun = True
         shutil.rmtree(os.path.dirname(self.rlib), ignore_errors=True)
         os.makedirs(os.path.dirname(self.rlib))
 
     def ci(self, flags, tests):
-        if tests and not self.is_program and not self.is_static:
-            return self.prove_tests(flags)
+        """What an earlier run on this machine passed, of the same text over the same libraries, is taken."""
+        name, out = self.store.name(self, tests), f"{self.folder}/out"
+        path = self.store.found(name)
+        if path:
+            self.store.take(path, out, ["incremental"])
+            rt.say(f"{self.name}: {'its tests were' if tests else 'it was'} proved by an earlier run, of the same text over the same libraries", self.out)
+            return 0
+        status = self.prove_tests(flags) if tests and not self.is_program and not self.is_static else self.prove_whole(flags, tests)
+        if not status and name == self.store.name(self, tests):
+            made = f"{out}/{self.name}{'_tests' * tests}"
+            self.store.keep(name, [made, f"{made}.by-rattle", f"{made}.stamp"] if tests or self.is_program else [f"{out}/rlib", self.made()])
+        return status
+
+    def prove_whole(self, flags, tests):
         stamp = self.stamp()
         if tests or self.is_program or self.is_static:
             status = super().ci(flags, tests)
@@ -50,7 +71,7 @@ class Crate(rt.Crate):
                 self.leave(f"{made}.stamp", stamp + rtlib.sum_of(made))
             return status
         self.begin()
-        words = [*self.words(flags, keeps=False), "--incremental", self.kept()]
+        words = [*self.words(flags, keeps=False), "--incremental", self.made()]
         status = self.prove(["build", *words, "-o", self.rlib])
         if not status and stamp == self.stamp():
             self.leave(f"{self.folder}/out/rlib/stamp", stamp)
@@ -125,11 +146,14 @@ class Edits:
         self.crate, self.name, self.old = crate, crate.name, task
         self.good, self.bad = rt.edits_of(crate)
         self.weight = seconds.of(self.name, "edits", 5.0 * len(self.good))
+        self.names = {it: crate.store.name(crate, "edit", os.path.basename(it), rtlib.text_of(it)) for it in self.good}
+        self.known = {it: said for it, name in self.names.items() if (said := crate.store.said(name))}
+        self.left = [it for it in self.good if it not in self.known]
         self.keys = []
 
     def most(self):
         """How many edits a batch has at most: where they take long, lanes that have nothing else to do share them."""
-        return max(4, math.ceil(len(self.good) * LONG_BATCH / max(self.weight, LONG_BATCH)))
+        return max(4, math.ceil(len(self.left) * LONG_BATCH / max(self.weight, LONG_BATCH)))
 
     def add(self, tasks, label, share, call):
         """Adds a task that stands on the crate's proof."""
@@ -142,13 +166,13 @@ class Edits:
         self.keys.append(key)
 
     def put(self, tasks):
-        """Adds the tasks: a batch each, an edit alone each, the crate as it is, and what gathers them for rt."""
+        """Adds the tasks: a batch each of what no earlier run tried, an edit alone each, the crate as it is, and what gathers them for rt."""
         crate, last = self.crate, (self.name, "edits")
         if not self.good or crate.is_program:
             call = self.old[3]
             tasks[last] = Task(self.old[0], self.weight * bool(self.good), self.old[2], 1, call)
             return
-        made, alone = batches.batches_of(crate, self.good, self.most())
+        made, alone = batches.batches_of(crate, self.left, self.most())
         whole = len(self.good) + 1
         for at, batch in enumerate(made):
             self.add(tasks, at, len(batch) / whole, lambda batch=batch: try_with_others(crate, batch))
@@ -156,14 +180,14 @@ class Edits:
         for edit in alone:
             self.add(tasks, os.path.basename(edit), 1 / whole, lambda edit=edit: ({edit: try_alone(crate, edit)}, False))
         self.sound = (self.name, "edits none")
-        tasks[self.sound] = Task([(self.name, "proof"), *self.batches], self.weight / whole * (not made), self.old[2], 1, self.is_sound)
+        tasks[self.sound] = Task([(self.name, "proof"), *self.batches], self.weight / whole * bool(self.left and not made), self.old[2], 1, self.is_sound)
         tasks[last] = Task([(self.name, "proof"), (self.name, "tests"), *self.keys, self.sound], 0, 0, 1, self.gathered)
 
     def is_sound(self, given, jobs):
         """Whether the crate as it is is proved over what its edits are tried over. Each batch shows that by the functions that it leaves as they are; where
         one does not, and where there is none, the crate is checked once more."""
-        if not given[self.name, "proof"]:
-            return False
+        if not given[self.name, "proof"] or not self.left:
+            return given[self.name, "proof"]
         shown = [given[key] and given[key][1] for key in self.batches]
         return bool(shown) and all(shown) or is_proved(self.crate)
 
@@ -174,12 +198,21 @@ class Edits:
         if not given[self.sound]:
             return self.bad, self.good, [rt.must_fail(self.crate, it, ONE_JOB) for it in self.good]
         tried = {edit: it for key in self.keys for edit, it in (given[key] or ({},))[0].items()}
-        return self.bad, self.good, [tried.get(it) or rt.must_fail(self.crate, it, ONE_JOB) for it in self.good]
+        tried = {it: tried.get(it) or rt.must_fail(self.crate, it, ONE_JOB) for it in self.left}
+        self.keep(tried)
+        return self.bad, self.good, [tried.get(it) or (True, self.known[it]) for it in self.good]
+
+    def keep(self, tried):
+        """Keeps what was said of edits that were refused, unless a text has changed since."""
+        for edit, (is_refused, text) in tried.items():
+            name = self.crate.store.name(self.crate, "edit", os.path.basename(edit), rtlib.text_of(edit))
+            if is_refused and name == self.names[edit]:
+                self.crate.store.keep_said(name, text)
 
 
 class Gate:
     def __init__(self, lanes, anew=False):
-        self.lanes, self.meter, self.seconds = Lanes(lanes), Meter("out/gate/commands.tsv"), Seconds()
+        self.lanes, self.meter, self.seconds, self.anew = Lanes(lanes), Meter("out/gate/commands.tsv"), Seconds(), anew
         self.crates, self.given = [], {}
 
     def tasks_of(self, plain):
@@ -210,7 +243,7 @@ class Gate:
         crate = next(it for it in self.crates if it.name == name)
         is_done = all(key in self.lanes.given for key in tasks if key[0] == name)
         if is_done and shutil.disk_usage(crate.folder).free < ROOM:
-            shutil.rmtree(crate.kept(), ignore_errors=True)
+            shutil.rmtree(crate.made(), ignore_errors=True)
 
     def ran(self):
         """The whole run: rt's ci with its crates, its order and its judge of the last line."""
@@ -222,6 +255,7 @@ class Gate:
         rtlib.VERDICT = re.compile(rtlib.VERDICT.pattern.replace(word, trusted), re.M)
         sums.install()
         self.meter.install(rtlib)
+        Crate.store = Store(self.anew)
         rt.Crate, rt.in_lanes = Crate, self.in_lanes
         give_back = rt.put_back
         # what this run proved is newer than what earlier ones kept
