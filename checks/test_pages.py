@@ -5,8 +5,9 @@ text before it names a script of examples/ by `Script [NAME](..)`, it is that sc
 and ```answers its answers. In a block ```console each line `$ ./zanstore ..`, with its lines up to END, is run, and prints what follows; one that ends with & is a
 server, which goes on to the end of the block, in a folder of its own and at a port that is free. A relative link
 leads to a file that is there, and to a heading of it; a link whose text is a name in code leads to a source that has it. In a table of limits that
-constant has the last number of the row's second cell, in a table of crates each name in code of the second cell stands in that crate, and in one of
-refusals each number and name is one. On the page of the laws each law of its crates has a row. Each picture is what its text or its table gives, as
+constant has the last number of the row's second cell, in a table of crates each name in code of the second cell stands in that crate, in one of clauses
+each name in code of the first two cells stands in some crate, and in one of refusals each number and name is one. On the page of the laws each file of
+laws has a row, each row is of such a file, and each law there has a comment. Each picture is what its text or its table gives, as
 `docs/pictures/draw --check` and `bench/chart --check` tell it, and stands on one page, with words for whoever can't see it.
 """
 import functools
@@ -226,13 +227,12 @@ def words_of_crate(crate):
     return {word for file in files for word in re.findall(r"\w+", file.read_text())}
 
 
-def faults_of_names(cells):
-    crates = CODE.findall(cells[0])
+def faults_of_names(where, crates, names):
     known = {word for crate in crates for word in words_of_crate(crate)}
-    for name in CODE.findall(cells[1]):
+    for name in names:
         missing = [word for word in re.findall(r"\w+", name) if word not in known]
         if missing:
-            yield f"{' '.join(crates)} has no {missing[0]}"
+            yield f"{missing[0]} is not in {where}"
 
 
 def faults_of_rows(folder, plain):
@@ -246,22 +246,43 @@ def faults_of_rows(folder, plain):
         elif set(line) <= set("|- "):
             continue
         elif header[:2] == ["Crate", "Function"]:
-            yield from ((number, found) for found in faults_of_names(cells))
+            yield from ((number, found) for found in faults_of_names(cells[0], CODE.findall(cells[0]), CODE.findall(cells[1])))
+        elif header[0] == "Clause":
+            yield from ((number, found) for found in faults_of_names("any crate", os.listdir(TOP / "crates"), CODE.findall(cells[0] + cells[1])))
         elif header[0] == "Number and name":
             yield from ((number, found) for found in faults_of_refusal(cells))
         elif header[-1] == "Constant":
             yield from ((number, found) for found in faults_of_limit(folder, cells))
 
 
-def faults_of_laws(plain):
-    """The laws of the page's crates that have no row there."""
-    rows = [[CODE.findall(cell) for cell in line.split(" | ")[:2]] for _, line in plain if line.startswith("| `")]
-    told = {(crate, name) for crates, names in rows for crate in crates for name in names}
-    for crate in {crate for crates, _ in rows for crate in crates}:
-        source = "".join(file.read_text() for file in (TOP / "crates" / crate / "src").glob("*.rt"))
-        for name in re.findall(r"^pub fn (\w+)", source, re.MULTILINE):
-            if (crate, name) not in told:
-                yield 1, f"the law {name} of {crate} has no row"
+def laws_of(source):
+    """The public functions with an empty body, each with whether it has a comment."""
+    before, lines = "", iter(source.splitlines())
+    for line in lines:
+        law = re.match(r"pub fn (\w+)", line)
+        if law and next((each for each in lines if re.match(r"[{}]", each)), "") == "{}":
+            yield law[1], before.startswith("///")
+        before = line
+
+
+@functools.lru_cache(None)
+def files_of_laws():
+    """Each file that has laws, with these."""
+    told = {file: [*laws_of(file.read_text())] for file in (TOP / "crates").glob("*/src/**/*.rt")}
+    return {file: laws for file, laws in told.items() if laws}
+
+
+def faults_of_comments(path, laws):
+    return [f"the law {name} of {path} has no comment" for name, has_comment in laws if not has_comment]
+
+
+def faults_of_laws(folder, plain):
+    """The files of laws that have no row here, rows of files without laws, and laws that say nothing."""
+    rows = {(folder / target).resolve() for _, line in plain if line.startswith("| [") for _, target in LINK.findall(line.split(" | ")[0])}
+    for file in rows ^ {*files_of_laws()}:
+        yield 1, f"{file} has {'laws and no row' if file not in rows else 'a row and no law'}"
+    for file, laws in files_of_laws().items():
+        yield from ((1, found) for found in faults_of_comments(file, laws))
 
 
 def faults_of(path, page):
@@ -275,7 +296,7 @@ def faults_of(path, page):
                 yield number, found
     yield from faults_of_rows(path.parent, plain)
     if path.name == "LAWS.md":
-        yield from faults_of_laws(plain)
+        yield from faults_of_laws(path.parent, plain)
 
 
 def drawer(path):
@@ -332,7 +353,7 @@ def spoiled(page):
         yield f"another number in {found[0]}", page[: found.end()] + "7" + page[found.end() :]
     for found in re.finditer(r"^\| \d+ `\w+", page, re.MULTILINE):
         yield f"another name in {found[0]}", page[: found.end()] + "x" + page[found.end() :]
-    for found in re.finditer(r"^\| `\w+` \| `\w+", page, re.MULTILINE):
+    for found in re.finditer(r"^\| `\w+` \| \[?`\w+", page, re.MULTILINE):
         yield f"another name in {found[0]}", page[: found.end()] + "_x" + page[found.end() :]
 
 
@@ -368,10 +389,25 @@ def spoiled_docs(docs):
         path.write_text(before)
 
 
+def spoiled_laws(page):
+    """Copies of the page of the laws that lack a row, or have one of a file without laws."""
+    for found in re.finditer(r"^\| \[.*\n", page, re.MULTILINE):
+        yield f"no {found[0]}", page.replace(found[0], "")
+    yield "a row of no laws", page + "\n| [lib](../crates/laws/src/lib.rt) | nothing |\n"
+
+
+def spoiled_comments():
+    for file, laws in files_of_laws().items():
+        for name, _ in laws:
+            copy = re.sub(rf"(?:^///.*\n)+(?=pub fn {name}\b)", "", file.read_text(), flags=re.MULTILINE)
+            yield "a comment", bool(faults_of_comments(file, laws_of(copy))), f"{name} without a comment"
+
+
 def spoiled_pages():
+    yield from spoiled_comments()
     for path, page in pages().items():
         before = len([*faults_of(path, page)])
-        for what, copy in spoiled(page):
+        for what, copy in [*spoiled(page), *(spoiled_laws(page) if path.name == "LAWS.md" else ())]:
             yield "a page", len([*faults_of(path, copy)]) > before, f"{path.relative_to(TOP)}: {what}"
 
 
