@@ -212,7 +212,7 @@ func (s *store) ask(request object) (found answer, err error) {
 	s.lock.Lock()
 	defer s.lock.Unlock()
 	c := s.kept
-	s.kept = nil // put back behind a whole answer alone
+	s.kept = nil // put back only after a whole answer
 	if c != nil && !c.isQuiet() {
 		c.end()
 		c = nil

@@ -104,14 +104,14 @@ export class Store {
     this.socket = null;
   }
 
-  // Does the work behind all that was asked before.
+  // Does the work after all that was asked before.
   behind(work) {
     const done = this.before.then(work);
     this.before = done.catch(() => {});
     return done;
   }
 
-  // Ends the connection behind what was asked before. A later request makes another.
+  // Ends the connection after what was asked before. A later request makes another.
   close() {
     return this.behind(() => this.drop());
   }
@@ -126,7 +126,7 @@ export class Store {
     await turn();
     await turn(); // between the two, an end that has come meanwhile is told
     const socket = this.socket ?? this.connect();
-    this.socket = null; // put back behind a whole answer alone
+    this.socket = null; // put back only after a whole answer
     let answer = "";
     try {
       socket.setTimeout(this.timeout);
@@ -162,7 +162,7 @@ export class Store {
     }
   }
 
-  // The token of the write. Only with a condition `since` on a tuple that it touches it is sent again behind `12 Unsure` or a lost connection: it then
+  // The token of the write. Only with a condition `since` on a tuple that it touches it is sent again after `12 Unsure` or a lost connection: it then
   // stands once at most, and `9` may mean that it stands.
   async write({ touch = [], remove = [], conditions = [] }) {
     const changes = [...touch.map((tuple) => ({ op: "touch", tuple })), ...remove.map((tuple) => ({ op: "delete", tuple }))];
@@ -179,7 +179,7 @@ export class Store {
     return this.patiently({ op: "read", sets, ...fresh }, true);
   }
 
-  // The events behind the token, for ever: lists of events, each with the token to go on from. An empty list is a pause.
+  // The events after the token, for ever: lists of events, each with the token to go on from. An empty list is a pause.
   async *watch(token, namespaces, rest = 1000) {
     for (;;) {
       const answer = await this.patiently({ op: "watch", from: token, limit: 256, namespaces }, true);

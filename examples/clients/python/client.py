@@ -126,7 +126,7 @@ class Store:
         """One answer to one request. After an exception that is not `Refused` nobody knows whether a write stands."""
         line = json.dumps(request).encode() + b"\n"
         with self.lock:
-            connection, self.connection = self.connection, None  # put back behind a whole answer alone
+            connection, self.connection = self.connection, None  # put back only after a whole answer
             try:
                 if connection is not None and not is_quiet(connection):
                     connection.close()
@@ -166,7 +166,7 @@ class Store:
 
     def write(self, touch=(), delete=(), conditions=()):
         """The token of the write. One that was sent twice stands once at most where a condition says that its tuple was not changed meanwhile; so only
-        with a condition `since` on a tuple that it touches it is sent again behind `12 Unsure` or a lost connection: then `9` may mean that it stands."""
+        with a condition `since` on a tuple that it touches it is sent again after `12 Unsure` or a lost connection: then `9` may mean that it stands."""
         changes = [{"op": "touch", "tuple": one} for one in touch] + [{"op": "delete", "tuple": one} for one in delete]
         once = any("since" in one and one["tuple"] in touch for one in conditions)
         return self.patiently({"op": "write", "changes": changes, "conditions": list(conditions)}, once)["zookie"]
@@ -181,7 +181,7 @@ class Store:
         return answer["sets"], answer["zookie"]
 
     def watch(self, token, *namespaces, pause=1.0):
-        """The events behind the token, for ever: lists of events, each with the token to go on from. An empty list is a pause."""
+        """The events after the token, for ever: lists of events, each with the token to go on from. An empty list is a pause."""
         while True:
             answer = self.patiently({"op": "watch", "from": token, "limit": 256, "namespaces": list(namespaces)}, True)
             token = answer["heartbeat"]

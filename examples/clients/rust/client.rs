@@ -38,7 +38,7 @@ pub fn object(members: &[(&str, Json)]) -> Json {
 /// A part of an answer. A word is a number, `true`, `false` or `null`.
 pub enum Part { Word(String), Text(String), List(Vec<Part>), Object(Vec<(String, Part)>) }
 
-/// Reads the text behind its first quote. An answer escapes nothing but `"` and `\`.
+/// Reads the text after its first quote. An answer escapes nothing but `"` and `\`.
 fn read_text(rest: &mut Peekable<Chars>) -> Option<String> {
     let mut text = String::new();
     loop {
@@ -217,7 +217,7 @@ impl Store {
         (lines.buffer().is_empty() && came.is_err_and(|error| error.kind() == ErrorKind::WouldBlock)).then_some(lines)
     }
 
-    /// One answer to one request. The connection is put back behind a whole answer alone.
+    /// One answer to one request. The connection is put back only after a whole answer.
     pub fn ask(&mut self, op: &str, members: &[(&str, Json)]) -> Result<Part, Fault> {
         let mut request = object(members).0;
         request.insert_str(1, &format!("\"op\":{},", text(op).0));
