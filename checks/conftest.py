@@ -23,7 +23,7 @@ PROCESSORS = len(os.sched_getaffinity(0))
 # How many of a group run side by side, which a module names. A test `alone` has to get on beside nothing else, those of servers beside one another alone, and mostly wait.
 GROUPS = {"alone": 1, "beside": PROCESSORS, "servers": 4 * PROCESSORS}
 # In seconds, far above what any of them takes, where nothing more was asked for.
-LIMIT = 900
+LIMIT = 1800
 # What may be asked for more of, or less, each test as it says.
 NUMBERS = ("seed", "count", "seconds", "kills")
 

@@ -12,7 +12,7 @@ TOP = os.path.dirname(os.path.dirname(os.path.abspath(__file__)))
 # Its time is when the last gate began.
 GATE_BEGUN = os.path.join(TOP, "out", "gate", "begun")
 # Far more seconds than most calls take where much else runs.
-LIMIT = 60
+LIMIT = 240
 
 
 def proved(name):

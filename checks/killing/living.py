@@ -12,7 +12,7 @@ from killing.judging import Judge, tuples_of
 from programs import harness, lines_of
 
 # Far more seconds than a life takes where much else runs.
-LIMIT = 60
+LIMIT = 240
 
 # The moment of a kill: so many seconds behind so many answers to writes, none of them where a life is to end in its opening.
 Moment = namedtuple("Moment", "answers seconds")
