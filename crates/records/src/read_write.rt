@@ -94,7 +94,7 @@ fn so_many_changes_of(
 ) -> Result<(Vec<Change>, &[u8]), Unread>
     ensures { Gives (λ x. (x.0.items, x.1.now)) result (list_at change_at count bytes.now) }
 {
-    let mut changes = Vec::new(alloc);
+    let mut changes = Vec::with_capacity(alloc, usize::from(count))?;
     let mut rest = bytes;
     for _ in 0..count {
         let (change, after) = change_of(alloc, rest)?;
@@ -112,7 +112,7 @@ fn so_many_conditions_of(
 ) -> Result<(Vec<Condition>, &[u8]), Unread>
     ensures { Gives (λ x. (x.0.items, x.1.now)) result (list_at (condition_at first) count bytes.now) }
 {
-    let mut conditions = Vec::new(alloc);
+    let mut conditions = Vec::with_capacity(alloc, usize::from(count))?;
     let mut rest = bytes;
     for _ in 0..count {
         let (condition, after) = condition_of(alloc, first, rest)?;
@@ -185,7 +185,7 @@ fn so_many_placed_ids_of(
 ) -> Result<(Vec<PlacedId>, &[u8]), Unread>
     ensures { Gives (λ x. (x.0.items, x.1.now)) result (list_at placed_id_at count bytes.now) }
 {
-    let mut placed_ids = Vec::new(alloc);
+    let mut placed_ids = Vec::with_capacity(alloc, usize::from(count))?;
     let mut rest = bytes;
     for _ in 0..count {
         let (placed_id, after) = placed_id_of(rest)?;

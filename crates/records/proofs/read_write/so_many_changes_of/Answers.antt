@@ -5,7 +5,7 @@ use Rattle.records.proofs.read_write.so_many_changes_of.Goals as goal
 
 pub returns-in_err-change : goal.returns-in_err-change
 returns-in_err-change c =
-    let p = err_from_is_err_and c.from_residual.result c.from_residual.ensures.1 in
+    let p = err_from_is_err_and c.from_residual-in_err-change.result c.from_residual-in_err-change.ensures.1 in
     rw (p.1, p.2) (ends c.in_err-change.field-0.0 change_at c.loop.changes.items c.args.count c.loop.counter c.loop.rest.now (list_at change_at c.args.count c.args.bytes.now) c.loop-test.true c.in_err-change.ensures c.loop.invariant)
 
 pub loop-preserved : goal.loop-preserved

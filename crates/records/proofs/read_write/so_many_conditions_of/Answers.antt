@@ -5,7 +5,7 @@ use Rattle.records.proofs.read_write.so_many_conditions_of.Goals as goal
 
 pub returns-in_err-condition : goal.returns-in_err-condition
 returns-in_err-condition c =
-    let p = err_from_is_err_and c.from_residual.result c.from_residual.ensures.1 in
+    let p = err_from_is_err_and c.from_residual-in_err-condition.result c.from_residual-in_err-condition.ensures.1 in
     rw (p.1, p.2) (ends c.in_err-condition.field-0.0 (condition_at c.args.first) c.loop.conditions.items c.args.count c.loop.counter c.loop.rest.now (list_at (condition_at c.args.first) c.args.count c.args.bytes.now) c.loop-test.true c.in_err-condition.ensures c.loop.invariant)
 
 pub loop-preserved : goal.loop-preserved

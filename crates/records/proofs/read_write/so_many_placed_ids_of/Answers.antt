@@ -5,7 +5,7 @@ use Rattle.records.proofs.read_write.so_many_placed_ids_of.Goals as goal
 
 pub returns-in_err-placed_id : goal.returns-in_err-placed_id
 returns-in_err-placed_id c =
-    let p = err_from_is_err_and c.from_residual.result c.from_residual.ensures.1 in
+    let p = err_from_is_err_and c.from_residual-in_err-placed_id.result c.from_residual-in_err-placed_id.ensures.1 in
     rw (p.1, p.2) (ends c.in_err-placed_id.field-0.0 placed_id_at c.loop.placed_ids.items c.args.count c.loop.counter c.loop.rest.now (list_at placed_id_at c.args.count c.args.bytes.now) c.loop-test.true c.in_err-placed_id.ensures c.loop.invariant)
 
 pub loop-preserved : goal.loop-preserved
