@@ -1,8 +1,7 @@
 """A run of a plain store that is killed now and then, as its callers would record it."""
 from random import Random
 
-from serving.recorded import Ask, Dump, Read, Run, Watch
-from serving.soak_judge import there_at
+from serving.soak_judge import Ask, Dump, Read, Run, Watch, there_at
 
 LIVES, STEPS = 5, 40
 

@@ -1,8 +1,7 @@
 """Tests the judge: spoils a run as a wrong server would have it recorded, and asks that each is noticed."""
 from random import Random
 
-from serving.recorded import writes_of
-from serving.soak_judge import UNSURE, judged
+from serving.soak_judge import UNSURE, judged, writes_of
 from serving.soak_sample import whole
 from verdicts import Choosing, Nothing
 

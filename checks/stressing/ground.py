@@ -1,7 +1,6 @@
 """A good run that is to be spoiled: choosing among its calls, and putting others in their place."""
 from stressing.calls import Caller, Check, Read, Run, Watch
-from stressing.history import History
-from stressing.moments import Moments
+from stressing.history import History, Moments
 from verdicts import Choosing
 
 # Between two ticks of a run that is to be spoiled there is room for others.

@@ -2,7 +2,7 @@
 from judge.definitions import Condition
 from stressing.calls import Check, Fail, Read, Restart, Watch, Write, calls_of
 from stressing.ground import Ground, other_call
-from stressing.refusing import OF_ANSWERS, OF_WRITES, asked_places
+from stressing.answering import OF_ANSWERS, OF_WRITES, asked_places
 from stressing.spoiled_lists import STRANGER
 from verdicts import Nothing
 
