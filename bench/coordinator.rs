@@ -6,7 +6,7 @@ use log::{Change, Condition, Disk, Entry, Journal, Object, Record, Tuple, User, 
 use std::collections::{BTreeMap, BTreeSet, VecDeque};
 use std::env;
 use std::hint::black_box;
-use std::process::ExitCode;
+use std::process::exit;
 use std::time::{Duration, Instant};
 
 const GROUP: u64 = 100;
@@ -391,7 +391,7 @@ fn opening(decisions: u64) -> Option<()> {
     Some(())
 }
 
-fn main() -> ExitCode {
+fn main() {
     let words: Vec<String> = env::args().collect();
     let number = words.get(2).and_then(|word| word.parse::<u64>().ok());
     let done = match (words.get(1).map(String::as_str), number) {
@@ -400,9 +400,5 @@ fn main() -> ExitCode {
         (Some("opening"), Some(count)) => opening(count),
         _ => None,
     };
-    if done.is_some() {
-        ExitCode::SUCCESS
-    } else {
-        ExitCode::FAILURE
-    }
+    exit(i32::from(done.is_none()))
 }

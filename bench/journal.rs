@@ -5,7 +5,7 @@ mod log;
 use log::{Journal, VERSION, WriteId, decode_batch, put_id, put_u64};
 use std::env;
 use std::hint::black_box;
-use std::process::ExitCode;
+use std::process::exit;
 use std::time::Instant;
 
 // ---- the measures
@@ -96,7 +96,7 @@ fn flush(count: u16) -> Option<()> {
     Some(())
 }
 
-fn main() -> ExitCode {
+fn main() {
     let words: Vec<String> = env::args().collect();
     let number = words.get(2).and_then(|word| word.parse::<u32>().ok());
     let done = match (words.get(1).map(String::as_str), number) {
@@ -104,9 +104,5 @@ fn main() -> ExitCode {
         (Some("flush"), Some(count)) => u16::try_from(count).ok().and_then(flush),
         _ => None,
     };
-    if done.is_some() {
-        ExitCode::SUCCESS
-    } else {
-        ExitCode::FAILURE
-    }
+    exit(i32::from(done.is_none()))
 }

@@ -1,38 +1,10 @@
 // The measure of crates/bench/src/texts.rt in plain Rust: the same grammar, texts and passes.
+mod log;
+
+use log::{Object, Tuple, User, is_id_byte, is_name_byte};
 use std::time::Instant;
 
 const TEXTS: u64 = 1000;
-
-pub struct Object {
-    pub namespace: Vec<u8>,
-    pub id: Vec<u8>,
-}
-
-pub struct Userset {
-    pub object: Object,
-    pub relation: Vec<u8>,
-}
-
-pub enum User {
-    Id(Vec<u8>),
-    Set(Userset),
-}
-
-pub struct Tuple {
-    pub object: Object,
-    pub relation: Vec<u8>,
-    pub user: User,
-}
-
-fn is_name(bytes: &[u8]) -> bool {
-    let each = |b: &u8| b.is_ascii_lowercase() || b.is_ascii_digit() || *b == b'_';
-    !bytes.is_empty() && bytes.len() <= 64 && bytes.iter().all(each)
-}
-
-fn is_id(bytes: &[u8]) -> bool {
-    let each = |b: &u8| b.is_ascii_graphic() && !matches!(b, b'#' | b'+' | b':' | b'@');
-    !bytes.is_empty() && bytes.len() <= 128 && bytes.iter().all(each)
-}
 
 fn split_first(text: &[u8], mark: u8) -> Option<(&[u8], &[u8])> {
     let at = text.iter().position(|b| *b == mark)?;
@@ -40,79 +12,54 @@ fn split_first(text: &[u8], mark: u8) -> Option<(&[u8], &[u8])> {
 }
 
 fn name(bytes: &[u8]) -> Option<Vec<u8>> {
-    is_name(bytes).then(|| bytes.to_vec())
+    let fits = !bytes.is_empty() && bytes.len() <= 64 && bytes.iter().all(|b| is_name_byte(*b));
+    fits.then(|| bytes.to_vec())
 }
 
 fn id(bytes: &[u8]) -> Option<Vec<u8>> {
-    is_id(bytes).then(|| bytes.to_vec())
+    let fits = !bytes.is_empty() && bytes.len() <= 128 && bytes.iter().all(|b| is_id_byte(*b));
+    fits.then(|| bytes.to_vec())
 }
 
-impl Object {
-    pub fn parse(text: &[u8]) -> Option<Object> {
-        let (namespace, rest) = split_first(text, b':')?;
-        Some(Object {
-            namespace: name(namespace)?,
-            id: id(rest)?,
-        })
-    }
-
-    fn write_to(&self, out: &mut Vec<u8>) {
-        out.extend_from_slice(&self.namespace);
-        out.push(b':');
-        out.extend_from_slice(&self.id);
-    }
+fn object_of(text: &[u8]) -> Option<Object> {
+    let (namespace, rest) = split_first(text, b':')?;
+    Some(Object { namespace: name(namespace)?, id: id(rest)? })
 }
 
-impl Userset {
-    fn parse(text: &[u8]) -> Option<Userset> {
-        let (object, relation) = split_first(text, b'#')?;
-        Some(Userset {
-            object: Object::parse(object)?,
-            relation: name(relation)?,
-        })
-    }
+fn userset_of(text: &[u8]) -> Option<(Object, Vec<u8>)> {
+    let (object, relation) = split_first(text, b'#')?;
+    Some((object_of(object)?, name(relation)?))
+}
 
-    fn write_to(&self, out: &mut Vec<u8>) {
-        self.object.write_to(out);
-        out.push(b'#');
-        out.extend_from_slice(&self.relation);
+fn user_of(text: &[u8]) -> Option<User> {
+    if text.contains(&b':') {
+        let (object, relation) = userset_of(text)?;
+        Some(User::Set { object, relation })
+    } else {
+        Some(User::Id(id(text)?))
     }
 }
 
-impl User {
-    pub fn parse(text: &[u8]) -> Option<User> {
-        if text.contains(&b':') {
-            Some(User::Set(Userset::parse(text)?))
-        } else {
-            Some(User::Id(id(text)?))
-        }
-    }
-
-    fn write_to(&self, out: &mut Vec<u8>) {
-        match self {
-            User::Id(id) => out.extend_from_slice(id),
-            User::Set(userset) => userset.write_to(out),
-        }
-    }
+fn tuple_of(text: &[u8]) -> Option<Tuple> {
+    let (front, user) = split_first(text, b'@')?;
+    let (object, relation) = userset_of(front)?;
+    Some(Tuple { object, relation, user: user_of(user)? })
 }
 
-impl Tuple {
-    pub fn parse(text: &[u8]) -> Option<Tuple> {
-        let (front, user) = split_first(text, b'@')?;
-        let Userset { object, relation } = Userset::parse(front)?;
-        Some(Tuple {
-            object,
-            relation,
-            user: User::parse(user)?,
-        })
-    }
+fn write_userset(object: &Object, relation: &[u8], out: &mut Vec<u8>) {
+    out.extend_from_slice(&object.namespace);
+    out.push(b':');
+    out.extend_from_slice(&object.id);
+    out.push(b'#');
+    out.extend_from_slice(relation);
+}
 
-    pub fn write_to(&self, out: &mut Vec<u8>) {
-        self.object.write_to(out);
-        out.push(b'#');
-        out.extend_from_slice(&self.relation);
-        out.push(b'@');
-        self.user.write_to(out);
+fn write_tuple(tuple: &Tuple, out: &mut Vec<u8>) {
+    write_userset(&tuple.object, &tuple.relation, out);
+    out.push(b'@');
+    match &tuple.user {
+        User::Id(id) => out.extend_from_slice(id),
+        User::Set { object, relation } => write_userset(object, relation, out),
     }
 }
 
@@ -128,7 +75,7 @@ fn texts() -> Vec<Vec<u8>> {
 fn parse_all(texts: &[Vec<u8>], tuples: &mut Vec<Tuple>) -> Option<()> {
     tuples.clear();
     for text in texts {
-        tuples.push(Tuple::parse(text)?);
+        tuples.push(tuple_of(text)?);
     }
     Some(())
 }
@@ -137,7 +84,7 @@ fn parse_all(texts: &[Vec<u8>], tuples: &mut Vec<Tuple>) -> Option<()> {
 fn write_all(tuples: &[Tuple], out: &mut Vec<u8>) {
     out.clear();
     for tuple in tuples {
-        tuple.write_to(out);
+        write_tuple(tuple, out);
     }
 }
 

@@ -1,4 +1,7 @@
 // The measure of crates/bench/src/rows.rt in plain Rust: the same rows in a map by tuple, and the same reads.
+mod log;
+
+use log::{Object, Tuple, User};
 use std::collections::{BTreeMap, BTreeSet};
 use std::env;
 use std::time::Instant;
@@ -6,32 +9,6 @@ use std::time::Instant;
 const USERS: u64 = 10;
 const READS: u64 = 10_000;
 const CROWD: u64 = 10_000;
-
-#[derive(Clone, PartialEq, Eq, PartialOrd, Ord)]
-struct Object {
-    namespace: Vec<u8>,
-    id: Vec<u8>,
-}
-
-#[derive(Clone, PartialEq, Eq, PartialOrd, Ord)]
-struct Userset {
-    object: Object,
-    relation: Vec<u8>,
-}
-
-#[derive(Clone, PartialEq, Eq, PartialOrd, Ord)]
-enum User {
-    Id(Vec<u8>),
-    #[allow(dead_code)]
-    Set(Userset),
-}
-
-#[derive(Clone, PartialEq, Eq, PartialOrd, Ord)]
-struct Tuple {
-    object: Object,
-    relation: Vec<u8>,
-    user: User,
-}
 
 struct Row {
     place: u64,

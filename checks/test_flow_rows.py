@@ -47,17 +47,39 @@ def spelled(line):
     return [re.sub(r"WIDE_(\d+)", lambda it: wide(int(it[1])), line).replace("start write write", "start write")]
 
 
+def steps_of(line, number):
+    """A step as those of which it is made; the next write has this number."""
+    word, _, rest = line.partition(" ")
+    if word == "refuse":
+        calls, step = rest.split(", ", 1)
+        return [*(f"refuse {call}" for call in re.findall(r"\d+ \w+", calls)), *steps_of(step, number)]
+    if word == "make":
+        return [f"start {rest}", f"run {number}"]
+    if word == "down":
+        return [f"fail {rest}a 1 old", f"restart {rest}"]
+    if word in ("start", "begin") and rest[0].isdigit():
+        turns, request = rest.split(" ", 1)
+        return [f"{word} {request}", f"turn {number} {turns}" if word == "start" else f"step {turns}"]
+    return [line]
+
+
 def rows(text):
+    """Of each row its steps, and what its flows do."""
     for row in text.split("\n\n"):
-        lines = [line for line in row.split("\n") if line and not line.startswith(";")]
-        steps = [line for line in lines if not line.startswith("=")]
+        steps, ends = [], []
+        for line in row.split("\n"):
+            if line and not line.startswith(";"):
+                step, _, end = f" {line}".partition(" = ")
+                ends += [end] if end else []
+                number = sum(it.startswith(("start", "write")) for it in steps)
+                steps += [it for part in steps_of(step[1:], number) for it in spelled(part)] if step else []
         if steps:
-            yield steps, [line[2:] for line in lines if line.startswith("=")]
+            yield steps, ends
 
 
 def test_rows():
     wanted = [*rows(ROWS.read_text())]
-    status, told, _ = run(harness("flows"), "\n".join(lines_of(it for step in steps for it in spelled(step)) for steps, _ in wanted), 300)
+    status, told, _ = run(harness("flows"), "\n".join(lines_of(steps) for steps, _ in wanted), 300)
     told = told.splitlines()
     assert status == 0 and len(told) == len(wanted) >= 150
     wrong = [f"{steps}: {line}" for (steps, ends), line in zip(wanted, told) if line.strip().rstrip(";") != "; ".join(ends).rstrip(",")]

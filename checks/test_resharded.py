@@ -28,14 +28,36 @@ def folder(folder):
     return path
 
 
-def test_over(folder):
-    """versions, places and the log of before are there, the next write has the next place, and no old file has another byte"""
-    script(folder, 2, *THREE)
+def carried(folder, shards=3):
+    """Of a store of two shards the folder of the one to which it is carried over, of so many."""
     new, before = beside(folder, "new"), contents(folder)
-    assert resharded(folder, 2, new, 3) == DONE, "the resharding"
+    assert resharded(folder, 2, new, shards) == DONE, "the resharding"
     assert contents(folder) == before, "the old files are as they were"
-    told = script(new, 3, f"read ={token(1)} doc:a", f"watch {token(0)} 3 doc", "rows 0", "rows 1", "write +doc:b#viewer@u1")
-    assert told == [f"at {token(1)}", f"1 {A}", f"1 +{A}", f"2 -{A}", f"3 +{A}", f"heartbeat {token(3)}", f"1 +{A}", f"2 -{A}", f"3 +{A}", f"ok {token(4)}"], "the script behind it"
+    return new
+
+
+# What is kept, the script, how many shards the new store has, and what scripts print there.
+ROWS = [
+    ("over", "versions, places and the log of before are there, and the next write has the next place", THREE, 3,
+     [((f"read ={token(1)} doc:a", f"watch {token(0)} 3 doc", "rows 0", "rows 1", "write +doc:b#viewer@u1"),
+       [f"at {token(1)}", f"1 {A}", f"1 +{A}", f"2 -{A}", f"3 +{A}", f"heartbeat {token(3)}", f"1 +{A}", f"2 -{A}", f"3 +{A}", f"ok {token(4)}"])]),
+    ("collected", "the horizon is kept, and what lies below it is forgotten", [*THREE, "raise 2", "collect 0", "collect 1"], 3,
+     [(("rows 0", f"read ={token(1)} doc:a", f"read ={token(2)} doc:a", f"read ={token(3)} doc:a"),
+       [f"3 +{A}", "refused 8 Collected", f"at {token(2)}", f"at {token(3)}", f"1 {A}"])]),
+    ("doubted", "a write without a decision is left behind, and its tuples are free", [f"write +{A}", f"start w write +{B} -{A}", "until w decide"], 3,
+     [(("resolve 0", "resolve 1", f"write +{B} -{A}"), ["done", "done", f"ok {token(2)}"])]),
+    # The old coordinator was opened twice, so this one for the third time; the prepares of its first write are in doubt, under their id.
+    ("staged", "ids go on behind those of before: none is given out again", [f"start w write +{A} +{B}", "until w decide"], 2,
+     [((f"start v write +{A}", "until v decide"), ["started v", "next decide"]), (("resolve 1",), ["abort 3.1", "done"])]),
+]
+
+
+@pytest.mark.parametrize("name, what, lines, shards, wanted", ROWS, ids=[row[0] for row in ROWS])
+def test_row(name, what, lines, shards, wanted, folder):
+    script(folder, 2, *lines)
+    new = carried(folder, shards)
+    for given, told in wanted:
+        assert script(new, shards, *given) == told, f"{what}: {given}"
 
 
 def test_back(folder):
@@ -59,39 +81,11 @@ def test_one(folder):
     assert dumped(same, 1) == at(1, A, B, C), "the dump"
 
 
-def test_collected(folder):
-    """the horizon is kept, and what lies below it is forgotten"""
-    script(folder, 2, *THREE, "raise 2", "collect 0", "collect 1")
-    new = beside(folder, "new")
-    assert resharded(folder, 2, new, 3) == DONE, "the resharding"
-    told = script(new, 3, "rows 0", f"read ={token(1)} doc:a", f"read ={token(2)} doc:a", f"read ={token(3)} doc:a")
-    assert told == [f"3 +{A}", "refused 8 Collected", f"at {token(2)}", f"at {token(3)}", f"1 {A}"], "the script behind it"
-
-
-def test_doubted(folder):
-    """a write without a decision is left behind, and its tuples are free"""
-    script(folder, 2, f"write +{A}", f"start w write +{B} -{A}", "until w decide")
-    new = beside(folder, "new")
-    assert resharded(folder, 2, new, 3) == DONE, "the resharding"
-    assert script(new, 3, "resolve 0", "resolve 1", f"write +{B} -{A}") == ["done", "done", f"ok {token(2)}"], "the script behind it"
-
-
 def test_decided(folder):
     """a write that was kept and that no shard had learned is carried over"""
     script(folder, 2, f"start w write +{A} +{B}", "until w outcome", "flush c")
-    new = beside(folder, "new")
-    assert resharded(folder, 2, new, 3) == DONE, "the resharding"
+    new = carried(folder)
     assert dumped(new, 3) == at(1, A, B), "the dump"
-
-
-def test_staged(folder):
-    """ids go on behind those of before: none is given out again"""
-    script(folder, 2, f"start w write +{A} +{B}", "until w decide")
-    new = beside(folder, "new")
-    assert resharded(folder, 2, new, 2) == DONE, "the resharding"
-    # The old coordinator was opened twice, so this one for the third time; the prepares of its first write are in doubt, under their id.
-    assert script(new, 2, f"start v write +{A}", "until v decide") == ["started v", "next decide"], "a write"
-    assert script(new, 2, "resolve 1") == ["abort 3.1", "done"], "what became of it"
 
 
 def test_taken(folder):
@@ -145,8 +139,7 @@ def test_another(folder):
 def test_stopped(folder):
     """a new folder without the last of its files, or with an old one, is no store"""
     script(folder, 2, f"write +{A} +{B}", f"write +{C}", "raise 1")
-    new = beside(folder, "new")
-    assert resharded(folder, 2, new, 3) == DONE, "the resharding"
+    new = carried(folder)
     path, whole = os.path.join(new, "c.a"), contents(new)["c.a"]
     # The first batch alone: a gate, four bytes of a length, the body, and the gate behind it, which is closed.
     first = 5 + int.from_bytes(whole[1:5], "big")

@@ -17,8 +17,7 @@ import pytest
 
 from judge.worlds import Wrong
 from serving.power import Power
-from serving.recorded import writes_of
-from serving.soak_judge import RULES, judged
+from serving.soak_judge import RULES, judged, writes_of
 from serving.soak_sample import sample
 from serving.soak_spoiling import KINDS, spoiled
 from serving.soaking import soaked

@@ -22,6 +22,20 @@ def all_noticed(spoiled, fewest=1, most=0):
     assert len(tried) >= fewest, f"only the kinds {sorted(tried)}"
 
 
+class Nothing(Exception):
+    """There is nothing that could be spoiled so."""
+
+
+class Choosing:
+    """What is to be spoiled, with the seed by which that is chosen."""
+
+    def choose(self, some):
+        some = list(some)
+        if not some:
+            raise Nothing
+        return self.random.choice(some)
+
+
 def is_refused(by, *errors):
     """Whether the call ends by one of these errors."""
     try:

@@ -7,8 +7,7 @@ from collections import namedtuple
 from random import Random
 
 from judge.worlds import Wrong
-from killing.asking import MOST_WRITES, SHARDS, STORE, Life, script, some_writes
-from killing.judging import Judge, tuples_of
+from killing.judging import MOST_WRITES, SHARDS, STORE, Judge, Life, script, some_writes, tuples_of
 from programs import harness, lines_of
 
 # Far more seconds than a life takes where much else runs.

@@ -3,8 +3,7 @@ from copy import deepcopy
 
 from judge.lines import token
 from judge.worlds import Wrong
-from killing.asking import STORE
-from killing.judging import Judge, end_of_look, rows_of
+from killing.judging import STORE, Judge, end_of_look, rows_of
 from verdicts import is_refused
 
 STRANGER = ("+doc:stranger#viewer@u",)

@@ -6,7 +6,7 @@ import time
 
 from imaging.format import STRETCH
 from judge.worlds import must
-from serving.server import LIMIT, SHARDS, Server, is_start, untimed
+from serving.server import SHARDS, Server, is_start, untimed, waits
 from serving.wire import Gone, Session, check, is_told, place_of, read, refusal, token, watch, write
 
 GROUP = "servers"
@@ -28,7 +28,7 @@ def test_killed(folder):
         first.kill()
         must(session.is_ended(), "a session of a killed server goes on")
     with Server(folder, port=port) as second, Session(port) as session:
-        line = second.child.stderr.readline().decode()
+        line = second.told()
         must(is_start(line, folder, SHARDS, 0, COUNT), f"tells of its start: {line}")
         rows = [sorted(f"{space}:d{number}#viewer@ann" for number in range(1, COUNT + 1)) for space in ("doc", "pad")]
         is_told(session, read("doc@ann", "pad@ann"), {"sets": rows, "zookie": token(COUNT)})
@@ -165,9 +165,7 @@ def test_full_shard(folder):
         server.begins(folder)
         must(untimed(server.told()) == SHARD_LINE, "standard error does not tell that shard 0 is down")
         must(server.goes_on(), "the server has ended")
-        server.child.kill()
-        rest = server.child.stderr.read().decode()
-        must(not rest, f"standard error goes on: {rest}")
+        server.is_silent()
     with Server(folder) as server, Session(server.port) as session:
         place = len(told) + len(more)
         is_told(session, read("doc:a", "doc:b"), {"sets": [told, more], "zookie": token(place)})
@@ -208,8 +206,5 @@ def test_narrow_window(folder):
         is_told(session, check("doc:d1#viewer@u1", at_least=token(1)), {"member": True, "zookie": token(COUNT)})
     with Server(folder, window=0) as server, Session(server.port) as session:
         # The horizon follows once the first round of cares is made.
-        late = time.monotonic() + LIMIT
-        while session.ask(check("doc:d1#viewer@u1", exact=token(1))) != refusal(8, "Collected"):
-            must(time.monotonic() < late, "place 1 is answered for ever")
-            time.sleep(0.05)
+        waits(lambda: session.ask(check("doc:d1#viewer@u1", exact=token(1))) == refusal(8, "Collected"), "place 1 is answered for ever")
         is_told(session, check("doc:d1#viewer@u1"), {"member": True, "zookie": token(COUNT)})

@@ -9,7 +9,7 @@ from imaging.format import STRETCH
 from judge.definitions import shard_of
 from judge.worlds import must
 from libraries import built_library
-from serving.server import SHARDS, Server, untimed
+from serving.server import SHARDS, Server, untimed, waits
 from serving.wire import Session, check, delete, is_told, read, refusal, token, touch, watch, write
 
 GROUP = "servers"
@@ -70,12 +70,8 @@ def write_until(session, folder, place):
 
 
 def are_shortened(folder):
-    late = time.monotonic() + LATE
-    while time.monotonic() < late:
-        if all(map(begins_checkpoint, banks(folder, "b"))):
-            return True
-        time.sleep(0.05)
-    return False
+    have = lambda: all(map(begins_checkpoint, banks(folder, "b")))
+    waits(have, f"no checkpoints {LATE} seconds after {lengths(folder, 'a')} bytes", LATE)
 
 
 def listed(first, last, *changes):
@@ -89,7 +85,7 @@ def test_shortened(folder):
     changes = (touch(rows[0]), delete(rows[1]))
     with Server(folder, window=WINDOW) as first, Session(first.port) as session:
         before = write_until(session, folder, 0)
-        must(are_shortened(folder), f"no checkpoints {LATE} seconds after {lengths(folder, 'a')} bytes")
+        are_shortened(folder)
         place = before
         for _ in range(10):
             place += 1
@@ -227,9 +223,7 @@ def test_put_off(folder):
             calls_round(session)
         rows.sort()
         is_told(session, read(f"doc:{NAME}"), {"sets": [rows], "zookie": token(place)})
-        first.child.kill()
-        rest = first.child.stderr.read().decode().splitlines(keepends=True)
-        must(not rest, f"standard error goes on: {rest}")
+        first.is_silent()
     with Server(store, window=WINDOW) as second, Session(second.port) as session:
         is_told(session, read(f"doc:{NAME}"), {"sets": [rows], "zookie": token(place)})
         is_told(session, write("-" + rows[0]), {"zookie": token(place + 1)})

@@ -8,10 +8,11 @@ import socket
 import subprocess
 import time
 
+from folders import apart, contents, empty
 from imaging.format import STRETCH, Rules, bodies_of
 from judge.worlds import must
 from libraries import built_library
-from serving.server import HOST, LIMIT, SHARDS, STORE, Server, free_port, is_start, limit, program, run, untimed, without_progress, words_of
+from serving.server import HOST, SHARDS, STORE, Server, free_port, is_start, limit, program, run, untimed, waits, without_progress, words_of
 from serving.wire import Gone, Session, check, is_told, read, refusal, token, write
 
 GROUP = "servers"
@@ -30,10 +31,6 @@ def refused(wanted, given, about=None):
     status, out, err = run("serve", *words_of(given))
     wanted = re.escape(wanted) + (f"zanstore: {about}\n" if about else "")
     must((status, out) == (1, "") and re.fullmatch(wanted, without_progress(err)) is not None, f"is (status, output, error) {(status, out, err)}, and not {(1, '', wanted)}")
-
-
-def apart(shard="[0-2]"):
-    return f"the files of shard {shard} and of the coordinator are not of one moment"
 
 
 def damaged(node):
@@ -108,23 +105,14 @@ def life(folder, *changes, **more):
         must((status, out) == (0, ""), f"ends with (status, output, error) {(status, out, err)}")
 
 
-def bytes_of(folder):
-    """What each file of the folder has."""
-    found = {}
-    for name in os.listdir(folder):
-        with open(os.path.join(folder, name), "rb") as file:
-            found[name] = file.read()
-    return found
-
-
 def test_second_server(folder):
     """a second server on the folder: `13 Down`, no file has another byte, and the first goes on"""
     life(folder, "+doc:a#viewer@ann")
     with Server(folder) as first, Session(first.port) as session:
         # Nothing is left to do and nobody writes, so the first one has written all that it does.
-        before = bytes_of(folder)
+        before = contents(folder)
         refused(DOWN, options(folder), f"{folder}/c.a: is in use by another process")
-        changed = {name for name, _ in before.items() ^ bytes_of(folder).items()}
+        changed = {name for name, _ in before.items() ^ contents(folder).items()}
         must(not changed, f"a second server changes the files {sorted(changed)}")
         is_told(session, check("doc:a#viewer@ann"), {"member": True, "zookie": token(1)})
         is_told(session, write("+doc:b#viewer@ann"), {"zookie": token(2)})
@@ -211,7 +199,7 @@ def remove(folder, node):
 def is_found(folder, horizon, latest, *rows):
     """A server over the folder is ready, and has just these tuples, and these places."""
     with Server(folder) as server, Session(server.port) as session:
-        line = server.next_line(server.child.stderr).decode()
+        line = server.told()
         must(is_start(line, folder, SHARDS, horizon, latest), f"tells of its start: {line}")
         is_told(session, read("doc@ann"), {"sets": [list(rows)], "zookie": token(latest)})
 
@@ -222,8 +210,7 @@ def lacks_shard(folder):
     names = sorted(os.listdir(folder))
     refused(DAMAGED, options(folder), f"{folder}/1.a: is missing")
     must(sorted(os.listdir(folder)) == names, f"makes files beside those of a store: {sorted(os.listdir(folder))}")
-    for bank in "ab":
-        open(os.path.join(folder, f"1.{bank}"), "w").close()
+    empty(folder, "1.a", "1.b")
     refused(DAMAGED, options(folder), damaged(1))
 
 
@@ -239,7 +226,7 @@ def test_mixed_files(folder):
     shutil.copytree(store, newer)
     # The shards have learned more than this coordinator has.
     put_back(older, store, "c")
-    refused(DAMAGED, options(store), apart())
+    refused(DAMAGED, options(store), apart("[0-2]"))
     put_back(newer, store, "c")
     is_found(store, 0, 2, rows[0])
     lacks_shard(store)
@@ -265,11 +252,11 @@ def test_existing_store(folder):
             file.write(left)
         must(run("serve", *words_of(options(folder)), "--existing")[0] == 1, f"takes a file of {len(left)} bytes, which keeps nothing, for a store")
     with Server(folder) as server:
-        line = server.next_line(server.child.stderr).decode()
+        line = server.told()
         must(is_start(line, folder, SHARDS, 0, 0), f"tells of a new store: {line}")
     words = ["serve", *words_of(options(folder, connections=1)), "--existing"]
     with subprocess.Popen([program(), *words], stdin=subprocess.DEVNULL, stdout=subprocess.PIPE, stderr=subprocess.PIPE, text=True) as child:
-        line, told = child.stdout.readline(), without_progress(child.stderr.readline())
+        line, told = child.stdout.readline(), next(filter(None, map(without_progress, child.stderr)))
         child.kill()
     must(line == "ready\n" and f"zanstore: {folder}: {SHARDS} shards, places 0 to 0, opened in " in untimed(told), f"prints {line}{told}")
 
@@ -296,14 +283,11 @@ def without_streams(longest):
     limit(longest, None)
 
 
-def is_listening(port):
-    late = time.monotonic() + LIMIT
-    while time.monotonic() < late:
-        try:
-            return Session(port)
-        except (OSError, Gone):
-            time.sleep(0.02)
-    raise Gone("nobody listens")
+def connected(port):
+    try:
+        return Session(port)
+    except (OSError, Gone):
+        return None
 
 
 def test_closed_streams(folder):
@@ -312,7 +296,7 @@ def test_closed_streams(folder):
     port = int(given["listen"].rsplit(":", 1)[1])
     child = subprocess.Popen([program(), "serve", *words_of(given)], preexec_fn=lambda: without_streams(90000))
     try:
-        sessions = [is_listening(port) for _ in range(3)]
+        sessions = [waits(lambda: connected(port), "nobody listens") for _ in range(3)]
         # Each is served by now, under a descriptor of its own.
         for session in sessions:
             is_told(session, check("doc:a#viewer@none"), {"member": False, "zookie": token(0)})

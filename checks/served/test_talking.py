@@ -2,11 +2,12 @@
 import os
 import select
 import time
+from pathlib import Path
 
-from judge.worlds import Wrong, must
+from judge.worlds import must
 from request_rows import is_refused_before, rows
 from libraries import built_library
-from serving.server import LIMIT, Server, is_beginning, run
+from serving.server import LIMIT, Server, is_beginning, run, waits
 from serving.wire import Session, check, delete, is_told, place_of, read, refusal, spelled, token, touch, watch, write
 
 GROUP = "servers"
@@ -153,13 +154,7 @@ def is_answered(session):
 
 def meets(path, text):
     """Waits until the file says so."""
-    late = time.monotonic() + LIMIT
-    while time.monotonic() < late:
-        with open(path) as file:
-            if file.read() == text:
-                return
-        time.sleep(0.01)
-    raise Wrong(f"there is no {text!r} in {LIMIT} seconds")
+    waits(lambda: Path(path).read_text() == text, f"there is no {text!r} in {LIMIT} seconds")
 
 
 def answered_beside(held, other, release):

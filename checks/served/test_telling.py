@@ -31,13 +31,6 @@ def is_next(server, wanted):
     must(untimed(line) == wanted, f"tells {line!r}, and not {wanted!r}")
 
 
-def is_last(server):
-    """Nothing more is told until it is killed."""
-    server.child.kill()
-    rest = server.child.stderr.read().decode()
-    must(not rest, f"standard error goes on: {rest}")
-
-
 def test_taken_workers(folder):
     """all workers taken for a second, and how many wait, is told, once a minute; a connection that is taken at once is not"""
     with Server(folder, workers=2, idle=LIMIT) as server:
@@ -53,7 +46,7 @@ def test_taken_workers(folder):
         for session in waiting:
             is_answered(session)
             session.close()
-        is_last(server)
+        server.is_silent()
 
 
 def crowd(port, count):
@@ -235,7 +228,7 @@ def test_hanging_disk(folder):
         open(go, "w").close()
         must(first.answer() == {"zookie": token(2)}, "the write whose sync was held is answered otherwise")
         is_disk_told(server, "answers again, after", 70, 20)
-        is_last(server)
+        server.is_silent()
 
 
 def told_within(server, seconds):

@@ -8,6 +8,7 @@ import signal
 import socket
 import subprocess
 import threading
+import time
 
 import programs
 from judge.worlds import Wrong, must
@@ -45,6 +46,15 @@ def words_of(options):
 
 def run(*words):
     return programs.run([program(), *words])
+
+
+def waits(is_so, why, seconds=LIMIT):
+    """What comes to be so within these seconds. Raises `Wrong` where it doesn't."""
+    late = time.monotonic() + seconds
+    while not (found := is_so()):
+        must(time.monotonic() < late, why)
+        time.sleep(0.02)
+    return found
 
 
 TIMED = re.compile(r"zanstore: ([0-9]{4}-[0-9]{2}-[0-9]{2}T[0-9]{2}:[0-9]{2}:[0-9]{2}Z) ")
@@ -146,6 +156,12 @@ class Server:
         self.child.wait()
         self.child.stdout.close()
         self.child.stderr.close()
+
+    def is_silent(self):
+        """That standard error tells nothing more until it is killed, which it is now."""
+        self.child.kill()
+        rest = self.child.stderr.read().decode()
+        must(not rest, f"standard error goes on: {rest}")
 
     def goes_on(self):
         return self.child.poll() is None

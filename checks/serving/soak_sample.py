@@ -1,8 +1,7 @@
 """A run of a plain store that is killed now and then, as its callers would record it."""
 from random import Random
 
-from serving.recorded import Ask, Dump, Read, Run, Watch
-from serving.soak_judge import there_at
+from serving.soak_judge import Ask, Dump, Read, Run, Watch, there_at
 
 LIVES, STEPS = 5, 40
 
@@ -41,10 +40,7 @@ class Plain:
         return tuple(self.random.choice((f"doc:w.{self.random.randint(1, self.number + 1)}", f"team:s{self.random.randrange(3)}")) for _ in range(2))
 
     def read_at(self, kind, asked, place, sets):
-        there = set()
-        for changes in self.log[:place]:
-            for change in changes:
-                (there.add if change[0] == "+" else there.discard)(change[1:])
+        there = there_at(self.log, place)
         rows = tuple(tuple(one for one in there if one.startswith(name + "#")) for name in sets)
         return Read(kind, asked, len(self.log), sets, place, rows)
 

@@ -1,31 +1,28 @@
 """Tests the judge: spoils a run as a wrong server would have it recorded, and asks that each is noticed."""
 from random import Random
 
-from serving.recorded import writes_of
-from serving.soak_judge import UNSURE, judged
+from serving.soak_judge import UNSURE, judged, writes_of
 from serving.soak_sample import whole
+from verdicts import Choosing, Nothing
 
 STRANGER = ("+doc:stranger#viewer@u",)
 UNKNOWN = (("open",), ("refused", UNSURE))
 
 
-class Nothing(Exception):
-    """The run has nothing of the kind."""
-
-
-class Ground:
+class Ground(Choosing):
     def __init__(self, run, random):
         self.run, self.random, self.log = run, random, writes_of(run.log)
         self.told = {ask.changes for ask in run.asks if ask.answer[0] == "told"}
 
-    def choose(self, some):
-        some = list(some)
-        if not some:
-            raise Nothing
-        return self.random.choice(some)
-
     def with_log(self, log):
         return self.run._replace(log=whole(log), again=whole(log))
+
+    def put(self, at, *changes, instead=1):
+        """Other writes in the place of one, or of more, of the list."""
+        return self.with_log([*self.log[:at], *changes, *self.log[at + instead :]])
+
+    def changed(self, at, change):
+        return self.put(at, change(self.log[at]))
 
     def with_one(self, name, fits, change):
         """Another ask, read, watch or dump in the place of one that fits."""
@@ -38,19 +35,12 @@ class Ground:
         """A place of a told write."""
         return self.choose(at for at, changes in enumerate(self.log) if changes in self.told)
 
+    def long_place(self):
+        return self.choose(at for at, changes in enumerate(self.log) if len(changes) > 1)
+
 
 def is_told(ask):
     return ask.answer[0] == "told"
-
-
-def lost(ground):
-    at = ground.place()
-    return ground.with_log(ground.log[:at] + ground.log[at + 1 :])
-
-
-def lost_with_its_place(ground):
-    at = ground.place()
-    return ground.with_log([*ground.log[:at], (), *ground.log[at + 1 :]])
 
 
 def lost_at_the_end(ground):
@@ -58,39 +48,19 @@ def lost_at_the_end(ground):
     return ground.with_log(ground.log[:last])
 
 
-def in_part(ground):
-    at = ground.choose(at for at, changes in enumerate(ground.log) if len(changes) > 1)
-    cut = ground.random.randrange(len(ground.log[at]))
-    return ground.with_log([*ground.log[:at], ground.log[at][:cut] + ground.log[at][cut + 1 :], *ground.log[at + 1 :]])
+def in_part(ground, changes):
+    cut = ground.random.randrange(len(changes))
+    return changes[:cut] + changes[cut + 1 :]
 
 
 def two_in_one(ground):
     at = ground.choose(range(len(ground.log) - 1))
-    return ground.with_log([*ground.log[:at], (), ground.log[at] + ground.log[at + 1], *ground.log[at + 2 :]])
-
-
-def other_kind(ground):
-    at = ground.place()
-    first, *rest = ground.log[at]
-    return ground.with_log([*ground.log[:at], ("-" + first[1:], *rest), *ground.log[at + 1 :]])
-
-
-def in_another_order(ground):
-    at = ground.choose(at for at, changes in enumerate(ground.log) if len(changes) > 1)
-    return ground.with_log([*ground.log[:at], ground.log[at][::-1], *ground.log[at + 1 :]])
-
-
-def twice(ground):
-    return ground.with_log([*ground.log, ground.choose(ground.log)])
-
-
-def stranger(ground):
-    return ground.with_log([*ground.log, STRANGER])
+    return ground.put(at, (), ground.log[at] + ground.log[at + 1], instead=2)
 
 
 def changed_places(ground):
     at = ground.choose(at for at in range(1, len(ground.log)) if {ground.log[at], ground.log[at - 1]} & ground.told)
-    return ground.with_log([*ground.log[: at - 1], ground.log[at], ground.log[at - 1], *ground.log[at + 1 :]])
+    return ground.put(at - 1, ground.log[at], ground.log[at - 1], instead=2)
 
 
 def refused_stands(ground):
@@ -131,18 +101,6 @@ def there_but_gone(ground):
     return ground.run._replace(asks=[*ground.run.asks, ask._replace(answer=("refused", 9))])
 
 
-def another_start(ground):
-    return ground.run._replace(again=whole([*ground.log[:-1], STRANGER]))
-
-
-def shorter_start(ground):
-    return ground.run._replace(again=whole(ground.log[:-1]))
-
-
-def unended_list(ground):
-    return ground.run._replace(log=ground.run.log[:-1])
-
-
 def unordered_list(ground):
     first, *rest = ground.run.log
     return ground.run._replace(log=[first._replace(events=[*first.events[1:], first.events[0]]), *rest])
@@ -157,20 +115,8 @@ def other_rows(read, rows):
     return read._replace(rows=(rows, *read.rows[1:]))
 
 
-def is_once_busy(ground):
-    return lambda ask: ask.answer == ("refused", 10) and once(ground, ask)
-
-
-def is_once_told(ground):
-    return lambda ask: is_told(ask) and once(ground, ask)
-
-
 def has_rows(read):
     return read.rows[0]
-
-
-def has_none(read):
-    return not read.rows[0]
 
 
 def answered(*answer):
@@ -180,15 +126,15 @@ def answered(*answer):
 # Of an ask: which one, where that depends on the others, and what is changed of it.
 ASKS = {
     "another place is told": (lambda ground: is_told, lambda ask: ask._replace(answer=("told", ask.answer[1] + 1))),
-    "a told write was refused": (is_once_told, answered("refused", 10)),
+    "a told write was refused": (lambda ground: lambda ask: is_told(ask) and once(ground, ask), answered("refused", 10)),
     "a told place had been told before": (lambda ground: is_told, lambda ask: ask._replace(before=ask.answer[1])),
     "a told write is of an earlier life": (lambda ground: lambda ask: is_told(ask) and ask.life == 5, lambda ask: ask._replace(life=1)),
     "a refusal that may not come": (lambda ground: lambda ask: ask.answer == ("refused", 10), answered("refused", 13)),
-    "a condition that was met": (is_once_busy, answered("refused", 9)),
+    "a condition that was met": (lambda ground: lambda ask: ask.answer == ("refused", 10) and once(ground, ask), answered("refused", 9)),
 }
 READS = {
     "a row is missing": (has_rows, lambda read: other_rows(read, ())),
-    "a row too many": (has_none, lambda read: other_rows(read, (read.sets[0] + "#viewer@u",))),
+    "a row too many": (lambda read: not has_rows(read), lambda read: other_rows(read, (read.sets[0] + "#viewer@u",))),
     "a row twice": (has_rows, lambda read: other_rows(read, read.rows[0] * 2)),
     "a read of an older place": (lambda read: read.kind != "exact" and read.place, lambda read: read._replace(place=read.place - 1)),
     "a token reads another place": (lambda read: read.kind == "exact", lambda read: read._replace(place=read.place + 1)),
@@ -211,24 +157,24 @@ DUMPS = {
     "a dump above the list": lambda dump: dump._replace(place=10**6),
 }
 KINDS = {
-    "a told write is lost": lost,
-    "a told write is lost, and its place is empty": lost_with_its_place,
+    "a told write is lost": lambda ground: ground.put(ground.place()),
+    "a told write is lost, and its place is empty": lambda ground: ground.put(ground.place(), ()),
     "the last told write is lost with all behind it": lost_at_the_end,
     "all is lost": lambda ground: ground.with_log([]),
-    "a write in part": in_part,
+    "a write in part": lambda ground: ground.changed(ground.long_place(), lambda changes: in_part(ground, changes)),
     "two writes at one place": two_in_one,
-    "a change of the other kind": other_kind,
-    "changes in another order": in_another_order,
-    "a write twice": twice,
-    "a write that nobody asked for": stranger,
+    "a change of the other kind": lambda ground: ground.changed(ground.place(), lambda changes: ("-" + changes[0][1:], *changes[1:])),
+    "changes in another order": lambda ground: ground.changed(ground.long_place(), lambda changes: changes[::-1]),
+    "a write twice": lambda ground: ground.with_log([*ground.log, ground.choose(ground.log)]),
+    "a write that nobody asked for": lambda ground: ground.with_log([*ground.log, STRANGER]),
     "two writes changed places": changed_places,
     "a refused write stands": refused_stands,
     "an open write stands behind a later life": open_too_late,
     "an open write stands below what was told": open_too_early,
     "a write is there, and is not": there_but_gone,
-    "another start, another list": another_start,
-    "another start, a shorter list": shorter_start,
-    "a list that is not read to its end": unended_list,
+    "another start, another list": lambda ground: ground.run._replace(again=whole([*ground.log[:-1], STRANGER])),
+    "another start, a shorter list": lambda ground: ground.run._replace(again=whole(ground.log[:-1])),
+    "a list that is not read to its end": lambda ground: ground.run._replace(log=ground.run.log[:-1]),
     "a list out of order": unordered_list,
     "a gap in the list": gap_in_the_list,
     **{what: lambda ground, one=one: ground.with_one("asks", one[0](ground), one[1]) for what, one in ASKS.items()},

@@ -6,9 +6,8 @@ from random import Random
 from judge.lines import read_token
 from judge.worlds import Wrong, must
 from serving import wire
-from serving.recorded import Ask, Dump, Read, Run, Watch
 from serving.server import SHARDS, STORE, Server, run
-from serving.soak_judge import UNSURE
+from serving.soak_judge import UNSURE, Ask, Dump, Read, Run, Watch
 from serving.wire import Gone, Session, place_of, token
 
 WRITERS, READERS = 8, 3

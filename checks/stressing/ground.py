@@ -1,14 +1,10 @@
 """A good run that is to be spoiled: choosing among its calls, and putting others in their place."""
 from stressing.calls import Caller, Check, Read, Run, Watch
-from stressing.history import History
-from stressing.moments import Moments
+from stressing.history import History, Moments
+from verdicts import Choosing
 
 # Between two ticks of a run that is to be spoiled there is room for others.
 ROOM = 10
-
-
-class Nothing(Exception):
-    """There is nothing in this run that could be spoiled so."""
 
 
 def roomy(run):
@@ -31,7 +27,7 @@ def fitted(call, history, place=None):
     return call
 
 
-class Ground:
+class Ground(Choosing):
     def __init__(self, run, listed, random):
         self.run, self.listed, self.log, self.random = run, listed, listed.log, random
         self.history, self.moments = History(listed.log), Moments(run, listed)
@@ -41,12 +37,6 @@ class Ground:
 
     def call(self, where):
         return self.run.callers[where[0]].calls[where[1]]
-
-    def choose(self, some):
-        some = list(some)
-        if not some:
-            raise Nothing
-        return self.random.choice(some)
 
     def where(self, kind, is_so=lambda call: True):
         """Where a call of this kind is of which this is so, and the call."""
@@ -95,3 +85,13 @@ class Ground:
         history = History(log)
         callers = [Caller(number, kind, [fitted(call, history) for call in calls]) for number, kind, calls in run.callers]
         return Run(run.seed, run.shards, callers)
+
+
+def other_call(kind, change, is_so=lambda ground, call: True, pick=Ground.told):
+    """A call of this kind, of which this is so, is another one."""
+
+    def spoil(ground):
+        where, call = pick(ground, kind, lambda call: is_so(ground, call))
+        return ground.with_calls(where, change(ground, call))
+
+    return spoil

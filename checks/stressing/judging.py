@@ -1,12 +1,10 @@
 """Judges what a run printed: whether all that its callers were told fits one list of whole writes."""
 from judge.worlds import Wrong, must
-from stressing.answering import answer_faults, line_of
+from stressing.answering import ABORTED, BUSY, DOWN, FUTURE, PRECONDITION, UNSURE, Refusals, answer_faults, line_of
 from stressing.calls import Check, Read, Watch, Write
-from stressing.history import History
+from stressing.history import History, Moments
 from stressing.listing import Listed, log_of
-from stressing.moments import Moments
 from stressing.reading import KINDS, read_run
-from stressing.refusing import ABORTED, BUSY, DOWN, FUTURE, PRECONDITION, UNSURE, Refusals
 
 FORMS = ("each line is one of a run", "the form of a run", "the ticks of a run", "the last part of a run")
 RULES = (

@@ -1,16 +1,12 @@
 """Reads, checks and watches that are answered otherwise, each by rows or events that are wrong, or by right ones at a place that is wrong."""
 from stressing.calls import Check, Read, Watch
-from stressing.ground import Nothing, fitted
+from stressing.ground import fitted, other_call
+from verdicts import Nothing
 
 
 def other_found(kind, change, is_so):
     """The answer with something changed of what was found."""
-
-    def spoil(ground):
-        where, call = ground.told(kind, is_so)
-        return ground.with_calls(where, call._replace(found=change(ground, call.found)))
-
-    return spoil
+    return other_call(kind, lambda ground, call: call._replace(found=change(ground, call.found)), lambda _, call: is_so(call))
 
 
 def has(count):
@@ -47,12 +43,8 @@ def other_event(change):
 
 def at_other_place(kind, place_of, is_so=lambda call: True):
     """The answer is that of another place, which is told."""
-
-    def spoil(ground):
-        where, call = ground.told(kind, lambda call: is_so(call) and place_of(ground, call) is not None)
-        return ground.with_calls(where, fitted(call, ground.history, place_of(ground, call)))
-
-    return spoil
+    is_other = lambda ground, call: is_so(call) and place_of(ground, call) is not None
+    return other_call(kind, lambda ground, call: fitted(call, ground.history, place_of(ground, call)), is_other)
 
 
 def is_not_exact(call):
@@ -88,7 +80,7 @@ def gone_back(kind):
     """An answer of the latest place lies below what the caller was told itself."""
 
     def spoil(ground):
-        where, call = ground.told(kind, lambda call: is_latest(call))
+        where, call = ground.told(kind, is_latest)
         at, index = where
         own = max((before.place or 0 for before in ground.run.callers[at].calls[:index]), default=0)
         if not own:
@@ -99,29 +91,21 @@ def gone_back(kind):
 
 
 def above_list(kind):
-    def spoil(ground):
-        where, call = ground.told(kind, lambda call: kind is Watch or is_latest(call))
+    def above(ground, call):
         if kind is Watch:
             call = call._replace(asked=call.asked._replace(start=len(ground.log), limit=256), found=())
-        return ground.with_calls(where, call._replace(place=len(ground.log) + 1))
+        return call._replace(place=len(ground.log) + 1)
 
-    return spoil
+    return other_call(kind, above, lambda _, call: kind is Watch or is_latest(call))
 
 
 def fresher(kind, fresh_of):
     """The answer does not have what was asked for."""
-
-    def spoil(ground):
-        where, call = ground.told(kind, lambda call: call.place)
-        return ground.with_calls(where, call._replace(asked=call.asked._replace(fresh=fresh_of(call.place))))
-
-    return spoil
+    return other_call(kind, lambda _, call: call._replace(asked=call.asked._replace(fresh=fresh_of(call.place))), lambda _, call: call.place)
 
 
-def over_limit(ground):
-    where, call = ground.told(Watch, lambda call: call.place > call.asked.start + 1)
-    limit = ground.random.randrange(1, call.place - call.asked.start)
-    return ground.with_calls(where, call._replace(asked=call.asked._replace(limit=limit)))
+def over_limit(ground, call):
+    return call._replace(asked=call.asked._replace(limit=ground.random.randrange(1, call.place - call.asked.start)))
 
 
 def of_other_namespace(ground):
@@ -162,6 +146,6 @@ KINDS = {
     "an event of another namespace": of_other_namespace,
     "a watch ends before what was told": at_other_place(Watch, too_early),
     "a watch shows a write that had not begun": at_other_place(Watch, coming_of_watch),
-    "a watch goes past its limit": over_limit,
+    "a watch goes past its limit": other_call(Watch, over_limit, lambda _, call: call.place > call.asked.start + 1),
     "a watch goes past the list": above_list(Watch),
 }

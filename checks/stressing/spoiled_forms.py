@@ -1,7 +1,7 @@
 """Lines that are none of a run, ticks that no counter gives, and a last part that is not whole. A spoiled form is a run, its lines, or its bytes."""
 from judge.definitions import Change
 from stressing.calls import Check, Fail, Read, Restart, Watch, Write, lines_of
-from stressing.ground import fitted
+from stressing.ground import Ground, fitted, other_call
 from stressing.spoiled_lists import STRANGER
 
 
@@ -31,37 +31,14 @@ def without_user(line):
     return [line if " read " in line or " rows " in line else line.replace("@u", "", 1)]
 
 
-def without_ticks(line):
-    return [line.split(" ", 2)[2]]
-
-
 def with_calls(kind, change):
-    def spoil(ground):
-        where, call = ground.where(kind)
-        return ground.with_calls(where, change(ground, call))
-
-    return spoil
-
-
-def end_before_begin(ground, call):
-    return call._replace(begin=call.end, end=call.begin)
-
-
-def same_tick(ground, call):
-    return call._replace(end=call.begin)
+    return other_call(kind, change, pick=Ground.where)
 
 
 def tick_of_other(ground, call):
     """The begin of the next tick that another caller was given, which is in order for this one."""
-    return call._replace(begin=ground.choose(tick for tick in ground_ticks(ground) if call.begin < tick < call.end))
-
-
-def ground_ticks(ground):
-    return [tick for where in ground.wheres for tick in (ground.call(where).begin, ground.call(where).end)]
-
-
-def no_such_node(ground, call):
-    return call._replace(asked=call.asked._replace(node=ground.run.shards))
+    ticks = [tick for where in ground.wheres for tick in (ground.call(where).begin, ground.call(where).end)]
+    return call._replace(begin=ground.choose(tick for tick in ticks if call.begin < tick < call.end))
 
 
 def swapped_calls(ground):
@@ -79,10 +56,6 @@ def with_caller(change):
         return ground.run._replace(callers=callers)
 
     return spoil
-
-
-def same_number(ground, caller):
-    return [caller._replace(number=ground.run.callers[-1].number)]
 
 
 def with_end(change):
@@ -145,10 +118,6 @@ def as_bytes(change):
     return lambda ground: change("".join(line + "\n" for line in lines_of(ground.run)).encode())
 
 
-def moved_end(ground):
-    return ground.run._replace(callers=[ground.run.callers[-1], *ground.run.callers[:-1]])
-
-
 def without_kind(ground):
     kind = ground.choose(["writer", "reader", "watcher", "trouble", "end"])
     return ground.run._replace(callers=[caller for caller in ground.run.callers if caller.kind != kind])
@@ -161,17 +130,17 @@ KINDS = {
     "a space at the end": other_line(lambda line: [line + " "]),
     "a leading zero": other_line(lambda line: ["0" + line]),
     "a line without its last word": other_line(without_last_word),
-    "a line without its ticks": other_line(without_ticks),
+    "a line without its ticks": other_line(lambda line: [line.split(" ", 2)[2]]),
     "a refusal by another name": replaced(" Down", " Dowm"),
     "a refusal by another number": replaced(" 13 Down", " 12 Down"),
     "a change without its sign": replaced(" +", " "),
     "a tuple without its user": other_line(without_user),
-    "a node that is not there": with_calls((Restart, Fail), no_such_node),
-    "a call that ends before it begins": with_calls(object, end_before_begin),
-    "a call that ends as it begins": with_calls(object, same_tick),
+    "a node that is not there": with_calls((Restart, Fail), lambda ground, call: call._replace(asked=call.asked._replace(node=ground.run.shards))),
+    "a call that ends before it begins": with_calls(object, lambda _, call: call._replace(begin=call.end, end=call.begin)),
+    "a call that ends as it begins": with_calls(object, lambda _, call: call._replace(end=call.begin)),
     "a tick of another call": with_calls(object, tick_of_other),
     "two calls of a caller the other way round": swapped_calls,
-    "two callers of one number": with_caller(same_number),
+    "two callers of one number": with_caller(lambda ground, caller: [caller._replace(number=ground.run.callers[-1].number)]),
     "a caller that was told nothing": with_caller(lambda _, caller: [caller._replace(calls=[])]),
     "a caller of no kind": with_caller(lambda _, caller: [caller._replace(kind="other")]),
     "no callers of a kind": without_kind,
@@ -182,7 +151,7 @@ KINDS = {
     "cut off": cut_off,
     "the last line is not ended": as_bytes(lambda text: text[:-1]),
     "a byte that is none of a line": as_bytes(lambda text: text.replace(b"doc", b"d\xc3\xb6c", 1)),
-    "the last part comes first": moved_end,
+    "the last part comes first": lambda ground: ground.run._replace(callers=[ground.run.callers[-1], *ground.run.callers[:-1]]),
     "the last part begins too soon": with_end(too_soon),
     "the list does not begin": with_end(without_first(Watch)),
     "no list": with_end(without(Watch)),

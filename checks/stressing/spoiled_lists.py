@@ -2,7 +2,9 @@
 from judge.definitions import Change, Condition
 from judge.lines import read_tuple
 from stressing.calls import Write
+from stressing.ground import Ground, other_call
 from stressing.listing import MAY_STAND
+from stressing.spoiled_answers import less
 
 STRANGER = read_tuple("doc:stranger#owner@u0")
 
@@ -14,10 +16,6 @@ def changed(ground, place, *changes):
     return ground.refitted(run, log) if changes else run
 
 
-def lost(ground):
-    return changed(ground, ground.told_place())
-
-
 def last_lost(ground):
     last = max(place for place, call in ground.listed.calls.items() if not call.code)
     return ground.with_log(ground.log[: last - 1])
@@ -27,22 +25,18 @@ def long_place(ground):
     return ground.choose(place for place, changes in enumerate(ground.log, 1) if len(changes) > 1)
 
 
-def in_part(ground):
-    place = long_place(ground)
-    changes = list(ground.log[place - 1])
-    changes.pop(ground.random.randrange(len(changes)))
-    return changed(ground, place, tuple(changes))
+def other_at(place_of, change):
+    """The list with other changes at such a place."""
+
+    def spoil(ground):
+        place = place_of(ground)
+        return changed(ground, place, change(ground, ground.log[place - 1]))
+
+    return spoil
 
 
-def turned_round(ground):
-    place = long_place(ground)
-    return changed(ground, place, ground.log[place - 1][::-1])
-
-
-def other_kind(ground):
-    place = ground.told_place()
-    first, *others = ground.log[place - 1]
-    return changed(ground, place, (first._replace(is_touch=not first.is_touch), *others))
+def other_kind(_, changes):
+    return (changes[0]._replace(is_touch=not changes[0].is_touch), *changes[1:])
 
 
 def pair(ground):
@@ -55,22 +49,10 @@ def swapped_log(ground, place):
     return log
 
 
-def swapped(ground):
-    return ground.with_log(swapped_log(ground, pair(ground)))
-
-
 def joined(ground):
     place = pair(ground)
     log = ground.log
     return ground.with_log([*log[: place - 1], log[place - 1] + log[place], *log[place + 1 :]])
-
-
-def twice(ground):
-    return ground.with_log([*ground.log, ground.choose(ground.log)])
-
-
-def stranger(ground):
-    return ground.with_log([*ground.log, (Change(True, STRANGER),)])
 
 
 def refused_stands(ground):
@@ -99,21 +81,7 @@ def against_time(ground):
 
 
 def other_place(by):
-    def spoil(ground):
-        where, call = ground.told(Write, lambda call: 1 <= call.place + by)
-        return ground.with_calls(where, call._replace(place=call.place + by))
-
-    return spoil
-
-
-def above_list(ground):
-    where, call = ground.told(Write)
-    return ground.with_calls(where, call._replace(place=len(ground.log) + 1))
-
-
-def untold(ground):
-    where, _ = ground.told(Write)
-    return ground.with_calls(where)
+    return other_call(Write, lambda _, call: call._replace(place=call.place + by), lambda _, call: 1 <= call.place + by)
 
 
 def told_twice(ground):
@@ -124,20 +92,14 @@ def told_twice(ground):
     return ground.with_calls(where, before, call._replace(begin=before.end + 1, end=before.end + 2))
 
 
-def other_changes(ground):
-    where, call = ground.told(Write)
-    return ground.with_calls(where, call._replace(asked=call.asked._replace(changes=(Change(True, STRANGER), *call.asked.changes[1:]))))
+def other_changes(_, call):
+    return call._replace(asked=call.asked._replace(changes=(Change(True, STRANGER), *call.asked.changes[1:])))
 
 
 def unmet(condition_at):
     """A write stands although a condition of it is not met."""
-
-    def spoil(ground):
-        where, call = ground.told(Write, lambda call: call.place > 1)
-        condition = condition_at(ground, call.place - 1)
-        return ground.with_calls(where, call._replace(asked=call.asked._replace(conditions=(condition,))))
-
-    return spoil
+    unmet_of = lambda ground, call: call._replace(asked=call.asked._replace(conditions=(condition_at(ground, call.place - 1),)))
+    return other_call(Write, unmet_of, lambda _, call: call.place > 1)
 
 
 def gone(ground, place):
@@ -154,24 +116,24 @@ def changed_since(ground, place):
 
 
 KINDS = {
-    "a write that was told is lost": lost,
+    "a write that was told is lost": lambda ground: changed(ground, ground.told_place()),
     "the last write that was told is lost": last_lost,
-    "a write in part": in_part,
-    "the changes of a write in another order": turned_round,
-    "a change of the other kind": other_kind,
-    "two writes changed places": swapped,
+    "a write in part": other_at(long_place, less),
+    "the changes of a write in another order": other_at(long_place, lambda _, changes: changes[::-1]),
+    "a change of the other kind": other_at(Ground.told_place, other_kind),
+    "two writes changed places": lambda ground: ground.with_log(swapped_log(ground, pair(ground))),
     "two writes at one place": joined,
-    "a write stands twice": twice,
-    "a write that nobody asked for": stranger,
+    "a write stands twice": lambda ground: ground.with_log([*ground.log, ground.choose(ground.log)]),
+    "a write that nobody asked for": lambda ground: ground.with_log([*ground.log, (Change(True, STRANGER),)]),
     "a write that was refused stands": refused_stands,
     "an unsure write stands above one that began later": unsure_stands_late,
     "a write stands below one that had ended before": against_time,
     "the next place is told": other_place(1),
     "the place before is told": other_place(-1),
-    "a place above the list is told": above_list,
-    "nobody is told of a write that stands": untold,
+    "a place above the list is told": other_call(Write, lambda ground, call: call._replace(place=len(ground.log) + 1)),
+    "nobody is told of a write that stands": lambda ground: ground.with_calls(ground.told(Write)[0]),
     "a write is told to two callers": told_twice,
-    "other changes are told than those that stand": other_changes,
+    "other changes are told than those that stand": other_call(Write, other_changes),
     "a write stands although a tuple is not there": unmet(gone),
     "a write stands although a tuple is there": unmet(there),
     "a write stands although a tuple was changed": unmet(changed_since),

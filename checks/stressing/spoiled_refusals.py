@@ -1,9 +1,10 @@
 """Refusals that have no cause, and what may not be refused at all."""
 from judge.definitions import Condition
 from stressing.calls import Check, Fail, Read, Restart, Watch, Write, calls_of
-from stressing.ground import Nothing
-from stressing.refusing import OF_ANSWERS, OF_WRITES, asked_places
+from stressing.ground import Ground, other_call
+from stressing.answering import OF_ANSWERS, OF_WRITES, asked_places
 from stressing.spoiled_lists import STRANGER
+from verdicts import Nothing
 
 ANSWERS = (Read, Check, Watch)
 ALL = set(range(1, 17))
@@ -15,12 +16,7 @@ def refused(call, code):
 
 def told_is_refused(kind, codes, is_so=lambda ground, call: True):
     """What was told is refused with one of these."""
-
-    def spoil(ground):
-        where, call = ground.told(kind, lambda call: is_so(ground, call))
-        return ground.with_calls(where, refused(call, ground.choose(sorted(codes))))
-
-    return spoil
+    return other_call(kind, lambda ground, call: refused(call, ground.choose(sorted(codes))), is_so)
 
 
 def is_latest(_, call):
@@ -40,12 +36,7 @@ def is_quiet(ground, call):
 
 def refused_otherwise(code, change=lambda asked: asked, is_so=lambda ground, call: True):
     """A write that was refused and does not stand is refused with this, with other parts."""
-
-    def spoil(ground):
-        where, call = ground.unplaced(Write, lambda call: is_so(ground, call))
-        return ground.with_calls(where, refused(call._replace(asked=change(call.asked)), code))
-
-    return spoil
+    return other_call(Write, lambda _, call: refused(call._replace(asked=change(call.asked)), code), is_so, Ground.unplaced)
 
 
 def never(ground):
@@ -58,10 +49,6 @@ def alone(write):
 
 def without_conditions(write):
     return write._replace(conditions=())
-
-
-def with_met(write):
-    return write._replace(conditions=(Condition(STRANGER, "absent"),))
 
 
 def states(log, asked):
@@ -84,10 +71,6 @@ def met_meanwhile(ground):
     raise Nothing
 
 
-def with_told(write):
-    return write._replace(conditions=(Condition(STRANGER, 0),))
-
-
 def before_trouble(code):
     """A call is refused although no node was in trouble before."""
 
@@ -105,11 +88,11 @@ def before_trouble(code):
 
 
 def opening(code):
-    def spoil(ground):
-        where, call = ground.where(Restart)
-        return ground.with_calls(where, call._replace(code=code))
+    return other_call(Restart, lambda _, call: call._replace(code=code), pick=Ground.where)
 
-    return spoil
+
+def with_condition(want):
+    return lambda write: write._replace(conditions=(Condition(STRANGER, want),))
 
 
 KINDS = {
@@ -129,9 +112,9 @@ KINDS = {
     "a place is collected": told_is_refused(ANSWERS, {8}),
     "a write is refused as none is": never,
     "a write without conditions is not met": refused_otherwise(9, without_conditions),
-    "a write whose condition is met is not met": refused_otherwise(9, with_met),
+    "a write whose condition is met is not met": refused_otherwise(9, with_condition("absent")),
     "a write is not met whose condition was not met before or behind it": met_meanwhile,
-    "a write of a place that was told is in the future": refused_otherwise(7, with_told),
+    "a write of a place that was told is in the future": refused_otherwise(7, with_condition(0)),
     "a write without conditions is in the future": refused_otherwise(7, without_conditions),
     "a write that shares no tuple is busy": refused_otherwise(10, alone),
     "a write is aborted and no node was opened": refused_otherwise(11, is_so=is_quiet),

@@ -6,9 +6,10 @@ from random import Random
 from judge.worlds import Wrong
 from stressing import spoiled_answers, spoiled_forms, spoiled_lists, spoiled_refusals
 from stressing.calls import Run, lines_of
-from stressing.ground import Ground, Nothing, roomy
+from stressing.ground import Ground, roomy
 from stressing.judging import judged
 from stressing.running import lines_in
+from verdicts import Nothing
 
 KINDS = {**spoiled_lists.KINDS, **spoiled_answers.KINDS, **spoiled_refusals.KINDS, **spoiled_forms.KINDS}
 # How often each kind is tried on a run of at most so many lines; on a longer one it is tried once.
