@@ -25,6 +25,10 @@ IsUpTo n (y ∷ ys) = (1 ≤ y) × (y ≤ n) × IsUpTo n ys
 abbrev pub IsAbove : ℕ → List ℕ → Type 0
 IsAbove n ys = (m : ℕ) × (n ≡ suc m) × IsUpTo m ys
 
+-- each of the numbers 1 to n stands once, and no other does
+abbrev pub IsEach : ℕ → List ℕ → Type 0
+IsEach n taken = (x : ℕ) → times x taken ≡ once_up_to x n
+
 -- no number stands twice
 abbrev pub IsOnceEach : List ℕ → Type 0
 IsOnceEach taken = (x : ℕ) → times x taken ≤ 1

@@ -9,11 +9,13 @@ pub struct Numbered<C> {
     pub connection: C,
 }
 
-/// What a pass knows: the acceptor's how many were put, a worker's the numbers that it took.
-/// In `told` stand numbers that it was told were taken. No value of it is made.
+/// What a pass knows: the acceptor's how many were put and how many passes were made, a worker's the numbers that it took.
+/// `share` counts the passes that were gathered in it, and in `told` stand numbers that it was told were taken. No value of it is made.
 pub struct View {
     pub puts: bool,
     pub put: u64,
+    pub made: u64,
+    pub share: u64,
     pub taken: LinkedList<u64>,
     pub told: LinkedList<u64>,
 }
@@ -27,5 +29,5 @@ impl<C> Protocol<Numbered<C>, View> for InOrder {
 
     ghost holds = { Ruled };
 
-    ghost first = { acceptor 0 [] };
+    ghost first = { acceptor 0 1 [] };
 }

@@ -6,12 +6,11 @@ use crossbeam_queue::protocol::{Join, Lesson, Outcome, Split};
 pub struct Workers;
 
 impl Split<View> for Workers {
-    ghost use Rattle.connections.specs.Waiting.{worker};
-    ghost use Rattle.std.specs.Prelude.{[]};
+    ghost use Rattle.connections.specs.Waiting.{one_more, worker};
 
-    ghost left = { λ v. v };
+    ghost left = { one_more };
 
-    ghost right = { λ v. worker [] };
+    ghost right = { λ v. worker 1 };
 }
 
 /// A push, or a full queue.
@@ -49,11 +48,10 @@ pub struct Together;
 
 impl Join<View> for Together {
     ghost use Rattle.connections.specs.Waiting.{gathered, worker};
-    ghost use Rattle.std.specs.Prelude.{[]};
 
     ghost both = { gathered };
 
-    ghost spent = { worker [] };
+    ghost spent = { worker 0 };
 }
 
 impl<C> Lesson<Numbered<C>, View> for Together {
@@ -75,11 +73,10 @@ impl Split<View> for Notes {
 
 impl Join<View> for Notes {
     ghost use Rattle.connections.specs.Waiting.{told_of, worker};
-    ghost use Rattle.std.specs.Prelude.{[]};
 
     ghost both = { told_of };
 
-    ghost spent = { worker [] };
+    ghost spent = { worker 0 };
 }
 
 impl<C> Lesson<Numbered<C>, View> for Notes {

@@ -153,17 +153,18 @@ fn two_take<R: Threads + Wait + Sync>(
     one
 }
 
-// One thread puts, and two take. Each number was put, and was taken once at most.
+// One thread puts, and two take. Each number was put, and was taken once at most. It ends with the acceptor's pass, and with one of both workers.
 fn day<R: Threads + Wait + Sync>(
     rt: &R,
     queue: &Connections<u64>,
     acceptor: AcceptorPass<u64>,
     workers: (WorkerPass<u64>, WorkerPass<u64>),
     times: &[AtomicU64],
-) -> AcceptorPass<u64>
+) -> (AcceptorPass<u64>, WorkerPass<u64>)
     requires acceptor { (acceptor.queue ≡ queue.now) × (acceptor.put ≡ 0) }
     requires workers { (workers.0.queue ≡ queue.now) × (workers.1.queue ≡ queue.now) }
-    ensures { IsUpTo result.put result.told }
+    ensures queue { (result.0.queue ≡ queue.now) × (result.1.queue ≡ queue.now) }
+    ensures put { IsUpTo result.0.put result.0.told }
 {
     let left = AtomicU64::new(COUNT);
     let left = &left;
@@ -179,7 +180,7 @@ fn day<R: Threads + Wait + Sync>(
         { two_take(rt, queue, workers, left, times) },
     );
     queue.audit(&mut acceptor, &mut worker);
-    acceptor
+    (acceptor, worker)
 }
 
 // A counter for each number, and one for 0.
@@ -206,8 +207,11 @@ fn two_workers_take_each_connection_once(rt: HostRuntime) -> Result<(), Fail> {
     let (queue, acceptor, mut workers) = Connections::new(rt.alloc(), 2)?;
     let one = workers.pop().ok_or("a worker")?;
     let other = workers.pop().ok_or("another worker")?;
-    let acceptor = day(&rt, &queue, acceptor, (one, other), times.as_slice());
+    let (acceptor, worker) = day(&rt, &queue, acceptor, (one, other), times.as_slice());
     assert_eq!(rt; acceptor.count(), 10_000);
+    let mut last = acceptor.close();
+    queue.gather(&mut last, worker);
+    assert!(rt; queue.take(&rt, &mut last).is_none());
     assert!(rt; is_once_each(times.as_slice()));
     Ok(())
 }

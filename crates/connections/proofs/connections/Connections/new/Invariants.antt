@@ -1,4 +1,4 @@
-use Rattle.std.proofs.Common.{◌≡◌, vec_len, []}
+use Rattle.std.proofs.Common.{◌≡◌, ◌+◌, vec_len, [], None}
 use Rattle.std.specs.Prelude.{All}
 use Rattle.connections.proofs.connections.Connections.new.Given as goal
 
@@ -6,7 +6,8 @@ abbrev pub invariant-loop-worker : goal.invariant-loop-worker
 invariant-loop-worker g l = record {
   queue : l.acceptor.queue ≡ l.queue-inside.queue.table.shared.table_id;
   put : l.acceptor.put ≡ 0;
+  made : l.acceptor.passes ≡ l.worker + 1;
   told : l.acceptor.told ≡ [];
   count : vec_len l.passes ≡ l.worker;
-  passes : All (λ w. (w.queue ≡ l.queue-inside.queue.table.shared.table_id) × (w.taken ≡ [])) l.passes.items;
+  passes : All (λ w. (w.queue ≡ l.queue-inside.queue.table.shared.table_id) × (w.passes ≡ 1) × (w.taken ≡ []) × (w.end ≡ None)) l.passes.items;
 }
